@@ -1,0 +1,4 @@
+pub mod Searches
+pub mod Sets
+pub mod Orders
+pub mod Failed

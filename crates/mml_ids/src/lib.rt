@@ -1,0 +1,29 @@
+//! Identifiers and ranks of nodes, sets of ranks, and the words that every crate above shares.
+#![tactic(auto)]
+
+mod id_table;
+mod items;
+mod memory;
+mod node_id;
+mod node_set;
+mod piece;
+mod rank;
+mod word;
+
+pub use id_table::{IdFault, IdTable};
+pub use items::Items;
+pub use memory::Memory;
+pub use node_id::NodeId;
+pub use node_set::NodeSet;
+pub use piece::{Piece, put};
+pub use rank::Rank;
+pub use word::Word;
+
+/// How many nodes a network may have at most. Ranks are below it.
+pub const MAX_NODES: u64 = 64;
+
+/// The greatest identifier; the least is 1.
+pub const MAX_ID: u64 = 65535;
+
+#[cfg(test)]
+mod tests;
