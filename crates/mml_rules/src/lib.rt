@@ -1,0 +1,16 @@
+//! The four rules of the maximal matching algorithm of Manne et al. 2009, over any network.
+#![tactic(auto)]
+
+pub mod laws;
+mod registers;
+mod rule;
+mod rules;
+mod scene;
+
+pub use registers::Regs;
+pub use rule::{Kind, Rule};
+pub use rules::{effect, enabled, guard, married};
+pub use scene::Scene;
+
+#[cfg(test)]
+mod tests;
