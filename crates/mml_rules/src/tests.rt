@@ -14,11 +14,13 @@ impl Scene for Star {
     ghost use Rattle.mml_rules.specs.Network.{registers_at};
 
     ghost configuration = { λ s.
-        let linked : ℕ → ℕ → Bool = λ a b. nat_lt a 4 && (nat_lt b 4 && not (beq (a == 0) (b == 0))) in
+        let linked : ℕ → ℕ → Bool = λ a b.
+        nat_lt a 4 && (nat_lt b 4 && not (beq (a == 0) (b == 0))) in
         record {
           size = 4;
           linked = linked;
-          p = λ i. option_and_then (λ j. if linked i j then Some j else None) (registers_at s.registers i).p;
+          p = λ i. option_and_then (λ j. if linked i j then Some j else None)
+              (registers_at s.registers i).p;
           m = λ i. (registers_at s.registers i).m;
         } };
 
