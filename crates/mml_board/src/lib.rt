@@ -5,3 +5,6 @@ mod board;
 mod network;
 
 pub use board::Board;
+
+#[cfg(test)]
+mod tests;

@@ -46,7 +46,13 @@ fn opening_board(rt: HostRuntime) -> Result<(), Fail> {
         assert_eq!(rt; board.enabled(lower), Some(Kind::Marriage));
         assert_eq!(rt; board.enabled(higher), Some(Kind::Abandonment));
         assert_eq!(rt; board.regs(lower), Regs { p: None, m: false });
-        assert_eq!(rt; board.regs(higher), Regs { p: Some(lower), m: false });
+        assert_eq!(rt;
+            board.regs(higher),
+            Regs {
+                p: Some(lower),
+                m: false
+            }
+        );
         assert_eq!(rt; board.chosen(lower), None);
         assert!(rt; board.linked(lower, higher));
         assert!(rt; board.linked(higher, lower));

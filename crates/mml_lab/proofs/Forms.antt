@@ -1,0 +1,78 @@
+-- The forms of names and keys.
+use Rattle.std.proofs.Common.{◌≡◌, ◌↔◌, ℕ, zero, suc, ◌<◌, ◌≤◌, List, [], ◌∷◌, length, get_or, Bool, true, false, ◌&&◌, ◌||◌, ◌⊎◌, inl, inr, refl, sym, ap, ◌∙◌, arith, All, nat_lt, nat_le, ◌==◌}
+use Rattle.std.specs.List.{list_all, AllPass}
+use Rattle.std.specs.Int.{is_in_range, IsInRange}
+use Rattle.std.specs.Char.{is_ascii_lowercase, is_ascii_digit, is_ascii_graphic}
+use Rattle.std.proofs.lemmas.Bool.{and_from, and_parts, or_cases, eqb-true, eq-eqb, leb-true, le-leb, ltb-true, lt-ltb}
+use Rattle.std.proofs.lemmas.List.Elements.{All-weaker, All-head, All-tail, All-cons}
+use Rattle.std.proofs.lemmas.List.Sums.{AllPass-from_list_all, list_all-from_AllPass}
+use Rattle.mml_lab.specs.declared.TheConstants.{MAX_NAME, MAX_KEY}
+use Rattle.mml_lab.specs.Rosters.{is_name, is_key, is_name_byte}
+use Rattle.mml_lab.specs.RosterMeaning.{IsName, IsKey, IsNameByte, IsLetter}
+
+in_range : (low high b : ℕ) → is_in_range low high b ≡ true → IsInRange low high b
+in_range low high b is = let parts = and_parts (nat_le low b) (nat_le b high) is in (leb-true low b parts.0, leb-true b high parts.1)
+
+from_range : (low high b : ℕ) → IsInRange low high b → is_in_range low high b ≡ true
+from_range low high b within = and_from _ _ (le-leb low b within.0) (le-leb b high within.1)
+
+or_left : (a b : Bool) → a ≡ true → (a || b) ≡ true
+or_left a b e = rw e
+
+or_right : (a b : Bool) → b ≡ true → (a || b) ≡ true
+or_right true b e = refl
+or_right false b e = e
+
+name_byte : (b : ℕ) → is_name_byte b ≡ true → IsNameByte b
+name_byte b is = by (or_cases (is_ascii_lowercase b || is_ascii_digit b) (b == 45) is)
+  where
+    first : (is_ascii_lowercase b ≡ true) ⊎ (is_ascii_digit b ≡ true) → IsNameByte b
+    first (inl letter) = inl (in_range 97 122 b letter)
+    first (inr digit) = inr (inl (in_range 48 57 b digit))
+
+    by : ((is_ascii_lowercase b || is_ascii_digit b) ≡ true) ⊎ ((b == 45) ≡ true) → IsNameByte b
+    by (inl other) = first (or_cases (is_ascii_lowercase b) (is_ascii_digit b) other)
+    by (inr hyphen) = inr (inr (eqb-true b 45 hyphen))
+
+from_name_byte : (b : ℕ) → IsNameByte b → is_name_byte b ≡ true
+from_name_byte b (inl letter) = or_left (is_ascii_lowercase b || is_ascii_digit b) (b == 45) (or_left (is_ascii_lowercase b) (is_ascii_digit b) (from_range 97 122 b letter))
+from_name_byte b (inr (inl digit)) = or_left (is_ascii_lowercase b || is_ascii_digit b) (b == 45) (or_right (is_ascii_lowercase b) (is_ascii_digit b) (from_range 48 57 b digit))
+from_name_byte b (inr (inr hyphen)) = or_right (is_ascii_lowercase b || is_ascii_digit b) (b == 45) (eq-eqb b 45 hyphen)
+
+each_passes : (p : ℕ → Bool) (P : ℕ → Type 0) → ((b : ℕ) → p b ≡ true → P b) → (bs : List ℕ) → list_all p bs ≡ true → All P bs
+each_passes p P means bs all = All-weaker (λ b. p b ≡ true) P means bs (AllPass-from_list_all p bs all)
+
+all_pass : (p : ℕ → Bool) (P : ℕ → Type 0) → ((b : ℕ) → P b → p b ≡ true) → (bs : List ℕ) → All P bs → list_all p bs ≡ true
+all_pass p P means bs all = list_all-from_AllPass p bs (All-weaker P (λ b. p b ≡ true) means bs all)
+
+name-is : (name : List ℕ) → is_name name ≡ true → IsName name
+name-is [] is = absurd cc
+name-is (b ∷ bs) is =
+    let bytes_and_length = and_parts (is_ascii_lowercase b && list_all is_name_byte bs) (nat_le (length (b ∷ bs)) MAX_NAME) is in
+    let first_and_rest = and_parts (is_ascii_lowercase b) (list_all is_name_byte bs) bytes_and_length.0 in
+    let letter = in_range 97 122 b first_and_rest.0 in
+    record {
+      some = omega arith;
+      short = leb-true (length (b ∷ bs)) MAX_NAME bytes_and_length.1;
+      first = letter;
+      bytes = All-cons IsNameByte b bs (inl letter) (each_passes is_name_byte IsNameByte name_byte bs first_and_rest.1);
+    }
+
+from_name : (name : List ℕ) → IsName name → is_name name ≡ true
+from_name [] form = let some = form.some in absurd (omega arith)
+from_name (b ∷ bs) form = and_from _ _ (and_from _ _ (from_range 97 122 b form.first) (all_pass is_name_byte IsNameByte from_name_byte bs (All-tail IsNameByte b bs form.bytes))) (le-leb (length (b ∷ bs)) MAX_NAME form.short)
+
+pub name-means : (name : List ℕ) → (is_name name ≡ true) ↔ IsName name
+name-means name = (name-is name, from_name name)
+
+key-is : (key : List ℕ) → is_key key ≡ true → IsKey key
+key-is key is =
+    let length_and_bytes = and_parts (nat_lt 0 (length key) && nat_le (length key) MAX_KEY) (list_all is_ascii_graphic key) is in
+    let lengths = and_parts (nat_lt 0 (length key)) (nat_le (length key) MAX_KEY) length_and_bytes.0 in
+    record { some = ltb-true 0 (length key) lengths.0; short = leb-true (length key) MAX_KEY lengths.1; bytes = each_passes is_ascii_graphic (IsInRange 33 126) (in_range 33 126) key length_and_bytes.1 }
+
+from_key : (key : List ℕ) → IsKey key → is_key key ≡ true
+from_key key form = and_from _ _ (and_from _ _ (lt-ltb 0 (length key) form.some) (le-leb (length key) MAX_KEY form.short)) (all_pass is_ascii_graphic (IsInRange 33 126) (from_range 33 126) key form.bytes)
+
+pub key-means : (key : List ℕ) → (is_key key ≡ true) ↔ IsKey key
+key-means key = (key-is key, from_key key)

@@ -1,0 +1,16 @@
+pub mod Each
+pub mod Spelled
+pub mod Mapped
+pub mod RawLemmas
+pub mod Linking
+pub mod Positions
+pub mod Names
+pub mod Again
+pub mod FirstBelow
+pub mod RosterFacts
+pub mod Forms
+pub mod Ordered
+pub mod Faultless
+pub mod Found
+pub mod Sound
+pub mod Built

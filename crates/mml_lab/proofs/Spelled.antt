@@ -1,0 +1,41 @@
+use Rattle.std.proofs.Common.{◌≡◌, ℕ, List, [], ◌∷◌, length, get_or, ◌≢◌, Bool, true, false, cond, Option, Some, None, Err, refl, arith}
+use Rattle.std.specs.Str.{is_utf8, IsUtf8}
+use Rattle.std.proofs.lemmas.Str.{is_utf8-from_IsUtf8, IsUtf8-from_is_utf8}
+use Rattle.toml.specs.declared.value.Value.{Value}
+use Rattle.toml.specs.Data.{Members}
+use Rattle.toml.specs.View.{view, items_view}
+use Rattle.toml.specs.Parse.{parse_document}
+use Rattle.mml_lab.specs.declared.fault.LabFault.TheVariants as fault
+use Rattle.mml_lab.specs.Shape.{two_of, spelled, table_in, raw_of}
+
+pub two_none : (vs : List Value) → length vs ≢ 2 → two_of (items_view vs) ≡ None
+two_none [] h = refl
+two_none (a ∷ []) h = refl
+two_none (a ∷ b ∷ []) h = absurd (h (omega arith))
+two_none (a ∷ b ∷ c ∷ vs) h = refl
+
+pub two_some : (vs : List Value) (d e : Value) → length vs ≡ 2 → two_of (items_view vs) ≡ Some (view (get_or vs 0 d), view (get_or vs 1 e))
+two_some [] d e h = absurd (omega arith)
+two_some (a ∷ []) d e h = absurd (omega arith)
+two_some (a ∷ b ∷ []) d e h = refl
+two_some (a ∷ b ∷ c ∷ vs) d e h = absurd (omega arith)
+
+pub table_in-some : (bytes : List ℕ) (t : Members) → IsUtf8 bytes → parse_document bytes ≡ Some t → table_in bytes ≡ Some t
+unfolding table_in
+table_in-some bytes t u e = rw (is_utf8-from_IsUtf8 bytes u) e
+
+none_at : (b : Bool) (o : Option Members) → (b ≡ true → o ≡ None) → cond b o None ≡ None
+none_at true o h = h refl
+none_at false o h = refl
+
+pub table_in-none : (bytes : List ℕ) → (IsUtf8 bytes → parse_document bytes ≡ None) → table_in bytes ≡ None
+unfolding table_in
+table_in-none bytes h = none_at (is_utf8 bytes) (parse_document bytes) (λ e. h (IsUtf8-from_is_utf8 bytes e))
+
+pub spelled-some : (bytes : List ℕ) (t : Members) → table_in bytes ≡ Some t → spelled bytes ≡ raw_of t
+unfolding spelled
+spelled-some bytes t e = rw e
+
+pub spelled-none : (bytes : List ℕ) → table_in bytes ≡ None → spelled bytes ≡ Err fault.NotToml
+unfolding spelled
+spelled-none bytes e = rw e

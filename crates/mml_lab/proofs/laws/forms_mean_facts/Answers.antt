@@ -1,0 +1,5 @@
+use Rattle.mml_lab.proofs.Forms.{name-means, key-means}
+use Rattle.mml_lab.proofs.laws.forms_mean_facts.Goals as goal
+
+pub returns : goal.returns
+returns c = record { name = name-means; key = key-means }

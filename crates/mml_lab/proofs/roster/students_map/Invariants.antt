@@ -1,0 +1,11 @@
+use Rattle.std.proofs.Common.{◌≡◌, ◌++◌, length}
+use Rattle.std.specs.Vec.Iter.{into_iter_items, into_iter_len}
+use Rattle.mml_lab.proofs.Again.{IsSoFar}
+use Rattle.mml_lab.proofs.roster.students_map.Given as goal
+
+abbrev pub invariant-loop-student : goal.invariant-loop-student
+invariant-loop-student l = record {
+  left : l.yielded ++ into_iter_items l.student-iterator ≡ l.fn.students.items;
+  counted : into_iter_len l.student-iterator ≡ length (into_iter_items l.student-iterator);
+  so_far : IsSoFar l.teacher l.fn.students.items l.yielded l.found.entries;
+}

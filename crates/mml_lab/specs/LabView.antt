@@ -1,0 +1,16 @@
+-- What a lab stands for.
+use Rattle.mml_rules.specs.Network.{Network}
+use Rattle.mml_lab.specs.declared.lab.Lab.TheInside.{Inside}
+use Rattle.mml_lab.specs.Labs.{LabValue, IsLab}
+
+abbrev pub lab_view : Inside → LabValue
+lab_view a = record {
+  ids = a.ids;
+  roster = a.roster;
+  network = record { neighbours = a.neighbours.items; registers = a.registers.items };
+  events = a.events;
+  sessions = a.sessions;
+}
+
+abbrev pub IsLabInside : Inside → Type 0
+IsLabInside a = IsLab (lab_view a)

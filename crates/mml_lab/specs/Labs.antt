@@ -1,0 +1,181 @@
+-- The lab that a file spells, and the first fault of one that spells none.
+use Rattle.std.specs.Prelude.{◌≡◌, ℕ, zero, suc, ℤ, pos, negsuc, ◌+◌, ◌<◌, ◌≤◌, Bool, true, false, not, ◌&&◌, ◌||◌, nat_lt, nat_le, List, [], ◌∷◌, length, map, take, slice_index, position, bytes_eq, Option, None, Some, option_map, unwrap_or, ◌==◌, Result, Ok, Err, if◌then◌else◌}
+use Rattle.std.specs.List.{list_any, find, slice_get}
+use Rattle.std.specs.Option.{option_map_or, option_to_list, option_and_then}
+use Rattle.std.specs.Ordering.{nat_cmp, int_eq}
+use Rattle.std.specs.FinSet.{FinSet}
+use Rattle.mml_ids.specs.Gives.{first_fault, fault_if, unless_fault, ◌>>=◌}
+use Rattle.mml_ids.specs.Search.{first_below}
+use Rattle.mml_ids.specs.Bits.{those_below}
+use Rattle.mml_ids.specs.Ids.{id_fault, in_order, rank_in, IsTable}
+use Rattle.mml_rules.specs.declared.registers.Regs.{Regs}
+use Rattle.mml_rules.specs.Configuration.{Configuration}
+use Rattle.mml_rules.specs.Network.{Network, no_regs, configuration_of, IsNetwork}
+use Rattle.mml_lab.specs.declared.TheConstants.{MAX_EVENTS, MAX_SESSIONS, MAX_STUDENTS}
+use Rattle.mml_lab.specs.declared.fault.LabFault.{LabFault}
+use Rattle.mml_lab.specs.declared.fault.LabFault.TheVariants as fault
+use Rattle.mml_lab.specs.declared.fault.Key.TheVariants as key
+use Rattle.mml_lab.specs.Shape.{Account, NodeSpec, RawSpec, spelled}
+use Rattle.mml_lab.specs.Rosters.{RosterValue, IsRoster, is_account, has_name, name_twice, with_owners}
+
+pub record LabValue : Type 0 where
+  -- the identifiers of the nodes in rising order; a node's rank is its place here
+  pub ids : List ℕ
+  pub roster : RosterValue
+  -- the links and registers at the beginning, by rank
+  pub network : Network
+  -- how many events a run may have at most
+  pub events : ℕ
+  -- how many connections there may be at once
+  pub sessions : ℕ
+
+-- the number; a negative one counts as 0
+abbrev pub number_of : ℤ → ℕ
+number_of (pos n) = n
+number_of (negsuc n) = 0
+
+-- the identifiers of the nodes in file order
+abbrev pub file_ids : List NodeSpec → List ℕ
+file_ids nodes = map (λ node. number_of node.id) nodes
+
+-- some node has that identifier
+abbrev pub is_node : List NodeSpec → ℤ → Bool
+is_node nodes id = list_any (λ node. int_eq node.id id) nodes
+
+-- the link has these two ends, in either order
+abbrev pub joins : ℤ → ℤ → ℤ × ℤ → Bool
+joins a b link = (int_eq link.0 a && int_eq link.1 b) || (int_eq link.0 b && int_eq link.1 a)
+
+-- some link has these two ends
+abbrev pub is_linked : List (ℤ × ℤ) → ℤ → ℤ → Bool
+is_linked links a b = list_any (joins a b) links
+
+-- the owner is no student
+abbrev pub lacks_owner : List Account → NodeSpec → Bool
+lacks_owner students node = not (list_any (has_name node.owner) students)
+
+-- an end of the link is no node
+abbrev pub lacks_end : List NodeSpec → ℤ × ℤ → Bool
+lacks_end nodes link = not (is_node nodes link.0 && is_node nodes link.1)
+
+-- both ends of the link are the same
+abbrev pub is_loop : ℤ × ℤ → Bool
+is_loop link = int_eq link.0 link.1
+
+-- the link at an index has the ends of one before it
+abbrev pub is_link_again : List (ℤ × ℤ) → ℕ → Bool
+is_link_again links i = option_map_or (λ link. is_linked (take i links) link.0 link.1) (slice_get links i) false
+
+-- the node points at one that it isn't linked to
+abbrev pub points_astray : List (ℤ × ℤ) → NodeSpec → Bool
+points_astray links node = option_map_or (λ p. not (is_linked links node.id p)) node.p false
+
+-- the number is from 1 to the greatest
+abbrev pub is_within : ℕ → ℤ → Bool
+is_within greatest n = nat_lt 0 (number_of n) && nat_le (number_of n) greatest
+
+-- the nodes' identifiers are no table
+unfoldable pub ids_fault : List NodeSpec → Option LabFault
+ids_fault nodes = option_map fault.Id (id_fault (file_ids nodes))
+
+-- a name or a key isn't of its form, the teacher's at place 0
+unfoldable pub forms_fault : List Account → Option LabFault
+forms_fault accounts = option_map fault.Name (position (λ a. not (is_account a)) accounts)
+
+-- an owner is no student
+unfoldable pub owners_fault : List Account → List NodeSpec → Option LabFault
+owners_fault students nodes = option_map fault.NoOwner (position (lacks_owner students) nodes)
+
+-- an end is no node, then a link has one node at both ends, then a link stood before
+unfoldable pub links_fault : List NodeSpec → List (ℤ × ℤ) → Option LabFault
+links_fault nodes links = first_fault (option_map fault.LinkEnd (position (lacks_end nodes) links))
+    (first_fault (option_map fault.Loop (position is_loop links))
+    (option_map fault.LinkTwice (first_below (is_link_again links) (length links))))
+
+-- a node points at one that isn't its neighbour
+unfoldable pub pointers_fault : List (ℤ × ℤ) → List NodeSpec → Option LabFault
+pointers_fault links nodes = option_map fault.BadPointer (position (points_astray links) nodes)
+
+-- too many events or none, then too many sessions or none, then too many students
+unfoldable pub limits_fault : ℤ → ℤ → ℕ → Option LabFault
+limits_fault events sessions students = first_fault (fault_if (not (is_within MAX_EVENTS events)) (fault.Limit key.Events))
+    (first_fault (fault_if (not (is_within MAX_SESSIONS sessions)) (fault.Limit key.Sessions))
+    (fault_if (nat_lt MAX_STUDENTS students) (fault.Limit key.Student)))
+
+-- the first fault: each test goes over the whole file before the next
+unfoldable pub lab_fault : RawSpec → Option LabFault
+lab_fault raw = first_fault (ids_fault raw.nodes)
+    (first_fault (forms_fault (raw.teacher ∷ raw.students))
+    (first_fault (name_twice (raw.teacher ∷ raw.students))
+    (first_fault (owners_fault raw.students raw.nodes)
+    (first_fault (links_fault raw.nodes raw.links)
+    (first_fault (pointers_fault raw.links raw.nodes)
+    (limits_fault raw.events raw.sessions (length raw.students)))))))
+
+-- the node of the file with that identifier
+abbrev pub node_with : List NodeSpec → ℕ → Option NodeSpec
+node_with nodes id = find (λ node. number_of node.id == id) nodes
+
+-- the ranks of the nodes that a link of the file joins to the node with that identifier
+unfoldable pub neighbours_of : List ℕ → List (ℤ × ℤ) → ℕ → FinSet nat_cmp
+neighbours_of ids links id = those_below (length ids) (λ rank. is_linked links (pos id) (pos (slice_index ids rank)))
+
+-- the registers that the file gives a node: the rank that it points at, if it points at one
+abbrev pub registers_in : List ℕ → NodeSpec → Regs
+registers_in ids node = record { p = option_and_then (λ p. rank_in ids (number_of p)) node.p; m = node.m }
+
+-- the place of a node's owner among the students
+abbrev pub owner_in : List Account → NodeSpec → ℕ
+owner_in students node = unwrap_or (position (has_name node.owner) students) 0
+
+-- the registers of the node with that identifier
+abbrev pub registers_with : List ℕ → List NodeSpec → ℕ → Regs
+registers_with ids nodes id = option_map_or (registers_in ids) (node_with nodes id) no_regs
+
+-- the owner of the node with that identifier
+abbrev pub owner_with : List Account → List NodeSpec → ℕ → ℕ
+owner_with students nodes id = option_map_or (owner_in students) (node_with nodes id) 0
+
+-- the links and registers of the file, by rank
+unfoldable pub network_in : List ℕ → RawSpec → Network
+network_in ids raw = record { neighbours = map (neighbours_of ids raw.links) ids; registers = map (registers_with ids raw.nodes) ids }
+
+-- the lab of a file that has no fault
+unfoldable pub lab_in : RawSpec → LabValue
+lab_in raw = let ids = in_order (file_ids raw.nodes) in record {
+  ids = ids;
+  roster = with_owners raw.teacher raw.students (map (owner_with raw.students raw.nodes) ids);
+  network = network_in ids raw;
+  events = number_of raw.events;
+  sessions = number_of raw.sessions;
+}
+
+-- the lab that bytes spell, or the first fault
+unfoldable pub lab_of : List ℕ → Result LabValue LabFault
+lab_of bytes = spelled bytes >>= λ raw. unless_fault (lab_fault raw) (lab_in raw)
+
+-- how many of the numbers below n pass
+abbrev pub count_below : ℕ → (ℕ → Bool) → ℕ
+count_below zero test = 0
+count_below (suc n) test = count_below n test + (if test n then 1 else 0)
+
+-- how many links there are whose greater end is below n
+abbrev pub links_below : Configuration → ℕ → ℕ
+links_below c zero = 0
+links_below c (suc n) = links_below c n + count_below n (c.linked n)
+
+-- how many links a network has
+unfoldable pub link_count : Network → ℕ
+link_count network = links_below (configuration_of network) (length network.registers)
+
+-- the identifiers are a table, the roster and the network are lawful and of as many nodes, and the limits are kept
+pub record IsLab (lab : LabValue) : Type 0 where
+  pub ids : IsTable lab.ids
+  pub roster : IsRoster lab.roster
+  pub network : IsNetwork lab.network
+  pub nodes : length lab.network.registers ≡ length lab.ids
+  pub owned : length lab.roster.owners ≡ length lab.ids
+  pub some_events : 0 < lab.events
+  pub few_events : lab.events ≤ MAX_EVENTS
+  pub some_sessions : 0 < lab.sessions
+  pub few_sessions : lab.sessions ≤ MAX_SESSIONS

@@ -1,0 +1,45 @@
+-- What the roster's definitions mean, stated as facts.
+use Rattle.std.specs.Prelude.{◌≡◌, ◌≢◌, ℕ, ◌<◌, ◌≤◌, ◌⊎◌, List, length, slice_index, slice_index_or, All}
+use Rattle.std.specs.Int.{IsInRange}
+use Rattle.mml_lab.specs.declared.TheConstants.{MAX_NAME, MAX_KEY}
+use Rattle.mml_lab.specs.declared.who.Who.{Who}
+use Rattle.mml_lab.specs.Shape.{Account}
+use Rattle.mml_lab.specs.Rosters.{RosterValue, IsPrincipal, name_of, key_of, no_account}
+
+-- a to z
+abbrev pub IsLetter : ℕ → Type 0
+IsLetter b = IsInRange 97 122 b
+
+-- a letter, 0 to 9 or '-'
+abbrev pub IsNameByte : ℕ → Type 0
+IsNameByte b = IsLetter b ⊎ (IsInRange 48 57 b ⊎ (b ≡ 45))
+
+pub record IsName (name : List ℕ) : Type 0 where
+  pub some : 0 < length name
+  pub short : length name ≤ MAX_NAME
+  pub first : IsLetter (slice_index name 0)
+  pub bytes : All IsNameByte name
+
+pub record IsKey (key : List ℕ) : Type 0 where
+  pub some : 0 < length key
+  pub short : length key ≤ MAX_KEY
+  pub bytes : All (IsInRange 33 126) key
+
+-- w takes part under that name and key
+pub record IsKnownAs (r : RosterValue) (w : Who) (name key : List ℕ) : Type 0 where
+  pub member : IsPrincipal r w
+  pub named : name_of r w ≡ name
+  pub keyed : key_of r w ≡ key
+
+abbrev pub name_at : List Account → ℕ → List ℕ
+name_at accounts k = (slice_index_or accounts k no_account).name
+
+-- no two of the first n have one name
+abbrev pub AreDistinctBelow : List Account → ℕ → Type 0
+AreDistinctBelow accounts n = (j k : ℕ) → j < k → k < n → name_at accounts j ≢ name_at accounts k
+
+-- the name at k stands before k, and k is the first such place
+pub record IsFirstAgain (accounts : List Account) (k : ℕ) : Type 0 where
+  pub within : k < length accounts
+  pub again : (j : ℕ) × (j < k) × (name_at accounts j ≡ name_at accounts k)
+  pub first : AreDistinctBelow accounts k

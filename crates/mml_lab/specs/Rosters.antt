@@ -1,0 +1,96 @@
+-- Who takes part in a lab, under which name and key, and who owns each node.
+use Rattle.std.specs.Prelude.{◌≡◌, ◌==◌, ℕ, ◌<◌, ◌≤◌, nat_lt, nat_le, Bool, false, ◌&&◌, ◌||◌, IsTrue, List, [], ◌∷◌, length, take, map, position, slice_index_or, All, Option, Some, option_map, if◌then◌else◌, bytes_eq}
+use Rattle.std.specs.List.{list_any, list_all}
+use Rattle.std.specs.Char.{is_ascii_lowercase, is_ascii_digit, is_ascii_graphic}
+use Rattle.mml_ids.specs.Search.{first_below}
+use Rattle.mml_lab.specs.declared.TheConstants.{MAX_STUDENTS, MAX_NAME, MAX_KEY}
+use Rattle.mml_lab.specs.declared.who.Who.{Who}
+use Rattle.mml_lab.specs.declared.who.Who.TheVariants as who
+use Rattle.mml_lab.specs.declared.fault.LabFault.{LabFault}
+use Rattle.mml_lab.specs.declared.fault.LabFault.TheVariants as fault
+use Rattle.mml_lab.specs.Shape.{Account}
+
+-- the teacher, the students in the file's order, and for each rank the students who own the node
+pub record RosterValue : Type 0 where
+  pub teacher : Account
+  pub students : List Account
+  pub owners : List (List ℕ)
+
+-- a to z, 0 to 9 and '-'
+abbrev pub is_name_byte : ℕ → Bool
+is_name_byte b = is_ascii_lowercase b || is_ascii_digit b || b == 45
+
+-- a name: 1 to 32 of these bytes, and the first is a letter
+abbrev pub is_name : List ℕ → Bool
+is_name [] = false
+is_name (b ∷ bs) = is_ascii_lowercase b && list_all is_name_byte bs && nat_le (length (b ∷ bs)) MAX_NAME
+
+-- a key: 1 to 64 bytes, each from 33 to 126
+abbrev pub is_key : List ℕ → Bool
+is_key key = nat_lt 0 (length key) && nat_le (length key) MAX_KEY && list_all is_ascii_graphic key
+
+-- name and key have their forms
+abbrev pub is_account : Account → Bool
+is_account a = is_name a.name && is_key a.key
+
+abbrev pub has_name : List ℕ → Account → Bool
+has_name name a = bytes_eq name a.name
+
+abbrev pub has_name_and_key : List ℕ → List ℕ → Account → Bool
+has_name_and_key name key a = bytes_eq name a.name && bytes_eq key a.key
+
+abbrev pub no_account : Account
+no_account = record { name = []; key = [] }
+
+-- the name at this place of the list stands before it already
+abbrev pub is_name_again : List Account → ℕ → Bool
+is_name_again accounts k = list_any (has_name (slice_index_or accounts k no_account).name) (take k accounts)
+
+-- the first name that stands before it already, the teacher's at place 0
+abbrev pub name_twice : List Account → Option LabFault
+name_twice accounts = option_map fault.NameTwice (first_below (is_name_again accounts) (length accounts))
+
+-- the account of one who takes part
+abbrev pub account_of : RosterValue → Who → Account
+account_of r who.Teacher = r.teacher
+account_of r (who.Student s) = slice_index_or r.students s no_account
+
+abbrev pub name_of : RosterValue → Who → List ℕ
+name_of r who = (account_of r who).name
+
+abbrev pub key_of : RosterValue → Who → List ℕ
+key_of r who = (account_of r who).key
+
+-- who has that name and key
+abbrev pub principal : RosterValue → List ℕ → List ℕ → Option Who
+principal r name key =
+    if has_name_and_key name key r.teacher then Some who.Teacher else option_map who.Student (position (has_name_and_key name key) r.students)
+
+-- the place of the student with that name
+abbrev pub student_named : RosterValue → List ℕ → Option ℕ
+student_named r name = position (has_name name) r.students
+
+-- the students who own the node of a rank
+abbrev pub owners_of : RosterValue → ℕ → List ℕ
+owners_of r i = slice_index_or r.owners i []
+
+-- the teacher owns no node
+abbrev pub owns : RosterValue → Who → ℕ → Bool
+owns r who.Teacher i = false
+owns r (who.Student s) i = list_any (λ o. o == s) (owners_of r i)
+
+-- one who takes part
+abbrev pub IsPrincipal : RosterValue → Who → Type 0
+IsPrincipal r who.Teacher = Unit {0}
+IsPrincipal r (who.Student s) = s < length r.students
+
+-- names and keys have their forms, no two have one name, and nodes are owned by students
+pub record IsRoster (r : RosterValue) : Type 0 where
+  pub few : length r.students ≤ MAX_STUDENTS
+  pub formed : (w : Who) → IsPrincipal r w → IsTrue (is_account (account_of r w))
+  pub differ : (a b : Who) → IsPrincipal r a → IsPrincipal r b → name_of r a ≡ name_of r b → a ≡ b
+  pub owned : All (All (λ s. s < length r.students)) r.owners
+
+-- the roster of a lab whose nodes have one owner each, given by rank
+abbrev pub with_owners : Account → List Account → List ℕ → RosterValue
+with_owners teacher students owners = record { teacher = teacher; students = students; owners = map (λ s. s ∷ []) owners }

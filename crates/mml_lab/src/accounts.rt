@@ -1,0 +1,70 @@
+//! The forms of names and keys.
+ghost use Rattle.std.specs.Prelude.{◌≡◌, ◌∷◌, ◌<◌, not, position, map, length, IfSome};
+ghost use Rattle.std.specs.List.{list_all};
+ghost use Rattle.std.specs.Char.{is_ascii_graphic};
+ghost use Rattle.mml_lab.specs.Raw.{principal_view};
+ghost use Rattle.mml_lab.specs.Rosters.{is_name_byte, is_name, is_key, is_account};
+
+use crate::raw::Principal;
+use crate::{MAX_KEY, MAX_NAME};
+
+fn is_name_byte(byte: u8) -> bool
+    ensures { result ≡ is_name_byte byte }
+{
+    byte.is_ascii_lowercase() || byte.is_ascii_digit() || byte == b'-'
+}
+
+fn is_name(name: &[u8]) -> bool
+    ensures { result ≡ is_name name.now }
+{
+    if name.is_empty() {
+        return false;
+    }
+    let begins = name[0].is_ascii_lowercase();
+    begins && are_name_bytes(&name[1..]) && name.len() as u64 <= MAX_NAME
+}
+
+fn are_name_bytes(bytes: &[u8]) -> bool
+    ensures { result ≡ list_all is_name_byte bytes.now }
+{
+    bytes.iter().all(|byte| is_name_byte(*byte))
+}
+
+fn is_key(key: &[u8]) -> bool
+    ensures { result ≡ is_key key.now }
+{
+    !key.is_empty() && key.len() as u64 <= MAX_KEY && are_graphic(key)
+}
+
+fn are_graphic(bytes: &[u8]) -> bool
+    ensures { result ≡ list_all is_ascii_graphic bytes.now }
+{
+    bytes.iter().all(|byte| byte.is_ascii_graphic())
+}
+
+fn is_account(account: &Principal) -> bool
+    ensures { result ≡ is_account (principal_view account.now) }
+{
+    is_name(account.name.as_bytes()) && is_key(account.key.as_bytes())
+}
+
+/// The first whose name or key isn't of its form: the teacher at place 0, and the students from 1.
+pub(crate) fn first_malformed(teacher: &Principal, students: &[Principal]) -> Option<usize>
+    ensures { result ≡ position (λ a. not (is_account a))
+        (principal_view teacher.now ∷ map principal_view students.now) }
+{
+    if !is_account(teacher) {
+        return Some(0);
+    }
+    match first_malformed_student(students) {
+        Some(place) => Some(place + 1),
+        None => None,
+    }
+}
+
+fn first_malformed_student(students: &[Principal]) -> Option<usize>
+    ensures value { result ≡ position (λ a. not (is_account (principal_view a))) students.now }
+    ensures within { IfSome result (λ place. place < length students.now) }
+{
+    students.iter().position(|student| !is_account(student))
+}

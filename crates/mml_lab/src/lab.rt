@@ -1,0 +1,168 @@
+ghost use Rattle.std.specs.Prelude.{◌≡◌, ◌<◌, ◌≤◌, length};
+ghost use Rattle.std.specs.FinSet as set;
+ghost use Rattle.mml_rules.specs.Network.{neighbours_at, registers_at, configuration_of};
+ghost use Rattle.mml_lab.specs.Labs.{IsLab, count_below, link_count};
+
+use crate::roster::Roster;
+use mml_ids::{IdTable, NodeSet, Rank};
+use mml_rules::Regs;
+use std::marker::Model;
+
+/// A network, who takes part, and the limits of a run. Nodes are named by their ranks.
+#[derive(Debug, Drop)]
+pub struct Lab {
+    ids: IdTable,
+    roster: Roster,
+    neighbours: Vec<NodeSet>,
+    registers: Vec<Regs>,
+    events: u64,
+    sessions: u8,
+}
+
+impl Model for Lab {
+    ghost use Rattle.std.specs.Coded.{codes};
+    ghost use Rattle.mml_ids.specs.Bits.{node_set_code};
+    ghost use Rattle.mml_lab.specs.Labs.{LabValue};
+
+    ghost Value = { LabValue };
+
+    ghost coded = { Prim.hlevel (codes, node_set_code) };
+
+    ghost use Rattle.mml_lab.specs.LabView.{lab_view, IsLabInside};
+
+    ghost view = { lab_view };
+
+    ghost invariant = { IsLabInside };
+}
+
+impl Lab {
+    pub(crate) fn new(
+        ids: IdTable,
+        roster: Roster,
+        neighbours: Vec<NodeSet>,
+        registers: Vec<Regs>,
+        events: u64,
+        sessions: u8,
+    ) -> Lab
+        requires { IsLab (record {
+            ids = ids;
+            roster = roster;
+            network = record { neighbours = neighbours.items; registers = registers.items };
+            events = events;
+            sessions = sessions;
+        }) }
+        ensures { result ≡ record {
+            ids = ids;
+            roster = roster;
+            network = record { neighbours = neighbours.items; registers = registers.items };
+            events = events;
+            sessions = sessions;
+        } }
+    {
+        Lab {
+            ids,
+            roster,
+            neighbours,
+            registers,
+            events,
+            sessions,
+        }
+    }
+
+    pub fn ids(&self) -> &IdTable
+        ensures { result.now ≡ self.now.ids }
+    {
+        &self.ids
+    }
+
+    pub fn roster(&self) -> &Roster
+        ensures { result.now ≡ self.now.roster }
+    {
+        &self.roster
+    }
+
+    /// Whether two nodes are linked at the beginning.
+    pub fn linked(&self, a: Rank, b: Rank) -> bool
+        requires { a < length self.now.ids }
+        ensures { result ≡ set.contains (neighbours_at self.now.network.neighbours a) b }
+    {
+        self.neighbours[a.index() as usize].has(b)
+    }
+
+    /// A node's registers at the beginning.
+    pub fn regs(&self, node: Rank) -> Regs
+        requires { node < length self.now.ids }
+        ensures { result ≡ registers_at self.now.network.registers node }
+    {
+        self.registers[node.index() as usize]
+    }
+
+    /// For each node, by rank, the nodes linked to it at the beginning.
+    pub fn neighbours(&self) -> &[NodeSet]
+        ensures { result.now ≡ self.now.network.neighbours }
+    {
+        self.neighbours.as_slice()
+    }
+
+    /// For each node, by rank, its registers at the beginning.
+    pub fn registers(&self) -> &[Regs]
+        ensures { result.now ≡ self.now.network.registers }
+    {
+        self.registers.as_slice()
+    }
+
+    /// How many events a run may have at most.
+    pub fn events(&self) -> u64
+        ensures { result ≡ self.now.events }
+    {
+        self.events
+    }
+
+    /// How many connections there may be.
+    pub fn sessions(&self) -> u8
+        ensures { result ≡ self.now.sessions }
+    {
+        self.sessions
+    }
+
+    pub fn node_count(&self) -> u64
+        ensures count { result ≡ length self.now.ids }
+        ensures lab { IsLab self.now }
+    {
+        self.ids.len()
+    }
+
+    /// How many links there are at the beginning.
+    #[tactic(auto, unfolding(crate::specs::Labs::link_count))]
+    pub fn link_count(&self) -> u64
+        ensures { result ≡ link_count self.now.network }
+    {
+        let mut count = 0;
+        for index in 0..self.ids.len() {
+            count += self.links_below(Rank::at(index));
+        }
+        count
+    }
+
+    pub fn student_count(&self) -> u64
+        ensures { result ≡ length self.now.roster.students }
+    {
+        self.roster.student_count()
+    }
+
+    /// How many of the nodes below this one are linked to it.
+    fn links_below(&self, node: Rank) -> u64
+        requires { node < length self.now.ids }
+        ensures count { result
+            ≡ count_below node ((configuration_of self.now.network).linked node) }
+        ensures few { result ≤ node }
+    {
+        let mut count = 0;
+        for index in 0..node.index() {
+            if self.linked(node, Rank::at(index)) {
+                count += 1;
+            }
+        }
+        count
+    }
+}

@@ -1,0 +1,35 @@
+//! The lab file: identifiers, who takes part, the network at the beginning, and the limits of a run.
+#![tactic(auto)]
+
+mod accounts;
+mod checks;
+mod fault;
+
+mod lab;
+mod network;
+pub mod laws;
+mod raw;
+mod reading;
+mod roster;
+mod who;
+
+pub use fault::{Key, LabFault};
+pub use lab::Lab;
+pub use reading::read_lab;
+pub use roster::Roster;
+pub use who::{Student, Who};
+
+/// How many events a run may have at most.
+pub const MAX_EVENTS: u64 = 100_000;
+
+/// How many connections there may be at most.
+pub const MAX_SESSIONS: u64 = 16;
+
+/// How many students a lab may have at most.
+pub const MAX_STUDENTS: u64 = 256;
+
+/// The greatest length of a name, in bytes.
+pub const MAX_NAME: u64 = 32;
+
+/// The greatest length of a key, in bytes.
+pub const MAX_KEY: u64 = 64;

@@ -1,0 +1,180 @@
+ghost use Rattle.std.specs.Prelude.{◌≡◌, ◌<◌, ◌≤◌, ◌∷◌, length, map, position, slice_index_or, string_bytes, Some, None, IfSome, IsTrue, ◌&&◌, ◌||◌, is_some, bytes_eq};
+ghost use Rattle.std.specs.Map.{lookup};
+ghost use Rattle.mml_ids.specs.Gives.{Gives, unless_fault};
+ghost use Rattle.mml_lab.specs.declared.who.Who.TheVariants.{Student as AStudent};
+ghost use Rattle.mml_lab.specs.declared.TheConstants.{MAX_NAME};
+ghost use Rattle.mml_lab.specs.Shape.{is_memory};
+ghost use Rattle.mml_lab.specs.Raw.{principal_view, entry_view};
+ghost use Rattle.mml_lab.specs.Rosters.{principal, student_named, owns, name_of, is_name, has_name_and_key, no_account, name_twice, with_owners, IsPrincipal, IsRoster};
+
+use crate::fault::LabFault;
+use crate::raw::Principal;
+use crate::who::{Student, Who};
+use indexmap::IndexMap;
+use mml_ids::Rank;
+use std::alloc::Global;
+use std::marker::Model;
+
+/// Who takes part in a lab, under which name and key, and who owns each node.
+#[derive(Debug, Drop)]
+pub struct Roster {
+    teacher: Principal,
+    // name to key, in the file's order
+    students: IndexMap<String, String>,
+    // by rank
+    owners: Vec<Student>,
+}
+
+impl Model for Roster {
+    ghost use Rattle.mml_lab.specs.Rosters.{RosterValue};
+
+    ghost Value = { RosterValue };
+
+    ghost use Rattle.mml_lab.specs.RosterView.{roster_view, IsRosterInside};
+
+    ghost view = { roster_view };
+
+    ghost invariant = { IsRosterInside };
+}
+
+impl Roster {
+    /// The students' names and keys in the file's order, and for each rank the one owner of the node.
+    pub(crate) fn new(
+        teacher: Principal,
+        students: IndexMap<String, String>,
+        owners: Vec<Student>,
+    ) -> Roster
+        requires { IsRoster (with_owners (principal_view teacher)
+            (map entry_view students.entries) owners.items) }
+        ensures { result ≡ with_owners (principal_view teacher)
+            (map entry_view students.entries) owners.items }
+    {
+        Roster {
+            teacher,
+            students,
+            owners,
+        }
+    }
+
+    /// How many students there are.
+    pub fn student_count(&self) -> u64
+        ensures count { result ≡ length self.now.students }
+        ensures roster { IsRoster self.now }
+    {
+        self.students.len() as u64
+    }
+
+    /// Who has that name and that key.
+    pub fn hello(&self, name: &str, key: &str) -> Option<Who>
+        ensures value { result ≡ principal self.now name.now key.now }
+        ensures member { IfSome result (IsPrincipal self.now) }
+        ensures roster { IsRoster self.now }
+    {
+        if is_principal(&self.teacher, name, key) {
+            return Some(Who::Teacher);
+        }
+        match student_with(&self.students, name, key) {
+            Some(place) => Some(Who::Student(Student::new(place as u16))),
+            None => None,
+        }
+    }
+
+    /// Whether this one owns the node.
+    pub fn owns(&self, who: Who, node: Rank) -> bool
+        ensures { result ≡ owns self.now who node }
+    {
+        match who {
+            Who::Teacher => false,
+            Who::Student(student) => match self.owners.get(node.index() as usize) {
+                Some(owner) => *owner == student,
+                None => false,
+            },
+        }
+    }
+
+    /// The name of one who takes part.
+    pub fn name_of(&self, who: Who) -> &str
+        requires { IsPrincipal self.now who }
+        ensures value { result.now ≡ name_of self.now who }
+        ensures formed { IsTrue (is_name result.now) }
+        ensures short { length result.now ≤ MAX_NAME }
+    {
+        match who {
+            Who::Teacher => self.teacher.name.as_str(),
+            Who::Student(student) => name_at(&self.students, usize::from(student.place())),
+        }
+    }
+
+    /// The student with that name.
+    pub fn student_named(&self, name: &str) -> Option<Student>
+        ensures value { result ≡ student_named self.now name.now }
+        ensures member { IfSome result (λ s. s < length self.now.students) }
+        ensures back { IfSome result (λ s. name_of self.now (AStudent s) ≡ name.now) }
+    {
+        match self.students.get_index_of(name) {
+            Some(place) => Some(Student::new(place as u16)),
+            None => None,
+        }
+    }
+}
+
+fn is_principal(account: &Principal, name: &str, key: &str) -> bool
+    ensures { result ≡ has_name_and_key name.now key.now (principal_view account.now) }
+{
+    name == account.name.as_str() && key == account.key.as_str()
+}
+
+/// The place of the student with that name and key.
+fn student_with(students: &IndexMap<String, String>, name: &str, key: &str) -> Option<usize>
+    ensures value { result ≡
+        position (has_name_and_key name.now key.now) (map entry_view students.now.entries) }
+    ensures within { IfSome result (λ place. place < length students.now.entries) }
+{
+    let place = students.get_index_of(name)?;
+    let (_, found) = students.get_index(place)?;
+    if key == found.as_str() {
+        Some(place)
+    } else {
+        None
+    }
+}
+
+fn name_at(students: &IndexMap<String, String>, place: usize) -> &str
+    requires { place < length students.now.entries }
+    ensures { result.now ≡
+        (slice_index_or (map entry_view students.now.entries) place no_account).name }
+{
+    match students.get_index(place) {
+        Some((name, _)) => name.as_str(),
+        None => unreachable!(),
+    }
+}
+
+/// Whether a name is the teacher's or one of these students'.
+fn is_taken(students: &IndexMap<String, String>, teacher: &str, name: &str) -> bool
+    ensures { result ≡ (bytes_eq name.now teacher.now
+        || is_some (lookup (λ k. bytes_eq name.now (string_bytes k)) students.now.entries)) }
+{
+    name == teacher || students.contains_key(name)
+}
+
+/// The students' names and keys in the file's order, or the first name that stands twice.
+pub(crate) fn students_map(
+    alloc: Global,
+    teacher: &Principal,
+    students: Vec<Principal>,
+) -> Result<IndexMap<String, String>, LabFault>
+    ensures { Gives is_memory (λ m. map entry_view m.entries) result
+        (unless_fault (name_twice (principal_view teacher.now ∷ map principal_view students.items))
+        (map principal_view students.items)) }
+{
+    let mut found = IndexMap::new(alloc);
+    for student in students {
+        let Principal { name, key } = student;
+        if is_taken(&found, teacher.name.as_str(), name.as_str()) {
+            return Err(LabFault::NameTwice(found.len() + 1));
+        }
+        found.insert(name, key)?;
+    }
+    Ok(found)
+}

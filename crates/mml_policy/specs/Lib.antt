@@ -1,0 +1,4 @@
+pub mod Denials
+pub mod Visible
+pub mod Verdicts
+pub mod Answers
