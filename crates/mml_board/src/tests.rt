@@ -35,14 +35,16 @@ fn opening_board(rt: HostRuntime) -> Result<(), Fail> {
     let board = Board::new(alloc, &lab).expect(&rt, "a board");
     let copy = board.try_copy(alloc).expect(&rt, "a copy");
     for board in [board, copy] {
-        assert_eq!(rt; board.size(), 2);
+        let ids = lab.ids();
+        assert_eq!(rt; ids.len(), 2);
+        assert_eq!(rt; ids.len(), board.size());
         assert_eq!(rt; board.number(), 0);
         assert_eq!(rt; board.place(), 0);
         assert_eq!(rt; board.chosen_set().len(), 0);
         // An abandonment at 5, since 3 < 5 doesn't answer, and a marriage at 3.
         assert_eq!(rt; board.privileged_count(), 2);
-        let lower = lab.ids().rank_of(3).expect(&rt, "node 3");
-        let higher = lab.ids().rank_of(5).expect(&rt, "node 5");
+        let lower = ids.rank_of(3).expect(&rt, "node 3");
+        let higher = ids.rank_of(5).expect(&rt, "node 5");
         assert_eq!(rt; board.enabled(lower), Some(Kind::Marriage));
         assert_eq!(rt; board.enabled(higher), Some(Kind::Abandonment));
         assert_eq!(rt; board.regs(lower), Regs { p: None, m: false });
