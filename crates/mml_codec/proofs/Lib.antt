@@ -1,0 +1,4 @@
+pub mod ValueIn
+pub mod Texts
+pub mod OneLine
+pub mod Again

@@ -1,0 +1,5 @@
+use Rattle.mml_codec.proofs.Again.{canonical_line}
+use Rattle.mml_codec.proofs.laws.a_text_is_one_line.Goals as goal
+
+pub returns : goal.returns
+returns c r h = canonical_line r h
