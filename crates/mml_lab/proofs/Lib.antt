@@ -14,3 +14,4 @@ pub mod Faultless
 pub mod Found
 pub mod Sound
 pub mod Built
+pub mod LabFacts

@@ -38,9 +38,11 @@ inserted rows a b old new lt here is i q = elim (cases_eq i a) [
     swap_or true false = refl
     swap_or false true = refl
     swap_or false false = refl
+
     or_false : (a : Bool) → (a || false) ≡ a
     or_false true = refl
     or_false false = refl
+
     eqb_turn : (x y : ℕ) → eqb x y ≡ eqb y x
     eqb_turn x y = same_bool (eqb x y) (eqb y x) (λ h. eq-eqb y x (sym (eqb-true x y h))) (λ h. eq-eqb x y (sym (eqb-true y x h)))
 
@@ -54,6 +56,7 @@ end_at ids table z i lt = same_bool (int_eq z (pos id)) (holds (rank_in ids (num
   where
     id : ℕ
     id = slice_index ids i
+
     positive : (z : ℤ) → 0 < number_of z → z ≡ pos (number_of z)
     positive (pos n) h = refl
     positive (negsuc n) h = absurd (omega arith)
@@ -101,14 +104,17 @@ one_more ids table links k link rows new lt is long step so_far = record {
   where
     near : ℕ → ℕ → Bool
     near i q = (holds (rank_in ids (number_of link.0)) i && holds (rank_in ids (number_of link.1)) q) || (holds (rank_in ids (number_of link.1)) i && holds (rank_in ids (number_of link.0)) q)
+
     beyond : (z : ℤ) (q : ℕ) → length ids ≤ q → holds (rank_in ids (number_of z)) q ≡ false
     beyond z q past = by (rank_in ids (number_of z)) refl
       where
         by : (o : Option ℕ) → rank_in ids (number_of z) ≡ o → holds o q ≡ false
         by None e = refl
         by (Some k) e = let found = position-Some (λ n. eqb n (number_of z)) ids k 0 e in ne_eqb k q (λ same. absurd (omega (arith, found.0)))
+
     none : (i q : ℕ) → length ids ≤ q → near i q ≡ false
     none i q past = rw (beyond link.0 q past, beyond link.1 q past, and_right (holds (rank_in ids (number_of link.0)) i) false refl) (and_right (holds (rank_in ids (number_of link.1)) i) false refl)
+
     at : (i q : ℕ) → i < length ids → (q < length ids) ⊎ (length ids ≤ q)
         → ((ltb q (length ids) && is_linked (take k links) (pos (slice_index ids i)) (pos (slice_index ids q))) || near i q)
         ≡ (ltb q (length ids) && is_linked (take (k + 1) links) (pos (slice_index ids i)) (pos (slice_index ids q)))

@@ -20,7 +20,7 @@ use Rattle.mml_rules.specs.Configuration.{Configuration, IsLawful}
 use Rattle.mml_rules.specs.Network.{Network, no_regs, neighbours_at, registers_at, configuration_of, IsNetwork}
 use Rattle.mml_lab.specs.declared.TheConstants.{MAX_EVENTS, MAX_SESSIONS}
 use Rattle.mml_lab.specs.Shape.{Account, NodeSpec, RawSpec}
-use Rattle.mml_lab.specs.Rosters.{has_name, with_owners, IsRoster}
+use Rattle.mml_lab.specs.Rosters.{has_name, no_account, with_owners, IsRoster}
 use Rattle.mml_lab.specs.Labs.{LabValue, IsLab, number_of, file_ids, joins, is_linked, is_loop, is_within, lacks_owner, points_astray, node_with, owner_in, owner_with, registers_in, registers_with, neighbours_of, network_in, lab_in, lab_fault}
 use Rattle.mml_lab.proofs.Mapped.{list_any-map}
 use Rattle.mml_lab.proofs.Positions.{position-None}
@@ -54,6 +54,7 @@ no_loop links a none = by (cases_Bool (is_linked links a a))
     either : (x : Bool) → (x || x) ≡ true → x ≡ true
     either true h = refl
     either false h = h
+
     by : (is_linked links a a ≡ true) ⊎ (is_linked links a a ≡ false) → is_linked links a a ≡ false
     by (inr apart) = apart
     by (inl holds) =
@@ -71,15 +72,19 @@ pub record IsNodeAt (nodes : List NodeSpec) (id : ℕ) (node : NodeSpec) : Type 
   pub named : node.id ≡ pos id
 
 -- an owner who is a student has a place among the students
-owner-within : (students : List Account) (node : NodeSpec) → lacks_owner students node ≡ false → owner_in students node < length students
-owner-within students node right = by (position (has_name node.owner) students) refl
+pub owner-position : (students : List Account) (node : NodeSpec) → lacks_owner students node ≡ false → position (has_name node.owner) students ≡ Some (owner_in students node)
+owner-position students node right = by (position (has_name node.owner) students) refl
   where
     found : (x : Account) × IsFound (has_name node.owner) students x
     found = list_any-found (has_name node.owner) students (not-false (list_any (has_name node.owner) students) right)
-    by : (o : Option ℕ) → position (has_name node.owner) students ≡ o → unwrap_or o 0 < length students
+
+    by : (o : Option ℕ) → position (has_name node.owner) students ≡ o → o ≡ Some (unwrap_or o 0)
     by None e = absurd (both_ways (has_name node.owner found.0)
         (ap (has_name node.owner) (sym found.1.there) ∙ position-None (has_name node.owner) students found.0 e found.1.place found.1.within) found.1.passes)
-    by (Some k) e = (position-Some (has_name node.owner) students k found.0 e).0
+    by (Some k) e = refl
+
+owner-within : (students : List Account) (node : NodeSpec) → lacks_owner students node ≡ false → owner_in students node < length students
+owner-within students node right = (position-Some (has_name node.owner) students (owner_in students node) no_account (owner-position students node right)).0
 
 module _ (raw : RawSpec) (right : IsFaultless raw) where
   abbrev pub ids : List ℕ

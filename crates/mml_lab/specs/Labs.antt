@@ -124,15 +124,15 @@ neighbours_of ids links id = those_below (length ids) (λ rank. is_linked links 
 abbrev pub registers_in : List ℕ → NodeSpec → Regs
 registers_in ids node = record { p = option_and_then (λ p. rank_in ids (number_of p)) node.p; m = node.m }
 
--- the place of a node's owner among the students
+-- the place of a node's owner among the students; 0 where the owner is none, which is a fault
 abbrev pub owner_in : List Account → NodeSpec → ℕ
 owner_in students node = unwrap_or (position (has_name node.owner) students) 0
 
--- the registers of the node with that identifier
+-- the registers of the node with that identifier; null and false where there is none
 abbrev pub registers_with : List ℕ → List NodeSpec → ℕ → Regs
 registers_with ids nodes id = option_map_or (registers_in ids) (node_with nodes id) no_regs
 
--- the owner of the node with that identifier
+-- the owner of the node with that identifier; 0 where there is none
 abbrev pub owner_with : List Account → List NodeSpec → ℕ → ℕ
 owner_with students nodes id = option_map_or (owner_in students) (node_with nodes id) 0
 

@@ -6,3 +6,4 @@ pub mod Faults
 pub mod Labs
 pub mod LabView
 pub mod RosterMeaning
+pub mod LabMeaning

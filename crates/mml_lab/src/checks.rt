@@ -9,8 +9,8 @@ ghost use Rattle.mml_lab.specs.Shape.{is_memory};
 ghost use Rattle.mml_lab.specs.Raw.{principal_view, node_view, entry_view, raw_view};
 ghost use Rattle.mml_lab.specs.Labs.{number_of, file_ids, is_node, joins, is_linked, lacks_owner, lacks_end, is_loop, is_link_again, points_astray, is_within, ids_fault, forms_fault, owners_fault, links_fault, pointers_fault, limits_fault};
 
-use crate::fault::{Key, LabFault};
 use crate::accounts::first_malformed;
+use crate::fault::{Key, LabFault};
 use crate::raw::{Principal, RawLab, RawNode};
 use crate::{MAX_EVENTS, MAX_SESSIONS, MAX_STUDENTS};
 use indexmap::IndexMap;
@@ -55,7 +55,8 @@ pub(crate) fn owners_fault(
     students: &IndexMap<String, String>,
     nodes: &[RawNode],
 ) -> Option<LabFault>
-    ensures { result ≡ owners_fault (map entry_view students.now.entries) (map node_view nodes.now) }
+    ensures { result ≡
+        owners_fault (map entry_view students.now.entries) (map node_view nodes.now) }
 {
     match first_without_owner(students, nodes) {
         Some(index) => Some(LabFault::NoOwner(index)),

@@ -45,18 +45,18 @@ impl Lab {
         sessions: u8,
     ) -> Lab
         requires { IsLab (record {
-            ids = ids;
-            roster = roster;
-            network = record { neighbours = neighbours.items; registers = registers.items };
-            events = events;
-            sessions = sessions;
+          ids = ids;
+          roster = roster;
+          network = record { neighbours = neighbours.items; registers = registers.items };
+          events = events;
+          sessions = sessions;
         }) }
         ensures { result ≡ record {
-            ids = ids;
-            roster = roster;
-            network = record { neighbours = neighbours.items; registers = registers.items };
-            events = events;
-            sessions = sessions;
+          ids = ids;
+          roster = roster;
+          network = record { neighbours = neighbours.items; registers = registers.items };
+          events = events;
+          sessions = sessions;
         } }
     {
         Lab {
@@ -138,7 +138,7 @@ impl Lab {
         ensures { result ≡ link_count self.now.network }
     {
         let mut count = 0;
-        for index in 0..self.ids.len() {
+        for index in 0..self.node_count() {
             count += self.links_below(Rank::at(index));
         }
         count

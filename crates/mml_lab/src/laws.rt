@@ -1,8 +1,12 @@
 //! Laws of the lab. Each is the clause of a function that does nothing.
-ghost use Rattle.std.specs.Prelude.{◌≡◌, ◌↔◌, ◌∷◌, [], ℕ, ◌<◌, List, length, true, false, Contains, Some, None, slice_index};
+ghost use Rattle.std.specs.Prelude.{◌≡◌, ◌≢◌, ◌↔◌, ◌∷◌, [], ℕ, ℤ, pos, ◌<◌, List, length, true, false, All, Contains, Some, None, Ok, slice_get, slice_index};
+ghost use Rattle.mml_ids.specs.Ids.{IsTable};
+ghost use Rattle.mml_rules.specs.Network.{configuration_of};
 ghost use Rattle.mml_lab.specs.declared.who.Who.{Who};
 ghost use Rattle.mml_lab.specs.declared.fault.LabFault.TheVariants as fault;
-ghost use Rattle.mml_lab.specs.Shape.{Account};
+ghost use Rattle.mml_lab.specs.Shape.{Account, NodeSpec, RawSpec};
+ghost use Rattle.mml_lab.specs.Labs.{LabValue, IsLab, lab_fault, lab_in, lab_of};
+ghost use Rattle.mml_lab.specs.LabMeaning.{Joins, HasLink, HasNode, IsNodeOf, id_at};
 ghost use Rattle.mml_lab.specs.Rosters.{RosterValue, IsRoster, principal, owns, owners_of, name_of, student_named, with_owners, is_name, is_key, name_twice};
 ghost use Rattle.mml_lab.specs.RosterMeaning.{IsKnownAs, IsName, IsKey, IsFirstAgain, AreDistinctBelow};
 
@@ -48,4 +52,58 @@ pub fn name_twice_is_the_first()
         (name_twice accounts ≡ Some (fault.NameTwice k)) ↔ IsFirstAgain accounts k }
     ensures none { (accounts : List Account) →
         (name_twice accounts ≡ None) ↔ AreDistinctBelow accounts (length accounts) }
+{}
+
+/// Each link of a file without a fault joins two nodes that differ, and no two links join the same.
+pub fn links_join_two_nodes()
+    ensures nodes { (raw : RawSpec) → lab_fault raw ≡ None →
+        All (λ link. HasNode raw link.0 × HasNode raw link.1) raw.links }
+    ensures different { (raw : RawSpec) → lab_fault raw ≡ None →
+        All (λ link. link.0 ≢ link.1) raw.links }
+    ensures once { (raw : RawSpec) (i j : ℕ) (link again : ℤ × ℤ) → lab_fault raw ≡ None → i < j →
+        slice_get raw.links i ≡ Some link → slice_get raw.links j ≡ Some again →
+        ¬ Joins again.0 again.1 link }
+{}
+
+/// The identifiers of a lab are those of the file's nodes, each below the next.
+pub fn identifiers_are_the_nodes()
+    ensures table { (raw : RawSpec) → lab_fault raw ≡ None → IsTable (lab_in raw).ids }
+    ensures same { (raw : RawSpec) (id : ℕ) → lab_fault raw ≡ None →
+        Contains (lab_in raw).ids id ↔ HasNode raw (pos id) }
+{}
+
+/// Two nodes are linked exactly where the file has a link with their identifiers as ends.
+pub fn links_are_those_of_the_file()
+    ensures { (raw : RawSpec) (i j : ℕ) → lab_fault raw ≡ None →
+        i < length (lab_in raw).ids → j < length (lab_in raw).ids →
+        ((configuration_of (lab_in raw).network).linked i j ≡ true)
+        ↔ HasLink raw (pos (id_at (lab_in raw) i)) (pos (id_at (lab_in raw) j)) }
+{}
+
+/// A node's registers are those of the file: p is null, or the rank of a node that it is linked to.
+pub fn registers_are_those_of_the_file()
+    ensures m { (raw : RawSpec) (i : ℕ) (node : NodeSpec) → lab_fault raw ≡ None →
+        IsNodeOf raw (lab_in raw) i node →
+        (configuration_of (lab_in raw).network).m i ≡ node.m }
+    ensures null { (raw : RawSpec) (i : ℕ) (node : NodeSpec) → lab_fault raw ≡ None →
+        IsNodeOf raw (lab_in raw) i node → node.p ≡ None →
+        (configuration_of (lab_in raw).network).p i ≡ None }
+    ensures p { (raw : RawSpec) (i : ℕ) (node : NodeSpec) (z : ℤ) → lab_fault raw ≡ None →
+        IsNodeOf raw (lab_in raw) i node → node.p ≡ Some z →
+        (j : ℕ) × ((configuration_of (lab_in raw).network).p i ≡ Some j)
+        × (z ≡ pos (id_at (lab_in raw) j))
+        × ((configuration_of (lab_in raw).network).linked i j ≡ true) }
+{}
+
+/// A student owns a node exactly where the file names the student as its owner.
+pub fn owners_are_those_of_the_file()
+    ensures { (raw : RawSpec) (i s : ℕ) (node : NodeSpec) → lab_fault raw ≡ None →
+        IsNodeOf raw (lab_in raw) i node → s < length raw.students →
+        (owns (lab_in raw).roster (Who.Student s) i ≡ true)
+        ↔ (name_of (lab_in raw).roster (Who.Student s) ≡ node.owner) }
+{}
+
+/// Every lab that bytes spell is lawful.
+pub fn labs_are_lawful()
+    ensures { (bytes : List ℕ) (lab : LabValue) → lab_of bytes ≡ Ok lab → IsLab lab }
 {}

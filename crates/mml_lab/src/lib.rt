@@ -4,10 +4,9 @@
 mod accounts;
 mod checks;
 mod fault;
-
 mod lab;
-mod network;
 pub mod laws;
+mod network;
 mod raw;
 mod reading;
 mod roster;
@@ -33,3 +32,6 @@ pub const MAX_NAME: u64 = 32;
 
 /// The greatest length of a key, in bytes.
 pub const MAX_KEY: u64 = 64;
+
+#[cfg(test)]
+mod tests;

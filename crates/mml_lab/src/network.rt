@@ -131,8 +131,8 @@ pub(crate) fn owners(
     students: &IndexMap<String, String>,
 ) -> Result<Vec<Student>, LabFault>
     requires { length students.now.entries ≤ MAX_STUDENTS }
-    ensures ok { IfOk result (λ owners. owners.items
-        ≡ map (owner_with (map entry_view students.now.entries) (map node_view nodes.now)) ids.now) }
+    ensures ok { IfOk result (λ owners. owners.items ≡ map
+        (owner_with (map entry_view students.now.entries) (map node_view nodes.now)) ids.now) }
     ensures err { IfErr result (λ fault. fault ≡ Memory) }
 {
     let mut found = Vec::new(alloc);
@@ -144,7 +144,8 @@ pub(crate) fn owners(
 
 fn owner_with(students: &IndexMap<String, String>, nodes: &[RawNode], id: u64) -> Student
     requires { length students.now.entries ≤ MAX_STUDENTS }
-    ensures { result ≡ owner_with (map entry_view students.now.entries) (map node_view nodes.now) id }
+    ensures { result ≡
+        owner_with (map entry_view students.now.entries) (map node_view nodes.now) id }
 {
     match node_with(nodes, id) {
         Some(node) => owner_in(students, node),

@@ -12,8 +12,8 @@ use crate::fault::LabFault;
 use crate::lab::Lab;
 use crate::network::{neighbours, owners, registers};
 use crate::raw::{RawLab, RawNode, read_bytes};
-use indexmap::IndexMap;
 use crate::roster::{Roster, students_map};
+use indexmap::IndexMap;
 use std::alloc::Global;
 
 /// The lab of a TOML document, or its first fault in the order of `LabFault`.
@@ -51,9 +51,7 @@ fn lab_from(alloc: Global, raw: RawLab) -> Result<Lab, LabFault>
     let roster = Roster::new(teacher, students, owners);
     let events = number_of(events);
     let sessions = number_of(sessions) as u8;
-    Ok(Lab::new(
-        ids, roster, neighbours, registers, events, sessions,
-    ))
+    Ok(Lab::new(ids, roster, neighbours, registers, events, sessions))
 }
 
 /// The first fault but those of identifiers, forms and names.

@@ -178,3 +178,6 @@ pub(crate) fn students_map(
     }
     Ok(found)
 }
+
+#[cfg(test)]
+mod tests;

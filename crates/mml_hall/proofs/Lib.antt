@@ -1,0 +1,9 @@
+pub mod Fronts
+pub mod Spelled
+pub mod Longer
+pub mod Endings
+pub mod Shown
+pub mod Known
+pub mod ServedSteps
+pub mod TranscriptLaws
+pub mod TurnLaws

@@ -1,0 +1,5 @@
+use Rattle.mml_hall.proofs.TurnLaws.{others_turn}
+use Rattle.mml_hall.proofs.laws.others_stay_known.Goals as goal
+
+pub returns : goal.returns
+returns c = others_turn

@@ -1,0 +1,74 @@
+ghost use Rattle.std.specs.Prelude.{◌≡◌, ◌≢◌, ℕ, ◌≤◌, ◌++◌, ◌∷◌, List, length, decimal, IfSome, IfNone, MatchOption};
+ghost use Rattle.mml_lab.specs.declared.TheConstants.{MAX_SESSIONS};
+ghost use Rattle.mml_lines.specs.LinesOf.{IsUnbroken, IsWithinLimit};
+ghost use Rattle.mml_hall.specs.Turns as turns;
+ghost use Rattle.mml_hall.specs.Transcripts.{IsScript, script_line};
+ghost use Rattle.mml_hall.specs.ScriptLines.{line_of};
+
+use crate::{MAX_REQUEST, MAX_SCRIPT_LINE};
+use itoa::Buffer;
+
+/// A request line, and the connection that it came on.
+#[derive(Clone, Copy)]
+pub struct ScriptLine<'a> {
+    pub connection: u8,
+    pub request: &'a [u8],
+}
+
+/// Reads a line of a script, without byte 10: a connection in decimal, one space and the request.
+pub fn read_script_line(line: &[u8], sessions: u8) -> Option<ScriptLine<'_>>
+    requires few { sessions ≤ MAX_SESSIONS }
+    requires line { IsWithinLimit MAX_SCRIPT_LINE line.now }
+    ensures valid { IfSome result (λ s. IsScript sessions (line_of s)) }
+    ensures spelled { IfSome result (λ s. line.now ≡ script_line (line_of s)) }
+    ensures none { IfNone result
+        ((s : turns.ScriptLine) → IsScript sessions s → line.now ≢ script_line s) }
+{
+    for before in 0..sessions {
+        let connection = before + 1;
+        if let Some(request) = short_request_on(connection, line) {
+            return Some(ScriptLine {
+                connection,
+                request,
+            });
+        }
+    }
+    None
+}
+
+// The request of a line that begins with this connection, where it isn't too long.
+fn short_request_on(connection: u8, line: &[u8]) -> Option<&[u8]>
+    requires { IsUnbroken line.now }
+    ensures spelled { IfSome result
+        (λ request. line.now ≡ decimal connection ++ 32 ∷ request.now) }
+    ensures short { IfSome result (λ request. IsWithinLimit MAX_REQUEST request.now) }
+    ensures none { IfNone result ((request : List ℕ) → length request ≤ MAX_REQUEST
+        → line.now ≢ decimal connection ++ 32 ∷ request) }
+{
+    let request = request_on(connection, line)?;
+    if request.len() <= MAX_REQUEST {
+        Some(request)
+    } else {
+        None
+    }
+}
+
+// What follows this connection and one space.
+fn request_on(connection: u8, line: &[u8]) -> Option<&[u8]>
+    ensures { MatchOption result
+        ((request : List ℕ) → line.now ≢ decimal connection ++ 32 ∷ request)
+        (λ request. line.now ≡ decimal connection ++ 32 ∷ request.now) }
+{
+    let mut digits = Buffer::new();
+    let rest = after(line, digits.format(connection).as_bytes())?;
+    let request = after(rest, b" ")?;
+    Some(request)
+}
+
+fn after<'a>(line: &'a [u8], word: &[u8]) -> Option<&'a [u8]>
+    ensures { MatchOption result
+        ((rest : List ℕ) → line.now ≢ word.now ++ rest)
+        (λ rest. line.now ≡ word.now ++ rest.now) }
+{
+    line.strip_prefix(word)
+}
