@@ -1,7 +1,5 @@
-use crate::{Hall, ScriptFault, run_script};
-use mml_codec::{Refused, Reply};
-use mml_lab::{Student, Who, read_lab};
-use mml_policy::Denial;
+use crate::{ScriptFault, run_script};
+use mml_lab::read_lab;
 use std::alloc::{AllocError, Global};
 use std::io;
 use std::io::{ErrorKind, Read, Write};
@@ -109,24 +107,6 @@ fn patient_taker(alloc: Global) -> Taker {
     }
 }
 
-// Gives one byte in a read, and fails once that many reads were made.
-#[derive(Drop)]
-struct Failing<'a> {
-    rest: &'a [u8],
-    reads: usize,
-}
-
-impl<'a> Read for Failing<'a> {
-    fn read(&mut self, buf: &mut [u8]) -> io::Result<usize> {
-        if self.reads == 0 {
-            return Err(io::Error::from(ErrorKind::Other));
-        }
-        self.reads -= 1;
-        let len = buf.len().min(1);
-        self.rest.read(&mut buf[..len])
-    }
-}
-
 // What came of a script.
 fn fault_of<R: Read, W: Write>(
     alloc: Global,
@@ -164,15 +144,6 @@ fn long_bye(alloc: Global, len: usize, end: &[u8]) -> Result<Vec<u8>, AllocError
     }
     script.extend_from_slice(end)?;
     Ok(script)
-}
-
-// How many bytes of an output follow its last byte 10.
-fn bytes_at_hand(output: &[u8]) -> usize {
-    let mut count = 0;
-    for byte in output {
-        count = if *byte == b'\n' { 0 } else { count + 1 };
-    }
-    count
 }
 
 #[test]
@@ -245,91 +216,4 @@ fn lines_have_limits(rt: HostRuntime) -> Result<(), Fail> {
     // 4099 bytes without byte 10 may stand at the end, and no more
     gives(&rt, alloc, &long_bye(alloc, 4097, b"")?, None, b"")?;
     gives(&rt, alloc, &long_bye(alloc, 4098, b"")?, bad, b"")
-}
-
-#[test]
-fn failed_writes_are_told(rt: HostRuntime) -> Result<(), Fail> {
-    let alloc = rt.alloc();
-    let output = FIRST_LOOK_REPLIES.as_bytes();
-    for fails in [true, false] {
-        for writes in 0..output.len() {
-            let mut reader = FIRST_LOOK.as_bytes();
-            let mut writer = Taker {
-                taken: Vec::new(alloc),
-                step: 1,
-                writes,
-                fails,
-            };
-            let fault = fault_of(alloc, &mut reader, &mut writer)?;
-            let written = bytes_at_hand(&output[..writes]);
-            assert_eq!(rt; fault, Some(ScriptFault::Write { written }), "at {writes}");
-            assert_eq!(rt; writer.taken.as_slice(), &output[..writes], "at {writes}");
-        }
-    }
-    Ok(())
-}
-
-#[test]
-fn failed_reads_are_told(rt: HostRuntime) -> Result<(), Fail> {
-    let alloc = rt.alloc();
-    let script = FIRST_LOOK.as_bytes();
-    for reads in 0..script.len() + 1 {
-        let mut reader = Failing {
-            rest: script,
-            reads,
-        };
-        let mut writer = patient_taker(alloc);
-        let fault = fault_of(alloc, &mut reader, &mut writer)?;
-        assert_eq!(rt; fault, Some(ScriptFault::Read), "at {reads}");
-        assert!(rt;
-            FIRST_LOOK_REPLIES.as_bytes().starts_with(&writer.taken),
-            "at {reads}"
-        );
-        assert_eq!(rt; bytes_at_hand(&writer.taken), 0, "at {reads}");
-    }
-    Ok(())
-}
-
-// What a line is answered, where its reply is of one of these kinds.
-#[derive(Clone, Copy, Debug, PartialEq, Eq)]
-enum Kind {
-    Hello(Who),
-    Bye,
-    See(u64),
-    Deny(Denial),
-    Refuse(Refused),
-}
-
-fn kind_of(reply: Reply) -> Kind {
-    match reply {
-        Reply::Hello(who) => Kind::Hello(who),
-        Reply::Bye => Kind::Bye,
-        Reply::See(see) => Kind::See(see.node.index()),
-        Reply::Deny(denial) => Kind::Deny(denial),
-        Reply::Refuse(refused) => Kind::Refuse(refused),
-    }
-}
-
-#[test]
-fn requests_are_answered(rt: HostRuntime) -> Result<(), Fail> {
-    let alloc = rt.alloc();
-    let mut hall = Hall::new(alloc, read_lab(alloc, LAB.as_bytes())?)?;
-    assert_eq!(rt; hall.lab().sessions(), 4);
-    let see = b"{\"do\":\"see\",\"node\":2}".as_slice();
-    let hello = b"{\"do\":\"hello\",\"key\":\"b-key\",\"name\":\"ben\"}".as_slice();
-    for (line, kind) in [
-        (see, Kind::Deny(Denial::NotGreeted)),
-        (hello, Kind::Hello(Who::Student(Student::new(1)))),
-        (hello, Kind::Deny(Denial::Greeted)),
-        (see, Kind::See(1)),
-        (b"{\"do\":\"bye\"}".as_slice(), Kind::Bye),
-        (see, Kind::Deny(Denial::NotGreeted)),
-        (b"".as_slice(), Kind::Refuse(Refused::Malformed)),
-    ] {
-        let reply = hall.answer(alloc, 4, line);
-        assert_eq!(rt; kind_of(reply), kind);
-    }
-    assert_eq!(rt; hall.board().number(), 0);
-    assert_eq!(rt; hall.board().place(), 0);
-    Ok(())
 }
