@@ -1,15 +1,17 @@
 -- What has been told so far, and how it ends.
-use Rattle.std.proofs.Common.{◌≡◌, ℕ, ◌+◌, List, [], length, take, refl, sym, ◌∙◌, ap, append-nil, Option, Some, None, IfSome, subst}
+use Rattle.std.proofs.Common.{◌≡◌, ℕ, ◌+◌, ◌<◌, List, [], ◌++◌, length, take, refl, sym, ◌∙◌, ap, append-nil, Option, Some, None, IfSome, subst}
 use Rattle.std.proofs.KnownBytes.{Appends-nil, Appends-trans, Consumes-trans}
 use Rattle.std.specs.Io.KnownBytes.{Consumes, Appends, prepend_known}
 use Rattle.mml_lab.specs.Labs.{LabValue}
+use Rattle.mml_lines.specs.LinesOf.{IsWithinLimit}
+use Rattle.mml_hall.specs.declared.TheConstants.{MAX_SCRIPT_LINE}
 use Rattle.mml_hall.specs.declared.script.Next.{Next}
 use Rattle.mml_hall.specs.declared.script.Next.TheVariants as next
 use Rattle.mml_hall.specs.declared.script.ScriptFault.TheVariants as fault
 use Rattle.mml_hall.specs.Turns.{State, opening}
 use Rattle.mml_hall.specs.Halls.{HallValue}
 use Rattle.mml_hall.specs.Transcripts.{Transcript, IsBad, bytes_read, bytes_written}
-use Rattle.mml_hall.specs.Scripts.{Finished, Stopped, line_read, line_written}
+use Rattle.mml_hall.specs.Scripts.{Served, Finished, Stopped, line_read, line_written}
 use Rattle.mml_hall.specs.Steps.{Steps}
 use Rattle.mml_hall.proofs.Longer.{longer, read_longer, written_longer, empty, end_longer, count_longer}
 

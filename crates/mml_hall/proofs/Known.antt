@@ -1,5 +1,5 @@
 -- Who is known on a connection, before and after a turn.
-use Rattle.std.proofs.Common.{◌≡◌, ℕ, ◌-◌, ap}
+use Rattle.std.proofs.Common.{◌≡◌, ℕ, ◌-◌, ap, Option}
 use Rattle.std.proofs.lemmas.List.{set-get_or}
 use Rattle.std.specs.Prelude.{None}
 use Rattle.mml_hall.specs.Turns.{State, known_on, with_known}

@@ -1,5 +1,5 @@
 -- What turns leave as it was.
-use Rattle.std.proofs.Common.{◌≡◌, ◌≢◌, ◌<◌, ◌-◌, ℕ, List, Option, Some, None, Result, Ok, Err, refl, ap, ◌∙◌, arith, subst, inl, inr}
+use Rattle.std.proofs.Common.{◌≡◌, ◌≢◌, ◌<◌, ◌-◌, ℕ, List, Option, Some, None, Result, Ok, Err, refl, sym, ap, ◌∙◌, arith, subst, inl, inr, ◌⊎◌}
 use Rattle.std.proofs.lemmas.List.{get_or-set_other}
 use Rattle.mml_lab.specs.declared.who.Who.{Who}
 use Rattle.mml_lab.specs.Labs.{LabValue}
@@ -9,7 +9,7 @@ use Rattle.mml_codec.specs.declared.request.Request.{Request}
 use Rattle.mml_codec.specs.declared.request.Request.TheVariants as requests
 use Rattle.mml_codec.specs.Greetings.{Greeting, answered, left_to_judge, greeting, admitted}
 use Rattle.mml_codec.specs.Lines.{request_in}
-use Rattle.mml_hall.specs.Turns.{State, Outcome, Turn, IsRefusal, known_on, with_known, settled, answer_to, plain_turn}
+use Rattle.mml_hall.specs.Turns.{State, Outcome, Turn, IsRefusal, known_on, with_known, settled, answer_to, plain_turn, without_memory}
 use Rattle.mml_hall.proofs.Known.{with_known-known_on}
 
 -- the connection stays known as it was

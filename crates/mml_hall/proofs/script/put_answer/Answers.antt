@@ -1,4 +1,5 @@
-use Rattle.std.proofs.Common.{◌≡◌, ◌++◌, ◌∷◌, [], decimal, sym, append_assoc, ◌∙◌, length}
+use Rattle.std.proofs.Common.{◌≡◌, ◌+◌, ◌++◌, ◌∷◌, [], decimal, refl, sym, append_assoc, ◌∙◌, length, ap, take, subst, List, ℕ}
+use Rattle.std.specs.Io.KnownBytes.{Appends}
 use Rattle.mml_codec.specs.Replies.{reply_line}
 use Rattle.mml_hall.specs.Transcripts.{output_line}
 use Rattle.mml_hall.proofs.ServedSteps.{wrote_front}

@@ -1,8 +1,9 @@
-use Rattle.std.proofs.Common.{◌∷◌, [], sym, ◌∙◌, length, arith, length-append}
+use Rattle.std.proofs.Common.{◌≡◌, ◌∷◌, [], sym, ◌∙◌, length, arith, length-append}
 use Rattle.std.proofs.KnownBytes.{Appends-nil}
 use Rattle.mml_lines.specs.LinesOf.{ended}
 use Rattle.mml_lines.specs.declared.lines.TheConstants.{MAX_READS}
 use Rattle.mml_hall.specs.ScriptLines.{line_of}
+use Rattle.mml_hall.specs.Transcripts.{script_line}
 use Rattle.mml_hall.proofs.Fronts.{too_long}
 use Rattle.mml_hall.proofs.ServedSteps.{served_step, stuck_step, nearer}
 use Rattle.mml_hall.proofs.script.serve_next.Goals as goal

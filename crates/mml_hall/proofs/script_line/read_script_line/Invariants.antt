@@ -1,4 +1,4 @@
-use Rattle.std.proofs.Common.{◌≢◌, ◌≤◌}
+use Rattle.std.proofs.Common.{◌≡◌, ◌≢◌, ◌≤◌}
 use Rattle.mml_hall.specs.Turns.{ScriptLine}
 use Rattle.mml_hall.specs.Transcripts.{IsScript, script_line}
 use Rattle.mml_hall.proofs.script_line.read_script_line.Given as goal
