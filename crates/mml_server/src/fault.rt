@@ -1,32 +1,70 @@
 //! What ends the program early: one line on standard error and a status.
+use crate::refusal::LabRefusal;
 use mml_hall::ScriptFault;
+use mml_lab::LabFault;
+use std::alloc::AllocError;
+use std::io::{Error as IoError, ErrorKind};
 use thiserror::Error;
 
 /// Why the program ended before its work was done.
 #[derive(Debug, Drop, PartialEq, Eq, Error)]
 pub enum Fault {
-    /// The built-in lab is no lab: a mistake of this program, which a test rules out.
-    #[error("lab: the built-in lab is refused")]
-    BuiltInLab,
+    /// The words are none that the program has.
+    #[error("command line: not understood")]
+    CommandLine,
+    /// The lab file spells no lab.
+    #[error("lab: {0}")]
+    Lab(LabRefusal),
     /// The line of the script with this number, from 1, is no script line.
     #[error("script: line {0}: bad line")]
     BadLine(u64),
+    /// The lab file can't be opened or read, or is too large.
+    #[error("read fault: lab")]
+    ReadLab,
+    /// The script can't be opened or read, or is too large.
     #[error("read fault: script")]
     ReadScript,
+    /// Standard output took less than all.
     #[error("write fault")]
     Write,
+    /// A growth was refused, wherever it was.
     #[error("out of memory")]
     Memory,
 }
 
 impl Fault {
-    /// The exit status that goes with the fault: 2 where input is refused, 4 where a read or write
-    /// failed, 5 for want of memory.
+    /// The exit status that goes with the fault: 1 where the words aren't understood, 2 where lab or
+    /// script is refused, 4 where a read or write failed, 5 for want of memory.
     pub fn status(&self) -> u8 {
         match self {
-            Fault::BuiltInLab | Fault::BadLine(_) => 2,
-            Fault::ReadScript | Fault::Write => 4,
+            Fault::CommandLine => 1,
+            Fault::Lab(_) | Fault::BadLine(_) => 2,
+            Fault::ReadLab | Fault::ReadScript | Fault::Write => 4,
             Fault::Memory => 5,
+        }
+    }
+}
+
+/// Want of memory where an error of a read or write says so, and else the other fault.
+pub fn memory_or(error: &IoError, other: Fault) -> Fault {
+    if error.kind() == ErrorKind::OutOfMemory {
+        Fault::Memory
+    } else {
+        other
+    }
+}
+
+impl From<AllocError> for Fault {
+    fn from(_error: AllocError) -> Fault {
+        Fault::Memory
+    }
+}
+
+impl From<LabFault> for Fault {
+    fn from(fault: LabFault) -> Fault {
+        match LabRefusal::of(fault) {
+            Some(refusal) => Fault::Lab(refusal),
+            None => Fault::Memory,
         }
     }
 }

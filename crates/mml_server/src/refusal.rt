@@ -1,0 +1,92 @@
+//! What a lab file is refused for, in the words of its fault line.
+use mml_ids::IdFault;
+use mml_lab::{Key, LabFault};
+use thiserror::Error;
+
+/// Why a file spells no lab. The numbers are the indices of the fault, and the texts the keys' names.
+#[derive(Clone, Copy, Debug, Drop, PartialEq, Eq, Error)]
+pub enum LabRefusal {
+    #[error("not a TOML document")]
+    NotToml,
+    #[error("{0} is missing")]
+    Missing(&'static str),
+    #[error("{0} is of the wrong kind")]
+    WrongKind(&'static str),
+    #[error("no nodes")]
+    NoNodes,
+    #[error("too many nodes")]
+    TooManyNodes,
+    #[error("node {0}: identifier out of range")]
+    IdOutOfRange(usize),
+    #[error("node {0}: identifier stands twice")]
+    IdTwice(usize),
+    #[error("principal {0}: bad name or key")]
+    Name(usize),
+    #[error("principal {0}: name stands twice")]
+    NameTwice(usize),
+    #[error("node {0}: no such owner")]
+    NoOwner(usize),
+    #[error("link {0}: no such node")]
+    LinkEnd(usize),
+    #[error("link {0}: a loop")]
+    Loop(usize),
+    #[error("link {0}: stands twice")]
+    LinkTwice(usize),
+    #[error("node {0}: p is not a neighbour")]
+    BadPointer(usize),
+    #[error("{0} is out of its limits")]
+    Limit(&'static str),
+}
+
+impl LabRefusal {
+    /// What the fault refuses the file for; want of memory refuses no file.
+    pub fn of(fault: LabFault) -> Option<LabRefusal> {
+        let refusal = match fault {
+            LabFault::NotToml => LabRefusal::NotToml,
+            LabFault::Missing(key) => LabRefusal::Missing(name_of(key)),
+            LabFault::WrongKind(key) => LabRefusal::WrongKind(name_of(key)),
+            LabFault::Id(fault) => return LabRefusal::of_identifiers(fault),
+            LabFault::Name(index) => LabRefusal::Name(index),
+            LabFault::NameTwice(index) => LabRefusal::NameTwice(index),
+            LabFault::NoOwner(index) => LabRefusal::NoOwner(index),
+            LabFault::LinkEnd(index) => LabRefusal::LinkEnd(index),
+            LabFault::Loop(index) => LabRefusal::Loop(index),
+            LabFault::LinkTwice(index) => LabRefusal::LinkTwice(index),
+            LabFault::BadPointer(index) => LabRefusal::BadPointer(index),
+            LabFault::Limit(key) => LabRefusal::Limit(name_of(key)),
+            LabFault::Memory => return None,
+        };
+        Some(refusal)
+    }
+
+    fn of_identifiers(fault: IdFault) -> Option<LabRefusal> {
+        match fault {
+            IdFault::Empty => Some(LabRefusal::NoNodes),
+            IdFault::TooMany => Some(LabRefusal::TooManyNodes),
+            IdFault::OutOfRange(index) => Some(LabRefusal::IdOutOfRange(index)),
+            IdFault::Twice(index) => Some(LabRefusal::IdTwice(index)),
+            IdFault::Memory => None,
+        }
+    }
+}
+
+// The place of the file by its name in a fault line.
+fn name_of(key: Key) -> &'static str {
+    match key {
+        Key::Events => "events",
+        Key::Sessions => "sessions",
+        Key::Teacher => "teacher",
+        Key::TeacherName => "teacher.name",
+        Key::TeacherKey => "teacher.key",
+        Key::Student => "student",
+        Key::StudentName => "student.name",
+        Key::StudentKey => "student.key",
+        Key::Node => "node",
+        Key::NodeId => "node.id",
+        Key::NodeOwner => "node.owner",
+        Key::NodeP => "node.p",
+        Key::NodeM => "node.m",
+        Key::Links => "links",
+        Key::Link => "link",
+    }
+}

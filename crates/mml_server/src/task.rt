@@ -1,0 +1,42 @@
+//! From the words to the work.
+use crate::answering::{answer_script, answer_through_buffer, write_size};
+use crate::built_in;
+use crate::fault::{Fault, memory_or};
+use crate::files::read_file;
+use crate::words::{Task, read_words};
+use mml_lab::{Lab, read_lab};
+use std::rt::{Env, Files};
+use std::{env, io};
+
+/// Does what the words of the command line ask for. The lab is read first, and the script is opened
+/// only where there is a lab.
+pub fn run<R: Env + Files + Input + Print + AllocGlobal>(rt: &R) -> Result<(), Fault> {
+    let alloc = rt.alloc();
+    let words = words_of(rt)?;
+    match read_words(alloc, words.as_slice())? {
+        Task::BuiltIn => {
+            let lab = read_lab(alloc, built_in::LAB.as_bytes())?;
+            answer_script(alloc, lab, &mut rt.reader(), &mut io::writer(rt))
+        }
+        Task::Check { lab } => write_size(&lab_of(rt, lab)?, &mut io::writer(rt)),
+        Task::Script { lab, script } => {
+            let lab = lab_of(rt, lab)?;
+            let script = read_file(rt, script, Fault::ReadScript)?;
+            answer_through_buffer(alloc, lab, &mut script.as_slice(), io::writer(rt))
+        }
+    }
+}
+
+// The words, the program's name first; one that isn't UTF-8 is not understood.
+fn words_of<R: Env + AllocGlobal>(rt: &R) -> Result<Vec<String>, Fault> {
+    let mut words = Vec::new(rt.alloc());
+    for word in env::args(rt).map_err(|error| memory_or(&error, Fault::CommandLine))? {
+        words.push(word).map_err(|_| Fault::Memory)?;
+    }
+    Ok(words)
+}
+
+fn lab_of<R: Files + AllocGlobal>(rt: &R, path: &str) -> Result<Lab, Fault> {
+    let bytes = read_file(rt, path, Fault::ReadLab)?;
+    Ok(read_lab(rt.alloc(), bytes.as_slice())?)
+}

@@ -1,0 +1,506 @@
+//! What `check` says of lab files: the size of a lab, or the line of its first fault.
+use crate::answering::write_size;
+use crate::built_in::LAB;
+use crate::fault::Fault;
+use mml_lab::read_lab;
+use std::alloc::Global;
+use std::fmt::Write;
+use std::process::Abort;
+use std::test::Fail;
+
+const SIZE: &str = "ok: 3 nodes, 2 links, 3 students";
+
+const LINKS: &str = "links = [[1, 2], [2, 3]]";
+
+const TEACHER: &str = "[teacher]\nname = \"tess\"\nkey = \"chalk\"\n";
+
+const LAST: &str = "[[node]]\nid = 3\nowner = \"cyd\"\n";
+
+// What is said of a file with these bytes.
+fn said_of(alloc: Global, bytes: &[u8]) -> Result<String, Fail> {
+    let mut out = Vec::new(alloc);
+    match read_lab(alloc, bytes) {
+        Ok(lab) => write_size(&lab, &mut out)?,
+        Err(fault) => {
+            let fault = Fault::from(fault);
+            if fault.status() != 2 {
+                return Err(Fail::from("a lab is refused with status 2"));
+            }
+            return Ok(fault.to_string(alloc)?);
+        }
+    }
+    let line = String::from_utf8(out).map_err(|_| "a text")?;
+    Ok(line.trim_end().to_string(alloc)?)
+}
+
+// What is said of the built-in lab with a new text in the place of one that it has.
+fn assert_said(rt: &impl Abort, alloc: Global, rows: &[(&str, &str, &str)]) -> Result<(), Fail> {
+    for (old, new, line) in rows {
+        assert!(rt; LAB.contains(*old), "{old}");
+        let text = LAB.replacen(alloc, *old, new, 1)?;
+        let said = said_of(alloc, text.as_bytes())?;
+        assert_eq!(rt; said.as_str(), *line, "{new}");
+    }
+    Ok(())
+}
+
+#[test]
+fn keys_are_missing(rt: HostRuntime) -> Result<(), Fail> {
+    let rows = [
+        ("events = 100\n", "", "lab: events is missing"),
+        ("sessions = 4\n", "", "lab: sessions is missing"),
+        (TEACHER, "", "lab: teacher is missing"),
+        ("name = \"tess\"\n", "", "lab: teacher.name is missing"),
+        ("key = \"chalk\"\n", "", "lab: teacher.key is missing"),
+        ("name = \"ben\"\n", "", "lab: student.name is missing"),
+        ("key = \"c-key\"\n", "", "lab: student.key is missing"),
+        ("id = 2\n", "", "lab: node.id is missing"),
+        ("owner = \"cyd\"\n", "", "lab: node.owner is missing"),
+        // One walk in the order of the keys finds what is missing and what is of the wrong kind.
+        (
+            "events = 100\nsessions = 4",
+            "sessions = \"4\"",
+            "lab: events is missing",
+        ),
+        (
+            "events = 100\nsessions = 4",
+            "events = \"1\"",
+            "lab: events is of the wrong kind",
+        ),
+        // What the walk finds comes before all that is looked for later.
+        (
+            "events = 100\nsessions = 4",
+            "events = 0",
+            "lab: sessions is missing",
+        ),
+    ];
+    assert_said(&rt, rt.alloc(), &rows)
+}
+
+#[test]
+fn whole_arrays_are_missing(rt: HostRuntime) -> Result<(), Fail> {
+    for (text, line) in [
+        ("", "lab: events is missing"),
+        (
+            "events = 1\nsessions = 1\n[teacher]\nname = \"t\"\nkey = \"k\"\n",
+            "lab: student is missing",
+        ),
+        (
+            "student = []\nevents = 1\nsessions = 1\n[teacher]\nname = \"t\"\nkey = \"k\"\n",
+            "lab: node is missing",
+        ),
+        (
+            "student = []\nnode = []\nevents = 1\nsessions = 1\n[teacher]\nname = \"t\"\nkey = \"k\"\n",
+            "lab: no nodes",
+        ),
+        ("# nothing\n", "lab: events is missing"),
+    ] {
+        let said = said_of(rt.alloc(), text.as_bytes())?;
+        assert_eq!(rt; said.as_str(), line, "{text}");
+    }
+    Ok(())
+}
+
+#[test]
+fn keys_are_of_the_wrong_kind(rt: HostRuntime) -> Result<(), Fail> {
+    let rows = [
+        (
+            "events = 100",
+            "events = 1.0",
+            "lab: events is of the wrong kind",
+        ),
+        (
+            "events = 100",
+            "events = true",
+            "lab: events is of the wrong kind",
+        ),
+        (
+            "sessions = 4",
+            "sessions = [4]",
+            "lab: sessions is of the wrong kind",
+        ),
+        (
+            TEACHER,
+            "[[teacher]]\nname = \"t\"\nkey = \"k\"\n",
+            "lab: teacher is of the wrong kind",
+        ),
+        (
+            "name = \"tess\"",
+            "name = 1",
+            "lab: teacher.name is of the wrong kind",
+        ),
+        (
+            "key = \"chalk\"",
+            "key = 1979-05-27",
+            "lab: teacher.key is of the wrong kind",
+        ),
+        (
+            LINKS,
+            "links = []\nstudent = 3\n[other]",
+            "lab: not a TOML document",
+        ),
+        (
+            "name = \"ana\"",
+            "name = [\"ana\"]",
+            "lab: student.name is of the wrong kind",
+        ),
+        (
+            "key = \"b-key\"",
+            "key = {}",
+            "lab: student.key is of the wrong kind",
+        ),
+        (
+            "id = 1\n",
+            "id = \"1\"\n",
+            "lab: node.id is of the wrong kind",
+        ),
+        (
+            "owner = \"cyd\"",
+            "owner = 3",
+            "lab: node.owner is of the wrong kind",
+        ),
+        (
+            "owner = \"cyd\"",
+            "owner = \"cyd\"\np = \"2\"",
+            "lab: node.p is of the wrong kind",
+        ),
+        (
+            "owner = \"cyd\"",
+            "owner = \"cyd\"\nm = 0",
+            "lab: node.m is of the wrong kind",
+        ),
+        (LINKS, "links = 3", "lab: links is of the wrong kind"),
+        (LINKS, "links = {}", "lab: links is of the wrong kind"),
+        (
+            LINKS,
+            "links = [[1, 2], 3]",
+            "lab: link is of the wrong kind",
+        ),
+        (
+            LINKS,
+            "links = [[1, 2, 3]]",
+            "lab: link is of the wrong kind",
+        ),
+        (LINKS, "links = [[1]]", "lab: link is of the wrong kind"),
+        (
+            LINKS,
+            "links = [[1, \"2\"]]",
+            "lab: link is of the wrong kind",
+        ),
+    ];
+    assert_said(&rt, rt.alloc(), &rows)
+}
+
+#[test]
+fn elements_are_of_the_wrong_kind(rt: HostRuntime) -> Result<(), Fail> {
+    let head = "events = 1\nsessions = 1\nteacher = { name = \"t\", key = \"k\" }\n";
+    for (rest, line) in [
+        ("student = 3", "lab: student is of the wrong kind"),
+        ("student = {}", "lab: student is of the wrong kind"),
+        ("student = [3]", "lab: student is of the wrong kind"),
+        ("student = [[]]", "lab: student is of the wrong kind"),
+        // Elements are looked at in turn, each with its keys.
+        (
+            "student = [{ name = \"a\" }, 3]",
+            "lab: student.key is missing",
+        ),
+        (
+            "student = [{ name = \"a\", key = \"k\" }, 3]",
+            "lab: student is of the wrong kind",
+        ),
+        ("student = []\nnode = 1", "lab: node is of the wrong kind"),
+        ("student = []\nnode = [1]", "lab: node is of the wrong kind"),
+        (
+            "student = []\nnode = [{ id = 1 }, 1]",
+            "lab: node.owner is missing",
+        ),
+    ] {
+        let text = format!(in rt.alloc(); "{head}{rest}\n")?;
+        let said = said_of(rt.alloc(), text.as_bytes())?;
+        assert_eq!(rt; said.as_str(), line, "{rest}");
+    }
+    Ok(())
+}
+
+#[test]
+fn nodes_are_refused(rt: HostRuntime) -> Result<(), Fail> {
+    let rows = [
+        (
+            "id = 1\n",
+            "id = 0\n",
+            "lab: node 0: identifier out of range",
+        ),
+        (
+            "id = 2\n",
+            "id = 65536\n",
+            "lab: node 1: identifier out of range",
+        ),
+        (
+            "id = 3\n",
+            "id = -3\n",
+            "lab: node 2: identifier out of range",
+        ),
+        (
+            "id = 2\n",
+            "id = 1\n",
+            "lab: node 1: identifier stands twice",
+        ),
+        (
+            "owner = \"cyd\"",
+            "owner = \"tess\"",
+            "lab: node 2: no such owner",
+        ),
+        (
+            "owner = \"ana\"",
+            "owner = \"Ana\"",
+            "lab: node 0: no such owner",
+        ),
+        (
+            "owner = \"ana\"",
+            "owner = \"ana\"\np = 3",
+            "lab: node 0: p is not a neighbour",
+        ),
+        (
+            "owner = \"ana\"",
+            "owner = \"ana\"\np = 1",
+            "lab: node 0: p is not a neighbour",
+        ),
+        (
+            "owner = \"ben\"",
+            "owner = \"ben\"\np = -1",
+            "lab: node 1: p is not a neighbour",
+        ),
+        (
+            "owner = \"ben\"",
+            "owner = \"ben\"\np = 9",
+            "lab: node 1: p is not a neighbour",
+        ),
+        ("owner = \"ben\"", "owner = \"ben\"\np = 3\nm = true", SIZE),
+    ];
+    assert_said(&rt, rt.alloc(), &rows)
+}
+
+#[test]
+fn principals_are_refused(rt: HostRuntime) -> Result<(), Fail> {
+    let rows = [
+        (
+            "name = \"ana\"",
+            "name = \"Ana\"",
+            "lab: principal 1: bad name or key",
+        ),
+        (
+            "name = \"tess\"",
+            "name = \"\"",
+            "lab: principal 0: bad name or key",
+        ),
+        (
+            "name = \"cyd\"",
+            "name = \"3cyd\"",
+            "lab: principal 3: bad name or key",
+        ),
+        (
+            "name = \"ben\"",
+            "name = \"b_n\"",
+            "lab: principal 2: bad name or key",
+        ),
+        (
+            "key = \"chalk\"",
+            "key = \"\"",
+            "lab: principal 0: bad name or key",
+        ),
+        (
+            "key = \"a-key\"",
+            "key = \"a key\"",
+            "lab: principal 1: bad name or key",
+        ),
+        (
+            "key = \"b-key\"",
+            "key = \"schlüssel\"",
+            "lab: principal 2: bad name or key",
+        ),
+        (
+            "name = \"ben\"",
+            "name = \"ana\"",
+            "lab: principal 2: name stands twice",
+        ),
+        (
+            "name = \"cyd\"",
+            "name = \"tess\"",
+            "lab: principal 3: name stands twice",
+        ),
+        ("key = \"b-key\"", "key = \"a-key\"", SIZE),
+        ("key = \"b-key\"", "key = \"!\\\"~\"", SIZE),
+    ];
+    assert_said(&rt, rt.alloc(), &rows)
+}
+
+#[test]
+fn links_and_limits_are_refused(rt: HostRuntime) -> Result<(), Fail> {
+    let rows = [
+        (
+            LINKS,
+            "links = [[1, 2], [2, 1]]",
+            "lab: link 1: stands twice",
+        ),
+        (
+            LINKS,
+            "links = [[1, 2], [2, 3], [1, 2]]",
+            "lab: link 2: stands twice",
+        ),
+        (LINKS, "links = [[2, 2]]", "lab: link 0: a loop"),
+        (LINKS, "links = [[1, 9]]", "lab: link 0: no such node"),
+        (
+            LINKS,
+            "links = [[1, 2], [-1, 2]]",
+            "lab: link 1: no such node",
+        ),
+        (LINKS, "links = [[9, 9]]", "lab: link 0: no such node"),
+        (
+            LINKS,
+            "links = [[1, 2], [2, 1], [3, 3]]",
+            "lab: link 2: a loop",
+        ),
+        (
+            "events = 100",
+            "events = 0",
+            "lab: events is out of its limits",
+        ),
+        (
+            "events = 100",
+            "events = -1",
+            "lab: events is out of its limits",
+        ),
+        (
+            "events = 100",
+            "events = 100001",
+            "lab: events is out of its limits",
+        ),
+        ("events = 100", "events = 100000", SIZE),
+        (
+            "sessions = 4",
+            "sessions = 0",
+            "lab: sessions is out of its limits",
+        ),
+        (
+            "sessions = 4",
+            "sessions = 17",
+            "lab: sessions is out of its limits",
+        ),
+        ("sessions = 4", "sessions = 16", SIZE),
+        (
+            "events = 100\nsessions = 4",
+            "events = 0\nsessions = 0",
+            "lab: events is out of its limits",
+        ),
+    ];
+    assert_said(&rt, rt.alloc(), &rows)
+}
+
+const ALL_WRONG: &str = r#"=
+sessions = "4"
+links = [[1, 2], [2, 1], [3, 3], [2, 9]]
+
+[teacher]
+name = "tess"
+key = "chalk and board"
+
+[[student]]
+name = "tess"
+key = "a-key"
+
+[[node]]
+id = 1
+owner = "ana"
+p = 3
+
+[[node]]
+id = 1
+owner = "ana"
+
+[[node]]
+id = 65536
+owner = "tess"
+"#;
+
+/// What is said, and what mends it: a text of the file and the one in its place.
+const MENDS: [(&str, &str, &str); 14] = [
+    ("lab: not a TOML document", "=\n", "\n"),
+    ("lab: events is missing", "\n", "events = 0\n"),
+    ("lab: sessions is of the wrong kind", "\"4\"", "17"),
+    ("lab: node 2: identifier out of range", "65536", "3"),
+    (
+        "lab: node 1: identifier stands twice",
+        "id = 1\nowner = \"ana\"\n\n",
+        "id = 2\nowner = \"ana\"\n\n",
+    ),
+    (
+        "lab: principal 0: bad name or key",
+        "chalk and board",
+        "chalk",
+    ),
+    (
+        "lab: principal 1: name stands twice",
+        "name = \"tess\"\nkey = \"a-key\"",
+        "name = \"ana\"\nkey = \"a-key\"",
+    ),
+    (
+        "lab: node 2: no such owner",
+        "owner = \"tess\"",
+        "owner = \"ana\"",
+    ),
+    ("lab: link 3: no such node", "[2, 9]", "[2, 3]"),
+    ("lab: link 2: a loop", "[3, 3], ", ""),
+    ("lab: link 1: stands twice", "[2, 1], ", ""),
+    ("lab: node 0: p is not a neighbour", "p = 3", "p = 2"),
+    (
+        "lab: events is out of its limits",
+        "events = 0",
+        "events = 1",
+    ),
+    ("lab: sessions is out of its limits", "17", "16"),
+];
+
+#[test]
+fn faults_are_told_in_their_order(rt: HostRuntime) -> Result<(), Fail> {
+    let mut text = ALL_WRONG.to_string(rt.alloc())?;
+    for (line, old, new) in MENDS {
+        let said = said_of(rt.alloc(), text.as_bytes())?;
+        assert_eq!(rt; said.as_str(), line);
+        assert!(rt; text.contains(old), "{old}");
+        text = text.replacen(rt.alloc(), old, new, 1)?;
+    }
+    let said = said_of(rt.alloc(), text.as_bytes())?;
+    assert_eq!(rt; said.as_str(), "ok: 3 nodes, 2 links, 1 students");
+    Ok(())
+}
+
+// A lab with that many students and nodes, all of them the first student's.
+fn of_size(alloc: Global, students: usize, nodes: usize) -> Result<String, Fail> {
+    let mut text = "events = 1\nsessions = 1\n[teacher]\nname = \"t\"\nkey = \"k\"\n".to_string(
+        alloc,
+    )?;
+    for student in 0..students {
+        write!(text, "[[student]]\nname = \"s{student}\"\nkey = \"k\"\n")?;
+    }
+    for node in 1..=nodes {
+        write!(text, "[[node]]\nid = {node}\nowner = \"s0\"\n")?;
+    }
+    Ok(text)
+}
+
+#[test]
+fn students_and_nodes_have_limits(rt: HostRuntime) -> Result<(), Fail> {
+    for (students, nodes, line) in [
+        (1, 1, "ok: 1 nodes, 0 links, 1 students"),
+        (256, 64, "ok: 64 nodes, 0 links, 256 students"),
+        (257, 64, "lab: student is out of its limits"),
+        (256, 65, "lab: too many nodes"),
+        (257, 65, "lab: too many nodes"),
+        (0, 1, "lab: student is missing"),
+    ] {
+        let text = of_size(rt.alloc(), students, nodes)?;
+        let said = said_of(rt.alloc(), text.as_bytes())?;
+        assert_eq!(rt; said.as_str(), line, "{students} {nodes}");
+    }
+    Ok(())
+}

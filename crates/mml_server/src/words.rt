@@ -1,0 +1,76 @@
+//! The words of the command line.
+use crate::fault::Fault;
+use clap::error::ErrorKind;
+use clap::{Arg, ArgAction, ArgMatches, Command};
+use std::alloc::{AllocError, Global};
+
+/// What the words ask for.
+#[derive(Clone, Copy, Debug, PartialEq, Eq, Drop)]
+pub enum Task<'a> {
+    /// To answer the script on standard input over the built-in lab.
+    BuiltIn,
+    /// To say how large the lab of a file is.
+    Check { lab: &'a str },
+    /// To answer the script of a file over the lab of a file.
+    Script { lab: &'a str, script: &'a str },
+}
+
+/// Reads the words, of which the first is the program's name. A word that begins with `-` is refused
+/// before clap is asked, which would take `-` and `--`.
+pub fn read_words<'a>(alloc: Global, words: &'a [String]) -> Result<Task<'a>, Fault> {
+    if words.iter().skip(1).any(|word| word.starts_with('-')) {
+        return Err(Fault::CommandLine);
+    }
+    let command = whole(alloc)?;
+    let matches = match command.try_get_matches_from(words) {
+        Ok(matches) => matches,
+        Err(error) if error.kind() == ErrorKind::OutOfMemory => return Err(Fault::Memory),
+        Err(_) => return Err(Fault::CommandLine),
+    };
+    match matches.subcommand() {
+        None => Ok(Task::BuiltIn),
+        Some((name, values)) => task_of(name, values).ok_or(Fault::CommandLine),
+    }
+}
+
+fn task_of<'a>(name: &str, values: &ArgMatches<'a>) -> Option<Task<'a>> {
+    let lab = values.get_str("lab")?;
+    match name {
+        "check" => Some(Task::Check { lab }),
+        "script" => {
+            let script = values.get_str("script")?;
+            Some(Task::Script { lab, script })
+        }
+        _ => None,
+    }
+}
+
+fn whole<'a>(alloc: Global) -> Result<Command<'a>, AllocError> {
+    plain(alloc, "mml_server")
+        .subcommand(subcommand(alloc, "check", &["lab"])?)?
+        .subcommand(subcommand(alloc, "script", &["lab", "script"])?)
+}
+
+// A subcommand whose values are all wanted, by their places.
+fn subcommand<'a>(
+    alloc: Global,
+    name: &'a str,
+    values: &[&'a str],
+) -> Result<Command<'a>, AllocError> {
+    let mut command = plain(alloc, name);
+    for value in values {
+        command = command.arg(Arg::new(alloc, value).required(true).action(ArgAction::Set))?;
+    }
+    Ok(command)
+}
+
+// A command without help and version.
+fn plain<'a>(alloc: Global, name: &'a str) -> Command<'a> {
+    Command::new(alloc, name)
+        .disable_help_flag(true)
+        .disable_version_flag(true)
+        .disable_help_subcommand(true)
+}
+
+#[cfg(test)]
+mod tests;
