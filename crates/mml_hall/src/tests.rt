@@ -6,6 +6,9 @@ use std::io::{ErrorKind, Read, Write};
 use std::process::Abort;
 use std::test::Fail;
 
+mod failing;
+mod requests;
+
 const LAB: &str = r#"
 events = 100
 sessions = 4
