@@ -1,4 +1,6 @@
 //! What ends the program early: one line on standard error and a status.
+ghost use Rattle.std.specs.Prelude.{◌≡◌, ◌⊎◌};
+
 use crate::refusal::LabRefusal;
 use mml_hall::ScriptFault;
 use mml_lab::LabFault;
@@ -46,7 +48,9 @@ impl Fault {
 }
 
 /// Want of memory where an error of a read or write says so, and else the other fault.
-pub fn memory_or(error: &IoError, other: Fault) -> Fault {
+pub fn memory_or(error: &IoError, other: Fault) -> Fault
+    ensures { (result ≡ other) ⊎ (result ≡ Fault.Memory) }
+{
     if error.kind() == ErrorKind::OutOfMemory {
         Fault::Memory
     } else {

@@ -1,6 +1,7 @@
 use super::*;
 use crate::built_in;
 use mml_lab::read_lab;
+use std::cell::Cell;
 use std::io;
 use std::io::ErrorKind;
 use std::test::Fail;
@@ -95,7 +96,8 @@ fn answers_the_same_with_and_without_a_buffer(rt: HostRuntime) -> Result<(), Fai
         let mut direct = failing_after(rt.alloc(), 100, 0);
         assert_eq!(rt; at_once(rt.alloc(), script, &mut direct), answer);
         assert_eq!(rt; direct.taken.as_slice(), replies.as_bytes());
-        let mut held = failing_after(rt.alloc(), 100, 1);
+        // One write for all, and one flush.
+        let mut held = failing_after(rt.alloc(), 1, 1);
         assert_eq!(rt; buffered(rt.alloc(), script, &mut held), answer);
         assert_eq!(rt; held.taken.as_slice(), replies.as_bytes());
         assert_eq!(rt; held.flushes, 0);
@@ -128,4 +130,57 @@ fn tells_a_failed_flush(rt: HostRuntime) {
             Err(Fault::Write)
         );
     }
+}
+
+// A line in each read, and how many replies were out by then.
+#[derive(Drop)]
+struct Asker<'a> {
+    script: &'a str,
+    replies: &'a Cell<usize>,
+    seen: Vec<usize>,
+}
+
+impl<'a> Read for Asker<'a> {
+    fn read(&mut self, buf: &mut [u8]) -> io::Result<usize> {
+        self.seen.push(self.replies.get())?;
+        let line = match self.script.split_inclusive('\n').next() {
+            Some(line) => line,
+            None => return Ok(0),
+        };
+        self.script = self.script.strip_prefix(line).unwrap_or("");
+        line.as_bytes().read(buf)
+    }
+}
+
+// Counts the replies by their line ends.
+#[derive(Drop)]
+struct Counter<'a> {
+    replies: &'a Cell<usize>,
+}
+
+impl<'a> Write for Counter<'a> {
+    fn write(&mut self, buf: &[u8]) -> io::Result<usize> {
+        let ends = buf.iter().filter(|byte| **byte == b'\n').count();
+        self.replies.set(self.replies.get().saturating_add(ends));
+        Ok(buf.len())
+    }
+
+    fn flush(&mut self) -> io::Result<()> {
+        Ok(())
+    }
+}
+
+#[test]
+fn replies_go_out_before_the_next_read(rt: HostRuntime) -> Result<(), Fail> {
+    let replies = Cell::new(0);
+    let mut asker = Asker {
+        script: FIRST_LOOK,
+        replies: &replies,
+        seen: Vec::new(rt.alloc()),
+    };
+    let mut counter = Counter { replies: &replies };
+    let lab = built_in_lab(rt.alloc())?;
+    answer_script(rt.alloc(), lab, &mut asker, &mut counter)?;
+    assert_eq!(rt; asker.seen.as_slice(), [0, 1, 2, 3, 4].as_slice());
+    Ok(())
 }
