@@ -14,7 +14,8 @@ const LINKS: &str = "links = [[1, 2], [2, 3]]";
 
 const TEACHER: &str = "[teacher]\nname = \"tess\"\nkey = \"chalk\"\n";
 
-const LAST: &str = "[[node]]\nid = 3\nowner = \"cyd\"\n";
+// A text of the built-in lab, the one in its place, and what is said then.
+type Row = (&'static str, &'static str, &'static str);
 
 // What is said of a file with these bytes.
 fn said_of(alloc: Global, bytes: &[u8]) -> Result<String, Fail> {
@@ -34,7 +35,7 @@ fn said_of(alloc: Global, bytes: &[u8]) -> Result<String, Fail> {
 }
 
 // What is said of the built-in lab with a new text in the place of one that it has.
-fn assert_said(rt: &impl Abort, alloc: Global, rows: &[(&str, &str, &str)]) -> Result<(), Fail> {
+fn assert_said(rt: &impl Abort, alloc: Global, rows: &[Row]) -> Result<(), Fail> {
     for (old, new, line) in rows {
         assert!(rt; LAB.contains(*old), "{old}");
         let text = LAB.replacen(alloc, *old, new, 1)?;
@@ -44,37 +45,38 @@ fn assert_said(rt: &impl Abort, alloc: Global, rows: &[(&str, &str, &str)]) -> R
     Ok(())
 }
 
+const MISSING: [Row; 12] = [
+    ("events = 100\n", "", "lab: events is missing"),
+    ("sessions = 4\n", "", "lab: sessions is missing"),
+    (TEACHER, "", "lab: teacher is missing"),
+    ("name = \"tess\"\n", "", "lab: teacher.name is missing"),
+    ("key = \"chalk\"\n", "", "lab: teacher.key is missing"),
+    ("name = \"ben\"\n", "", "lab: student.name is missing"),
+    ("key = \"c-key\"\n", "", "lab: student.key is missing"),
+    ("id = 2\n", "", "lab: node.id is missing"),
+    ("owner = \"cyd\"\n", "", "lab: node.owner is missing"),
+    // One walk in the order of the keys finds what is missing and what is of the wrong kind.
+    (
+        "events = 100\nsessions = 4",
+        "sessions = \"4\"",
+        "lab: events is missing",
+    ),
+    (
+        "events = 100\nsessions = 4",
+        "events = \"1\"",
+        "lab: events is of the wrong kind",
+    ),
+    // What the walk finds comes before all that is looked for later.
+    (
+        "events = 100\nsessions = 4",
+        "events = 0",
+        "lab: sessions is missing",
+    ),
+];
+
 #[test]
 fn keys_are_missing(rt: HostRuntime) -> Result<(), Fail> {
-    let rows = [
-        ("events = 100\n", "", "lab: events is missing"),
-        ("sessions = 4\n", "", "lab: sessions is missing"),
-        (TEACHER, "", "lab: teacher is missing"),
-        ("name = \"tess\"\n", "", "lab: teacher.name is missing"),
-        ("key = \"chalk\"\n", "", "lab: teacher.key is missing"),
-        ("name = \"ben\"\n", "", "lab: student.name is missing"),
-        ("key = \"c-key\"\n", "", "lab: student.key is missing"),
-        ("id = 2\n", "", "lab: node.id is missing"),
-        ("owner = \"cyd\"\n", "", "lab: node.owner is missing"),
-        // One walk in the order of the keys finds what is missing and what is of the wrong kind.
-        (
-            "events = 100\nsessions = 4",
-            "sessions = \"4\"",
-            "lab: events is missing",
-        ),
-        (
-            "events = 100\nsessions = 4",
-            "events = \"1\"",
-            "lab: events is of the wrong kind",
-        ),
-        // What the walk finds comes before all that is looked for later.
-        (
-            "events = 100\nsessions = 4",
-            "events = 0",
-            "lab: sessions is missing",
-        ),
-    ];
-    assert_said(&rt, rt.alloc(), &rows)
+    assert_said(&rt, rt.alloc(), &MISSING)
 }
 
 #[test]
@@ -101,94 +103,95 @@ fn whole_arrays_are_missing(rt: HostRuntime) -> Result<(), Fail> {
     Ok(())
 }
 
+const WRONG_KINDS: [Row; 19] = [
+    (
+        "events = 100",
+        "events = 1.0",
+        "lab: events is of the wrong kind",
+    ),
+    (
+        "events = 100",
+        "events = true",
+        "lab: events is of the wrong kind",
+    ),
+    (
+        "sessions = 4",
+        "sessions = [4]",
+        "lab: sessions is of the wrong kind",
+    ),
+    (
+        TEACHER,
+        "[[teacher]]\nname = \"t\"\nkey = \"k\"\n",
+        "lab: teacher is of the wrong kind",
+    ),
+    (
+        "name = \"tess\"",
+        "name = 1",
+        "lab: teacher.name is of the wrong kind",
+    ),
+    (
+        "key = \"chalk\"",
+        "key = 1979-05-27",
+        "lab: teacher.key is of the wrong kind",
+    ),
+    (
+        LINKS,
+        "links = []\nstudent = 3\n[other]",
+        "lab: not a TOML document",
+    ),
+    (
+        "name = \"ana\"",
+        "name = [\"ana\"]",
+        "lab: student.name is of the wrong kind",
+    ),
+    (
+        "key = \"b-key\"",
+        "key = {}",
+        "lab: student.key is of the wrong kind",
+    ),
+    (
+        "id = 1\n",
+        "id = \"1\"\n",
+        "lab: node.id is of the wrong kind",
+    ),
+    (
+        "owner = \"cyd\"",
+        "owner = 3",
+        "lab: node.owner is of the wrong kind",
+    ),
+    (
+        "owner = \"cyd\"",
+        "owner = \"cyd\"\np = \"2\"",
+        "lab: node.p is of the wrong kind",
+    ),
+    (
+        "owner = \"cyd\"",
+        "owner = \"cyd\"\nm = 0",
+        "lab: node.m is of the wrong kind",
+    ),
+    (LINKS, "links = 3", "lab: links is of the wrong kind"),
+    (LINKS, "links = {}", "lab: links is of the wrong kind"),
+    (
+        LINKS,
+        "links = [[1, 2], 3]",
+        "lab: link is of the wrong kind",
+    ),
+    (
+        LINKS,
+        "links = [[1, 2, 3]]",
+        "lab: link is of the wrong kind",
+    ),
+    (LINKS, "links = [[1]]", "lab: link is of the wrong kind"),
+    (
+        LINKS,
+        "links = [[1, \"2\"]]",
+        "lab: link is of the wrong kind",
+    ),
+];
+
 #[test]
 fn keys_are_of_the_wrong_kind(rt: HostRuntime) -> Result<(), Fail> {
-    let rows = [
-        (
-            "events = 100",
-            "events = 1.0",
-            "lab: events is of the wrong kind",
-        ),
-        (
-            "events = 100",
-            "events = true",
-            "lab: events is of the wrong kind",
-        ),
-        (
-            "sessions = 4",
-            "sessions = [4]",
-            "lab: sessions is of the wrong kind",
-        ),
-        (
-            TEACHER,
-            "[[teacher]]\nname = \"t\"\nkey = \"k\"\n",
-            "lab: teacher is of the wrong kind",
-        ),
-        (
-            "name = \"tess\"",
-            "name = 1",
-            "lab: teacher.name is of the wrong kind",
-        ),
-        (
-            "key = \"chalk\"",
-            "key = 1979-05-27",
-            "lab: teacher.key is of the wrong kind",
-        ),
-        (
-            LINKS,
-            "links = []\nstudent = 3\n[other]",
-            "lab: not a TOML document",
-        ),
-        (
-            "name = \"ana\"",
-            "name = [\"ana\"]",
-            "lab: student.name is of the wrong kind",
-        ),
-        (
-            "key = \"b-key\"",
-            "key = {}",
-            "lab: student.key is of the wrong kind",
-        ),
-        (
-            "id = 1\n",
-            "id = \"1\"\n",
-            "lab: node.id is of the wrong kind",
-        ),
-        (
-            "owner = \"cyd\"",
-            "owner = 3",
-            "lab: node.owner is of the wrong kind",
-        ),
-        (
-            "owner = \"cyd\"",
-            "owner = \"cyd\"\np = \"2\"",
-            "lab: node.p is of the wrong kind",
-        ),
-        (
-            "owner = \"cyd\"",
-            "owner = \"cyd\"\nm = 0",
-            "lab: node.m is of the wrong kind",
-        ),
-        (LINKS, "links = 3", "lab: links is of the wrong kind"),
-        (LINKS, "links = {}", "lab: links is of the wrong kind"),
-        (
-            LINKS,
-            "links = [[1, 2], 3]",
-            "lab: link is of the wrong kind",
-        ),
-        (
-            LINKS,
-            "links = [[1, 2, 3]]",
-            "lab: link is of the wrong kind",
-        ),
-        (LINKS, "links = [[1]]", "lab: link is of the wrong kind"),
-        (
-            LINKS,
-            "links = [[1, \"2\"]]",
-            "lab: link is of the wrong kind",
-        ),
-    ];
-    assert_said(&rt, rt.alloc(), &rows)
+    assert_said(&rt, rt.alloc(), &WRONG_KINDS)
 }
 
 #[test]
@@ -222,178 +225,181 @@ fn elements_are_of_the_wrong_kind(rt: HostRuntime) -> Result<(), Fail> {
     Ok(())
 }
 
+const NODES: [Row; 11] = [
+    (
+        "id = 1\n",
+        "id = 0\n",
+        "lab: node 0: identifier out of range",
+    ),
+    (
+        "id = 2\n",
+        "id = 65536\n",
+        "lab: node 1: identifier out of range",
+    ),
+    (
+        "id = 3\n",
+        "id = -3\n",
+        "lab: node 2: identifier out of range",
+    ),
+    (
+        "id = 2\n",
+        "id = 1\n",
+        "lab: node 1: identifier stands twice",
+    ),
+    (
+        "owner = \"cyd\"",
+        "owner = \"tess\"",
+        "lab: node 2: no such owner",
+    ),
+    (
+        "owner = \"ana\"",
+        "owner = \"Ana\"",
+        "lab: node 0: no such owner",
+    ),
+    (
+        "owner = \"ana\"",
+        "owner = \"ana\"\np = 3",
+        "lab: node 0: p is not a neighbour",
+    ),
+    (
+        "owner = \"ana\"",
+        "owner = \"ana\"\np = 1",
+        "lab: node 0: p is not a neighbour",
+    ),
+    (
+        "owner = \"ben\"",
+        "owner = \"ben\"\np = -1",
+        "lab: node 1: p is not a neighbour",
+    ),
+    (
+        "owner = \"ben\"",
+        "owner = \"ben\"\np = 9",
+        "lab: node 1: p is not a neighbour",
+    ),
+    ("owner = \"ben\"", "owner = \"ben\"\np = 3\nm = true", SIZE),
+];
+
 #[test]
 fn nodes_are_refused(rt: HostRuntime) -> Result<(), Fail> {
-    let rows = [
-        (
-            "id = 1\n",
-            "id = 0\n",
-            "lab: node 0: identifier out of range",
-        ),
-        (
-            "id = 2\n",
-            "id = 65536\n",
-            "lab: node 1: identifier out of range",
-        ),
-        (
-            "id = 3\n",
-            "id = -3\n",
-            "lab: node 2: identifier out of range",
-        ),
-        (
-            "id = 2\n",
-            "id = 1\n",
-            "lab: node 1: identifier stands twice",
-        ),
-        (
-            "owner = \"cyd\"",
-            "owner = \"tess\"",
-            "lab: node 2: no such owner",
-        ),
-        (
-            "owner = \"ana\"",
-            "owner = \"Ana\"",
-            "lab: node 0: no such owner",
-        ),
-        (
-            "owner = \"ana\"",
-            "owner = \"ana\"\np = 3",
-            "lab: node 0: p is not a neighbour",
-        ),
-        (
-            "owner = \"ana\"",
-            "owner = \"ana\"\np = 1",
-            "lab: node 0: p is not a neighbour",
-        ),
-        (
-            "owner = \"ben\"",
-            "owner = \"ben\"\np = -1",
-            "lab: node 1: p is not a neighbour",
-        ),
-        (
-            "owner = \"ben\"",
-            "owner = \"ben\"\np = 9",
-            "lab: node 1: p is not a neighbour",
-        ),
-        ("owner = \"ben\"", "owner = \"ben\"\np = 3\nm = true", SIZE),
-    ];
-    assert_said(&rt, rt.alloc(), &rows)
+    assert_said(&rt, rt.alloc(), &NODES)
 }
+
+const PRINCIPALS: [Row; 11] = [
+    (
+        "name = \"ana\"",
+        "name = \"Ana\"",
+        "lab: principal 1: bad name or key",
+    ),
+    (
+        "name = \"tess\"",
+        "name = \"\"",
+        "lab: principal 0: bad name or key",
+    ),
+    (
+        "name = \"cyd\"",
+        "name = \"3cyd\"",
+        "lab: principal 3: bad name or key",
+    ),
+    (
+        "name = \"ben\"",
+        "name = \"b_n\"",
+        "lab: principal 2: bad name or key",
+    ),
+    (
+        "key = \"chalk\"",
+        "key = \"\"",
+        "lab: principal 0: bad name or key",
+    ),
+    (
+        "key = \"a-key\"",
+        "key = \"a key\"",
+        "lab: principal 1: bad name or key",
+    ),
+    (
+        "key = \"b-key\"",
+        "key = \"schlüssel\"",
+        "lab: principal 2: bad name or key",
+    ),
+    (
+        "name = \"ben\"",
+        "name = \"ana\"",
+        "lab: principal 2: name stands twice",
+    ),
+    (
+        "name = \"cyd\"",
+        "name = \"tess\"",
+        "lab: principal 3: name stands twice",
+    ),
+    ("key = \"b-key\"", "key = \"a-key\"", SIZE),
+    ("key = \"b-key\"", "key = \"!\\\"~\"", SIZE),
+];
 
 #[test]
 fn principals_are_refused(rt: HostRuntime) -> Result<(), Fail> {
-    let rows = [
-        (
-            "name = \"ana\"",
-            "name = \"Ana\"",
-            "lab: principal 1: bad name or key",
-        ),
-        (
-            "name = \"tess\"",
-            "name = \"\"",
-            "lab: principal 0: bad name or key",
-        ),
-        (
-            "name = \"cyd\"",
-            "name = \"3cyd\"",
-            "lab: principal 3: bad name or key",
-        ),
-        (
-            "name = \"ben\"",
-            "name = \"b_n\"",
-            "lab: principal 2: bad name or key",
-        ),
-        (
-            "key = \"chalk\"",
-            "key = \"\"",
-            "lab: principal 0: bad name or key",
-        ),
-        (
-            "key = \"a-key\"",
-            "key = \"a key\"",
-            "lab: principal 1: bad name or key",
-        ),
-        (
-            "key = \"b-key\"",
-            "key = \"schlüssel\"",
-            "lab: principal 2: bad name or key",
-        ),
-        (
-            "name = \"ben\"",
-            "name = \"ana\"",
-            "lab: principal 2: name stands twice",
-        ),
-        (
-            "name = \"cyd\"",
-            "name = \"tess\"",
-            "lab: principal 3: name stands twice",
-        ),
-        ("key = \"b-key\"", "key = \"a-key\"", SIZE),
-        ("key = \"b-key\"", "key = \"!\\\"~\"", SIZE),
-    ];
-    assert_said(&rt, rt.alloc(), &rows)
+    assert_said(&rt, rt.alloc(), &PRINCIPALS)
 }
+
+const LINKS_AND_LIMITS: [Row; 15] = [
+    (
+        LINKS,
+        "links = [[1, 2], [2, 1]]",
+        "lab: link 1: stands twice",
+    ),
+    (
+        LINKS,
+        "links = [[1, 2], [2, 3], [1, 2]]",
+        "lab: link 2: stands twice",
+    ),
+    (LINKS, "links = [[2, 2]]", "lab: link 0: a loop"),
+    (LINKS, "links = [[1, 9]]", "lab: link 0: no such node"),
+    (
+        LINKS,
+        "links = [[1, 2], [-1, 2]]",
+        "lab: link 1: no such node",
+    ),
+    (LINKS, "links = [[9, 9]]", "lab: link 0: no such node"),
+    (
+        LINKS,
+        "links = [[1, 2], [2, 1], [3, 3]]",
+        "lab: link 2: a loop",
+    ),
+    (
+        "events = 100",
+        "events = 0",
+        "lab: events is out of its limits",
+    ),
+    (
+        "events = 100",
+        "events = -1",
+        "lab: events is out of its limits",
+    ),
+    (
+        "events = 100",
+        "events = 100001",
+        "lab: events is out of its limits",
+    ),
+    ("events = 100", "events = 100000", SIZE),
+    (
+        "sessions = 4",
+        "sessions = 0",
+        "lab: sessions is out of its limits",
+    ),
+    (
+        "sessions = 4",
+        "sessions = 17",
+        "lab: sessions is out of its limits",
+    ),
+    ("sessions = 4", "sessions = 16", SIZE),
+    (
+        "events = 100\nsessions = 4",
+        "events = 0\nsessions = 0",
+        "lab: events is out of its limits",
+    ),
+];
 
 #[test]
 fn links_and_limits_are_refused(rt: HostRuntime) -> Result<(), Fail> {
-    let rows = [
-        (
-            LINKS,
-            "links = [[1, 2], [2, 1]]",
-            "lab: link 1: stands twice",
-        ),
-        (
-            LINKS,
-            "links = [[1, 2], [2, 3], [1, 2]]",
-            "lab: link 2: stands twice",
-        ),
-        (LINKS, "links = [[2, 2]]", "lab: link 0: a loop"),
-        (LINKS, "links = [[1, 9]]", "lab: link 0: no such node"),
-        (
-            LINKS,
-            "links = [[1, 2], [-1, 2]]",
-            "lab: link 1: no such node",
-        ),
-        (LINKS, "links = [[9, 9]]", "lab: link 0: no such node"),
-        (
-            LINKS,
-            "links = [[1, 2], [2, 1], [3, 3]]",
-            "lab: link 2: a loop",
-        ),
-        (
-            "events = 100",
-            "events = 0",
-            "lab: events is out of its limits",
-        ),
-        (
-            "events = 100",
-            "events = -1",
-            "lab: events is out of its limits",
-        ),
-        (
-            "events = 100",
-            "events = 100001",
-            "lab: events is out of its limits",
-        ),
-        ("events = 100", "events = 100000", SIZE),
-        (
-            "sessions = 4",
-            "sessions = 0",
-            "lab: sessions is out of its limits",
-        ),
-        (
-            "sessions = 4",
-            "sessions = 17",
-            "lab: sessions is out of its limits",
-        ),
-        ("sessions = 4", "sessions = 16", SIZE),
-        (
-            "events = 100\nsessions = 4",
-            "events = 0\nsessions = 0",
-            "lab: events is out of its limits",
-        ),
-    ];
-    assert_said(&rt, rt.alloc(), &rows)
+    assert_said(&rt, rt.alloc(), &LINKS_AND_LIMITS)
 }
 
 const ALL_WRONG: &str = r#"=
@@ -422,7 +428,7 @@ id = 65536
 owner = "tess"
 "#;
 
-/// What is said, and what mends it: a text of the file and the one in its place.
+// What is said, and what mends it: a text of the file and the one in its place.
 const MENDS: [(&str, &str, &str); 14] = [
     ("lab: not a TOML document", "=\n", "\n"),
     ("lab: events is missing", "\n", "events = 0\n"),
