@@ -69,12 +69,14 @@ impl Lab {
         }
     }
 
+    /// The nodes' identifiers, whose order gives the ranks.
     pub fn ids(&self) -> &IdTable
         ensures { result.now ≡ self.now.ids }
     {
         &self.ids
     }
 
+    /// Who takes part, and who owns which node.
     pub fn roster(&self) -> &Roster
         ensures { result.now ≡ self.now.roster }
     {
@@ -125,6 +127,7 @@ impl Lab {
         self.sessions
     }
 
+    /// How many nodes the network has, at least one.
     pub fn node_count(&self) -> u64
         ensures count { result ≡ length self.now.ids }
         ensures lab { IsLab self.now }
@@ -144,6 +147,7 @@ impl Lab {
         count
     }
 
+    /// How many students take part, without the teacher.
     pub fn student_count(&self) -> u64
         ensures { result ≡ length self.now.roster.students }
     {

@@ -1,6 +1,10 @@
 //! What the subcommands do, over readers and writers.
+ghost use Rattle.std.specs.Prelude.{◌≡◌, ◌⊎◌, [], Err};
+ghost use Rattle.std.specs.Io.Buffered.{writer_buffer, writer_contents};
+ghost use Rattle.mml_server.specs.Answered.{Answered};
+
 use crate::fault::{Fault, memory_or};
-use mml_hall::run_script;
+use mml_hall::{Hall, run_script};
 use mml_lab::Lab;
 use std::alloc::Global;
 use std::io::{BufWriter, Read, Write};
@@ -17,36 +21,36 @@ pub fn write_size<W: Write>(lab: &Lab, writer: &mut W) -> Result<(), Fault> {
     .map_err(|error| memory_or(&error, Fault::Write))
 }
 
-/// Answers the lines of a script, each reply written before the next line is read.
+/// Answers the lines of a script, each reply written before the next line is judged.
 pub fn answer_script<R: Read, W: Write>(
     alloc: Global,
     lab: Lab,
     reader: &mut R,
     writer: &mut W,
-) -> Result<(), Fault> {
-    run_script(alloc, lab, reader, writer)?;
-    Ok(())
+) -> Result<Hall, Fault>
+    ensures { Answered result lab (R.remaining reader.old) (W.contents writer.old) (W.contents writer.new) }
+{
+    let hall = run_script(alloc, lab, reader, writer)?;
+    Ok(hall)
 }
 
-/// The same through a buffer, which is flushed at the end, whether that is good or a fault. A flush
-/// that fails is the fault then, since what it held was written before.
+/// The same through a buffer, which is flushed at the end, be that good or a fault. A flush that
+/// fails is told in the place of what would be told after it, since what it held was written before.
 pub fn answer_through_buffer<R: Read, W: Write + Drop>(
     alloc: Global,
     lab: Lab,
     reader: &mut R,
-    writer: W,
-) -> Result<(), Fault> {
-    let mut buffered = BufWriter::new(alloc, writer).map_err(|error| memory_or(
-        &error,
-        Fault::Write,
-    ))?;
-    let answered = answer_script(alloc, lab, reader, &mut buffered);
-    if let Err(error) = buffered.flush() {
-        // What is left goes with the buffer, so that no later write follows one that failed.
-        let _left = buffered.into_parts();
-        return Err(memory_or(&error, Fault::Write));
+    writer: &mut BufWriter<W>,
+) -> Result<Hall, Fault>
+    ensures { (result ≡ Err Fault.Write) ⊎ (result ≡ Err Fault.Memory)
+        ⊎ ((writer_buffer writer.new ≡ []) × Answered result lab (R.remaining reader.old)
+        (writer_contents W.contents writer.old) (writer_contents W.contents writer.new)) }
+{
+    let answered = answer_script(alloc, lab, reader, writer);
+    match writer.flush() {
+        Ok(()) => answered,
+        Err(error) => Err(memory_or(&error, Fault::Write)),
     }
-    answered
 }
 
 #[cfg(test)]

@@ -1,5 +1,7 @@
 //! What ends the program early: one line on standard error and a status.
-ghost use Rattle.std.specs.Prelude.{◌≡◌, ◌⊎◌};
+ghost use Rattle.std.specs.Prelude.{◌≡◌, ◌≢◌, ◌⊎◌};
+ghost use Rattle.std.specs.IoError.{error_kind};
+ghost use Rattle.mml_server.specs.declared.fault.Fault.TheVariants.{Memory};
 
 use crate::refusal::LabRefusal;
 use mml_hall::ScriptFault;
@@ -49,7 +51,9 @@ impl Fault {
 
 /// Want of memory where an error of a read or write says so, and else the other fault.
 pub fn memory_or(error: &IoError, other: Fault) -> Fault
-    ensures { (result ≡ other) ⊎ (result ≡ Fault.Memory) }
+    ensures memory { error_kind error.now ≡ ErrorKind.OutOfMemory → result ≡ Fault.Memory }
+    ensures either { (result ≡ other) ⊎ (result ≡ Fault.Memory) }
+    ensures other { error_kind error.now ≢ ErrorKind.OutOfMemory → result ≡ other }
 {
     if error.kind() == ErrorKind::OutOfMemory {
         Fault::Memory
@@ -59,6 +63,8 @@ pub fn memory_or(error: &IoError, other: Fault) -> Fault
 }
 
 impl From<AllocError> for Fault {
+    ghost from_gives = { λ _ e. e ≡ Memory };
+
     fn from(_error: AllocError) -> Fault {
         Fault::Memory
     }
@@ -74,6 +80,10 @@ impl From<LabFault> for Fault {
 }
 
 impl From<ScriptFault> for Fault {
+    ghost use Rattle.mml_server.specs.Faults.{of_script};
+
+    ghost from_gives = { λ fault e. e ≡ of_script fault };
+
     fn from(fault: ScriptFault) -> Fault {
         match fault {
             ScriptFault::BadLine(line) => Fault::BadLine(line),

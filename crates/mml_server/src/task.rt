@@ -5,6 +5,7 @@ use crate::fault::{Fault, memory_or};
 use crate::files::read_file;
 use crate::words::{Task, read_words};
 use mml_lab::{Lab, read_lab};
+use std::io::BufWriter;
 use std::rt::{Env, Files};
 use std::{env, io};
 
@@ -16,15 +17,20 @@ pub fn run<R: Env + Files + Input + Print + AllocGlobal>(rt: &R) -> Result<(), F
     match read_words(alloc, words.as_slice())? {
         Task::BuiltIn => {
             let lab = read_lab(alloc, built_in::LAB.as_bytes())?;
-            answer_script(alloc, lab, &mut rt.reader(), &mut io::writer(rt))
+            answer_script(alloc, lab, &mut rt.reader(), &mut io::writer(rt))?;
         }
-        Task::Check { lab } => write_size(&lab_of(rt, lab)?, &mut io::writer(rt)),
+        Task::Check { lab } => write_size(&lab_of(rt, lab)?, &mut io::writer(rt))?,
         Task::Script { lab, script } => {
             let lab = lab_of(rt, lab)?;
             let script = read_file(rt, script, Fault::ReadScript)?;
-            answer_through_buffer(alloc, lab, &mut script.as_slice(), io::writer(rt))
+            let mut writer = BufWriter::new(alloc, io::writer(rt)).map_err(|error| memory_or(
+                &error,
+                Fault::Write,
+            ))?;
+            answer_through_buffer(alloc, lab, &mut script.as_slice(), &mut writer)?;
         }
     }
+    Ok(())
 }
 
 // The words, the program's name first; one that isn't UTF-8 is not understood.

@@ -1,6 +1,8 @@
 use super::*;
 use crate::built_in;
-use mml_lab::read_lab;
+use crate::files::read_whole;
+use mml_ids::IdFault;
+use mml_lab::{LabFault, read_lab};
 use std::cell::Cell;
 use std::io;
 use std::io::ErrorKind;
@@ -11,6 +13,8 @@ const FIRST_LOOK: &str = r#"1 {"do":"hello","key":"a-key","name":"ana"}
 1 {"do":"see","node":3}
 1 {"do":"see","node":99}
 "#;
+
+const BAD_SECOND_LINE: &str = "1 {\"do\":\"bye\"}\n5 {\"do\":\"bye\"}\n";
 
 const FIRST_LOOK_REPLIES: &str = r#"1 {"ok":"hello","who":"ana"}
 1 {"at":0,"m":false,"node":2,"ok":"see","p":null}
@@ -57,16 +61,20 @@ fn built_in_lab(alloc: Global) -> Result<Lab, Fault> {
     Ok(read_lab(alloc, built_in::LAB.as_bytes())?)
 }
 
-// What came of a script over the built-in lab through a buffer.
-fn buffered(alloc: Global, script: &str, writer: &mut Recorder) -> Result<(), Fault> {
-    let lab = built_in_lab(alloc)?;
-    answer_through_buffer(alloc, lab, &mut script.as_bytes(), writer)
+// What came of a script over the built-in lab through a buffer before the writer.
+fn buffered(alloc: Global, script: &str, writer: &mut BufWriter<Recorder>) -> Option<Fault> {
+    match built_in_lab(alloc) {
+        Ok(lab) => answer_through_buffer(alloc, lab, &mut script.as_bytes(), writer).err(),
+        Err(fault) => Some(fault),
+    }
 }
 
 // The same with a write for each line.
-fn at_once(alloc: Global, script: &str, writer: &mut Recorder) -> Result<(), Fault> {
-    let lab = built_in_lab(alloc)?;
-    answer_script(alloc, lab, &mut script.as_bytes(), writer)
+fn at_once(alloc: Global, script: &str, writer: &mut Recorder) -> Option<Fault> {
+    match built_in_lab(alloc) {
+        Ok(lab) => answer_script(alloc, lab, &mut script.as_bytes(), writer).err(),
+        Err(fault) => Some(fault),
+    }
 }
 
 #[test]
@@ -87,49 +95,141 @@ fn tells_the_size_of_a_lab(rt: HostRuntime) -> Result<(), Fail> {
 
 #[test]
 fn answers_the_same_with_and_without_a_buffer(rt: HostRuntime) -> Result<(), Fail> {
-    let bad = "1 {\"do\":\"bye\"}\n5 {\"do\":\"bye\"}\n";
-    for (script, replies, answer) in [
-        ("", "", Ok(())),
-        (FIRST_LOOK, FIRST_LOOK_REPLIES, Ok(())),
-        (bad, "1 {\"ok\":\"bye\"}\n", Err(Fault::BadLine(2))),
+    let alloc = rt.alloc();
+    for (script, replies, fault) in [
+        ("", "", None),
+        (FIRST_LOOK, FIRST_LOOK_REPLIES, None),
+        (
+            BAD_SECOND_LINE,
+            "1 {\"ok\":\"bye\"}\n",
+            Some(Fault::BadLine(2)),
+        ),
     ] {
-        let mut direct = failing_after(rt.alloc(), 100, 0);
-        assert_eq!(rt; at_once(rt.alloc(), script, &mut direct), answer);
+        let mut direct = failing_after(alloc, 100, 0);
+        assert_eq!(rt; at_once(alloc, script, &mut direct), fault);
         assert_eq!(rt; direct.taken.as_slice(), replies.as_bytes());
         // One write for all, and one flush.
-        let mut held = failing_after(rt.alloc(), 1, 1);
-        assert_eq!(rt; buffered(rt.alloc(), script, &mut held), answer);
-        assert_eq!(rt; held.taken.as_slice(), replies.as_bytes());
-        assert_eq!(rt; held.flushes, 0);
+        let mut held = BufWriter::new(alloc, failing_after(alloc, 1, 1))?;
+        assert_eq!(rt; buffered(alloc, script, &mut held), fault);
+        assert_eq!(rt; held.get_ref().taken.as_slice(), replies.as_bytes());
+        assert_eq!(rt; held.get_ref().flushes, 0);
     }
     Ok(())
 }
 
 #[test]
-fn tells_failed_writes(rt: HostRuntime) {
-    for writes in 0..4 {
-        let mut writer = failing_after(rt.alloc(), writes, 1);
-        let answer = at_once(rt.alloc(), FIRST_LOOK, &mut writer);
-        assert_eq!(rt; answer, Err(Fault::Write), "{writes}");
+fn tells_failed_writes(rt: HostRuntime) -> Result<(), Fail> {
+    let alloc = rt.alloc();
+    // Each of the four replies goes out in two writes.
+    for writes in 0..8 {
+        let mut writer = failing_after(alloc, writes, 1);
+        let fault = at_once(alloc, FIRST_LOOK, &mut writer);
+        assert_eq!(rt; fault, Some(Fault::Write), "{writes}");
+        let taken = writer.taken.as_slice();
+        assert!(rt;
+            FIRST_LOOK_REPLIES.as_bytes().starts_with(taken),
+            "{writes}"
+        );
     }
-    let mut writer = failing_after(rt.alloc(), 0, 1);
+    let mut writer = BufWriter::new(alloc, failing_after(alloc, 0, 1))?;
     assert_eq!(rt;
-        buffered(rt.alloc(), FIRST_LOOK, &mut writer),
-        Err(Fault::Write)
+        buffered(alloc, FIRST_LOOK, &mut writer),
+        Some(Fault::Write)
     );
-    assert!(rt; writer.taken.is_empty());
+    assert!(rt; writer.get_ref().taken.is_empty());
+    Ok(())
 }
 
 // A flush that fails is told in the place of a good end and of the fault that would be told after it.
 #[test]
-fn tells_a_failed_flush(rt: HostRuntime) {
-    for script in [FIRST_LOOK, "1 {\"do\":\"bye\"}\nno line\n"] {
-        let mut writer = failing_after(rt.alloc(), 100, 0);
+fn tells_a_failed_flush(rt: HostRuntime) -> Result<(), Fail> {
+    for script in [FIRST_LOOK, BAD_SECOND_LINE] {
+        let mut writer = BufWriter::new(rt.alloc(), failing_after(rt.alloc(), 100, 0))?;
         assert_eq!(rt;
             buffered(rt.alloc(), script, &mut writer),
-            Err(Fault::Write)
+            Some(Fault::Write)
         );
     }
+    Ok(())
+}
+
+// More replies than the buffer holds go out in several writes, of which the second may fail.
+#[test]
+fn tells_a_failed_write_of_a_long_script(rt: HostRuntime) -> Result<(), Fail> {
+    let alloc = rt.alloc();
+    let mut script = String::new(alloc);
+    let mut replies = String::new(alloc);
+    for _ in 0..1000 {
+        script.push_str("1 {\"do\":\"bye\"}\n")?;
+        replies.push_str("1 {\"ok\":\"bye\"}\n")?;
+    }
+    let mut writer = BufWriter::new(alloc, failing_after(alloc, 1, 1))?;
+    assert_eq!(rt;
+        buffered(alloc, script.as_str(), &mut writer),
+        Some(Fault::Write)
+    );
+    let taken = writer.get_ref().taken.as_slice();
+    assert!(rt; !taken.is_empty() && replies.as_bytes().starts_with(taken));
+    let mut writer = BufWriter::new(alloc, failing_after(alloc, 100, 1))?;
+    assert_eq!(rt; buffered(alloc, script.as_str(), &mut writer), None);
+    assert_eq!(rt; writer.get_ref().taken.as_slice(), replies.as_bytes());
+    Ok(())
+}
+
+// Fails with an error of a kind.
+#[derive(Drop)]
+struct Failing {
+    kind: ErrorKind,
+}
+
+impl Read for Failing {
+    fn read(&mut self, _buf: &mut [u8]) -> io::Result<usize> {
+        Err(io::Error::from(self.kind))
+    }
+}
+
+impl Write for Failing {
+    fn write(&mut self, _buf: &[u8]) -> io::Result<usize> {
+        Err(io::Error::from(self.kind))
+    }
+
+    fn flush(&mut self) -> io::Result<()> {
+        Err(io::Error::from(self.kind))
+    }
+}
+
+// Want of memory that an error carries is told as such, wherever it comes from.
+#[test]
+fn tells_want_of_memory(rt: HostRuntime) -> Result<(), Fail> {
+    let alloc = rt.alloc();
+    for (kind, read, write) in [
+        (ErrorKind::OutOfMemory, Fault::Memory, Fault::Memory),
+        (ErrorKind::Other, Fault::ReadLab, Fault::Write),
+    ] {
+        let found = read_whole(alloc, Failing { kind }, 10, Fault::ReadLab).err();
+        assert_eq!(rt; found, Some(read));
+        let lab = built_in_lab(alloc)?;
+        assert_eq!(rt; write_size(&lab, &mut Failing { kind }), Err(write));
+        let mut writer = BufWriter::new(alloc, Failing { kind })?;
+        let fault = answer_through_buffer(alloc, lab, &mut "".as_bytes(), &mut writer).err();
+        let wanted = memory_or(&io::Error::from(kind), Fault::Write);
+        assert_eq!(rt; fault, Some(wanted));
+    }
+    assert_eq!(rt; Fault::from(LabFault::Memory), Fault::Memory);
+    assert_eq!(rt; Fault::from(LabFault::Id(IdFault::Memory)), Fault::Memory);
+    Ok(())
+}
+
+#[test]
+fn tells_a_failed_read(rt: HostRuntime) -> Result<(), Fail> {
+    let lab = built_in_lab(rt.alloc())?;
+    let mut reader = Failing {
+        kind: ErrorKind::Other,
+    };
+    let mut out = Vec::new(rt.alloc());
+    let fault = answer_script(rt.alloc(), lab, &mut reader, &mut out).err();
+    assert_eq!(rt; fault, Some(Fault::ReadScript));
+    Ok(())
 }
 
 // A line in each read, and how many replies were out by then.
@@ -180,7 +280,8 @@ fn replies_go_out_before_the_next_read(rt: HostRuntime) -> Result<(), Fail> {
     };
     let mut counter = Counter { replies: &replies };
     let lab = built_in_lab(rt.alloc())?;
-    answer_script(rt.alloc(), lab, &mut asker, &mut counter)?;
+    let fault = answer_script(rt.alloc(), lab, &mut asker, &mut counter).err();
+    assert_eq!(rt; fault, None);
     assert_eq!(rt; asker.seen.as_slice(), [0, 1, 2, 3, 4].as_slice());
     Ok(())
 }

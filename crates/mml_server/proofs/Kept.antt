@@ -1,0 +1,34 @@
+-- What was told of a script stays true where what was written is kept.
+use Rattle.std.proofs.Common.{◌≡◌, ℕ, List, [], ◌++◌, Option, None, Some, IfSome, Result, Ok, Err, append-nil, subst, ◌∙◌}
+use Rattle.std.specs.Io.KnownBytes.{Appends, Keeps}
+use Rattle.mml_lab.specs.Labs.{LabValue}
+use Rattle.mml_hall.specs.declared.script.ScriptFault.{ScriptFault}
+use Rattle.mml_hall.specs.declared.script.ScriptFault.TheVariants as script
+use Rattle.mml_hall.specs.Halls.{HallValue}
+use Rattle.mml_hall.specs.Scripts.{Finished, Stopped}
+use Rattle.mml_server.specs.declared.fault.Fault.{Fault}
+use Rattle.mml_server.specs.Answered.{Answered}
+
+appends_kept : (a b c : Option (List ℕ)) (bs : List ℕ) → Appends a b bs → Keeps b c → Appends a c bs
+appends_kept None b c bs wrote kept = tt
+appends_kept (Some xs) None c bs wrote kept = absurd wrote
+appends_kept (Some xs) (Some ys) None bs wrote kept = absurd kept
+appends_kept (Some xs) (Some ys) (Some zs) bs wrote kept = kept ∙ wrote
+
+finished_kept : (hall : HallValue) (lab : LabValue) (input : List ℕ) (a b c : Option (List ℕ))
+    → Finished hall lab input a b → Keeps b c → Finished hall lab input a c
+finished_kept hall lab input a b c h kept = (h.0, h.1, h.2, h.3, h.4, appends_kept a b c _ h.5 kept)
+
+stopped_kept : (why : ScriptFault) (lab : LabValue) (input : List ℕ) (a b c : Option (List ℕ))
+    → Stopped why lab input a b → Keeps b c → Stopped why lab input a c
+stopped_kept script.Read lab input a b c h kept = (h.0, h.1, h.2, appends_kept a b c _ h.3 kept)
+stopped_kept (script.Write n) lab input a b c h kept = (h.0, h.1, h.2, h.3, h.4, h.5, appends_kept a b c _ h.6 kept)
+stopped_kept (script.BadLine k) lab input a b c h kept = (h.0, h.1, h.2, h.3, h.4, appends_kept a b c _ h.5 kept)
+stopped_kept script.Memory lab input a b c h kept = appends_kept a b c [] h kept
+
+pub answered_kept : (r : Result HallValue Fault) (lab : LabValue) (input a b c : Option (List ℕ))
+    → Answered r lab input a b → Keeps b c → Answered r lab input a c
+answered_kept (Ok hall) lab None a b c h kept = tt
+answered_kept (Ok hall) lab (Some bytes) a b c h kept = finished_kept hall lab bytes a b c h kept
+answered_kept (Err fault) lab None a b c h kept = (h.0, h.1, tt)
+answered_kept (Err fault) lab (Some bytes) a b c h kept = (h.0, h.1, stopped_kept h.0 lab bytes a b c h.2 kept)
