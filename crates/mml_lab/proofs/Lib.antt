@@ -15,3 +15,4 @@ pub mod Found
 pub mod Sound
 pub mod Built
 pub mod LabFacts
+pub mod Files

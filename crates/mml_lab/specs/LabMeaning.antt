@@ -1,8 +1,8 @@
 -- What the definitions of a lab mean, stated as facts.
-use Rattle.std.specs.Prelude.{◌≡◌, ◌<◌, ◌⊎◌, ℕ, ℤ, pos, List, length, slice_index, Contains}
+use Rattle.std.specs.Prelude.{◌≡◌, ◌<◌, ◌⊎◌, ℕ, ℤ, pos, List, length, slice_index, Contains, Ok, None}
 use Rattle.std.specs.List.{Any}
-use Rattle.mml_lab.specs.Shape.{NodeSpec, RawSpec}
-use Rattle.mml_lab.specs.Labs.{LabValue}
+use Rattle.mml_lab.specs.Shape.{NodeSpec, RawSpec, spelled}
+use Rattle.mml_lab.specs.Labs.{LabValue, lab_fault, lab_in}
 
 -- the link has these two ends, in either order
 abbrev pub Joins : ℤ → ℤ → ℤ × ℤ → Type 0
@@ -25,3 +25,9 @@ pub record IsNodeOf (raw : RawSpec) (lab : LabValue) (rank : ℕ) (node : NodeSp
   pub within : rank < length lab.ids
   pub stands : Contains raw.nodes node
   pub named : node.id ≡ pos (id_at lab rank)
+
+-- bytes spell that file, it has no fault, and the lab is the one in it
+pub record IsLabOfFile (bytes : List ℕ) (raw : RawSpec) (lab : LabValue) : Type 0 where
+  pub spells : spelled bytes ≡ Ok raw
+  pub faultless : lab_fault raw ≡ None
+  pub built : lab ≡ lab_in raw

@@ -1,12 +1,13 @@
 //! Laws of the lab. Each is the clause of a function that does nothing.
 ghost use Rattle.std.specs.Prelude.{◌≡◌, ◌≢◌, ◌↔◌, ◌∷◌, [], ℕ, ℤ, pos, ◌<◌, List, length, true, false, All, Contains, Some, None, Ok, slice_get, slice_index};
 ghost use Rattle.mml_ids.specs.Ids.{IsTable};
+ghost use Rattle.mml_ids.specs.declared.id_table.IdFault.TheVariants as id;
 ghost use Rattle.mml_rules.specs.Network.{configuration_of};
 ghost use Rattle.mml_lab.specs.declared.who.Who.{Who};
 ghost use Rattle.mml_lab.specs.declared.fault.LabFault.TheVariants as fault;
 ghost use Rattle.mml_lab.specs.Shape.{Account, NodeSpec, RawSpec};
 ghost use Rattle.mml_lab.specs.Labs.{LabValue, IsLab, lab_fault, lab_in, lab_of};
-ghost use Rattle.mml_lab.specs.LabMeaning.{Joins, HasLink, HasNode, IsNodeOf, id_at};
+ghost use Rattle.mml_lab.specs.LabMeaning.{Joins, HasLink, HasNode, IsNodeOf, IsLabOfFile, id_at};
 ghost use Rattle.mml_lab.specs.Rosters.{RosterValue, IsRoster, principal, owns, owners_of, name_of, student_named, with_owners, is_name, is_key, name_twice};
 ghost use Rattle.mml_lab.specs.RosterMeaning.{IsKnownAs, IsName, IsKey, IsFirstAgain, AreDistinctBelow};
 
@@ -106,4 +107,16 @@ pub fn owners_are_those_of_the_file()
 /// Every lab that bytes spell is lawful.
 pub fn labs_are_lawful()
     ensures { (bytes : List ℕ) (lab : LabValue) → lab_of bytes ≡ Ok lab → IsLab lab }
+{}
+
+/// Bytes are read as a lab exactly where they spell a file without a fault, and the lab is that of the file.
+pub fn labs_are_those_of_files()
+    ensures { (bytes : List ℕ) (lab : LabValue) →
+        (lab_of bytes ≡ Ok lab) ↔ ((raw : RawSpec) × IsLabOfFile bytes raw lab) }
+{}
+
+/// No fault of a file is want of memory, told as such or of its identifiers.
+pub fn want_of_memory_is_no_fault()
+    ensures identifiers { (raw : RawSpec) → lab_fault raw ≢ Some (fault.Id id.Memory) }
+    ensures file { (raw : RawSpec) → lab_fault raw ≢ Some fault.Memory }
 {}
