@@ -3,6 +3,7 @@
 
 mod id_table;
 mod items;
+pub mod laws;
 mod memory;
 mod node_id;
 mod node_set;
