@@ -16,3 +16,5 @@ pub mod Sound
 pub mod Built
 pub mod LabFacts
 pub mod Files
+pub mod Pairs
+pub mod LinkCounts

@@ -6,7 +6,7 @@ ghost use Rattle.mml_rules.specs.Network.{configuration_of};
 ghost use Rattle.mml_lab.specs.declared.who.Who.{Who};
 ghost use Rattle.mml_lab.specs.declared.fault.LabFault.TheVariants as fault;
 ghost use Rattle.mml_lab.specs.Shape.{Account, NodeSpec, RawSpec};
-ghost use Rattle.mml_lab.specs.Labs.{LabValue, IsLab, lab_fault, lab_in, lab_of};
+ghost use Rattle.mml_lab.specs.Labs.{LabValue, IsLab, lab_fault, lab_in, lab_of, link_count};
 ghost use Rattle.mml_lab.specs.LabMeaning.{Joins, HasLink, HasNode, IsNodeOf, IsLabOfFile, id_at};
 ghost use Rattle.mml_lab.specs.Rosters.{RosterValue, IsRoster, principal, owns, owners_of, name_of, student_named, with_owners, is_name, is_key, name_twice};
 ghost use Rattle.mml_lab.specs.RosterMeaning.{IsKnownAs, IsName, IsKey, IsFirstAgain, AreDistinctBelow};
@@ -79,6 +79,12 @@ pub fn links_are_those_of_the_file()
         i < length (lab_in raw).ids → j < length (lab_in raw).ids →
         ((configuration_of (lab_in raw).network).linked i j ≡ true)
         ↔ HasLink raw (pos (id_at (lab_in raw) i)) (pos (id_at (lab_in raw) j)) }
+{}
+
+/// The network of a file without a fault has as many links as the file.
+pub fn links_are_counted()
+    ensures { (raw : RawSpec) → lab_fault raw ≡ None →
+        link_count (lab_in raw).network ≡ length raw.links }
 {}
 
 /// A node's registers are those of the file: p is null, or the rank of a node that it is linked to.
