@@ -18,3 +18,4 @@ pub mod LabFacts
 pub mod Files
 pub mod Pairs
 pub mod LinkCounts
+pub mod LinkTwice

@@ -1,5 +1,5 @@
 -- What the definitions of a lab mean, stated as facts.
-use Rattle.std.specs.Prelude.{◌≡◌, ◌<◌, ◌⊎◌, ℕ, ℤ, pos, List, length, slice_index, Contains, Ok, None}
+use Rattle.std.specs.Prelude.{◌≡◌, ◌≢◌, ◌<◌, ◌⊎◌, ℕ, ℤ, pos, List, length, slice_get, slice_index, All, Contains, Ok, Some, None}
 use Rattle.std.specs.List.{Any}
 use Rattle.mml_lab.specs.Shape.{NodeSpec, RawSpec, spelled}
 use Rattle.mml_lab.specs.Labs.{LabValue, lab_fault, lab_in}
@@ -31,3 +31,23 @@ pub record IsLabOfFile (bytes : List ℕ) (raw : RawSpec) (lab : LabValue) : Typ
   pub spells : spelled bytes ≡ Ok raw
   pub faultless : lab_fault raw ≡ None
   pub built : lab ≡ lab_in raw
+
+-- each link of the file joins two nodes that differ
+pub record JoinNodes (raw : RawSpec) : Type 0 where
+  pub nodes : All (λ link. HasNode raw link.0 × HasNode raw link.1) raw.links
+  pub different : All (λ link. link.0 ≢ link.1) raw.links
+
+-- the link at k joins what an earlier one joins
+pub record IsLinkAgain (links : List (ℤ × ℤ)) (k : ℕ) : Type 0 where
+  pub earlier : ℕ
+  pub before : earlier < k
+  pub link : ℤ × ℤ
+  pub again : ℤ × ℤ
+  pub first : slice_get links earlier ≡ Some link
+  pub second : slice_get links k ≡ Some again
+  pub joins : Joins again.0 again.1 link
+
+-- the link at k joins what an earlier one joins, and k is the first such place
+pub record IsFirstLinkAgain (links : List (ℤ × ℤ)) (k : ℕ) : Type 0 where
+  pub again : IsLinkAgain links k
+  pub first : (j : ℕ) → j < k → ¬ IsLinkAgain links j

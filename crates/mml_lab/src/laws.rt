@@ -6,8 +6,8 @@ ghost use Rattle.mml_rules.specs.Network.{configuration_of};
 ghost use Rattle.mml_lab.specs.declared.who.Who.{Who};
 ghost use Rattle.mml_lab.specs.declared.fault.LabFault.TheVariants as fault;
 ghost use Rattle.mml_lab.specs.Shape.{Account, NodeSpec, RawSpec};
-ghost use Rattle.mml_lab.specs.Labs.{LabValue, IsLab, lab_fault, lab_in, lab_of, link_count};
-ghost use Rattle.mml_lab.specs.LabMeaning.{Joins, HasLink, HasNode, IsNodeOf, IsLabOfFile, id_at};
+ghost use Rattle.mml_lab.specs.Labs.{LabValue, IsLab, lab_fault, lab_in, lab_of, link_count, links_fault};
+ghost use Rattle.mml_lab.specs.LabMeaning.{Joins, HasLink, HasNode, IsNodeOf, IsLabOfFile, JoinNodes, IsLinkAgain, IsFirstLinkAgain, id_at};
 ghost use Rattle.mml_lab.specs.Rosters.{RosterValue, IsRoster, principal, owns, owners_of, name_of, student_named, with_owners, is_name, is_key, name_twice};
 ghost use Rattle.mml_lab.specs.RosterMeaning.{IsKnownAs, IsName, IsKey, IsFirstAgain, AreDistinctBelow};
 
@@ -64,6 +64,18 @@ pub fn links_join_two_nodes()
     ensures once { (raw : RawSpec) (i j : ℕ) (link again : ℤ × ℤ) → lab_fault raw ≡ None → i < j →
         slice_get raw.links i ≡ Some link → slice_get raw.links j ≡ Some again →
         ¬ Joins again.0 again.1 link }
+{}
+
+/// The fault of a link that stands twice comes exactly where there is one, and tells the first.
+pub fn link_twice_is_the_first()
+    ensures fault { (raw : RawSpec) (k : ℕ) →
+        (links_fault raw.nodes raw.links ≡ Some (fault.LinkTwice k))
+        ↔ (JoinNodes raw × IsFirstLinkAgain raw.links k) }
+    ensures none { (raw : RawSpec) →
+        (links_fault raw.nodes raw.links ≡ None)
+        ↔ (JoinNodes raw × ((k : ℕ) → ¬ IsLinkAgain raw.links k)) }
+    ensures told { (raw : RawSpec) (k : ℕ) →
+        lab_fault raw ≡ Some (fault.LinkTwice k) → IsFirstLinkAgain raw.links k }
 {}
 
 /// The identifiers of a lab are those of the file's nodes, each below the next.

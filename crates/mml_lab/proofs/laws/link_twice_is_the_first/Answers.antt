@@ -1,0 +1,5 @@
+use Rattle.mml_lab.proofs.LinkTwice.{twice-fault, twice-none, twice-told}
+use Rattle.mml_lab.proofs.laws.link_twice_is_the_first.Goals as goal
+
+pub returns : goal.returns
+returns c = record { fault = twice-fault; none = twice-none; told = twice-told }
