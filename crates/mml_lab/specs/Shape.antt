@@ -10,25 +10,29 @@ use Rattle.mml_lab.specs.declared.fault.LabFault.TheVariants as fault
 use Rattle.mml_lab.specs.declared.fault.Key.{Key}
 use Rattle.mml_lab.specs.declared.fault.Key.TheVariants as key
 
+-- a growth was refused, of which a definition says nothing
 abbrev pub is_memory : LabFault → Bool
 is_memory fault.Memory = true
 is_memory _ = false
 
 -- the value under a key that has to be there
 abbrev pub need : Key → List ℕ → Members → Result Data LabFault
-need k name ms = ok_or (get_member name ms) (fault.Missing k)
+need place name members = ok_or (get_member name members) (fault.Missing place)
 
 -- the value, if it is of the kind
 abbrev pub of_kind : {A : Type 0} → Key → (Data → Option A) → Data → Result A LabFault
-of_kind k kind d = ok_or (kind d) (fault.WrongKind k)
+of_kind place kind value = ok_or (kind value) (fault.WrongKind place)
 
+-- the value under a key that has to be there, if it is of the kind
 abbrev pub needed : {A : Type 0} → Key → List ℕ → (Data → Option A) → Members → Result A LabFault
-needed k name kind ms = need k name ms >>= λ d. of_kind k kind d
+needed place name kind members = need place name members >>= λ value. of_kind place kind value
 
+-- the value under a key that may be left out, if it is of the kind
 abbrev pub optional_of : {A : Type 0} → Key → (Data → Option A) → Option Data → Result (Option A) LabFault
-optional_of k kind None = Ok None
-optional_of k kind (Some d) = of_kind k kind d >>= λ x. Ok (Some x)
+optional_of place kind None = Ok None
+optional_of place kind (Some value) = of_kind place kind value >>= λ found. Ok (Some found)
 
+-- false where there is none
 abbrev pub or_false : Option Bool → Bool
 or_false None = false
 or_false (Some b) = b
@@ -36,7 +40,7 @@ or_false (Some b) = b
 -- each value in order, up to the first fault
 abbrev pub each : {A : Type 0} → (Data → Result A LabFault) → Items → Result (List A) LabFault
 each f no_items = Ok []
-each f (item d ds) = f d >>= λ x. each f ds >>= λ xs. Ok (x ∷ xs)
+each f (item first rest) = f first >>= λ x. each f rest >>= λ xs. Ok (x ∷ xs)
 
 -- one who takes part
 pub record Account : Type 0 where
@@ -45,15 +49,15 @@ pub record Account : Type 0 where
 
 -- a name and a key
 unfoldable pub principal_of : Key → Key → Members → Result Account LabFault
-principal_of nk kk ms = do
-  n ← needed nk (codes "name") as_str ms
-  k ← needed kk (codes "key") as_str ms
-  Ok (record { name = n; key = k })
+principal_of name_place key_place members = do
+  name ← needed name_place (codes "name") as_str members
+  secret ← needed key_place (codes "key") as_str members
+  Ok (record { name = name; key = secret })
 
 unfoldable pub student_of : Data → Result Account LabFault
-student_of d = do
-  t ← of_kind key.Student as_table d
-  principal_of key.StudentName key.StudentKey t
+student_of value = do
+  table ← of_kind key.Student as_table value
+  principal_of key.StudentName key.StudentKey table
 
 pub record NodeSpec : Type 0 where
   pub id : ℤ
@@ -62,13 +66,13 @@ pub record NodeSpec : Type 0 where
   pub m : Bool
 
 unfoldable pub node_of : Data → Result NodeSpec LabFault
-node_of d = do
-  t ← of_kind key.Node as_table d
-  i ← needed key.NodeId (codes "id") as_integer t
-  o ← needed key.NodeOwner (codes "owner") as_str t
-  p ← optional_of key.NodeP as_integer (get_member (codes "p") t)
-  m ← optional_of key.NodeM as_bool (get_member (codes "m") t)
-  Ok (record { id = i; owner = o; p = p; m = or_false m })
+node_of value = do
+  table ← of_kind key.Node as_table value
+  id ← needed key.NodeId (codes "id") as_integer table
+  owner ← needed key.NodeOwner (codes "owner") as_str table
+  p ← optional_of key.NodeP as_integer (get_member (codes "p") table)
+  m ← optional_of key.NodeM as_bool (get_member (codes "m") table)
+  Ok (record { id = id; owner = owner; p = p; m = or_false m })
 
 -- exactly two
 abbrev pub two_of : Items → Option (Data × Data)
@@ -76,16 +80,16 @@ two_of (item a (item b no_items)) = Some (a, b)
 two_of _ = None
 
 unfoldable pub link_of : Data → Result (ℤ × ℤ) LabFault
-link_of d = do
-  l ← of_kind key.Link as_array d
-  e ← ok_or (two_of l) (fault.WrongKind key.Link)
-  a ← of_kind key.Link as_integer e.0
-  b ← of_kind key.Link as_integer e.1
+link_of value = do
+  ends ← of_kind key.Link as_array value
+  pair ← ok_or (two_of ends) (fault.WrongKind key.Link)
+  a ← of_kind key.Link as_integer pair.0
+  b ← of_kind key.Link as_integer pair.1
   Ok (a, b)
 
 abbrev pub links_of : Option Data → Result (List (ℤ × ℤ)) LabFault
 links_of None = Ok []
-links_of (Some d) = of_kind key.Links as_array d >>= λ l. each link_of l
+links_of (Some value) = of_kind key.Links as_array value >>= λ links. each link_of links
 
 pub record RawSpec : Type 0 where
   pub events : ℤ
@@ -96,17 +100,17 @@ pub record RawSpec : Type 0 where
   pub links : List (ℤ × ℤ)
 
 unfoldable pub raw_of : Members → Result RawSpec LabFault
-raw_of ms = do
-  e ← needed key.Events (codes "events") as_integer ms
-  s ← needed key.Sessions (codes "sessions") as_integer ms
-  t ← needed key.Teacher (codes "teacher") as_table ms
-  p ← principal_of key.TeacherName key.TeacherKey t
-  sl ← needed key.Student (codes "student") as_array ms
-  ss ← each student_of sl
-  nl ← needed key.Node (codes "node") as_array ms
-  ns ← each node_of nl
-  ls ← links_of (get_member (codes "links") ms)
-  Ok (record { events = e; sessions = s; teacher = p; students = ss; nodes = ns; links = ls })
+raw_of members = do
+  events ← needed key.Events (codes "events") as_integer members
+  sessions ← needed key.Sessions (codes "sessions") as_integer members
+  teacher_table ← needed key.Teacher (codes "teacher") as_table members
+  teacher ← principal_of key.TeacherName key.TeacherKey teacher_table
+  student_items ← needed key.Student (codes "student") as_array members
+  students ← each student_of student_items
+  node_items ← needed key.Node (codes "node") as_array members
+  nodes ← each node_of node_items
+  links ← links_of (get_member (codes "links") members)
+  Ok (record { events = events; sessions = sessions; teacher = teacher; students = students; nodes = nodes; links = links })
 
 -- the table that bytes are, if they are TOML
 unfoldable pub table_in : List ℕ → Option Members
