@@ -28,7 +28,8 @@ pub fn answer_script<R: Read, W: Write>(
     reader: &mut R,
     writer: &mut W,
 ) -> Result<Hall, Fault>
-    ensures { Answered result lab (R.remaining reader.old) (W.contents writer.old) (W.contents writer.new) }
+    ensures { Answered result lab (R.remaining reader.old)
+        (W.contents writer.old) (W.contents writer.new) }
 {
     let hall = run_script(alloc, lab, reader, writer)?;
     Ok(hall)
