@@ -27,7 +27,7 @@ use Rattle.mml_lab.proofs.Mapped.{list_any-map}
 use Rattle.mml_lab.proofs.Positions.{position-None}
 use Rattle.mml_lab.proofs.FirstBelow.{none-is}
 use Rattle.mml_lab.proofs.RosterFacts.{student_of_name, name_of_student, one_owner}
-use Rattle.mml_lab.proofs.Ordered.{in_order-moves}
+use Rattle.mml_ids.proofs.Arranged.{in_order-moves}
 use Rattle.mml_lab.proofs.Faultless.{IsFaultless, faultless}
 use Rattle.mml_lab.proofs.Found.{IsFound, find-is}
 use Rattle.mml_lab.proofs.Sound.{positive, lab_in-lab, node_at, IsNodeAt, linked-in, registers-in, net, table, roster, owner-position}

@@ -16,7 +16,7 @@ use Rattle.mml_lab.specs.Labs.{number_of, file_ids, joins, is_linked, is_link_ag
 use Rattle.mml_lab.specs.LabMeaning.{Joins, HasNode}
 use Rattle.mml_lab.proofs.Mapped.{list_any-map}
 use Rattle.mml_lab.proofs.FirstBelow.{none-is}
-use Rattle.mml_lab.proofs.Ordered.{in_order-moves}
+use Rattle.mml_ids.proofs.Arranged.{in_order-moves}
 use Rattle.mml_lab.proofs.Faultless.{IsFaultless}
 use Rattle.mml_lab.proofs.Sound.{positive, is_linked_turned, linked-in, net, table}
 use Rattle.mml_lab.proofs.LabFacts.{joins-means, ends-are, ends-differ}

@@ -26,7 +26,8 @@ use Rattle.mml_lab.proofs.Mapped.{list_any-map}
 use Rattle.mml_lab.proofs.Positions.{position-None}
 use Rattle.mml_lab.proofs.RosterFacts.{is_roster}
 use Rattle.mml_lab.proofs.Linking.{has-neighbours_of}
-use Rattle.mml_lab.proofs.Ordered.{in_order-table, in_order-moves}
+use Rattle.mml_ids.proofs.Arranged.{in_order-moves}
+use Rattle.mml_lab.proofs.Ordered.{in_order-table}
 use Rattle.mml_lab.proofs.Faultless.{IsFaultless, faultless}
 use Rattle.mml_lab.proofs.Found.{IsFound, find-is, find-some, list_any-found, list_any-same}
 
