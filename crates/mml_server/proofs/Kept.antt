@@ -1,5 +1,5 @@
 -- What was told of a script stays true where what was written is kept.
-use Rattle.std.proofs.Common.{◌≡◌, ℕ, List, [], ◌++◌, Option, None, Some, IfSome, Result, Ok, Err, append-nil, subst, ◌∙◌}
+use Rattle.std.proofs.Common.{◌≡◌, ℕ, List, [], ◌++◌, Option, None, Some, IfSome, Result, Ok, Err, ap, inl, inr, ◌∙◌, ◌⊎◌}
 use Rattle.std.specs.Io.KnownBytes.{Appends, Keeps}
 use Rattle.mml_lab.specs.Labs.{LabValue}
 use Rattle.mml_hall.specs.declared.script.ScriptFault.{ScriptFault}
@@ -7,6 +7,7 @@ use Rattle.mml_hall.specs.declared.script.ScriptFault.TheVariants as script
 use Rattle.mml_hall.specs.Halls.{HallValue}
 use Rattle.mml_hall.specs.Scripts.{Finished, Stopped}
 use Rattle.mml_server.specs.declared.fault.Fault.{Fault}
+use Rattle.mml_server.specs.declared.fault.Fault.TheVariants as fault
 use Rattle.mml_server.specs.Answered.{Answered}
 
 appends_kept : (a b c : Option (List ℕ)) (bs : List ℕ) → Appends a b bs → Keeps b c → Appends a c bs
@@ -32,3 +33,9 @@ answered_kept (Ok hall) lab None a b c h kept = tt
 answered_kept (Ok hall) lab (Some bytes) a b c h kept = finished_kept hall lab bytes a b c h kept
 answered_kept (Err fault) lab None a b c h kept = (h.0, h.1, tt)
 answered_kept (Err fault) lab (Some bytes) a b c h kept = (h.0, h.1, stopped_kept h.0 lab bytes a b c h.2 kept)
+
+-- a flush that failed is told as a failed write, or as want of memory
+pub flush_told : {B : Type 0} (r : Result HallValue Fault) (f : Fault) → r ≡ Err f → (f ≡ fault.Write) ⊎ (f ≡ fault.Memory)
+    → (r ≡ Err fault.Write) ⊎ (r ≡ Err fault.Memory) ⊎ B
+flush_told r f e (inl write) = inl (e ∙ ap Err write)
+flush_told r f e (inr memory) = inr (inl (e ∙ ap Err memory))

@@ -1,6 +1,8 @@
 //! What the subcommands do, over readers and writers.
-ghost use Rattle.std.specs.Prelude.{◌≡◌, ◌⊎◌, [], Err};
+ghost use Rattle.std.specs.Prelude.{◌≡◌, ◌⊎◌, [], Err, Result};
 ghost use Rattle.std.specs.Io.Buffered.{writer_buffer, writer_contents};
+ghost use Rattle.mml_hall.specs.Halls.{HallValue};
+ghost use Rattle.mml_server.specs.declared.fault.Fault.{Fault};
 ghost use Rattle.mml_server.specs.Answered.{Answered};
 
 use crate::fault::{Fault, memory_or};
@@ -36,16 +38,17 @@ pub fn answer_script<R: Read, W: Write>(
 }
 
 /// The same through a buffer, which is flushed at the end, be that good or a fault. A flush that
-/// fails is told in the place of what would be told after it, since what it held was written before.
+/// fails is told in the place of that end, since what the buffer held was answered before it.
 pub fn answer_through_buffer<R: Read, W: Write + Drop>(
     alloc: Global,
     lab: Lab,
     reader: &mut R,
     writer: &mut BufWriter<W>,
 ) -> Result<Hall, Fault>
-    ensures { (result ≡ Err Fault.Write) ⊎ (result ≡ Err Fault.Memory)
-        ⊎ ((writer_buffer writer.new ≡ []) × Answered result lab (R.remaining reader.old)
-        (writer_contents W.contents writer.old) (writer_contents W.contents writer.new)) }
+    ensures { (answered : Result HallValue Fault) × Answered answered lab (R.remaining reader.old)
+        (writer_contents W.contents writer.old) (writer_contents W.contents writer.new)
+        × ((result ≡ Err Fault.Write) ⊎ (result ≡ Err Fault.Memory)
+        ⊎ ((result ≡ answered) × (writer_buffer writer.new ≡ []))) }
 {
     let answered = answer_script(alloc, lab, reader, writer);
     match writer.flush() {
