@@ -1,1 +1,5 @@
 pub mod World
+pub mod Events
+pub mod Runs
+pub mod Meaning
+pub mod inside

@@ -2,9 +2,15 @@
 #![tactic(auto)]
 
 mod board;
-mod network;
+mod done;
+mod event;
+mod granted;
+pub mod laws;
+mod monitor;
 
 pub use board::Board;
+pub use done::Done;
+pub use event::{Event, same_events};
 
 #[cfg(test)]
 mod tests;

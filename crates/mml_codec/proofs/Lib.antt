@@ -1,4 +1,6 @@
-pub mod ValueIn
-pub mod Texts
-pub mod OneLine
-pub mod Again
+pub mod LinesLemmas
+pub mod CompactTextLemmas
+pub mod OneLineLemmas
+pub mod FieldsLemmas
+pub mod CanonicalLemmas
+pub mod SeparatedLemmas

@@ -1,28 +1,43 @@
 -- Who a connection is known as, and what it may ask.
-use Rattle.std.specs.Prelude.{Option, None, Some}
+use Rattle.std.specs.Prelude.{ℕ, List, Option, None, Some, IfSome}
 use Rattle.mml_lab.specs.declared.who.Who.{Who}
-use Rattle.mml_lab.specs.Rosters.{RosterValue, principal}
-use Rattle.mml_policy.specs.declared.command.Command.{Command}
+use Rattle.mml_lab.specs.Rosters.{RosterValue, principal, IsPrincipal}
+use Rattle.mml_policy.specs.declared.denial.Denial.{Denial}
 use Rattle.mml_policy.specs.declared.denial.Denial.TheVariants as denial
+use Rattle.mml_codec.specs.declared.request.LineFault.{LineFault}
+use Rattle.mml_codec.specs.declared.request.LineFault.TheVariants as fault
 use Rattle.mml_codec.specs.declared.request.Request.{Request}
 use Rattle.mml_codec.specs.declared.request.Request.TheVariants as requests
-use Rattle.mml_codec.specs.declared.reply.Reply.{Reply}
+use Rattle.mml_codec.specs.declared.reply.Refused.{Refused}
+use Rattle.mml_codec.specs.declared.reply.Refused.TheVariants as refused
 use Rattle.mml_codec.specs.declared.reply.Reply.TheVariants as replies
+use Rattle.mml_codec.specs.declared.greeting.Greeting.{Greeting}
+use Rattle.mml_codec.specs.declared.greeting.Greeting.TheVariants.{Answered, LeftToJudge}
+use Rattle.mml_codec.specs.Replies.{IsAbout}
 
--- a reply, and who the connection is known as from then on; or a command of the one it is known as, which is left to judge
-pub data Greeting : Type 0 where
-  answered : Reply → Option Who → Greeting
-  left_to_judge : Who → Command → Greeting
+-- how a line that is no request is refused
+abbrev pub refusal_of : LineFault → Refused
+refusal_of fault.Malformed = refused.Malformed
+refusal_of fault.Memory = refused.Memory
+
+-- a denial, after which the connection is known as before
+abbrev pub denied : Denial → Option Who → Greeting
+denied d known = Answered (replies.Deny d) known
 
 -- the name and key of nobody are denied
 abbrev pub admitted : Option Who → Greeting
-admitted None = answered (replies.Deny denial.Unknown) None
-admitted (Some who) = answered (replies.Hello who) (Some who)
+admitted None = denied denial.Unknown None
+admitted (Some who) = Answered (replies.Hello who) (Some who)
 
 -- what comes of a request on a connection that is known as someone, or as no one yet
 abbrev pub greeting : RosterValue → Option Who → Request → Greeting
 greeting roster None (requests.Hello name key) = admitted (principal roster name key)
-greeting roster (Some who) (requests.Hello name key) = answered (replies.Deny denial.Greeted) (Some who)
-greeting roster known requests.Bye = answered replies.Bye None
-greeting roster None (requests.Do c) = answered (replies.Deny denial.NotGreeted) None
-greeting roster (Some who) (requests.Do c) = left_to_judge who c
+greeting roster (Some who) (requests.Hello name key) = denied denial.Greeted (Some who)
+greeting roster known requests.Bye = Answered replies.Bye None
+greeting roster None (requests.Do c) = denied denial.NotGreeted None
+greeting roster (Some who) (requests.Do c) = LeftToJudge who c
+
+-- who is named, and who is known from then on, takes part in the lab
+abbrev pub TakesPart : RosterValue → Greeting → Type 0
+TakesPart roster (Answered r known) = ((ids : List ℕ) → IsAbout ids roster r) × IfSome known (IsPrincipal roster)
+TakesPart roster (LeftToJudge who c) = IsPrincipal roster who

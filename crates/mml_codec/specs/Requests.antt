@@ -1,7 +1,9 @@
 -- What a JSON value asks.
-use Rattle.std.specs.Prelude.{codes, List, ℕ, Option, Some, None, option_and_then, bytes_eq, if◌then◌else◌}
-use Rattle.serde_json.specs.Data.{Data}
-use Rattle.serde_json.specs.Find.{get, as_str, as_number, as_u64}
+use Rattle.std.specs.Prelude.{codes, List, ℕ, Bool, Option, Some, None, option_and_then, option_map, bytes_eq, if◌then◌else◌}
+use Rattle.serde_json.specs.Data.{Data, null, boolean, number, string, array, object}
+use Rattle.serde_json.specs.Find.{get, as_str, as_bool, as_number, as_u64}
+use Rattle.mml_policy.specs.declared.command.Asked.{Asked}
+use Rattle.mml_policy.specs.declared.command.Asked.TheVariants as asked
 use Rattle.mml_policy.specs.declared.command.Command.{Command}
 use Rattle.mml_policy.specs.declared.command.Command.TheVariants as command
 use Rattle.mml_codec.specs.declared.request.Request.{Request}
@@ -20,6 +22,33 @@ text_at key d = get key d >>= as_str
 abbrev pub number_at : List ℕ → Data → Option ℕ
 number_at key d = get key d >>= λ v. as_number v >>= as_u64
 
+-- the truth value that a key names
+abbrev pub truth_at : List ℕ → Data → Option Bool
+truth_at key d = get key d >>= as_bool
+
+-- a number, or null
+abbrev pub as_register : Data → Option (Option ℕ)
+as_register null = Some None
+as_register (boolean b) = None
+as_register (number n) = option_map Some (as_u64 n)
+as_register (string s) = None
+as_register (array ds) = None
+as_register (object ms) = None
+
+-- the number or null that a key names: a key that isn't there names no null
+abbrev pub register_at : List ℕ → Data → Option (Option ℕ)
+register_at key d = get key d >>= as_register
+
+-- a rule by its word, and for a marriage the partner
+unfoldable pub asked_at : Data → Option Asked
+asked_at d = do
+  w ← text_at (codes "rule") d
+  if bytes_eq w (codes "update") then Some asked.Update
+      else (if bytes_eq w (codes "marriage") then option_map asked.Marriage (number_at (codes "with") d)
+      else (if bytes_eq w (codes "seduction") then Some asked.Seduction
+      else (if bytes_eq w (codes "abandonment") then Some asked.Abandonment
+      else None)))
+
 unfoldable pub hello_of : Data → Option Request
 hello_of d = do
   name ← text_at (codes "name") d
@@ -32,12 +61,40 @@ node_of c d = do
   node ← number_at (codes "node") d
   Some (requests.Do (c node))
 
+-- a command that names two nodes
+abbrev pub ends_of : (ℕ → ℕ → Command) → Data → Option Request
+ends_of c d = do
+  a ← number_at (codes "a") d
+  b ← number_at (codes "b") d
+  Some (requests.Do (c a b))
+
+unfoldable pub move_of : Data → Option Request
+move_of d = do
+  node ← number_at (codes "node") d
+  at ← number_at (codes "at") d
+  rule ← asked_at d
+  Some (requests.Do (command.Move node rule at))
+
+unfoldable pub fault_of : Data → Option Request
+fault_of d = do
+  node ← number_at (codes "node") d
+  p ← register_at (codes "p") d
+  m ← truth_at (codes "m") d
+  Some (requests.Do (command.Fault node p m))
+
 -- what is asked by a word, with the keys that it names; other keys don't count
 unfoldable pub by_word : List ℕ → Data → Option Request
 by_word w d = if bytes_eq w (codes "hello") then hello_of d
     else (if bytes_eq w (codes "bye") then Some requests.Bye
     else (if bytes_eq w (codes "see") then node_of command.See d
-    else None))
+    else (if bytes_eq w (codes "look") then node_of command.Look d
+    else (if bytes_eq w (codes "move") then move_of d
+    else (if bytes_eq w (codes "close") then Some (requests.Do command.Close)
+    else (if bytes_eq w (codes "fault") then fault_of d
+    else (if bytes_eq w (codes "link") then ends_of command.Link d
+    else (if bytes_eq w (codes "cut") then ends_of command.Cut d
+    else (if bytes_eq w (codes "release") then node_of command.Release d
+    else None)))))))))
 
 -- the request that a value is, if it is one
 unfoldable pub request : Data → Option Request

@@ -2,14 +2,23 @@
 ghost use Rattle.std.specs.Prelude.{◌≡◌, ◌≢◌, List, ℕ, All, Ok};
 ghost use Rattle.mml_codec.specs.declared.request.Request.{Request};
 ghost use Rattle.mml_lab.specs.Rosters.{RosterValue};
-ghost use Rattle.mml_codec.specs.Canonical.{canonical};
+ghost use Rattle.mml_codec.specs.Canonical.{canonical, IsWritable};
 ghost use Rattle.mml_codec.specs.Lines.{request_in};
-ghost use Rattle.mml_codec.specs.Writable.{IsWritable};
 ghost use Rattle.mml_codec.specs.Replies.{reply_line};
 ghost use Rattle.mml_codec.specs.declared.reply.Refused.TheVariants as refused;
+ghost use Rattle.mml_codec.specs.declared.reply.Reply.TheVariants as replies;
 ghost use Rattle.mml_codec.specs.declared.reply.Reply.TheVariants.{Refuse};
+ghost use Rattle.mml_codec.specs.declared.TheConstants.{MAX_REQUEST};
+ghost use Rattle.mml_codec.specs.declared.reply.TheConstants.{REPLY_ROOM};
+ghost use Rattle.mml_codec.specs.Rulings.{reply_of_done};
+ghost use Rattle.mml_board.specs.declared.event.Event.TheVariants as event;
+ghost use Rattle.mml_board.specs.World.{World};
+ghost use Rattle.mml_board.specs.Events.{done_by, chosen_count, chosen_nodes};
+ghost use Rattle.mml_rules.specs.declared.registers.Regs.{Regs};
+ghost use Rattle.mml_rules.specs.declared.rule.Rule.{Rule};
+ghost use Rattle.mml_rules.specs.Rules.{kind_of};
 
-use crate::reply::{MALFORMED_LINE, MEMORY_LINE};
+use crate::reply::{FULL_LINE, MALFORMED_LINE, MEMORY_LINE};
 
 /// A request is read again from its text.
 pub fn a_text_asks_its_request()
@@ -25,6 +34,37 @@ pub fn a_text_is_one_line()
 pub fn refusals_have_fixed_lines()
     ensures malformed { (ids : List ℕ) (roster : RosterValue) →
         reply_line ids roster (Refuse refused.Malformed) ≡ MALFORMED_LINE.now }
+    ensures full { (ids : List ℕ) (roster : RosterValue) →
+        reply_line ids roster (Refuse refused.Full) ≡ FULL_LINE.now }
     ensures memory { (ids : List ℕ) (roster : RosterValue) →
         reply_line ids roster (Refuse refused.Memory) ≡ MEMORY_LINE.now }
+{}
+
+/// The limits, as numbers: the most bytes of a request line, and the room in which the line of each
+/// reply but a look is written without taking memory.
+pub fn limits()
+    ensures request { MAX_REQUEST ≡ 4096 }
+    ensures room { REPLY_ROOM ≡ 2048 }
+{}
+
+/// The reply to an event names the number and the place that it is given, and the nodes of the event
+/// as they were asked for.
+pub fn a_grant_is_told()
+    ensures chosen { (at place : ℕ) (w : World) (s i : ℕ) (rule : Rule) →
+        reply_of_done at place (done_by w (event.Grant s i rule))
+        ≡ replies.Move at place i (kind_of rule) }
+    ensures fault { (at place : ℕ) (w : World) (i : ℕ) (registers : Regs) →
+        reply_of_done at place (done_by w (event.Fault i registers))
+        ≡ replies.Fault at place i (chosen_count w) }
+    ensures link { (at place : ℕ) (w : World) (a b : ℕ) →
+        reply_of_done at place (done_by w (event.Link a b))
+        ≡ replies.Link at place a b (chosen_count w) }
+    ensures cut { (at place : ℕ) (w : World) (a b : ℕ) →
+        reply_of_done at place (done_by w (event.Cut a b))
+        ≡ replies.Cut at place a b (chosen_count w) }
+    ensures release { (at place : ℕ) (w : World) (i : ℕ) →
+        reply_of_done at place (done_by w (event.Release i)) ≡ replies.Release at place i }
+    ensures close { (at place : ℕ) (w : World) →
+        reply_of_done at place (done_by w event.Close)
+        ≡ replies.Close at place (chosen_nodes w) }
 {}

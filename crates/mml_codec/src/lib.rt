@@ -1,20 +1,23 @@
 //! Requests and replies as lines of JSON.
 #![tactic(auto)]
 
+mod greeting;
 pub mod laws;
+mod object;
 mod reading;
 mod reply;
 mod replying;
 mod request;
+mod ruling;
 mod writing;
 
+pub use greeting::{Greeting, greet};
 pub use reading::read_request;
-pub use reply::{MALFORMED_LINE, MEMORY_LINE, REPLY_ROOM, Refused, Reply};
+pub use reply::{FULL_LINE, MALFORMED_LINE, MEMORY_LINE, REPLY_ROOM, Refused, Reply};
 pub use replying::write_reply;
 pub use request::{LineFault, Request};
+pub use ruling::{reply_of, reply_of_done};
 pub use writing::write_request;
 
-#[cfg(test)]
-mod reply_tests;
-#[cfg(test)]
-mod tests;
+/// The most bytes of a request line, without byte 10.
+pub const MAX_REQUEST: usize = 4096;

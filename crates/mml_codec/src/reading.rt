@@ -1,12 +1,12 @@
 ghost use Rattle.std.specs.Prelude.{◌≡◌, ok_or};
 ghost use Rattle.mml_ids.specs.Gives.{Gives};
 ghost use Rattle.serde_json.specs.View.{view};
-ghost use Rattle.mml_codec.specs.Requests.{number_at, text_at, hello_of, by_word, request};
+ghost use Rattle.mml_codec.specs.Requests.{number_at, text_at, truth_at, register_at, asked_at, hello_of, move_of, fault_of, by_word, request};
 ghost use Rattle.mml_codec.specs.Lines.{is_memory, request_in};
 
 use crate::request::{LineFault, Request};
 use mml_ids::Word;
-use mml_policy::Command;
+use mml_policy::{Asked, Command};
 use serde_json::Value;
 use std::alloc::Global;
 
@@ -48,6 +48,27 @@ fn by_word(alloc: Global, word: &str, value: &Value) -> Result<Request, LineFaul
             let node = number_at(value, "node")?;
             Ok(Request::Do(Command::See { node }))
         }
+        "look" => {
+            let node = number_at(value, "node")?;
+            Ok(Request::Do(Command::Look { node }))
+        }
+        "move" => move_of(value),
+        "close" => Ok(Request::Do(Command::Close)),
+        "fault" => fault_of(value),
+        "link" => {
+            let a = number_at(value, "a")?;
+            let b = number_at(value, "b")?;
+            Ok(Request::Do(Command::Link { a, b }))
+        }
+        "cut" => {
+            let a = number_at(value, "a")?;
+            let b = number_at(value, "b")?;
+            Ok(Request::Do(Command::Cut { a, b }))
+        }
+        "release" => {
+            let node = number_at(value, "node")?;
+            Ok(Request::Do(Command::Release { node }))
+        }
         _ => Err(LineFault::Malformed),
     }
 }
@@ -60,6 +81,42 @@ fn hello_of(alloc: Global, value: &Value) -> Result<Request, LineFault>
     let name = word_at(alloc, value, "name")?;
     let key = word_at(alloc, value, "key")?;
     Ok(Request::Hello { name, key })
+}
+
+#[tactic(auto, unfolding(crate::specs::Requests::move_of))]
+fn move_of(value: &Value) -> Result<Request, LineFault>
+    ensures { Gives is_memory (λ r. r) result
+        (ok_or (move_of (view value.now)) LineFault.Malformed) }
+{
+    let node = number_at(value, "node")?;
+    let at = number_at(value, "at")?;
+    let rule = asked_at(value)?;
+    Ok(Request::Do(Command::Move { node, rule, at }))
+}
+
+#[tactic(auto, unfolding(crate::specs::Requests::asked_at))]
+fn asked_at(value: &Value) -> Result<Asked, LineFault>
+    ensures { Gives is_memory (λ a. a) result
+        (ok_or (asked_at (view value.now)) LineFault.Malformed) }
+{
+    match text_at(value, "rule")? {
+        "update" => Ok(Asked::Update),
+        "marriage" => Ok(Asked::Marriage(number_at(value, "with")?)),
+        "seduction" => Ok(Asked::Seduction),
+        "abandonment" => Ok(Asked::Abandonment),
+        _ => Err(LineFault::Malformed),
+    }
+}
+
+#[tactic(auto, unfolding(crate::specs::Requests::fault_of))]
+fn fault_of(value: &Value) -> Result<Request, LineFault>
+    ensures { Gives is_memory (λ r. r) result
+        (ok_or (fault_of (view value.now)) LineFault.Malformed) }
+{
+    let node = number_at(value, "node")?;
+    let p = register_at(value, "p")?;
+    let m = truth_at(value, "m")?;
+    Ok(Request::Do(Command::Fault { node, p, m }))
 }
 
 fn word_at(alloc: Global, value: &Value, key: &str) -> Result<Word, LineFault>
@@ -88,4 +145,32 @@ fn number_at(value: &Value, key: &str) -> Result<u64, LineFault>
         .get(key)
         .and_then(Value::as_u64)
         .ok_or(LineFault::Malformed)
+}
+
+fn truth_at(value: &Value, key: &str) -> Result<bool, LineFault>
+    ensures { Gives is_memory (λ b. b) result
+        (ok_or (truth_at key.now (view value.now)) LineFault.Malformed) }
+{
+    value
+        .get(key)
+        .and_then(Value::as_bool)
+        .ok_or(LineFault::Malformed)
+}
+
+fn register_at(value: &Value, key: &str) -> Result<Option<u64>, LineFault>
+    ensures { Gives is_memory (λ p. p) result
+        (ok_or (register_at key.now (view value.now)) LineFault.Malformed) }
+{
+    match value.get(key) {
+        Some(found) => {
+            if found.is_null() {
+                return Ok(None);
+            }
+            match found.as_u64() {
+                Some(number) => Ok(Some(number)),
+                None => Err(LineFault::Malformed),
+            }
+        }
+        None => Err(LineFault::Malformed),
+    }
 }

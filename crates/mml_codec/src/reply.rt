@@ -1,5 +1,7 @@
+use mml_ids::{NodeSet, Rank};
 use mml_lab::Who;
-use mml_policy::{Denial, See};
+use mml_policy::{Denial, Look, See};
+use mml_rules::Kind;
 
 /// The capacity, in bytes, with which a reply line is written without taking memory.
 pub const REPLY_ROOM: usize = 2048;
@@ -7,14 +9,19 @@ pub const REPLY_ROOM: usize = 2048;
 /// The reply line to a line that is no request, with its byte 10.
 pub const MALFORMED_LINE: &str = "{\"refuse\":\"malformed\"}\n";
 
+/// The reply line to a grant where no event may follow any longer, with its byte 10.
+pub const FULL_LINE: &str = "{\"refuse\":\"full\"}\n";
+
 /// The reply line where a growth was refused, with its byte 10.
 pub const MEMORY_LINE: &str = "{\"refuse\":\"memory\"}\n";
 
-/// Why a request is not judged.
+/// Why a request is refused.
 #[derive(Clone, Copy, Debug, PartialEq, Eq)]
 pub enum Refused {
     /// The line is no request.
     Malformed,
+    /// There were as many events as there may be.
+    Full,
     /// A growth was refused.
     Memory,
 }
@@ -28,8 +35,53 @@ pub enum Reply {
     Bye,
     /// What a node shows.
     See(See),
+    /// What a node shows to its owners and the teacher.
+    Look(Look),
+    /// A move is chosen for the node. As in all that follow, the number is that of the configuration
+    /// after the event, and the place is the event's.
+    Move {
+        at: u64,
+        place: u64,
+        node: Rank,
+        kind: Kind,
+    },
+    /// The chosen moves of these nodes were applied.
+    Close {
+        at: u64,
+        place: u64,
+        moved: NodeSet,
+    },
+    /// The registers of the node are set; so many chosen moves were dropped.
+    Fault {
+        at: u64,
+        place: u64,
+        node: Rank,
+        dropped: u16,
+    },
+    /// The two nodes are linked; so many chosen moves were dropped.
+    Link {
+        at: u64,
+        place: u64,
+        a: Rank,
+        b: Rank,
+        dropped: u16,
+    },
+    /// The two nodes are linked no longer; so many chosen moves were dropped.
+    Cut {
+        at: u64,
+        place: u64,
+        a: Rank,
+        b: Rank,
+        dropped: u16,
+    },
+    /// The node has no chosen move any longer.
+    Release {
+        at: u64,
+        place: u64,
+        node: Rank,
+    },
     /// A clause of the request doesn't hold.
     Deny(Denial),
-    /// The request was not judged.
+    /// The request was refused.
     Refuse(Refused),
 }

@@ -1,16 +1,18 @@
-ghost use Rattle.std.specs.Prelude.{◌≡◌, ◌≤◌, ◌<◌, ◌+◌, ◌++◌, [], length, OnOk, OnErr, IsOk, IfSome, vec_capacity};
+ghost use Rattle.std.specs.Prelude.{◌≡◌, ◌≤◌, ◌<◌, ◌+◌, ◌++◌, [], true, All, codes, length, map, OnOk, OnErr, IsOk, IfSome, vec_capacity};
 ghost use Rattle.mml_ids.specs.Pieces.{piece_text, piece_room};
 ghost use Rattle.mml_lab.specs.Rosters.{name_of, IsPrincipal};
-ghost use Rattle.mml_codec.specs.Replies.{truth_text, pointer_text, hello_text, see_text, deny_text, refuse_text, text, reply_line, IsAbout, IsSeen};
+ghost use Rattle.mml_codec.specs.Replies.{truth_text, pointer_text, kind_text, kind_or_null, node_text, members, separated, hello_text, see_text, near_text, look_head, look_tail, look_text, move_text, close_text, fault_text, ends_text, release_text, current_number, number_first, deny_text, refuse_text, text, reply_line, is_short, IsAbout, IsSeen, IsNear, IsLookedAt};
+ghost use Rattle.mml_codec.specs.inside.Puts.{Puts};
 
 use crate::reply::{REPLY_ROOM, Refused, Reply};
-use mml_ids::{IdTable, Memory, Piece, Rank, put};
+use mml_ids::{IdTable, Memory, NodeSet, Piece, Rank, put};
 use mml_lab::{Roster, Who};
-use mml_policy::{Denial, See};
+use mml_policy::{Denial, Look, See};
+use mml_rules::{Kind, Regs};
 use std::alloc::Global;
 
-// Enough for the text of each reply.
-const TEXT_ROOM: usize = 1024;
+// Enough for the text of each reply but a look.
+const TEXT_ROOM: usize = 2000;
 
 /// Puts the line of a reply, with its byte 10, in the place of what the vector holds. The vector
 /// grows by its own allocator.
@@ -25,7 +27,7 @@ pub fn write_reply(
     ensures line { OnOk result (out.new.items ≡ reply_line ids.now roster.now reply.now) }
     ensures memory { OnErr result (out.new.items ≡ []) }
     ensures capacity { vec_capacity out.old ≤ vec_capacity out.new }
-    ensures room { REPLY_ROOM ≤ vec_capacity out.old → IsOk result }
+    ensures room { REPLY_ROOM ≤ vec_capacity out.old → is_short reply.now ≡ true → IsOk result }
 {
     out.clear();
     let written = put_line(ids, roster, reply, out);
@@ -40,7 +42,8 @@ fn put_line(ids: &IdTable, roster: &Roster, reply: &Reply, out: &mut Vec<u8>) ->
     ensures line { OnOk result
         (out.new.items ≡ out.old.items ++ reply_line ids.now roster.now reply.now) }
     ensures capacity { vec_capacity out.old ≤ vec_capacity out.new }
-    ensures room { OnErr result (vec_capacity out.old < length out.old.items + REPLY_ROOM) }
+    ensures room { is_short reply.now ≡ true →
+        OnErr result (vec_capacity out.old < length out.old.items + REPLY_ROOM) }
 {
     put_text(ids, roster, reply, out)?;
     put(out, &[Piece::Text("\n")])
@@ -51,26 +54,53 @@ fn put_text(ids: &IdTable, roster: &Roster, reply: &Reply, out: &mut Vec<u8>) ->
     ensures text { OnOk result
         (out.new.items ≡ out.old.items ++ text ids.now roster.now reply.now) }
     ensures capacity { vec_capacity out.old ≤ vec_capacity out.new }
-    ensures grows { OnOk result (length out.new.items ≤ length out.old.items + TEXT_ROOM) }
-    ensures room { OnErr result (vec_capacity out.old < length out.old.items + TEXT_ROOM) }
+    ensures grows { is_short reply.now ≡ true →
+        OnOk result (length out.new.items ≤ length out.old.items + TEXT_ROOM) }
+    ensures room { is_short reply.now ≡ true →
+        OnErr result (vec_capacity out.old < length out.old.items + TEXT_ROOM) }
 {
     match reply {
         Reply::Hello(who) => put_hello(roster, *who, out),
-        Reply::Bye => put(out, &[Piece::Text("{\"ok\":\"bye\"}")]),
+        Reply::Bye => put_bye(out),
         Reply::See(see) => put_see(ids, see, out),
+        Reply::Look(look) => put_look(ids, look, out),
+        Reply::Move {
+            at,
+            place,
+            node,
+            kind,
+        } => put_move(ids, *at, *place, *node, *kind, out),
+        Reply::Close { at, place, moved } => put_close(ids, *at, *place, *moved, out),
+        Reply::Fault {
+            at,
+            place,
+            node,
+            dropped,
+        } => put_fault(ids, *at, *place, *node, *dropped, out),
+        Reply::Link {
+            at,
+            place,
+            a,
+            b,
+            dropped,
+        } => put_ends(ids, "link", *at, *place, *a, *b, *dropped, out),
+        Reply::Cut {
+            at,
+            place,
+            a,
+            b,
+            dropped,
+        } => put_ends(ids, "cut", *at, *place, *a, *b, *dropped, out),
+        Reply::Release { at, place, node } => put_release(ids, *at, *place, *node, out),
         Reply::Deny(denial) => put_denial(*denial, out),
-        Reply::Refuse(refused) => put(out, &[Piece::Text(refusal(*refused))]),
+        Reply::Refuse(refused) => put_refusal(*refused, out),
     }
 }
 
 #[tactic(auto, unfolding(crate::specs::Replies::hello_text))]
 fn put_hello(roster: &Roster, who: Who, out: &mut Vec<u8>) -> Result<(), Memory>
     requires { IsPrincipal roster.now who }
-    ensures text { OnOk result
-        (out.new.items ≡ out.old.items ++ hello_text (name_of roster.now who)) }
-    ensures capacity { vec_capacity out.old ≤ vec_capacity out.new }
-    ensures grows { OnOk result (length out.new.items ≤ length out.old.items + TEXT_ROOM) }
-    ensures room { OnErr result (vec_capacity out.old < length out.old.items + TEXT_ROOM) }
+    ensures { Puts (hello_text (name_of roster.now who)) TEXT_ROOM out.old out.new result }
 {
     put(
         out,
@@ -85,10 +115,7 @@ fn put_hello(roster: &Roster, who: Who, out: &mut Vec<u8>) -> Result<(), Memory>
 #[tactic(auto, unfolding(crate::specs::Replies::see_text))]
 fn put_see(ids: &IdTable, see: &See, out: &mut Vec<u8>) -> Result<(), Memory>
     requires { IsSeen ids.now see.now }
-    ensures text { OnOk result (out.new.items ≡ out.old.items ++ see_text ids.now see.now) }
-    ensures capacity { vec_capacity out.old ≤ vec_capacity out.new }
-    ensures grows { OnOk result (length out.new.items ≤ length out.old.items + TEXT_ROOM) }
-    ensures room { OnErr result (vec_capacity out.old < length out.old.items + TEXT_ROOM) }
+    ensures { Puts (see_text ids.now see.now) TEXT_ROOM out.old out.new result }
 {
     put(
         out,
@@ -106,17 +133,263 @@ fn put_see(ids: &IdTable, see: &See, out: &mut Vec<u8>) -> Result<(), Memory>
     )
 }
 
-#[tactic(auto, unfolding(crate::specs::Replies::deny_text))]
-fn put_denial(denial: Denial, out: &mut Vec<u8>) -> Result<(), Memory>
-    ensures text { OnOk result (out.new.items ≡ out.old.items ++ deny_text denial) }
+fn put_near(ids: &IdTable, near: &[(Rank, Regs)], out: &mut Vec<u8>) -> Result<(), Memory>
+    requires { All (IsNear ids.now) near.now }
+    ensures text { OnOk result
+        (out.new.items ≡ out.old.items ++ separated (map (near_text ids.now) near.now)) }
     ensures capacity { vec_capacity out.old ≤ vec_capacity out.new }
-    ensures grows { OnOk result (length out.new.items ≤ length out.old.items + TEXT_ROOM) }
-    ensures room { OnErr result (vec_capacity out.old < length out.old.items + TEXT_ROOM) }
+{
+    let mut comma = "";
+    for one in near {
+        put(out, &[Piece::Text(comma)])?;
+        put_one_near(ids, one, out)?;
+        comma = ",";
+    }
+    Ok(())
+}
+
+#[tactic(auto, unfolding(crate::specs::Replies::near_text))]
+fn put_one_near(ids: &IdTable, near: &(Rank, Regs), out: &mut Vec<u8>) -> Result<(), Memory>
+    requires { IsNear ids.now near.now }
+    ensures { Puts (near_text ids.now near.now) TEXT_ROOM out.old out.new result }
+{
+    let (node, regs) = near;
+    put(
+        out,
+        &[
+            Piece::Text("{\"m\":"),
+            Piece::Text(truth(regs.m)),
+            Piece::Text(",\"node\":"),
+            Piece::Id(ids.node_id(*node)),
+            Piece::Text(",\"p\":"),
+            pointer(ids, regs.p),
+            Piece::Text("}"),
+        ],
+    )
+}
+
+#[tactic(auto, unfolding(crate::specs::Replies::look_text))]
+fn put_look(ids: &IdTable, look: &Look, out: &mut Vec<u8>) -> Result<(), Memory>
+    requires { IsLookedAt ids.now look.now }
+    ensures text { OnOk result (out.new.items ≡ out.old.items ++ look_text ids.now look.now) }
+    ensures capacity { vec_capacity out.old ≤ vec_capacity out.new }
+{
+    put_look_head(look, out)?;
+    put_near(ids, look.near.as_slice(), out)?;
+    put_look_tail(ids, look, out)
+}
+
+#[tactic(auto, unfolding(crate::specs::Replies::look_head))]
+fn put_look_head(look: &Look, out: &mut Vec<u8>) -> Result<(), Memory>
+    ensures text { OnOk result (out.new.items ≡ out.old.items ++ look_head look.now) }
+    ensures capacity { vec_capacity out.old ≤ vec_capacity out.new }
 {
     put(
         out,
         &[
-            Piece::Text("{\"clause\":"),
+            Piece::Text("{\"at\":"),
+            Piece::Number(look.at),
+            Piece::Text(",\"chosen\":"),
+            Piece::Text(kind_or_null(look.chosen)),
+            Piece::Text(",\"m\":"),
+            Piece::Text(truth(look.regs.m)),
+            Piece::Text(",\"near\":["),
+        ],
+    )
+}
+
+#[tactic(auto, unfolding(crate::specs::Replies::look_tail))]
+fn put_look_tail(ids: &IdTable, look: &Look, out: &mut Vec<u8>) -> Result<(), Memory>
+    requires { IsLookedAt ids.now look.now }
+    ensures text { OnOk result (out.new.items ≡ out.old.items ++ look_tail ids.now look.now) }
+    ensures capacity { vec_capacity out.old ≤ vec_capacity out.new }
+{
+    put(
+        out,
+        &[
+            Piece::Text("],\"node\":"),
+            Piece::Id(ids.node_id(look.node)),
+            Piece::Text(",\"ok\":\"look\",\"p\":"),
+            pointer(ids, look.regs.p),
+            Piece::Text(",\"rule\":"),
+            Piece::Text(kind_or_null(look.enabled)),
+            Piece::Text("}"),
+        ],
+    )
+}
+
+#[tactic(auto, unfolding(crate::specs::Replies::move_text))]
+fn put_move(
+    ids: &IdTable,
+    at: u64,
+    place: u64,
+    node: Rank,
+    kind: Kind,
+    out: &mut Vec<u8>,
+) -> Result<(), Memory>
+    requires { node < length ids.now }
+    ensures { Puts (move_text ids.now at place node kind) TEXT_ROOM out.old out.new result }
+{
+    put(
+        out,
+        &[
+            Piece::Text("{\"at\":"),
+            Piece::Number(at),
+            Piece::Text(",\"node\":"),
+            Piece::Id(ids.node_id(node)),
+            Piece::Text(",\"ok\":\"move\",\"place\":"),
+            Piece::Number(place),
+            Piece::Text(",\"rule\":"),
+            Piece::Text(kind_word(kind)),
+            Piece::Text("}"),
+        ],
+    )
+}
+
+#[tactic(auto, unfolding(crate::specs::Replies::close_text))]
+fn put_close(
+    ids: &IdTable,
+    at: u64,
+    place: u64,
+    moved: NodeSet,
+    out: &mut Vec<u8>,
+) -> Result<(), Memory>
+    ensures { Puts (close_text ids.now at place moved) TEXT_ROOM out.old out.new result }
+{
+    put(
+        out,
+        &[
+            Piece::Text("{\"at\":"),
+            Piece::Number(at),
+            Piece::Text(",\"moved\":["),
+        ],
+    )?;
+    put_members(ids, moved, out)?;
+    put(
+        out,
+        &[
+            Piece::Text("],\"ok\":\"close\",\"place\":"),
+            Piece::Number(place),
+            Piece::Text("}"),
+        ],
+    )
+}
+
+// An identifier and its comma take 6 bytes at most, and there are 256 nodes at most.
+fn put_members(ids: &IdTable, moved: NodeSet, out: &mut Vec<u8>) -> Result<(), Memory>
+    ensures { Puts (separated (map (node_text ids.now) (members (length ids.now) moved)))
+        1536 out.old out.new result }
+{
+    let mut comma = "";
+    for index in 0..ids.len() {
+        let node = Rank::at(index);
+        if moved.has(node) {
+            put(out, &[Piece::Text(comma), Piece::Id(ids.node_id(node))])?;
+            comma = ",";
+        }
+    }
+    Ok(())
+}
+
+#[tactic(auto, unfolding(crate::specs::Replies::fault_text))]
+fn put_fault(
+    ids: &IdTable,
+    at: u64,
+    place: u64,
+    node: Rank,
+    dropped: u16,
+    out: &mut Vec<u8>,
+) -> Result<(), Memory>
+    requires { node < length ids.now }
+    ensures { Puts (fault_text ids.now at place node dropped) TEXT_ROOM out.old out.new result }
+{
+    put(
+        out,
+        &[
+            Piece::Text("{\"at\":"),
+            Piece::Number(at),
+            Piece::Text(",\"dropped\":"),
+            Piece::Number(u64::from(dropped)),
+            Piece::Text(",\"node\":"),
+            Piece::Id(ids.node_id(node)),
+            Piece::Text(",\"ok\":\"fault\",\"place\":"),
+            Piece::Number(place),
+            Piece::Text("}"),
+        ],
+    )
+}
+
+#[tactic(auto, unfolding(crate::specs::Replies::ends_text))]
+fn put_ends(
+    ids: &IdTable,
+    word: &'static str,
+    at: u64,
+    place: u64,
+    a: Rank,
+    b: Rank,
+    dropped: u16,
+    out: &mut Vec<u8>,
+) -> Result<(), Memory>
+    requires first { a < length ids.now }
+    requires second { b < length ids.now }
+    requires word { length word.now ≤ 40 }
+    ensures { Puts (ends_text ids.now word.now at place a b dropped)
+        TEXT_ROOM out.old out.new result }
+{
+    put(
+        out,
+        &[
+            Piece::Text("{\"a\":"),
+            Piece::Id(ids.node_id(a)),
+            Piece::Text(",\"at\":"),
+            Piece::Number(at),
+            Piece::Text(",\"b\":"),
+            Piece::Id(ids.node_id(b)),
+            Piece::Text(",\"dropped\":"),
+            Piece::Number(u64::from(dropped)),
+            Piece::Text(",\"ok\":\""),
+            Piece::Text(word),
+            Piece::Text("\",\"place\":"),
+            Piece::Number(place),
+            Piece::Text("}"),
+        ],
+    )
+}
+
+#[tactic(auto, unfolding(crate::specs::Replies::release_text))]
+fn put_release(
+    ids: &IdTable,
+    at: u64,
+    place: u64,
+    node: Rank,
+    out: &mut Vec<u8>,
+) -> Result<(), Memory>
+    requires { node < length ids.now }
+    ensures { Puts (release_text ids.now at place node) TEXT_ROOM out.old out.new result }
+{
+    put(
+        out,
+        &[
+            Piece::Text("{\"at\":"),
+            Piece::Number(at),
+            Piece::Text(",\"node\":"),
+            Piece::Id(ids.node_id(node)),
+            Piece::Text(",\"ok\":\"release\",\"place\":"),
+            Piece::Number(place),
+            Piece::Text("}"),
+        ],
+    )
+}
+
+#[tactic(auto, unfolding(crate::specs::Replies::deny_text))]
+fn put_denial(denial: Denial, out: &mut Vec<u8>) -> Result<(), Memory>
+    ensures { Puts (deny_text denial) TEXT_ROOM out.old out.new result }
+{
+    put_number_first(denial, out)?;
+    put(
+        out,
+        &[
+            Piece::Text("\"clause\":"),
             Piece::Number(u64::from(denial.clause())),
             Piece::Text(",\"deny\":\""),
             Piece::Text(denial.name()),
@@ -127,12 +400,37 @@ fn put_denial(denial: Denial, out: &mut Vec<u8>) -> Result<(), Memory>
     )
 }
 
+fn put_number_first(denial: Denial, out: &mut Vec<u8>) -> Result<(), Memory>
+    ensures { Puts (number_first (current_number denial)) 40 out.old out.new result }
+{
+    match denial {
+        Denial::Stale(at) => put(
+            out,
+            &[Piece::Text("{\"at\":"), Piece::Number(at), Piece::Text(",")],
+        ),
+        _ => put(out, &[Piece::Text("{")]),
+    }
+}
+
+fn put_bye(out: &mut Vec<u8>) -> Result<(), Memory>
+    ensures { Puts (codes "{\"ok\":\"bye\"}") TEXT_ROOM out.old out.new result }
+{
+    put(out, &[Piece::Text("{\"ok\":\"bye\"}")])
+}
+
+fn put_refusal(refused: Refused, out: &mut Vec<u8>) -> Result<(), Memory>
+    ensures { Puts (refuse_text refused) TEXT_ROOM out.old out.new result }
+{
+    put(out, &[Piece::Text(refusal(refused))])
+}
+
 fn refusal(refused: Refused) -> &'static str
     ensures text { result.now ≡ refuse_text refused }
     ensures short { length result.now ≤ 40 }
 {
     match refused {
         Refused::Malformed => "{\"refuse\":\"malformed\"}",
+        Refused::Full => "{\"refuse\":\"full\"}",
         Refused::Memory => "{\"refuse\":\"memory\"}",
     }
 }
@@ -152,5 +450,26 @@ fn pointer(ids: &IdTable, p: Option<Rank>) -> Piece<'static>
     match p {
         Some(j) => Piece::Id(ids.node_id(j)),
         None => Piece::Text("null"),
+    }
+}
+
+fn kind_word(kind: Kind) -> &'static str
+    ensures text { result.now ≡ kind_text kind }
+    ensures short { length result.now ≤ 13 }
+{
+    match kind {
+        Kind::Update => "\"update\"",
+        Kind::Marriage => "\"marriage\"",
+        Kind::Seduction => "\"seduction\"",
+        Kind::Abandonment => "\"abandonment\"",
+    }
+}
+
+fn kind_or_null(kind: Option<Kind>) -> &'static str
+    ensures { result.now ≡ kind_or_null kind }
+{
+    match kind {
+        Some(kind) => kind_word(kind),
+        None => "null",
     }
 }

@@ -1,6 +1,8 @@
 ghost use Rattle.std.specs.Prelude.{◌≡◌};
 ghost use Rattle.mml_codec.specs.declared.request.LineFault.TheVariants.{Memory};
+ghost use Rattle.mml_codec.specs.Greetings.{refusal_of};
 
+use crate::reply::Refused;
 use mml_ids::Word;
 use mml_policy::Command;
 use std::alloc::AllocError;
@@ -23,6 +25,18 @@ pub enum LineFault {
     Malformed,
     /// A growth was refused.
     Memory,
+}
+
+impl LineFault {
+    /// How the line is refused.
+    pub fn refusal(self) -> Refused
+        ensures { result ≡ refusal_of self }
+    {
+        match self {
+            LineFault::Malformed => Refused::Malformed,
+            LineFault::Memory => Refused::Memory,
+        }
+    }
 }
 
 impl From<AllocError> for LineFault {

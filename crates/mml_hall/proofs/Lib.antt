@@ -1,9 +1,7 @@
-pub mod Fronts
-pub mod Spelled
-pub mod Longer
-pub mod Endings
-pub mod Shown
-pub mod Known
-pub mod ServedSteps
-pub mod TranscriptLaws
-pub mod TurnLaws
+pub mod ScriptLinesLemmas
+pub mod TranscriptsLemmas
+pub mod ScriptsLemmas
+pub mod ServingLemmas
+pub mod HallsLemmas
+pub mod ShownLemmas
+pub mod TurnsLemmas

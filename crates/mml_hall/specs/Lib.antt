@@ -1,7 +1,7 @@
 pub mod Turns
 pub mod Transcripts
 pub mod Halls
-pub mod HallInside
+pub mod HallView
 pub mod ScriptLines
 pub mod Scripts
-pub mod Steps
+pub mod Serving

@@ -1,7 +1,30 @@
--- A script line of the program.
-use Rattle.mml_hall.specs.declared.script_line.ScriptLine as TheScriptLine
-use Rattle.mml_hall.specs.Turns.{ScriptLine}
+-- Lines of a script: a request line and the connection that it came on, as one line of text.
+use Rattle.std.specs.Prelude.{◌≡◌, ◌≢◌, ◌⊎◌, ℕ, ◌+◌, ◌<◌, ◌≤◌, List, ◌∷◌, ◌++◌, length, decimal}
+use Rattle.mml_lines.specs.LinesOf.{IsWithinLimit, IsTooLong, ended}
+use Rattle.mml_lines.specs.declared.lines.TheConstants.{READ_SIZE}
+use Rattle.mml_hall.specs.declared.TheConstants.{MAX_SCRIPT_LINE}
+use Rattle.mml_codec.specs.declared.TheConstants.{MAX_REQUEST}
+use Rattle.mml_hall.specs.declared.script_line.ScriptLine.{ScriptLine}
+use Rattle.mml_hall.specs.Turns.{RequestLine}
 
--- what it stands for
-abbrev pub line_of : TheScriptLine.ScriptLine → ScriptLine
+-- without its byte 10: the connection, a space and the request
+abbrev pub script_line : RequestLine → List ℕ
+script_line s = decimal s.connection ++ 32 ∷ s.request
+
+pub record IsScriptLine (sessions : ℕ) (s : RequestLine) : Type 0 where
+  pub some : 0 < s.connection
+  pub known : s.connection ≤ sessions
+  pub request : IsWithinLimit MAX_REQUEST s.request
+  pub whole : length (script_line s) ≤ MAX_SCRIPT_LINE
+
+-- a line first that is no script line, with no more after it than one read brought in; or more bytes than a script line
+-- may have, by no more than one read
+abbrev pub IsBad : ℕ → List ℕ → Type 0
+IsBad sessions held =
+    ((line more : List ℕ) × (held ≡ ended line ++ more) × IsWithinLimit MAX_SCRIPT_LINE line
+    × ((s : RequestLine) → IsScriptLine sessions s → line ≢ script_line s) × (length more < READ_SIZE))
+    ⊎ (IsTooLong MAX_SCRIPT_LINE held × (length held ≤ MAX_SCRIPT_LINE + READ_SIZE))
+
+-- what a script line of the program stands for
+abbrev pub line_of : ScriptLine → RequestLine
 line_of s = record { connection = s.connection; request = s.request.now }

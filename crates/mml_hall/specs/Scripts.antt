@@ -1,44 +1,59 @@
--- What `run_script` tells of the input and of what was written.
+-- What `run_script` tells of the input, of what is left of it and of what was written.
 use Rattle.std.specs.Prelude.{◌≡◌, ℕ, ◌+◌, ◌<◌, List, [], ◌++◌, length, take, Option}
-use Rattle.std.specs.Io.KnownBytes.{Appends}
+use Rattle.std.specs.Io.KnownBytes.{Appends, Consumes, IsAtEnd, prepend_known}
 use Rattle.mml_lab.specs.Labs.{LabValue}
 use Rattle.mml_lines.specs.LinesOf.{IsWithinLimit, ended}
+use Rattle.mml_lines.specs.declared.lines.TheConstants.{READ_SIZE}
 use Rattle.mml_codec.specs.declared.reply.Reply.{Reply}
 use Rattle.mml_hall.specs.declared.TheConstants.{MAX_SCRIPT_LINE}
 use Rattle.mml_hall.specs.declared.script.ScriptFault.{ScriptFault}
 use Rattle.mml_hall.specs.declared.script.ScriptFault.TheVariants as fault
 use Rattle.mml_hall.specs.Halls.{HallValue}
-use Rattle.mml_hall.specs.Turns.{State, ScriptLine, Turn}
-use Rattle.mml_hall.specs.Transcripts.{Transcript, IsScript, IsBad, script_line, output_line, bytes_read, bytes_written}
+use Rattle.mml_hall.specs.Turns.{State, RequestLine, Turn}
+use Rattle.mml_hall.specs.ScriptLines.{IsScriptLine, IsBad, script_line}
+use Rattle.mml_hall.specs.Transcripts.{Transcript, output_line, bytes_read, bytes_written}
 
 -- the turn of one script line
-pub record Served (lab : LabValue) (st after : State) : Type 0 where
-  pub line : ScriptLine
+pub record LineTurn (lab : LabValue) (st after : State) : Type 0 where
+  pub line : RequestLine
   pub reply : Reply
-  pub valid : IsScript lab.sessions line
+  pub valid : IsScriptLine lab.sessions line
   pub turn : Turn lab st line.connection line.request (record { reply = reply; state = after })
 
-abbrev pub line_read : {lab : LabValue} {st after : State} → Served lab st after → List ℕ
-line_read s = ended (script_line s.line)
+abbrev pub line_read : {lab : LabValue} {st after : State} → LineTurn lab st after → List ℕ
+line_read t = ended (script_line t.line)
 
-abbrev pub line_written : {lab : LabValue} {st after : State} → Served lab st after → List ℕ
-line_written {lab} s = output_line lab s.line.connection s.reply
+abbrev pub line_written : {lab : LabValue} {st after : State} → LineTurn lab st after → List ℕ
+line_written {lab} t = output_line lab t.line.connection t.reply
 
--- all lines of the input were answered: they are those of a transcript, at most a script line's bytes follow them, and
--- the hall is at the transcript's end
-abbrev pub Finished : HallValue → LabValue → List ℕ → Option (List ℕ) → Option (List ℕ) → Type 0
-Finished hall lab input wrote wrote' =
-    (t : Transcript lab) × (rest : List ℕ) × (hall ≡ record { lab = lab; state = t.end }) × (input ≡ bytes_read t ++ rest)
-    × IsWithinLimit MAX_SCRIPT_LINE rest × Appends wrote wrote' (bytes_written t)
+-- the first lines of the input, those of a transcript, were answered, and their replies are out
+pub record AllAnswered (lab : LabValue) (input left wrote wrote' : Option (List ℕ)) : Type 0 where
+  pub transcript : Transcript lab
+  pub consumed : Consumes input left (bytes_read transcript)
+  pub appended : Appends wrote wrote' (bytes_written transcript)
 
--- the first lines of the input, those of a transcript, were answered; and what came then
-abbrev pub Stopped : ScriptFault → LabValue → List ℕ → Option (List ℕ) → Option (List ℕ) → Type 0
-Stopped fault.Read lab input wrote wrote' =
-    (t : Transcript lab) × (rest : List ℕ) × (input ≡ bytes_read t ++ rest) × Appends wrote wrote' (bytes_written t)
-Stopped (fault.Write n) lab input wrote wrote' =
-    (t : Transcript lab) × (after : State) × (s : Served lab t.end after) × (rest : List ℕ) × (input ≡ (bytes_read t ++ line_read s) ++ rest)
-    × (n < length (line_written s)) × Appends wrote wrote' (bytes_written t ++ take n (line_written s))
-Stopped (fault.BadLine k) lab input wrote wrote' =
-    (t : Transcript lab) × (rest : List ℕ) × (k ≡ length t.lines + 1) × (input ≡ bytes_read t ++ rest) × IsBad lab.sessions rest
-    × Appends wrote wrote' (bytes_written t)
-Stopped fault.Memory lab input wrote wrote' = Appends wrote wrote' []
+-- and one line more, of whose output line that many bytes are out
+pub record LastCutShort (written : ℕ) (lab : LabValue) (input left wrote wrote' : Option (List ℕ)) : Type 0 where
+  pub transcript : Transcript lab
+  pub after : State
+  pub last : LineTurn lab transcript.end after
+  pub short : written < length (line_written last)
+  pub consumed : Consumes input left (bytes_read transcript ++ line_read last)
+  pub appended : Appends wrote wrote' (bytes_written transcript ++ take written (line_written last))
+
+-- all lines of the input were answered, the hall is where they lead, and after them came the front of a script line
+abbrev pub Finished : HallValue → LabValue → Option (List ℕ) → Option (List ℕ) → Option (List ℕ) → Option (List ℕ) → Type 0
+Finished hall lab input left wrote wrote' =
+    (held : List ℕ) × (a : AllAnswered lab input (prepend_known held left) wrote wrote') × (hall ≡ record { lab = lab; state = a.transcript.end })
+    × IsWithinLimit MAX_SCRIPT_LINE held × IsAtEnd left
+
+-- what was answered when a fault came. What comes after it of the input is what was held, and then what the reader has left:
+-- after a failed read the front of a script line, after a failed write no more than one read brought in
+abbrev pub Stopped : ScriptFault → LabValue → Option (List ℕ) → Option (List ℕ) → Option (List ℕ) → Option (List ℕ) → Type 0
+Stopped fault.Read lab input left wrote wrote' =
+    (held : List ℕ) × AllAnswered lab input (prepend_known held left) wrote wrote' × IsWithinLimit MAX_SCRIPT_LINE held
+Stopped (fault.Write n) lab input left wrote wrote' =
+    (held : List ℕ) × LastCutShort n lab input (prepend_known held left) wrote wrote' × (length held < READ_SIZE)
+Stopped (fault.BadLine k) lab input left wrote wrote' =
+    (held : List ℕ) × (a : AllAnswered lab input (prepend_known held left) wrote wrote') × (k ≡ length a.transcript.lines + 1) × IsBad lab.sessions held
+Stopped fault.Memory lab input left wrote wrote' = Consumes input left [] × Appends wrote wrote' []

@@ -1,25 +1,33 @@
 -- What one line does, and what many do.
-use Rattle.std.specs.Prelude.{◌≡◌, ◌⊎◌, ℕ, ◌-◌, List, [], ◌∷◌, replicate, Option, None, Result, Ok, Err, slice_index_or, slice_set}
+use Rattle.std.specs.Prelude.{◌≡◌, ◌⊎◌, ℕ, ◌+◌, ◌-◌, List, [], ◌∷◌, ◌++◌, replicate, Bool, true, false, Option, None, Some, Result, Ok, Err, slice_index_or, slice_set, if◌then◌else◌}
 use Rattle.mml_lab.specs.declared.who.Who.{Who}
 use Rattle.mml_lab.specs.Labs.{LabValue}
+use Rattle.mml_board.specs.declared.event.Event.{Event}
 use Rattle.mml_board.specs.World.{World, opening_of}
-use Rattle.mml_policy.specs.Answers.{Answer, denied, seen, answer}
+use Rattle.mml_board.specs.Events.{after}
+use Rattle.mml_policy.specs.declared.ruling.Ruling.{Ruling}
+use Rattle.mml_policy.specs.Rulings.{ruling, event_of}
 use Rattle.mml_codec.specs.declared.request.LineFault.{LineFault}
 use Rattle.mml_codec.specs.declared.request.Request.{Request}
 use Rattle.mml_codec.specs.Lines.{request_in}
 use Rattle.mml_codec.specs.declared.reply.Reply.{Reply}
 use Rattle.mml_codec.specs.declared.reply.Reply.TheVariants as reply
 use Rattle.mml_codec.specs.declared.reply.Refused.TheVariants as refused
-use Rattle.mml_codec.specs.Greetings.{Greeting, answered, left_to_judge, greeting}
+use Rattle.mml_codec.specs.declared.greeting.Greeting.{Greeting}
+use Rattle.mml_codec.specs.declared.greeting.Greeting.TheVariants.{Answered, LeftToJudge}
+use Rattle.mml_codec.specs.Greetings.{refusal_of, greeting}
+use Rattle.mml_codec.specs.Rulings.{reply_of}
 
 pub record State : Type 0 where
   pub world : World
+  -- what was granted so far
+  pub events : List Event
   -- for each connection, from 1, who is known on it, if anyone is
   pub greeted : List (Option Who)
 
--- at the beginning nobody is known on any connection
+-- at the beginning nothing was granted, and nobody is known on any connection
 abbrev pub opening : LabValue → State
-opening lab = record { world = opening_of lab.network; greeted = replicate lab.sessions None }
+opening lab = record { world = opening_of lab.network; events = []; greeted = replicate lab.sessions None }
 
 abbrev pub known_on : State → ℕ → Option Who
 known_on st k = slice_index_or st.greeted (k - 1) None
@@ -36,47 +44,121 @@ pub record Outcome : Type 0 where
 abbrev pub replied : State → Reply → Outcome
 replied st r = record { reply = r; state = st }
 
-abbrev pub reply_of : Answer → Reply
-reply_of (denied d) = reply.Deny d
-reply_of (seen s) = reply.See s
+-- an event takes place
+abbrev pub with_event : State → Event → State
+with_event st e = record st { world = after st.world e; events = st.events ++ e ∷ [] }
 
--- what comes of a request: it greets or says bye, or its command is answered
+-- an event takes place, or none
+abbrev pub entered : State → Option Event → State
+entered st None = st
+entered st (Some e) = with_event st e
+
+-- what comes of a ruling; the reply names the number and the place after it
+abbrev pub told : State → Ruling → Outcome
+told st r = let after = entered st (event_of r) in record { reply = reply_of after.world.number after.world.place r; state = after }
+
+-- what comes of a request: it greets or says bye, or its command is ruled on
 abbrev pub settled : LabValue → State → ℕ → Greeting → Outcome
-settled lab st k (answered r x) = record { reply = r; state = with_known st k x }
-settled lab st k (left_to_judge x c) = replied st (reply_of (answer lab.ids lab.roster st.world x c))
+settled lab st k (Answered r x) = record { reply = r; state = with_known st k x }
+settled lab st k (LeftToJudge x c) = told st (ruling lab.ids lab.roster lab.events st.world x c)
 
 -- what comes of what a line asks
 abbrev pub answer_to : LabValue → State → ℕ → Result Request LineFault → Outcome
-answer_to lab st k (Err fault) = replied st (reply.Refuse refused.Malformed)
+answer_to lab st k (Err fault) = replied st (reply.Refuse (refusal_of fault))
 answer_to lab st k (Ok request) = settled lab st k (greeting lab.roster (known_on st k) request)
 
 -- the turn of a line on a connection, which knows no want of memory
 unfoldable pub plain_turn : LabValue → State → ℕ → List ℕ → Outcome
 plain_turn lab st k line = answer_to lab st k (request_in line)
 
--- the line could not be read for want of memory, and nothing else happens
+-- nothing happens for want of memory
 abbrev pub without_memory : State → Outcome
 without_memory st = replied st (reply.Refuse refused.Memory)
 
--- a turn: the plain one, or none for want of memory
-abbrev pub Turn : LabValue → State → ℕ → List ℕ → Outcome → Type 0
-Turn lab st k line out = (out ≡ plain_turn lab st k line) ⊎ (out ≡ without_memory st)
+-- the reply to a grant names the place of its event
+abbrev pub place_in : Reply → Option ℕ
+place_in (reply.Hello who) = None
+place_in reply.Bye = None
+place_in (reply.See s) = None
+place_in (reply.Look l) = None
+place_in (reply.Move at place node kind) = Some place
+place_in (reply.Close at place moved) = Some place
+place_in (reply.Fault at place node dropped) = Some place
+place_in (reply.Link at place a b dropped) = Some place
+place_in (reply.Cut at place a b dropped) = Some place
+place_in (reply.Release at place node) = Some place
+place_in (reply.Deny d) = None
+place_in (reply.Refuse r) = None
 
--- a clause doesn't hold, or the request wasn't judged
+-- the reply shows a view or tells a grant: for these memory is needed after the line is read
+abbrev pub takes_memory : Reply → Bool
+takes_memory (reply.Hello who) = false
+takes_memory reply.Bye = false
+takes_memory (reply.See s) = false
+takes_memory (reply.Look l) = true
+takes_memory (reply.Move at place node kind) = true
+takes_memory (reply.Close at place moved) = true
+takes_memory (reply.Fault at place node dropped) = true
+takes_memory (reply.Link at place a b dropped) = true
+takes_memory (reply.Cut at place a b dropped) = true
+takes_memory (reply.Release at place node) = true
+takes_memory (reply.Deny d) = false
+takes_memory (reply.Refuse r) = false
+
+-- what may befall a turn
+pub data Mishap : Type 0 where
+  nothing : Mishap
+  -- a growth was refused while the line was read
+  while_read : Mishap
+  -- a growth was refused later
+  later : Mishap
+
+-- the outcome, unless the memory that it takes was refused
+abbrev pub unless_refused : State → Outcome → Outcome
+unless_refused st out = if takes_memory out.reply then without_memory st else out
+
+-- the turn of a line on a connection, by what befell it
+abbrev pub turn : Mishap → LabValue → State → ℕ → List ℕ → Outcome
+turn nothing lab st k line = plain_turn lab st k line
+turn while_read lab st k line = without_memory st
+turn later lab st k line = unless_refused st (plain_turn lab st k line)
+
+-- the plain outcome, or nothing for want of the memory that it takes
+abbrev pub Comes : State → Outcome → Outcome → Type 0
+Comes st plain out = (out ≡ plain) ⊎ ((takes_memory plain.reply ≡ true) × (out ≡ without_memory st))
+
+-- a turn, whatever befell it
+abbrev pub Turn : LabValue → State → ℕ → List ℕ → Outcome → Type 0
+Turn lab st k line out = (mishap : Mishap) × (out ≡ turn mishap lab st k line)
+
+-- a clause doesn't hold, or the request was refused
 abbrev pub IsRefusal : Reply → Type 0
 IsRefusal (reply.Hello who) = ⊥
 IsRefusal reply.Bye = ⊥
 IsRefusal (reply.See s) = ⊥
+IsRefusal (reply.Look l) = ⊥
+IsRefusal (reply.Move at place node kind) = ⊥
+IsRefusal (reply.Close at place moved) = ⊥
+IsRefusal (reply.Fault at place node dropped) = ⊥
+IsRefusal (reply.Link at place a b dropped) = ⊥
+IsRefusal (reply.Cut at place a b dropped) = ⊥
+IsRefusal (reply.Release at place node) = ⊥
 IsRefusal (reply.Deny d) = Unit {0}
 IsRefusal (reply.Refuse r) = Unit {0}
 
+-- one event more takes place, and the reply names its place; or none does, and the reply names no place
+abbrev pub GrowsByGrant : State → Outcome → Type 0
+GrowsByGrant st out =
+    ((out.state.events ≡ st.events) × (out.state.world ≡ st.world) × (place_in out.reply ≡ None))
+    ⊎ ((e : Event) × (out.state.events ≡ st.events ++ e ∷ []) × (out.state.world ≡ after st.world e) × (place_in out.reply ≡ Some (st.world.place + 1)))
+
 -- a request line and the connection that it came on
-pub record ScriptLine : Type 0 where
+pub record RequestLine : Type 0 where
   pub connection : ℕ
   pub request : List ℕ
 
 -- one turn after another, from a state to the end
-abbrev pub Run : LabValue → State → List ScriptLine → List Reply → State → Type 0
+abbrev pub Run : LabValue → State → List RequestLine → List Reply → State → Type 0
 Run lab st [] [] end = end ≡ st
 Run lab st (line ∷ lines) (r ∷ rs) end =
     (next : State) × Turn lab st line.connection line.request (record { reply = r; state = next }) × Run lab next lines rs end

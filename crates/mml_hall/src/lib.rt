@@ -9,11 +9,5 @@ mod script_line;
 pub use hall::Hall;
 pub use script::{ScriptFault, run_script};
 
-/// The most bytes of a request line, without byte 10.
-pub const MAX_REQUEST: usize = 4096;
-
 /// The most bytes of a script line, without byte 10.
 pub const MAX_SCRIPT_LINE: usize = 4099;
-
-#[cfg(test)]
-mod tests;

@@ -1,15 +1,15 @@
-ghost use Rattle.std.specs.Prelude.{◌≡◌, ℕ, ◌<◌, ◌≤◌, length, take, None, OnOk, IfOk, IfErr, IfSome, vec_capacity};
+ghost use Rattle.std.specs.Prelude.{◌≡◌, ℕ, ◌+◌, ◌<◌, ◌≤◌, length, take, None, OnOk, IfOk, IfErr, vec_capacity};
 ghost use Rattle.std.specs.Io.KnownBytes.{Appends, prepend_known};
-ghost use Rattle.mml_codec.specs.Replies.{IsAbout};
-ghost use Rattle.mml_hall.specs.Transcripts.{IsScript, output_line};
-ghost use Rattle.mml_hall.specs.ScriptLines.{line_of};
+ghost use Rattle.mml_codec.specs.Replies.{IsAbout, reply_line};
+ghost use Rattle.mml_hall.specs.ScriptLines.{IsScriptLine, line_of};
+ghost use Rattle.mml_hall.specs.Transcripts.{output_line};
 ghost use Rattle.mml_hall.specs.Scripts.{Finished, Stopped};
-ghost use Rattle.mml_hall.specs.Steps.{Serving, Steps, bytes_ahead};
+ghost use Rattle.mml_hall.specs.Serving.{ServesLine, ServesNext, TellsFor, bytes_ahead};
 
 use crate::MAX_SCRIPT_LINE;
 use crate::hall::Hall;
 use crate::script_line::{ScriptLine, read_script_line};
-use mml_codec::{REPLY_ROOM, Reply, write_reply};
+use mml_codec::{REPLY_ROOM, Refused, Reply, write_reply};
 use mml_ids::{Memory, Piece, put};
 use mml_lab::Lab;
 use mml_lines::{Lines, Step, WriteFault, put_all};
@@ -58,10 +58,12 @@ pub fn run_script<R: Read, W: Write>(
     reader: &mut R,
     writer: &mut W,
 ) -> Result<Hall, ScriptFault>
-    ensures finished { IfOk result (λ hall. IfSome (R.remaining reader.old) (λ input.
-        Finished hall lab input (W.contents writer.old) (W.contents writer.new))) }
-    ensures stopped { IfErr result (λ fault. IfSome (R.remaining reader.old) (λ input.
-        Stopped fault lab input (W.contents writer.old) (W.contents writer.new))) }
+    ensures finished { IfOk result (λ hall. Finished hall lab
+        (R.remaining reader.old) (R.remaining reader.new)
+        (W.contents writer.old) (W.contents writer.new)) }
+    ensures stopped { IfErr result (λ fault. Stopped fault lab
+        (R.remaining reader.old) (R.remaining reader.new)
+        (W.contents writer.old) (W.contents writer.new)) }
     ensures untouched { result ≡ Err ScriptFault.Memory →
         (reader.new ≡ reader.old) × (writer.new ≡ writer.old) }
 {
@@ -71,7 +73,7 @@ pub fn run_script<R: Read, W: Write>(
     let mut answered: u64 = 0;
     loop {
         match serve_next(alloc, &mut hall, &mut lines, &mut out, reader, writer) {
-            Next::Served => answered += 1,
+            Next::Answered => answered += 1,
             Next::End => return Ok(hall),
             Next::BadLine => return Err(ScriptFault::BadLine(answered + 1)),
             Next::ReadFault => return Err(ScriptFault::Read),
@@ -83,7 +85,7 @@ pub fn run_script<R: Read, W: Write>(
 // What came of the next line.
 #[derive(Clone, Copy)]
 enum Next {
-    Served,
+    Answered,
     End,
     BadLine,
     ReadFault,
@@ -102,21 +104,21 @@ fn serve_next<R: Read, W: Write>(
     requires going { lines.old.ending ≡ None }
     requires limit { lines.old.limit ≡ MAX_SCRIPT_LINE }
     requires room { REPLY_ROOM ≤ vec_capacity out.old }
-    ensures going { result ≡ Next.Served → lines.new.ending ≡ None }
+    ensures going { result ≡ Next.Answered → lines.new.ending ≡ None }
     ensures limit { lines.new.limit ≡ MAX_SCRIPT_LINE }
     ensures room { REPLY_ROOM ≤ vec_capacity out.new }
     ensures lab { hall.new.lab ≡ hall.old.lab }
     // Each line brings the end nearer, since there is a most of reads.
-    ensures progress { result ≡ Next.Served → bytes_ahead lines.new < bytes_ahead lines.old }
-    ensures steps { Steps result hall.old.lab hall.old.state hall.new.state
+    ensures progress { result ≡ Next.Answered → bytes_ahead lines.new < bytes_ahead lines.old }
+    ensures serves { ServesNext result hall.old.lab hall.old.state hall.new.state
         (prepend_known lines.old.unread (R.remaining reader.old))
-        (prepend_known lines.new.unread (R.remaining reader.new))
+        lines.new.unread (R.remaining reader.new)
         (W.contents writer.old) (W.contents writer.new) }
 {
     match lines.next(reader) {
         Step::Line => match read_script_line(lines.bytes(), hall.lab().sessions()) {
             Some(line) => match serve(alloc, hall, line, out, writer) {
-                Ok(()) => Next::Served,
+                Ok(()) => Next::Answered,
                 Err(fault) => Next::WriteFault(fault.written),
             },
             None => Next::BadLine,
@@ -135,35 +137,38 @@ fn serve<W: Write>(
     out: &mut Vec<u8>,
     writer: &mut W,
 ) -> Result<(), WriteFault>
-    requires script { IsScript hall.old.lab.sessions (line_of line) }
+    requires script { IsScriptLine hall.old.lab.sessions (line_of line) }
     requires room { REPLY_ROOM ≤ vec_capacity out.old }
     ensures room { REPLY_ROOM ≤ vec_capacity out.new }
     ensures lab { hall.new.lab ≡ hall.old.lab }
-    ensures served { Serving result hall.old.lab hall.old.state hall.new.state (line_of line.entry)
-        (W.contents writer.old) (W.contents writer.new) }
+    ensures serves { ServesLine result hall.old.lab hall.old.state hall.new.state
+        (line_of line.entry) (W.contents writer.old) (W.contents writer.new) }
 {
     let reply = hall.answer(alloc, line.connection, line.request);
-    put_answer(alloc, hall.lab(), line.connection, &reply, out, writer)
+    let (_told, written) = put_answer(alloc, hall.lab(), line.connection, reply, out, writer);
+    written
 }
 
-// Writes a connection, one space and the line of a reply.
+// Writes a connection, one space and the line of a reply, and tells which reply that is.
 fn put_answer<W: Write>(
     alloc: Global,
     lab: &Lab,
     connection: u8,
-    reply: &Reply,
+    reply: Reply,
     out: &mut Vec<u8>,
     writer: &mut W,
-) -> Result<(), WriteFault>
+) -> (Reply, Result<(), WriteFault>)
     requires room { REPLY_ROOM ≤ vec_capacity out.old }
-    requires about { IsAbout lab.now.ids lab.now.roster reply.now }
+    requires about { IsAbout lab.now.ids lab.now.roster reply }
+    ensures told { TellsFor reply result.0 }
     ensures room { REPLY_ROOM ≤ vec_capacity out.new }
-    ensures ok { OnOk result (Appends (W.contents writer.old) (W.contents writer.new)
-        (output_line lab.now connection reply.now)) }
-    ensures partial { IfErr result (λ fault.
-        fault.written < length (output_line lab.now connection reply.now)) }
-    ensures err { IfErr result (λ fault. Appends (W.contents writer.old) (W.contents writer.new)
-        (take fault.written (output_line lab.now connection reply.now))) }
+    ensures ok { OnOk result.1 (Appends (W.contents writer.old) (W.contents writer.new)
+        (output_line lab.now connection result.0)) }
+    ensures partial { IfErr result.1 (λ fault.
+        fault.written < length (output_line lab.now connection result.0)) }
+    ensures err { IfErr result.1 (λ fault. Appends (W.contents writer.old)
+        (W.contents writer.new)
+        (take fault.written (output_line lab.now connection result.0))) }
 {
     out.clear();
     put(
@@ -171,13 +176,45 @@ fn put_answer<W: Write>(
         &[Piece::Number(u64::from(connection)), Piece::Text(" ")],
     )
     .unwrap();
-    put_all(writer, out)?;
-    let front = out.len();
-    write_reply(alloc, lab.ids(), lab.roster(), reply, out).unwrap();
     match put_all(writer, out) {
-        Ok(()) => Ok(()),
-        Err(fault) => Err(WriteFault {
-            written: front + fault.written,
-        }),
+        Ok(()) => {
+            let front = out.len();
+            let told = put_reply(alloc, lab, reply, out);
+            (told, put_rest(writer, out, front))
+        }
+        Err(fault) => (reply, Err(fault)),
     }
+}
+
+// Writes what comes after a front of that many bytes, which a fault counts too.
+fn put_rest<W: Write>(writer: &mut W, bytes: &[u8], front: usize) -> Result<(), WriteFault>
+    requires { front ≤ REPLY_ROOM }
+    ensures ok { OnOk result (Appends (W.contents writer.old) (W.contents writer.new) bytes.now) }
+    ensures partial { IfErr result (λ fault. fault.written < front + length bytes.now) }
+    ensures err { IfErr result (λ fault. (taken : ℕ) × (fault.written ≡ front + taken)
+        × Appends (W.contents writer.old) (W.contents writer.new) (take taken bytes.now)) }
+{
+    match put_all(writer, bytes) {
+        Ok(()) => Ok(()),
+        Err(fault) => {
+            let written = front + fault.written;
+            Err(WriteFault { written })
+        }
+    }
+}
+
+// Puts the line of a reply, or that of want of memory, and gives the reply whose line it is.
+fn put_reply(alloc: Global, lab: &Lab, reply: Reply, out: &mut Vec<u8>) -> Reply
+    requires room { REPLY_ROOM ≤ vec_capacity out.old }
+    requires about { IsAbout lab.now.ids lab.now.roster reply }
+    ensures told { TellsFor reply result }
+    ensures room { REPLY_ROOM ≤ vec_capacity out.new }
+    ensures line { out.new.items ≡ reply_line lab.now.ids lab.now.roster result }
+{
+    if write_reply(alloc, lab.ids(), lab.roster(), &reply, out).is_ok() {
+        return reply;
+    }
+    let told = Reply::Refuse(Refused::Memory);
+    write_reply(alloc, lab.ids(), lab.roster(), &told, out).unwrap();
+    told
 }

@@ -1,12 +1,13 @@
 ghost use Rattle.std.specs.Prelude.{◌≡◌, ◌≢◌, ℕ, ◌≤◌, ◌++◌, ◌∷◌, List, length, decimal, IfSome, IfNone, MatchOption};
 ghost use Rattle.mml_lab.specs.declared.TheConstants.{MAX_SESSIONS};
+ghost use Rattle.mml_codec.specs.declared.TheConstants.{MAX_REQUEST};
 ghost use Rattle.mml_lines.specs.LinesOf.{IsUnbroken, IsWithinLimit};
-ghost use Rattle.mml_hall.specs.Turns as turns;
-ghost use Rattle.mml_hall.specs.Transcripts.{IsScript, script_line};
-ghost use Rattle.mml_hall.specs.ScriptLines.{line_of};
+ghost use Rattle.mml_hall.specs.Turns.{RequestLine};
+ghost use Rattle.mml_hall.specs.ScriptLines.{IsScriptLine, line_of, script_line};
 
-use crate::{MAX_REQUEST, MAX_SCRIPT_LINE};
+use crate::MAX_SCRIPT_LINE;
 use itoa::Buffer;
+use mml_codec::MAX_REQUEST;
 
 /// A request line, and the connection that it came on.
 #[derive(Clone, Copy)]
@@ -19,10 +20,10 @@ pub struct ScriptLine<'a> {
 pub fn read_script_line(line: &[u8], sessions: u8) -> Option<ScriptLine<'_>>
     requires few { sessions ≤ MAX_SESSIONS }
     requires line { IsWithinLimit MAX_SCRIPT_LINE line.now }
-    ensures valid { IfSome result (λ s. IsScript sessions (line_of s)) }
+    ensures valid { IfSome result (λ s. IsScriptLine sessions (line_of s)) }
     ensures spelled { IfSome result (λ s. line.now ≡ script_line (line_of s)) }
     ensures none { IfNone result
-        ((s : turns.ScriptLine) → IsScript sessions s → line.now ≢ script_line s) }
+        ((s : RequestLine) → IsScriptLine sessions s → line.now ≢ script_line s) }
 {
     for before in 0..sessions {
         let connection = before + 1;

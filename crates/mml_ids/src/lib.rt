@@ -21,10 +21,7 @@ pub use rank::Rank;
 pub use word::Word;
 
 /// How many nodes a network may have at most. Ranks are below it.
-pub const MAX_NODES: u64 = 64;
+pub const MAX_NODES: u64 = 256;
 
 /// The greatest identifier; the least is 1.
 pub const MAX_ID: u64 = 65535;
-
-#[cfg(test)]
-mod tests;

@@ -16,7 +16,7 @@ use Rattle.mml_lab.specs.Raw.{node_view, entry_view}
 use Rattle.mml_lab.specs.Rosters.{has_name}
 use Rattle.mml_lab.specs.Faults.{id_fault_as}
 use Rattle.mml_lab.specs.Labs.{number_of, file_ids, is_node, node_with, ids_fault}
-use Rattle.mml_lab.proofs.Mapped.{list_any-map, find-map, map-map}
+use Rattle.mml_lab.proofs.MapLemmas.{list_any-map, find-map, map-map}
 
 pub is_node-read : (nodes : List RawNode) (id : ℤ) → list_any (λ node. int_eq node.id id) nodes ≡ is_node (map node_view nodes) id
 is_node-read nodes id = list_any-map (λ node. int_eq node.id id) node_view nodes

@@ -1,5 +1,4 @@
 -- What a lab stands for.
-use Rattle.mml_rules.specs.Network.{Network}
 use Rattle.mml_lab.specs.declared.lab.Lab.TheInside.{Inside}
 use Rattle.mml_lab.specs.Labs.{LabValue, IsLab}
 
@@ -7,7 +6,7 @@ abbrev pub lab_view : Inside → LabValue
 lab_view a = record {
   ids = a.ids;
   roster = a.roster;
-  network = record { neighbours = a.neighbours.items; registers = a.registers.items };
+  network = a.network;
   events = a.events;
   sessions = a.sessions;
 }

@@ -5,8 +5,8 @@ use Rattle.std.specs.Option.{option_map_or, option_to_list, option_and_then}
 use Rattle.std.specs.Ordering.{nat_cmp, int_eq}
 use Rattle.std.specs.FinSet.{FinSet}
 use Rattle.mml_ids.specs.Gives.{first_fault, fault_if, unless_fault, ◌>>=◌}
-use Rattle.mml_ids.specs.Search.{first_below}
-use Rattle.mml_ids.specs.Bits.{those_below}
+use Rattle.mml_ids.specs.Search.{first_below, count_below}
+use Rattle.mml_ids.specs.Sets.{those_below}
 use Rattle.mml_ids.specs.Ids.{id_fault, in_order, rank_in, IsTable}
 use Rattle.mml_rules.specs.declared.registers.Regs.{Regs}
 use Rattle.mml_rules.specs.Configuration.{Configuration}
@@ -50,9 +50,14 @@ joins a b link = (int_eq link.0 a && int_eq link.1 b) || (int_eq link.0 b && int
 abbrev pub is_linked : List (ℤ × ℤ) → ℤ → ℤ → Bool
 is_linked links a b = list_any (joins a b) links
 
--- the owner is no student
+-- some owner is no student
 abbrev pub lacks_owner : List Account → NodeSpec → Bool
-lacks_owner students node = not (list_any (has_name node.owner) students)
+lacks_owner students node = list_any (λ name. not (list_any (has_name name) students)) node.owners
+
+-- two names that are the same
+abbrev pub are_one_twice : List (List ℕ) → Bool
+are_one_twice (a ∷ b ∷ []) = bytes_eq a b
+are_one_twice _ = false
 
 -- an end of the link is no node
 abbrev pub lacks_end : List NodeSpec → ℤ × ℤ → Bool
@@ -74,6 +79,10 @@ points_astray links node = option_map_or (λ p. not (is_linked links node.id p))
 abbrev pub is_within : ℕ → ℤ → Bool
 is_within greatest n = nat_lt 0 (number_of n) && nat_le (number_of n) greatest
 
+-- a node has both keys, `owner` and `owners`
+unfoldable pub both_fault : List NodeSpec → Option LabFault
+both_fault nodes = option_map fault.BothOwners (position (λ node. node.both) nodes)
+
 -- the nodes' identifiers are no table
 unfoldable pub ids_fault : List NodeSpec → Option LabFault
 ids_fault nodes = option_map fault.Id (id_fault (file_ids nodes))
@@ -82,9 +91,16 @@ ids_fault nodes = option_map fault.Id (id_fault (file_ids nodes))
 unfoldable pub forms_fault : List Account → Option LabFault
 forms_fault accounts = option_map fault.Name (position (λ a. not (is_account a)) accounts)
 
--- an owner is no student
+-- some owner is no student
+unfoldable pub no_owner_fault : List Account → List NodeSpec → Option LabFault
+no_owner_fault students nodes = option_map fault.NoOwner (position (lacks_owner students) nodes)
+
+-- both owners of a node are one
+unfoldable pub owner_twice_fault : List NodeSpec → Option LabFault
+owner_twice_fault nodes = option_map fault.OwnerTwice (position (λ node. are_one_twice node.owners) nodes)
+
 unfoldable pub owners_fault : List Account → List NodeSpec → Option LabFault
-owners_fault students nodes = option_map fault.NoOwner (position (lacks_owner students) nodes)
+owners_fault students nodes = first_fault (no_owner_fault students nodes) (owner_twice_fault nodes)
 
 -- an end is no node, then a link has one node at both ends, then a link stood before
 unfoldable pub links_fault : List NodeSpec → List (ℤ × ℤ) → Option LabFault
@@ -104,13 +120,14 @@ limits_fault events sessions students = first_fault (fault_if (not (is_within MA
 
 -- the first fault: each test goes over the whole file before the next
 unfoldable pub lab_fault : RawSpec → Option LabFault
-lab_fault raw = first_fault (ids_fault raw.nodes)
+lab_fault raw = first_fault (both_fault raw.nodes)
+    (first_fault (ids_fault raw.nodes)
     (first_fault (forms_fault (raw.teacher ∷ raw.students))
     (first_fault (name_twice (raw.teacher ∷ raw.students))
     (first_fault (owners_fault raw.students raw.nodes)
     (first_fault (links_fault raw.nodes raw.links)
     (first_fault (pointers_fault raw.links raw.nodes)
-    (limits_fault raw.events raw.sessions (length raw.students)))))))
+    (limits_fault raw.events raw.sessions (length raw.students))))))))
 
 -- the node of the file with that identifier
 abbrev pub node_with : List NodeSpec → ℕ → Option NodeSpec
@@ -124,17 +141,21 @@ neighbours_of ids links id = those_below (length ids) (λ rank. is_linked links 
 abbrev pub registers_in : List ℕ → NodeSpec → Regs
 registers_in ids node = record { p = option_and_then (λ p. rank_in ids (number_of p)) node.p; m = node.m }
 
--- the place of a node's owner among the students; 0 where the owner is none, which is a fault
-abbrev pub owner_in : List Account → NodeSpec → ℕ
-owner_in students node = unwrap_or (position (has_name node.owner) students) 0
+-- the place of that name among the students; 0 where none has it, which is a fault
+abbrev pub place_of : List Account → List ℕ → ℕ
+place_of students name = unwrap_or (position (has_name name) students) 0
+
+-- the places of a node's owners among the students
+abbrev pub owners_in : List Account → NodeSpec → List ℕ
+owners_in students node = map (place_of students) node.owners
 
 -- the registers of the node with that identifier; null and false where there is none
 abbrev pub registers_with : List ℕ → List NodeSpec → ℕ → Regs
 registers_with ids nodes id = option_map_or (registers_in ids) (node_with nodes id) no_regs
 
--- the owner of the node with that identifier; 0 where there is none
-abbrev pub owner_with : List Account → List NodeSpec → ℕ → ℕ
-owner_with students nodes id = option_map_or (owner_in students) (node_with nodes id) 0
+-- the owners of the node with that identifier
+abbrev pub owners_with : List Account → List NodeSpec → ℕ → List ℕ
+owners_with students nodes id = option_map_or (owners_in students) (node_with nodes id) []
 
 -- the links and registers of the file, by rank
 unfoldable pub network_in : List ℕ → RawSpec → Network
@@ -144,7 +165,7 @@ network_in ids raw = record { neighbours = map (neighbours_of ids raw.links) ids
 unfoldable pub lab_in : RawSpec → LabValue
 lab_in raw = let ids = in_order (file_ids raw.nodes) in record {
   ids = ids;
-  roster = with_owners raw.teacher raw.students (map (owner_with raw.students raw.nodes) ids);
+  roster = with_owners raw.teacher raw.students (map (owners_with raw.students raw.nodes) ids);
   network = network_in ids raw;
   events = number_of raw.events;
   sessions = number_of raw.sessions;
@@ -153,11 +174,6 @@ lab_in raw = let ids = in_order (file_ids raw.nodes) in record {
 -- the lab that bytes spell, or the first fault
 unfoldable pub lab_of : List ℕ → Result LabValue LabFault
 lab_of bytes = spelled bytes >>= λ raw. unless_fault (lab_fault raw) (lab_in raw)
-
--- how many of the numbers below n pass
-abbrev pub count_below : ℕ → (ℕ → Bool) → ℕ
-count_below zero test = 0
-count_below (suc n) test = count_below n test + (if test n then 1 else 0)
 
 -- how many links there are whose greater end is below n
 abbrev pub links_below : Configuration → ℕ → ℕ

@@ -5,5 +5,7 @@ pub mod RosterView
 pub mod Faults
 pub mod Labs
 pub mod LabView
+pub mod Checks
+pub mod ChecksView
 pub mod RosterMeaning
 pub mod LabMeaning

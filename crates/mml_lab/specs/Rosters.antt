@@ -91,6 +91,6 @@ pub record IsRoster (r : RosterValue) : Type 0 where
   pub differ : (a b : Who) → IsPrincipal r a → IsPrincipal r b → name_of r a ≡ name_of r b → a ≡ b
   pub owned : All (All (λ s. s < length r.students)) r.owners
 
--- the roster of a lab whose nodes have one owner each, given by rank
-abbrev pub with_owners : Account → List Account → List ℕ → RosterValue
-with_owners teacher students owners = record { teacher = teacher; students = students; owners = map (λ s. s ∷ []) owners }
+-- the roster of these, and of the owners of each rank
+abbrev pub with_owners : Account → List Account → List (List ℕ) → RosterValue
+with_owners teacher students owners = record { teacher = teacher; students = students; owners = owners }

@@ -1,10 +1,11 @@
 -- What a TOML table spells as a lab, or the first key that is missing or of the wrong kind.
-use Rattle.std.specs.Prelude.{ℕ, ℤ, Bool, true, false, codes, List, [], ◌∷◌, Option, Some, None, Result, Ok, ok_or}
+use Rattle.std.specs.Prelude.{ℕ, ℤ, Bool, true, false, ◌&&◌, nat_lt, nat_le, codes, List, [], ◌∷◌, length, Option, Some, None, option_map, is_some, Result, Ok, Err, ok_or}
 use Rattle.std.specs.Prelude.{if◌then◌else◌}
 use Rattle.std.specs.Str.{is_utf8}
 use Rattle.toml.specs.Parse.{parse_document}
 use Rattle.mml_ids.specs.Gives.{◌>>=◌}
 use Rattle.toml.specs.Data.{Data, Items, no_items, item, Members, get_member, as_str, as_integer, as_bool, as_table, as_array}
+use Rattle.mml_lab.specs.declared.TheConstants.{MAX_OWNERS}
 use Rattle.mml_lab.specs.declared.fault.LabFault.{LabFault}
 use Rattle.mml_lab.specs.declared.fault.LabFault.TheVariants as fault
 use Rattle.mml_lab.specs.declared.fault.Key.{Key}
@@ -27,10 +28,14 @@ of_kind place kind value = ok_or (kind value) (fault.WrongKind place)
 abbrev pub needed : {A : Type 0} → Key → List ℕ → (Data → Option A) → Members → Result A LabFault
 needed place name kind members = need place name members >>= λ value. of_kind place kind value
 
+-- what is read of the value under a key that may be left out
+abbrev pub optional : {A : Type 0} → (Data → Result A LabFault) → Option Data → Result (Option A) LabFault
+optional read None = Ok None
+optional read (Some value) = read value >>= λ found. Ok (Some found)
+
 -- the value under a key that may be left out, if it is of the kind
 abbrev pub optional_of : {A : Type 0} → Key → (Data → Option A) → Option Data → Result (Option A) LabFault
-optional_of place kind None = Ok None
-optional_of place kind (Some value) = of_kind place kind value >>= λ found. Ok (Some found)
+optional_of place kind = optional (of_kind place kind)
 
 -- false where there is none
 abbrev pub or_false : Option Bool → Bool
@@ -48,8 +53,8 @@ pub record Account : Type 0 where
   pub key : List ℕ
 
 -- a name and a key
-unfoldable pub principal_of : Key → Key → Members → Result Account LabFault
-principal_of name_place key_place members = do
+unfoldable pub account_in : Key → Key → Members → Result Account LabFault
+account_in name_place key_place members = do
   name ← needed name_place (codes "name") as_str members
   secret ← needed key_place (codes "key") as_str members
   Ok (record { name = name; key = secret })
@@ -57,11 +62,25 @@ principal_of name_place key_place members = do
 unfoldable pub student_of : Data → Result Account LabFault
 student_of value = do
   table ← of_kind key.Student as_table value
-  principal_of key.StudentName key.StudentKey table
+  account_in key.StudentName key.StudentKey table
 
+-- the names under `owners`: an array of one or two strings
+unfoldable pub names_of : Data → Result (List (List ℕ)) LabFault
+names_of value = do
+  items ← of_kind key.NodeOwners as_array value
+  names ← each (of_kind key.NodeOwners as_str) items
+  if nat_lt 0 (length names) && nat_le (length names) MAX_OWNERS then Ok names else Err (fault.WrongKind key.NodeOwners)
+
+-- the names under `owners`, or else the one under `owner`
+abbrev pub owner_names : Option (List ℕ) → Option (List (List ℕ)) → Option (List (List ℕ))
+owner_names owner (Some names) = Some names
+owner_names owner None = option_map (λ name. name ∷ []) owner
+
+-- a node, the names of its owners, and whether it has both keys, `owner` and `owners`
 pub record NodeSpec : Type 0 where
   pub id : ℤ
-  pub owner : List ℕ
+  pub owners : List (List ℕ)
+  pub both : Bool
   pub p : Option ℤ
   pub m : Bool
 
@@ -69,10 +88,12 @@ unfoldable pub node_of : Data → Result NodeSpec LabFault
 node_of value = do
   table ← of_kind key.Node as_table value
   id ← needed key.NodeId (codes "id") as_integer table
-  owner ← needed key.NodeOwner (codes "owner") as_str table
+  owner ← optional_of key.NodeOwner as_str (get_member (codes "owner") table)
+  owners ← optional names_of (get_member (codes "owners") table)
+  names ← ok_or (owner_names owner owners) (fault.Missing key.NodeOwner)
   p ← optional_of key.NodeP as_integer (get_member (codes "p") table)
   m ← optional_of key.NodeM as_bool (get_member (codes "m") table)
-  Ok (record { id = id; owner = owner; p = p; m = or_false m })
+  Ok (record { id = id; owners = names; both = is_some owner && is_some owners; p = p; m = or_false m })
 
 -- exactly two
 abbrev pub two_of : Items → Option (Data × Data)
@@ -104,7 +125,7 @@ raw_of members = do
   events ← needed key.Events (codes "events") as_integer members
   sessions ← needed key.Sessions (codes "sessions") as_integer members
   teacher_table ← needed key.Teacher (codes "teacher") as_table members
-  teacher ← principal_of key.TeacherName key.TeacherKey teacher_table
+  teacher ← account_in key.TeacherName key.TeacherKey teacher_table
   student_items ← needed key.Student (codes "student") as_array members
   students ← each student_of student_items
   node_items ← needed key.Node (codes "node") as_array members

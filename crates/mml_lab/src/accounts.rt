@@ -2,10 +2,10 @@
 ghost use Rattle.std.specs.Prelude.{◌≡◌, ◌∷◌, ◌<◌, not, position, map, length, IfSome};
 ghost use Rattle.std.specs.List.{list_all};
 ghost use Rattle.std.specs.Char.{is_ascii_graphic};
-ghost use Rattle.mml_lab.specs.Raw.{principal_view};
+ghost use Rattle.mml_lab.specs.Raw.{account_view};
 ghost use Rattle.mml_lab.specs.Rosters.{is_name_byte, is_name, is_key, is_account};
 
-use crate::raw::Principal;
+use crate::raw::Account;
 use crate::{MAX_KEY, MAX_NAME};
 
 fn is_name_byte(byte: u8) -> bool
@@ -14,7 +14,8 @@ fn is_name_byte(byte: u8) -> bool
     byte.is_ascii_lowercase() || byte.is_ascii_digit() || byte == b'-'
 }
 
-fn is_name(name: &[u8]) -> bool
+/// Whether the bytes have a name's form: 1 to 32 of a to z, 0 to 9 and '-', the first a letter.
+pub fn is_name(name: &[u8]) -> bool
     ensures { result ≡ is_name name.now }
 {
     if name.is_empty() {
@@ -42,16 +43,16 @@ fn are_graphic(bytes: &[u8]) -> bool
     bytes.iter().all(|byte| byte.is_ascii_graphic())
 }
 
-fn is_account(account: &Principal) -> bool
-    ensures { result ≡ is_account (principal_view account.now) }
+fn is_account(account: &Account) -> bool
+    ensures { result ≡ is_account (account_view account.now) }
 {
     is_name(account.name.as_bytes()) && is_key(account.key.as_bytes())
 }
 
 /// The first whose name or key isn't of its form: the teacher at place 0, and the students from 1.
-pub(crate) fn first_malformed(teacher: &Principal, students: &[Principal]) -> Option<usize>
+pub(crate) fn first_malformed(teacher: &Account, students: &[Account]) -> Option<usize>
     ensures { result ≡ position (λ a. not (is_account a))
-        (principal_view teacher.now ∷ map principal_view students.now) }
+        (account_view teacher.now ∷ map account_view students.now) }
 {
     if !is_account(teacher) {
         return Some(0);
@@ -62,8 +63,8 @@ pub(crate) fn first_malformed(teacher: &Principal, students: &[Principal]) -> Op
     }
 }
 
-fn first_malformed_student(students: &[Principal]) -> Option<usize>
-    ensures value { result ≡ position (λ a. not (is_account (principal_view a))) students.now }
+fn first_malformed_student(students: &[Account]) -> Option<usize>
+    ensures value { result ≡ position (λ a. not (is_account (account_view a))) students.now }
     ensures within { IfSome result (λ place. place < length students.now) }
 {
     students.iter().position(|student| !is_account(student))

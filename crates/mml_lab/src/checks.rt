@@ -1,20 +1,23 @@
 //! The faults between what a file spells and a lab.
-ghost use Rattle.std.specs.Prelude.{◌≡◌, ◌∷◌, ◌<◌, not, position, map, length, IfOk};
-ghost use Rattle.std.specs.Ordering.{int_eq};
+ghost use Rattle.std.specs.Prelude.{◌≡◌, ◌∷◌, not, position, map, length, string_bytes, IfOk};
 ghost use Rattle.std.specs.List.{list_any};
 ghost use Rattle.mml_ids.specs.Gives.{Gives, unless_fault};
-ghost use Rattle.mml_ids.specs.Search.{first_below};
 ghost use Rattle.mml_ids.specs.Ids.{in_order};
 ghost use Rattle.mml_lab.specs.Shape.{is_memory};
-ghost use Rattle.mml_lab.specs.Raw.{principal_view, node_view, entry_view, raw_view};
-ghost use Rattle.mml_lab.specs.Labs.{number_of, file_ids, is_node, joins, is_linked, lacks_owner, lacks_end, is_loop, is_link_again, points_astray, is_within, ids_fault, forms_fault, owners_fault, links_fault, pointers_fault, limits_fault};
+ghost use Rattle.mml_lab.specs.Raw.{account_view, node_view, entry_view, raw_view};
+ghost use Rattle.mml_lab.specs.Rosters.{has_name};
+ghost use Rattle.mml_lab.specs.Labs.{number_of, file_ids, lacks_owner, are_one_twice, is_within, both_fault, ids_fault, forms_fault, no_owner_fault, owner_twice_fault, owners_fault, limits_fault};
+ghost use Rattle.mml_lab.specs.Checks.{limits_in, checked};
+ghost use Rattle.mml_lab.specs.ChecksView.{checked_view};
 
 use crate::accounts::first_malformed;
 use crate::fault::{Key, LabFault};
-use crate::raw::{Principal, RawLab, RawNode};
+use crate::links::{neighbours, pointers_fault};
+use crate::raw::{Account, RawLab, RawNode};
+use crate::roster::students_map;
 use crate::{MAX_EVENTS, MAX_SESSIONS, MAX_STUDENTS};
 use indexmap::IndexMap;
-use mml_ids::IdTable;
+use mml_ids::{IdTable, NodeSet};
 use std::alloc::{AllocError, Global};
 
 /// A negative number counts as 0.
@@ -24,8 +27,84 @@ pub(crate) fn number_of(number: i64) -> u64
     u64::try_from(number).unwrap_or(0)
 }
 
+/// What is known of a file without a fault: its nodes' identifiers, who takes part, and for each node its neighbours.
+#[derive(Debug, Drop)]
+pub struct Checked {
+    pub ids: IdTable,
+    pub teacher: Account,
+    pub students: IndexMap<String, String>,
+    pub nodes: Vec<RawNode>,
+    pub neighbours: Vec<NodeSet>,
+    pub events: u64,
+    pub sessions: u8,
+}
+
+/// Goes through the faults in the order of `LabFault`.
+#[tactic(auto, unfolding(crate::specs::Checks::checked))]
+pub(crate) fn check(alloc: Global, raw: RawLab) -> Result<Checked, LabFault>
+    ensures { Gives is_memory checked_view result (checked (raw_view raw)) }
+{
+    let RawLab {
+        events,
+        sessions,
+        teacher,
+        students,
+        nodes,
+        links,
+    } = raw;
+    unless(both_fault(&nodes))?;
+    let ids = id_table(alloc, &nodes)?;
+    unless(forms_fault(&teacher, &students))?;
+    let students = students_map(alloc, &teacher, students)?;
+    unless(owners_fault(&students, &nodes))?;
+    let neighbours = neighbours(alloc, &ids, &links)?;
+    unless(pointers_fault(&ids, &neighbours, &nodes))?;
+    let (events, sessions) = limits(events, sessions, count(&students))?;
+    Ok(Checked {
+        ids,
+        teacher,
+        students,
+        nodes,
+        neighbours,
+        events,
+        sessions,
+    })
+}
+
+fn count(students: &IndexMap<String, String>) -> usize
+    ensures { result ≡ length (map entry_view students.now.entries) }
+{
+    students.len()
+}
+
+/// Ends where there is a fault.
+fn unless(fault: Option<LabFault>) -> Result<(), LabFault>
+    ensures { Gives is_memory (λ u. u) result (unless_fault fault tt) }
+{
+    match fault {
+        Some(fault) => Err(fault),
+        None => Ok(()),
+    }
+}
+
+#[tactic(auto, unfolding(crate::specs::Labs::both_fault))]
+fn both_fault(nodes: &[RawNode]) -> Option<LabFault>
+    ensures { result ≡ both_fault (map node_view nodes.now) }
+{
+    match first_with_both(nodes) {
+        Some(index) => Some(LabFault::BothOwners(index)),
+        None => None,
+    }
+}
+
+fn first_with_both(nodes: &[RawNode]) -> Option<usize>
+    ensures { result ≡ position (λ node. node.both) nodes.now }
+{
+    nodes.iter().position(|node| node.both)
+}
+
 /// The nodes' identifiers.
-pub(crate) fn id_table(alloc: Global, nodes: &[RawNode]) -> Result<IdTable, LabFault>
+fn id_table(alloc: Global, nodes: &[RawNode]) -> Result<IdTable, LabFault>
     ensures { Gives is_memory (λ ids. ids) result
         (unless_fault (ids_fault (map node_view nodes.now))
         (in_order (file_ids (map node_view nodes.now)))) }
@@ -41,8 +120,8 @@ fn file_ids(alloc: Global, nodes: &[RawNode]) -> Result<Vec<u64>, AllocError>
 }
 
 #[tactic(auto, unfolding(crate::specs::Labs::forms_fault))]
-pub(crate) fn forms_fault(teacher: &Principal, students: &[Principal]) -> Option<LabFault>
-    ensures { result ≡ forms_fault (principal_view teacher.now ∷ map principal_view students.now) }
+fn forms_fault(teacher: &Account, students: &[Account]) -> Option<LabFault>
+    ensures { result ≡ forms_fault (account_view teacher.now ∷ map account_view students.now) }
 {
     match first_malformed(teacher, students) {
         Some(place) => Some(LabFault::Name(place)),
@@ -51,15 +130,33 @@ pub(crate) fn forms_fault(teacher: &Principal, students: &[Principal]) -> Option
 }
 
 #[tactic(auto, unfolding(crate::specs::Labs::owners_fault))]
-pub(crate) fn owners_fault(
-    students: &IndexMap<String, String>,
-    nodes: &[RawNode],
-) -> Option<LabFault>
+fn owners_fault(students: &IndexMap<String, String>, nodes: &[RawNode]) -> Option<LabFault>
     ensures { result ≡
         owners_fault (map entry_view students.now.entries) (map node_view nodes.now) }
 {
+    if let Some(fault) = no_owner_fault(students, nodes) {
+        return Some(fault);
+    }
+    owner_twice_fault(nodes)
+}
+
+#[tactic(auto, unfolding(crate::specs::Labs::no_owner_fault))]
+fn no_owner_fault(students: &IndexMap<String, String>, nodes: &[RawNode]) -> Option<LabFault>
+    ensures { result ≡
+        no_owner_fault (map entry_view students.now.entries) (map node_view nodes.now) }
+{
     match first_without_owner(students, nodes) {
         Some(index) => Some(LabFault::NoOwner(index)),
+        None => None,
+    }
+}
+
+#[tactic(auto, unfolding(crate::specs::Labs::owner_twice_fault))]
+fn owner_twice_fault(nodes: &[RawNode]) -> Option<LabFault>
+    ensures { result ≡ owner_twice_fault (map node_view nodes.now) }
+{
+    match first_with_owner_twice(nodes) {
+        Some(index) => Some(LabFault::OwnerTwice(index)),
         None => None,
     }
 }
@@ -74,118 +171,34 @@ fn first_without_owner(students: &IndexMap<String, String>, nodes: &[RawNode]) -
 fn lacks_owner(students: &IndexMap<String, String>, node: &RawNode) -> bool
     ensures { result ≡ lacks_owner (map entry_view students.now.entries) (node_view node.now) }
 {
-    !students.contains_key(node.owner.as_str())
+    lacks_student(students, &node.owners)
 }
 
-#[tactic(auto, unfolding(crate::specs::Labs::links_fault))]
-pub(crate) fn links_fault(nodes: &[RawNode], links: &[(i64, i64)]) -> Option<LabFault>
-    ensures { result ≡ links_fault (map node_view nodes.now) links.now }
+/// Whether one of the names is no student's.
+fn lacks_student(students: &IndexMap<String, String>, names: &[String]) -> bool
+    ensures { result ≡ list_any (λ name. not (list_any (has_name (string_bytes name))
+        (map entry_view students.now.entries))) names.now }
 {
-    if let Some(index) = first_without_end(nodes, links) {
-        return Some(LabFault::LinkEnd(index));
-    }
-    if let Some(index) = first_loop(links) {
-        return Some(LabFault::Loop(index));
-    }
-    match first_link_again(links) {
-        Some(index) => Some(LabFault::LinkTwice(index)),
-        None => None,
-    }
+    names.iter().any(|name| is_no_student(students, name))
 }
 
-fn first_without_end(nodes: &[RawNode], links: &[(i64, i64)]) -> Option<usize>
-    ensures { result ≡ position (lacks_end (map node_view nodes.now)) links.now }
+fn is_no_student(students: &IndexMap<String, String>, name: &String) -> bool
+    ensures { result ≡ not (list_any (has_name (string_bytes name.now))
+        (map entry_view students.now.entries)) }
 {
-    links.iter().position(|link| lacks_end(nodes, *link))
+    !students.contains_key(name.as_str())
 }
 
-fn lacks_end(nodes: &[RawNode], link: (i64, i64)) -> bool
-    ensures { result ≡ lacks_end (map node_view nodes.now) link }
+fn first_with_owner_twice(nodes: &[RawNode]) -> Option<usize>
+    ensures { result ≡ position (λ node. are_one_twice (node_view node).owners) nodes.now }
 {
-    let (a, b) = link;
-    !(is_node(nodes, a) && is_node(nodes, b))
+    nodes.iter().position(|node| are_one_twice(&node.owners))
 }
 
-fn is_node(nodes: &[RawNode], id: i64) -> bool
-    ensures { result ≡ list_any (λ node. int_eq node.id id) nodes.now }
+fn are_one_twice(names: &[String]) -> bool
+    ensures { result ≡ are_one_twice (map string_bytes names.now) }
 {
-    nodes.iter().any(|node| has_id(node, id))
-}
-
-fn has_id(node: &RawNode, id: i64) -> bool
-    ensures { result ≡ int_eq node.now.id id }
-{
-    node.id == id
-}
-
-fn first_loop(links: &[(i64, i64)]) -> Option<usize>
-    ensures { result ≡ position is_loop links.now }
-{
-    links.iter().position(|link| is_loop(*link))
-}
-
-fn is_loop(link: (i64, i64)) -> bool
-    ensures { result ≡ is_loop link }
-{
-    link.0 == link.1
-}
-
-/// The first link whose ends, in either order, are those of one before it.
-fn first_link_again(links: &[(i64, i64)]) -> Option<usize>
-    ensures { result ≡ first_below (is_link_again links.now) (length links.now) }
-{
-    for index in 0..links.len() {
-        if is_link_again(links, index) {
-            return Some(index);
-        }
-    }
-    None
-}
-
-fn is_link_again(links: &[(i64, i64)], index: usize) -> bool
-    requires { index < length links.now }
-    ensures { result ≡ is_link_again links.now index }
-{
-    let (a, b) = links[index];
-    is_linked(&links[..index], a, b)
-}
-
-fn is_linked(links: &[(i64, i64)], a: i64, b: i64) -> bool
-    ensures { result ≡ is_linked links.now a b }
-{
-    links.iter().any(|link| joins(a, b, *link))
-}
-
-/// Whether the ends of the link are these, in either order.
-fn joins(a: i64, b: i64, link: (i64, i64)) -> bool
-    ensures { result ≡ joins a b link }
-{
-    link == (a, b) || link == (b, a)
-}
-
-#[tactic(auto, unfolding(crate::specs::Labs::pointers_fault))]
-pub(crate) fn pointers_fault(links: &[(i64, i64)], nodes: &[RawNode]) -> Option<LabFault>
-    ensures { result ≡ pointers_fault links.now (map node_view nodes.now) }
-{
-    match first_astray(links, nodes) {
-        Some(index) => Some(LabFault::BadPointer(index)),
-        None => None,
-    }
-}
-
-fn first_astray(links: &[(i64, i64)], nodes: &[RawNode]) -> Option<usize>
-    ensures { result ≡ position (λ node. points_astray links.now (node_view node)) nodes.now }
-{
-    nodes.iter().position(|node| points_astray(links, node))
-}
-
-fn points_astray(links: &[(i64, i64)], node: &RawNode) -> bool
-    ensures { result ≡ points_astray links.now (node_view node.now) }
-{
-    match node.p {
-        Some(p) => !is_linked(links, node.id, p),
-        None => false,
-    }
+    names.len() == 2 && names[0] == names[1]
 }
 
 fn is_within(greatest: u64, number: i64) -> bool
@@ -195,8 +208,17 @@ fn is_within(greatest: u64, number: i64) -> bool
     0 < number && number <= greatest
 }
 
+/// The numbers of events and sessions, within their limits.
+fn limits(events: i64, sessions: i64, students: usize) -> Result<(u64, u8), LabFault>
+    ensures { Gives is_memory (λ e. e) result
+        (limits_in events sessions students) }
+{
+    unless(limits_fault(events, sessions, students))?;
+    Ok((number_of(events), number_of(sessions) as u8))
+}
+
 #[tactic(auto, unfolding(crate::specs::Labs::limits_fault))]
-pub(crate) fn limits_fault(events: i64, sessions: i64, students: usize) -> Option<LabFault>
+fn limits_fault(events: i64, sessions: i64, students: usize) -> Option<LabFault>
     ensures { result ≡ limits_fault events sessions students }
 {
     if !is_within(MAX_EVENTS, events) {

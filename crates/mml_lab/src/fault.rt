@@ -23,6 +23,7 @@ pub enum Key {
     Node,
     NodeId,
     NodeOwner,
+    NodeOwners,
     NodeP,
     NodeM,
     /// The array `links`.
@@ -41,14 +42,18 @@ pub enum LabFault {
     Missing(Key),
     /// What stands under the key is of another kind.
     WrongKind(Key),
+    /// A node has both keys, `owner` and `owners`.
+    BothOwners(usize),
     /// The nodes' identifiers are none of one network; never want of memory.
     Id(IdFault),
     /// A name or a key isn't of its form.
     Name(usize),
     /// A name stood before: the index is that of the later one.
     NameTwice(usize),
-    /// A node's owner is no student.
+    /// Some owner of a node is no student.
     NoOwner(usize),
+    /// Both owners of a node are one student.
+    OwnerTwice(usize),
     /// An end of a link is no node.
     LinkEnd(usize),
     /// Both ends of a link are one node.

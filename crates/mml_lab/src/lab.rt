@@ -1,11 +1,12 @@
 ghost use Rattle.std.specs.Prelude.{◌≡◌, ◌<◌, ◌≤◌, length};
 ghost use Rattle.std.specs.FinSet as set;
 ghost use Rattle.mml_rules.specs.Network.{neighbours_at, registers_at, configuration_of};
-ghost use Rattle.mml_lab.specs.Labs.{IsLab, count_below, link_count};
+ghost use Rattle.mml_ids.specs.Search.{count_below};
+ghost use Rattle.mml_lab.specs.Labs.{IsLab, link_count};
 
 use crate::roster::Roster;
-use mml_ids::{IdTable, NodeSet, Rank};
-use mml_rules::Regs;
+use mml_ids::{IdTable, Rank};
+use mml_rules::{Network, Regs};
 use std::marker::Model;
 
 /// A network, who takes part, and the limits of a run. Nodes are named by their ranks.
@@ -13,15 +14,14 @@ use std::marker::Model;
 pub struct Lab {
     ids: IdTable,
     roster: Roster,
-    neighbours: Vec<NodeSet>,
-    registers: Vec<Regs>,
+    network: Network,
     events: u64,
     sessions: u8,
 }
 
 impl Model for Lab {
     ghost use Rattle.std.specs.Coded.{codes};
-    ghost use Rattle.mml_ids.specs.Bits.{node_set_code};
+    ghost use Rattle.mml_ids.specs.Sets.{node_set_code};
     ghost use Rattle.mml_lab.specs.Labs.{LabValue};
 
     ghost Value = { LabValue };
@@ -39,22 +39,21 @@ impl Lab {
     pub(crate) fn new(
         ids: IdTable,
         roster: Roster,
-        neighbours: Vec<NodeSet>,
-        registers: Vec<Regs>,
+        network: Network,
         events: u64,
         sessions: u8,
     ) -> Lab
         requires { IsLab (record {
           ids = ids;
           roster = roster;
-          network = record { neighbours = neighbours.items; registers = registers.items };
+          network = network;
           events = events;
           sessions = sessions;
         }) }
         ensures { result ≡ record {
           ids = ids;
           roster = roster;
-          network = record { neighbours = neighbours.items; registers = registers.items };
+          network = network;
           events = events;
           sessions = sessions;
         } }
@@ -62,8 +61,7 @@ impl Lab {
         Lab {
             ids,
             roster,
-            neighbours,
-            registers,
+            network,
             events,
             sessions,
         }
@@ -88,7 +86,7 @@ impl Lab {
         requires { a < length self.now.ids }
         ensures { result ≡ set.contains (neighbours_at self.now.network.neighbours a) b }
     {
-        self.neighbours[a.index() as usize].has(b)
+        self.network.neighbours(a).has(b)
     }
 
     /// A node's registers at the beginning.
@@ -96,21 +94,14 @@ impl Lab {
         requires { node < length self.now.ids }
         ensures { result ≡ registers_at self.now.network.registers node }
     {
-        self.registers[node.index() as usize]
+        self.network.registers(node)
     }
 
-    /// For each node, by rank, the nodes linked to it at the beginning.
-    pub fn neighbours(&self) -> &[NodeSet]
-        ensures { result.now ≡ self.now.network.neighbours }
+    /// The links and registers at the beginning.
+    pub fn network(&self) -> &Network
+        ensures { result.now ≡ self.now.network }
     {
-        self.neighbours.as_slice()
-    }
-
-    /// For each node, by rank, its registers at the beginning.
-    pub fn registers(&self) -> &[Regs]
-        ensures { result.now ≡ self.now.network.registers }
-    {
-        self.registers.as_slice()
+        &self.network
     }
 
     /// How many events a run may have at most.

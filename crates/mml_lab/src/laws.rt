@@ -1,14 +1,15 @@
 //! Laws of the lab. Each is the clause of a function that does nothing.
-ghost use Rattle.std.specs.Prelude.{◌≡◌, ◌≢◌, ◌↔◌, ◌∷◌, [], ℕ, ℤ, pos, ◌<◌, List, length, true, false, All, Contains, Some, None, Ok, slice_get, slice_index};
+ghost use Rattle.std.specs.Prelude.{◌≡◌, ◌≢◌, ◌↔◌, ℕ, ℤ, pos, ◌<◌, List, length, true, false, All, Contains, Some, None, Ok, slice_get};
 ghost use Rattle.mml_ids.specs.Ids.{IsTable};
 ghost use Rattle.mml_ids.specs.declared.id_table.IdFault.TheVariants as id;
 ghost use Rattle.mml_rules.specs.Network.{configuration_of};
+ghost use Rattle.mml_lab.specs.declared.TheConstants.{MAX_NAME, MAX_KEY, MAX_EVENTS, MAX_SESSIONS, MAX_STUDENTS, MAX_OWNERS};
 ghost use Rattle.mml_lab.specs.declared.who.Who.{Who};
 ghost use Rattle.mml_lab.specs.declared.fault.LabFault.TheVariants as fault;
 ghost use Rattle.mml_lab.specs.Shape.{Account, NodeSpec, RawSpec};
 ghost use Rattle.mml_lab.specs.Labs.{LabValue, IsLab, lab_fault, lab_in, lab_of, link_count, links_fault};
 ghost use Rattle.mml_lab.specs.LabMeaning.{Joins, HasLink, HasNode, IsNodeOf, IsLabOfFile, JoinNodes, IsLinkAgain, IsFirstLinkAgain, id_at};
-ghost use Rattle.mml_lab.specs.Rosters.{RosterValue, IsRoster, principal, owns, owners_of, name_of, student_named, with_owners, is_name, is_key, name_twice};
+ghost use Rattle.mml_lab.specs.Rosters.{RosterValue, IsRoster, principal, owns, owners_of, name_of, student_named, is_name, is_key, name_twice};
 ghost use Rattle.mml_lab.specs.RosterMeaning.{IsKnownAs, IsName, IsKey, IsFirstAgain, AreDistinctBelow};
 
 /// Who greets with a name and a key is the one who takes part under them, and there is one at most.
@@ -24,13 +25,6 @@ pub fn owns_means_owner()
     ensures student { (r : RosterValue) (s i : ℕ) →
         (owns r (Who.Student s) i ≡ true) ↔ Contains (owners_of r i) s }
     ensures teacher { (r : RosterValue) (i : ℕ) → owns r Who.Teacher i ≡ false }
-{}
-
-/// A node of a file that names one owner for each has that owner alone.
-pub fn one_owner_each()
-    ensures { (teacher : Account) (students : List Account) (owners : List ℕ) (i : ℕ) →
-        i < length owners →
-        owners_of (with_owners teacher students owners) i ≡ slice_index owners i ∷ [] }
 {}
 
 /// A student's name and the student of a name are inverse.
@@ -114,12 +108,23 @@ pub fn registers_are_those_of_the_file()
         × ((configuration_of (lab_in raw).network).linked i j ≡ true) }
 {}
 
-/// A student owns a node exactly where the file names the student as its owner.
+/// A student owns a node exactly where the file names the student as one of its owners.
 pub fn owners_are_those_of_the_file()
     ensures { (raw : RawSpec) (i s : ℕ) (node : NodeSpec) → lab_fault raw ≡ None →
         IsNodeOf raw (lab_in raw) i node → s < length raw.students →
         (owns (lab_in raw).roster (Who.Student s) i ≡ true)
-        ↔ (name_of (lab_in raw).roster (Who.Student s) ≡ node.owner) }
+        ↔ Contains node.owners (name_of (lab_in raw).roster (Who.Student s)) }
+{}
+
+/// Names have 1 to 32 bytes, keys 1 to 64; a lab has 1 to 100000 events, 1 to 16 sessions and at most
+/// 256 students, and a node at most two owners.
+pub fn labs_have_limits()
+    ensures name { MAX_NAME ≡ 32 }
+    ensures key { MAX_KEY ≡ 64 }
+    ensures events { MAX_EVENTS ≡ 100000 }
+    ensures sessions { MAX_SESSIONS ≡ 16 }
+    ensures students { MAX_STUDENTS ≡ 256 }
+    ensures owners { MAX_OWNERS ≡ 2 }
 {}
 
 /// Every lab that bytes spell is lawful.

@@ -2,16 +2,18 @@
 #![tactic(auto)]
 
 mod accounts;
+mod build;
 mod checks;
 mod fault;
 mod lab;
 pub mod laws;
-mod network;
+mod links;
 mod raw;
 mod reading;
 mod roster;
 mod who;
 
+pub use accounts::is_name;
 pub use fault::{Key, LabFault};
 pub use lab::Lab;
 pub use reading::read_lab;
@@ -27,11 +29,11 @@ pub const MAX_SESSIONS: u64 = 16;
 /// How many students a lab may have at most.
 pub const MAX_STUDENTS: u64 = 256;
 
+/// How many owners a node may have at most.
+pub const MAX_OWNERS: u64 = 2;
+
 /// The greatest length of a name, in bytes.
 pub const MAX_NAME: u64 = 32;
 
 /// The greatest length of a key, in bytes.
 pub const MAX_KEY: u64 = 64;
-
-#[cfg(test)]
-mod tests;

@@ -2,9 +2,10 @@ ghost use Rattle.std.specs.Prelude.{◌≡◌, map, string_bytes, codes, Some, N
 ghost use Rattle.mml_ids.specs.Gives.{Gives};
 ghost use Rattle.toml.specs.Data.{as_str, as_integer, as_bool, as_table, as_array, get_member};
 ghost use Rattle.toml.specs.View.{view, table_view, array_view};
-ghost use Rattle.mml_lab.specs.Shape.{is_memory, need, of_kind, optional_of, each, principal_of, student_of, node_of, link_of, links_of, raw_of, two_of, spelled};
-ghost use Rattle.mml_lab.specs.Raw.{principal_view, node_view, raw_view};
+ghost use Rattle.mml_lab.specs.Shape.{is_memory, need, of_kind, optional_of, optional, names_of, owner_names, each, account_in, student_of, node_of, link_of, links_of, raw_of, two_of, spelled};
+ghost use Rattle.mml_lab.specs.Raw.{account_view, node_view, raw_view};
 
+use crate::MAX_OWNERS;
 use crate::fault::{Key, LabFault};
 use std::alloc::Global;
 use toml::value::Array;
@@ -12,16 +13,18 @@ use toml::{Table, Value};
 
 /// A name and a key.
 #[derive(Debug, Drop)]
-pub struct Principal {
+pub struct Account {
     pub name: String,
     pub key: String,
 }
 
-/// A node as the file spells it: its identifier, the name of its owner, and its registers.
+/// A node as the file spells it: its identifier, the names of its owners, and its registers.
 #[derive(Debug, Drop)]
 pub struct RawNode {
     pub id: i64,
-    pub owner: String,
+    pub owners: Vec<String>,
+    /// Whether it has both keys, `owner` and `owners`.
+    pub both: bool,
     pub p: Option<i64>,
     pub m: bool,
 }
@@ -31,8 +34,8 @@ pub struct RawNode {
 pub struct RawLab {
     pub events: i64,
     pub sessions: i64,
-    pub teacher: Principal,
-    pub students: Vec<Principal>,
+    pub teacher: Account,
+    pub students: Vec<Account>,
     pub nodes: Vec<RawNode>,
     pub links: Vec<(i64, i64)>,
 }
@@ -97,31 +100,31 @@ fn array_of(value: &Value, key: Key) -> Result<&Array, LabFault>
     }
 }
 
-#[tactic(auto, unfolding(crate::specs::Shape::principal_of))]
-fn principal_at(
+#[tactic(auto, unfolding(crate::specs::Shape::account_in))]
+fn account_at(
     alloc: Global,
     table: &Table,
     name_key: Key,
     key_key: Key,
-) -> Result<Principal, LabFault>
-    ensures { Gives is_memory principal_view result
-        (principal_of name_key key_key (table_view table.now)) }
+) -> Result<Account, LabFault>
+    ensures { Gives is_memory account_view result
+        (account_in name_key key_key (table_view table.now)) }
 {
     let name = text(alloc, value_at(table, "name", name_key)?, name_key)?;
     let key = text(alloc, value_at(table, "key", key_key)?, key_key)?;
-    Ok(Principal { name, key })
+    Ok(Account { name, key })
 }
 
 #[tactic(auto, unfolding(crate::specs::Shape::student_of))]
-fn student(alloc: Global, value: &Value) -> Result<Principal, LabFault>
-    ensures { Gives is_memory principal_view result (student_of (view value.now)) }
+fn student(alloc: Global, value: &Value) -> Result<Account, LabFault>
+    ensures { Gives is_memory account_view result (student_of (view value.now)) }
 {
     let table = table_of(value, Key::Student)?;
-    principal_at(alloc, table, Key::StudentName, Key::StudentKey)
+    account_at(alloc, table, Key::StudentName, Key::StudentKey)
 }
 
-fn students(alloc: Global, list: &Array) -> Result<Vec<Principal>, LabFault>
-    ensures { Gives is_memory (λ v. map principal_view v.items) result
+fn students(alloc: Global, list: &Array) -> Result<Vec<Account>, LabFault>
+    ensures { Gives is_memory (λ v. map account_view v.items) result
         (each student_of (array_view list.now)) }
 {
     let mut found = Vec::new(alloc);
@@ -151,20 +154,94 @@ fn optional_boolean(table: &Table, name: &str, key: Key) -> Result<Option<bool>,
     }
 }
 
+fn optional_text(
+    alloc: Global,
+    table: &Table,
+    name: &str,
+    key: Key,
+) -> Result<Option<String>, LabFault>
+    ensures { Gives is_memory (option_map string_bytes) result
+        (optional_of key as_str (get_member name.now (table_view table.now))) }
+{
+    match find(table, name) {
+        Some(v) => Ok(Some(text(alloc, v, key)?)),
+        None => Ok(None),
+    }
+}
+
+fn texts(alloc: Global, list: &Array, key: Key) -> Result<Vec<String>, LabFault>
+    ensures { Gives is_memory (λ v. map string_bytes v.items) result
+        (each (of_kind key as_str) (array_view list.now)) }
+{
+    let mut found = Vec::new(alloc);
+    for value in list {
+        found.push(text(alloc, value, key)?)?;
+    }
+    Ok(found)
+}
+
+#[tactic(auto, unfolding(crate::specs::Shape::names_of))]
+fn names(alloc: Global, value: &Value) -> Result<Vec<String>, LabFault>
+    ensures { Gives is_memory (λ v. map string_bytes v.items) result (names_of (view value.now)) }
+{
+    let names = texts(alloc, array_of(value, Key::NodeOwners)?, Key::NodeOwners)?;
+    if names.is_empty() || names.len() as u64 > MAX_OWNERS {
+        return Err(LabFault::WrongKind(Key::NodeOwners));
+    }
+    Ok(names)
+}
+
+fn optional_names(alloc: Global, table: &Table) -> Result<Option<Vec<String>>, LabFault>
+    ensures { Gives is_memory (option_map (λ v. map string_bytes v.items)) result
+        (optional names_of (get_member (codes "owners") (table_view table.now))) }
+{
+    match find(table, "owners") {
+        Some(v) => Ok(Some(names(alloc, v)?)),
+        None => Ok(None),
+    }
+}
+
+fn owner_names(
+    alloc: Global,
+    owner: Option<String>,
+    owners: Option<Vec<String>>,
+) -> Result<Vec<String>, LabFault>
+    ensures { Gives is_memory (λ v. map string_bytes v.items) result (ok_or
+        (owner_names (option_map string_bytes owner) (option_map (λ v. map string_bytes v.items) owners))
+        (LabFault.Missing Key.NodeOwner)) }
+{
+    if let Some(names) = owners {
+        return Ok(names);
+    }
+    match owner {
+        Some(name) => {
+            let mut names = Vec::new(alloc);
+            names.push(name)?;
+            Ok(names)
+        }
+        None => Err(LabFault::Missing(Key::NodeOwner)),
+    }
+}
+
 #[tactic(auto, unfolding(crate::specs::Shape::node_of))]
 fn node(alloc: Global, value: &Value) -> Result<RawNode, LabFault>
     ensures { Gives is_memory node_view result (node_of (view value.now)) }
 {
     let table = table_of(value, Key::Node)?;
     let id = integer(value_at(table, "id", Key::NodeId)?, Key::NodeId)?;
-    let owner = text(
-        alloc,
-        value_at(table, "owner", Key::NodeOwner)?,
-        Key::NodeOwner,
-    )?;
+    let owner = optional_text(alloc, table, "owner", Key::NodeOwner)?;
+    let owners = optional_names(alloc, table)?;
+    let both = owner.is_some() && owners.is_some();
+    let owners = owner_names(alloc, owner, owners)?;
     let p = optional_integer(table, "p", Key::NodeP)?;
     let m = optional_boolean(table, "m", Key::NodeM)?.unwrap_or(false);
-    Ok(RawNode { id, owner, p, m })
+    Ok(RawNode {
+        id,
+        owners,
+        both,
+        p,
+        m,
+    })
 }
 
 fn nodes(alloc: Global, list: &Array) -> Result<Vec<RawNode>, LabFault>
@@ -228,7 +305,7 @@ pub fn read_raw(alloc: Global, table: &Table) -> Result<RawLab, LabFault>
     let events = integer(value_at(table, "events", Key::Events)?, Key::Events)?;
     let sessions = integer(value_at(table, "sessions", Key::Sessions)?, Key::Sessions)?;
     let teacher = table_of(value_at(table, "teacher", Key::Teacher)?, Key::Teacher)?;
-    let teacher = principal_at(alloc, teacher, Key::TeacherName, Key::TeacherKey)?;
+    let teacher = account_at(alloc, teacher, Key::TeacherName, Key::TeacherKey)?;
     let list = array_of(value_at(table, "student", Key::Student)?, Key::Student)?;
     let students = students(alloc, list)?;
     let list = array_of(value_at(table, "node", Key::Node)?, Key::Node)?;

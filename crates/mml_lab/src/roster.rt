@@ -4,11 +4,11 @@ ghost use Rattle.mml_ids.specs.Gives.{Gives, unless_fault};
 ghost use Rattle.mml_lab.specs.declared.who.Who.TheVariants.{Student as AStudent};
 ghost use Rattle.mml_lab.specs.declared.TheConstants.{MAX_NAME};
 ghost use Rattle.mml_lab.specs.Shape.{is_memory};
-ghost use Rattle.mml_lab.specs.Raw.{principal_view, entry_view};
+ghost use Rattle.mml_lab.specs.Raw.{account_view, entry_view};
 ghost use Rattle.mml_lab.specs.Rosters.{principal, student_named, owns, name_of, is_name, has_name_and_key, no_account, name_twice, with_owners, IsPrincipal, IsRoster};
 
 use crate::fault::LabFault;
-use crate::raw::Principal;
+use crate::raw::Account;
 use crate::who::{Student, Who};
 use indexmap::IndexMap;
 use mml_ids::Rank;
@@ -18,11 +18,11 @@ use std::marker::Model;
 /// Who takes part in a lab, under which name and key, and who owns each node.
 #[derive(Debug, Drop)]
 pub struct Roster {
-    teacher: Principal,
+    teacher: Account,
     // name to key, in the file's order
     students: IndexMap<String, String>,
     // by rank
-    owners: Vec<Student>,
+    owners: Vec<Vec<Student>>,
 }
 
 impl Model for Roster {
@@ -38,16 +38,16 @@ impl Model for Roster {
 }
 
 impl Roster {
-    /// The students' names and keys in the file's order, and for each rank the one owner of the node.
+    /// The students' names and keys in the file's order, and for each rank the owners of the node.
     pub(crate) fn new(
-        teacher: Principal,
+        teacher: Account,
         students: IndexMap<String, String>,
-        owners: Vec<Student>,
+        owners: Vec<Vec<Student>>,
     ) -> Roster
-        requires { IsRoster (with_owners (principal_view teacher)
-            (map entry_view students.entries) owners.items) }
-        ensures { result ≡ with_owners (principal_view teacher)
-            (map entry_view students.entries) owners.items }
+        requires { IsRoster (with_owners (account_view teacher)
+            (map entry_view students.entries) (map (λ v. v.items) owners.items)) }
+        ensures { result ≡ with_owners (account_view teacher)
+            (map entry_view students.entries) (map (λ v. v.items) owners.items) }
     {
         Roster {
             teacher,
@@ -70,7 +70,7 @@ impl Roster {
         ensures member { IfSome result (IsPrincipal self.now) }
         ensures roster { IsRoster self.now }
     {
-        if is_principal(&self.teacher, name, key) {
+        if has_name_and_key(&self.teacher, name, key) {
             return Some(Who::Teacher);
         }
         match student_with(&self.students, name, key) {
@@ -86,7 +86,7 @@ impl Roster {
         match who {
             Who::Teacher => false,
             Who::Student(student) => match self.owners.get(node.index() as usize) {
-                Some(owner) => *owner == student,
+                Some(owners) => owners.contains(&student),
                 None => false,
             },
         }
@@ -118,8 +118,8 @@ impl Roster {
     }
 }
 
-fn is_principal(account: &Principal, name: &str, key: &str) -> bool
-    ensures { result ≡ has_name_and_key name.now key.now (principal_view account.now) }
+fn has_name_and_key(account: &Account, name: &str, key: &str) -> bool
+    ensures { result ≡ has_name_and_key name.now key.now (account_view account.now) }
 {
     name == account.name.as_str() && key == account.key.as_str()
 }
@@ -161,16 +161,16 @@ fn is_taken(students: &IndexMap<String, String>, teacher: &str, name: &str) -> b
 /// The students' names and keys in the file's order, or the first name that stands twice.
 pub(crate) fn students_map(
     alloc: Global,
-    teacher: &Principal,
-    students: Vec<Principal>,
+    teacher: &Account,
+    students: Vec<Account>,
 ) -> Result<IndexMap<String, String>, LabFault>
     ensures { Gives is_memory (λ m. map entry_view m.entries) result
-        (unless_fault (name_twice (principal_view teacher.now ∷ map principal_view students.items))
-        (map principal_view students.items)) }
+        (unless_fault (name_twice (account_view teacher.now ∷ map account_view students.items))
+        (map account_view students.items)) }
 {
     let mut found = IndexMap::new(alloc);
     for student in students {
-        let Principal { name, key } = student;
+        let Account { name, key } = student;
         if is_taken(&found, teacher.name.as_str(), name.as_str()) {
             return Err(LabFault::NameTwice(found.len() + 1));
         }
@@ -178,6 +178,3 @@ pub(crate) fn students_map(
     }
     Ok(found)
 }
-
-#[cfg(test)]
-mod tests;

@@ -1,1 +1,10 @@
-pub mod Visibles
+pub mod VisibleLemmas
+pub mod ClausesLemmas
+pub mod VerdictLemmas
+pub mod MeaningLemmas
+pub mod CommandMeaningLemmas
+pub mod NearLemmas
+pub mod AlikeLemmas
+pub mod AskingLemmas
+pub mod RulingsLemmas
+pub mod LookLemmas

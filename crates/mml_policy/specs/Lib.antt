@@ -1,4 +1,10 @@
+pub mod Acts
 pub mod Denials
 pub mod Visible
+pub mod Clauses
 pub mod Verdicts
-pub mod Answers
+pub mod Shown
+pub mod Rulings
+pub mod Meaning
+pub mod Asking
+pub mod Alike

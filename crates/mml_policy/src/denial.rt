@@ -12,6 +12,30 @@ pub enum Denial {
     Unknown,
     /// There is no such node, or it isn't visible to the one who asks.
     Hidden,
+    /// There is no such node, or the one who asks doesn't own it.
+    NotOwner,
+    /// The move was asked for in another configuration than the current one, whose number this is.
+    Stale(u64),
+    /// A move is chosen for the node already.
+    Chosen,
+    /// The rule may not be applied at the node.
+    Guard,
+    /// The one who asks isn't the teacher.
+    NotTeacher,
+    /// No node has a chosen move.
+    Empty,
+    /// No node has that identifier.
+    NoNode,
+    /// The register would point at a node that isn't linked.
+    BadRegister,
+    /// Both ends are the same node.
+    Loop,
+    /// There is such a link already.
+    Linked,
+    /// There is no such link.
+    NotLinked,
+    /// The node has no chosen move.
+    NotChosen,
 }
 
 impl Denial {
@@ -24,6 +48,18 @@ impl Denial {
             Denial::Greeted => 1,
             Denial::Unknown => 2,
             Denial::Hidden => 1,
+            Denial::NotOwner => 1,
+            Denial::Stale(_) => 2,
+            Denial::Chosen => 3,
+            Denial::Guard => 4,
+            Denial::NotTeacher => 1,
+            Denial::Empty => 2,
+            Denial::NoNode => 2,
+            Denial::BadRegister => 3,
+            Denial::Loop => 3,
+            Denial::Linked => 4,
+            Denial::NotLinked => 3,
+            Denial::NotChosen => 3,
         }
     }
 
@@ -36,6 +72,18 @@ impl Denial {
             Denial::Greeted => "greeted",
             Denial::Unknown => "unknown",
             Denial::Hidden => "hidden",
+            Denial::NotOwner => "not-owner",
+            Denial::Stale(_) => "stale",
+            Denial::Chosen => "chosen",
+            Denial::Guard => "guard",
+            Denial::NotTeacher => "not-teacher",
+            Denial::Empty => "empty",
+            Denial::NoNode => "no-node",
+            Denial::BadRegister => "bad-register",
+            Denial::Loop => "loop",
+            Denial::Linked => "linked",
+            Denial::NotLinked => "not-linked",
+            Denial::NotChosen => "not-chosen",
         }
     }
 
@@ -48,6 +96,18 @@ impl Denial {
             Denial::Greeted => "this connection has a name already",
             Denial::Unknown => "name and key do not match",
             Denial::Hidden => "this node is not shown to you",
+            Denial::NotOwner => "you do not own this node",
+            Denial::Stale(_) => "this is not the current configuration",
+            Denial::Chosen => "this node is already chosen",
+            Denial::Guard => "the guard of this rule does not hold",
+            Denial::NotTeacher => "only the teacher may do this",
+            Denial::Empty => "no node is chosen",
+            Denial::NoNode => "there is no such node",
+            Denial::BadRegister => "p must be null or a neighbour",
+            Denial::Loop => "a node is not linked to itself",
+            Denial::Linked => "these nodes are linked already",
+            Denial::NotLinked => "these nodes are not linked",
+            Denial::NotChosen => "this node is not chosen",
         }
     }
 }

@@ -1,13 +1,135 @@
 //! Laws of the policy. Each is the clause of a function that does nothing.
-ghost use Rattle.std.specs.Prelude.{◌≡◌, ◌↔◌, ℕ, List, true, false};
+ghost use Rattle.std.specs.Prelude.{◌≡◌, ◌<◌, ◌↔◌, ◌⊎◌, ℕ, Bool, List, Option, Some, true, length};
+ghost use Rattle.mml_rules.specs.declared.rule.Rule.{Rule};
 ghost use Rattle.mml_rules.specs.Configuration.{Configuration, IsLawful};
 ghost use Rattle.mml_lab.specs.declared.who.Who.{Who};
 ghost use Rattle.mml_lab.specs.Rosters.{RosterValue, owns};
+ghost use Rattle.mml_board.specs.declared.event.Event.{Event};
+ghost use Rattle.mml_board.specs.declared.event.Event.TheVariants as event;
+ghost use Rattle.mml_board.specs.World.{World, size, configuration};
+ghost use Rattle.mml_board.specs.Events.{is_legal};
+ghost use Rattle.mml_policy.specs.declared.command.Asked.{Asked};
+ghost use Rattle.mml_policy.specs.declared.command.Command.{Command};
+ghost use Rattle.mml_policy.specs.declared.command.Command.TheVariants as command;
+ghost use Rattle.mml_policy.specs.declared.denial.Denial.{Denial};
+ghost use Rattle.mml_policy.specs.declared.verdict.Verdict.TheVariants as verdicts;
 ghost use Rattle.mml_policy.specs.Visible.{is_visible, IsVisible};
+ghost use Rattle.mml_policy.specs.Verdicts.{verdict};
+ghost use Rattle.mml_ids.specs.Ids.{IsTable};
+ghost use Rattle.mml_lab.specs.declared.who.Who.TheVariants as who;
+ghost use Rattle.mml_policy.specs.Rulings.{ruling, event_of, after_ruling};
+ghost use Rattle.mml_policy.specs.Asking.{asker, command_of};
+ghost use Rattle.mml_policy.specs.Alike.{Alike, IsWorldOf};
+ghost use Rattle.mml_policy.specs.Meaning.{MayMove, DeniesMove, MaySee, MayLook, MayClose, MayFault, MayLink, MayCut, MayRelease, ShowsWhatIsVisible};
+ghost use Rattle.mml_policy.specs.Shown.{look_of};
 
 /// A node is visible to the teacher, to its owners and to the owners of its neighbours, and to no one
 /// else.
 pub fn visible_means_facts()
     ensures { (r : RosterValue) (c : Configuration) (x : Who) (i : ℕ) → IsLawful c →
         (is_visible r c x i ≡ true) ↔ IsVisible r c x i }
+{}
+
+/// A move is granted exactly when the one who asks owns the node, the number is the current one, no
+/// move is chosen for the node, and the rule may be applied there; it is denied by the first of these
+/// that doesn't hold.
+pub fn a_move_takes_four_facts()
+    ensures granted { (ids : List ℕ) (r : RosterValue) (w : World) (x : Who) (id : ℕ)
+        (asked : Asked) (at : ℕ) (e : Event) → IsLawful (configuration w) →
+        (verdict ids r w x (command.Move id asked at) ≡ verdicts.Grant e) ↔
+        ((s : ℕ) × (i : ℕ) × (q : Rule) × (e ≡ event.Grant s i q)
+        × MayMove ids r w x id asked at s i q) }
+    ensures denied { (ids : List ℕ) (r : RosterValue) (w : World) (x : Who) (id : ℕ)
+        (asked : Asked) (at : ℕ) (d : Denial) → IsLawful (configuration w) →
+        verdict ids r w x (command.Move id asked at) ≡ verdicts.Deny d →
+        DeniesMove ids r w x id asked at d }
+{}
+
+/// A node's registers are shown exactly where there is such a node and it is visible to the one who
+/// asks.
+pub fn a_see_takes_a_visible_node()
+    ensures { (ids : List ℕ) (r : RosterValue) (w : World) (x : Who) (id : ℕ) →
+        IsLawful (configuration w) →
+        (verdict ids r w x (command.See id) ≡ verdicts.Show) ↔ MaySee ids r w x id }
+{}
+
+/// A node is looked at exactly by its owners and the teacher.
+pub fn a_look_takes_an_owner()
+    ensures { (ids : List ℕ) (r : RosterValue) (w : World) (x : Who) (id : ℕ) →
+        (verdict ids r w x (command.Look id) ≡ verdicts.Show) ↔ MayLook ids r x id }
+{}
+
+/// A look shows the registers of its node and of the neighbours, and each of these nodes is visible to
+/// the one who may look.
+pub fn a_look_shows_what_is_visible()
+    ensures { (r : RosterValue) (w : World) (x : Who) (i : ℕ) → IsLawful (configuration w) →
+        (x ≡ who.Teacher) ⊎ (owns r x i ≡ true) → ShowsWhatIsVisible r w x (look_of w i) }
+{}
+
+/// A step is closed exactly by the teacher, where some move is chosen.
+pub fn a_close_takes_a_chosen_node()
+    ensures { (ids : List ℕ) (r : RosterValue) (w : World) (x : Who) (e : Event) →
+        (verdict ids r w x command.Close ≡ verdicts.Grant e) ↔
+        ((x ≡ who.Teacher) × MayClose w e) }
+{}
+
+/// The registers of a node are set exactly by the teacher, to a pointer that is null or a neighbour.
+pub fn a_fault_takes_a_neighbour()
+    ensures { (ids : List ℕ) (r : RosterValue) (w : World) (x : Who) (id : ℕ) (p : Option ℕ)
+        (m : Bool) (e : Event) → (verdict ids r w x (command.Fault id p m) ≡ verdicts.Grant e) ↔
+        ((x ≡ who.Teacher) × MayFault ids w id p m e) }
+{}
+
+/// A link is made exactly by the teacher, between two different nodes that aren't linked.
+pub fn a_link_takes_two_unlinked_nodes()
+    ensures { (ids : List ℕ) (r : RosterValue) (w : World) (x : Who) (first second : ℕ)
+        (e : Event) → (verdict ids r w x (command.Link first second) ≡ verdicts.Grant e) ↔
+        ((x ≡ who.Teacher) × MayLink ids w first second e) }
+{}
+
+/// A link is removed exactly by the teacher, between two nodes that are linked.
+pub fn a_cut_takes_two_linked_nodes()
+    ensures { (ids : List ℕ) (r : RosterValue) (w : World) (x : Who) (first second : ℕ)
+        (e : Event) → (verdict ids r w x (command.Cut first second) ≡ verdicts.Grant e) ↔
+        ((x ≡ who.Teacher) × MayCut ids w first second e) }
+{}
+
+/// A chosen move is dropped exactly by the teacher.
+pub fn a_release_takes_a_chosen_node()
+    ensures { (ids : List ℕ) (r : RosterValue) (w : World) (x : Who) (id : ℕ) (e : Event) →
+        (verdict ids r w x (command.Release id) ≡ verdicts.Grant e) ↔
+        ((x ≡ who.Teacher) × MayRelease ids w id e) }
+{}
+
+/// An event that a verdict grants is legal.
+pub fn granted_events_are_legal()
+    ensures { (ids : List ℕ) (r : RosterValue) (w : World) (x : Who) (c : Command) (e : Event) →
+        length ids ≡ size w → verdict ids r w x c ≡ verdicts.Grant e → is_legal r w e ≡ true }
+{}
+
+/// A legal event is granted where its asker asks for it at the current number, and only a legal event:
+/// so who checks a list of events asks the same verdict.
+pub fn legal_events_are_granted()
+    ensures { (ids : List ℕ) (r : RosterValue) (w : World) (e : Event) →
+        IsTable ids → IsWorldOf ids w → (is_legal r w e ≡ true) ↔
+        (verdict ids r w (asker e) (command_of ids w e) ≡ verdicts.Grant e) }
+{}
+
+/// What a student is answered depends on nothing that is hidden from the student: in worlds that are
+/// alike for a student each command has the same ruling, and the worlds afterwards are alike again.
+pub fn hidden_values_change_no_ruling()
+    ensures ruling { (ids : List ℕ) (r : RosterValue) (limit : ℕ) (w v : World) (s : ℕ)
+        (c : Command) → IsWorldOf ids w → IsWorldOf ids v → Alike r s w v →
+        ruling ids r limit w (who.Student s) c ≡ ruling ids r limit v (who.Student s) c }
+    ensures afterwards { (ids : List ℕ) (r : RosterValue) (limit : ℕ) (w v : World) (s : ℕ)
+        (c : Command) → IsWorldOf ids w → IsWorldOf ids v → Alike r s w v →
+        Alike r s (after_ruling w (ruling ids r limit w (who.Student s) c))
+        (after_ruling v (ruling ids r limit v (who.Student s) c)) }
+{}
+
+/// An event takes place only where it is legal and the limit of events isn't reached.
+pub fn events_that_take_place_are_legal()
+    ensures { (ids : List ℕ) (r : RosterValue) (limit : ℕ) (w : World) (x : Who) (c : Command)
+        (e : Event) → length ids ≡ size w → event_of (ruling ids r limit w x c) ≡ Some e →
+        (is_legal r w e ≡ true) × (w.place < limit) }
 {}

@@ -1,18 +1,20 @@
 //! Who may see and do what: the clauses of each command, and what the answers show.
 #![tactic(auto)]
 
+mod clause;
 mod command;
 mod denial;
 pub mod laws;
+mod look;
+mod ruling;
 mod see;
 mod verdict;
 mod visibility;
 
-pub use command::Command;
+pub use command::{Asked, Command};
 pub use denial::Denial;
+pub use look::{Look, look_of};
+pub use ruling::{Ruling, rule_on};
 pub use see::{See, see_of};
 pub use verdict::{Verdict, judge};
 pub use visibility::visible;
-
-#[cfg(test)]
-mod tests;

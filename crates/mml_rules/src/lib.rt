@@ -2,15 +2,14 @@
 #![tactic(auto)]
 
 pub mod laws;
+mod network;
 mod registers;
 mod rule;
 mod rules;
 mod scene;
 
+pub use network::Network;
 pub use registers::Regs;
 pub use rule::{Kind, Rule};
 pub use rules::{effect, enabled, guard, married};
 pub use scene::Scene;
-
-#[cfg(test)]
-mod tests;

@@ -1,2 +1,2 @@
-pub mod Answered
+pub mod Answering
 pub mod Faults

@@ -3,7 +3,7 @@ ghost use Rattle.std.specs.Prelude.{◌≡◌, ◌⊎◌, [], Err, Result};
 ghost use Rattle.std.specs.Io.Buffered.{writer_buffer, writer_contents};
 ghost use Rattle.mml_hall.specs.Halls.{HallValue};
 ghost use Rattle.mml_server.specs.declared.fault.Fault.{Fault};
-ghost use Rattle.mml_server.specs.Answered.{Answered};
+ghost use Rattle.mml_server.specs.Answering.{AnswersScript};
 
 use crate::fault::{Fault, memory_or};
 use mml_hall::{Hall, run_script};
@@ -30,7 +30,7 @@ pub fn answer_script<R: Read, W: Write>(
     reader: &mut R,
     writer: &mut W,
 ) -> Result<Hall, Fault>
-    ensures { Answered result lab (R.remaining reader.old)
+    ensures { AnswersScript result lab (R.remaining reader.old) (R.remaining reader.new)
         (W.contents writer.old) (W.contents writer.new) }
 {
     let hall = run_script(alloc, lab, reader, writer)?;
@@ -45,7 +45,8 @@ pub fn answer_through_buffer<R: Read, W: Write + Drop>(
     reader: &mut R,
     writer: &mut BufWriter<W>,
 ) -> Result<Hall, Fault>
-    ensures { (answered : Result HallValue Fault) × Answered answered lab (R.remaining reader.old)
+    ensures { (answered : Result HallValue Fault)
+        × AnswersScript answered lab (R.remaining reader.old) (R.remaining reader.new)
         (writer_contents W.contents writer.old) (writer_contents W.contents writer.new)
         × ((result ≡ Err Fault.Write) ⊎ (result ≡ Err Fault.Memory)
         ⊎ ((result ≡ answered) × (writer_buffer writer.new ≡ []))) }

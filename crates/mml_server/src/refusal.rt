@@ -12,6 +12,8 @@ pub enum LabRefusal {
     Missing(&'static str),
     #[error("{0} is of the wrong kind")]
     WrongKind(&'static str),
+    #[error("node {0}: owner and owners")]
+    BothOwners(usize),
     #[error("no nodes")]
     NoNodes,
     #[error("too many nodes")]
@@ -26,6 +28,8 @@ pub enum LabRefusal {
     NameTwice(usize),
     #[error("node {0}: no such owner")]
     NoOwner(usize),
+    #[error("node {0}: owner stands twice")]
+    OwnerTwice(usize),
     #[error("link {0}: no such node")]
     LinkEnd(usize),
     #[error("link {0}: a loop")]
@@ -45,10 +49,12 @@ impl LabRefusal {
             LabFault::NotToml => LabRefusal::NotToml,
             LabFault::Missing(key) => LabRefusal::Missing(name_of(key)),
             LabFault::WrongKind(key) => LabRefusal::WrongKind(name_of(key)),
+            LabFault::BothOwners(index) => LabRefusal::BothOwners(index),
             LabFault::Id(fault) => return LabRefusal::of_identifiers(fault),
             LabFault::Name(index) => LabRefusal::Name(index),
             LabFault::NameTwice(index) => LabRefusal::NameTwice(index),
             LabFault::NoOwner(index) => LabRefusal::NoOwner(index),
+            LabFault::OwnerTwice(index) => LabRefusal::OwnerTwice(index),
             LabFault::LinkEnd(index) => LabRefusal::LinkEnd(index),
             LabFault::Loop(index) => LabRefusal::Loop(index),
             LabFault::LinkTwice(index) => LabRefusal::LinkTwice(index),
@@ -84,6 +90,7 @@ fn name_of(key: Key) -> &'static str {
         Key::Node => "node",
         Key::NodeId => "node.id",
         Key::NodeOwner => "node.owner",
+        Key::NodeOwners => "node.owners",
         Key::NodeP => "node.p",
         Key::NodeM => "node.m",
         Key::Links => "links",

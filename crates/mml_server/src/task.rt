@@ -12,24 +12,36 @@ use std::{env, io};
 /// Does what the words of the command line ask for. The lab is read first, and the script is opened
 /// only where there is a lab.
 pub fn run<R: Env + Files + Input + Print + AllocGlobal>(rt: &R) -> Result<(), Fault> {
-    let alloc = rt.alloc();
     let words = words_of(rt)?;
-    match read_words(alloc, words.as_slice())? {
-        Task::BuiltIn => {
-            let lab = read_lab(alloc, built_in::LAB.as_bytes())?;
-            answer_script(alloc, lab, &mut rt.reader(), &mut io::writer(rt))?;
-        }
-        Task::Check { lab } => write_size(&lab_of(rt, lab)?, &mut io::writer(rt))?,
-        Task::Script { lab, script } => {
-            let lab = lab_of(rt, lab)?;
-            let script = read_file(rt, script, Fault::ReadScript)?;
-            let mut writer = BufWriter::new(alloc, io::writer(rt)).map_err(|error| memory_or(
-                &error,
-                Fault::Write,
-            ))?;
-            answer_through_buffer(alloc, lab, &mut script.as_slice(), &mut writer)?;
-        }
+    match read_words(rt.alloc(), words.as_slice())? {
+        Task::BuiltIn => answer_input(rt),
+        Task::Check { lab } => write_size(&lab_of(rt, lab)?, &mut io::writer(rt)),
+        Task::Script { lab, script } => answer_file(rt, lab, script),
     }
+}
+
+// Answers the script on standard input over the built-in lab, each line with a write.
+fn answer_input<R: Input + Print + AllocGlobal>(rt: &R) -> Result<(), Fault> {
+    let alloc = rt.alloc();
+    let lab = read_lab(alloc, built_in::LAB.as_bytes())?;
+    answer_script(alloc, lab, &mut rt.reader(), &mut io::writer(rt))?;
+    Ok(())
+}
+
+// Answers the script of a file over the lab of a file, through a buffer.
+fn answer_file<R: Files + Print + AllocGlobal>(
+    rt: &R,
+    lab: &str,
+    script: &str,
+) -> Result<(), Fault> {
+    let alloc = rt.alloc();
+    let lab = lab_of(rt, lab)?;
+    let script = read_file(rt, script, Fault::ReadScript)?;
+    let mut writer = BufWriter::new(alloc, io::writer(rt)).map_err(|error| memory_or(
+        &error,
+        Fault::Write,
+    ))?;
+    answer_through_buffer(alloc, lab, &mut script.as_slice(), &mut writer)?;
     Ok(())
 }
 

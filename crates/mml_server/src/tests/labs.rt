@@ -103,7 +103,7 @@ fn whole_arrays_are_missing(rt: HostRuntime) -> Result<(), Fail> {
     Ok(())
 }
 
-const WRONG_KINDS: [Row; 19] = [
+const WRONG_KINDS: [Row; 20] = [
     (
         "events = 100",
         "events = 1.0",
@@ -158,6 +158,11 @@ const WRONG_KINDS: [Row; 19] = [
         "owner = \"cyd\"",
         "owner = 3",
         "lab: node.owner is of the wrong kind",
+    ),
+    (
+        "owner = \"cyd\"",
+        "owners = []",
+        "lab: node.owners is of the wrong kind",
     ),
     (
         "owner = \"cyd\"",
@@ -225,7 +230,7 @@ fn elements_are_of_the_wrong_kind(rt: HostRuntime) -> Result<(), Fail> {
     Ok(())
 }
 
-const NODES: [Row; 11] = [
+const NODES: [Row; 15] = [
     (
         "id = 1\n",
         "id = 0\n",
@@ -256,6 +261,22 @@ const NODES: [Row; 11] = [
         "owner = \"Ana\"",
         "lab: node 0: no such owner",
     ),
+    (
+        "owner = \"cyd\"",
+        "owner = \"cyd\"\nowners = [\"cyd\"]",
+        "lab: node 2: owner and owners",
+    ),
+    (
+        "owner = \"ben\"",
+        "owners = [\"ben\", \"ben\"]",
+        "lab: node 1: owner stands twice",
+    ),
+    (
+        "owner = \"ben\"",
+        "owners = [\"ben\", \"tess\"]",
+        "lab: node 1: no such owner",
+    ),
+    ("owner = \"ben\"", "owners = [\"cyd\", \"ben\"]", SIZE),
     (
         "owner = \"ana\"",
         "owner = \"ana\"\np = 3",
@@ -498,10 +519,10 @@ fn of_size(alloc: Global, students: usize, nodes: usize) -> Result<String, Fail>
 fn students_and_nodes_have_limits(rt: HostRuntime) -> Result<(), Fail> {
     for (students, nodes, line) in [
         (1, 1, "ok: 1 nodes, 0 links, 1 students"),
-        (256, 64, "ok: 64 nodes, 0 links, 256 students"),
-        (257, 64, "lab: student is out of its limits"),
-        (256, 65, "lab: too many nodes"),
-        (257, 65, "lab: too many nodes"),
+        (256, 256, "ok: 256 nodes, 0 links, 256 students"),
+        (257, 256, "lab: student is out of its limits"),
+        (256, 257, "lab: too many nodes"),
+        (257, 257, "lab: too many nodes"),
         (0, 1, "lab: student is missing"),
     ] {
         let text = of_size(rt.alloc(), students, nodes)?;

@@ -1,4 +1,4 @@
-use Rattle.mml_codec.proofs.Again.{canonical_line}
+use Rattle.mml_codec.proofs.CanonicalLemmas.{canonical_line}
 use Rattle.mml_codec.proofs.laws.a_text_is_one_line.Goals as goal
 
 pub returns : goal.returns

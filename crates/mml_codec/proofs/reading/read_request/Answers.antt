@@ -1,5 +1,5 @@
 use Rattle.std.proofs.Common.{sym, ◌∙◌, true≢false}
-use Rattle.mml_codec.proofs.ValueIn.{value_in-some, value_in-none, request_in-some, request_in-none}
+use Rattle.mml_codec.proofs.LinesLemmas.{value_in-some, value_in-none, request_in-some, request_in-none}
 use Rattle.mml_codec.proofs.reading.read_request.Goals as goal
 
 pub returns-in-Ok : goal.returns-in-Ok

@@ -1,4 +1,4 @@
-use Rattle.mml_hall.proofs.TranscriptLaws.{first_lines, all_lines}
+use Rattle.mml_hall.proofs.TranscriptsLemmas.{first_lines, all_lines}
 use Rattle.mml_hall.proofs.laws.lines_of_a_transcript.Goals as goal
 
 pub returns-clause-first : goal.returns-clause-first

@@ -1,4 +1,4 @@
-use Rattle.mml_hall.proofs.TranscriptLaws.{as_many}
+use Rattle.mml_hall.proofs.TranscriptsLemmas.{as_many}
 use Rattle.mml_hall.specs.Turns.{opening}
 use Rattle.mml_hall.proofs.laws.one_reply_each.Goals as goal
 

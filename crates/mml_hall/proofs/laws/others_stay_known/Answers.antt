@@ -1,4 +1,4 @@
-use Rattle.mml_hall.proofs.TurnLaws.{others_turn}
+use Rattle.mml_hall.proofs.TurnsLemmas.{others_turn}
 use Rattle.mml_hall.proofs.laws.others_stay_known.Goals as goal
 
 pub returns : goal.returns

@@ -1,4 +1,4 @@
-use Rattle.mml_hall.proofs.TurnLaws.{refused_turn}
+use Rattle.mml_hall.proofs.TurnsLemmas.{refused_turn}
 use Rattle.mml_hall.proofs.laws.refusals_change_nothing.Goals as goal
 
 pub returns : goal.returns

@@ -1,16 +1,16 @@
 use Rattle.std.proofs.Common.{◌≡◌, ◌≤◌, ◌+◌, ◌*◌, None}
 use Rattle.mml_lines.specs.declared.lines.TheConstants.{MAX_READS, READ_SIZE}
-use Rattle.mml_hall.specs.Steps.{bytes_ahead}
+use Rattle.mml_hall.specs.Serving.{bytes_ahead}
 use Rattle.std.specs.Vec.{vec_capacity}
 use Rattle.std.specs.Io.KnownBytes.{prepend_known}
 use Rattle.mml_codec.specs.declared.reply.TheConstants.{REPLY_ROOM}
 use Rattle.mml_hall.specs.declared.TheConstants.{MAX_SCRIPT_LINE}
-use Rattle.mml_hall.proofs.Endings.{Told}
+use Rattle.mml_hall.proofs.ScriptsLemmas.{AnsweredSoFar}
 use Rattle.mml_hall.proofs.script.run_script.Given as goal
 
 abbrev pub invariant-loop-answered : goal.invariant-loop-answered
 invariant-loop-answered g l = record {
-  told : Told l.fn.lab l.hall l.answered (g.R.Read.remaining l.fn.reader) (prepend_known l.lines.unread (g.R.Read.remaining l.reader)) (g.W.Write.contents l.fn.writer) (g.W.Write.contents l.writer);
+  so_far : AnsweredSoFar l.fn.lab l.hall l.answered (g.R.Read.remaining l.fn.reader) (prepend_known l.lines.unread (g.R.Read.remaining l.reader)) (g.W.Write.contents l.fn.writer) (g.W.Write.contents l.writer);
   going : l.lines.ending ≡ None;
   limit : l.lines.limit ≡ MAX_SCRIPT_LINE;
   few : l.answered + bytes_ahead l.lines ≤ READ_SIZE * MAX_READS;

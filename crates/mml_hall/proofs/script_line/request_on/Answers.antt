@@ -1,5 +1,5 @@
 use Rattle.std.proofs.Common.{◌≡◌, ◌++◌, decimal}
-use Rattle.mml_hall.proofs.Spelled.{word_without_space}
+use Rattle.mml_hall.proofs.ScriptLinesLemmas.{word_without_space}
 use Rattle.mml_hall.proofs.script_line.request_on.Goals as goal
 
 pub returns-in_err-request : goal.returns-in_err-request

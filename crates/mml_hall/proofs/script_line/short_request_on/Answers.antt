@@ -1,5 +1,5 @@
 use Rattle.std.proofs.Common.{decimal, arith}
-use Rattle.mml_hall.proofs.Spelled.{request_unbroken}
+use Rattle.mml_hall.proofs.ScriptLinesLemmas.{request_unbroken}
 use Rattle.mml_hall.proofs.script_line.short_request_on.Goals as goal
 
 pub returns-then-request-le-MAX_REQUEST-clause-short : goal.returns-then-request-le-MAX_REQUEST-clause-short

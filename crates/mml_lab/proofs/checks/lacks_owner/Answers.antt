@@ -1,10 +1,12 @@
-use Rattle.std.proofs.Common.{◌≡◌, ◌∙◌, ap, not, List, ℕ, string_bytes}
-use Rattle.std.specs.Prelude.{is_some, bytes_eq}
-use Rattle.std.specs.Map.{lookup}
-use Rattle.mml_lab.proofs.RawLemmas.{some-lookup}
+use Rattle.std.proofs.Common.{◌∙◌, ap, map, not, string_bytes}
+use Rattle.std.specs.List.{list_any}
+use Rattle.mml_lab.specs.Raw.{entry_view}
+use Rattle.mml_lab.specs.Rosters.{has_name}
+use Rattle.mml_lab.proofs.MapLemmas.{list_any-map}
 use Rattle.mml_lab.proofs.checks.lacks_owner.Goals as goal
 
 pub returns : goal.returns
 returns c =
-    let has : List ℕ → _ = λ (name : List ℕ). is_some (lookup (λ k. bytes_eq name (string_bytes k)) c.args.students.now.entries) in
-    ap not (c.contains_key.ensures ∙ ap has c.as_str.ensures.value ∙ some-lookup _ c.args.students.now.entries)
+    let students = map entry_view c.args.students.now.entries in
+    c.lacks_student.ensures ∙ ap (list_any (λ name. not (list_any (has_name (string_bytes name)) students))) c.deref.ensures.value
+    ∙ list_any-map (λ name. not (list_any (has_name name) students)) string_bytes _

@@ -1,4 +1,4 @@
-use Rattle.mml_lab.proofs.Forms.{name-means, key-means}
+use Rattle.mml_lab.proofs.FormLemmas.{name-means, key-means}
 use Rattle.mml_lab.proofs.laws.forms_mean_facts.Goals as goal
 
 pub returns : goal.returns

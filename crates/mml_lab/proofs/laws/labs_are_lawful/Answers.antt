@@ -1,4 +1,4 @@
-use Rattle.mml_lab.proofs.LabFacts.{lawful}
+use Rattle.mml_lab.proofs.LabMeaningLemmas.{lawful}
 use Rattle.mml_lab.proofs.laws.labs_are_lawful.Goals as goal
 
 pub returns : goal.returns

@@ -1,4 +1,4 @@
-use Rattle.mml_lab.proofs.Files.{of_file}
+use Rattle.mml_lab.proofs.LabOfLemmas.{of_file}
 use Rattle.mml_lab.proofs.laws.labs_are_those_of_files.Goals as goal
 
 pub returns : goal.returns

@@ -1,5 +1,5 @@
-use Rattle.mml_lab.proofs.Faultless.{faultless}
-use Rattle.mml_lab.proofs.LinkCounts.{links-counted}
+use Rattle.mml_lab.proofs.LabFaultLemmas.{faultless}
+use Rattle.mml_lab.proofs.LinkCountLemmas.{links-counted}
 use Rattle.mml_lab.proofs.laws.links_are_counted.Goals as goal
 
 pub returns : goal.returns

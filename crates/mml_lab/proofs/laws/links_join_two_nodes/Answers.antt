@@ -1,5 +1,5 @@
-use Rattle.mml_lab.proofs.Faultless.{faultless}
-use Rattle.mml_lab.proofs.LabFacts.{ends-are, ends-differ, links-once}
+use Rattle.mml_lab.proofs.LabFaultLemmas.{faultless}
+use Rattle.mml_lab.proofs.LabMeaningLemmas.{ends-are, ends-differ, links-once}
 use Rattle.mml_lab.proofs.laws.links_join_two_nodes.Goals as goal
 
 pub returns : goal.returns

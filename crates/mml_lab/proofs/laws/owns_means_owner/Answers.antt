@@ -1,5 +1,5 @@
 use Rattle.std.proofs.Common.{refl}
-use Rattle.mml_lab.proofs.RosterFacts.{owns-student}
+use Rattle.mml_lab.proofs.RosterMeaningLemmas.{owns-student}
 use Rattle.mml_lab.proofs.laws.owns_means_owner.Goals as goal
 
 pub returns : goal.returns

@@ -1,4 +1,4 @@
-use Rattle.mml_lab.proofs.RosterFacts.{principal-one, principal-nobody}
+use Rattle.mml_lab.proofs.RosterMeaningLemmas.{principal-one, principal-nobody}
 use Rattle.mml_lab.proofs.laws.principal_is_the_one_known.Goals as goal
 
 pub returns : goal.returns

@@ -1,4 +1,4 @@
-use Rattle.mml_lab.proofs.Files.{no_memory_of_ids, no_memory}
+use Rattle.mml_lab.proofs.LabOfLemmas.{no_memory_of_ids, no_memory}
 use Rattle.mml_lab.proofs.laws.want_of_memory_is_no_fault.Goals as goal
 
 pub returns : goal.returns

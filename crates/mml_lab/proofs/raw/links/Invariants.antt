@@ -1,7 +1,7 @@
 use Rattle.std.proofs.Common.{◌≡◌, drop}
 use Rattle.toml.specs.View.{items_view}
 use Rattle.mml_lab.specs.Shape.{each, link_of}
-use Rattle.mml_lab.proofs.Each.{with_front}
+use Rattle.mml_lab.proofs.EachLemmas.{with_front}
 use Rattle.mml_lab.proofs.raw.links.Given as goal
 
 abbrev pub invariant-loop-value : goal.invariant-loop-value

@@ -2,7 +2,7 @@ use Rattle.std.proofs.Common.{◌≡◌, drop, map}
 use Rattle.toml.specs.View.{items_view}
 use Rattle.mml_lab.specs.Raw.{node_view}
 use Rattle.mml_lab.specs.Shape.{each, node_of}
-use Rattle.mml_lab.proofs.Each.{with_front}
+use Rattle.mml_lab.proofs.EachLemmas.{with_front}
 use Rattle.mml_lab.proofs.raw.nodes.Given as goal
 
 abbrev pub invariant-loop-value : goal.invariant-loop-value

@@ -1,5 +1,5 @@
 use Rattle.std.proofs.Common.{sym, ◌∙◌, true≢false}
-use Rattle.mml_lab.proofs.Spelled.{table_in-some, table_in-none, spelled-some, spelled-none}
+use Rattle.mml_lab.proofs.SpelledLemmas.{table_in-some, table_in-none, spelled-some, spelled-none}
 use Rattle.mml_lab.proofs.raw.read_bytes.Goals as goal
 
 pub returns-in-Ok : goal.returns-in-Ok

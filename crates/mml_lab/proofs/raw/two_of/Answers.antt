@@ -1,5 +1,5 @@
 use Rattle.std.proofs.Common.{◌≢◌, length, arith}
-use Rattle.mml_lab.proofs.Spelled.{two_none}
+use Rattle.mml_lab.proofs.SpelledLemmas.{two_none}
 use Rattle.mml_lab.proofs.raw.two_of.Goals as goal
 
 pub returns-then-len-ne2 : goal.returns-then-len-ne2

@@ -4,7 +4,7 @@ use Rattle.std.specs.Prelude.{bytes_eq}
 use Rattle.mml_lab.specs.Shape.{Account}
 use Rattle.mml_lab.specs.Raw.{entry_view}
 use Rattle.mml_lab.specs.Rosters.{has_name}
-use Rattle.mml_lab.proofs.Names.{position_same, account_of_entry, entries_differ, nobody, somebody, unnamed}
+use Rattle.mml_lab.proofs.StudentNamedLemmas.{position_same, account_of_entry, entries_differ, nobody, somebody, unnamed}
 use Rattle.mml_lab.proofs.roster.student_with.Goals as goal
 
 pub returns-in_err-place-clause-value : goal.returns-in_err-place-clause-value

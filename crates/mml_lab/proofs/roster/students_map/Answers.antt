@@ -2,7 +2,7 @@ use Rattle.std.proofs.Common.{◌≡◌, ◌∷◌, [], ◌++◌, ◌∙◌, ap,
 use Rattle.std.specs.Vec.Iter.{into_iter_items}
 use Rattle.std.specs.String.{string_eq}
 use Rattle.indexmap.proofs.CallerLemmas.{insert_entry-new}
-use Rattle.mml_lab.proofs.Again.{absent, at_start, at_fault, at_next, at_end}
+use Rattle.mml_lab.proofs.NameTwiceLemmas.{absent, at_start, at_fault, at_next, at_end}
 use Rattle.mml_lab.proofs.roster.students_map.Goals as goal
 
 pub loop-student-init : goal.loop-student-init

@@ -1,7 +1,7 @@
 use Rattle.std.proofs.Common.{◌≡◌, ◌<◌, ◌∙◌, sym, length, arith}
 use Rattle.std.proofs.lemmas.Bool.{and_from}
 use Rattle.mml_board.specs.World.{configuration}
-use Rattle.mml_policy.proofs.Visibles.{owner_found, no_owner}
+use Rattle.mml_policy.proofs.VisibleLemmas.{owner_found, no_owner}
 use Rattle.mml_policy.proofs.visibility.owns_neighbour.Goals as goal
 
 pub returns-then-owns : goal.returns-then-owns

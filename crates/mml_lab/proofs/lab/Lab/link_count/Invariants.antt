@@ -6,5 +6,5 @@ use Rattle.mml_lab.proofs.lab.Lab.link_count.Given as goal
 abbrev pub invariant-loop-index : goal.invariant-loop-index
 invariant-loop-index l = record {
   count : l.count ≡ links_below (configuration_of l.self.network) l.index;
-  few : l.count ≤ 64 * l.index;
+  few : l.count ≤ 256 * l.index;
 }

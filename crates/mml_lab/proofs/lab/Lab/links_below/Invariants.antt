@@ -1,6 +1,6 @@
 use Rattle.std.proofs.Common.{◌≡◌, ◌≤◌}
 use Rattle.mml_rules.specs.Network.{configuration_of}
-use Rattle.mml_lab.specs.Labs.{count_below}
+use Rattle.mml_ids.specs.Search.{count_below}
 use Rattle.mml_lab.proofs.lab.Lab.links_below.Given as goal
 
 abbrev pub invariant-loop-index : goal.invariant-loop-index

@@ -1,6 +1,6 @@
 use Rattle.std.proofs.Common.{◌≡◌, ◌∙◌, ap, sym, Some}
 use Rattle.mml_lab.specs.Rosters.{RosterValue, student_named}
-use Rattle.mml_lab.proofs.Names.{search_same, student_is}
+use Rattle.mml_lab.proofs.StudentNamedLemmas.{search_same, student_is}
 use Rattle.mml_lab.proofs.roster.Roster.student_named.Goals as goal
 
 pub returns-in-Some : goal.returns-in-Some

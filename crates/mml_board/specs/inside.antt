@@ -1,0 +1,3 @@
+-- What stands apart from the model: how a board keeps its world. No public clause cites it.
+pub mod Kept
+pub mod Monitor

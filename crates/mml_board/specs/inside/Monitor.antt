@@ -1,0 +1,27 @@
+-- Which nodes are privileged, and which a change leaves as they were.
+use Rattle.std.specs.Prelude.{◌≡◌, ℕ, Bool, true, false, ◌&&◌, nat_lt, List}
+use Rattle.std.specs.FinSet as set
+use Rattle.std.specs.FinSet.{FinSet}
+use Rattle.std.specs.Ordering.{nat_cmp}
+use Rattle.mml_ids.specs.Sets.{those_below}
+use Rattle.mml_rules.specs.Configuration.{Configuration}
+use Rattle.mml_rules.specs.Rules.{is_privileged}
+use Rattle.mml_board.specs.declared.granted.Granted.{Granted}
+use Rattle.mml_board.specs.World.{World, configuration}
+use Rattle.mml_board.specs.inside.Kept.{IsKept}
+
+abbrev pub is_privileged_node : Configuration → ℕ → Bool
+is_privileged_node c j = nat_lt j c.size && is_privileged c j
+
+unfoldable pub privileged_nodes : Configuration → FinSet nat_cmp
+privileged_nodes c = those_below c.size (is_privileged c)
+
+-- neither j nor a neighbour of it was changed
+pub record IsUntouched (c : Configuration) (changed : FinSet nat_cmp) (j : ℕ) : Type 0 where
+  pub here : set.contains changed j ≡ false
+  pub near : (k : ℕ) → c.linked j k ≡ true → set.contains changed k ≡ false
+
+-- the world is kept, and the monitor has the privileged nodes
+pub record IsBoard (w : World) (chosen : FinSet nat_cmp) (granted : List Granted) (privileged : FinSet nat_cmp) : Type 0 where
+  pub kept : IsKept w chosen granted
+  pub monitor : privileged ≡ privileged_nodes (configuration w)

@@ -1,0 +1,19 @@
+use mml_ids::{NodeSet, Rank};
+use mml_rules::Kind;
+
+/// What an event does, beside the number and the place after it.
+#[derive(Clone, Copy, Debug)]
+pub enum Done {
+    /// A move of that kind is chosen for the node.
+    Move { node: Rank, kind: Kind },
+    /// The chosen moves of these nodes were applied.
+    Close { moved: NodeSet },
+    /// The registers of the node are set; so many chosen moves were dropped.
+    Fault { node: Rank, dropped: u16 },
+    /// The two nodes are linked; so many chosen moves were dropped.
+    Link { a: Rank, b: Rank, dropped: u16 },
+    /// The two nodes are linked no longer; so many chosen moves were dropped.
+    Cut { a: Rank, b: Rank, dropped: u16 },
+    /// The node has no chosen move any longer.
+    Release { node: Rank },
+}

@@ -1,0 +1,75 @@
+//! The privilege monitor: which nodes are privileged, kept up to date where something changed.
+ghost use Rattle.std.specs.Prelude.{◌≡◌, ℕ, ◌<◌, ◌==◌, IsTrue, ◌↔◌, true, length, if◌then◌else◌};
+ghost use Rattle.std.specs.FinSet as set;
+ghost use Rattle.mml_rules.specs.Network.{configuration_of};
+ghost use Rattle.mml_board.specs.inside.Monitor.{is_privileged_node, privileged_nodes, IsUntouched};
+
+use mml_ids::{NodeSet, Rank};
+use mml_rules::{Network, Scene, enabled};
+
+/// The privileged nodes, computed from scratch.
+pub fn privileged_nodes(network: &Network) -> NodeSet
+    ensures { result ≡ privileged_nodes (configuration_of network.now) }
+{
+    let mut nodes = NodeSet::empty();
+    for index in 0..network.size() {
+        let node = Rank::at(index);
+        if enabled(network, node).is_some() {
+            nodes = nodes.with(node);
+        }
+    }
+    nodes
+}
+
+/// The privileged nodes after a change: the changed nodes and their neighbours are looked at anew.
+pub fn refresh(network: &Network, privileged: NodeSet, changed: NodeSet) -> NodeSet
+    requires changed { (j : ℕ) → set.contains changed j ≡ true → j < length network.now.registers }
+    requires others { (j : ℕ) → IsUntouched (configuration_of network.now) changed j →
+        set.contains privileged j ≡ is_privileged_node (configuration_of network.now) j }
+    ensures { result ≡ privileged_nodes (configuration_of network.now) }
+{
+    let _size = network.size();
+    let mut privileged = privileged;
+    let mut left = changed;
+    while let Some(node) = left.greatest() {
+        let around = network.neighbours(node).with(node);
+        privileged = refresh_each(network, privileged, around);
+        left = except(left, node);
+    }
+    privileged
+}
+
+fn refresh_each(network: &Network, privileged: NodeSet, nodes: NodeSet) -> NodeSet
+    requires { (j : ℕ) → set.contains nodes j ≡ true → j < length network.now.registers }
+    ensures { (j : ℕ) → set.contains result j ≡
+        (if set.contains nodes j then is_privileged_node (configuration_of network.now) j
+        else set.contains privileged j) }
+{
+    let mut privileged = privileged;
+    let mut left = nodes;
+    while let Some(node) = left.greatest() {
+        let is_privileged = enabled(network, node).is_some();
+        privileged = put(privileged, node, is_privileged);
+        left = except(left, node);
+    }
+    privileged
+}
+
+/// The set with the rank in it or not, and the others as they are.
+fn put(nodes: NodeSet, node: Rank, is_in: bool) -> NodeSet
+    ensures { (j : ℕ) → set.contains result j ≡
+        (if j == node then is_in else set.contains nodes j) }
+{
+    if is_in {
+        nodes.with(node)
+    } else {
+        except(nodes, node)
+    }
+}
+
+/// The set without a rank.
+pub fn except(nodes: NodeSet, node: Rank) -> NodeSet
+    ensures { result ≡ set.remove nodes node }
+{
+    nodes.without(NodeSet::empty().with(node))
+}

@@ -1,0 +1,38 @@
+-- Flat objects: what each key holds.
+use Rattle.std.specs.Prelude.{ℕ, ◌<◌, ◌^◌, List, [], ◌∷◌, Bool, IsUtf8}
+use Rattle.std.specs.List.{AllByRecursion}
+use Rattle.serde_json.specs.Data as value
+
+-- a number, a word that the protocol fixes, a text that it doesn't, a truth value, or null
+pub data Field : Type 0 where
+  number : ℕ → Field
+  word : List ℕ → Field
+  text : List ℕ → Field
+  truth : Bool → Field
+  null : Field
+
+abbrev pub value_of : Field → value.Data
+value_of (number n) = value.number (value.unsigned n)
+value_of (word w) = value.string w
+value_of (text s) = value.string s
+value_of (truth b) = value.boolean b
+value_of null = value.null
+
+abbrev pub members_of : List (List ℕ × Field) → value.Members
+members_of [] = value.no_members
+members_of (f ∷ fs) = value.member f.0 (value_of f.1) (members_of fs)
+
+-- the object with these keys, in this order
+abbrev pub object_of : List (List ℕ × Field) → value.Data
+object_of fs = value.object (members_of fs)
+
+-- its number fits 64 bits, its text is UTF-8
+abbrev pub IsWritableField : Field → Type 0
+IsWritableField (number n) = n < 2 ^ 64
+IsWritableField (word w) = Unit {0}
+IsWritableField (text s) = IsUtf8 s
+IsWritableField (truth b) = Unit {0}
+IsWritableField null = Unit {0}
+
+abbrev pub AreWritable : List (List ℕ × Field) → Type 0
+AreWritable fs = AllByRecursion (λ f. IsWritableField f.1) fs

@@ -1,0 +1,26 @@
+-- The reply to a command that was judged.
+use Rattle.std.specs.Prelude.{ℕ}
+use Rattle.mml_board.specs.declared.done.Done.{Done}
+use Rattle.mml_board.specs.declared.done.Done.TheVariants as done
+use Rattle.mml_policy.specs.declared.ruling.Ruling.{Ruling}
+use Rattle.mml_policy.specs.declared.ruling.Ruling.TheVariants as ruling
+use Rattle.mml_codec.specs.declared.reply.Refused.TheVariants as refused
+use Rattle.mml_codec.specs.declared.reply.Reply.{Reply}
+use Rattle.mml_codec.specs.declared.reply.Reply.TheVariants as replies
+
+-- an event that took place, with the number and the place after it
+abbrev pub reply_of_done : ℕ → ℕ → Done → Reply
+reply_of_done at place (done.Move node kind) = replies.Move at place node kind
+reply_of_done at place (done.Close moved) = replies.Close at place moved
+reply_of_done at place (done.Fault node dropped) = replies.Fault at place node dropped
+reply_of_done at place (done.Link a b dropped) = replies.Link at place a b dropped
+reply_of_done at place (done.Cut a b dropped) = replies.Cut at place a b dropped
+reply_of_done at place (done.Release node) = replies.Release at place node
+
+-- what came of a command, with the number and the place of the world after it
+abbrev pub reply_of : ℕ → ℕ → Ruling → Reply
+reply_of at place (ruling.Denied d) = replies.Deny d
+reply_of at place (ruling.Seen s) = replies.See s
+reply_of at place (ruling.Looked l) = replies.Look l
+reply_of at place ruling.Full = replies.Refuse refused.Full
+reply_of at place (ruling.Granted event done) = reply_of_done at place done

@@ -1,0 +1,2 @@
+pub mod FieldViews
+pub mod Puts

@@ -1,0 +1,19 @@
+-- What the fields of an object stand for, and the tokens that write them.
+use Rattle.std.specs.Prelude.{ℕ, List, ◌∷◌}
+use Rattle.json.specs.Token.{Token}
+use Rattle.json.specs.Token as token
+use Rattle.json.specs.Tree.{json_tokens}
+use Rattle.serde_json.specs.Written.{outline}
+use Rattle.mml_codec.specs.declared.object.Field as TheField
+use Rattle.mml_codec.specs.declared.object.Field.TheVariants as fields
+use Rattle.mml_codec.specs.Fields.{Field, number, word, text, truth, null, value_of}
+
+abbrev pub field_view : TheField.Field → Field
+field_view (fields.Number n) = number n
+field_view (fields.Word w) = word w.now
+field_view (fields.Text s) = text s.now
+field_view (fields.Truth b) = truth b
+field_view fields.Null = null
+
+abbrev pub tokens_of : List ℕ × Field → List Token
+tokens_of m = token.key m.0 ∷ json_tokens (outline (value_of m.1))

@@ -1,0 +1,60 @@
+ghost use Rattle.std.specs.Prelude.{◌≡◌, IfSome};
+ghost use Rattle.mml_lab.specs.Rosters.{IsPrincipal};
+ghost use Rattle.mml_codec.specs.Greetings.{denied, admitted, greeting, TakesPart};
+
+use crate::reply::Reply;
+use crate::request::Request;
+use mml_lab::{Roster, Who};
+use mml_policy::{Command, Denial};
+
+/// What comes of a request on a connection.
+#[derive(Debug, Drop)]
+pub enum Greeting {
+    /// A reply, and who the connection is known as from then on.
+    Answered { reply: Reply, known: Option<Who> },
+    /// A command of the one that the connection is known as, which is left to judge.
+    LeftToJudge { who: Who, command: Command },
+}
+
+/// What comes of a request on a connection that is known as someone, or as no one yet: a greeting
+/// and a bye are answered, and only the command of one who is known is judged.
+pub fn greet(roster: &Roster, known: Option<Who>, request: Request) -> Greeting
+    requires { IfSome known (IsPrincipal roster.now) }
+    ensures greeting { result ≡ greeting roster.now known request }
+    ensures about { TakesPart roster.now result }
+{
+    match (known, request) {
+        (None, Request::Hello { name, key }) => admit(roster.hello(name.as_str(), key.as_str())),
+        (Some(who), Request::Hello { .. }) => denied(Denial::Greeted, Some(who)),
+        (_, Request::Bye) => Greeting::Answered {
+            reply: Reply::Bye,
+            known: None,
+        },
+        (None, Request::Do(_)) => denied(Denial::NotGreeted, None),
+        (Some(who), Request::Do(command)) => Greeting::LeftToJudge { who, command },
+    }
+}
+
+fn admit(found: Option<Who>) -> Greeting
+    ensures { result ≡ admitted found }
+{
+    match found {
+        Some(who) => {
+            let who = &who;
+            Greeting::Answered {
+                reply: Reply::Hello(*who),
+                known: Some(*who),
+            }
+        }
+        None => denied(Denial::Unknown, None),
+    }
+}
+
+fn denied(denial: Denial, known: Option<Who>) -> Greeting
+    ensures { result ≡ denied denial known }
+{
+    Greeting::Answered {
+        reply: Reply::Deny(denial),
+        known,
+    }
+}

@@ -1,0 +1,71 @@
+//! Readers.
+use std::io;
+use std::io::{ErrorKind, Read};
+
+/// Gives at most `step` bytes in a read, and after `good` reads an error of a kind.
+#[derive(Drop)]
+pub struct FakeReader<'a> {
+    /// What was not read yet.
+    pub rest: &'a [u8],
+    pub step: usize,
+    /// How many reads will still be good.
+    pub good: usize,
+    pub kind: ErrorKind,
+    /// How many reads there were, the failed ones too.
+    pub reads: usize,
+}
+
+impl<'a> FakeReader<'a> {
+    /// Gives one byte in a read, and fails after `good` reads.
+    pub fn failing_after(good: usize, rest: &'a [u8]) -> FakeReader<'a> {
+        FakeReader {
+            rest,
+            step: 1,
+            good,
+            kind: ErrorKind::Other,
+            reads: 0,
+        }
+    }
+
+    /// Fails at once, with an error of that kind.
+    pub fn failing_with(kind: ErrorKind) -> FakeReader<'a> {
+        FakeReader {
+            rest: b"".as_slice(),
+            step: 1,
+            good: 0,
+            kind,
+            reads: 0,
+        }
+    }
+}
+
+impl<'a> Read for FakeReader<'a> {
+    fn read(&mut self, buf: &mut [u8]) -> io::Result<usize> {
+        self.reads = self.reads.saturating_add(1);
+        if self.good == 0 {
+            return Err(io::Error::from(self.kind));
+        }
+        self.good -= 1;
+        let len = self.step.min(buf.len());
+        self.rest.read(&mut buf[..len])
+    }
+}
+
+/// Gives the first part in one read, and then the second in reads of at most `step` bytes.
+#[derive(Drop)]
+pub struct Parts<'a> {
+    pub first: &'a [u8],
+    pub second: &'a [u8],
+    pub step: usize,
+}
+
+impl<'a> Read for Parts<'a> {
+    fn read(&mut self, buf: &mut [u8]) -> io::Result<usize> {
+        if self.first.is_empty() {
+            let len = self.step.min(buf.len());
+            self.second.read(&mut buf[..len])
+        } else {
+            self.first.read(buf)
+        }
+    }
+}

@@ -1,0 +1,35 @@
+//! Scripts that several tests speak of, with their replies.
+
+/// Greetings on two connections, and what is asked before and after them.
+pub const GREETING: &str = r#"1 {"do":"see","node":1}
+1 {"do":"hello","key":"a-key","name":"ana"}
+2 {"do":"hello","key":"a-key","name":"zoe"}
+2 {"do":"hello","key":"a-key","name":"ben"}
+1 {"do":"hello","key":"a-key","name":"ana"}
+1 {"do":"bye"}
+1 {"do":"see","node":1}
+"#;
+
+/// What is answered to `GREETING` over `labs::PATH_OF_THREE`.
+pub const GREETING_REPLIES: &str = r#"1 {"clause":0,"deny":"not-greeted","text":"say hello first"}
+1 {"ok":"hello","who":"ana"}
+2 {"clause":2,"deny":"unknown","text":"name and key do not match"}
+2 {"clause":2,"deny":"unknown","text":"name and key do not match"}
+1 {"clause":1,"deny":"greeted","text":"this connection has a name already"}
+1 {"ok":"bye"}
+1 {"clause":0,"deny":"not-greeted","text":"say hello first"}
+"#;
+
+/// A student says hello, and asks for a node that she sees and two that she does not.
+pub const FIRST_LOOK: &str = r#"1 {"do":"hello","key":"a-key","name":"ana"}
+1 {"do":"see","node":2}
+1 {"do":"see","node":3}
+1 {"do":"see","node":99}
+"#;
+
+/// What is answered to `FIRST_LOOK` over `labs::PATH_OF_THREE`.
+pub const FIRST_LOOK_REPLIES: &str = r#"1 {"ok":"hello","who":"ana"}
+1 {"at":0,"m":false,"node":2,"ok":"see","p":null}
+1 {"clause":1,"deny":"hidden","text":"this node is not shown to you"}
+1 {"clause":1,"deny":"hidden","text":"this node is not shown to you"}
+"#;

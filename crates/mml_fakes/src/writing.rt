@@ -1,0 +1,67 @@
+//! Writers.
+use std::alloc::Global;
+use std::io;
+use std::io::{ErrorKind, Write};
+
+/// What comes in the place of a write.
+#[derive(Clone, Copy, Debug, PartialEq, Eq)]
+pub enum Refusal {
+    /// An error of that kind.
+    Fails(ErrorKind),
+    /// Nothing is taken.
+    TakesNothing,
+}
+
+/// Takes at most `step` bytes in a write, and refuses after `good` writes. A flush fails after
+/// `good_flushes`.
+#[derive(Drop)]
+pub struct FakeWriter {
+    pub taken: Vec<u8>,
+    pub step: usize,
+    /// How many writes will still be good.
+    pub good: usize,
+    pub refusal: Refusal,
+    /// How many flushes will still be good.
+    pub good_flushes: usize,
+}
+
+impl FakeWriter {
+    /// Takes all that it is given.
+    pub fn patient(alloc: Global) -> FakeWriter {
+        FakeWriter::failing_after(usize::MAX, alloc)
+    }
+
+    /// Takes each of so many writes whole, and then fails.
+    pub fn failing_after(good: usize, alloc: Global) -> FakeWriter {
+        FakeWriter {
+            taken: Vec::new(alloc),
+            step: usize::MAX,
+            good,
+            refusal: Refusal::Fails(ErrorKind::Other),
+            good_flushes: usize::MAX,
+        }
+    }
+}
+
+impl Write for FakeWriter {
+    fn write(&mut self, buf: &[u8]) -> io::Result<usize> {
+        if self.good == 0 {
+            return match self.refusal {
+                Refusal::Fails(kind) => Err(io::Error::from(kind)),
+                Refusal::TakesNothing => Ok(0),
+            };
+        }
+        self.good -= 1;
+        let len = self.step.min(buf.len());
+        self.taken.extend_from_slice(&buf[..len])?;
+        Ok(len)
+    }
+
+    fn flush(&mut self) -> io::Result<()> {
+        if self.good_flushes == 0 {
+            return Err(io::Error::from(ErrorKind::Other));
+        }
+        self.good_flushes -= 1;
+        Ok(())
+    }
+}

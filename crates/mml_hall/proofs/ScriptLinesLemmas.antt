@@ -1,0 +1,73 @@
+-- How a script line is spelled, and what is none.
+use Rattle.std.proofs.Common.{◌≡◌, ◌≢◌, ℕ, ◌+◌, ◌-◌, ◌<◌, ◌≤◌, ◌^◌, List, [], ◌∷◌, ◌++◌, length, map, decimal, get_or, arith, sym, subst, ◌∙◌, length-append, append_assoc, refl, ap, zero, suc, All, Option, Some, None, inl, inr}
+use Rattle.std.proofs.lemmas.Fmt.{decimal-digits_of}
+use Rattle.std.proofs.lemmas.List.{append_cancel_left, get_or-append_right}
+use Rattle.std.proofs.lemmas.List.Elements.{All-nil, All-cons}
+use Rattle.std.specs.Int.Digits.{digits_of}
+use Rattle.std.specs.List.{AllByRecursion}
+use Rattle.std.specs.Io.KnownBytes.{Consumes, prepend_known}
+use Rattle.mml_lines.specs.LinesOf.{IsUnbroken, IsWithinLimit, IsTooLong, ended}
+use Rattle.mml_lines.specs.declared.lines.TheConstants.{READ_SIZE}
+use Rattle.mml_hall.specs.declared.TheConstants.{MAX_SCRIPT_LINE}
+use Rattle.mml_hall.specs.Turns.{RequestLine}
+use Rattle.mml_hall.specs.ScriptLines.{IsScriptLine, IsBad, script_line}
+
+unbroken_rest : (xs ys : List ℕ) → IsUnbroken (xs ++ ys) → IsUnbroken ys
+unbroken_rest xs ys h k less e =
+    let place : length xs + k - length xs ≡ k = omega arith in
+    h (length xs + k) (omega (arith, less, length-append xs ys)) (get_or-append_right xs ys (length xs) (length xs + k) 0 refl (omega arith) ∙ (ap (λ i. get_or ys i 0) place ∙ e))
+
+pub request_unbroken : (line word request : List ℕ) → line ≡ word ++ 32 ∷ request → IsUnbroken line → IsUnbroken request
+request_unbroken line word request e h = unbroken_rest (32 ∷ []) request (unbroken_rest word (32 ∷ request) (subst (λ (t : List ℕ). IsUnbroken t) e h))
+
+-- after a word comes no space
+pub word_without_space : (word rest line : List ℕ) → line ≡ word ++ rest → ((request : List ℕ) → rest ≢ 32 ∷ request) → (request : List ℕ) → line ≢ word ++ 32 ∷ request
+word_without_space word rest line e differs request h = differs request (append_cancel_left word rest (32 ∷ request) (sym e ∙ h))
+
+tail_unbroken : (b : ℕ) (bytes : List ℕ) → IsUnbroken (b ∷ bytes) → IsUnbroken bytes
+tail_unbroken b bytes h k less e = h (suc k) (omega (arith, less)) e
+
+digits_unbroken : (ds : List ℕ) → IsUnbroken (map (λ d. 48 + d) ds)
+digits_unbroken [] k less e = omega (arith, less)
+digits_unbroken (d ∷ ds) zero less e = omega (arith, e)
+digits_unbroken (d ∷ ds) (suc k) less e = digits_unbroken ds k (omega (arith, less)) e
+
+unbroken_join : (xs ys : List ℕ) → IsUnbroken xs → IsUnbroken ys → IsUnbroken (xs ++ ys)
+unbroken_join [] ys h k i less e = k i less e
+unbroken_join (x ∷ xs) ys h k zero less e = h 0 (omega arith) e
+unbroken_join (x ∷ xs) ys h k (suc i) less e = unbroken_join xs ys (tail_unbroken x xs h) k i (omega (arith, less)) e
+
+space_first : (bytes : List ℕ) → IsUnbroken bytes → IsUnbroken (32 ∷ bytes)
+space_first bytes h zero less e = omega (arith, e)
+space_first bytes h (suc k) less e = h k (omega (arith, less)) e
+
+pub script_unbroken : (n : ℕ) (s : RequestLine) → n ≤ 16 → IsScriptLine n s → IsUnbroken (script_line s)
+script_unbroken n s few valid =
+    let small : s.connection < 2 ^ 64 = omega (arith, few, valid.known) in
+    unbroken_join (decimal s.connection) (32 ∷ s.request)
+    (subst (λ (t : List ℕ). IsUnbroken t) (sym (decimal-digits_of s.connection valid.some small)) (digits_unbroken (digits_of 10 s.connection)))
+    (space_first s.request valid.request.0)
+
+pub scripts_unbroken : (n : ℕ) (ss : List RequestLine) → n ≤ 16 → AllByRecursion (IsScriptLine n) ss → All IsUnbroken (map script_line ss)
+scripts_unbroken n [] few each = All-nil IsUnbroken
+scripts_unbroken n (s ∷ ss) few each = All-cons IsUnbroken (script_line s) (map script_line ss) (script_unbroken n s few each.0) (scripts_unbroken n ss few each.1)
+
+-- what was taken is put back before what is held
+put_back : (a b : Option (List ℕ)) (taken held : List ℕ) → Consumes a (prepend_known held b) taken → Consumes a (prepend_known (taken ++ held) b) []
+put_back None b taken held h = tt
+put_back (Some xs) None taken held h = absurd h
+put_back (Some xs) (Some ys) taken held h = h ∙ sym (append_assoc taken held ys)
+
+-- what is held begins so that no script line comes next
+abbrev pub ComesBad : ℕ → Option (List ℕ) → Option (List ℕ) → Type 0
+ComesBad sessions a b = (bad : List ℕ) × Consumes a (prepend_known bad b) [] × IsBad sessions bad
+
+pub bad_line : (a b : Option (List ℕ)) (line more : List ℕ) (limit sessions : ℕ) → Consumes a (prepend_known more b) (ended line) → limit ≡ MAX_SCRIPT_LINE
+    → IsWithinLimit limit line → length more < READ_SIZE → ((s : RequestLine) → IsScriptLine sessions s → line ≢ script_line s) → ComesBad sessions a b
+bad_line a b line more limit sessions taken e within few differs =
+    (ended line ++ more, put_back a b (ended line) more taken, inl (line, more, refl, subst (λ (n : ℕ). IsWithinLimit n line) e within, differs, few))
+
+pub too_long : (a b : Option (List ℕ)) (held : List ℕ) (limit sessions : ℕ) → Consumes a (prepend_known held b) [] → limit ≡ MAX_SCRIPT_LINE
+    → IsTooLong limit held → length held ≤ limit + READ_SIZE → ComesBad sessions a b
+too_long a b held limit sessions kept e long few =
+    (held, kept, inr (subst (λ (n : ℕ). IsTooLong n held × (length held ≤ n + READ_SIZE)) e (long, few)))

@@ -1,0 +1,57 @@
+-- Steps of a definition taken apart and put together, and the first of several faults.
+use Rattle.std.proofs.Common.{◌≡◌, Bool, true, false, Option, None, Some, Result, Ok, Err, refl, ap, ◌∙◌, arith}
+use Rattle.std.specs.Prelude.{option_map}
+use Rattle.std.specs.Result.{IfOk, OnErr}
+use Rattle.mml_ids.specs.Gives.{◌>>=◌, ◌>>◌, need, first_fault, fault_if}
+
+-- a step whose chain ends in a value found one
+pub bind-ok : {A B E : Type 0} (s : Result A E) (f : A → Result B E) (v : B) → (s >>= f) ≡ Ok v → (a : A) × (s ≡ Ok a) × (f a ≡ Ok v)
+bind-ok (Ok a) f v h = (a, refl, h)
+bind-ok (Err e) f v h = absurd (grind arith)
+
+pub bind-from : {A B E : Type 0} (s : Result A E) (f : A → Result B E) (v : Result B E) (a : A) → s ≡ Ok a → f a ≡ v → (s >>= f) ≡ v
+bind-from s f v a e h = ap (λ t. t >>= f) e ∙ h
+
+-- a condition whose chain ends in a value holds
+pub need-ok : {B E : Type 0} (b : Bool) (e : E) (t : Result B E) (v : B) → (need b e >> t) ≡ Ok v → (b ≡ true) × (t ≡ Ok v)
+need-ok true e t v h = (refl, h)
+need-ok false e t v h = absurd (grind arith)
+
+pub need-from : {B E : Type 0} (b : Bool) (e : E) (t v : Result B E) → b ≡ true → t ≡ v → (need b e >> t) ≡ v
+need-from b e t v h same = ap (λ c. need c e >> t) h ∙ same
+
+-- what holds of each value that steps may end in
+pub bind-if : {A B E : Type 0} (P : B → Type 0) (s : Result A E) (f : A → Result B E) → ((a : A) → s ≡ Ok a → IfOk (f a) P) → IfOk (s >>= f) P
+bind-if P (Ok a) f h = h a refl
+bind-if P (Err e) f h = tt
+
+pub need-if : {B E : Type 0} (P : B → Type 0) (b : Bool) (e : E) (t : Result B E) → (b ≡ true → IfOk t P) → IfOk (need b e >> t) P
+need-if P true e t h = h refl
+need-if P false e t h = tt
+
+-- the same steps end in the same
+pub bind-same : {A B E : Type 0} (s t : Result A E) (f g : A → Result B E) → s ≡ t → ((a : A) → s ≡ Ok a → f a ≡ g a) → (s >>= f) ≡ (t >>= g)
+bind-same (Ok a) t f g e h = h a refl ∙ ap (λ u. u >>= g) e
+bind-same (Err d) t f g e h = ap (λ u. u >>= g) e
+
+pub need-same : {B E : Type 0} (b c : Bool) (d e : E) (t u : Result B E) → b ≡ c → d ≡ e → (b ≡ true → t ≡ u) → (need b d >> t) ≡ (need c e >> u)
+need-same true c d e t u p q h = h refl ∙ ap (λ b. need b e >> u) p
+need-same false c d e t u p q h = ap Err q ∙ ap (λ b. need b e >> u) p
+
+-- without a fault, each test found none
+pub both_none : {E : Type 0} (a b : Option E) → first_fault a b ≡ None → (a ≡ None) × (b ≡ None)
+both_none None b h = (refl, h)
+both_none (Some e) b h = absurd cc
+
+pub if_none : {E : Type 0} (b : Bool) (e : E) → fault_if b e ≡ None → b ≡ false
+if_none true e h = absurd cc
+if_none false e h = refl
+
+pub map_none : {A B : Type 0} (f : A → B) (o : Option A) → option_map f o ≡ None → o ≡ None
+map_none f None h = refl
+map_none f (Some x) h = absurd cc
+
+-- a fact that holds anyhow holds where a call failed
+pub on_err : {T E P : Type 0} (r : Result T E) → P → OnErr r P
+on_err (Ok x) h = tt
+on_err (Err e) h = h

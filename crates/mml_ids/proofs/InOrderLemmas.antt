@@ -1,0 +1,69 @@
+-- A list put in order has the same numbers, and never falls.
+use Rattle.std.proofs.Common.{ℕ, zero, suc, ◌<◌, ◌≤◌, Bool, true, false, cond, ltb, ◌≡◌, List, [], ◌∷◌, length, get_or, refl, arith}
+use Rattle.std.specs.Prelude.{IsPermutation}
+use Rattle.std.specs.List.Sorted.{IsNonDecreasing}
+use Rattle.std.proofs.lemmas.Bool.{ltb-true, ltb-false}
+use Rattle.std.proofs.lemmas.List.Sorted.{IsPermutation-refl, IsPermutation-cons, IsPermutation-trans, IsPermutation-insert, IsNonDecreasingBy-from_default}
+use Rattle.mml_ids.specs.Ids.{put_in_order, in_order}
+
+put-moves : (n : ℕ) (ks : List ℕ) → IsPermutation (n ∷ ks) (put_in_order n ks)
+put-moves n [] = IsPermutation-refl (n ∷ [])
+put-moves n (k ∷ ks) = by (ltb k n) (put-moves n ks)
+  where
+    by : (b : Bool) → IsPermutation (n ∷ ks) (put_in_order n ks) → IsPermutation (n ∷ k ∷ ks) (cond b (k ∷ put_in_order n ks) (n ∷ k ∷ ks))
+    by true rest = IsPermutation-trans (n ∷ k ∷ ks) (k ∷ n ∷ ks) (k ∷ put_in_order n ks) (IsPermutation-insert (k ∷ ks) 1 n) (IsPermutation-cons k (n ∷ ks) (put_in_order n ks) rest)
+    by false rest = IsPermutation-refl (n ∷ k ∷ ks)
+
+pub in_order-moves : (ns : List ℕ) → IsPermutation ns (in_order ns)
+unfolding in_order
+in_order-moves [] = IsPermutation-refl []
+in_order-moves (n ∷ ns) = IsPermutation-trans (n ∷ ns) (n ∷ in_order ns) (put_in_order n (in_order ns)) (IsPermutation-cons n ns (in_order ns) (in_order-moves ns)) (put-moves n (in_order ns))
+
+-- the number is at most each of the list
+abbrev pub AllFrom : ℕ → List ℕ → Type 0
+AllFrom x [] = Unit {0}
+AllFrom x (y ∷ ys) = (x ≤ y) × AllFrom x ys
+
+abbrev pub Climbs : List ℕ → Type 0
+Climbs [] = Unit {0}
+Climbs (x ∷ xs) = AllFrom x xs × Climbs xs
+
+from_less : (x y : ℕ) (ys : List ℕ) → x ≤ y → AllFrom y ys → AllFrom x ys
+from_less x y [] le all = tt
+from_less x y (z ∷ zs) le all = (omega (arith, all.0), from_less x y zs le all.1)
+
+from-put : (x n : ℕ) (ks : List ℕ) → x ≤ n → AllFrom x ks → AllFrom x (put_in_order n ks)
+from-put x n [] le all = (le, tt)
+from-put x n (k ∷ ks) le all = by (ltb k n) (from-put x n ks le all.1)
+  where
+    by : (b : Bool) → AllFrom x (put_in_order n ks) → AllFrom x (cond b (k ∷ put_in_order n ks) (n ∷ k ∷ ks))
+    by true rest = (all.0, rest)
+    by false rest = (le, all)
+
+climbs-put : (n : ℕ) (ks : List ℕ) → Climbs ks → Climbs (put_in_order n ks)
+climbs-put n [] climbs = (tt, tt)
+climbs-put n (k ∷ ks) climbs = by (ltb k n) refl (climbs-put n ks climbs.1)
+  where
+    by : (b : Bool) → ltb k n ≡ b → Climbs (put_in_order n ks) → Climbs (cond b (k ∷ put_in_order n ks) (n ∷ k ∷ ks))
+    by true e rest = let less : k < n = ltb-true k n e in (from-put k n ks (omega arith) climbs.0, rest)
+    by false e rest = let le : n ≤ k = ltb-false k n e in ((le, from_less n k ks le climbs.0), climbs)
+
+pub climbs-in_order : (ns : List ℕ) → Climbs (in_order ns)
+unfolding in_order
+climbs-in_order [] = tt
+climbs-in_order (n ∷ ns) = climbs-put n (in_order ns) (climbs-in_order ns)
+
+from_at : (x : ℕ) (xs : List ℕ) (j : ℕ) → AllFrom x xs → j < length xs → x ≤ get_or xs j 0
+from_at x [] j all lt = absurd (omega arith)
+from_at x (y ∷ ys) zero all lt = all.0
+from_at x (y ∷ ys) (suc j) all lt = from_at x ys j all.1 (omega arith)
+
+pub climbs_at : (xs : List ℕ) (i j : ℕ) → Climbs xs → i ≤ j → j < length xs → get_or xs i 0 ≤ get_or xs j 0
+climbs_at [] i j climbs le lt = absurd (omega arith)
+climbs_at (x ∷ xs) zero zero climbs le lt = omega arith
+climbs_at (x ∷ xs) zero (suc j) climbs le lt = from_at x xs j climbs.0 (omega arith)
+climbs_at (x ∷ xs) (suc i) zero climbs le lt = absurd (omega arith)
+climbs_at (x ∷ xs) (suc i) (suc j) climbs le lt = climbs_at xs i j climbs.1 (omega arith) (omega arith)
+
+pub in_order-climbs : (ns : List ℕ) → IsNonDecreasing (in_order ns)
+in_order-climbs ns = IsNonDecreasingBy-from_default (λ n. n) (in_order ns) 0 (λ i j le lt. climbs_at (in_order ns) i j (climbs-in_order ns) le lt)

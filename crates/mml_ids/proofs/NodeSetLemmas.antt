@@ -1,0 +1,240 @@
+-- What the operations on words do to the sets that they keep.
+use Rattle.std.proofs.Common.{◌≡◌, ◌≢◌, ℕ, zero, suc, ◌+◌, ◌-◌, ◌*◌, ◌/◌, ◌%◌, ◌^◌, ◌<◌, ◌≤◌, Bool, true, false, not, cond, ◌&&◌, eqb, ltb, min, List, get_or, refl, sym, ap, ◌∙◌, subst, arith, inl, inr, w64, bit_and, lit<}
+use Rattle.std.proofs.lemmas.Bool.{cases_lt, cases_eq, cases_order, eq-eqb, eqb-true, eqb-false, lt-ltb, le-ltb, ltb-true, and_parts, and_right}
+use Rattle.std.proofs.lemmas.Nat.{pow_pos, ones_le_self, zero_from_ones}
+use Rattle.std.proofs.Math.Nat.{pow-succ', mod-eq_of_lt, div-eq_of_lt-le}
+use Rattle.std.proofs.Math.Arith.{mod-mul}
+use Rattle.std.proofs.lemmas.Nat.Bits.{bit_at_and, bit_at_not, bit_at-lt, bit_at-zero, bit_at_above, bit_at_clear_same, bit_at_clear_other, ones_shl, bit_at_mask_inside, bit_at_mask_below}
+use Rattle.std.specs.Int.{bit_at, bit_not}
+use Rattle.std.specs.Prelude.{count_ones}
+use Rattle.std.specs.Ordering.{nat_cmp}
+use Rattle.std.specs.Cmp.{nat_cmp_total}
+use Rattle.std.specs.FinSet as sets
+use Rattle.std.specs.FinSet.{FinSet}
+use lib.Count.{ones_cat}
+use Rattle.mml_ids.specs.Sets.{those_below}
+use Rattle.mml_ids.specs.inside.Words.{bit_in, set_of}
+use Rattle.mml_ids.specs.inside.WordsLemmas.{has_empty, has-set_of, same_ranks}
+
+and_bits : (x y : ℕ) → x < 2 → y < 2 → eqb (min x y) 1 ≡ (eqb x 1 && eqb y 1)
+and_bits zero zero a b = refl
+and_bits zero (suc zero) a b = refl
+and_bits zero (suc (suc y)) a b = absurd (omega arith)
+and_bits (suc zero) zero a b = refl
+and_bits (suc zero) (suc zero) a b = refl
+and_bits (suc zero) (suc (suc y)) a b = absurd (omega arith)
+and_bits (suc (suc x)) y a b = absurd (omega arith)
+
+and_not_bits : (x y : ℕ) → x < 2 → y < 2 → eqb (min x (1 - y)) 1 ≡ (eqb x 1 && not (eqb y 1))
+and_not_bits zero zero a b = refl
+and_not_bits zero (suc zero) a b = refl
+and_not_bits zero (suc (suc y)) a b = absurd (omega arith)
+and_not_bits (suc zero) zero a b = refl
+and_not_bits (suc zero) (suc zero) a b = refl
+and_not_bits (suc zero) (suc (suc y)) a b = absurd (omega arith)
+and_not_bits (suc (suc x)) y a b = absurd (omega arith)
+
+and_both : (t x y : Bool) → (t && (x && y)) ≡ ((t && x) && (t && y))
+and_both true x y = refl
+and_both false x y = refl
+
+and_without : (t x y : Bool) → (t && (x && not y)) ≡ ((t && x) && not (t && y))
+and_without true x y = refl
+and_without false x y = refl
+
+-- of four words, each
+pub each_of_four : (P : ℕ → Type 0) → P 0 → P 1 → P 2 → P 3 → (w : ℕ) → w < 4 → P w
+each_of_four P a b c d zero l = a
+each_of_four P a b c d (suc zero) l = b
+each_of_four P a b c d (suc (suc zero)) l = c
+each_of_four P a b c d (suc (suc (suc zero))) l = d
+each_of_four P a b c d (suc (suc (suc (suc w)))) l = absurd (omega arith)
+
+pub set_of-and : (n : ℕ) (a b new : List ℕ) → ((w : ℕ) → 64 * w < n → get_or new w 0 ≡ bit_and (get_or a w 0) (get_or b w 0)) → set_of n new ≡ sets.intersection (set_of n a) (set_of n b)
+set_of-and n a b new each = same_ranks _ _ (λ q.
+    has-set_of n new q
+    ∙ bits q
+    ∙ and_both (ltb q n) (bit_in a q) (bit_in b q)
+    ∙ sym (sets.contains-intersection nat_cmp_total (set_of n a) (set_of n b) q
+    ∙ (λ i. has-set_of n a q i && has-set_of n b q i)))
+  where
+    bits : (q : ℕ) → (ltb q n && bit_in new q) ≡ (ltb q n && (bit_in a q && bit_in b q))
+    bits q = elim (cases_lt q n) [
+      | inl lt ↦
+          let x : ℕ = get_or a (q / 64) 0 in
+          let y : ℕ = get_or b (q / 64) 0 in
+          ap (λ word. ltb q n && eqb (bit_at word (q % 64)) 1) (each (q / 64) (omega arith))
+          ∙ ap (λ bit. ltb q n && eqb bit 1) (bit_at_and x y (q % 64))
+          ∙ ap (λ t. ltb q n && t) (and_bits (bit_at x (q % 64)) (bit_at y (q % 64)) (bit_at-lt x (q % 64)) (bit_at-lt y (q % 64)))
+      | inr ge ↦ rw (le-ltb q n ge) refl
+    ]
+
+pub set_of-and_not : (n : ℕ) (a b new : List ℕ) → ((w : ℕ) → 64 * w < n → get_or b w 0 < 2 ^ 64) → ((w : ℕ) → 64 * w < n → get_or new w 0 ≡ bit_and (get_or a w 0) (bit_not w64 (get_or b w 0))) → set_of n new ≡ sets.difference (set_of n a) (set_of n b)
+set_of-and_not n a b new fits each = same_ranks _ _ (λ q.
+    has-set_of n new q
+    ∙ bits q
+    ∙ and_without (ltb q n) (bit_in a q) (bit_in b q)
+    ∙ sym (sets.contains-difference nat_cmp_total (set_of n a) (set_of n b) q
+    ∙ (λ i. has-set_of n a q i && not (has-set_of n b q i))))
+  where
+    bits : (q : ℕ) → (ltb q n && bit_in new q) ≡ (ltb q n && (bit_in a q && not (bit_in b q)))
+    bits q = elim (cases_lt q n) [
+      | inl lt ↦
+          let x : ℕ = get_or a (q / 64) 0 in
+          let y : ℕ = get_or b (q / 64) 0 in
+          ap (λ word. ltb q n && eqb (bit_at word (q % 64)) 1) (each (q / 64) (omega arith))
+          ∙ ap (λ bit. ltb q n && eqb bit 1) (bit_at_and x (bit_not w64 y) (q % 64) ∙ ap (min (bit_at x (q % 64))) (bit_at_not w64 y (q % 64) (fits (q / 64) (omega arith)) (omega arith)))
+          ∙ ap (λ t. ltb q n && t) (and_not_bits (bit_at x (q % 64)) (bit_at y (q % 64)) (bit_at-lt x (q % 64)) (bit_at-lt y (q % 64)))
+      | inr ge ↦ rw (le-ltb q n ge) refl
+    ]
+
+-- all ones from r on, but for the one at r
+abbrev pub ones_above : ℕ → ℕ
+ones_above r = bit_and ((2 ^ 64 - 1) * 2 ^ r % 2 ^ 64) (bit_not w64 (1 * 2 ^ r % 2 ^ 64))
+
+pub bit-ones_above : (r k : ℕ) → r < 64 → k < 64 → eqb (bit_at (ones_above r) k) 1 ≡ ltb r k
+bit-ones_above r k below lt = elim (cases_order k r) [
+  | inl same ↦ rw (same, bit_at_clear_same w64 ((2 ^ 64 - 1) * 2 ^ r % 2 ^ 64) r below, le-ltb r r (omega arith)) refl
+  | inr o ↦ elim o [
+    | inl less ↦ rw (bit_at_clear_other w64 ((2 ^ 64 - 1) * 2 ^ r % 2 ^ 64) r below k lt (λ e. omega arith), ones_shl 64 r (omega arith), bit_at_mask_below r 64 k less, le-ltb r k (omega arith)) refl
+    | inr more ↦ rw (bit_at_clear_other w64 ((2 ^ 64 - 1) * 2 ^ r % 2 ^ 64) r below k lt (λ e. omega arith), ones_shl 64 r (omega arith), bit_at_mask_inside r 64 k (omega arith) lt, lt-ltb r k more) refl
+  ]
+]
+
+-- in one word the order is that of the bits
+pub ltb_within : (r w k : ℕ) → r / 64 ≡ w → ltb (r % 64) k ≡ ltb r (64 * w + k)
+ltb_within r w k e = elim (cases_lt (r % 64) k) [
+  | inl lt ↦ lt-ltb (r % 64) k lt ∙ sym (lt-ltb r (64 * w + k) (omega arith))
+  | inr ge ↦ le-ltb (r % 64) k ge ∙ sym (le-ltb r (64 * w + k) (omega arith))
+]
+
+-- the ranks above r, word by word
+pub has-above : (n : ℕ) (words : List ℕ) (r q : ℕ) → ((w : ℕ) → 64 * w < n → (k : ℕ) → k < 64 → eqb (bit_at (get_or words w 0) k) 1 ≡ ltb r (64 * w + k)) → sets.contains (set_of n words) q ≡ (ltb r q && ltb q n)
+has-above n words r q each = has-set_of n words q ∙ elim (cases_lt q n) [
+  | inl lt ↦
+      let place : 64 * (q / 64) + q % 64 ≡ q = omega arith in
+      ap (λ b. ltb q n && b) (each (q / 64) (omega arith) (q % 64) (omega arith) ∙ ap (ltb r) place)
+      ∙ swap (ltb q n) (ltb r q)
+  | inr ge ↦ rw (le-ltb q n ge) (sym (and_right (ltb r q) false refl))
+]
+  where
+    swap : (a b : Bool) → (a && b) ≡ (b && a)
+    swap true true = refl
+    swap true false = refl
+    swap false true = refl
+    swap false false = refl
+
+-- the low digits, one more of them
+low_digits : (b n : ℕ) → b % 2 ^ suc n ≡ bit_at b n * 2 ^ n + b % 2 ^ n
+low_digits b n = ap (λ m. b % m) (pow-succ' 2 n) ∙ mod-mul b {m = 2} {c = 2 ^ n} (lit< tt) (pow_pos n)
+
+none_counted : count_ones 0 ≡ 0
+none_counted = let small = ones_le_self 0 in omega arith
+
+one_counted : count_ones 1 ≡ 1
+one_counted =
+    let small = ones_le_self 1 in
+    let some : count_ones 1 ≡ 0 → ⊥ = λ e. let z = zero_from_ones 1 e in omega arith in
+    omega arith
+
+len-insert_new : (s : FinSet nat_cmp) (k : ℕ) → sets.contains s k ≡ false → sets.len (sets.insert s k) ≡ sets.len s + 1
+len-insert_new s k e = sets.len-insert nat_cmp_total s k ∙ ap (λ c. cond c (sets.len s) (sets.len s + 1)) e
+
+not_yet : (n : ℕ) (words : List ℕ) → sets.contains (set_of n words) n ≡ false
+not_yet n words = has-set_of n words n ∙ ap (λ t. t && bit_in words n) (le-ltb n n (omega arith))
+
+-- the bit of a rank, as a number
+abbrev digit : List ℕ → ℕ → ℕ
+digit words n = bit_at (get_or words (n / 64) 0) (n % 64)
+
+one_more : (n : ℕ) (words : List ℕ) (t : Bool) → bit_in words n ≡ t → sets.len (cond t (sets.insert (set_of n words) n) (set_of n words)) ≡ digit words n + sets.len (set_of n words)
+one_more n words true e =
+    let one : digit words n ≡ 1 = eqb-true (digit words n) 1 e in
+    let more = len-insert_new (set_of n words) n (not_yet n words) in omega arith
+one_more n words false e =
+    let other : digit words n ≢ 1 = eqb-false (digit words n) 1 e in
+    let small = bit_at-lt (get_or words (n / 64) 0) (n % 64) in omega arith
+
+count_bit : (x : ℕ) → x < 2 → count_ones x ≡ x
+count_bit zero h = none_counted
+count_bit (suc zero) h = one_counted
+count_bit (suc (suc x)) h = absurd (omega arith)
+
+len-set_of_step : (n : ℕ) (words : List ℕ) → sets.len (set_of (suc n) words) ≡ digit words n + sets.len (set_of n words)
+unfolding set_of those_below
+len-set_of_step n words = one_more n words (bit_in words n) refl
+
+pub len-set_of_none : (words : List ℕ) → sets.len (set_of 0 words) ≡ 0
+unfolding set_of those_below
+len-set_of_none words = sets.len-empty nat_cmp
+
+-- the lowest bits of the word at a place add their ones
+len-part : (words : List ℕ) (w j : ℕ) → j ≤ 64 → sets.len (set_of (64 * w + j) words) ≡ count_ones (get_or words w 0 % 2 ^ j) + sets.len (set_of (64 * w) words)
+len-part words w zero l =
+    let nothing : get_or words w 0 % 2 ^ 0 ≡ 0 = omega arith in
+    let here : 64 * w + 0 ≡ 64 * w = omega arith in
+    let counted : count_ones (get_or words w 0 % 2 ^ 0) ≡ 0 = ap count_ones nothing ∙ none_counted in
+    ap (λ n. sets.len (set_of n words)) here ∙ omega (arith, counted)
+len-part words w (suc j) l =
+    let b : ℕ = get_or words w 0 in
+    let next : 64 * w + suc j ≡ suc (64 * w + j) = omega arith in
+    let place : (64 * w + j) / 64 ≡ w = omega arith in
+    let bit : (64 * w + j) % 64 ≡ j = omega arith in
+    let some = pow_pos j in
+    let counted : count_ones (b % 2 ^ suc j) ≡ bit_at b j + count_ones (b % 2 ^ j) =
+    ap count_ones (low_digits b j) ∙ ones_cat j (bit_at b j) (b % 2 ^ j) (omega arith)
+    ∙ ap (λ k. k + count_ones (b % 2 ^ j)) (count_bit (bit_at b j) (bit_at-lt b j)) in
+    let more : digit words (64 * w + j) ≡ bit_at b j = ap (λ x. bit_at (get_or words x 0) ((64 * w + j) % 64)) place ∙ ap (bit_at b) bit in
+    ap (λ n. sets.len (set_of n words)) next ∙ len-set_of_step (64 * w + j) words
+    ∙ omega (arith, len-part words w j (omega arith))
+
+-- each word adds its ones
+pub len-set_of_word : (words : List ℕ) (w : ℕ) → get_or words w 0 < 2 ^ 64 → sets.len (set_of (64 * (w + 1)) words) ≡ count_ones (get_or words w 0) + sets.len (set_of (64 * w) words)
+len-set_of_word words w fits =
+    let next : 64 * (w + 1) ≡ 64 * w + 64 = omega arith in
+    ap (λ n. sets.len (set_of n words)) next ∙ len-part words w 64 (omega arith)
+    ∙ ap (λ b. count_ones b + sets.len (set_of (64 * w) words)) (mod-eq_of_lt fits)
+
+-- a set whose words are all zero
+pub none_of_zeros : (n : ℕ) (words : List ℕ) → ((w : ℕ) → 64 * w < n → get_or words w 0 ≡ 0) → set_of n words ≡ sets.empty
+none_of_zeros n words zeros = same_ranks _ _ (λ q. has-set_of n words q ∙ at q ∙ sym (has_empty q))
+  where
+    at : (q : ℕ) → (ltb q n && bit_in words q) ≡ false
+    at q = elim (cases_lt q n) [
+      | inl lt ↦ ap (λ b. ltb q n && eqb (bit_at b (q % 64)) 1) (zeros (q / 64) (omega arith)) ∙ ap (λ x. ltb q n && eqb x 1) (bit_at-zero (q % 64)) ∙ and_right (ltb q n) false refl
+      | inr ge ↦ rw (le-ltb q n ge) refl
+    ]
+
+-- the highest one of a word
+pub has-highest : (n : ℕ) (words : List ℕ) (w k : ℕ) → 64 * w + k < n → k < 64 → 2 ^ k ≤ get_or words w 0 → get_or words w 0 < 2 * 2 ^ k → sets.contains (set_of n words) (64 * w + k) ≡ true
+has-highest n words w k inside below low high =
+    let place : (64 * w + k) / 64 ≡ w = omega arith in
+    let bit : (64 * w + k) % 64 ≡ k = omega arith in
+    let one : get_or words w 0 / 2 ^ k ≡ 1 = div-eq_of_lt-le {k = 1} (2 ^ k) {m = get_or words w 0} (omega arith) (omega arith) in
+    has-set_of n words (64 * w + k)
+    ∙ ap (λ b. b && bit_in words (64 * w + k)) (lt-ltb (64 * w + k) n inside)
+    ∙ ap (λ x. eqb (bit_at (get_or words x 0) ((64 * w + k) % 64)) 1) place
+    ∙ ap (λ x. eqb (bit_at (get_or words w 0) x) 1) bit
+    ∙ eq-eqb (bit_at (get_or words w 0) k) 1 (ap (λ x. x % 2) one)
+
+-- where no later word has a one, none is above it
+pub none_above_highest : (n : ℕ) (words : List ℕ) (w k q : ℕ) → get_or words w 0 < 2 * 2 ^ k → ((v : ℕ) → w < v → 64 * v < n → get_or words v 0 ≡ 0) → sets.contains (set_of n words) q ≡ true → q ≤ 64 * w + k
+none_above_highest n words w k q high zeros there =
+    let parts = and_parts (ltb q n) (bit_in words q) (sym (has-set_of n words q) ∙ there) in
+    let inside : q < n = ltb-true q n parts.0 in
+    let one : digit words q ≡ 1 = eqb-true (digit words q) 1 parts.1 in
+    elim (cases_lt (64 * w + k) q) [
+      | inr le ↦ le
+      | inl more ↦ elim (cases_eq (q / 64) w) [
+        | inl same ↦
+            let bit : bit_at (get_or words w 0) (q % 64) ≡ 0 = bit_at_above (get_or words w 0) (suc k) (q % 64) (subst (λ x. get_or words w 0 < x) (sym (pow-succ' 2 k)) high) (omega arith) in
+            let other : digit words q ≡ bit_at (get_or words w 0) (q % 64) = ap (λ x. bit_at (get_or words x 0) (q % 64)) same in
+            omega arith
+        | inr later ↦ elim (cases_lt w (q / 64)) [
+          | inl after ↦
+              let bit : digit words q ≡ 0 = ap (λ b. bit_at b (q % 64)) (zeros (q / 64) after (omega arith)) ∙ bit_at-zero (q % 64) in
+              omega arith
+          | inr before ↦ omega arith
+        ]
+      ]
+    ]

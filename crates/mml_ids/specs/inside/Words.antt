@@ -1,0 +1,34 @@
+-- How a set of ranks is kept in words of 64 bits.
+use Rattle.std.specs.Prelude.{ℕ, zero, suc, Bool, ◌≡◌, ◌<◌, ◌+◌, ◌*◌, ◌/◌, ◌%◌, ◌^◌, ◌==◌, if◌then◌else◌, List, map, length, slice_index}
+use Rattle.std.specs.Int.{bit_at}
+use Rattle.std.specs.List.{range_with_len}
+use Rattle.std.specs.Ordering.{nat_cmp}
+use Rattle.std.specs.FinSet as set
+use Rattle.std.specs.FinSet.{FinSet}
+use Rattle.mml_ids.specs.Sets.{those_below}
+
+-- the bit of a rank is one
+abbrev pub bit_in : List ℕ → ℕ → Bool
+bit_in words k = bit_at (slice_index words (k / 64)) (k % 64) == 1
+
+-- the ranks below n whose bits are ones
+unfoldable pub set_of : ℕ → List ℕ → FinSet nat_cmp
+set_of n words = those_below n (bit_in words)
+
+-- the number below 2 ^ n with a one at each place that passes
+abbrev pub ones_at : ℕ → (ℕ → Bool) → ℕ
+ones_at zero test = 0
+ones_at (suc n) test = (if test n then 1 else 0) * 2 ^ n + ones_at n test
+
+-- the word at a place, of those that keep a set
+abbrev pub word_of : FinSet nat_cmp → ℕ → ℕ
+word_of s w = ones_at 64 (λ k. set.contains s (64 * w + k))
+
+-- the n words that keep a set
+unfoldable pub words_of : ℕ → FinSet nat_cmp → List ℕ
+words_of n s = map (word_of s) (range_with_len 0 n)
+
+-- n words of 64 bits
+pub record AreWords (n : ℕ) (words : List ℕ) : Type 0 where
+  pub count : length words ≡ n
+  pub each : (w : ℕ) → w < n → slice_index words w < 2 ^ 64

@@ -1,0 +1,133 @@
+-- The rows of neighbours, as links are put into them one after the other.
+use Rattle.std.proofs.Common.{◌≡◌, ◌≢◌, ℕ, ℤ, pos, negsuc, zero, suc, ◌+◌, ◌-◌, ◌<◌, ◌≤◌, Bool, true, false, ◌&&◌, ◌||◌, eqb, ltb, List, [], ◌∷◌, length, get_or, set, take, drop, map, Option, Some, None, ◌⊎◌, refl, sym, ap, ◌∙◌, subst, inl, inr, arith}
+use Rattle.std.specs.Prelude.{slice_index, replicate}
+use Rattle.std.specs.List.{list_any}
+use Rattle.std.specs.Ordering.{nat_cmp, int_eq}
+use Rattle.std.specs.FinSet as sets
+use Rattle.std.specs.FinSet.{FinSet}
+use Rattle.std.proofs.lemmas.Bool.{and_right, cases_lt, cases_eq, eq-eqb, ne_eqb, eqb-true, lt-ltb, le-ltb}
+use Rattle.std.proofs.lemmas.Bool.Decides.{Decides-int_eq}
+use Rattle.std.proofs.lemmas.List.{get_or-set_same, get_or-set_other, get_or_default, get_or-replicate, length-replicate, get_or-map, length-map, same_lists}
+use Rattle.std.proofs.lemmas.List.Folds.{list_any_more}
+use Rattle.std.proofs.lemmas.List.Quantifiers.{position-Some}
+use Rattle.mml_ids.specs.Ids.{rank_in, IsTable}
+use Rattle.mml_ids.specs.Sets.{those_below}
+use Rattle.mml_ids.specs.inside.WordsLemmas.{has_empty, has_insert, has-those_below, same_ranks}
+use Rattle.mml_ids.proofs.IdsLemmas.{rank_of_id, id_of_rank}
+use Rattle.mml_rules.specs.Configuration.{holds}
+use Rattle.mml_rules.specs.Network.{neighbours_at}
+use Rattle.mml_ids.proofs.SearchLemmas.{same_bool}
+use Rattle.mml_rules.proofs.ConfigurationLemmas.{holds-true, holds-from}
+use Rattle.mml_lab.specs.Labs.{number_of, joins, is_linked, neighbours_of}
+
+abbrev pub Rows : Type 0
+Rows = List (FinSet nat_cmp)
+
+pub inserted : (rows : Rows) (a b : ℕ) (old new : FinSet nat_cmp) → a < length rows → old ≡ get_or rows a old → new ≡ sets.insert old b → (i q : ℕ)
+    → sets.contains (neighbours_at (set rows a new) i) q ≡ (sets.contains (neighbours_at rows i) q || (eqb a i && eqb b q))
+inserted rows a b old new lt here is i q = elim (cases_eq i a) [
+  | inl same ↦
+      let row : neighbours_at rows a ≡ old = get_or_default rows a sets.empty old lt ∙ sym here in
+      subst (λ j. sets.contains (neighbours_at (set rows a new) j) q ≡ (sets.contains (neighbours_at rows j) q || (eqb a j && eqb b q))) (sym same)
+      (ap (λ s. sets.contains s q) (get_or-set_same rows a new sets.empty lt ∙ is) ∙ has_insert old b q
+      ∙ rw (eq-eqb a a refl, row, eqb_turn b q) (swap_or (eqb q b) (sets.contains old q)))
+  | inr ne ↦ rw (get_or-set_other rows a i new sets.empty ne, ne_eqb a i (λ e. ne (sym e))) (sym (or_false (sets.contains (neighbours_at rows i) q)))
+]
+  where
+    swap_or : (a b : Bool) → (a || b) ≡ (b || a)
+    swap_or true true = refl
+    swap_or true false = refl
+    swap_or false true = refl
+    swap_or false false = refl
+
+    or_false : (a : Bool) → (a || false) ≡ a
+    or_false true = refl
+    or_false false = refl
+
+    eqb_turn : (x y : ℕ) → eqb x y ≡ eqb y x
+    eqb_turn x y = same_bool (eqb x y) (eqb y x) (λ h. eq-eqb y x (sym (eqb-true x y h))) (λ h. eq-eqb x y (sym (eqb-true y x h)))
+
+-- an end is a node's identifier exactly where it has the node's rank
+pub end_at : (ids : List ℕ) → IsTable ids → (z : ℤ) (i : ℕ) → i < length ids → int_eq z (pos (slice_index ids i)) ≡ holds (rank_in ids (number_of z)) i
+end_at ids table z i lt = same_bool (int_eq z (pos id)) (holds (rank_in ids (number_of z)) i)
+    (λ equal. let same : z ≡ pos id = (Decides-int_eq z (pos id)).0 equal in
+    holds-from (rank_in ids (number_of z)) i (ap (λ n. rank_in ids (number_of n)) same ∙ rank_of_id ids i id table lt (get_or_default ids i 0 id lt)))
+    (λ held. let here : id ≡ number_of z = id_of_rank ids (number_of z) i (holds-true (rank_in ids (number_of z)) i held) in
+    (Decides-int_eq z (pos id)).1 (positive z (subst (λ n. 0 < n) here (table.positive i lt)) ∙ ap pos (sym here)))
+  where
+    id : ℕ
+    id = slice_index ids i
+
+    positive : (z : ℤ) → 0 < number_of z → z ≡ pos (number_of z)
+    positive (pos n) h = refl
+    positive (negsuc n) h = absurd (omega arith)
+
+pub joins_at : (ids : List ℕ) → IsTable ids → (link : ℤ × ℤ) (i q : ℕ) → i < length ids → q < length ids
+    → joins (pos (slice_index ids i)) (pos (slice_index ids q)) link
+    ≡ ((holds (rank_in ids (number_of link.0)) i && holds (rank_in ids (number_of link.1)) q) || (holds (rank_in ids (number_of link.1)) i && holds (rank_in ids (number_of link.0)) q))
+joins_at ids table link i q in_i in_q =
+    rw (end_at ids table link.0 i in_i, end_at ids table link.1 q in_q, end_at ids table link.0 q in_q, end_at ids table link.1 i in_i)
+    (ap (λ b. (holds (rank_in ids (number_of link.0)) i && holds (rank_in ids (number_of link.1)) q) || b) (swap_and (holds (rank_in ids (number_of link.0)) q) (holds (rank_in ids (number_of link.1)) i)))
+  where
+    swap_and : (a b : Bool) → (a && b) ≡ (b && a)
+    swap_and true true = refl
+    swap_and true false = refl
+    swap_and false true = refl
+    swap_and false false = refl
+
+-- which ranks are a node's neighbours
+pub has-neighbours_of : (ids : List ℕ) (links : List (ℤ × ℤ)) (id q : ℕ) → sets.contains (neighbours_of ids links id) q ≡ (ltb q (length ids) && is_linked links (pos id) (pos (slice_index ids q)))
+unfolding neighbours_of
+has-neighbours_of ids links id q = has-those_below (length ids) (λ rank. is_linked links (pos id) (pos (slice_index ids rank))) q
+
+-- the rows are those of the links
+pub record AreRows (ids : List ℕ) (links : List (ℤ × ℤ)) (rows : Rows) : Type 0 where
+  pub size : length rows ≡ length ids
+  pub members : (i q : ℕ) → i < length ids → sets.contains (neighbours_at rows i) q ≡ sets.contains (neighbours_of ids links (slice_index ids i)) q
+
+pub no_rows : (ids : List ℕ) (rows : Rows) → rows ≡ replicate (length ids) (sets.empty {R = nat_cmp}) → AreRows ids [] rows
+no_rows ids rows is = record {
+  size = ap length is ∙ length-replicate (length ids) sets.empty;
+  members = λ i q lt.
+      ap (λ r. sets.contains (neighbours_at r i) q) is ∙ ap (λ s. sets.contains s q) (get_or-replicate (length ids) i sets.empty sets.empty lt) ∙ has_empty q
+      ∙ sym (has-neighbours_of ids [] (slice_index ids i) q ∙ and_right (ltb q (length ids)) false refl);
+}
+
+pub one_more : (ids : List ℕ) → IsTable ids → (links : List (ℤ × ℤ)) (k : ℕ) (link : ℤ × ℤ) (rows new : Rows) → k < length links → link ≡ get_or links k link → length new ≡ length rows
+    → ((i q : ℕ) → sets.contains (neighbours_at new i) q ≡ (sets.contains (neighbours_at rows i) q
+    || ((holds (rank_in ids (number_of link.0)) i && holds (rank_in ids (number_of link.1)) q) || (holds (rank_in ids (number_of link.1)) i && holds (rank_in ids (number_of link.0)) q))))
+    → AreRows ids (take k links) rows → AreRows ids (take (k + 1) links) new
+one_more ids table links k link rows new lt is long step so_far = record {
+  size = long ∙ so_far.size;
+  members = λ i q in_i. step i q ∙ ap (λ b. b || near i q) (so_far.members i q in_i ∙ has-neighbours_of ids (take k links) (slice_index ids i) q)
+      ∙ at i q in_i (cases_lt q (length ids)) ∙ sym (has-neighbours_of ids (take (k + 1) links) (slice_index ids i) q);
+}
+  where
+    near : ℕ → ℕ → Bool
+    near i q = (holds (rank_in ids (number_of link.0)) i && holds (rank_in ids (number_of link.1)) q) || (holds (rank_in ids (number_of link.1)) i && holds (rank_in ids (number_of link.0)) q)
+
+    beyond : (z : ℤ) (q : ℕ) → length ids ≤ q → holds (rank_in ids (number_of z)) q ≡ false
+    beyond z q past = by (rank_in ids (number_of z)) refl
+      where
+        by : (o : Option ℕ) → rank_in ids (number_of z) ≡ o → holds o q ≡ false
+        by None e = refl
+        by (Some k) e = let found = position-Some (λ n. eqb n (number_of z)) ids k 0 e in ne_eqb k q (λ same. absurd (omega (arith, found.0)))
+
+    none : (i q : ℕ) → length ids ≤ q → near i q ≡ false
+    none i q past = rw (beyond link.0 q past, beyond link.1 q past, and_right (holds (rank_in ids (number_of link.0)) i) false refl) (and_right (holds (rank_in ids (number_of link.1)) i) false refl)
+
+    at : (i q : ℕ) → i < length ids → (q < length ids) ⊎ (length ids ≤ q)
+        → ((ltb q (length ids) && is_linked (take k links) (pos (slice_index ids i)) (pos (slice_index ids q))) || near i q)
+        ≡ (ltb q (length ids) && is_linked (take (k + 1) links) (pos (slice_index ids i)) (pos (slice_index ids q)))
+    at i q in_i (inl in_q) = rw (lt-ltb q (length ids) in_q)
+        (sym (list_any_more (joins (pos (slice_index ids i)) (pos (slice_index ids q))) links k link lt
+        ∙ ap (λ l. is_linked (take k links) (pos (slice_index ids i)) (pos (slice_index ids q)) || joins (pos (slice_index ids i)) (pos (slice_index ids q)) l) (sym is)
+        ∙ ap (λ b. is_linked (take k links) (pos (slice_index ids i)) (pos (slice_index ids q)) || b) (joins_at ids table link i q in_i in_q)))
+    at i q in_i (inr past) = rw (le-ltb q (length ids) past) (none i q past)
+
+pub all_rows : (ids : List ℕ) (links : List (ℤ × ℤ)) (rows : Rows) → AreRows ids links rows → rows ≡ map (neighbours_of ids links) ids
+all_rows ids links rows are = same_lists rows (map (neighbours_of ids links) ids) (are.size ∙ sym (length-map ids (neighbours_of ids links)))
+    (λ i d lt. let in_i : i < length ids = omega (arith, are.size) in
+    get_or_default rows i d sets.empty lt
+    ∙ same_ranks _ _ (λ q. are.members i q in_i)
+    ∙ sym (get_or-map (neighbours_of ids links) ids i 0 d in_i))

@@ -1,0 +1,192 @@
+-- What the roster's definitions mean.
+use Rattle.std.proofs.Common.{◌≡◌, ◌≢◌, ◌↔◌, ◌==◌, ℕ, zero, suc, ◌+◌, ◌-◌, ◌<◌, ◌≤◌, List, [], ◌∷◌, length, get_or, take, map, Option, Some, None, Bool, true, false, cond, not, ◌||◌, ◌&&◌, ◌⊎◌, inl, inr, refl, sym, ap, ◌∙◌, arith, true≢false, All, Contains, nat_lt, nat_le}
+use Rattle.std.specs.Prelude.{bytes_eq, slice_index}
+use Rattle.std.specs.List.{position, list_any, list_all}
+use Rattle.std.specs.Option.{option_map}
+use Rattle.std.proofs.lemmas.Bool.{cases_Bool, cases_order, cases_eq, cases_lt, and_from, and_left, and_right, and_parts, not-false, eqb-true, eq-eqb}
+use Rattle.std.proofs.lemmas.List.{get_or-map, length-map, length-take-le, get_or-take, get_or_default}
+use Rattle.std.proofs.lemmas.List.Folds.{list_any_at, Any-from_list_any, list_any-from_Any}
+use Rattle.std.proofs.lemmas.List.Elements.{All-map, All-weaker}
+use Rattle.std.proofs.lemmas.List.Quantifiers.{position-Some}
+use Rattle.std.proofs.lemmas.Slice.Eq.{bytes_eq-Decides}
+use Rattle.mml_ids.specs.Search.{first_from, first_below}
+use Rattle.mml_lab.specs.declared.TheConstants.{MAX_STUDENTS}
+use Rattle.mml_lab.specs.declared.who.Who.{Who}
+use Rattle.mml_lab.specs.declared.who.Who.TheVariants as who
+use Rattle.mml_lab.specs.declared.fault.LabFault.{LabFault}
+use Rattle.mml_lab.specs.declared.fault.LabFault.TheVariants as fault
+use Rattle.mml_lab.specs.Shape.{Account}
+use Rattle.mml_lab.specs.Rosters.{RosterValue, IsRoster, IsPrincipal, principal, owns, owners_of, name_of, key_of, account_of, student_named, with_owners, is_account, has_name, has_name_and_key, no_account, is_name_again, name_twice}
+use Rattle.mml_lab.specs.RosterMeaning.{IsKnownAs, IsFirstAgain, AreDistinctBelow, name_at}
+use Rattle.mml_ids.proofs.SearchLemmas.{position-none, position-only, position-None}
+use Rattle.mml_lab.proofs.StudentNamedLemmas.{student_is}
+use Rattle.mml_ids.proofs.SearchLemmas.{first-is, first-at, none-is, none-at}
+
+-- ---- who greets
+
+has_both : (name key : List ℕ) (a : Account) → has_name_and_key name key a ≡ true → (a.name ≡ name) × (a.key ≡ key)
+has_both name key a both =
+    let parts = and_parts (bytes_eq name a.name) (bytes_eq key a.key) both in
+    (sym ((bytes_eq-Decides name a.name).0 parts.0), sym ((bytes_eq-Decides key a.key).0 parts.1))
+
+from_both : (name key : List ℕ) (a : Account) → a.name ≡ name → a.key ≡ key → has_name_and_key name key a ≡ true
+from_both name key a named keyed = and_from _ _ ((bytes_eq-Decides name a.name).1 (sym named)) ((bytes_eq-Decides key a.key).1 (sym keyed))
+
+found_is_known : (r : RosterValue) (name key : List ℕ) (w : Who) → principal r name key ≡ Some w → IsKnownAs r w name key
+found_is_known r name key w found = by (has_name_and_key name key r.teacher) refl w found
+  where
+    student : (o : Option ℕ) → position (has_name_and_key name key) r.students ≡ o → (w : Who) → option_map who.Student o ≡ Some w → IsKnownAs r w name key
+    student None is w found = absurd cc
+    student (Some s) is who.Teacher found = absurd cc
+    student (Some s) is (who.Student t) found =
+        let same : s ≡ t = cc in
+        let at = position-Some (has_name_and_key name key) r.students t no_account (is ∙ ap Some same) in
+        let both = has_both name key (get_or r.students t no_account) at.1 in
+        record { member = at.0; named = both.0; keyed = both.1 }
+
+    by : (b : Bool) → has_name_and_key name key r.teacher ≡ b → (w : Who) → cond b (Some who.Teacher) (option_map who.Student (position (has_name_and_key name key) r.students)) ≡ Some w → IsKnownAs r w name key
+    by true is who.Teacher found = let both = has_both name key r.teacher is in record { member = tt; named = both.0; keyed = both.1 }
+    by true is (who.Student t) found = absurd cc
+    by false is w found = student (position (has_name_and_key name key) r.students) refl w found
+
+known_is_found : (r : RosterValue) (name key : List ℕ) (w : Who) → IsRoster r → IsKnownAs r w name key → principal r name key ≡ Some w
+known_is_found r name key who.Teacher roster known = rw (from_both name key r.teacher known.named known.keyed)
+known_is_found r name key (who.Student s) roster known = by (cases_Bool (has_name_and_key name key r.teacher))
+  where
+    only : (k : ℕ) → k < length r.students → has_name_and_key name key (get_or r.students k no_account) ≡ true → k ≡ s
+    only k lt both =
+        let same : who.Student k ≡ who.Student s = roster.differ (who.Student k) (who.Student s) lt known.member ((has_both name key (get_or r.students k no_account) both).0 ∙ sym known.named) in
+        cc
+
+    by : (has_name_and_key name key r.teacher ≡ true) ⊎ (has_name_and_key name key r.teacher ≡ false) → principal r name key ≡ Some (who.Student s)
+    by (inl both) =
+        let same : who.Teacher ≡ who.Student s = roster.differ who.Teacher (who.Student s) tt known.member ((has_both name key r.teacher both).0 ∙ sym known.named) in
+        absurd cc
+    by (inr other) =
+        let here : position (has_name_and_key name key) r.students ≡ Some s = position-only (has_name_and_key name key) r.students s no_account known.member (from_both name key (get_or r.students s no_account) known.named known.keyed) only in
+        rw (other, here)
+
+pub principal-one : (r : RosterValue) (name key : List ℕ) (w : Who) → IsRoster r → (principal r name key ≡ Some w) ↔ IsKnownAs r w name key
+principal-one r name key w roster = (found_is_known r name key w, known_is_found r name key w roster)
+
+pub principal-nobody : (r : RosterValue) (name key : List ℕ) → IsRoster r → (principal r name key ≡ None) ↔ ((w : Who) → ¬ IsKnownAs r w name key)
+principal-nobody r name key roster = ((λ none w known. absurd (apart w (sym none ∙ known_is_found r name key w roster known))), λ nobody. by (principal r name key) refl nobody)
+  where
+    apart : (w : Who) → ◌≡◌ {A = Option Who} None (Some w) → ⊥
+    apart w e = cc
+
+    by : (o : Option Who) → principal r name key ≡ o → ((w : Who) → ¬ IsKnownAs r w name key) → principal r name key ≡ None
+    by None is nobody = is
+    by (Some w) is nobody = absurd (nobody w (found_is_known r name key w is))
+
+-- ---- owners
+
+pub owns-student : (r : RosterValue) (s i : ℕ) → (owns r (who.Student s) i ≡ true) ↔ Contains (owners_of r i) s
+owns-student r s i = (
+  (λ is. let any = Any-from_list_any (λ o. o == s) (owners_of r i) is in among any.0 any.1 any.2 any.3 any.4),
+  λ there. list_any_at (λ o. o == s) (owners_of r i) there.0 s there.1 (eq-eqb (get_or (owners_of r i) there.0 s) s there.2),
+)
+  where
+    among : (k o : ℕ) → k < length (owners_of r i) → get_or (owners_of r i) k o ≡ o → (o == s) ≡ true → Contains (owners_of r i) s
+    among k o lt at same = let equal : o ≡ s = eqb-true o s same in (k, lt, ap (get_or (owners_of r i) k) (sym equal) ∙ at ∙ equal)
+
+-- ---- names
+
+pub student_of_name : (r : RosterValue) (s : ℕ) → IsRoster r → s < length r.students → student_named r (name_of r (who.Student s)) ≡ Some s
+student_of_name r s roster lt = position-only (has_name (name_of r (who.Student s))) r.students s no_account lt ((bytes_eq-Decides (name_of r (who.Student s)) (name_of r (who.Student s))).1 refl) only
+  where
+    only : (k : ℕ) → k < length r.students → has_name (name_of r (who.Student s)) (get_or r.students k no_account) ≡ true → k ≡ s
+    only k in_k named =
+        let same : who.Student k ≡ who.Student s = roster.differ (who.Student k) (who.Student s) in_k lt (sym ((bytes_eq-Decides (name_of r (who.Student s)) (get_or r.students k no_account).name).0 named)) in
+        cc
+
+pub name_of_student : (r : RosterValue) (name : List ℕ) (s : ℕ) → student_named r name ≡ Some s → name_of r (who.Student s) ≡ name
+name_of_student r name s found = (student_is r name s found).1
+
+-- ---- the first name that stands before
+
+again_means : (accounts : List Account) (k : ℕ) → k < length accounts → is_name_again accounts k ≡ true → (j : ℕ) × (j < k) × (name_at accounts j ≡ name_at accounts k)
+again_means accounts k within is =
+    let any = Any-from_list_any (has_name (name_at accounts k)) (take k accounts) is in
+    there any.0 any.1 any.2 any.3 any.4
+  where
+    there : (j : ℕ) (a : Account) → j < length (take k accounts) → get_or (take k accounts) j a ≡ a → has_name (name_at accounts k) a ≡ true → (j : ℕ) × (j < k) × (name_at accounts j ≡ name_at accounts k)
+    there j a lt at named =
+        let before : j < k = omega (arith, length-take-le k accounts) in
+        let here : get_or accounts j no_account ≡ a = get_or_default accounts j no_account a (omega arith) ∙ sym (get_or-take k accounts j a before) ∙ at in
+        (j, before, ap (λ (b : Account). b.name) here ∙ sym ((bytes_eq-Decides (name_at accounts k) a.name).0 named))
+
+is_again : (accounts : List Account) (j k : ℕ) → j < k → k < length accounts → name_at accounts j ≡ name_at accounts k → is_name_again accounts k ≡ true
+is_again accounts j k lt within same =
+    let named : has_name (name_at accounts k) (get_or (take k accounts) j no_account) ≡ true = rw (get_or-take k accounts j no_account lt) ((bytes_eq-Decides (name_at accounts k) (name_at accounts j)).1 (sym same)) in
+    list_any_at (has_name (name_at accounts k)) (take k accounts) j no_account (omega (arith, length-take-le k accounts)) named
+
+-- up to n no name stands before, exactly where the first n differ
+fresh-differ : (accounts : List Account) (n : ℕ) → n ≤ length accounts → ((k : ℕ) → k < n → is_name_again accounts k ≡ false) → AreDistinctBelow accounts n
+fresh-differ accounts n le fresh j k lt within same = true≢false (sym (is_again accounts j k lt (omega arith) same) ∙ fresh k within)
+
+differ-fresh : (accounts : List Account) (n : ℕ) → n ≤ length accounts → AreDistinctBelow accounts n → (k : ℕ) → k < n → is_name_again accounts k ≡ false
+differ-fresh accounts n le differ k lt = by (cases_Bool (is_name_again accounts k))
+  where
+    by : (is_name_again accounts k ≡ true) ⊎ (is_name_again accounts k ≡ false) → is_name_again accounts k ≡ false
+    by (inl again) = let earlier = again_means accounts k (omega arith) again in absurd (differ earlier.0 k earlier.1 lt earlier.2)
+    by (inr fresh) = fresh
+
+pub name_twice-fault : (accounts : List Account) (k : ℕ) → (name_twice accounts ≡ Some (fault.NameTwice k)) ↔ IsFirstAgain accounts k
+name_twice-fault accounts k = (
+  λ found.
+      let at = first-is (is_name_again accounts) (length accounts) k (below (first_below (is_name_again accounts) (length accounts)) found) in
+      record { within = at.0; again = again_means accounts k at.0 at.1; first = fresh-differ accounts k (omega arith) at.2 },
+  λ first.
+      let here : first_below (is_name_again accounts) (length accounts) ≡ Some k = first-at (is_name_again accounts) (length accounts) k first.within (is_again accounts first.again.0 k first.again.1 first.within first.again.2) (differ-fresh accounts k (omega arith) first.first) in
+      ap (option_map fault.NameTwice) here,
+)
+  where
+    below : (o : Option ℕ) → option_map fault.NameTwice o ≡ Some (fault.NameTwice k) → o ≡ Some k
+    below None e = absurd cc
+    below (Some j) e = let same : j ≡ k = cc in ap Some same
+
+pub name_twice-none : (accounts : List Account) → (name_twice accounts ≡ None) ↔ AreDistinctBelow accounts (length accounts)
+name_twice-none accounts = (
+  λ none. fresh-differ accounts (length accounts) (omega arith) (none-is (is_name_again accounts) (length accounts) (below (first_below (is_name_again accounts) (length accounts)) none)),
+  λ differ. ap (option_map fault.NameTwice) (none-at (is_name_again accounts) (length accounts) (differ-fresh accounts (length accounts) (omega arith) differ)),
+)
+  where
+    below : (o : Option ℕ) → option_map fault.NameTwice o ≡ None → o ≡ None
+    below None e = refl
+    below (Some j) e = absurd cc
+
+-- ---- a roster of accounts that have their forms and differ
+
+same_place : (accounts : List Account) → AreDistinctBelow accounts (length accounts) → (j k : ℕ) → j < length accounts → k < length accounts → name_at accounts j ≡ name_at accounts k → j ≡ k
+same_place accounts differ j k in_j in_k same = by (cases_order j k)
+  where
+    by : (j ≡ k) ⊎ ((j < k) ⊎ (k < j)) → j ≡ k
+    by (inl here) = here
+    by (inr (inl lt)) = absurd (differ j k lt in_k same)
+    by (inr (inr lt)) = absurd (differ k j lt in_j (sym same))
+
+pub is_roster : (teacher : Account) (students : List Account) (owners : List (List ℕ)) → length students ≤ MAX_STUDENTS → position (λ a. not (is_account a)) (teacher ∷ students) ≡ None → name_twice (teacher ∷ students) ≡ None → All (All (λ s. s < length students)) owners
+    → IsRoster (with_owners teacher students owners)
+is_roster teacher students owners few formed twice owned = record {
+  few = few;
+  formed = form;
+  differ = differ;
+  owned = owned;
+}
+  where
+    form : (w : Who) → IsPrincipal (with_owners teacher students owners) w → is_account (account_of (with_owners teacher students owners) w) ≡ true
+    form who.Teacher member = not-false _ (position-None (λ a. not (is_account a)) (teacher ∷ students) no_account formed 0 (omega arith))
+    form (who.Student s) member = not-false _ (position-None (λ a. not (is_account a)) (teacher ∷ students) no_account formed (suc s) (omega arith))
+
+    one_place : (j k : ℕ) → j < length (teacher ∷ students) → k < length (teacher ∷ students) → name_at (teacher ∷ students) j ≡ name_at (teacher ∷ students) k → j ≡ k
+    one_place = same_place (teacher ∷ students) ((name_twice-none (teacher ∷ students)).0 twice)
+
+    differ : (a b : Who) → IsPrincipal (with_owners teacher students owners) a → IsPrincipal (with_owners teacher students owners) b → name_of (with_owners teacher students owners) a ≡ name_of (with_owners teacher students owners) b → a ≡ b
+    differ who.Teacher who.Teacher in_a in_b same = refl
+    differ who.Teacher (who.Student t) in_a in_b same = let no_such : 0 ≡ suc t = one_place 0 (suc t) (omega arith) (omega arith) same in absurd (omega arith)
+    differ (who.Student s) who.Teacher in_a in_b same = let no_such : suc s ≡ 0 = one_place (suc s) 0 (omega arith) (omega arith) same in absurd (omega arith)
+    differ (who.Student s) (who.Student t) in_a in_b same =
+        let one_more : suc s ≡ suc t = one_place (suc s) (suc t) (omega arith) (omega arith) same in
+        let equal : s ≡ t = omega arith in
+        ap who.Student equal

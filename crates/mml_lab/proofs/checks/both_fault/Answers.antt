@@ -1,0 +1,15 @@
+use Rattle.std.proofs.Common.{◌∙◌, ap, option_map}
+use Rattle.mml_lab.specs.declared.fault.LabFault.TheVariants as fault
+use Rattle.mml_lab.specs.Shape.{NodeSpec}
+use Rattle.mml_lab.specs.Raw.{node_view}
+use Rattle.mml_lab.specs.Labs.{both_fault}
+use Rattle.mml_lab.proofs.MapLemmas.{position-map}
+use Rattle.mml_lab.proofs.checks.both_fault.Goals as goal
+
+pub returns-in-Some : goal.returns-in-Some
+unfolding both_fault
+returns-in-Some c = ap (option_map fault.BothOwners) (c.in-Some.ensures ∙ position-map (λ (node : NodeSpec). node.both) node_view c.args.nodes.now)
+
+pub returns-in-None : goal.returns-in-None
+unfolding both_fault
+returns-in-None c = ap (option_map fault.BothOwners) (c.in-None.ensures ∙ position-map (λ (node : NodeSpec). node.both) node_view c.args.nodes.now)

@@ -1,0 +1,14 @@
+use Rattle.std.proofs.Common.{◌∙◌, ap, option_map}
+use Rattle.mml_lab.specs.declared.fault.LabFault.TheVariants as fault
+use Rattle.mml_lab.specs.Raw.{node_view}
+use Rattle.mml_lab.specs.Checks.{points_past, past_fault}
+use Rattle.mml_lab.proofs.MapLemmas.{position-map}
+use Rattle.mml_lab.proofs.links.pointers_fault.Goals as goal
+
+pub returns-in-Some : goal.returns-in-Some
+unfolding past_fault
+returns-in-Some c = ap (option_map fault.BadPointer) (c.in-Some.ensures ∙ position-map (points_past c.args.ids.now c.args.rows.now) node_view c.args.nodes.now)
+
+pub returns-in-None : goal.returns-in-None
+unfolding past_fault
+returns-in-None c = ap (option_map fault.BadPointer) (c.in-None.ensures ∙ position-map (points_past c.args.ids.now c.args.rows.now) node_view c.args.nodes.now)

@@ -1,7 +1,0 @@
-use Rattle.std.proofs.Common.{◌≡◌, map, take}
-use Rattle.mml_lab.specs.Raw.{node_view, entry_view}
-use Rattle.mml_lab.specs.Labs.{registers_with, owner_with}
-use Rattle.mml_lab.proofs.network.registers.Given as goal
-
-abbrev pub invariant-loop-index : goal.invariant-loop-index
-invariant-loop-index l = l.found.items ≡ map (registers_with l.ids (map node_view l.nodes)) (take l.index l.ids)

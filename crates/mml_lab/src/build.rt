@@ -1,0 +1,151 @@
+//! The lab of a file without a fault.
+ghost use Rattle.std.specs.Prelude.{◌≡◌, ◌≤◌, ◌==◌, map, length, IfOk, IfErr, option_copied, string_bytes, Ok};
+ghost use Rattle.std.specs.List.{find};
+ghost use Rattle.mml_ids.specs.Gives.{Gives};
+ghost use Rattle.mml_lab.specs.declared.TheConstants.{MAX_STUDENTS};
+ghost use Rattle.mml_lab.specs.Shape.{is_memory};
+ghost use Rattle.mml_lab.specs.Raw.{node_view, entry_view};
+ghost use Rattle.mml_lab.specs.Labs.{IsLab, number_of, registers_in, registers_with, place_of, owners_in, owners_with, node_with};
+ghost use Rattle.mml_lab.specs.Checks.{lab_from};
+ghost use Rattle.mml_lab.specs.ChecksView.{checked_view};
+ghost use Rattle.mml_lab.specs.declared.fault.LabFault.TheVariants.{Memory};
+
+use crate::checks::{Checked, number_of};
+use crate::fault::LabFault;
+use crate::lab::Lab;
+use crate::links::rank_at;
+use crate::raw::RawNode;
+use crate::roster::Roster;
+use crate::who::Student;
+use indexmap::IndexMap;
+use mml_ids::{IdTable, Rank};
+use mml_rules::{Network, Regs};
+use std::alloc::Global;
+
+/// The lab of a file that was checked.
+#[tactic(auto, unfolding(crate::specs::Checks::lab_from))]
+pub(crate) fn build(alloc: Global, checked: Checked) -> Result<Lab, LabFault>
+    requires { IsLab (lab_from (checked_view checked)) }
+    ensures { Gives is_memory (λ lab. lab) result (Ok (lab_from (checked_view checked))) }
+{
+    let Checked {
+        ids,
+        teacher,
+        students,
+        nodes,
+        neighbours,
+        events,
+        sessions,
+    } = checked;
+    let registers = registers(alloc, &ids, &nodes)?;
+    let network = Network::of(neighbours, registers);
+    let owners = owners(alloc, &ids, &nodes, &students)?;
+    let roster = Roster::new(teacher, students, owners);
+    Ok(Lab::new(ids, roster, network, events, sessions))
+}
+
+/// Each node's registers.
+pub(crate) fn registers(
+    alloc: Global,
+    ids: &IdTable,
+    nodes: &[RawNode],
+) -> Result<Vec<Regs>, LabFault>
+    ensures ok { IfOk result (λ regs.
+        regs.items ≡ map (registers_with ids.now (map node_view nodes.now)) ids.now) }
+    ensures err { IfErr result (λ fault. fault ≡ Memory) }
+{
+    let mut found = Vec::new(alloc);
+    for index in 0..ids.len() {
+        found.push(registers_with(ids, nodes, ids.id_of(Rank::at(index))))?;
+    }
+    Ok(found)
+}
+
+fn registers_with(ids: &IdTable, nodes: &[RawNode], id: u64) -> Regs
+    ensures { result ≡ registers_with ids.now (map node_view nodes.now) id }
+{
+    match node_with(nodes, id) {
+        Some(node) => registers_in(ids, node),
+        None => Regs { p: None, m: false },
+    }
+}
+
+fn node_with(nodes: &[RawNode], id: u64) -> Option<&RawNode>
+    ensures { option_copied result ≡ find (λ node. number_of node.id == id) nodes.now }
+{
+    nodes.iter().find(|node| number_of(node.id) == id)
+}
+
+#[tactic(auto, unfolding(crate::specs::Checks::rank_at))]
+fn registers_in(ids: &IdTable, node: &RawNode) -> Regs
+    ensures { result ≡ registers_in ids.now (node_view node.now) }
+{
+    let p = match node.p {
+        Some(p) => rank_at(ids, p),
+        None => None,
+    };
+    Regs { p, m: node.m }
+}
+
+/// Each node's owners.
+pub(crate) fn owners(
+    alloc: Global,
+    ids: &IdTable,
+    nodes: &[RawNode],
+    students: &IndexMap<String, String>,
+) -> Result<Vec<Vec<Student>>, LabFault>
+    requires { length students.now.entries ≤ MAX_STUDENTS }
+    ensures ok { IfOk result (λ owners. map (λ v. v.items) owners.items ≡ map
+        (owners_with (map entry_view students.now.entries) (map node_view nodes.now)) ids.now) }
+    ensures err { IfErr result (λ fault. fault ≡ Memory) }
+{
+    let mut found = Vec::new(alloc);
+    for index in 0..ids.len() {
+        found.push(owners_with(alloc, students, nodes, ids.id_of(Rank::at(index)))?)?;
+    }
+    Ok(found)
+}
+
+fn owners_with(
+    alloc: Global,
+    students: &IndexMap<String, String>,
+    nodes: &[RawNode],
+    id: u64,
+) -> Result<Vec<Student>, LabFault>
+    requires { length students.now.entries ≤ MAX_STUDENTS }
+    ensures ok { IfOk result (λ owners. owners.items ≡
+        owners_with (map entry_view students.now.entries) (map node_view nodes.now) id) }
+    ensures err { IfErr result (λ fault. fault ≡ Memory) }
+{
+    match node_with(nodes, id) {
+        Some(node) => owners_in(alloc, students, &node.owners),
+        None => Ok(Vec::new(alloc)),
+    }
+}
+
+fn owners_in(
+    alloc: Global,
+    students: &IndexMap<String, String>,
+    names: &[String],
+) -> Result<Vec<Student>, LabFault>
+    requires { length students.now.entries ≤ MAX_STUDENTS }
+    ensures ok { IfOk result (λ owners. owners.items ≡
+        map (λ name. place_of (map entry_view students.now.entries) (string_bytes name)) names.now) }
+    ensures err { IfErr result (λ fault. fault ≡ Memory) }
+{
+    let mut found = Vec::new(alloc);
+    for name in names {
+        found.push(student_named(students, name.as_str()))?;
+    }
+    Ok(found)
+}
+
+fn student_named(students: &IndexMap<String, String>, name: &str) -> Student
+    requires { length students.now.entries ≤ MAX_STUDENTS }
+    ensures { result ≡ place_of (map entry_view students.now.entries) name.now }
+{
+    match students.get_index_of(name) {
+        Some(place) => Student::new(place as u16),
+        None => Student::new(0),
+    }
+}

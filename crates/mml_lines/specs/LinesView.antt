@@ -1,0 +1,32 @@
+-- How a `Lines` holds its bytes.
+use Rattle.std.specs.Prelude.{◌≡◌, ℕ, ◌+◌, ◌-◌, ◌≤◌, List, vec_len, length, take, drop, slice_range, Some, IfSome}
+use Rattle.std.specs.Vec.{vec_capacity}
+use Rattle.mml_lines.specs.declared.lines.Lines.TheInside.{Inside}
+use Rattle.mml_lines.specs.declared.lines.TheConstants.{MAX_READS, READ_SIZE}
+use Rattle.mml_lines.specs.LinesOf.{IsWithinLimit}
+use Rattle.mml_lines.specs.LinesState.{LinesState}
+use Rattle.mml_lines.specs.NextLine.{ending_of}
+
+-- what the fields stand for
+abbrev pub lines_view : Inside → LinesState
+lines_view a = record {
+  limit = a.limit;
+  unread = drop a.start a.held.items;
+  line = slice_range a.held.items a.line_start a.line_end;
+  reads = a.reads;
+  ending = a.ending;
+}
+
+-- before its last read it was not known what comes next: these bytes are the front of a line
+abbrev pub IsReadNoFurther : ℕ → List ℕ → Type 0
+IsReadNoFurther limit unread = IsWithinLimit limit (take (length unread - READ_SIZE) unread)
+
+-- the places are within what is held, there is room for one more read, and there is no line after the end
+pub record IsLinesInside (a : Inside) : Type 0 where
+  pub line : a.line_start ≤ a.line_end
+  pub line_held : a.line_end ≤ vec_len a.held
+  pub start_held : a.start ≤ vec_len a.held
+  pub room : a.limit + READ_SIZE ≤ vec_capacity a.held
+  pub no_further : IsReadNoFurther a.limit (drop a.start a.held.items)
+  pub few_reads : a.reads ≤ MAX_READS
+  pub ended : IfSome a.ending (λ step. (ending_of step ≡ Some step) × (a.line_start ≡ a.line_end))

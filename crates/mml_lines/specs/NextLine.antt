@@ -1,0 +1,31 @@
+-- What the answers of `next` say.
+use Rattle.std.specs.Prelude.{ℕ, ◌+◌, ◌<◌, ◌≤◌, List, [], length, Option, Some, None}
+use Rattle.std.specs.Io.KnownBytes.{IsAtEnd}
+use Rattle.mml_lines.specs.declared.lines.Step.{Step}
+use Rattle.mml_lines.specs.declared.lines.Step.TheVariants.{Line, TooLong, End, ReadFault}
+use Rattle.mml_lines.specs.declared.lines.TheConstants.{MAX_READS, READ_SIZE}
+use Rattle.mml_lines.specs.LinesOf.{IsWithinLimit, IsTooLong, ended}
+use Rattle.mml_lines.specs.LinesState.{LinesState}
+
+-- each answer but a line is the last
+abbrev pub ending_of : Step → Option Step
+ending_of Line = None
+ending_of TooLong = Some TooLong
+ending_of End = Some End
+ending_of ReadFault = Some ReadFault
+
+-- the bytes that the answer took: the line with its byte 10
+abbrev pub bytes_taken : Step → List ℕ → List ℕ
+bytes_taken Line line = ended line
+bytes_taken TooLong line = []
+bytes_taken End line = []
+bytes_taken ReadFault line = []
+
+-- what the answer says of the line, or of what comes next: nothing is read once that is known, so no more is held after
+-- it than one read brought in; both an end and a read fault need a read, and only where all reads were made a fault
+-- comes without one
+abbrev pub Says : Step → LinesState → LinesState → Option (List ℕ) → Type 0
+Says Line old new left = IsWithinLimit new.limit new.line × (length new.unread < READ_SIZE)
+Says TooLong old new left = IsTooLong new.limit new.unread × (length new.unread ≤ new.limit + READ_SIZE)
+Says End old new left = IsWithinLimit new.limit new.unread × IsAtEnd left × (old.reads < new.reads)
+Says ReadFault old new left = IsWithinLimit new.limit new.unread × (old.reads < MAX_READS → old.reads < new.reads)

@@ -1,0 +1,222 @@
+-- What a student can't see changes nothing for the student.
+use Rattle.std.proofs.Common.{◌≡◌, ℕ, ◌+◌, ◌<◌, ◌==◌, Bool, true, false, cond, ◌&&◌, ◌||◌, List, [], ◌∷◌, length, map, Option, None, Some, is_none, option_map, Result, Ok, Err, refl, sym, ap, nat_le, ◌∙◌, subst, nat_le, arith, inl, inr, slice_set, filter}
+use Rattle.std.specs.List.{range_with_len}
+use Rattle.std.specs.Result.{IfOk}
+use Rattle.std.proofs.lemmas.Bool.{cases_eq}
+use Rattle.std.proofs.lemmas.List.{get_or-set_other}
+use Rattle.std.proofs.lemmas.Grind.{get_or-set_at}
+use Rattle.mml_ids.specs.Search.{some_below}
+use Rattle.mml_rules.specs.declared.rule.Rule.{Rule}
+use Rattle.mml_rules.specs.Configuration.{Configuration, IsLawful}
+use Rattle.mml_rules.specs.Around.{AgreeAround}
+use Rattle.mml_rules.specs.Network.{registers_at}
+use Rattle.mml_rules.specs.Rules.{guard, kind_of}
+use Rattle.mml_ids.proofs.SearchLemmas.{same_bool, some_below_same}
+use Rattle.mml_rules.proofs.AroundLemmas.{same_guard, same_kind}
+use Rattle.mml_lab.specs.declared.who.Who.{Who}
+use Rattle.mml_lab.specs.declared.who.Who.TheVariants as who
+use Rattle.mml_lab.specs.Rosters.{RosterValue, owns}
+use Rattle.mml_board.specs.declared.event.Event.TheVariants as event
+use Rattle.mml_board.specs.World.{World, size, configuration, chosen_at}
+use Rattle.mml_board.specs.Events.{choosing, done_by}
+use Rattle.mml_policy.specs.declared.command.Command.{Command}
+use Rattle.mml_policy.specs.declared.command.Command.TheVariants as command
+use Rattle.mml_policy.specs.declared.denial.Denial.{Denial}
+use Rattle.mml_policy.specs.declared.denial.Denial.TheVariants.{Hidden, NotOwner, Stale, Guard}
+use Rattle.mml_policy.specs.declared.verdict.Leave.{Leave}
+use Rattle.mml_policy.specs.declared.verdict.Leave.TheVariants.{Grant}
+use Rattle.mml_policy.specs.Visible.{is_visible, owns_neighbour}
+use Rattle.mml_policy.specs.Clauses.{node, rule_of}
+use Rattle.mml_policy.specs.Verdicts.{clauses}
+use Rattle.mml_policy.specs.Shown.{near, look_of}
+use Rattle.mml_policy.specs.Rulings.{told, ruled, ruling, after_ruling}
+use Rattle.mml_policy.specs.declared.ruling.Ruling.{Ruling}
+use Rattle.mml_policy.specs.declared.ruling.Ruling.TheVariants.{Seen, Looked, Full, Granted}
+use Rattle.mml_policy.specs.Alike.{Alike, IsWorldOf}
+use Rattle.mml_ids.proofs.GivesLemmas.{bind-same, need-same, bind-if, need-if}
+use Rattle.mml_policy.proofs.ClausesLemmas.{node_there}
+use Rattle.mml_policy.proofs.VisibleLemmas.{visible_means}
+
+both_ways_linked : (c : Configuration) (i j : ℕ) → IsLawful c → c.linked i j ≡ c.linked j i
+both_ways_linked c i j l = same_bool _ _ (l.symmetric i j) (l.symmetric j i)
+
+and_alike : (b x y : Bool) → (b ≡ true → x ≡ y) → (x && b) ≡ (y && b)
+and_alike true x y h = ap (λ z. z && true) (h refl)
+and_alike false true true h = refl
+and_alike false false true h = refl
+and_alike false true false h = refl
+and_alike false false false h = refl
+
+filter_alike : {X Y : Type 0} (t : X → Bool) (f g : X → Y) (xs : List X) → ((x : X) → t x ≡ true → f x ≡ g x) → map f (filter t xs) ≡ map g (filter t xs)
+filter_alike t f g [] h = refl
+filter_alike t f g (x ∷ xs) h = go (t x) (h x) (filter_alike t f g xs h)
+  where
+    go : (b : Bool) → (b ≡ true → f x ≡ g x) → map f (filter t xs) ≡ map g (filter t xs) → map f (cond b (x ∷ filter t xs) (filter t xs)) ≡ map g (cond b (x ∷ filter t xs) (filter t xs))
+    go true e rest = λ k. e refl k ∷ rest k
+    go false e rest = rest
+
+module _ (ids : List ℕ) (r : RosterValue) (limit : ℕ) (s : ℕ) (w v : World) (in_w : IsWorldOf ids w) (in_v : IsWorldOf ids v) (a : Alike r s w v) where
+  abbrev c : Configuration
+  c = configuration w
+
+  abbrev d : Configuration
+  d = configuration v
+
+  abbrev x : Who
+  x = who.Student s
+
+  lawful_w : IsLawful c
+  lawful_w = in_w.world.network.lawful
+
+  lawful_v : IsLawful d
+  lawful_v = in_v.world.network.lawful
+
+  same_size : size w ≡ size v
+  same_size = sym in_w.nodes ∙ in_v.nodes
+
+  around : (i : ℕ) → owns r x i ≡ true → AgreeAround c d i
+  around i own = record {
+    links = λ j. a.links i j own;
+    p_here = ap (λ q. q.p) (a.here i own);
+    m_here = ap (λ q. q.m) (a.here i own);
+    p_near = λ j n. ap (λ q. q.p) (a.near i j own n);
+    m_near = λ j n. ap (λ q. q.m) (a.near i j own n);
+  }
+
+  to_mine : (i j : ℕ) → owns r x j ≡ true → c.linked i j ≡ d.linked i j
+  to_mine i j own = both_ways_linked c i j lawful_w ∙ a.links j i own ∙ both_ways_linked d j i lawful_v
+
+  same_neighbour : (i : ℕ) → owns_neighbour r c x i ≡ owns_neighbour r d x i
+  unfolding owns_neighbour
+  same_neighbour i =
+      ap (λ n. some_below n (λ j. c.linked i j && owns r x j)) same_size
+      ∙ some_below_same (size v) _ _ (λ j _. and_alike (owns r x j) (c.linked i j) (d.linked i j) (to_mine i j))
+
+  same_visible : (i : ℕ) → is_visible r c x i ≡ is_visible r d x i
+  same_visible i = ap (λ b. owns r x i || b) (same_neighbour i)
+
+  -- the same verdicts
+  same_clauses : (k : Command) → clauses ids r w x k ≡ clauses ids r v x k
+  same_clauses (command.See id) =
+      bind-same (node ids id Hidden) (node ids id Hidden) _ _ refl (λ i _.
+      need-same (is_visible r c x i) (is_visible r d x i) _ _ _ _ (same_visible i) refl (λ _. refl))
+  same_clauses (command.Look id) = refl
+  same_clauses (command.Move id q at) =
+      bind-same (node ids id NotOwner) (node ids id NotOwner) _ _ refl (λ i _.
+      need-same (owns r x i) (owns r x i) _ _ _ _ refl refl (λ own.
+      need-same (at == w.number) (at == v.number) (Stale w.number) (Stale v.number) _ _ (ap (λ n. at == n) a.number) (ap Stale a.number) (λ _.
+      need-same (is_none (chosen_at w.chosen i)) (is_none (chosen_at v.chosen i)) _ _ _ _ (ap is_none (a.chosen i own)) refl (λ _.
+      bind-same (rule_of ids q Guard) (rule_of ids q Guard) _ _ refl (λ rule _.
+      need-same (guard c i rule) (guard d i rule) _ _ _ _ (same_guard c d i lawful_w lawful_v (around i own) rule) refl (λ _. refl))))))
+  same_clauses command.Close = refl
+  same_clauses (command.Fault id p m) = refl
+  same_clauses (command.Link first second) = refl
+  same_clauses (command.Cut first second) = refl
+  same_clauses (command.Release id) = refl
+
+  -- what is shown is the same
+  same_seen : (i : ℕ) → is_visible r c x i ≡ true → registers_at w.network.registers i ≡ registers_at v.network.registers i
+  same_seen i h = elim ((visible_means r c x i lawful_w).0 h) [
+    | inl t ↦ absurd (grind arith)
+    | inr o ↦ elim o [
+      | inl own ↦ a.here i own
+      | inr n ↦ a.near n.0 i n.2 (lawful_w.symmetric i n.0 n.1)
+    ]
+  ]
+
+  same_near : (i : ℕ) → owns r x i ≡ true → near w i ≡ near v i
+  unfolding near
+  same_near i own =
+      filter_alike (c.linked i) (λ j. (j, registers_at w.network.registers j)) (λ j. (j, registers_at v.network.registers j)) (range_with_len 0 (size w)) (λ j n. ap (λ q. (j, q)) (a.near i j own n))
+      ∙ (λ k. map (λ j. (j, registers_at v.network.registers j)) (filter (λ j. a.links i j own k) (range_with_len 0 (same_size k))))
+
+  same_look : (i : ℕ) → owns r x i ≡ true → look_of w i ≡ look_of v i
+  same_look i own = λ k. record {
+    at = a.number k;
+    node = i;
+    regs = a.here i own k;
+    chosen = option_map kind_of (a.chosen i own k);
+    enabled = same_kind c d i lawful_w lawful_v (around i own) k;
+    near = same_near i own k;
+  }
+
+  -- a move chosen in both worlds leaves them alike
+  room_w : (i : ℕ) → i < length ids → i < length w.chosen
+  room_w i l = let e = in_w.nodes in let f = in_w.world.choices in omega arith
+
+  room_v : (i : ℕ) → i < length ids → i < length v.chosen
+  room_v i l = let e = in_v.nodes in let f = in_v.world.choices in omega arith
+
+  chosen_alike : (i j : ℕ) (q : Option Rule) → i < length ids → owns r x j ≡ true → chosen_at (slice_set w.chosen i q) j ≡ chosen_at (slice_set v.chosen i q) j
+  chosen_alike i j q l own = elim (cases_eq j i) [
+    | inl e ↦ get_or-set_at w.chosen i j q None e (room_w i l) ∙ sym (get_or-set_at v.chosen i j q None e (room_v i l))
+    | inr ne ↦ get_or-set_other w.chosen i j q None ne ∙ a.chosen j own ∙ sym (get_or-set_other v.chosen i j q None ne)
+  ]
+
+  choosing_alike : (i : ℕ) (q : Option Rule) → i < length ids → Alike r s (choosing w i q) (choosing v i q)
+  choosing_alike i q l = record {
+    number = a.number;
+    place = ap (λ n. n + 1) a.place;
+    links = a.links;
+    chosen = λ j own. chosen_alike i j q l own;
+    here = a.here;
+    near = a.near;
+  }
+
+  -- what the leave tells is the same, and the worlds afterwards are alike
+  abbrev Keeps : Leave → Type 0
+  Keeps l = (told limit w l ≡ told limit v l) × Alike r s (after_ruling w (told limit w l)) (after_ruling v (told limit v l))
+
+  -- the event takes place in both worlds or in neither
+  entered : (b : Bool) (g k : Ruling) → g ≡ k → Alike r s (after_ruling w g) (after_ruling v k) →
+      (cond b Full g ≡ cond b Full k) × Alike r s (after_ruling w (cond b Full g)) (after_ruling v (cond b Full k))
+  entered true g k e l = (refl, a)
+  entered false g k e l = (e, l)
+
+  keeps_move : (i : ℕ) (q : Rule) → i < length ids → Keeps (Grant (event.Grant s i q))
+  keeps_move i q l =
+      let e = event.Grant s i q in
+      let g = Granted e (done_by w e) in
+      let k = Granted e (done_by v e) in
+      subst (λ b. (cond (nat_le limit w.place) Full g ≡ cond b Full k) × Alike r s (after_ruling w (cond (nat_le limit w.place) Full g)) (after_ruling v (cond b Full k)))
+      (ap (nat_le limit) a.place)
+      (entered (nat_le limit w.place) g k refl (choosing_alike i (Some q) l))
+
+  keeps : (k : Command) → IfOk (clauses ids r w x k) Keeps
+  keeps (command.See id) =
+      bind-if Keeps (node ids id Hidden) _ (λ i _.
+      need-if Keeps (is_visible r c x i) _ _ (λ shown.
+      ((λ k. Seen (record { at = a.number k; node = i; regs = same_seen i shown k })), a)))
+  keeps (command.Look id) =
+      bind-if Keeps (node ids id NotOwner) _ (λ i _.
+      need-if Keeps (owns r x i) _ _ (λ own.
+      (ap Looked (same_look i own), a)))
+  keeps (command.Move id q at) =
+      bind-if Keeps (node ids id NotOwner) _ (λ i there.
+      need-if Keeps (owns r x i) _ _ (λ own.
+      need-if Keeps (at == w.number) _ _ (λ _.
+      need-if Keeps (is_none (chosen_at w.chosen i)) _ _ (λ _.
+      bind-if Keeps (rule_of ids q Guard) _ (λ rule _.
+      need-if Keeps (guard c i rule) _ _ (λ _.
+      keeps_move i rule (node_there ids id _ i there)))))))
+  keeps command.Close = tt
+  keeps (command.Fault id p m) = tt
+  keeps (command.Link first second) = tt
+  keeps (command.Cut first second) = tt
+  keeps (command.Release id) = tt
+
+  abbrev Same : Result Leave Denial → Result Leave Denial → Type 0
+  Same p q = (ruled limit w p ≡ ruled limit v q) × Alike r s (after_ruling w (ruled limit w p)) (after_ruling v (ruled limit v q))
+
+  same : (p q : Result Leave Denial) → p ≡ q → IfOk p Keeps → Same p q
+  same (Ok l) q e h = subst (Same (Ok l)) e h
+  same (Err d) q e h = subst (Same (Err d)) e (refl, a)
+
+  both : (k : Command) → Same (clauses ids r w x k) (clauses ids r v x k)
+  both k = same _ _ (same_clauses k) (keeps k)
+
+pub same_ruling : (ids : List ℕ) (r : RosterValue) (limit : ℕ) (w v : World) (s : ℕ) (k : Command) → IsWorldOf ids w → IsWorldOf ids v → Alike r s w v → ruling ids r limit w (who.Student s) k ≡ ruling ids r limit v (who.Student s) k
+same_ruling ids r limit w v s k in_w in_v a = (both ids r limit s w v in_w in_v a k).0
+
+pub alike_afterwards : (ids : List ℕ) (r : RosterValue) (limit : ℕ) (w v : World) (s : ℕ) (k : Command) → IsWorldOf ids w → IsWorldOf ids v → Alike r s w v → Alike r s (after_ruling w (ruling ids r limit w (who.Student s) k)) (after_ruling v (ruling ids r limit v (who.Student s) k))
+alike_afterwards ids r limit w v s k in_w in_v a = (both ids r limit s w v in_w in_v a k).1

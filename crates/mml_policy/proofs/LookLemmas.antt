@@ -1,0 +1,51 @@
+-- What a look shows is visible to the one who may look.
+use Rattle.std.proofs.Common.{◌≡◌, ℕ, zero, suc, ◌+◌, Bool, true, false, ◌⊎◌, inl, inr, List, [], ◌∷◌, refl, sym, subst, add-one}
+use Rattle.std.specs.List.{All}
+use Rattle.std.proofs.lemmas.List.Elements.{All-nil, All-cons, All-append}
+use Rattle.mml_rules.specs.declared.registers.Regs.{Regs}
+use Rattle.mml_rules.specs.Configuration.{Configuration, IsLawful}
+use Rattle.mml_rules.specs.Network.{registers_at}
+use Rattle.mml_lab.specs.declared.who.Who.{Who}
+use Rattle.mml_lab.specs.declared.who.Who.TheVariants as who
+use Rattle.mml_lab.specs.Rosters.{RosterValue, owns}
+use Rattle.mml_board.specs.World.{World, size, configuration}
+use Rattle.mml_policy.specs.Visible.{is_visible}
+use Rattle.mml_policy.specs.Shown.{near, near_below, look_of}
+use Rattle.mml_policy.specs.Meaning.{ShowsWhatIsVisible}
+use Rattle.mml_policy.proofs.VisibleLemmas.{from_fact}
+use Rattle.mml_policy.proofs.NearLemmas.{passing_with, passing_without}
+
+near_more : (P : ℕ × Regs → Type 0) (w : World) (i n : ℕ) (b : Bool) → (configuration w).linked i n ≡ b
+    → ((j : ℕ) → (configuration w).linked i j ≡ true → P (j, registers_at w.network.registers j)) → All P (near_below w i n) → All P (near_below w i (n + 1))
+near_more P w i n true e each so_far =
+    subst (All P) (sym (passing_with ((configuration w).linked i) (λ j. (j, registers_at w.network.registers j)) n e))
+    (All-append P _ _ so_far (All-cons P (n, registers_at w.network.registers n) [] (each n e) (All-nil P)))
+near_more P w i n false e each so_far = subst (All P) (sym (passing_without ((configuration w).linked i) (λ j. (j, registers_at w.network.registers j)) n e)) so_far
+
+-- what holds of each neighbour holds of all that are near
+near_all_hold : (P : ℕ × Regs → Type 0) (w : World) (i n : ℕ) → ((j : ℕ) → (configuration w).linked i j ≡ true → P (j, registers_at w.network.registers j)) → All P (near_below w i n)
+near_all_hold P w i zero each = All-nil P
+near_all_hold P w i (suc n) each = subst (λ k. All P (near_below w i k)) (add-one n) (near_more P w i n ((configuration w).linked i n) refl each (near_all_hold P w i n each))
+
+near_hold : (P : ℕ × Regs → Type 0) (w : World) (i : ℕ) → ((j : ℕ) → (configuration w).linked i j ≡ true → P (j, registers_at w.network.registers j)) → All P (near w i)
+unfolding near
+near_hold P w i each = near_all_hold P w i (size w) each
+
+visible_near : (r : RosterValue) (w : World) (x : Who) (i : ℕ) → IsLawful (configuration w) → (x ≡ who.Teacher) ⊎ (owns r x i ≡ true)
+    → (j : ℕ) → (configuration w).linked i j ≡ true → is_visible r (configuration w) x j ≡ true
+visible_near r w x i lawful (inl teacher) j l = from_fact r (configuration w) x j lawful (inl teacher)
+visible_near r w x i lawful (inr own) j l = from_fact r (configuration w) x j lawful (inr (inr (i, lawful.symmetric i j l, own)))
+
+visible_here : (r : RosterValue) (w : World) (x : Who) (i : ℕ) → IsLawful (configuration w) → (x ≡ who.Teacher) ⊎ (owns r x i ≡ true)
+    → is_visible r (configuration w) x i ≡ true
+visible_here r w x i lawful (inl teacher) = from_fact r (configuration w) x i lawful (inl teacher)
+visible_here r w x i lawful (inr own) = from_fact r (configuration w) x i lawful (inr (inl own))
+
+pub shows_visible : (r : RosterValue) (w : World) (x : Who) (i : ℕ) → IsLawful (configuration w) → (x ≡ who.Teacher) ⊎ (owns r x i ≡ true)
+    → ShowsWhatIsVisible r w x (look_of w i)
+shows_visible r w x i lawful may = record {
+  node = visible_here r w x i lawful may;
+  registers = refl;
+  near = near_hold (λ n. is_visible r (configuration w) x n.0 ≡ true) w i (visible_near r w x i lawful may);
+  near_registers = near_hold (λ n. n.1 ≡ registers_at w.network.registers n.0) w i (λ j l. refl);
+}

@@ -1,0 +1,160 @@
+-- When a move is granted.
+use Rattle.std.proofs.Common.{false, Result, Err, subst, true≢false, ◌≡◌, ℕ, ◌==◌, true, List, Option, None, Some, is_none, Ok, refl, sym, ap, ◌∙◌, arith}
+use Rattle.std.specs.Prelude.{◌↔◌}
+use Rattle.std.specs.Option.{ok_or}
+use Rattle.std.proofs.lemmas.Bool.{eqb-true, eqb-false, eq-eqb}
+use Rattle.std.proofs.lemmas.Result.{IfErr-at_err}
+use Rattle.std.specs.Result.{IfErr}
+use Rattle.mml_ids.specs.Ids.{rank_in}
+use Rattle.mml_ids.specs.Gives.{◌>>=◌}
+use Rattle.mml_rules.specs.declared.rule.Rule.{Rule}
+use Rattle.mml_rules.specs.declared.rule.Rule.TheVariants as rules
+use Rattle.mml_rules.specs.Configuration.{IsLawful}
+use Rattle.mml_rules.specs.Rules.{guard}
+use Rattle.mml_rules.proofs.MeaningLemmas.{guard-means}
+use Rattle.mml_lab.specs.declared.who.Who.{Who}
+use Rattle.mml_lab.specs.declared.who.Who.TheVariants as who
+use Rattle.mml_lab.specs.Rosters.{RosterValue, owns}
+use Rattle.mml_board.specs.declared.event.Event.{Event}
+use Rattle.mml_board.specs.declared.event.Event.TheVariants as event
+use Rattle.mml_board.specs.World.{World, configuration, chosen_at}
+use Rattle.mml_policy.specs.declared.command.Asked.{Asked}
+use Rattle.mml_policy.specs.declared.command.Asked.TheVariants as asked
+use Rattle.mml_policy.specs.declared.command.Command.TheVariants as command
+use Rattle.mml_policy.specs.declared.denial.Denial.{Denial}
+use Rattle.mml_policy.specs.declared.denial.Denial.TheVariants.{NotOwner, Guard}
+use Rattle.mml_policy.specs.declared.verdict.Verdict.TheVariants as verdicts
+use Rattle.mml_policy.specs.declared.verdict.Leave.TheVariants.{Grant}
+use Rattle.mml_policy.specs.Clauses.{node, student, rule_of}
+use Rattle.mml_policy.specs.Verdicts.{clauses, settled, verdict}
+use Rattle.mml_policy.specs.Meaning.{IsAsked, IsOwner, IsGuarded, MayMove, DeniesMove}
+use Rattle.mml_ids.proofs.GivesLemmas.{bind-ok, bind-from, need-ok, need-from}
+use Rattle.mml_policy.proofs.ClausesLemmas.{bind-deny, need-deny, node-ok, node-err, student-ok, student-err}
+use Rattle.mml_policy.proofs.VerdictLemmas.{settled-grant, settled-deny, owner_is}
+
+none-is : {A : Type 0} (o : Option A) → is_none o ≡ true → o ≡ None
+none-is None h = refl
+none-is (Some x) h = absurd (grind arith)
+
+none_some : (i : ℕ) → None ≡ Some i → ⊥
+none_some i e = absurd (grind arith)
+
+student_teacher : (x : Who) (s : ℕ) → x ≡ who.Teacher → x ≡ who.Student s → ⊥
+student_teacher x s e h = absurd (grind arith)
+
+some-is : {A : Type 0} (o : Option A) → is_none o ≡ false → (x : A) × (o ≡ Some x)
+some-is None h = absurd (grind arith)
+some-is (Some x) h = (x, refl)
+
+asked_is : (ids : List ℕ) (a : Asked) (d : Denial) (q : Rule) → rule_of ids a d ≡ Ok q → IsAsked ids a q
+asked_is ids asked.Update d q h = grind arith
+asked_is ids (asked.Marriage id) d q h =
+    let b = bind-ok (node ids id d) _ q h in
+    (b.0, node-ok ids id d b.0 b.1, let e : Ok (rules.Marriage b.0) ≡ Ok q = b.2 in grind arith)
+asked_is ids asked.Seduction d q h = grind arith
+asked_is ids asked.Abandonment d q h = grind arith
+
+asked_from : (ids : List ℕ) (a : Asked) (d : Denial) (q : Rule) → IsAsked ids a q → rule_of ids a d ≡ Ok q
+asked_from ids asked.Update d q h = ap Ok (sym h)
+asked_from ids (asked.Marriage id) d q h = bind-from (node ids id d) _ (Ok q) h.0 (ap (λ o. ok_or o d) h.1) (ap Ok (sym h.2))
+asked_from ids asked.Seduction d q h = ap Ok (sym h)
+asked_from ids asked.Abandonment d q h = ap Ok (sym h)
+
+ok-same : (p q : Rule) → (let s : Result Rule Denial = Ok p in s ≡ Ok q) → p ≡ q
+ok-same p q e = grind arith
+
+asked_once : (ids : List ℕ) (a : Asked) (p q : Rule) → rule_of ids a Guard ≡ Ok p → IsAsked ids a q → p ≡ q
+asked_once ids a p q h k = ok-same p q (sym h ∙ asked_from ids a Guard q k)
+
+no_rule : (ids : List ℕ) (a : Asked) (d : Denial) → rule_of ids a Guard ≡ Err d → (d ≡ Guard) × ((q : Rule) → ¬ IsAsked ids a q)
+no_rule ids asked.Update d h = absurd (grind arith)
+no_rule ids (asked.Marriage id) d h = go (rank_in ids id) refl h
+  where
+    go : (o : Option ℕ) → rank_in ids id ≡ o → (ok_or o Guard >>= (λ j. let r : Result Rule Denial = Ok (rules.Marriage j) in r)) ≡ Err d → (d ≡ Guard) × ((q : Rule) → ¬ IsAsked ids (asked.Marriage id) q)
+    go None e h = ((grind arith), (λ q k. none_some k.0 (sym e ∙ k.1)))
+    go (Some j) e h = absurd (grind arith)
+no_rule ids asked.Seduction d h = absurd (grind arith)
+no_rule ids asked.Abandonment d h = absurd (grind arith)
+
+module _ (ids : List ℕ) (r : RosterValue) (w : World) (x : Who) (id : ℕ) (a : Asked) (at : ℕ) (l : IsLawful (configuration w)) where
+  abbrev IsMove : Event → Type 0
+  IsMove e = (s : ℕ) × (i : ℕ) × (q : Rule) × (e ≡ event.Grant s i q) × MayMove ids r w x id a at s i q
+
+  to_facts : (e : Event) → verdict ids r w x (command.Move id a at) ≡ verdicts.Grant e → IsMove e
+  to_facts e h =
+      let one = bind-ok (student x NotOwner) _ _ (settled-grant (clauses ids r w x (command.Move id a at)) e h) in
+      let two = bind-ok (node ids id NotOwner) _ _ one.2 in
+      let three = need-ok (owns r x two.0) _ _ _ two.2 in
+      let four = need-ok (at == w.number) _ _ _ three.1 in
+      let five = need-ok (is_none (chosen_at w.chosen two.0)) _ _ _ four.1 in
+      let six = bind-ok (rule_of ids a Guard) _ _ five.1 in
+      let seven = need-ok (guard (configuration w) two.0 six.0) _ _ _ six.2 in
+      let same : Ok (Grant (event.Grant one.0 two.0 six.0)) ≡ Ok (Grant e) = seven.1 in
+      let is = student-ok x _ one.0 one.1 in (
+        one.0,
+        two.0,
+        six.0,
+        grind arith,
+        record {
+          own = record { student = is; node = node-ok ids id _ two.0 two.1; owner = owner_is r x one.0 two.0 is three.0 };
+          current = eqb-true at w.number four.0;
+          free = none-is _ five.0;
+          guard = (asked_is ids a _ six.0 six.1, (guard-means (configuration w) two.0 six.0 l).0 seven.0);
+        },
+      )
+
+  from_facts : (e : Event) → IsMove e → verdict ids r w x (command.Move id a at) ≡ verdicts.Grant e
+  from_facts e f =
+      let m = f.4 in
+      ap settled (
+      bind-from (student x NotOwner) _ _ f.0 (ap (λ y. student y NotOwner) m.own.student) (
+      bind-from (node ids id NotOwner) _ _ f.1 (ap (λ o. ok_or o NotOwner) m.own.node) (
+      need-from (owns r x f.1) _ _ _ (ap (λ y. owns r y f.1) m.own.student ∙ m.own.owner) (
+      need-from (at == w.number) _ _ _ (eq-eqb at w.number m.current) (
+      need-from (is_none (chosen_at w.chosen f.1)) _ _ _ (ap is_none m.free) (
+      bind-from (rule_of ids a Guard) _ _ f.2 (asked_from ids a _ f.2 m.guard.0) (
+      need-from (guard (configuration w) f.1 f.2) _ _ _ ((guard-means (configuration w) f.1 f.2 l).1 m.guard.1) (
+      ap (λ e. Ok (Grant e)) (sym f.3)))))))))
+
+  pub move_means : (e : Event) → (verdict ids r w x (command.Move id a at) ≡ verdicts.Grant e) ↔ IsMove e
+  move_means e = (to_facts e, from_facts e)
+
+  abbrev why : Denial → Type 0
+  why = DeniesMove ids r w x id a at
+
+  no_student : (d : Denial) → student x NotOwner ≡ Err d → why d
+  no_student d h = let e = student-err x NotOwner d h in subst why (sym e.1) (λ s i own. student_teacher x s e.0 own.student)
+
+  no_node : (d : Denial) → node ids id NotOwner ≡ Err d → why d
+  no_node d h = let e = node-err ids id NotOwner d h in subst why (sym e.1) (λ s i own. none_some i (sym e.0 ∙ own.node))
+
+  no_owner : (i : ℕ) → rank_in ids id ≡ Some i → owns r x i ≡ false → why NotOwner
+  no_owner i there h s j own =
+      let e : Some i ≡ Some j = sym there ∙ own.node in
+      let same : i ≡ j = grind arith in
+      true≢false (sym (ap (owns r x) same ∙ ap (λ y. owns r y j) own.student ∙ own.owner) ∙ h)
+
+  no_guard : (i : ℕ) (q : Rule) → rule_of ids a Guard ≡ Ok q → guard (configuration w) i q ≡ false → (p : Rule) → ¬ IsGuarded ids w i a p
+  no_guard i q asked fails p k =
+      true≢false (sym (ap (guard (configuration w) i) (asked_once ids a q p asked k.0) ∙ (guard-means (configuration w) i p l).1 k.1) ∙ fails)
+
+  reasons : IfErr (clauses ids r w x (command.Move id a at)) why
+  reasons =
+      bind-deny why (student x NotOwner) _ no_student (λ s is.
+      bind-deny why (node ids id NotOwner) _ no_node (λ i there.
+      need-deny why (owns r x i) _ _ (no_owner i (node-ok ids id NotOwner i there)) (λ owner.
+      let own : IsOwner ids r x id s i = record {
+        student = student-ok x NotOwner s is;
+        node = node-ok ids id NotOwner i there;
+        owner = owner_is r x s i (student-ok x NotOwner s is) owner;
+      } in
+      need-deny why (at == w.number) _ _ (λ late. (s, i, own, eqb-false at w.number late, refl)) (λ now.
+      let current : at ≡ w.number = eqb-true at w.number now in
+      need-deny why (is_none (chosen_at w.chosen i)) _ _ (λ taken. (s, i, own, current, some-is _ taken)) (λ free.
+      bind-deny why (rule_of ids a Guard) _ (λ d h.
+      let e = no_rule ids a d h in
+      subst why (sym e.0) (s, i, own, current, none-is _ free, λ q k. e.1 q k.0)) (λ q rule.
+      need-deny why (guard (configuration w) i q) _ _ (λ fails. (s, i, own, current, none-is _ free, no_guard i q rule fails)) (λ _. tt)))))))
+
+  pub move_denied : (d : Denial) → verdict ids r w x (command.Move id a at) ≡ verdicts.Deny d → why d
+  move_denied d h = IfErr-at_err why (settled-deny (clauses ids r w x (command.Move id a at)) d h) reasons

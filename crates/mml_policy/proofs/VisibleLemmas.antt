@@ -1,0 +1,48 @@
+-- To whom a node is shown, as tests and as facts.
+use Rattle.std.proofs.Common.{◌≡◌, ℕ, ◌<◌, Bool, true, false, ◌&&◌, ◌||◌, ◌⊎◌, inl, inr, refl, sym, ap, ◌∙◌}
+use Rattle.std.specs.Prelude.{◌↔◌}
+use Rattle.std.proofs.lemmas.Bool.{and_parts, and_from, or_cases, or_left, or_right, false≢true}
+use Rattle.mml_ids.specs.Search.{some_below}
+use Rattle.mml_rules.specs.Configuration.{Configuration, IsLawful}
+use Rattle.mml_ids.proofs.SearchLemmas.{some_below-find, some_below-at}
+use Rattle.mml_lab.specs.declared.who.Who.{Who}
+use Rattle.mml_lab.specs.declared.who.Who.TheVariants as who
+use Rattle.mml_lab.specs.Rosters.{RosterValue, owns}
+use Rattle.mml_policy.specs.Visible.{is_teacher, owns_neighbour, is_visible, IsVisible}
+
+pub owner_found : (r : RosterValue) (c : Configuration) (x : Who) (i j : ℕ) → j < c.size → (c.linked i j && owns r x j) ≡ true → owns_neighbour r c x i ≡ true
+unfolding owns_neighbour
+owner_found r c x i j within e = some_below-at c.size j (λ j. c.linked i j && owns r x j) within e
+
+pub teacher_is : (x : Who) → is_teacher x ≡ true → x ≡ who.Teacher
+teacher_is who.Teacher h = refl
+teacher_is (who.Student s) h = absurd (false≢true h)
+
+to_fact : (r : RosterValue) (c : Configuration) (x : Who) (i : ℕ) → is_visible r c x i ≡ true → IsVisible r c x i
+unfolding owns_neighbour
+to_fact r c x i h = elim (or_cases (is_teacher x || owns r x i) (owns_neighbour r c x i) h) [
+  | inl e ↦ elim (or_cases (is_teacher x) (owns r x i) e) [
+    | inl t ↦ inl (teacher_is x t)
+    | inr o ↦ inr (inl o)
+  ]
+  | inr e ↦
+      let found = some_below-find c.size (λ j. c.linked i j && owns r x j) e in
+      let both = and_parts (c.linked i found.0) (owns r x found.0) found.2 in
+      inr (inr (found.0, both.0, both.1))
+]
+
+pub from_fact : (r : RosterValue) (c : Configuration) (x : Who) (i : ℕ) → IsLawful c → IsVisible r c x i → is_visible r c x i ≡ true
+from_fact r c x i l v = elim v [
+  | inl t ↦ or_left (is_teacher x || owns r x i) (owns_neighbour r c x i) (or_left (is_teacher x) (owns r x i) (ap is_teacher t))
+  | inr o ↦ elim o [
+    | inl own ↦ or_left (is_teacher x || owns r x i) (owns_neighbour r c x i) (or_right (is_teacher x) (owns r x i) own)
+    | inr near ↦ or_right (is_teacher x || owns r x i) (owns_neighbour r c x i) (owner_found r c x i near.0 (l.in_range i near.0 near.1).1 (and_from (c.linked i near.0) (owns r x near.0) near.1 near.2))
+  ]
+]
+
+pub visible_means : (r : RosterValue) (c : Configuration) (x : Who) (i : ℕ) → IsLawful c → (is_visible r c x i ≡ true) ↔ IsVisible r c x i
+visible_means r c x i l = (to_fact r c x i, from_fact r c x i l)
+
+pub no_owner : (r : RosterValue) (c : Configuration) (x : Who) (i n : ℕ) → n ≡ c.size → some_below n (λ j. c.linked i j && owns r x j) ≡ false → false ≡ owns_neighbour r c x i
+unfolding owns_neighbour
+no_owner r c x i n all h = sym (ap (λ k. some_below k (λ j. c.linked i j && owns r x j)) (sym all) ∙ h)

@@ -1,0 +1,114 @@
+-- What it takes that a command is granted or shown, stated as facts.
+use Rattle.std.specs.Prelude.{◌≡◌, ◌≢◌, ◌⊎◌, ℕ, Bool, true, false, List, Option, None, Some, All}
+use Rattle.mml_ids.specs.Ids.{rank_in}
+use Rattle.mml_rules.specs.declared.rule.Rule.{Rule}
+use Rattle.mml_rules.specs.declared.rule.Rule.TheVariants as rules
+use Rattle.mml_rules.specs.Meaning.{MayApply}
+use Rattle.mml_rules.specs.Network.{registers_at}
+use Rattle.mml_lab.specs.declared.who.Who.{Who}
+use Rattle.mml_lab.specs.declared.who.Who.TheVariants as who
+use Rattle.mml_lab.specs.Rosters.{RosterValue, owns}
+use Rattle.mml_board.specs.World.{World, configuration, chosen_at}
+use Rattle.mml_board.specs.declared.event.Event.{Event}
+use Rattle.mml_board.specs.declared.event.Event.TheVariants as event
+use Rattle.mml_policy.specs.declared.command.Asked.{Asked}
+use Rattle.mml_policy.specs.declared.command.Asked.TheVariants as asked
+use Rattle.mml_policy.specs.declared.denial.Denial.{Denial}
+use Rattle.mml_policy.specs.declared.denial.Denial.TheVariants as denial
+use Rattle.mml_policy.specs.declared.look.Look.{Look}
+use Rattle.mml_policy.specs.Visible.{IsVisible, is_visible}
+
+-- the rule that is asked for; a partner is a node
+abbrev pub IsAsked : List ℕ → Asked → Rule → Type 0
+IsAsked ids asked.Update q = q ≡ rules.Update
+IsAsked ids (asked.Marriage id) q = (j : ℕ) × (rank_in ids id ≡ Some j) × (q ≡ rules.Marriage j)
+IsAsked ids asked.Seduction q = q ≡ rules.Seduction
+IsAsked ids asked.Abandonment q = q ≡ rules.Abandonment
+
+-- student s owns i, the node with this identifier
+pub record IsOwner (ids : List ℕ) (r : RosterValue) (x : Who) (id s i : ℕ) : Type 0 where
+  pub student : x ≡ who.Student s
+  pub node : rank_in ids id ≡ Some i
+  pub owner : owns r (who.Student s) i ≡ true
+
+-- the rule q is asked for, and may be applied at i
+abbrev pub IsGuarded : List ℕ → World → ℕ → Asked → Rule → Type 0
+IsGuarded ids w i asked q = IsAsked ids asked q × MayApply (configuration w) i q
+
+-- student s may apply the rule q at the own node i, in the current configuration, and no move is chosen there
+pub record MayMove (ids : List ℕ) (r : RosterValue) (w : World) (x : Who) (id : ℕ) (asked : Asked) (at s i : ℕ) (q : Rule) : Type 0 where
+  pub own : IsOwner ids r x id s i
+  pub current : at ≡ w.number
+  pub free : chosen_at w.chosen i ≡ None
+  pub guard : IsGuarded ids w i asked q
+
+-- some move has been chosen for i
+abbrev pub IsChosen : World → ℕ → Type 0
+IsChosen w i = (q : Rule) × (chosen_at w.chosen i ≡ Some q)
+
+-- why a move is denied: the clauses before hold, and this one doesn't
+abbrev pub DeniesMove : List ℕ → RosterValue → World → Who → ℕ → Asked → ℕ → Denial → Type 0
+DeniesMove ids r w x id asked at denial.NotOwner = (s i : ℕ) → ¬ IsOwner ids r x id s i
+DeniesMove ids r w x id asked at (denial.Stale n) = (s : ℕ) × (i : ℕ) × IsOwner ids r x id s i × (at ≢ w.number) × (n ≡ w.number)
+DeniesMove ids r w x id asked at denial.Chosen = (s : ℕ) × (i : ℕ) × IsOwner ids r x id s i × (at ≡ w.number) × IsChosen w i
+DeniesMove ids r w x id asked at denial.Guard =
+    (s : ℕ) × (i : ℕ) × IsOwner ids r x id s i × (at ≡ w.number) × (chosen_at w.chosen i ≡ None) × ((q : Rule) → ¬ IsGuarded ids w i asked q)
+DeniesMove ids r w x id asked at denial.NotGreeted = ⊥
+DeniesMove ids r w x id asked at denial.Greeted = ⊥
+DeniesMove ids r w x id asked at denial.Unknown = ⊥
+DeniesMove ids r w x id asked at denial.Hidden = ⊥
+DeniesMove ids r w x id asked at denial.NotTeacher = ⊥
+DeniesMove ids r w x id asked at denial.Empty = ⊥
+DeniesMove ids r w x id asked at denial.NoNode = ⊥
+DeniesMove ids r w x id asked at denial.BadRegister = ⊥
+DeniesMove ids r w x id asked at denial.Loop = ⊥
+DeniesMove ids r w x id asked at denial.Linked = ⊥
+DeniesMove ids r w x id asked at denial.NotLinked = ⊥
+DeniesMove ids r w x id asked at denial.NotChosen = ⊥
+
+-- the node with this identifier is visible
+abbrev pub MaySee : List ℕ → RosterValue → World → Who → ℕ → Type 0
+MaySee ids r w x id = (i : ℕ) × (rank_in ids id ≡ Some i) × IsVisible r (configuration w) x i
+
+-- the node with this identifier is an own node, or the teacher asks
+abbrev pub MayLook : List ℕ → RosterValue → Who → ℕ → Type 0
+MayLook ids r x id = (i : ℕ) × (rank_in ids id ≡ Some i) × ((x ≡ who.Teacher) ⊎ (owns r x i ≡ true))
+
+-- what is shown of each node are its registers, and each of these nodes is visible to x
+pub record ShowsWhatIsVisible (r : RosterValue) (w : World) (x : Who) (l : Look) : Type 0 where
+  pub node : is_visible r (configuration w) x l.node ≡ true
+  pub registers : l.regs ≡ registers_at w.network.registers l.node
+  pub near : All (λ n. is_visible r (configuration w) x n.0 ≡ true) l.near
+  pub near_registers : All (λ n. n.1 ≡ registers_at w.network.registers n.0) l.near
+
+-- p is null, or names the node that q is
+abbrev pub IsNamed : List ℕ → Option ℕ → Option ℕ → Type 0
+IsNamed ids None q = q ≡ None
+IsNamed ids (Some id) q = (j : ℕ) × (rank_in ids id ≡ Some j) × (q ≡ Some j)
+
+-- null or a neighbour of i
+abbrev pub IsRegister : World → ℕ → Option ℕ → Type 0
+IsRegister w i None = Unit {0}
+IsRegister w i (Some j) = (configuration w).linked i j ≡ true
+
+-- some node has a chosen move, and the chosen moves are applied
+abbrev pub MayClose : World → Event → Type 0
+MayClose w e = (i : ℕ) × (q : Rule) × (chosen_at w.chosen i ≡ Some q) × (e ≡ event.Close)
+
+-- the register is null or a neighbour, and the node's registers are set
+abbrev pub MayFault : List ℕ → World → ℕ → Option ℕ → Bool → Event → Type 0
+MayFault ids w id p m e = (i : ℕ) × (q : Option ℕ) × (rank_in ids id ≡ Some i) × (e ≡ event.Fault i (record { p = q; m = m })) × IsNamed ids p q × IsRegister w i q
+
+-- two different nodes that aren't linked are linked
+abbrev pub MayLink : List ℕ → World → ℕ → ℕ → Event → Type 0
+MayLink ids w first second e =
+    (a : ℕ) × (b : ℕ) × (rank_in ids first ≡ Some a) × (rank_in ids second ≡ Some b) × (e ≡ event.Link a b) × (a ≢ b) × ((configuration w).linked a b ≡ false)
+
+-- two nodes that are linked are linked no longer
+abbrev pub MayCut : List ℕ → World → ℕ → ℕ → Event → Type 0
+MayCut ids w first second e =
+    (a : ℕ) × (b : ℕ) × (rank_in ids first ≡ Some a) × (rank_in ids second ≡ Some b) × (e ≡ event.Cut a b) × ((configuration w).linked a b ≡ true)
+
+-- the chosen move of a node is dropped
+abbrev pub MayRelease : List ℕ → World → ℕ → Event → Type 0
+MayRelease ids w id e = (i : ℕ) × (q : Rule) × (rank_in ids id ≡ Some i) × (e ≡ event.Release i) × (chosen_at w.chosen i ≡ Some q)

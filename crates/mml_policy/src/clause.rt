@@ -1,0 +1,60 @@
+//! Steps of clauses: each hands on what it found, or answers the denial that it is given.
+ghost use Rattle.std.specs.Prelude.{◌≡◌, ◌<◌, length, IfOk, IfSome};
+ghost use Rattle.mml_ids.specs.Gives.{need};
+ghost use Rattle.mml_rules.specs.Rules.{IsWithin};
+ghost use Rattle.mml_policy.specs.Clauses.{node, student, rule_of, pointer};
+
+use crate::command::Asked;
+use crate::denial::Denial;
+use mml_ids::{IdTable, Rank};
+use mml_lab::{Student, Who};
+use mml_rules::Rule;
+
+/// The condition holds.
+pub(crate) fn need(condition: bool, denial: Denial) -> Result<(), Denial>
+    ensures { result ≡ need condition denial }
+{
+    if condition { Ok(()) } else { Err(denial) }
+}
+
+/// The node with this identifier.
+pub(crate) fn node(ids: &IdTable, id: u64, denial: Denial) -> Result<Rank, Denial>
+    ensures step { result ≡ node ids.now id denial }
+    ensures there { IfOk result (λ i. i < length ids.now) }
+{
+    ids.rank_of(id).ok_or(denial)
+}
+
+/// The one who asks is a student.
+pub(crate) fn student(who: Who, denial: Denial) -> Result<Student, Denial>
+    ensures { result ≡ student who denial }
+{
+    match who {
+        Who::Teacher => Err(denial),
+        Who::Student(student) => Ok(student),
+    }
+}
+
+/// The rule, with the partner that it names.
+pub(crate) fn rule_of(ids: &IdTable, asked: Asked, denial: Denial) -> Result<Rule, Denial>
+    ensures step { result ≡ rule_of ids.now asked denial }
+    ensures there { IfOk result (IsWithin (length ids.now)) }
+{
+    match asked {
+        Asked::Update => Ok(Rule::Update),
+        Asked::Marriage(id) => Ok(Rule::Marriage(node(ids, id, denial)?)),
+        Asked::Seduction => Ok(Rule::Seduction),
+        Asked::Abandonment => Ok(Rule::Abandonment),
+    }
+}
+
+/// The node that p names, or null.
+pub(crate) fn pointer(ids: &IdTable, p: Option<u64>, denial: Denial) -> Result<Option<Rank>, Denial>
+    ensures step { result ≡ pointer ids.now p denial }
+    ensures there { IfOk result (λ q. IfSome q (λ j. j < length ids.now)) }
+{
+    match p {
+        None => Ok(None),
+        Some(id) => Ok(Some(node(ids, id, denial)?)),
+    }
+}

@@ -1,0 +1,64 @@
+ghost use Rattle.std.specs.Prelude.{◌≡◌, ◌<◌, length, IfOk, option_map};
+ghost use Rattle.mml_rules.specs.Rules.{kind_of};
+ghost use Rattle.mml_board.specs.World.{chosen_at};
+ghost use Rattle.mml_policy.specs.Shown.{look_of, near};
+
+use mml_board::Board;
+use mml_ids::{Items, Memory, Rank};
+use mml_rules::{Kind, Regs, Rule, Scene};
+use std::alloc::Global;
+
+/// What is shown of a node to its owners and the teacher.
+#[derive(Debug, Drop)]
+pub struct Look {
+    /// The number of the configuration that it is of.
+    pub at: u64,
+    pub node: Rank,
+    pub regs: Regs,
+    /// The rule of its chosen move.
+    pub chosen: Option<Kind>,
+    /// The rule that is enabled there.
+    pub enabled: Option<Kind>,
+    /// The nodes linked to it in rising order, with their registers.
+    pub near: Items<(Rank, Regs)>,
+}
+
+/// A node as its owners see it.
+pub fn look_of(alloc: Global, board: &Board, node: Rank) -> Result<Look, Memory>
+    requires { node < length board.now.network.registers }
+    ensures { IfOk result (λ look. look ≡ look_of board.now node) }
+{
+    Ok(Look {
+        at: board.number(),
+        node,
+        regs: board.regs(node),
+        chosen: board.chosen(node).map(kind_of),
+        enabled: board.enabled(node),
+        near: Items::of(near(alloc, board, node)?),
+    })
+}
+
+fn near(alloc: Global, board: &Board, node: Rank) -> Result<Vec<(Rank, Regs)>, Memory>
+    requires { node < length board.now.network.registers }
+    ensures { IfOk result (λ nodes. nodes.items ≡ near board.now node) }
+{
+    let mut near = Vec::new(alloc);
+    for index in 0..board.size() {
+        let other = Rank::at(index);
+        if board.linked(node, other) {
+            near.push((other, board.regs(other)))?;
+        }
+    }
+    Ok(near)
+}
+
+fn kind_of(rule: Rule) -> Kind
+    ensures { result ≡ kind_of rule }
+{
+    match rule {
+        Rule::Update => Kind::Update,
+        Rule::Marriage(_) => Kind::Marriage,
+        Rule::Seduction => Kind::Seduction,
+        Rule::Abandonment => Kind::Abandonment,
+    }
+}

@@ -1,0 +1,14 @@
+-- What a register p holds.
+use Rattle.std.proofs.Common.{◌≡◌, ℕ, true, Option, None, Some, ap, ◌∙◌, refl}
+use Rattle.std.proofs.lemmas.Bool.{eqb-true, eq-eqb, false≢true}
+use Rattle.mml_rules.specs.Configuration.{holds}
+
+pub holds-true : (o : Option ℕ) (j : ℕ) → holds o j ≡ true → o ≡ Some j
+holds-true None j h = absurd (false≢true h)
+holds-true (Some k) j h = ap Some (eqb-true k j h)
+
+pub holds-some : (j : ℕ) → holds (Some j) j ≡ true
+holds-some j = eq-eqb j j refl
+
+pub holds-from : (o : Option ℕ) (j : ℕ) → o ≡ Some j → holds o j ≡ true
+holds-from o j h = ap (λ x. holds x j) h ∙ holds-some j

@@ -1,0 +1,76 @@
+-- At most one of the four rules is enabled at a node, and `enabled_kind` names it.
+use Rattle.std.proofs.Common.{◌≡◌, ℕ, Bool, true, false, cond, not, ◌&&◌, Option, None, Some, is_some, is_none, sym, refl, ap, ◌∙◌}
+use Rattle.std.proofs.lemmas.Bool.{and_parts, and_from, not-true, false_from_ne_true, both_ways}
+use Rattle.mml_rules.specs.declared.rule.Rule.{Rule}
+use Rattle.mml_rules.specs.declared.rule.Kind.{Kind}
+use Rattle.mml_rules.specs.Configuration.{Configuration, IsLawful, holds}
+use Rattle.mml_rules.specs.Rules.{has_suitor, greatest_candidate, m_is_right, points_in_vain, guard, kind_of, enabled_kind, is_privileged}
+use Rattle.mml_rules.proofs.ConfigurationLemmas.{holds-true, holds-from}
+use Rattle.mml_rules.proofs.RulesLemmas.{suitor-from, suitor-find, vain-some, some-null, null-some}
+
+some-path : {x y : Kind} → Some x ≡ Some y → x ≡ y
+some-path h = cc
+
+-- the choice that `enabled_kind` makes, over plain tests
+abbrev pub choose : Bool → Bool → Bool → Bool → Bool → Option Kind
+choose settled pointing vain suitor best =
+    cond (not settled) (Some Kind.Update)
+    (cond pointing (cond vain (Some Kind.Abandonment) None)
+    (cond suitor (Some Kind.Marriage) (cond best (Some Kind.Seduction) None)))
+
+kind-choose : (c : Configuration) (i : ℕ) → enabled_kind c i ≡ choose (m_is_right c i) (is_some (c.p i)) (points_in_vain c i) (has_suitor c i) (is_some (greatest_candidate c i))
+unfolding enabled_kind
+kind-choose c i = refl
+
+chosen_update : (s p v u b : Bool) → s ≡ false → choose s p v u b ≡ Some Kind.Update
+chosen_update s p v u b h = rw h refl
+
+chosen_marriage : (s p v u b : Bool) → s ≡ true → p ≡ false → u ≡ true → choose s p v u b ≡ Some Kind.Marriage
+chosen_marriage s p v u b h k l = rw (h, k, l) refl
+
+chosen_seduction : (s p v u b : Bool) → s ≡ true → p ≡ false → u ≡ false → b ≡ true → choose s p v u b ≡ Some Kind.Seduction
+chosen_seduction s p v u b h k l m = rw (h, k, l, m) refl
+
+chosen_abandonment : (s p v u b : Bool) → s ≡ true → p ≡ true → v ≡ true → choose s p v u b ≡ Some Kind.Abandonment
+chosen_abandonment s p v u b h k l = rw (h, k, l) refl
+
+-- a rule whose guard holds is the enabled one, so at most one of the four holds
+pub guard-kind : (c : Configuration) (i : ℕ) (r : Rule) → IsLawful c → guard c i r ≡ true → enabled_kind c i ≡ Some (kind_of r)
+guard-kind c i Rule.Update l h = kind-choose c i ∙ chosen_update _ _ _ _ _ (not-true _ h)
+guard-kind c i (Rule.Marriage j) l h =
+    let a = and_parts (m_is_right c i) (is_none (c.p i) && (c.linked i j && holds (c.p j) i)) h in
+    let b = and_parts (is_none (c.p i)) (c.linked i j && holds (c.p j) i) a.1 in
+    let d = and_parts (c.linked i j) (holds (c.p j) i) b.1 in
+    kind-choose c i ∙ chosen_marriage _ _ _ _ _ a.0 (null-some (c.p i) b.0) (suitor-from c i j l d.0 (holds-true (c.p j) i d.1))
+guard-kind c i Rule.Seduction l h =
+    let a = and_parts (m_is_right c i) (is_none (c.p i) && (not (has_suitor c i) && is_some (greatest_candidate c i))) h in
+    let b = and_parts (is_none (c.p i)) (not (has_suitor c i) && is_some (greatest_candidate c i)) a.1 in
+    let d = and_parts (not (has_suitor c i)) (is_some (greatest_candidate c i)) b.1 in
+    kind-choose c i ∙ chosen_seduction _ _ _ _ _ a.0 (null-some (c.p i) b.0) (not-true _ d.0) d.1
+guard-kind c i Rule.Abandonment l h =
+    let a = and_parts (m_is_right c i) (points_in_vain c i) h in
+    kind-choose c i ∙ chosen_abandonment _ _ _ _ _ a.0 (vain-some c i a.1) a.1
+
+pub idle-guard : (c : Configuration) (i : ℕ) (r : Rule) → IsLawful c → is_privileged c i ≡ false → guard c i r ≡ false
+idle-guard c i r l h = false_from_ne_true (guard c i r) (λ g.
+    both_ways (is_privileged c i) h (ap is_some (guard-kind c i r l g)))
+
+-- the enabled rule has a guard that holds
+pub kind-guard : (c : Configuration) (i : ℕ) (k : Kind) → enabled_kind c i ≡ Some k → (r : Rule) × (kind_of r ≡ k) × (guard c i r ≡ true)
+kind-guard c i k h = go (m_is_right c i) (is_some (c.p i)) (points_in_vain c i) (has_suitor c i) (is_some (greatest_candidate c i)) refl refl refl refl refl (sym (kind-choose c i) ∙ h)
+  where
+    null : is_some (c.p i) ≡ false → is_none (c.p i) ≡ true
+    null e = some-null (c.p i) e
+
+    go : (s p v u b : Bool) → m_is_right c i ≡ s → is_some (c.p i) ≡ p → points_in_vain c i ≡ v → has_suitor c i ≡ u → is_some (greatest_candidate c i) ≡ b → choose s p v u b ≡ Some k → (r : Rule) × (kind_of r ≡ k) × (guard c i r ≡ true)
+    go false p v u b es ep ev eu eb e = (Rule.Update, some-path e, ap not es)
+    go true true true u b es ep ev eu eb e = (Rule.Abandonment, some-path e, and_from _ _ es ev)
+    go true true false u b es ep ev eu eb e = cc
+    go true false v true b es ep ev eu eb e =
+        let k = suitor-find c i eu in
+        (Rule.Marriage k.0, some-path e, and_from _ _ es (and_from _ _ (null ep) (and_from _ _ k.1 (holds-from (c.p k.0) i k.2))))
+    go true false v false true es ep ev eu eb e = (Rule.Seduction, some-path e, and_from _ _ es (and_from _ _ (null ep) (and_from _ _ (ap not eu) eb)))
+    go true false v false false es ep ev eu eb e = cc
+
+pub one-kind : (c : Configuration) (i : ℕ) (r s : Rule) → IsLawful c → guard c i r ≡ true → guard c i s ≡ true → kind_of r ≡ kind_of s
+one-kind c i r s l g h = some-path (sym (guard-kind c i r l g) ∙ guard-kind c i s l h)

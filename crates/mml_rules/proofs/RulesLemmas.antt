@@ -1,0 +1,100 @@
+-- What the definitions of the rules say, as facts.
+use Rattle.std.proofs.Common.{◌≡◌, ℕ, ◌<◌, ◌≤◌, Bool, true, false, not, ◌&&◌, ◌||◌, nat_lt, Option, None, Some, is_some, is_none, sym, refl, ap, ◌∙◌, subst, arith}
+use Rattle.std.specs.Option.{option_map_or}
+use Rattle.std.proofs.lemmas.Bool.{and_parts, and_from, false_from_ne_true, both_ways, false≢true}
+use Rattle.mml_ids.specs.Search.{some_below}
+use Rattle.mml_rules.specs.Configuration.{Configuration, IsLawful, holds}
+use Rattle.mml_rules.specs.Rules.{is_married, has_suitor, is_candidate, greatest_candidate, points_in_vain}
+use Rattle.mml_ids.proofs.SearchLemmas.{some_below-find, some_below-at, greatest_below-some, greatest_below-none}
+use Rattle.mml_rules.proofs.ConfigurationLemmas.{holds-true, holds-from}
+
+pub married-partner : (c : Configuration) (i : ℕ) → is_married c i ≡ true → (j : ℕ) × (c.p i ≡ Some j) × (c.p j ≡ Some i)
+unfolding is_married
+married-partner c i h =
+    let r = some_below-find c.size (λ j. c.linked i j && (holds (c.p i) j && holds (c.p j) i)) h in
+    let a = and_parts (c.linked i r.0) (holds (c.p i) r.0 && holds (c.p r.0) i) r.2 in
+    let b = and_parts (holds (c.p i) r.0) (holds (c.p r.0) i) a.1 in
+    (r.0, holds-true (c.p i) r.0 b.0, holds-true (c.p r.0) i b.1)
+
+pub married-from : (c : Configuration) (i j : ℕ) → IsLawful c → c.p i ≡ Some j → c.p j ≡ Some i → is_married c i ≡ true
+unfolding is_married
+married-from c i j l a b =
+    let linked : c.linked i j ≡ true = l.to_linked i j a in
+    some_below-at c.size j (λ j. c.linked i j && (holds (c.p i) j && holds (c.p j) i)) (l.in_range i j linked).1
+    (and_from _ _ linked (and_from _ _ (holds-from (c.p i) j a) (holds-from (c.p j) i b)))
+
+-- a node whose pointer is null is not married
+pub married-null : (c : Configuration) (i : ℕ) → c.p i ≡ None → is_married c i ≡ false
+married-null c i h = false_from_ne_true (is_married c i) (λ m. let r = married-partner c i m in cc)
+
+-- a node that points at j is married exactly where j points back
+pub married-at : (c : Configuration) (i j : ℕ) → IsLawful c → c.p i ≡ Some j → is_married c i ≡ holds (c.p j) i
+married-at c i j l a = go (holds (c.p j) i) refl
+  where
+    go : (b : Bool) → holds (c.p j) i ≡ b → is_married c i ≡ b
+    go true e = married-from c i j l a (holds-true (c.p j) i e)
+    go false e = false_from_ne_true (is_married c i) (λ m.
+        let r = married-partner c i m in
+        let back : c.p j ≡ Some i = same (c.p i) r.0 j r.1 a r.2 in
+        absurd (both_ways (holds (c.p j) i) e (holds-from (c.p j) i back)))
+      where
+        same : (o : Option ℕ) (x y : ℕ) → o ≡ Some x → o ≡ Some y → c.p x ≡ Some i → c.p y ≡ Some i
+        same o x y u v w = let e : x ≡ y = cc in subst (λ z. c.p z ≡ Some i) e w
+
+-- a pointer leads to a node
+pub pointee_in : (c : Configuration) (i j : ℕ) → IsLawful c → c.p i ≡ Some j → j < c.size
+pointee_in c i j l h = (l.in_range i j (l.to_linked i j h)).1
+
+pub suitor_at : (c : Configuration) (i k : ℕ) (o : Option ℕ) → IsLawful c → o ≡ c.p k → holds o i ≡ true → true ≡ has_suitor c i
+unfolding has_suitor
+suitor_at c i k o l p h =
+    let points : c.p k ≡ Some i = sym p ∙ holds-true o i h in
+    let linked : c.linked i k ≡ true = l.symmetric k i (l.to_linked k i points) in
+    sym (some_below-at c.size k (λ k. c.linked i k && holds (c.p k) i) (l.in_range i k linked).1 (and_from _ _ linked (holds-from (c.p k) i points)))
+
+pub no_suitor : (c : Configuration) (i n : ℕ) → c.size ≤ n → ((k : ℕ) → k < n → holds (c.p k) i ≡ false) → false ≡ has_suitor c i
+unfolding has_suitor
+no_suitor c i n all h = sym (false_from_ne_true (some_below c.size (λ k. c.linked i k && holds (c.p k) i)) (λ s.
+    let r = some_below-find c.size (λ k. c.linked i k && holds (c.p k) i) s in
+    both_ways (holds (c.p r.0) i) (h r.0 (omega arith)) (and_parts (c.linked i r.0) (holds (c.p r.0) i) r.2).1))
+
+pub none-null : (o : Option ℕ) → is_none o ≡ true → o ≡ None
+none-null None h = refl
+none-null (Some x) h = absurd (false≢true h)
+
+pub null-none : (o : Option ℕ) → o ≡ None → is_none o ≡ true
+null-none o h = ap is_none h
+
+pub some-null : (o : Option ℕ) → is_some o ≡ false → is_none o ≡ true
+some-null None h = refl
+some-null (Some x) h = sym h
+
+pub null-some : (o : Option ℕ) → is_none o ≡ true → is_some o ≡ false
+null-some None h = refl
+null-some (Some x) h = absurd (false≢true h)
+
+pub vain-some : (c : Configuration) (i : ℕ) → points_in_vain c i ≡ true → is_some (c.p i) ≡ true
+vain-some c i h = go (c.p i) h
+  where
+    go : (o : Option ℕ) → option_map_or (λ j. not (holds (c.p j) i) && (c.m j || nat_lt j i)) o false ≡ true → is_some o ≡ true
+    go None e = absurd (false≢true e)
+    go (Some j) e = refl
+
+pub suitor-from : (c : Configuration) (i k : ℕ) → IsLawful c → c.linked i k ≡ true → c.p k ≡ Some i → has_suitor c i ≡ true
+unfolding has_suitor
+suitor-from c i k l linked h = some_below-at c.size k (λ k. c.linked i k && holds (c.p k) i) (l.in_range i k linked).1 (and_from _ _ linked (holds-from (c.p k) i h))
+
+pub suitor-find : (c : Configuration) (i : ℕ) → has_suitor c i ≡ true → (k : ℕ) × (c.linked i k ≡ true) × (c.p k ≡ Some i)
+unfolding has_suitor
+suitor-find c i h =
+    let r = some_below-find c.size (λ k. c.linked i k && holds (c.p k) i) h in
+    let a = and_parts (c.linked i r.0) (holds (c.p r.0) i) r.2 in
+    (r.0, a.0, holds-true (c.p r.0) i a.1)
+
+pub greatest-is : (c : Configuration) (i j : ℕ) → greatest_candidate c i ≡ Some j → is_candidate c i j ≡ true
+unfolding greatest_candidate
+greatest-is c i j h = (greatest_below-some c.size j (is_candidate c i) h).1
+
+pub greatest-none : (c : Configuration) (i j : ℕ) → greatest_candidate c i ≡ None → j < c.size → is_candidate c i j ≡ false
+unfolding greatest_candidate
+greatest-none c i j h l = greatest_below-none c.size j (is_candidate c i) h l

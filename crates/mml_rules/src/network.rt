@@ -1,0 +1,164 @@
+ghost use Rattle.std.specs.FinSet as set;
+ghost use Rattle.std.specs.Prelude.{◌≡◌, ◌≢◌, ℕ, ◌<◌, ◌≤◌, length, true, Some, IfOk};
+ghost use Rattle.mml_rules.specs.Network.{neighbours_at, registers_at, configuration_of, IsNetwork, with_neighbour, without_neighbour, unpointed, with_registers, with_link, without_link};
+
+use crate::{Regs, Scene};
+use mml_ids::{Memory, NodeSet, Rank};
+use std::alloc::Global;
+use std::marker::Model;
+
+/// The links and the registers, in the order of the ranks.
+#[derive(Debug, Drop)]
+pub struct Network {
+    neighbours: Vec<NodeSet>,
+    registers: Vec<Regs>,
+}
+
+impl Model for Network {
+    ghost use Rattle.mml_rules.specs.Network.{Network, IsNetwork};
+    ghost use Rattle.std.specs.Coded.{codes};
+    ghost use Rattle.mml_ids.specs.Sets.{node_set_code};
+
+    ghost Value = { Network };
+
+    ghost coded = { Prim.hlevel (codes, node_set_code) };
+
+    ghost view = { λ a. record { neighbours = a.neighbours.items; registers = a.registers.items } };
+
+    ghost invariant = { λ a. IsNetwork (record { neighbours = a.neighbours.items; registers = a.registers.items }) };
+}
+
+impl Scene for Network {
+    ghost configuration = { configuration_of };
+
+    fn size(&self) -> u64 {
+        self.registers.len() as u64
+    }
+
+    fn linked(&self, a: Rank, b: Rank) -> bool {
+        self.neighbours[a.index() as usize].has(b)
+    }
+
+    fn p(&self, node: Rank) -> Option<Rank> {
+        self.registers[node.index() as usize].p
+    }
+
+    fn m(&self, node: Rank) -> bool {
+        self.registers[node.index() as usize].m
+    }
+}
+
+impl Network {
+    /// The network of these rows of neighbours and registers.
+    pub fn of(neighbours: Vec<NodeSet>, registers: Vec<Regs>) -> Network
+        requires { IsNetwork (record { neighbours = neighbours.items; registers = registers.items }) }
+        ensures { result ≡ record { neighbours = neighbours.items; registers = registers.items } }
+    {
+        Network {
+            neighbours,
+            registers,
+        }
+    }
+
+    /// Copies the rows of neighbours and the registers.
+    pub fn copy_of(
+        alloc: Global,
+        neighbours: &[NodeSet],
+        registers: &[Regs],
+    ) -> Result<Network, Memory>
+        requires { IsNetwork (record { neighbours = neighbours.now; registers = registers.now }) }
+        ensures { IfOk result
+            (λ network. network ≡ record { neighbours = neighbours.now; registers = registers.now }) }
+    {
+        let neighbours = Vec::from_slice(alloc, neighbours)?;
+        let registers = Vec::from_slice(alloc, registers)?;
+        Ok(Network {
+            neighbours,
+            registers,
+        })
+    }
+
+    /// An equal network of its own.
+    pub fn try_copy(&self, alloc: Global) -> Result<Network, Memory>
+        ensures { IfOk result (λ network. network ≡ self.now) }
+    {
+        Network::copy_of(alloc, &self.neighbours, &self.registers)
+    }
+
+    /// The nodes linked to a node; none where it is past the last one.
+    pub fn neighbours(&self, node: Rank) -> NodeSet
+        ensures { result ≡ neighbours_at self.now.neighbours node }
+    {
+        match self.neighbours.get(node.index() as usize) {
+            Some(row) => *row,
+            None => NodeSet::empty(),
+        }
+    }
+
+    /// A node's registers; the node is below the size.
+    pub fn registers(&self, node: Rank) -> Regs
+        requires { node < length self.now.registers }
+        ensures { result ≡ registers_at self.now.registers node }
+    {
+        self.registers[node.index() as usize]
+    }
+
+    /// Writes a node's registers, of which p is null or a neighbour.
+    pub fn set_registers(&mut self, node: Rank, registers: Regs)
+        requires node { node < length self.old.registers }
+        requires linked { (j : ℕ) → registers.p ≡ Some j →
+            set.contains (neighbours_at self.old.neighbours node) j ≡ true }
+        ensures { self.new ≡ with_registers self.old node registers }
+    {
+        self.registers[node.index() as usize] = registers;
+    }
+
+    /// Links two different nodes.
+    pub fn link(&mut self, a: Rank, b: Rank)
+        requires a { a < length self.old.registers }
+        requires b { b < length self.old.registers }
+        requires apart { a ≢ b }
+        ensures { self.new ≡ with_link self.old a b }
+    {
+        link_one_way(&mut self.neighbours, a, b);
+        link_one_way(&mut self.neighbours, b, a);
+    }
+
+    /// Takes the link between two nodes away, and the pointers over it.
+    pub fn cut(&mut self, a: Rank, b: Rank)
+        requires a { a < length self.old.registers }
+        requires b { b < length self.old.registers }
+        ensures { self.new ≡ without_link self.old a b }
+    {
+        cut_one_way(&mut self.neighbours, a, b);
+        cut_one_way(&mut self.neighbours, b, a);
+        unpoint(&mut self.registers, a, b);
+        unpoint(&mut self.registers, b, a);
+    }
+}
+
+fn link_one_way(neighbours: &mut [NodeSet], a: Rank, b: Rank)
+    requires { a < length neighbours.old }
+    ensures { neighbours.new ≡ with_neighbour neighbours.old a b }
+{
+    let row = neighbours[a.index() as usize].with(b);
+    neighbours[a.index() as usize] = row;
+}
+
+fn cut_one_way(neighbours: &mut [NodeSet], a: Rank, b: Rank)
+    requires { a < length neighbours.old }
+    ensures { neighbours.new ≡ without_neighbour neighbours.old a b }
+{
+    let row = neighbours[a.index() as usize].without(NodeSet::empty().with(b));
+    neighbours[a.index() as usize] = row;
+}
+
+/// Null where the pointer of `a` was `b`.
+fn unpoint(registers: &mut [Regs], a: Rank, b: Rank)
+    requires { a < length registers.old }
+    ensures { registers.new ≡ unpointed registers.old a b }
+{
+    if registers[a.index() as usize].p == Some(b) {
+        registers[a.index() as usize].p = None;
+    }
+}

@@ -1,0 +1,5 @@
+pub mod MatchingLemmas
+pub mod StepLemmas
+pub mod WalkLemmas
+pub mod ReportsLemmas
+pub mod RunsLemmas

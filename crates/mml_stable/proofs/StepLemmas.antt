@@ -1,0 +1,84 @@
+-- What a step does to the pairs and to m.
+use Rattle.std.proofs.Common.{◌≡◌, ℕ, ◌≤◌, ◌+◌, Bool, true, false, cond, not, ◌&&◌, ◌||◌, ◌⊎◌, inl, inr, Option, None, Some, is_some, is_none, sym, refl, ap, ◌∙◌, arith, nat_lt}
+use Rattle.std.specs.Bool.{beq}
+use Rattle.std.specs.Option.{option_map_or}
+use Rattle.std.proofs.lemmas.Bool.{and_parts, not-true, both_ways, false≢true}
+use Rattle.mml_rules.specs.declared.rule.Rule.{Rule}
+use Rattle.mml_rules.specs.Configuration.{Configuration, IsLawful, holds}
+use Rattle.mml_rules.specs.Rules.{is_married, has_suitor, greatest_candidate, m_is_right, points_in_vain, guard, effect, moved, step, AllHold}
+use Rattle.mml_rules.specs.Matching.{IsPair}
+use Rattle.mml_rules.proofs.ConfigurationLemmas.{holds-from}
+use Rattle.mml_rules.proofs.RulesLemmas.{married-partner, married-from, none-null}
+use Rattle.mml_rules.proofs.StepLemmas.{step-lawful}
+
+beq-false : (a b : Bool) → beq a b ≡ false → a ≡ not b
+beq-false true true h = absurd (false≢true (sym h))
+beq-false false false h = absurd (false≢true (sym h))
+beq-false true false h = refl
+beq-false false true h = refl
+
+-- a move at a node whose pointer is answered leaves the pointer
+pub answered-keeps : (c : Configuration) (i j : ℕ) (r : Rule) → c.p i ≡ Some j → c.p j ≡ Some i → guard c i r ≡ true → (effect c i r).p ≡ Some j
+answered-keeps c i j Rule.Update a b h = a
+answered-keeps c i j (Rule.Marriage k) a b h =
+    let x = and_parts (m_is_right c i) (is_none (c.p i) && (c.linked i k && holds (c.p k) i)) h in
+    let null : c.p i ≡ None = none-null (c.p i) (and_parts (is_none (c.p i)) (c.linked i k && holds (c.p k) i) x.1).0 in cc
+answered-keeps c i j Rule.Seduction a b h =
+    let x = and_parts (m_is_right c i) (is_none (c.p i) && (not (has_suitor c i) && is_some (greatest_candidate c i))) h in
+    let null : c.p i ≡ None = none-null (c.p i) (and_parts (is_none (c.p i)) (not (has_suitor c i) && is_some (greatest_candidate c i)) x.1).0 in cc
+answered-keeps c i j Rule.Abandonment a b h =
+    let x = and_parts (m_is_right c i) (points_in_vain c i) h in
+    let v : (not (holds (c.p j) i) && (c.m j || nat_lt j i)) ≡ true = sym (ap (λ o. option_map_or (λ j. not (holds (c.p j) i) && (c.m j || nat_lt j i)) o false) a) ∙ x.1 in
+    let y = and_parts (not (holds (c.p j) i)) (c.m j || nat_lt j i) v in
+    absurd (both_ways (holds (c.p j) i) (not-true _ y.0) (holds-from (c.p j) i b))
+
+moved-keeps : (c : Configuration) (i j : ℕ) (o : Option Rule) → ((r : Rule) → o ≡ Some r → guard c i r ≡ true) → c.p i ≡ Some j → c.p j ≡ Some i → (moved c i o).p ≡ Some j
+moved-keeps c i j None h a b = a
+moved-keeps c i j (Some r) h a b = answered-keeps c i j r a b (h r refl)
+
+pub step-keeps : (c : Configuration) (chosen : ℕ → Option Rule) → AllHold c chosen → (i j : ℕ) → IsPair c i j → IsPair (step c chosen) i j
+step-keeps c chosen h i j e = (moved-keeps c i j (chosen i) (h i) e.0 e.1, moved-keeps c j i (chosen j) (h j) e.1 e.0)
+
+-- how often m may still change at a node: by m, and whether it is married
+abbrev pub weight : Bool → Bool → ℕ
+weight true true = 0
+weight true false = 2
+weight false x = 1
+
+-- 1 where m changes
+abbrev pub change : Bool → Bool → ℕ
+change m n = cond (beq m n) 0 1
+
+weighed : (m n x y : Bool) → (x ≡ true → y ≡ true) → (n ≡ m) ⊎ ((n ≡ x) × (m ≡ not x)) → change m n + weight n y ≤ weight m x
+weighed true true true true h e = omega arith
+weighed true true true false h e = absurd (false≢true (h refl))
+weighed true true false true h e = omega arith
+weighed true true false false h e = omega arith
+weighed false false x y h e = omega arith
+weighed false true true true h e = omega arith
+weighed false true true false h e = absurd (false≢true (h refl))
+weighed false true false y h e = elim e [ inl a ↦ absurd (false≢true (sym a)) | inr a ↦ absurd (false≢true (sym a.0)) ]
+weighed true false false y h e = omega arith
+weighed true false true y h e = elim e [ inl a ↦ absurd (false≢true a) | inr a ↦ absurd (false≢true a.0) ]
+
+moved-m : (c : Configuration) (i : ℕ) (o : Option Rule) → ((r : Rule) → o ≡ Some r → guard c i r ≡ true) → ((moved c i o).m ≡ c.m i) ⊎ (((moved c i o).m ≡ is_married c i) × (c.m i ≡ not (is_married c i)))
+moved-m c i None h = inl refl
+moved-m c i (Some Rule.Update) h = inr (refl, beq-false (c.m i) (is_married c i) (not-true _ (h Rule.Update refl)))
+moved-m c i (Some (Rule.Marriage j)) h = inl refl
+moved-m c i (Some Rule.Seduction) h = inl refl
+moved-m c i (Some Rule.Abandonment) h = inl refl
+
+pub step-married : (c : Configuration) (chosen : ℕ → Option Rule) → IsLawful c → AllHold c chosen → (i : ℕ) → is_married c i ≡ true → is_married (step c chosen) i ≡ true
+step-married c chosen l h i e =
+    let r = married-partner c i e in
+    let k = step-keeps c chosen h i r.0 (r.1, r.2) in
+    married-from (step c chosen) i r.0 (step-lawful c chosen l h) k.0 k.1
+
+-- each change of m at a step is paid for
+pub step-weight : (c : Configuration) (chosen : ℕ → Option Rule) → IsLawful c → AllHold c chosen → (i : ℕ) → change (c.m i) ((step c chosen).m i) + weight ((step c chosen).m i) (is_married (step c chosen) i) ≤ weight (c.m i) (is_married c i)
+step-weight c chosen l h i = weighed (c.m i) ((step c chosen).m i) (is_married c i) (is_married (step c chosen) i) (step-married c chosen l h i) (moved-m c i (chosen i) (h i))
+
+pub weight_at_most : (m x : Bool) → weight m x ≤ 2
+weight_at_most true true = omega arith
+weight_at_most true false = omega arith
+weight_at_most false x = omega arith

@@ -1,0 +1,150 @@
+-- The walk rises, ends at a privileged node or one that points at no node, and gives an open link its witness.
+use Rattle.std.proofs.Common.{◌≡◌, ℕ, zero, suc, ◌<◌, ◌≤◌, ◌+◌, Bool, true, false, cond, not, ◌&&◌, ◌⊎◌, inl, inr, Option, None, Some, is_some, is_none, unwrap_or, sym, refl, ap, ◌∙◌, subst, arith, add-one}
+use Rattle.std.proofs.lemmas.Bool.{both_ways, and_parts}
+use Rattle.mml_rules.specs.declared.rule.Rule.{Rule}
+use Rattle.mml_rules.specs.declared.rule.Kind.{Kind}
+use Rattle.mml_rules.specs.Configuration.{Configuration, IsLawful}
+use Rattle.mml_rules.specs.Rules.{is_married, has_suitor, greatest_candidate, m_is_right, guard, kind_of, enabled_kind, is_privileged}
+use Rattle.mml_rules.proofs.RulesLemmas.{none-null}
+use Rattle.mml_rules.proofs.EnabledKindLemmas.{guard-kind, kind-guard}
+use Rattle.mml_stable.specs.Walk.{climb, top, unless_seduction, walk, certificate, LeadsTo}
+use Rattle.mml_stable.specs.Walk.LeadsTo.{privileged, null, onward}
+use Rattle.mml_stable.proofs.MatchingLemmas.{IsQuiet, idle-quiet, idle-settled, quiet-settled, quiet-vain, quiet-alone, may_seduce}
+
+-- where the climb from i is at its end: at i, or where an idle node points
+pub record EndsAt (c : Configuration) (i x : ℕ) : Type 0 where
+  pub in_range : x < c.size
+  pub leads : LeadsTo c i x
+  pub from : (x ≡ i) ⊎ ((y : ℕ) × (c.p y ≡ Some x))
+
+pub climb-ends : (c : Configuration) → IsLawful c → (n i : ℕ) → c.size ≤ i + n → i < c.size → (is_married c i ≡ false) ⊎ (c.m i ≡ false) → EndsAt c i (climb c n i)
+climb-ends c l zero i room i_in free = absurd (omega arith)
+climb-ends c l (suc n) i room i_in free = go (climb-ends c l n) (is_privileged c i) refl
+  where
+    go : ((j : ℕ) → c.size ≤ j + n → j < c.size → (is_married c j ≡ false) ⊎ (c.m j ≡ false) → EndsAt c j (climb c n j)) → (b : Bool) → is_privileged c i ≡ b → EndsAt c i (cond b i (climb c n (unwrap_or (c.p i) i)))
+    go further true e = record { in_range = i_in; leads = privileged e; from = inl refl }
+    go further false e = on (c.p i) refl
+      where
+        is_free : is_married c i ≡ false
+        is_free = elim free [ inl f ↦ f | inr f ↦ sym (idle-settled c i l e) ∙ f ]
+
+        stay : c.p i ≡ None → (k : ℕ) → climb c k i ≡ i
+        stay p zero = refl
+        stay p (suc k) = rw (e, p) (stay p k)
+
+        on : (o : Option ℕ) → c.p i ≡ o → EndsAt c i (climb c n (unwrap_or o i))
+        on None p = subst (λ x. EndsAt c i x) (sym (stay p n)) (record { in_range = i_in; leads = null e p; from = inl refl })
+        on (Some j) p =
+            let up = quiet-vain c i j l (idle-quiet c i l e) p is_free in
+            let r = further j (omega arith) (l.in_range i j (l.to_linked i j p)).1 (inr up.0) in
+            record {
+              in_range = r.in_range;
+              leads = onward e p r.leads;
+              from = elim r.from [ inl s ↦ inr (i, subst (λ x. c.p i ≡ Some x) (sym s) p) | inr y ↦ inr y ];
+            }
+
+pub top-ends : (c : Configuration) → IsLawful c → (i : ℕ) → i < c.size → (is_married c i ≡ false) ⊎ (c.m i ≡ false) → EndsAt c i (top c i)
+unfolding top
+top-ends c l i i_in free = climb-ends c l c.size i (omega arith) i_in free
+
+leads-null : (c : Configuration) (i x : ℕ) → LeadsTo c i x → is_privileged c x ≡ false → c.p x ≡ None
+leads-null c i x (privileged h) e = absurd (both_ways _ e h)
+leads-null c i x (null h p) e = p
+leads-null c i x (onward h p r) e = leads-null c _ x r e
+
+-- a seduction is for a node that points nowhere
+guard-null : (c : Configuration) (i : ℕ) (r : Rule) → kind_of r ≡ Kind.Seduction → guard c i r ≡ true → c.p i ≡ None
+guard-null c i Rule.Update e g = cc
+guard-null c i (Rule.Marriage j) e g = cc
+guard-null c i Rule.Seduction e g =
+    none-null (c.p i) (and_parts (is_none (c.p i)) (not (has_suitor c i) && is_some (greatest_candidate c i))
+    (and_parts (m_is_right c i) (is_none (c.p i) && (not (has_suitor c i) && is_some (greatest_candidate c i))) g).1).0
+guard-null c i Rule.Abandonment e g = cc
+
+only_seduction : (x : ℕ) (k : Kind) → unless_seduction x (Some k) ≡ None → k ≡ Kind.Seduction
+only_seduction x Kind.Update h = cc
+only_seduction x Kind.Marriage h = cc
+only_seduction x Kind.Seduction h = refl
+only_seduction x Kind.Abandonment h = cc
+
+idle_is_quiet : (c : Configuration) (x : ℕ) → IsLawful c → unless_seduction x (enabled_kind c x) ≡ None → IsQuiet c x
+idle_is_quiet c x l h = record { only = λ r g. only_seduction x (kind_of r) (ap (unless_seduction x) (sym (guard-kind c x r l g)) ∙ h) }
+
+idle_is_null : (c : Configuration) (i x : ℕ) → IsLawful c → LeadsTo c i x → unless_seduction x (enabled_kind c x) ≡ None → c.p x ≡ None
+idle_is_null c i x l leads h = go (enabled_kind c x) refl
+  where
+    go : (o : Option Kind) → enabled_kind c x ≡ o → c.p x ≡ None
+    go None e = leads-null c i x leads (ap is_some e)
+    go (Some k) e = let r = kind-guard c x k e in
+        guard-null c x r.0 (r.1 ∙ only_seduction x k (ap (unless_seduction x) (sym e) ∙ h)) r.2
+
+-- where the walk from a free node is idle, it has not left the node
+pub idle-stays : (c : Configuration) (i : ℕ) → IsLawful c → i < c.size → is_married c i ≡ false → walk c i ≡ None → IsQuiet c i × (c.p i ≡ None)
+idle-stays c i l i_in free h =
+    let ends = top-ends c l i i_in (inl free) in
+    let quiet = idle_is_quiet c (top c i) l h in
+    let nowhere = idle_is_null c i (top c i) l ends.leads h in
+    elim ends.from [
+      | inl same ↦ (subst (λ x. IsQuiet c x) same quiet, subst (λ x. c.p x ≡ None) same nowhere)
+      | inr y ↦ absurd (quiet-alone c y.0 (top c i) l y.1 nowhere quiet)
+    ]
+
+-- a node that is there, with a rule whose guard holds at it
+pub record IsWitness (c : Configuration) (e : ℕ × Kind) : Type 0 where
+  pub node : e.0 < c.size
+  pub kind : enabled_kind c e.0 ≡ Some e.1
+
+kept-witness : (c : Configuration) (x : ℕ) (o : Option Kind) (e : ℕ × Kind) → enabled_kind c x ≡ o → x < c.size → unless_seduction x o ≡ Some e → IsWitness c e
+kept-witness c x None e k x_in h = cc
+kept-witness c x (Some Kind.Update) e k x_in h = let s : (x, Kind.Update) ≡ e = cc in subst (λ e. IsWitness c e) s (record { node = x_in; kind = k })
+kept-witness c x (Some Kind.Marriage) e k x_in h = let s : (x, Kind.Marriage) ≡ e = cc in subst (λ e. IsWitness c e) s (record { node = x_in; kind = k })
+kept-witness c x (Some Kind.Seduction) e k x_in h = cc
+kept-witness c x (Some Kind.Abandonment) e k x_in h = let s : (x, Kind.Abandonment) ≡ e = cc in subst (λ e. IsWitness c e) s (record { node = x_in; kind = k })
+
+pub walk-witness : (c : Configuration) (i : ℕ) (e : ℕ × Kind) → IsLawful c → i < c.size → is_married c i ≡ false → walk c i ≡ Some e → IsWitness c e
+walk-witness c i e l i_in free h = kept-witness c (top c i) (enabled_kind c (top c i)) e refl (top-ends c l i i_in (inl free)).in_range h
+
+-- the certificate of an open link names an enabled rule
+pub certified : (c : Configuration) (a b : ℕ) → IsLawful c → c.linked a b ≡ true → a < b → is_married c a ≡ false → is_married c b ≡ false → IsWitness c (certificate c a b)
+unfolding certificate
+certified c a b l linked lt free_a free_b = go (walk c a) (walk c b) refl refl
+  where
+    a_in : a < c.size
+    a_in = (l.in_range a b linked).0
+
+    b_in : b < c.size
+    b_in = (l.in_range a b linked).1
+
+    go : (x y : Option (ℕ × Kind)) → walk c a ≡ x → walk c b ≡ y → IsWitness c (unwrap_or x (unwrap_or y (a, Kind.Seduction)))
+    go (Some e) y ha hb = walk-witness c a e l a_in free_a ha
+    go None (Some e) ha hb = walk-witness c b e l b_in free_b hb
+    go None None ha hb =
+        let qa = idle-stays c a l a_in free_a ha in
+        let qb = idle-stays c b l b_in free_b hb in
+        record { node = a_in; kind = guard-kind c a Rule.Seduction l (may_seduce c a b l linked lt qa.0 qa.1 qb.1 (quiet-settled c b qb.0 ∙ free_b)) }
+
+-- the rule there has a guard that holds
+pub witness-guard : (c : Configuration) (e : ℕ × Kind) → IsWitness c e → (r : Rule) × (kind_of r ≡ e.1) × (guard c e.0 r ≡ true)
+witness-guard c e w = kind-guard c e.0 e.1 w.kind
+
+-- steps of a climb
+pub climb_stops : (c : Configuration) (n i : ℕ) → is_privileged c i ≡ true → climb c n i ≡ i
+climb_stops c zero i h = refl
+climb_stops c (suc n) i h = ap (λ b. cond b i (climb c n (unwrap_or (c.p i) i))) h
+
+pub climb_null : (c : Configuration) (n i : ℕ) → is_privileged c i ≡ false → c.p i ≡ None → climb c n i ≡ i
+climb_null c zero i h p = refl
+climb_null c (suc n) i h p = rw (h, p) (climb_null c n i h p)
+
+pub climb_onward : (c : Configuration) (n m i j : ℕ) → m ≡ n + 1 → is_privileged c i ≡ false → c.p i ≡ Some j → climb c m i ≡ climb c n j
+climb_onward c n m i j e h p = ap (λ k. climb c k i) (e ∙ add-one n) ∙ rw (h, p) refl
+
+pub top_is : (c : Configuration) (i n x : ℕ) → climb c n x ≡ climb c c.size i → climb c n x ≡ x → x ≡ top c i
+unfolding top
+top_is c i n x e stays = sym stays ∙ e
+
+-- what the pointers do on the way
+pub rises : (c : Configuration) (i j : ℕ) → IsLawful c → is_privileged c i ≡ false → (is_married c i ≡ false) ⊎ (c.m i ≡ false) → c.p i ≡ Some j → (i < j) × (c.m j ≡ false)
+rises c i j l idle free p =
+    let up = quiet-vain c i j l (idle-quiet c i l idle) p (elim free [ inl f ↦ f | inr f ↦ sym (idle-settled c i l idle) ∙ f ]) in
+    (up.1, up.0)

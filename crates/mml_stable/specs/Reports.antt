@@ -1,0 +1,69 @@
+-- What a report tells of a world.
+use Rattle.std.specs.Prelude.{ℕ, zero, suc, Bool, true, false, not, ◌&&◌, nat_lt, Option, None, Some, List, [], ◌∷◌, ◌++◌}
+use Rattle.mml_ids.specs.Search.{some_below}
+use Rattle.mml_rules.specs.declared.rule.Kind.{Kind}
+use Rattle.mml_rules.specs.Configuration.{Configuration, holds}
+use Rattle.mml_rules.specs.Rules.{is_married, enabled_kind, is_privileged}
+use Rattle.mml_board.specs.World.{World, configuration}
+use Rattle.mml_stable.specs.declared.open_link.OpenLink.{OpenLink}
+use Rattle.mml_stable.specs.declared.stability.Report.{Report}
+use Rattle.mml_stable.specs.Walk.{certificate}
+
+-- what is listed for 0, for 1, and so on below n
+abbrev pub each_below : {A : Type 0} → ℕ → (ℕ → List A) → List A
+each_below zero list = []
+each_below (suc n) list = each_below n list ++ list n
+
+abbrev pub listed_if : {A : Type 0} → Bool → A → List A
+listed_if true x = x ∷ []
+listed_if false x = []
+
+-- i and its partner, where that is the greater of the two
+abbrev pub pair_at : Configuration → ℕ → Option ℕ → List (ℕ × ℕ)
+pair_at c i None = []
+pair_at c i (Some j) = listed_if (nat_lt i j && holds (c.p j) i) (i, j)
+
+abbrev pub pairs : Configuration → List (ℕ × ℕ)
+pairs c = each_below c.size (λ i. pair_at c i (c.p i))
+
+abbrev pub is_free : Configuration → ℕ → Bool
+is_free c i = not (is_married c i)
+
+abbrev pub free_nodes : Configuration → List ℕ
+free_nodes c = each_below c.size (λ i. listed_if (is_free c i) i)
+
+abbrev pub privileged_at : ℕ → Option Kind → List (ℕ × Kind)
+privileged_at i None = []
+privileged_at i (Some kind) = (i, kind) ∷ []
+
+-- the privileged nodes, each with the rule that is enabled there
+abbrev pub privileged_nodes : Configuration → List (ℕ × Kind)
+privileged_nodes c = each_below c.size (λ i. privileged_at i (enabled_kind c i))
+
+-- a link between a and a greater b, both of them free
+abbrev pub is_open : Configuration → ℕ → ℕ → Bool
+is_open c a b = c.linked a b && (nat_lt a b && (is_free c a && is_free c b))
+
+abbrev pub open_link : Configuration → ℕ → ℕ → OpenLink
+open_link c a b = record { a = a; b = b; node = (certificate c a b).0; kind = (certificate c a b).1 }
+
+-- the open links of a
+abbrev pub open_links_at : Configuration → ℕ → List OpenLink
+open_links_at c a = each_below c.size (λ b. listed_if (is_open c a b) (open_link c a b))
+
+abbrev pub open_links : Configuration → List OpenLink
+open_links c = each_below c.size (open_links_at c)
+
+-- no node is privileged
+abbrev pub is_stable : Configuration → Bool
+is_stable c = not (some_below c.size (is_privileged c))
+
+abbrev pub report_of : World → Report
+report_of w = record {
+  at = w.number;
+  pairs = pairs (configuration w);
+  free = free_nodes (configuration w);
+  privileged = privileged_nodes (configuration w);
+  open_links = open_links (configuration w);
+  stable = is_stable (configuration w);
+}

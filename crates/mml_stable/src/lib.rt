@@ -1,0 +1,14 @@
+//! The stability report: the pairs, the free and the privileged nodes, the open links, and for each of
+//! these a privileged node as its witness.
+#![tactic(auto)]
+
+mod certificate;
+pub mod laws;
+mod open_link;
+mod reporting;
+mod stability;
+
+pub use certificate::certify;
+pub use open_link::OpenLink;
+pub use reporting::report;
+pub use stability::Report;

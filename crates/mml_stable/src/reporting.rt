@@ -1,0 +1,152 @@
+ghost use Rattle.std.specs.Prelude.{◌≡◌, ℕ, ◌<◌, ◌++◌, length, true, IfOk, OnOk};
+ghost use Rattle.std.specs.FinSet as set;
+ghost use Rattle.mml_ids.specs.Sets.{those_below};
+ghost use Rattle.mml_board.specs.World.{configuration};
+ghost use Rattle.mml_stable.specs.Reports.{pairs, is_free, free_nodes, privileged_nodes, is_open, open_link, open_links_at, open_links, is_stable, report_of};
+
+use crate::certificate::certify;
+use crate::open_link::OpenLink;
+use crate::stability::Report;
+use mml_board::Board;
+use mml_ids::{Items, Memory, NodeSet, Rank};
+use mml_rules::{Kind, Scene, married};
+use std::alloc::Global;
+
+/// What is told of the board's configuration.
+pub fn report(alloc: Global, board: &Board) -> Result<Report, Memory>
+    ensures { IfOk result (λ report. report ≡ report_of board.now) }
+{
+    Ok(Report {
+        at: board.number(),
+        pairs: Items::of(pairs(alloc, board)?),
+        free: Items::of(free_nodes(alloc, board)?),
+        privileged: Items::of(privileged_nodes(alloc, board)?),
+        open_links: Items::of(open_links(alloc, board)?),
+        stable: is_stable(board),
+    })
+}
+
+fn pairs(alloc: Global, board: &Board) -> Result<Vec<(Rank, Rank)>, Memory>
+    ensures { IfOk result (λ all. all.items ≡ pairs (configuration board.now)) }
+{
+    let mut all = Vec::new(alloc);
+    for index in 0..board.size() {
+        let node = Rank::at(index);
+        if let Some(partner) = board.p(node) {
+            if node < partner && board.p(partner) == Some(node) {
+                all.push((node, partner))?;
+            }
+        }
+    }
+    Ok(all)
+}
+
+fn free_nodes(alloc: Global, board: &Board) -> Result<Vec<Rank>, Memory>
+    ensures { IfOk result (λ all. all.items ≡ free_nodes (configuration board.now)) }
+{
+    let mut all = Vec::new(alloc);
+    for index in 0..board.size() {
+        let node = Rank::at(index);
+        if !married(board, node) {
+            all.push(node)?;
+        }
+    }
+    Ok(all)
+}
+
+fn privileged_nodes(alloc: Global, board: &Board) -> Result<Vec<(Rank, Kind)>, Memory>
+    ensures { IfOk result (λ all. all.items ≡ privileged_nodes (configuration board.now)) }
+{
+    let mut all = Vec::new(alloc);
+    for index in 0..board.size() {
+        let node = Rank::at(index);
+        if let Some(kind) = board.enabled(node) {
+            all.push((node, kind))?;
+        }
+    }
+    Ok(all)
+}
+
+/// The nodes that are in no pair, as a set.
+#[tactic(auto, unfolding(mml_ids::specs::Sets::those_below))]
+fn free_set(board: &Board) -> NodeSet
+    ensures { result
+        ≡ those_below (length board.now.network.registers) (is_free (configuration board.now)) }
+{
+    let mut free = NodeSet::empty();
+    for index in 0..board.size() {
+        let node = Rank::at(index);
+        if !married(board, node) {
+            free = free.with(node);
+        }
+    }
+    free
+}
+
+/// The greater ends of the open links of a node.
+fn open_ends(board: &Board, free: NodeSet, a: Rank) -> NodeSet
+    requires a { a < length board.now.network.registers }
+    requires free { free
+        ≡ those_below (length board.now.network.registers) (is_free (configuration board.now)) }
+    ensures { (b : ℕ) → set.contains result b ≡ is_open (configuration board.now) a b }
+{
+    let _size = board.size();
+    if free.has(a) {
+        board.neighbours(a).both(free).both(NodeSet::above(a))
+    } else {
+        NodeSet::empty()
+    }
+}
+
+/// An open link with its witness.
+fn open_link(board: &Board, a: Rank, b: Rank) -> OpenLink
+    requires { is_open (configuration board.now) a b ≡ true }
+    ensures { result ≡ open_link (configuration board.now) a b }
+{
+    let (node, kind) = certify(board, a, b);
+    OpenLink { a, b, node, kind }
+}
+
+/// Puts the open links of a node at the end, of which the set has the greater ends.
+fn put_open_links(
+    all: &mut Vec<OpenLink>,
+    board: &Board,
+    a: Rank,
+    ends: NodeSet,
+) -> Result<(), Memory>
+    requires { (b : ℕ) → set.contains ends b ≡ is_open (configuration board.now) a b }
+    ensures { OnOk result
+        (all.new.items ≡ all.old.items ++ open_links_at (configuration board.now) a) }
+{
+    for index in 0..board.size() {
+        let b = Rank::at(index);
+        if ends.has(b) {
+            all.push(open_link(board, a, b))?;
+        }
+    }
+    Ok(())
+}
+
+fn open_links(alloc: Global, board: &Board) -> Result<Vec<OpenLink>, Memory>
+    ensures { IfOk result (λ all. all.items ≡ open_links (configuration board.now)) }
+{
+    let free = free_set(board);
+    let mut all = Vec::new(alloc);
+    for index in 0..board.size() {
+        let a = Rank::at(index);
+        put_open_links(&mut all, board, a, open_ends(board, free, a))?;
+    }
+    Ok(all)
+}
+
+/// Whether no node is privileged.
+fn is_stable(board: &Board) -> bool
+    ensures { result ≡ is_stable (configuration board.now) }
+{
+    for index in 0..board.size() {
+        if board.enabled(Rank::at(index)).is_some() {
+            return false;
+        }
+    }
+    true
+}

@@ -1,0 +1,20 @@
+use crate::open_link::OpenLink;
+use mml_ids::{Items, Rank};
+use mml_rules::Kind;
+
+/// What is told of a configuration. Each list is in rising order.
+#[derive(Debug, Drop)]
+pub struct Report {
+    /// The number of the configuration.
+    pub at: u64,
+    /// The nodes that point at each other, the lower one first.
+    pub pairs: Items<(Rank, Rank)>,
+    /// The nodes that are in no pair.
+    pub free: Items<Rank>,
+    /// The privileged nodes, each with the rule that is enabled there.
+    pub privileged: Items<(Rank, Kind)>,
+    /// The links between free nodes.
+    pub open_links: Items<OpenLink>,
+    /// Whether no node is privileged.
+    pub stable: bool,
+}

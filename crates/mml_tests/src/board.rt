@@ -1,0 +1,80 @@
+//! The board at the beginning of a run.
+ghost use Rattle.std.specs.Prelude.{◌<◌, length};
+
+use mml_board::Board;
+use mml_ids::Rank;
+use mml_lab::read_lab;
+use mml_rules::Scene;
+use std::alloc::{AllocError, Global};
+use std::test::Fail;
+
+// Of the two linked nodes, the higher points at the lower.
+const HIGHER_POINTS: &[u8] = br#"
+events = 100
+sessions = 4
+links = [[3, 5]]
+
+[teacher]
+name = "tess"
+key = "chalk"
+
+[[student]]
+name = "ana"
+key = "a-key"
+
+[[node]]
+id = 5
+owner = "ana"
+p = 3
+
+[[node]]
+id = 3
+owner = "ana"
+"#;
+
+/// A node's registers, the rule that is enabled there, what is chosen, and its links.
+fn push_node(text: &mut String, board: &Board, node: Rank) -> Result<(), AllocError>
+    requires { node < length board.now.network.registers }
+{
+    let regs = board.regs(node);
+    let p = regs.p.map(Rank::index);
+    let kind = board.enabled(node);
+    let is_free = board.chosen(node).is_none();
+    write!(text, "\n{p:?} {} {kind:?} {is_free} ", regs.m)?;
+    for index in 0..board.size() {
+        let mark = if board.linked(node, Rank::at(index)) {
+            "-"
+        } else {
+            "."
+        };
+        text.push_str(mark)?;
+    }
+    Ok(())
+}
+
+/// The number of the step, the place in the run, how many nodes are privileged and how many moves
+/// are chosen, and then each node.
+fn told(alloc: Global, board: &Board) -> Result<String, AllocError> {
+    let (number, place) = (board.number(), board.place());
+    let (privileged, chosen) = (board.privileged_count(), board.chosen_set().len());
+    let mut text = format!(in alloc; "{number} {place} {privileged} {chosen}")?;
+    for index in 0..board.size() {
+        push_node(&mut text, board, Rank::at(index))?;
+    }
+    Ok(text)
+}
+
+// An abandonment at 5, since 3 < 5 doesn't answer, and a marriage at 3.
+const OPENING: &str =
+    "0 0 2 0\nNone false Some(Marriage) true .-\nSome(0) false Some(Abandonment) true -.";
+
+#[test]
+fn opening_board(rt: HostRuntime) -> Result<(), Fail> {
+    let alloc = rt.alloc();
+    let lab = read_lab(alloc, HIGHER_POINTS)?;
+    let board = Board::new(alloc, &lab)?;
+    let copy = board.try_copy(alloc)?;
+    assert_eq!(rt; told(alloc, &board)?.as_str(), OPENING);
+    assert_eq!(rt; told(alloc, &copy)?.as_str(), OPENING);
+    Ok(())
+}

@@ -1,0 +1,62 @@
+//! Who takes part, by name and key.
+use mml_ids::Rank;
+use mml_lab::{Roster, Who, read_lab};
+use std::test::Fail;
+
+const LAB: &[u8] = br#"
+events = 100
+sessions = 4
+teacher = { name = "tess", key = "chalk" }
+
+[[node]]
+id = 7
+owner = "ben"
+
+[[student]]
+name = "ana"
+key = "a-key"
+
+[[student]]
+name = "ben"
+key = "b-key"
+"#;
+
+// A name and a key; whether they greet, and the place of the student with that name.
+const GREETINGS: &[(&str, &str, (bool, Option<u16>))] = &[
+    ("tess", "chalk", (true, None)),
+    ("ana", "a-key", (true, Some(0))),
+    ("ben", "b-key", (true, Some(1))),
+    ("ben", "a-key", (false, Some(1))),
+    ("zoe", "a-key", (false, None)),
+    ("tess", "a-key", (false, None)),
+    ("ana", "chalk", (false, Some(0))),
+    ("ana", "a-key ", (false, Some(0))),
+    ("Ana", "a-key", (false, None)),
+    ("an", "a-key", (false, None)),
+    ("", "", (false, None)),
+];
+
+/// Whether one with that name and that key takes part.
+fn greets(roster: &Roster, name: &str, key: &str) -> bool {
+    match roster.hello(name, key) {
+        Some(who) => roster.name_of(who) == name,
+        None => false,
+    }
+}
+
+fn place_of(roster: &Roster, name: &str) -> Option<u16> {
+    let student = roster.student_named(name)?;
+    Some(student.place())
+}
+
+#[test]
+fn knows_who_takes_part(rt: HostRuntime) -> Result<(), Fail> {
+    let lab = read_lab(rt.alloc(), LAB)?;
+    let roster = lab.roster();
+    for (name, key, expected) in GREETINGS {
+        let answers = (greets(roster, name, key), place_of(roster, name));
+        assert_eq!(rt; answers, *expected, "{name}");
+    }
+    assert!(rt; !roster.owns(Who::Teacher, Rank::at(0)));
+    Ok(())
+}

@@ -1,0 +1,188 @@
+//! Replies, over a lab of two nodes far apart.
+ghost use Rattle.mml_codec.specs.Replies.{IsAbout};
+
+use mml_codec::{FULL_LINE, MALFORMED_LINE, MEMORY_LINE, REPLY_ROOM, Refused, Reply, write_reply};
+use mml_fakes::labs::FAR_APART;
+use mml_lab::{Lab, Who, read_lab};
+use mml_policy::{Denial, See};
+use mml_rules::Regs;
+use std::alloc::Global;
+use std::test::Fail;
+
+/// The line of a reply, written over an older text.
+fn line_of(alloc: Global, lab: &Lab, reply: &Reply) -> Result<String, Fail>
+    requires { IsAbout lab.now.ids lab.now.roster reply.now }
+{
+    let mut out = b"older text".to_vec(alloc)?;
+    write_reply(alloc, lab.ids(), lab.roster(), reply, &mut out)?;
+    Ok(String::from_utf8(out)?)
+}
+
+/// The reply to a greeting.
+fn greeting(alloc: Global, name: &str, key: &str) -> Result<String, Fail> {
+    let lab = read_lab(alloc, FAR_APART.as_bytes())?;
+    match lab.roster().hello(name, key) {
+        Some(who) => line_of(alloc, &lab, &Reply::Hello(who)),
+        None => line_of(alloc, &lab, &Reply::Bye),
+    }
+}
+
+#[test]
+fn greetings_are_told(rt: HostRuntime) -> Result<(), Fail> {
+    let longest = "b-0123456789-0123456789-01234567";
+    for (name, key, wanted) in [
+        ("tess", "chalk", "{\"ok\":\"hello\",\"who\":\"tess\"}\n"),
+        ("ana", "a-key", "{\"ok\":\"hello\",\"who\":\"ana\"}\n"),
+        (
+            longest,
+            "b-key",
+            "{\"ok\":\"hello\",\"who\":\"b-0123456789-0123456789-01234567\"}\n",
+        ),
+        ("ana", "b-key", "{\"ok\":\"bye\"}\n"),
+    ] {
+        assert_eq!(rt; greeting(rt.alloc(), name, key)?.as_str(), wanted);
+    }
+    Ok(())
+}
+
+/// What is shown of a node, its pointer at the node of another identifier, if any.
+fn sight(alloc: Global, at: u64, id: u64, pointer: u64, m: bool) -> Result<String, Fail> {
+    let lab = read_lab(alloc, FAR_APART.as_bytes())?;
+    let p = lab.ids().rank_of(pointer);
+    match lab.ids().rank_of(id) {
+        Some(node) => {
+            let regs = Regs { p, m };
+            line_of(alloc, &lab, &Reply::See(See { at, node, regs }))
+        }
+        None => line_of(alloc, &lab, &Reply::Bye),
+    }
+}
+
+#[test]
+fn registers_are_told(rt: HostRuntime) -> Result<(), Fail> {
+    let first = sight(rt.alloc(), 0, 7, 0, false)?;
+    let wanted = "{\"at\":0,\"m\":false,\"node\":7,\"ok\":\"see\",\"p\":null}\n";
+    assert_eq!(rt; first.as_str(), wanted);
+    let last = sight(rt.alloc(), u64::MAX, 65535, 7, true)?;
+    let wanted = "{\"at\":18446744073709551615,\"m\":true,\"node\":65535,\"ok\":\"see\",\"p\":7}\n";
+    assert_eq!(rt; last.as_str(), wanted);
+    Ok(())
+}
+
+fn denial_line(alloc: Global, denial: Denial) -> Result<String, Fail> {
+    let lab = read_lab(alloc, FAR_APART.as_bytes())?;
+    line_of(alloc, &lab, &Reply::Deny(denial))
+}
+
+#[test]
+fn denials_are_told(rt: HostRuntime) -> Result<(), Fail> {
+    for (denial, wanted) in [
+        (
+            Denial::NotGreeted,
+            "{\"clause\":0,\"deny\":\"not-greeted\",\"text\":\"say hello first\"}\n",
+        ),
+        (
+            Denial::Greeted,
+            "{\"clause\":1,\"deny\":\"greeted\",\"text\":\"this connection has a name already\"}\n",
+        ),
+        (
+            Denial::Unknown,
+            "{\"clause\":2,\"deny\":\"unknown\",\"text\":\"name and key do not match\"}\n",
+        ),
+        (
+            Denial::Hidden,
+            "{\"clause\":1,\"deny\":\"hidden\",\"text\":\"this node is not shown to you\"}\n",
+        ),
+        (
+            Denial::NotOwner,
+            "{\"clause\":1,\"deny\":\"not-owner\",\"text\":\"you do not own this node\"}\n",
+        ),
+        (
+            Denial::Stale(12),
+            "{\"at\":12,\"clause\":2,\"deny\":\"stale\",\"text\":\"this is not the current configuration\"}\n",
+        ),
+        (
+            Denial::Chosen,
+            "{\"clause\":3,\"deny\":\"chosen\",\"text\":\"this node is already chosen\"}\n",
+        ),
+        (
+            Denial::Guard,
+            "{\"clause\":4,\"deny\":\"guard\",\"text\":\"the guard of this rule does not hold\"}\n",
+        ),
+        (
+            Denial::NotTeacher,
+            "{\"clause\":1,\"deny\":\"not-teacher\",\"text\":\"only the teacher may do this\"}\n",
+        ),
+        (
+            Denial::Empty,
+            "{\"clause\":2,\"deny\":\"empty\",\"text\":\"no node is chosen\"}\n",
+        ),
+        (
+            Denial::NoNode,
+            "{\"clause\":2,\"deny\":\"no-node\",\"text\":\"there is no such node\"}\n",
+        ),
+        (
+            Denial::BadRegister,
+            "{\"clause\":3,\"deny\":\"bad-register\",\"text\":\"p must be null or a neighbour\"}\n",
+        ),
+        (
+            Denial::Loop,
+            "{\"clause\":3,\"deny\":\"loop\",\"text\":\"a node is not linked to itself\"}\n",
+        ),
+        (
+            Denial::Linked,
+            "{\"clause\":4,\"deny\":\"linked\",\"text\":\"these nodes are linked already\"}\n",
+        ),
+        (
+            Denial::NotLinked,
+            "{\"clause\":3,\"deny\":\"not-linked\",\"text\":\"these nodes are not linked\"}\n",
+        ),
+        (
+            Denial::NotChosen,
+            "{\"clause\":3,\"deny\":\"not-chosen\",\"text\":\"this node is not chosen\"}\n",
+        ),
+    ] {
+        assert_eq!(rt; denial_line(rt.alloc(), denial)?.as_str(), wanted);
+    }
+    Ok(())
+}
+
+fn refusal_line(alloc: Global, refused: Refused) -> Result<String, Fail> {
+    let lab = read_lab(alloc, FAR_APART.as_bytes())?;
+    line_of(alloc, &lab, &Reply::Refuse(refused))
+}
+
+#[test]
+fn refusals_are_told(rt: HostRuntime) -> Result<(), Fail> {
+    for (refused, line, wanted) in [
+        (
+            Refused::Malformed,
+            MALFORMED_LINE,
+            "{\"refuse\":\"malformed\"}\n",
+        ),
+        (Refused::Full, FULL_LINE, "{\"refuse\":\"full\"}\n"),
+        (Refused::Memory, MEMORY_LINE, "{\"refuse\":\"memory\"}\n"),
+    ] {
+        let told = refusal_line(rt.alloc(), refused)?;
+        assert_eq!(rt; (told.as_str(), line), (wanted, wanted));
+    }
+    Ok(())
+}
+
+/// Whether two replies fit into one room: a vector with room doesn't grow, and isn't given back.
+fn stays_in_its_room(alloc: Global) -> Result<bool, Fail> {
+    let lab = read_lab(alloc, FAR_APART.as_bytes())?;
+    let mut out = Vec::with_capacity(alloc, REPLY_ROOM)?;
+    let room = out.capacity();
+    let (greeted, hidden) = (Reply::Deny(Denial::Greeted), Reply::Deny(Denial::Hidden));
+    write_reply(alloc, lab.ids(), lab.roster(), &greeted, &mut out)?;
+    let first = out.capacity();
+    write_reply(alloc, lab.ids(), lab.roster(), &hidden, &mut out)?;
+    Ok(first == room && out.capacity() == room)
+}
+
+#[test]
+fn room_is_enough(rt: HostRuntime) -> Result<(), Fail> {
+    assert!(rt; stays_in_its_room(rt.alloc())?);
+    Ok(())
+}

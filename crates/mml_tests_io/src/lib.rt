@@ -1,0 +1,9 @@
+//! Tests of the libraries that read and write lines by their public items, one module per library.
+#![tactic(auto)]
+
+#[cfg(test)]
+mod codec;
+#[cfg(test)]
+mod hall;
+#[cfg(test)]
+mod lines;

@@ -1,0 +1,258 @@
+//! Lines of readers, and whole reads and writes.
+ghost use Rattle.std.specs.Prelude.{◌≤◌};
+
+use mml_fakes::{FakeReader, FakeWriter, Parts, Refusal};
+use mml_lines::{Lines, MAX_LIMIT, MAX_READS, Step, WriteFault, put_all};
+use std::alloc::{AllocError, Global};
+use std::io::{ErrorKind, Read};
+use std::test::Fail;
+
+mod reading;
+
+const TEXT: &[u8] = b"ab\n\ncd\ne";
+
+/// What is told of `TEXT`.
+const TOLD: &str = "Line ab\nLine \nLine cd\nEnd \n";
+
+/// One more answer, with its bytes.
+fn push_step<R: Read>(
+    text: &mut String,
+    lines: &mut Lines,
+    reader: &mut R,
+) -> Result<Step, AllocError> {
+    let step = lines.next(reader);
+    write!(text, "{step:?} {}\n", lines.bytes().escape_ascii())?;
+    Ok(step)
+}
+
+/// The answers over a reader up to the one that ends them; more than ten lines are not read.
+fn told<R: Read>(lines: &mut Lines, alloc: Global, reader: &mut R) -> Result<String, AllocError> {
+    let mut text = String::new(alloc);
+    for _ in 0..10 {
+        if push_step(&mut text, lines, reader)? != Step::Line {
+            break;
+        }
+    }
+    Ok(text)
+}
+
+/// The same, where each later call repeats the end and reads nothing from another reader; else a
+/// text that says so.
+fn told_to_the_end<R: Read>(alloc: Global, limit: usize, reader: &mut R) -> Result<String, Fail>
+    requires { limit ≤ MAX_LIMIT }
+{
+    let mut lines = Lines::new(alloc, limit)?;
+    let mut text = told(&mut lines, alloc, reader)?;
+    let mut late = b"late\n".as_slice();
+    let again = told(&mut lines, alloc, &mut late)?;
+    let once_more = told(&mut lines, alloc, &mut late)?;
+    if !text.ends_with(again.as_str()) || again != once_more || late.len() != 5 {
+        text.push_str("and another end")?;
+    }
+    Ok(text)
+}
+
+/// A bye with so many spaces, and what ends it.
+fn bye_line(alloc: Global, spaces: usize, end: &[u8]) -> Result<Vec<u8>, AllocError> {
+    let mut text = Vec::from_slice(alloc, b"{\"do\":\"bye\"}")?;
+    for _ in 0..spaces {
+        text.push(b' ')?;
+    }
+    text.extend_from_slice(end)?;
+    Ok(text)
+}
+
+#[test]
+fn a_line_is_as_long_as_the_limit(rt: HostRuntime) -> Result<(), Fail> {
+    let text = bye_line(rt.alloc(), 4084, b"\n")?;
+    let line = bye_line(rt.alloc(), 4084, b"")?;
+    let told = told_to_the_end(rt.alloc(), 4096, &mut text.as_slice())?;
+    let wanted = format!(in rt.alloc(); "Line {}\nEnd \n", line.escape_ascii())?;
+    assert_eq!(rt; told, wanted);
+    Ok(())
+}
+
+#[test]
+fn what_is_no_line_ends_it(rt: HostRuntime) -> Result<(), Fail> {
+    for (spaces, end, wanted) in [
+        (4085, b"\n".as_slice(), "TooLong \n"),
+        (4084, b"".as_slice(), "End \n"),
+        (4085, b"".as_slice(), "TooLong \n"),
+        (9000, b"".as_slice(), "TooLong \n"),
+    ] {
+        let text = bye_line(rt.alloc(), spaces, end)?;
+        let told = told_to_the_end(rt.alloc(), 4096, &mut text.as_slice())?;
+        assert_eq!(rt; told.as_str(), wanted, "{spaces} spaces");
+    }
+    Ok(())
+}
+
+fn told_in_parts(alloc: Global, cut: usize, step: usize) -> Result<String, Fail> {
+    let (first, second) = TEXT.split_at(cut.min(TEXT.len()));
+    let mut reader = Parts {
+        first,
+        second,
+        step,
+    };
+    told_to_the_end(alloc, 2, &mut reader)
+}
+
+#[test]
+fn cuts_of_the_reads_change_nothing(rt: HostRuntime) -> Result<(), Fail> {
+    for cut in 0..=TEXT.len() {
+        for step in [1, 100] {
+            let told = told_in_parts(rt.alloc(), cut, step)?;
+            assert_eq!(rt; told.as_str(), TOLD, "cut at {cut}");
+        }
+    }
+    Ok(())
+}
+
+#[test]
+fn a_failed_read_ends_the_lines(rt: HostRuntime) -> Result<(), Fail> {
+    for (good, wanted) in [
+        (0, "ReadFault \n"),
+        (2, "ReadFault \n"),
+        (3, "Line ab\nReadFault \n"),
+        (4, "Line ab\nLine \nReadFault \n"),
+        (6, "Line ab\nLine \nReadFault \n"),
+        (7, "Line ab\nLine \nLine cd\nReadFault \n"),
+        (8, "Line ab\nLine \nLine cd\nReadFault \n"),
+        (9, TOLD),
+    ] {
+        let mut reader = FakeReader::failing_after(good, TEXT);
+        let told = told_to_the_end(rt.alloc(), 2, &mut reader)?;
+        assert_eq!(rt; told.as_str(), wanted, "{good} good reads");
+    }
+    Ok(())
+}
+
+/// How many lines there are before the first answer of another kind, which comes with them.
+fn count_lines(lines: &mut Lines, reader: &mut FakeReader) -> (u32, Step) {
+    for count in 0..u32::MAX {
+        match lines.next(reader) {
+            Step::Line => (),
+            step => return (count, step),
+        }
+    }
+    (u32::MAX, Step::Line)
+}
+
+#[test]
+fn reads_are_counted_over_all_lines(rt: HostRuntime) -> Result<(), Fail> {
+    let breaks = vec![in rt.alloc(); b'\n'; MAX_READS as usize + 1]?;
+    let mut reader = FakeReader::failing_after(usize::MAX, breaks.as_slice());
+    let mut lines = Lines::new(rt.alloc(), 4096)?;
+    let counted = count_lines(&mut lines, &mut reader);
+    assert_eq!(rt; counted, (MAX_READS, Step::ReadFault));
+    assert_eq!(rt; reader.rest.len(), 1);
+    Ok(())
+}
+
+#[test]
+fn a_line_may_come_byte_by_byte(rt: HostRuntime) -> Result<(), Fail> {
+    let text = bye_line(rt.alloc(), 4084, b"\n")?;
+    let mut reader = FakeReader::failing_after(usize::MAX, text.as_slice());
+    let mut lines = Lines::new(rt.alloc(), 4096)?;
+    assert_eq!(rt; count_lines(&mut lines, &mut reader), (1, Step::End));
+    // one read for each byte, and one that finds the end
+    assert_eq!(rt; reader.reads, 4098);
+    Ok(())
+}
+
+/// What comes of so many bytes and a byte 10 at the greatest limit, and how long the line is.
+fn at_the_greatest_limit(alloc: Global, len: usize) -> Result<(Step, usize), Fail> {
+    let mut text = vec![in alloc; b'x'; len]?;
+    text.push(b'\n')?;
+    let mut lines = Lines::new(alloc, MAX_LIMIT)?;
+    let step = lines.next(&mut text.as_slice());
+    Ok((step, lines.bytes().len()))
+}
+
+#[test]
+fn the_greatest_limit_is_kept(rt: HostRuntime) -> Result<(), Fail> {
+    let most = at_the_greatest_limit(rt.alloc(), 65_536)?;
+    assert_eq!(rt; most, (Step::Line, 65_536));
+    let over = at_the_greatest_limit(rt.alloc(), 65_537)?;
+    assert_eq!(rt; over, (Step::TooLong, 0));
+    Ok(())
+}
+
+#[test]
+fn what_is_held_is_given_before_a_failed_read(rt: HostRuntime) -> Result<(), Fail> {
+    let mut reader = FakeReader::failing_after(1, TEXT);
+    reader.step = 100;
+    let told = told_to_the_end(rt.alloc(), 2, &mut reader)?;
+    assert_eq!(rt; told.as_str(), "Line ab\nLine \nLine cd\nReadFault \n");
+    assert_eq!(rt; reader.reads, 2);
+    Ok(())
+}
+
+const TEN: &[u8] = b"0123456789";
+
+/// Whether of ten bytes so many go out to a writer, and the call tells it.
+fn puts(writer: &mut FakeWriter, out: usize) -> bool {
+    let wanted = if out == 10 {
+        Ok(())
+    } else {
+        Err(WriteFault { written: out })
+    };
+    let told = put_all(writer, TEN);
+    told == wanted && writer.taken.len() == out && TEN.starts_with(writer.taken.as_slice())
+}
+
+#[test]
+fn put_all_tells_what_went_out(rt: HostRuntime) {
+    // How many bytes a write takes, how many writes are good, and how many bytes go out.
+    for (step, good, out) in [
+        (3, 1, 3),
+        (1, 0, 0),
+        (1, 9, 9),
+        (4, 2, 8),
+        (1, 10, 10),
+        (3, 4, 10),
+        (100, 1, 10),
+    ] {
+        for refusal in [Refusal::Fails(ErrorKind::Other), Refusal::TakesNothing] {
+            let mut writer = FakeWriter::failing_after(good, rt.alloc());
+            writer.step = step;
+            writer.refusal = refusal;
+            assert!(rt;
+                puts(&mut writer, out),
+                "{step} a write, {good} good, {refusal:?}"
+            );
+        }
+    }
+}
+
+/// Whether 2,000 bytes go out by writes of so many, and where the writes end early those first ones.
+fn puts_long(alloc: Global, step: usize, good: usize) -> Result<bool, Fail> {
+    let mut bytes = Vec::new(alloc);
+    for _ in 0..200 {
+        bytes.extend_from_slice(TEN)?;
+    }
+    let mut writer = FakeWriter::failing_after(good, alloc);
+    writer.step = step;
+    let told = put_all(&mut writer, bytes.as_slice());
+    let written = writer.taken.len();
+    let wanted = if written == 2000 {
+        Ok(())
+    } else {
+        Err(WriteFault { written })
+    };
+    let reached = written == good.saturating_mul(step).min(2000);
+    Ok(told == wanted && reached && bytes.starts_with(writer.taken.as_slice()))
+}
+
+#[test]
+fn put_all_writes_until_all_is_out(rt: HostRuntime) -> Result<(), Fail> {
+    for step in [1, 7] {
+        for good in [0, 1, 285, 286, 1999, 2000, 2001] {
+            assert!(rt;
+                puts_long(rt.alloc(), step, good)?,
+                "{good} writes of {step}"
+            );
+        }
+    }
+    Ok(())
+}
