@@ -147,3 +147,12 @@ same_worlds v w k l number place size h = λ z. record {
   number = number z;
   place = place z;
 }
+
+-- an event changes no number of nodes
+pub size-after : (w : World) (e : Event) → size (after w e) ≡ size w
+size-after w (Event.Grant s i rule) = refl
+size-after w (Event.Release i) = refl
+size-after w Event.Close = length-moved_registers w
+size-after w (Event.Fault i registers) = length-set w.network.registers i registers
+size-after w (Event.Link a b) = refl
+size-after w (Event.Cut a b) = length-without_link w.network a b

@@ -1,5 +1,5 @@
 //! The privilege monitor: which nodes are privileged, kept up to date where something changed.
-ghost use Rattle.std.specs.Prelude.{◌≡◌, ℕ, ◌<◌, ◌==◌, IsTrue, ◌↔◌, true, length, if◌then◌else◌};
+ghost use Rattle.std.specs.Prelude.{◌≡◌, ℕ, ◌<◌, ◌==◌, true, length, if◌then◌else◌};
 ghost use Rattle.std.specs.FinSet as set;
 ghost use Rattle.mml_rules.specs.Network.{configuration_of};
 ghost use Rattle.mml_board.specs.inside.Monitor.{is_privileged_node, privileged_nodes, IsUntouched};

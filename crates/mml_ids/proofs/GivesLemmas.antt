@@ -1,7 +1,7 @@
 -- Steps of a definition taken apart and put together, and the first of several faults.
 use Rattle.std.proofs.Common.{◌≡◌, Bool, true, false, Option, None, Some, Result, Ok, Err, refl, ap, ◌∙◌, arith}
 use Rattle.std.specs.Prelude.{option_map}
-use Rattle.std.specs.Result.{IfOk, OnErr}
+use Rattle.std.specs.Result.{IfOk, IfErr, OnErr}
 use Rattle.mml_ids.specs.Gives.{◌>>=◌, ◌>>◌, need, first_fault, fault_if}
 
 -- a step whose chain ends in a value found one
@@ -28,6 +28,15 @@ bind-if P (Err e) f h = tt
 pub need-if : {B E : Type 0} (P : B → Type 0) (b : Bool) (e : E) (t : Result B E) → (b ≡ true → IfOk t P) → IfOk (need b e >> t) P
 need-if P true e t h = h refl
 need-if P false e t h = tt
+
+-- what holds of each fault that steps may end in
+pub bind-deny : {A B E : Type 0} (P : E → Type 0) (s : Result A E) (f : A → Result B E) → ((e : E) → s ≡ Err e → P e) → ((a : A) → s ≡ Ok a → IfErr (f a) P) → IfErr (s >>= f) P
+bind-deny P (Ok a) f h k = k a refl
+bind-deny P (Err e) f h k = h e refl
+
+pub need-deny : {B E : Type 0} (P : E → Type 0) (b : Bool) (d : E) (t : Result B E) → (b ≡ false → P d) → (b ≡ true → IfErr t P) → IfErr (need b d >> t) P
+need-deny P true d t h k = k refl
+need-deny P false d t h k = h refl
 
 -- the same steps end in the same
 pub bind-same : {A B E : Type 0} (s t : Result A E) (f g : A → Result B E) → s ≡ t → ((a : A) → s ≡ Ok a → f a ≡ g a) → (s >>= f) ≡ (t >>= g)

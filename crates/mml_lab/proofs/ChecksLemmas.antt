@@ -1,5 +1,5 @@
 -- The checks find the first fault of a file, and the lab that they make is that of the file.
-use Rattle.std.proofs.Common.{◌≡◌, ℕ, ℤ, pos, suc, ◌-◌, ◌<◌, ◌≤◌, ◌==◌, Bool, true, false, not, ◌&&◌, ◌||◌, List, [], ◌∷◌, length, get_or, take, map, Option, Some, None, Result, Ok, Err, ◌⊎◌, inl, inr, refl, sym, ap, ◌∙◌, subst, arith}
+use Rattle.std.proofs.Common.{◌≡◌, ℕ, ℤ, pos, suc, ◌-◌, ◌<◌, ◌≤◌, ◌==◌, Bool, true, false, not, ◌&&◌, List, [], ◌∷◌, length, get_or, take, map, Option, Some, None, Result, Ok, Err, ◌⊎◌, inl, inr, refl, sym, ap, ◌∙◌, subst, arith}
 use Rattle.std.specs.Prelude.{option_map, is_some, slice_index, position}
 use Rattle.std.specs.List.{list_any, position_or_len}
 use Rattle.std.specs.Option.{option_map_or}
@@ -25,14 +25,14 @@ use Rattle.mml_lab.specs.declared.fault.Key.TheVariants as key
 use Rattle.mml_lab.specs.declared.TheConstants.{MAX_EVENTS, MAX_SESSIONS}
 use Rattle.mml_lab.specs.Rosters.{name_twice}
 use Rattle.mml_lab.specs.Labs.{IsLab, number_of, file_ids, is_node, joins, is_linked, lacks_end, is_loop, is_link_again, points_astray, is_within, neighbours_of, both_fault, ids_fault, forms_fault, owners_fault, links_fault, pointers_fault, limits_fault, lab_fault, network_in, lab_in, lab_of}
-use Rattle.mml_lab.specs.Checks.{Checked, rank_at, lacks_rank, are_near, rows_in, linked_in, points_past, past_fault, limits_in, checked, lab_from}
+use Rattle.mml_lab.specs.inside.Checks.{Checked, rank_at, lacks_rank, are_near, rows_in, linked_in, points_past, past_fault, limits_in, checked, lab_from}
 use Rattle.mml_lab.proofs.LabFaultLemmas.{faultless}
 use Rattle.mml_ids.proofs.GivesLemmas.{both_none, map_none, if_none}
-use Rattle.mml_lab.proofs.MapLemmas.{list_any-map}
+use Rattle.mml_ids.proofs.MapLemmas.{list_any-map}
 use Rattle.mml_ids.proofs.SearchLemmas.{position-None, same_bool, first_here, first_end}
-use Rattle.mml_lab.proofs.InOrderLemmas.{in_order-table}
+use Rattle.mml_ids.proofs.InOrderTableLemmas.{in_order-table}
 use Rattle.mml_lab.proofs.LabInLemmas.{positive, within, lab_in-lab}
-use Rattle.mml_lab.proofs.FindLemmas.{list_any-found}
+use Rattle.mml_ids.proofs.FindLemmas.{list_any-found}
 use Rattle.mml_lab.proofs.NeighboursLemmas.{AreRows, has-neighbours_of, all_rows}
 
 some_rank : (o : Option ℕ) → is_some o ≡ true → (j : ℕ) × (o ≡ Some j)

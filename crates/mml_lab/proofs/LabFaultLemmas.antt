@@ -1,5 +1,5 @@
 -- What a file without a fault is.
-use Rattle.std.proofs.Common.{◌≡◌, ℕ, ℤ, suc, ◌<◌, ◌≤◌, Bool, true, false, not, List, [], ◌∷◌, length, map, Option, Some, None, refl, sym, ◌∙◌, arith}
+use Rattle.std.proofs.Common.{◌≡◌, ◌≤◌, true, not, ◌∷◌, length, None}
 use Rattle.std.specs.Prelude.{option_map}
 use Rattle.std.specs.List.{position}
 use Rattle.std.proofs.lemmas.Bool.{ltb-false, not-false}
@@ -8,10 +8,9 @@ use Rattle.mml_ids.specs.Search.{first_below}
 use Rattle.mml_ids.proofs.GivesLemmas.{both_none, if_none, map_none}
 use Rattle.mml_ids.specs.Ids.{id_fault}
 use Rattle.mml_lab.specs.declared.TheConstants.{MAX_EVENTS, MAX_SESSIONS, MAX_STUDENTS}
-use Rattle.mml_lab.specs.declared.fault.LabFault.{LabFault}
 use Rattle.mml_lab.specs.declared.fault.LabFault.TheVariants as fault
 use Rattle.mml_lab.specs.declared.fault.Key.TheVariants as key
-use Rattle.mml_lab.specs.Shape.{Account, NodeSpec, RawSpec}
+use Rattle.mml_lab.specs.Shape.{NodeSpec, RawSpec}
 use Rattle.mml_lab.specs.Rosters.{is_account, name_twice}
 use Rattle.mml_lab.specs.Labs.{file_ids, lacks_owner, lacks_end, is_loop, is_link_again, points_astray, is_within, are_one_twice, both_fault, ids_fault, forms_fault, no_owner_fault, owner_twice_fault, owners_fault, links_fault, pointers_fault, limits_fault, lab_fault}
 

@@ -1,13 +1,13 @@
 -- The lab of a file without a fault is a lab.
-use Rattle.std.proofs.Common.{◌≡◌, ◌≢◌, ℕ, ℤ, pos, negsuc, zero, suc, ◌+◌, ◌<◌, ◌≤◌, ◌==◌, Bool, true, false, not, cond, ◌&&◌, ◌||◌, eqb, ltb, List, [], ◌∷◌, length, get_or, map, Option, Some, None, ◌⊎◌, inl, inr, refl, sym, ap, ◌∙◌, subst, arith, All, true≢false}
-use Rattle.std.specs.Prelude.{slice_index, option_map, unwrap_or, position}
-use Rattle.std.specs.List.{list_any, find, position_or_len}
+use Rattle.std.proofs.Common.{◌≡◌, ℕ, ℤ, pos, negsuc, ◌<◌, ◌≤◌, ◌==◌, Bool, true, false, not, ◌&&◌, ◌||◌, ltb, List, [], length, get_or, map, Option, Some, None, ◌⊎◌, inl, inr, refl, sym, ap, ◌∙◌, subst, arith, All}
+use Rattle.std.specs.Prelude.{slice_index, unwrap_or, position}
+use Rattle.std.specs.List.{list_any}
 use Rattle.std.specs.Option.{option_and_then, option_map_or}
-use Rattle.std.specs.Ordering.{nat_cmp, int_eq}
+use Rattle.std.specs.Ordering.{int_eq}
 use Rattle.std.specs.FinSet as sets
-use Rattle.std.proofs.lemmas.Bool.{cases_lt, cases_Bool, lt-ltb, le-ltb, ltb-true, leb-true, eqb-true, eq-eqb, and_parts, and_from, not-false, both_ways}
+use Rattle.std.proofs.lemmas.Bool.{cases_lt, cases_Bool, lt-ltb, ltb-true, leb-true, eqb-true, eq-eqb, and_parts, and_from, not-false, both_ways}
 use Rattle.std.proofs.lemmas.Bool.Decides.{Decides-int_eq}
-use Rattle.std.proofs.lemmas.List.{get_or-map, get_or_past, get_or_default, length-map}
+use Rattle.std.proofs.lemmas.List.{get_or-map, get_or_past, length-map}
 use Rattle.std.proofs.lemmas.List.Elements.{All-map, All-from_get_or}
 use Rattle.std.proofs.lemmas.List.Folds.{list_any_at}
 use Rattle.std.proofs.lemmas.List.Sorted.{list_any-IsPermutation}
@@ -16,20 +16,19 @@ use Rattle.mml_ids.specs.Ids.{in_order, rank_in, IsTable}
 use Rattle.mml_ids.specs.inside.WordsLemmas.{has_empty}
 use Rattle.mml_ids.proofs.IdsLemmas.{id_of_rank}
 use Rattle.mml_rules.specs.declared.registers.Regs.{Regs}
-use Rattle.mml_rules.specs.Configuration.{Configuration, IsLawful}
-use Rattle.mml_rules.specs.Network.{Network, no_regs, neighbours_at, registers_at, configuration_of, IsNetwork}
+use Rattle.mml_rules.specs.Network.{Network, no_regs, registers_at, configuration_of, IsNetwork}
 use Rattle.mml_lab.specs.declared.TheConstants.{MAX_EVENTS, MAX_SESSIONS}
 use Rattle.mml_lab.specs.Shape.{Account, NodeSpec, RawSpec}
 use Rattle.mml_lab.specs.Rosters.{has_name, no_account, with_owners, IsRoster}
-use Rattle.mml_lab.specs.Labs.{LabValue, IsLab, number_of, file_ids, joins, is_linked, is_loop, is_within, lacks_owner, points_astray, node_with, place_of, owners_in, owners_with, registers_in, registers_with, neighbours_of, network_in, lab_in, lab_fault}
-use Rattle.mml_lab.proofs.MapLemmas.{list_any-map}
+use Rattle.mml_lab.specs.Labs.{IsLab, number_of, file_ids, joins, is_linked, is_loop, is_within, lacks_owner, points_astray, node_with, place_of, owners_in, owners_with, registers_in, registers_with, neighbours_of, network_in, lab_in}
+use Rattle.mml_ids.proofs.MapLemmas.{list_any-map}
 use Rattle.mml_ids.proofs.SearchLemmas.{position-None}
 use Rattle.mml_lab.proofs.RosterMeaningLemmas.{is_roster}
 use Rattle.mml_lab.proofs.NeighboursLemmas.{has-neighbours_of}
 use Rattle.mml_ids.proofs.InOrderLemmas.{in_order-moves}
-use Rattle.mml_lab.proofs.InOrderLemmas.{in_order-table}
-use Rattle.mml_lab.proofs.LabFaultLemmas.{IsFaultless, faultless}
-use Rattle.mml_lab.proofs.FindLemmas.{IsFound, find-is, find-some, list_any-found, list_any-same}
+use Rattle.mml_ids.proofs.InOrderTableLemmas.{in_order-table}
+use Rattle.mml_lab.proofs.LabFaultLemmas.{IsFaultless}
+use Rattle.mml_ids.proofs.FindLemmas.{IsFound, find-is, find-some, list_any-found, list_any-same}
 
 -- a number that is some natural number above 0 is not negative
 pub positive : (z : ℤ) (n : ℕ) → number_of z ≡ n → 0 < n → z ≡ pos n

@@ -1,35 +1,32 @@
 -- What the definitions of a lab mean.
-use Rattle.std.proofs.Common.{◌≡◌, ◌≢◌, ◌↔◌, ℕ, ℤ, pos, zero, suc, ◌+◌, ◌-◌, ◌<◌, ◌≤◌, ◌==◌, Bool, true, false, not, ◌&&◌, ◌||◌, eqb, ltb, List, [], ◌∷◌, length, get_or, take, map, Option, Some, None, Result, Ok, Err, ◌⊎◌, inl, inr, refl, sym, ap, ◌∙◌, subst, arith, All, Contains}
-use Rattle.std.specs.Prelude.{slice_index, slice_get, position, unwrap_or, bytes_eq}
+use Rattle.std.proofs.Common.{◌≡◌, ◌≢◌, ◌↔◌, ℕ, ℤ, pos, zero, suc, ◌<◌, ◌==◌, Bool, true, false, not, ◌&&◌, ◌||◌, ltb, List, [], ◌∷◌, length, get_or, take, map, Option, Some, None, Result, Ok, Err, ◌⊎◌, inl, inr, refl, sym, ap, ◌∙◌, subst, arith, All, Contains}
+use Rattle.std.specs.Prelude.{slice_index, slice_get, position, unwrap_or}
 use Rattle.std.specs.List.{list_any, Any}
 use Rattle.std.specs.Option.{option_and_then, option_map_or}
 use Rattle.std.specs.Ordering.{int_eq}
-use Rattle.std.proofs.lemmas.Bool.{cases_Bool, cases_order, eqb-true, eq-eqb, and_parts, and_from, or_cases, not-false, both_ways, lt-ltb, ltb-true}
+use Rattle.std.proofs.lemmas.Bool.{cases_order, eqb-true, eq-eqb, and_parts, and_from, or_cases, not-false, both_ways, lt-ltb}
 use Rattle.std.proofs.lemmas.Bool.Decides.{Decides-int_eq}
-use Rattle.std.proofs.lemmas.Slice.Eq.{bytes_eq-Decides}
 use Rattle.std.proofs.lemmas.List.{get_or-map, get_or_default, get_or-take, length-map, length-take-le}
 use Rattle.std.proofs.lemmas.List.Folds.{list_any_at, Any-from_list_any, list_any-from_Any}
 use Rattle.std.proofs.lemmas.List.Sorted.{list_any-IsPermutation}
-use Rattle.std.proofs.lemmas.List.Quantifiers.{position-Some}
 use Rattle.mml_ids.specs.Gives.{◌>>=◌, unless_fault}
-use Rattle.mml_ids.specs.Ids.{in_order, rank_in, IsTable, is_again_at}
+use Rattle.mml_ids.specs.Ids.{in_order, rank_in, is_again_at}
 use Rattle.mml_ids.proofs.IdsLemmas.{rank_of_id, sound}
 use Rattle.mml_rules.specs.declared.registers.Regs.{Regs}
 use Rattle.mml_rules.specs.Network.{no_regs, registers_at, configuration_of}
-use Rattle.mml_lab.specs.declared.who.Who.{Who}
 use Rattle.mml_lab.specs.declared.who.Who.TheVariants as who
 use Rattle.mml_lab.specs.declared.fault.LabFault.{LabFault}
-use Rattle.mml_lab.specs.Shape.{Account, NodeSpec, RawSpec, spelled}
-use Rattle.mml_lab.specs.Rosters.{RosterValue, IsRoster, has_name, with_owners, owns, owners_of, name_of, student_named}
-use Rattle.mml_lab.specs.Labs.{LabValue, IsLab, number_of, file_ids, is_node, joins, is_linked, is_loop, is_link_again, lacks_owner, lacks_end, points_astray, node_with, registers_in, registers_with, place_of, owners_in, owners_with, network_in, lab_in, lab_fault, lab_of}
-use Rattle.mml_lab.specs.LabMeaning.{Joins, HasLink, HasNode, IsNodeOf, id_at}
-use Rattle.mml_lab.proofs.MapLemmas.{list_any-map}
+use Rattle.mml_lab.specs.Shape.{NodeSpec, RawSpec, spelled}
+use Rattle.mml_lab.specs.Rosters.{RosterValue, has_name, with_owners, owns, owners_of, name_of}
+use Rattle.mml_lab.specs.Labs.{LabValue, IsLab, number_of, file_ids, is_node, joins, is_linked, is_loop, is_link_again, lacks_owner, lacks_end, points_astray, node_with, registers_in, place_of, owners_in, owners_with, lab_in, lab_fault, lab_of}
+use Rattle.mml_lab.specs.LabMeaning.{Joins, HasLink, HasNode}
+use Rattle.mml_ids.proofs.MapLemmas.{list_any-map}
 use Rattle.mml_ids.proofs.SearchLemmas.{position-None}
 use Rattle.mml_ids.proofs.SearchLemmas.{none-is}
 use Rattle.mml_lab.proofs.RosterMeaningLemmas.{student_of_name, name_of_student}
 use Rattle.mml_ids.proofs.InOrderLemmas.{in_order-moves}
 use Rattle.mml_lab.proofs.LabFaultLemmas.{IsFaultless, faultless}
-use Rattle.mml_lab.proofs.FindLemmas.{list_any-found}
+use Rattle.mml_ids.proofs.FindLemmas.{list_any-found}
 use Rattle.mml_lab.proofs.LabInLemmas.{positive, lab_in-lab, node_at, IsNodeAt, linked-in, registers-in, net, table, roster, place-position, owners-known}
 
 pub joins-means : (a b : ℤ) (link : ℤ × ℤ) → (joins a b link ≡ true) ↔ Joins a b link

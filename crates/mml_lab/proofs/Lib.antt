@@ -1,15 +1,12 @@
 pub mod EachLemmas
 pub mod SpelledLemmas
-pub mod MapLemmas
 pub mod RawLemmas
 pub mod NeighboursLemmas
 pub mod StudentNamedLemmas
 pub mod NameTwiceLemmas
 pub mod RosterMeaningLemmas
 pub mod FormLemmas
-pub mod InOrderLemmas
 pub mod LabFaultLemmas
-pub mod FindLemmas
 pub mod LabInLemmas
 pub mod ChecksLemmas
 pub mod LabMeaningLemmas

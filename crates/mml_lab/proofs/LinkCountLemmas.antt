@@ -14,7 +14,7 @@ use Rattle.mml_rules.specs.Network.{configuration_of}
 use Rattle.mml_lab.specs.Shape.{NodeSpec, RawSpec}
 use Rattle.mml_lab.specs.Labs.{number_of, file_ids, joins, is_linked, is_link_again, registers_with, network_in, lab_in, link_count}
 use Rattle.mml_lab.specs.LabMeaning.{Joins, HasNode}
-use Rattle.mml_lab.proofs.MapLemmas.{list_any-map}
+use Rattle.mml_ids.proofs.MapLemmas.{list_any-map}
 use Rattle.mml_ids.proofs.SearchLemmas.{none-is}
 use Rattle.mml_ids.proofs.InOrderLemmas.{in_order-moves}
 use Rattle.mml_lab.proofs.LabFaultLemmas.{IsFaultless}

@@ -21,7 +21,7 @@ use Rattle.mml_lab.specs.Labs.{is_node, joins, is_linked, lacks_end, is_loop, is
 use Rattle.mml_lab.specs.LabMeaning.{JoinNodes, IsLinkAgain, IsFirstLinkAgain}
 use Rattle.mml_ids.proofs.SearchLemmas.{position-none, position-None}
 use Rattle.mml_ids.proofs.SearchLemmas.{first-is, first-at, none-is, none-at}
-use Rattle.mml_lab.proofs.FindLemmas.{list_any-found}
+use Rattle.mml_ids.proofs.FindLemmas.{list_any-found}
 use Rattle.mml_lab.proofs.LabMeaningLemmas.{joins-means, node-means}
 
 abbrev Link : Type 0

@@ -1,5 +1,5 @@
 -- What the values that were read stand for, under the tests of a lab.
-use Rattle.std.proofs.Common.{◌≡◌, ℕ, ℤ, List, [], ◌∷◌, Bool, true, false, cond, ◌||◌, map, Option, Some, None, Result, Ok, Err, MatchBool, refl, sym, ap, ◌∙◌, String, Global, string_bytes}
+use Rattle.std.proofs.Common.{◌≡◌, ℕ, ℤ, List, [], ◌∷◌, Bool, true, false, cond, ◌||◌, map, Some, None, Ok, Err, MatchBool, refl, String, Global, string_bytes}
 use Rattle.std.specs.Prelude.{option_map, is_some, bytes_eq, ◌==◌}
 use Rattle.std.specs.List.{list_any, find}
 use Rattle.std.specs.Map.{lookup}
@@ -9,14 +9,12 @@ use Rattle.mml_ids.specs.Ids.{id_fault, in_order, is_memory}
 use Rattle.mml_ids.specs.declared.id_table.IdFault.{IdFault}
 use Rattle.mml_ids.specs.declared.id_table.IdFault.TheVariants as id
 use Rattle.mml_lab.specs.declared.raw.RawNode.{RawNode}
-use Rattle.mml_lab.specs.declared.fault.LabFault.{LabFault}
-use Rattle.mml_lab.specs.declared.fault.LabFault.TheVariants as fault
 use Rattle.mml_lab.specs.Shape.{NodeSpec, is_memory as lab_is_memory}
 use Rattle.mml_lab.specs.Raw.{node_view, entry_view}
 use Rattle.mml_lab.specs.Rosters.{has_name}
 use Rattle.mml_lab.specs.Faults.{id_fault_as}
 use Rattle.mml_lab.specs.Labs.{number_of, file_ids, is_node, node_with, ids_fault}
-use Rattle.mml_lab.proofs.MapLemmas.{list_any-map, find-map, map-map}
+use Rattle.mml_ids.proofs.MapLemmas.{list_any-map, find-map, map-map}
 
 pub is_node-read : (nodes : List RawNode) (id : ℤ) → list_any (λ node. int_eq node.id id) nodes ≡ is_node (map node_view nodes) id
 is_node-read nodes id = list_any-map (λ node. int_eq node.id id) node_view nodes

@@ -1,24 +1,22 @@
 -- What the roster's definitions mean.
-use Rattle.std.proofs.Common.{◌≡◌, ◌≢◌, ◌↔◌, ◌==◌, ℕ, zero, suc, ◌+◌, ◌-◌, ◌<◌, ◌≤◌, List, [], ◌∷◌, length, get_or, take, map, Option, Some, None, Bool, true, false, cond, not, ◌||◌, ◌&&◌, ◌⊎◌, inl, inr, refl, sym, ap, ◌∙◌, arith, true≢false, All, Contains, nat_lt, nat_le}
-use Rattle.std.specs.Prelude.{bytes_eq, slice_index}
-use Rattle.std.specs.List.{position, list_any, list_all}
+use Rattle.std.proofs.Common.{◌≡◌, ◌≢◌, ◌↔◌, ◌==◌, ℕ, suc, ◌<◌, ◌≤◌, List, ◌∷◌, length, get_or, take, Option, Some, None, Bool, true, false, cond, not, ◌⊎◌, inl, inr, refl, sym, ap, ◌∙◌, arith, true≢false, All, Contains}
+use Rattle.std.specs.Prelude.{bytes_eq}
+use Rattle.std.specs.List.{position}
 use Rattle.std.specs.Option.{option_map}
-use Rattle.std.proofs.lemmas.Bool.{cases_Bool, cases_order, cases_eq, cases_lt, and_from, and_left, and_right, and_parts, not-false, eqb-true, eq-eqb}
-use Rattle.std.proofs.lemmas.List.{get_or-map, length-map, length-take-le, get_or-take, get_or_default}
-use Rattle.std.proofs.lemmas.List.Folds.{list_any_at, Any-from_list_any, list_any-from_Any}
-use Rattle.std.proofs.lemmas.List.Elements.{All-map, All-weaker}
+use Rattle.std.proofs.lemmas.Bool.{cases_Bool, cases_order, and_from, and_parts, not-false, eqb-true, eq-eqb}
+use Rattle.std.proofs.lemmas.List.{length-take-le, get_or-take, get_or_default}
+use Rattle.std.proofs.lemmas.List.Folds.{list_any_at, Any-from_list_any}
 use Rattle.std.proofs.lemmas.List.Quantifiers.{position-Some}
 use Rattle.std.proofs.lemmas.Slice.Eq.{bytes_eq-Decides}
-use Rattle.mml_ids.specs.Search.{first_from, first_below}
+use Rattle.mml_ids.specs.Search.{first_below}
 use Rattle.mml_lab.specs.declared.TheConstants.{MAX_STUDENTS}
 use Rattle.mml_lab.specs.declared.who.Who.{Who}
 use Rattle.mml_lab.specs.declared.who.Who.TheVariants as who
-use Rattle.mml_lab.specs.declared.fault.LabFault.{LabFault}
 use Rattle.mml_lab.specs.declared.fault.LabFault.TheVariants as fault
 use Rattle.mml_lab.specs.Shape.{Account}
-use Rattle.mml_lab.specs.Rosters.{RosterValue, IsRoster, IsPrincipal, principal, owns, owners_of, name_of, key_of, account_of, student_named, with_owners, is_account, has_name, has_name_and_key, no_account, is_name_again, name_twice}
+use Rattle.mml_lab.specs.Rosters.{RosterValue, IsRoster, IsPrincipal, principal, owns, owners_of, name_of, account_of, student_named, with_owners, is_account, has_name, has_name_and_key, no_account, is_name_again, name_twice}
 use Rattle.mml_lab.specs.RosterMeaning.{IsKnownAs, IsFirstAgain, AreDistinctBelow, name_at}
-use Rattle.mml_ids.proofs.SearchLemmas.{position-none, position-only, position-None}
+use Rattle.mml_ids.proofs.SearchLemmas.{position-only, position-None}
 use Rattle.mml_lab.proofs.StudentNamedLemmas.{student_is}
 use Rattle.mml_ids.proofs.SearchLemmas.{first-is, first-at, none-is, none-at}
 

@@ -1,7 +1,7 @@
 -- The lab that a file spells, and the first fault of one that spells none.
-use Rattle.std.specs.Prelude.{◌≡◌, ℕ, zero, suc, ℤ, pos, negsuc, ◌+◌, ◌<◌, ◌≤◌, Bool, true, false, not, ◌&&◌, ◌||◌, nat_lt, nat_le, List, [], ◌∷◌, length, map, take, slice_index, position, bytes_eq, Option, None, Some, option_map, unwrap_or, ◌==◌, Result, Ok, Err, if◌then◌else◌}
+use Rattle.std.specs.Prelude.{◌≡◌, ℕ, zero, suc, ℤ, pos, negsuc, ◌+◌, ◌<◌, ◌≤◌, Bool, false, not, ◌&&◌, ◌||◌, nat_lt, nat_le, List, [], ◌∷◌, length, map, take, slice_index, position, bytes_eq, Option, option_map, unwrap_or, ◌==◌, Result}
 use Rattle.std.specs.List.{list_any, find, slice_get}
-use Rattle.std.specs.Option.{option_map_or, option_to_list, option_and_then}
+use Rattle.std.specs.Option.{option_map_or, option_and_then}
 use Rattle.std.specs.Ordering.{nat_cmp, int_eq}
 use Rattle.std.specs.FinSet.{FinSet}
 use Rattle.mml_ids.specs.Gives.{first_fault, fault_if, unless_fault, ◌>>=◌}

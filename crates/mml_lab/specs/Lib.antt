@@ -5,7 +5,6 @@ pub mod RosterView
 pub mod Faults
 pub mod Labs
 pub mod LabView
-pub mod Checks
-pub mod ChecksView
 pub mod RosterMeaning
 pub mod LabMeaning
+pub mod inside

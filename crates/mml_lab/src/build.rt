@@ -6,8 +6,8 @@ ghost use Rattle.mml_lab.specs.declared.TheConstants.{MAX_STUDENTS};
 ghost use Rattle.mml_lab.specs.Shape.{is_memory};
 ghost use Rattle.mml_lab.specs.Raw.{node_view, entry_view};
 ghost use Rattle.mml_lab.specs.Labs.{IsLab, number_of, registers_in, registers_with, place_of, owners_in, owners_with, node_with};
-ghost use Rattle.mml_lab.specs.Checks.{lab_from};
-ghost use Rattle.mml_lab.specs.ChecksView.{checked_view};
+ghost use Rattle.mml_lab.specs.inside.Checks.{lab_from};
+ghost use Rattle.mml_lab.specs.inside.ChecksView.{checked_view};
 ghost use Rattle.mml_lab.specs.declared.fault.LabFault.TheVariants.{Memory};
 
 use crate::checks::{Checked, number_of};
@@ -23,7 +23,7 @@ use mml_rules::{Network, Regs};
 use std::alloc::Global;
 
 /// The lab of a file that was checked.
-#[tactic(auto, unfolding(crate::specs::Checks::lab_from))]
+#[tactic(auto, unfolding(crate::specs::inside::Checks::lab_from))]
 pub(crate) fn build(alloc: Global, checked: Checked) -> Result<Lab, LabFault>
     requires { IsLab (lab_from (checked_view checked)) }
     ensures { Gives is_memory (λ lab. lab) result (Ok (lab_from (checked_view checked))) }
@@ -76,7 +76,7 @@ fn node_with(nodes: &[RawNode], id: u64) -> Option<&RawNode>
     nodes.iter().find(|node| number_of(node.id) == id)
 }
 
-#[tactic(auto, unfolding(crate::specs::Checks::rank_at))]
+#[tactic(auto, unfolding(crate::specs::inside::Checks::rank_at))]
 fn registers_in(ids: &IdTable, node: &RawNode) -> Regs
     ensures { result ≡ registers_in ids.now (node_view node.now) }
 {

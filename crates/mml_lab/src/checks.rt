@@ -7,8 +7,8 @@ ghost use Rattle.mml_lab.specs.Shape.{is_memory};
 ghost use Rattle.mml_lab.specs.Raw.{account_view, node_view, entry_view, raw_view};
 ghost use Rattle.mml_lab.specs.Rosters.{has_name};
 ghost use Rattle.mml_lab.specs.Labs.{number_of, file_ids, lacks_owner, are_one_twice, is_within, both_fault, ids_fault, forms_fault, no_owner_fault, owner_twice_fault, owners_fault, limits_fault};
-ghost use Rattle.mml_lab.specs.Checks.{limits_in, checked};
-ghost use Rattle.mml_lab.specs.ChecksView.{checked_view};
+ghost use Rattle.mml_lab.specs.inside.Checks.{limits_in, checked};
+ghost use Rattle.mml_lab.specs.inside.ChecksView.{checked_view};
 
 use crate::accounts::first_malformed;
 use crate::fault::{Key, LabFault};
@@ -40,7 +40,7 @@ pub struct Checked {
 }
 
 /// Goes through the faults in the order of `LabFault`.
-#[tactic(auto, unfolding(crate::specs::Checks::checked))]
+#[tactic(auto, unfolding(crate::specs::inside::Checks::checked))]
 pub(crate) fn check(alloc: Global, raw: RawLab) -> Result<Checked, LabFault>
     ensures { Gives is_memory checked_view result (checked (raw_view raw)) }
 {

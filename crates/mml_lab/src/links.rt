@@ -1,15 +1,14 @@
 //! The checks of links and pointers, by the ranks of the nodes.
-ghost use Rattle.std.specs.Prelude.{◌≡◌, ◌<◌, ◌==◌, ◌&&◌, ◌||◌, ℕ, None, position, map, length, is_some, IfOk, IfErr, IfSome};
+ghost use Rattle.std.specs.Prelude.{◌≡◌, ◌<◌, ◌==◌, ◌&&◌, ◌||◌, ℕ, None, position, map, length, is_some, IfSome};
 ghost use Rattle.std.specs.Option.{ForSome};
 ghost use Rattle.std.specs.FinSet as set;
 ghost use Rattle.mml_ids.specs.Gives.{Gives};
-ghost use Rattle.mml_ids.specs.Ids.{rank_in};
 ghost use Rattle.mml_rules.specs.Configuration.{holds};
 ghost use Rattle.mml_rules.specs.Network.{neighbours_at};
 ghost use Rattle.mml_lab.specs.Shape.{is_memory};
 ghost use Rattle.mml_lab.specs.Raw.{node_view};
 ghost use Rattle.mml_lab.specs.Labs.{number_of, is_loop};
-ghost use Rattle.mml_lab.specs.Checks.{rank_at, lacks_rank, are_near, rows_in, linked_in, points_past, past_fault};
+ghost use Rattle.mml_lab.specs.inside.Checks.{rank_at, lacks_rank, are_near, rows_in, linked_in, points_past, past_fault};
 
 use crate::checks::number_of;
 use crate::fault::LabFault;
@@ -18,7 +17,7 @@ use mml_ids::{IdTable, NodeSet, Rank};
 use std::alloc::Global;
 
 /// For each node the nodes that a link joins to it.
-#[tactic(auto, unfolding(crate::specs::Checks::linked_in))]
+#[tactic(auto, unfolding(crate::specs::inside::Checks::linked_in))]
 pub(crate) fn neighbours(
     alloc: Global,
     ids: &IdTable,
@@ -84,7 +83,7 @@ fn rows(alloc: Global, ids: &IdTable, links: &[(i64, i64)]) -> Result<Vec<NodeSe
 }
 
 /// Whether both are nodes, and neighbours.
-#[tactic(auto, unfolding(crate::specs::Checks::are_near))]
+#[tactic(auto, unfolding(crate::specs::inside::Checks::are_near))]
 fn are_near(rows: &[NodeSet], a: Option<Rank>, b: Option<Rank>) -> bool
     requires { ForSome a (λ rank. rank < length rows.now) }
     ensures { result ≡ are_near rows.now a b }
@@ -95,7 +94,7 @@ fn are_near(rows: &[NodeSet], a: Option<Rank>, b: Option<Rank>) -> bool
     }
 }
 
-#[tactic(auto, unfolding(crate::specs::Checks::rank_at))]
+#[tactic(auto, unfolding(crate::specs::inside::Checks::rank_at))]
 pub(crate) fn rank_at(ids: &IdTable, id: i64) -> Option<Rank>
     ensures rank { result ≡ rank_at ids.now id }
     ensures node { IfSome result (λ rank. rank < length ids.now) }
@@ -130,7 +129,7 @@ fn insert(rows: &mut [NodeSet], node: Rank, neighbour: Rank)
 }
 
 /// The first node that points at one that isn't its neighbour.
-#[tactic(auto, unfolding(crate::specs::Checks::past_fault))]
+#[tactic(auto, unfolding(crate::specs::inside::Checks::past_fault))]
 pub(crate) fn pointers_fault(ids: &IdTable, rows: &[NodeSet], nodes: &[RawNode]) -> Option<LabFault>
     requires { length rows.now ≡ length ids.now }
     ensures { result ≡ past_fault ids.now rows.now (map node_view nodes.now) }

@@ -1,10 +1,8 @@
 -- Steps of clauses: what they hand on, and why they deny.
-use Rattle.std.proofs.Common.{◌≡◌, ℕ, ◌<◌, Bool, true, false, List, length, Option, ◌==◌, None, Some, Result, Ok, Err, refl, ap, ◌∙◌, arith}
+use Rattle.std.proofs.Common.{◌≡◌, ℕ, ◌<◌, List, length, Option, ◌==◌, None, Some, Ok, Err, refl, ap, arith}
 use Rattle.std.specs.Option.{ok_or}
-use Rattle.std.specs.Result.{IfOk, IfErr}
 use Rattle.std.proofs.lemmas.List.Quantifiers.{position-Some}
 use Rattle.mml_ids.specs.Ids.{rank_in}
-use Rattle.mml_ids.specs.Gives.{◌>>=◌, ◌>>◌, need}
 use Rattle.mml_lab.specs.declared.who.Who.{Who}
 use Rattle.mml_lab.specs.declared.who.Who.TheVariants as who
 use Rattle.mml_policy.specs.declared.denial.Denial.{Denial}
@@ -23,15 +21,6 @@ student-ok (who.Student t) d s h = ap who.Student (grind arith)
 
 pub node_there : (ids : List ℕ) (id : ℕ) (d : Denial) (i : ℕ) → node ids id d ≡ Ok i → i < length ids
 node_there ids id d i h = (position-Some (λ n. n == id) ids i 0 (node-ok ids id d i h)).0
-
--- what holds of each denial that steps may end in
-pub bind-deny : {A B E : Type 0} (P : E → Type 0) (s : Result A E) (f : A → Result B E) → ((e : E) → s ≡ Err e → P e) → ((a : A) → s ≡ Ok a → IfErr (f a) P) → IfErr (s >>= f) P
-bind-deny P (Ok a) f h k = k a refl
-bind-deny P (Err e) f h k = h e refl
-
-pub need-deny : {B : Type 0} (P : Denial → Type 0) (b : Bool) (d : Denial) (t : Result B Denial) → (b ≡ false → P d) → (b ≡ true → IfErr t P) → IfErr (need b d >> t) P
-need-deny P true d t h k = k refl
-need-deny P false d t h k = h refl
 
 pub node-err : (ids : List ℕ) (id : ℕ) (d e : Denial) → node ids id d ≡ Err e → (rank_in ids id ≡ None) × (e ≡ d)
 node-err ids id d e h = go (rank_in ids id) h

@@ -1,10 +1,9 @@
 -- When each command but a move is granted or shown.
-use Rattle.std.proofs.Common.{◌≡◌, ◌≢◌, ℕ, zero, suc, ◌==◌, Bool, true, false, not, ◌||◌, List, [], ◌∷◌, Option, None, Some, is_some, Result, Ok, Err, refl, sym, ap, subst, inl, inr, ◌⊎◌, arith}
+use Rattle.std.proofs.Common.{◌≡◌, ℕ, zero, suc, ◌==◌, Bool, true, not, ◌||◌, List, [], ◌∷◌, Option, None, Some, is_some, Result, Ok, Err, refl, sym, ap, inl, inr, ◌⊎◌, arith}
 use Rattle.std.specs.Prelude.{◌↔◌}
 use Rattle.std.specs.List.{list_any}
 use Rattle.std.specs.Option.{ok_or}
 use Rattle.std.proofs.lemmas.Bool.{or_cases, or_left, or_right, eqb-false, ne_eqb, not-true, not_from_false}
-use Rattle.mml_ids.specs.Ids.{rank_in}
 use Rattle.mml_ids.proofs.GivesLemmas.{bind-ok, bind-from, need-ok, need-from}
 use Rattle.mml_rules.specs.declared.rule.Rule.{Rule}
 use Rattle.mml_rules.specs.Configuration.{IsLawful}
@@ -15,7 +14,6 @@ use Rattle.mml_board.specs.declared.event.Event.{Event}
 use Rattle.mml_board.specs.declared.event.Event.TheVariants as event
 use Rattle.mml_board.specs.World.{World, configuration, chosen_at}
 use Rattle.mml_board.specs.Events.{is_any_chosen, may_point}
-use Rattle.mml_policy.specs.declared.command.Command.{Command}
 use Rattle.mml_policy.specs.declared.command.Command.TheVariants as command
 use Rattle.mml_policy.specs.declared.denial.Denial.{Denial}
 use Rattle.mml_policy.specs.declared.denial.Denial.TheVariants.{Hidden, NotOwner, NoNode, BadRegister}

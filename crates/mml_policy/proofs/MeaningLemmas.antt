@@ -28,8 +28,8 @@ use Rattle.mml_policy.specs.declared.verdict.Leave.TheVariants.{Grant}
 use Rattle.mml_policy.specs.Clauses.{node, student, rule_of}
 use Rattle.mml_policy.specs.Verdicts.{clauses, settled, verdict}
 use Rattle.mml_policy.specs.Meaning.{IsAsked, IsOwner, IsGuarded, MayMove, DeniesMove}
-use Rattle.mml_ids.proofs.GivesLemmas.{bind-ok, bind-from, need-ok, need-from}
-use Rattle.mml_policy.proofs.ClausesLemmas.{bind-deny, need-deny, node-ok, node-err, student-ok, student-err}
+use Rattle.mml_ids.proofs.GivesLemmas.{bind-ok, bind-from, need-ok, need-from, bind-deny, need-deny}
+use Rattle.mml_policy.proofs.ClausesLemmas.{node-ok, node-err, student-ok, student-err}
 use Rattle.mml_policy.proofs.VerdictLemmas.{settled-grant, settled-deny, owner_is}
 
 none-is : {A : Type 0} (o : Option A) → is_none o ≡ true → o ≡ None

@@ -1,18 +1,15 @@
 -- What a verdict grants is legal, and what it shows is there.
-use Rattle.std.proofs.Common.{◌≡◌, ℕ, ◌<◌, ◌==◌, true, not, ◌||◌, List, length, Option, None, Some, is_some, is_none, Result, Ok, Err, sym, ap, ◌∙◌, arith}
-use Rattle.std.specs.Option.{IfSome}
+use Rattle.std.proofs.Common.{◌≡◌, ℕ, ◌<◌, ◌==◌, true, not, ◌||◌, List, length, is_some, is_none, Result, Ok, Err, sym, ap, ◌∙◌, arith}
 use Rattle.std.specs.Result.{IfOk}
 use Rattle.std.proofs.lemmas.Bool.{and_from, lt-ltb}
 use Rattle.std.proofs.lemmas.Result.{IfOk-at_ok}
-use Rattle.mml_rules.specs.Rules.{IsWithin, guard}
+use Rattle.mml_rules.specs.Rules.{guard}
 use Rattle.mml_lab.specs.declared.who.Who.{Who}
 use Rattle.mml_lab.specs.declared.who.Who.TheVariants as who
 use Rattle.mml_lab.specs.Rosters.{RosterValue, owns}
 use Rattle.mml_board.specs.declared.event.Event.{Event}
 use Rattle.mml_board.specs.World.{World, size, configuration, chosen_at}
-use Rattle.mml_board.specs.Events.{is_legal, is_node, may_point, is_chosen, is_any_chosen}
-use Rattle.mml_policy.specs.declared.command.Asked.{Asked}
-use Rattle.mml_policy.specs.declared.command.Asked.TheVariants as asked
+use Rattle.mml_board.specs.Events.{is_legal, is_node, may_point, is_any_chosen}
 use Rattle.mml_policy.specs.declared.command.Command.{Command}
 use Rattle.mml_policy.specs.declared.command.Command.TheVariants as command
 use Rattle.mml_policy.specs.declared.denial.Denial.{Denial}

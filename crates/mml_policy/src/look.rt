@@ -1,11 +1,9 @@
-ghost use Rattle.std.specs.Prelude.{◌≡◌, ◌<◌, length, IfOk, option_map};
-ghost use Rattle.mml_rules.specs.Rules.{kind_of};
-ghost use Rattle.mml_board.specs.World.{chosen_at};
+ghost use Rattle.std.specs.Prelude.{◌≡◌, ◌<◌, length, IfOk};
 ghost use Rattle.mml_policy.specs.Shown.{look_of, near};
 
 use mml_board::Board;
 use mml_ids::{Items, Memory, Rank};
-use mml_rules::{Kind, Regs, Rule, Scene};
+use mml_rules::{Kind, Regs, Scene, kind_of};
 use std::alloc::Global;
 
 /// What is shown of a node to its owners and the teacher.
@@ -32,7 +30,7 @@ pub fn look_of(alloc: Global, board: &Board, node: Rank) -> Result<Look, Memory>
         at: board.number(),
         node,
         regs: board.regs(node),
-        chosen: board.chosen(node).map(kind_of),
+        chosen: board.chosen(node).map(|rule| kind_of(rule)),
         enabled: board.enabled(node),
         near: Items::of(near(alloc, board, node)?),
     })
@@ -50,15 +48,4 @@ fn near(alloc: Global, board: &Board, node: Rank) -> Result<Vec<(Rank, Regs)>, M
         }
     }
     Ok(near)
-}
-
-fn kind_of(rule: Rule) -> Kind
-    ensures { result ≡ kind_of rule }
-{
-    match rule {
-        Rule::Update => Kind::Update,
-        Rule::Marriage(_) => Kind::Marriage,
-        Rule::Seduction => Kind::Seduction,
-        Rule::Abandonment => Kind::Abandonment,
-    }
 }

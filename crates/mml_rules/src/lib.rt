@@ -10,6 +10,6 @@ mod scene;
 
 pub use network::Network;
 pub use registers::Regs;
-pub use rule::{Kind, Rule};
+pub use rule::{Kind, Rule, kind_of};
 pub use rules::{effect, enabled, guard, married};
 pub use scene::Scene;

@@ -8,7 +8,7 @@ ghost use Rattle.mml_rules.specs.Matching.{IsPair, IsMatching, IsMaximal, IsStab
 ghost use Rattle.mml_rules.specs.Meaning.{IsMarried};
 ghost use Rattle.mml_lab.specs.Rosters.{RosterValue};
 ghost use Rattle.mml_board.specs.declared.event.Event.{Event};
-ghost use Rattle.mml_board.specs.World.{World, IsWorld, configuration};
+ghost use Rattle.mml_board.specs.World.{World, IsWorld};
 ghost use Rattle.mml_board.specs.Runs.{is_legal_list};
 ghost use Rattle.mml_stable.specs.Reports.{is_stable};
 ghost use Rattle.mml_stable.specs.Runs.{is_of_step, changes_of_m};

@@ -3,7 +3,7 @@ ghost use Rattle.mml_codec.specs.Replies.{IsAbout};
 
 use mml_codec::{FULL_LINE, MALFORMED_LINE, MEMORY_LINE, REPLY_ROOM, Refused, Reply, write_reply};
 use mml_fakes::labs::FAR_APART;
-use mml_lab::{Lab, Who, read_lab};
+use mml_lab::{Lab, read_lab};
 use mml_policy::{Denial, See};
 use mml_rules::Regs;
 use std::alloc::Global;

@@ -1,10 +1,10 @@
-use Rattle.std.proofs.Common.{◌≡◌, ◌∙◌, ap, map, List, [], ℕ, Option, Result, Ok, Err, string_bytes}
+use Rattle.std.proofs.Common.{◌∙◌, ap, map, [], Option, Result, Ok, Err, string_bytes}
 use Rattle.std.specs.Prelude.{option_map, IfOk}
 use Rattle.std.specs.Option.{option_map_or}
 use Rattle.mml_lab.specs.Shape.{NodeSpec}
 use Rattle.mml_lab.specs.Raw.{node_view, entry_view}
 use Rattle.mml_lab.specs.Labs.{place_of, owners_in}
-use Rattle.mml_lab.proofs.MapLemmas.{map-map}
+use Rattle.mml_ids.proofs.MapLemmas.{map-map}
 use Rattle.mml_lab.proofs.RawLemmas.{node_with-read}
 use Rattle.mml_lab.proofs.build.owners_with.Goals as goal
 

@@ -1,4 +1,4 @@
-use Rattle.std.proofs.Common.{◌≡◌, ◌∙◌, sym, ap, Option}
+use Rattle.std.proofs.Common.{◌∙◌, ap, Option}
 use Rattle.std.specs.Prelude.{option_map}
 use Rattle.std.specs.Option.{option_map_or}
 use Rattle.mml_rules.specs.Network.{no_regs}

@@ -3,7 +3,7 @@ use Rattle.mml_lab.specs.declared.fault.LabFault.TheVariants as fault
 use Rattle.mml_lab.specs.Shape.{NodeSpec}
 use Rattle.mml_lab.specs.Raw.{node_view}
 use Rattle.mml_lab.specs.Labs.{both_fault}
-use Rattle.mml_lab.proofs.MapLemmas.{position-map}
+use Rattle.mml_ids.proofs.MapLemmas.{position-map}
 use Rattle.mml_lab.proofs.checks.both_fault.Goals as goal
 
 pub returns-in-Some : goal.returns-in-Some

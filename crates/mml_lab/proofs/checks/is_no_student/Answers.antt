@@ -1,4 +1,4 @@
-use Rattle.std.proofs.Common.{◌≡◌, ◌∙◌, ap, not, List, ℕ, string_bytes}
+use Rattle.std.proofs.Common.{◌∙◌, ap, not, List, ℕ, string_bytes}
 use Rattle.std.specs.Prelude.{is_some, bytes_eq}
 use Rattle.std.specs.Map.{lookup}
 use Rattle.mml_lab.proofs.RawLemmas.{some-lookup}

@@ -1,8 +1,8 @@
-use Rattle.std.proofs.Common.{◌≡◌, ◌∙◌, ap, sym, map, option_map}
+use Rattle.std.proofs.Common.{◌∙◌, ap, map, option_map}
 use Rattle.mml_lab.specs.declared.fault.LabFault.TheVariants as fault
 use Rattle.mml_lab.specs.Raw.{node_view, entry_view}
 use Rattle.mml_lab.specs.Labs.{lacks_owner, no_owner_fault}
-use Rattle.mml_lab.proofs.MapLemmas.{position-map}
+use Rattle.mml_ids.proofs.MapLemmas.{position-map}
 use Rattle.mml_lab.proofs.checks.no_owner_fault.Goals as goal
 
 pub returns-in-Some : goal.returns-in-Some

@@ -1,6 +1,4 @@
-use Rattle.std.proofs.Common.{◌≡◌, ◌<◌, ◌==◌, ◌||◌, ◌&&◌, ℕ, length, get_or, ap, sym, ◌∙◌, arith, subst}
-use Rattle.std.specs.FinSet as sets
-use Rattle.mml_rules.specs.Network.{neighbours_at}
+use Rattle.std.proofs.Common.{◌≡◌, get_or, ap, ◌∙◌}
 use Rattle.mml_lab.proofs.NeighboursLemmas.{inserted}
 use Rattle.mml_lab.proofs.links.insert.Goals as goal
 

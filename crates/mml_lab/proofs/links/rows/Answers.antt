@@ -1,4 +1,4 @@
-use Rattle.std.proofs.Common.{◌≡◌, ◌<◌, ◌||◌, ◌&&◌, ◌++◌, ◌∙◌, ℤ, pos, true, false, take, drop, length, get_or, sym, ap, w64, to_z, of_z, arith, rules}
+use Rattle.std.proofs.Common.{◌≡◌, ◌||◌, ◌&&◌, ◌++◌, ◌∙◌, ℤ, pos, true, false, take, drop, length, get_or, sym, ap, w64, to_z, of_z, arith, rules}
 use Rattle.std.specs.Prelude.{replicate}
 use Rattle.std.specs.FinSet as sets
 use Rattle.std.specs.Ordering.{nat_cmp}
@@ -8,7 +8,7 @@ use Rattle.mml_ids.proofs.SearchLemmas.{first_next}
 use Rattle.mml_rules.specs.Configuration.{holds}
 use Rattle.mml_rules.specs.Network.{neighbours_at}
 use Rattle.mml_lab.specs.Labs.{is_link_again}
-use Rattle.mml_lab.specs.Checks.{rank_at, are_near}
+use Rattle.mml_lab.specs.inside.Checks.{rank_at, are_near}
 use Rattle.mml_lab.proofs.NeighboursLemmas.{no_rows, one_more}
 use Rattle.mml_lab.proofs.ChecksLemmas.{again-at, again-fault, all-rows}
 use Rattle.mml_lab.proofs.links.rows.Goals as goal

@@ -1,7 +1,7 @@
 use Rattle.std.proofs.lemmas.Result.{err_from_is_err_and}
 use Rattle.mml_lab.specs.Shape.{is_memory}
 use Rattle.mml_lab.specs.Raw.{raw_view}
-use Rattle.mml_lab.specs.ChecksView.{checked_view}
+use Rattle.mml_lab.specs.inside.ChecksView.{checked_view}
 use Rattle.mml_lab.proofs.EachLemmas.{weaker}
 use Rattle.mml_lab.proofs.ChecksLemmas.{not-spelled, not-checked, is-built, checked-lab}
 use Rattle.mml_lab.proofs.reading.read_lab.Goals as goal

@@ -1,4 +1,4 @@
-use Rattle.std.proofs.Common.{◌≡◌, ◌<◌, ◌∙◌, sym, length, arith}
+use Rattle.std.proofs.Common.{◌≡◌, ◌<◌, sym, length, arith}
 use Rattle.std.proofs.lemmas.Bool.{and_from}
 use Rattle.mml_board.specs.World.{configuration}
 use Rattle.mml_policy.proofs.VisibleLemmas.{owner_found, no_owner}

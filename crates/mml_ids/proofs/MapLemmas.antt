@@ -1,5 +1,5 @@
 -- Searches of a list, and of what its elements stand for.
-use Rattle.std.proofs.Common.{◌≡◌, ℕ, ◌+◌, ◌<◌, List, [], ◌∷◌, Bool, true, false, cond, ◌||◌, length, map, Option, Some, None, suc, refl, ap, ◌∙◌, sym, inl, inr, arith}
+use Rattle.std.proofs.Common.{◌≡◌, ℕ, List, [], ◌∷◌, Bool, true, false, cond, ◌||◌, length, map, Some, None, suc, refl, ap, ◌∙◌, inl, inr, arith}
 use Rattle.std.proofs.lemmas.Bool.{cases_lt, lt-ltb, le-ltb}
 use Rattle.std.specs.Prelude.{option_map, nat_lt}
 use Rattle.std.specs.List.{list_any, find, position, position_or_len}

@@ -2,7 +2,7 @@
 use Rattle.std.specs.Prelude.{map}
 use Rattle.mml_lab.specs.declared.checks.Checked.{Checked as KeptChecked}
 use Rattle.mml_lab.specs.Raw.{account_view, entry_view, node_view}
-use Rattle.mml_lab.specs.Checks.{Checked}
+use Rattle.mml_lab.specs.inside.Checks.{Checked}
 
 abbrev pub checked_view : KeptChecked → Checked
 checked_view c = record {

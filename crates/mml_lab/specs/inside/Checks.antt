@@ -5,7 +5,7 @@ use Rattle.std.specs.Option.{option_map_or}
 use Rattle.std.specs.FinSet as set
 use Rattle.std.specs.FinSet.{FinSet}
 use Rattle.std.specs.Ordering.{nat_cmp}
-use Rattle.mml_ids.specs.Gives.{unless_fault, first_fault, ◌>>=◌}
+use Rattle.mml_ids.specs.Gives.{unless_fault, ◌>>=◌}
 use Rattle.mml_ids.specs.Search.{first_below}
 use Rattle.mml_ids.specs.Ids.{in_order, rank_in}
 use Rattle.mml_rules.specs.Network.{neighbours_at}

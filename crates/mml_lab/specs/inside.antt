@@ -1,0 +1,3 @@
+-- What stands apart from the model: how a file is checked and its lab made. No public clause cites it.
+pub mod Checks
+pub mod ChecksView
