@@ -108,6 +108,7 @@ deny_text d = number_first (current_number d) ++ concat (codes "\"clause\":" ∷
 abbrev pub refuse_text : Refused → List ℕ
 refuse_text refused.Malformed = codes "{\"refuse\":\"malformed\"}"
 refuse_text refused.Full = codes "{\"refuse\":\"full\"}"
+refuse_text refused.Journal = codes "{\"refuse\":\"journal\"}"
 refuse_text refused.Memory = codes "{\"refuse\":\"memory\"}"
 
 -- the text of a reply, in a lab with these identifiers and this roster

@@ -18,7 +18,7 @@ ghost use Rattle.mml_rules.specs.declared.registers.Regs.{Regs};
 ghost use Rattle.mml_rules.specs.declared.rule.Rule.{Rule};
 ghost use Rattle.mml_rules.specs.Rules.{kind_of};
 
-use crate::reply::{FULL_LINE, MALFORMED_LINE, MEMORY_LINE};
+use crate::reply::{FULL_LINE, JOURNAL_LINE, MALFORMED_LINE, MEMORY_LINE};
 
 /// A request is read again from its text.
 pub fn a_text_asks_its_request()
@@ -36,6 +36,8 @@ pub fn refusals_have_fixed_lines()
         reply_line ids roster (Refuse refused.Malformed) ≡ MALFORMED_LINE.now }
     ensures full { (ids : List ℕ) (roster : RosterValue) →
         reply_line ids roster (Refuse refused.Full) ≡ FULL_LINE.now }
+    ensures journal { (ids : List ℕ) (roster : RosterValue) →
+        reply_line ids roster (Refuse refused.Journal) ≡ JOURNAL_LINE.now }
     ensures memory { (ids : List ℕ) (roster : RosterValue) →
         reply_line ids roster (Refuse refused.Memory) ≡ MEMORY_LINE.now }
 {}

@@ -12,6 +12,9 @@ pub const MALFORMED_LINE: &str = "{\"refuse\":\"malformed\"}\n";
 /// The reply line to a grant where no event may follow any longer, with its byte 10.
 pub const FULL_LINE: &str = "{\"refuse\":\"full\"}\n";
 
+/// The reply line to a grant where the journal takes no line any longer, with its byte 10.
+pub const JOURNAL_LINE: &str = "{\"refuse\":\"journal\"}\n";
+
 /// The reply line where a growth was refused, with its byte 10.
 pub const MEMORY_LINE: &str = "{\"refuse\":\"memory\"}\n";
 
@@ -22,6 +25,8 @@ pub enum Refused {
     Malformed,
     /// There were as many events as there may be.
     Full,
+    /// The journal took no line, or not the whole of it.
+    Journal,
     /// A growth was refused.
     Memory,
 }

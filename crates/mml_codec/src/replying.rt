@@ -431,6 +431,7 @@ fn refusal(refused: Refused) -> &'static str
     match refused {
         Refused::Malformed => "{\"refuse\":\"malformed\"}",
         Refused::Full => "{\"refuse\":\"full\"}",
+        Refused::Journal => "{\"refuse\":\"journal\"}",
         Refused::Memory => "{\"refuse\":\"memory\"}",
     }
 }
