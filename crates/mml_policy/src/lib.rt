@@ -16,5 +16,5 @@ pub use denial::Denial;
 pub use look::{Look, look_of};
 pub use ruling::{Ruling, rule_on};
 pub use see::{See, see_of};
-pub use verdict::{Verdict, judge};
+pub use verdict::{Leave, Verdict, clauses, judge};
 pub use visibility::visible;
