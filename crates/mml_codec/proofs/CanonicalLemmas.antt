@@ -30,6 +30,7 @@ IsObject-fields_of (requests.Do (command.Fault n (Some p) m)) = record { rising 
 IsObject-fields_of (requests.Do (command.Link a b)) = record { rising = refl; ascii = refl }
 IsObject-fields_of (requests.Do (command.Cut a b)) = record { rising = refl; ascii = refl }
 IsObject-fields_of (requests.Do (command.Release n)) = record { rising = refl; ascii = refl }
+IsObject-fields_of (requests.Do command.Report) = record { rising = refl; ascii = refl }
 
 -- each word: its object asks it
 request-fields_of : (r : Request) → request (object_of (fields_of r)) ≡ Some r
@@ -48,6 +49,7 @@ request-fields_of (requests.Do (command.Fault n (Some p) m)) = refl
 request-fields_of (requests.Do (command.Link a b)) = refl
 request-fields_of (requests.Do (command.Cut a b)) = refl
 request-fields_of (requests.Do (command.Release n)) = refl
+request-fields_of (requests.Do command.Report) = refl
 
 pub canonical_line : (r : Request) → IsWritable r → All (λ b. b ≢ 10) (canonical r)
 unfolding canonical

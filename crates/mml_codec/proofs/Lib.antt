@@ -4,3 +4,4 @@ pub mod OneLineLemmas
 pub mod FieldsLemmas
 pub mod CanonicalLemmas
 pub mod SeparatedLemmas
+pub mod ReportLemmas

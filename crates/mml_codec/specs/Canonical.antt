@@ -39,6 +39,7 @@ command_fields (command.Fault node p m) =
 command_fields (command.Link a b) = (codes "a", number a) ∷ (codes "b", number b) ∷ (codes "do", word (codes "link")) ∷ []
 command_fields (command.Cut a b) = (codes "a", number a) ∷ (codes "b", number b) ∷ (codes "do", word (codes "cut")) ∷ []
 command_fields (command.Release node) = (codes "do", word (codes "release")) ∷ (codes "node", number node) ∷ []
+command_fields command.Report = (codes "do", word (codes "report")) ∷ []
 
 -- the word and the named keys of a request
 abbrev pub fields_of : Request → List (List ℕ × Field)

@@ -14,6 +14,9 @@ use Rattle.mml_policy.specs.declared.look.Look.{Look}
 use Rattle.mml_policy.specs.declared.see.See.{See}
 use Rattle.mml_policy.specs.Denials.{clause_of, text_of}
 use Rattle.mml_policy.specs.Denials as denials
+use Rattle.mml_stable.specs.declared.open_link.OpenLink.{OpenLink}
+use Rattle.mml_stable.specs.declared.stability.Report.{Report}
+use Rattle.mml_stable.specs.Reports.{NamesNodes}
 use Rattle.mml_codec.specs.declared.reply.Refused.{Refused}
 use Rattle.mml_codec.specs.declared.reply.Refused.TheVariants as refused
 use Rattle.mml_codec.specs.declared.reply.Reply.{Reply}
@@ -92,6 +95,25 @@ ends_text ids word at place a b dropped = concat (codes "{\"a\":" ∷ node_text 
 unfoldable pub release_text : List ℕ → ℕ → ℕ → ℕ → List ℕ
 release_text ids at place node = concat (codes "{\"at\":" ∷ decimal at ∷ codes ",\"node\":" ∷ node_text ids node ∷ codes ",\"ok\":\"release\",\"place\":" ∷ decimal place ∷ codes "}" ∷ [])
 
+-- two nodes that point at each other
+unfoldable pub pair_text : List ℕ → ℕ × ℕ → List ℕ
+pair_text ids p = concat (codes "[" ∷ node_text ids p.0 ∷ codes "," ∷ node_text ids p.1 ∷ codes "]" ∷ [])
+
+-- a privileged node with its rule
+unfoldable pub privileged_text : List ℕ → ℕ × Kind → List ℕ
+privileged_text ids n = concat (codes "[" ∷ node_text ids n.0 ∷ codes "," ∷ kind_text n.1 ∷ codes "]" ∷ [])
+
+-- an open link with its witness and the rule there
+unfoldable pub open_link_text : List ℕ → OpenLink → List ℕ
+open_link_text ids l = concat (codes "[" ∷ node_text ids l.a ∷ codes "," ∷ node_text ids l.b ∷ codes "," ∷ node_text ids l.node ∷ codes "," ∷ kind_text l.kind ∷ codes "]" ∷ [])
+
+unfoldable pub report_text : List ℕ → Report → List ℕ
+report_text ids r = concat (codes "{\"at\":" ∷ decimal r.at ∷ codes ",\"free\":[" ∷ separated (map (node_text ids) r.free)
+    ∷ codes "],\"ok\":\"report\",\"open\":[" ∷ separated (map (open_link_text ids) r.open_links)
+    ∷ codes "],\"pairs\":[" ∷ separated (map (pair_text ids) r.pairs)
+    ∷ codes "],\"privileged\":[" ∷ separated (map (privileged_text ids) r.privileged)
+    ∷ codes "],\"stable\":" ∷ truth_text r.stable ∷ codes "}" ∷ [])
+
 -- one who is late is told the current number
 abbrev pub current_number : Denial → Option ℕ
 current_number (denial.Stale at) = Some at
@@ -123,6 +145,7 @@ text ids roster (replies.Fault at place node dropped) = fault_text ids at place 
 text ids roster (replies.Link at place a b dropped) = ends_text ids (codes "link") at place a b dropped
 text ids roster (replies.Cut at place a b dropped) = ends_text ids (codes "cut") at place a b dropped
 text ids roster (replies.Release at place node) = release_text ids at place node
+text ids roster (replies.Report r) = report_text ids r
 text ids roster (replies.Deny d) = deny_text d
 text ids roster (replies.Refuse r) = refuse_text r
 
@@ -130,7 +153,7 @@ text ids roster (replies.Refuse r) = refuse_text r
 abbrev pub reply_line : List ℕ → RosterValue → Reply → List ℕ
 reply_line ids roster r = text ids roster r ++ 10 ∷ []
 
--- it has no list of neighbours, so its line needs no more than a fixed room
+-- it has no list but a set of nodes, so its line needs no more than a fixed room
 abbrev pub is_short : Reply → Bool
 is_short (replies.Hello who) = true
 is_short replies.Bye = true
@@ -142,6 +165,7 @@ is_short (replies.Fault at place node dropped) = true
 is_short (replies.Link at place a b dropped) = true
 is_short (replies.Cut at place a b dropped) = true
 is_short (replies.Release at place node) = true
+is_short (replies.Report r) = false
 is_short (replies.Deny d) = true
 is_short (replies.Refuse r) = true
 
@@ -170,5 +194,6 @@ IsAbout ids roster (replies.Fault at place node dropped) = node < length ids
 IsAbout ids roster (replies.Link at place a b dropped) = (a < length ids) × (b < length ids)
 IsAbout ids roster (replies.Cut at place a b dropped) = (a < length ids) × (b < length ids)
 IsAbout ids roster (replies.Release at place node) = node < length ids
+IsAbout ids roster (replies.Report r) = NamesNodes (length ids) r
 IsAbout ids roster (replies.Deny d) = Unit {0}
 IsAbout ids roster (replies.Refuse r) = Unit {0}

@@ -94,7 +94,8 @@ by_word w d = if bytes_eq w (codes "hello") then hello_of d
     else (if bytes_eq w (codes "link") then ends_of command.Link d
     else (if bytes_eq w (codes "cut") then ends_of command.Cut d
     else (if bytes_eq w (codes "release") then node_of command.Release d
-    else None)))))))))
+    else (if bytes_eq w (codes "report") then Some (requests.Do command.Report)
+    else None))))))))))
 
 -- the request that a value is, if it is one
 unfoldable pub request : Data → Option Request

@@ -2,6 +2,8 @@
 use Rattle.std.specs.Prelude.{ℕ}
 use Rattle.mml_board.specs.declared.done.Done.{Done}
 use Rattle.mml_board.specs.declared.done.Done.TheVariants as done
+use Rattle.mml_board.specs.World.{World}
+use Rattle.mml_stable.specs.Reports.{report_of}
 use Rattle.mml_policy.specs.declared.ruling.Ruling.{Ruling}
 use Rattle.mml_policy.specs.declared.ruling.Ruling.TheVariants as ruling
 use Rattle.mml_codec.specs.declared.reply.Refused.TheVariants as refused
@@ -17,10 +19,12 @@ reply_of_done at place (done.Link a b dropped) = replies.Link at place a b dropp
 reply_of_done at place (done.Cut a b dropped) = replies.Cut at place a b dropped
 reply_of_done at place (done.Release node) = replies.Release at place node
 
--- what came of a command, with the number and the place of the world after it
-abbrev pub reply_of : ℕ → ℕ → Ruling → Reply
-reply_of at place (ruling.Denied d) = replies.Deny d
-reply_of at place (ruling.Seen s) = replies.See s
-reply_of at place (ruling.Looked l) = replies.Look l
-reply_of at place ruling.Full = replies.Refuse refused.Full
-reply_of at place (ruling.Granted event done) = reply_of_done at place done
+-- what came of a command, with the world after it
+abbrev pub reply_of : World → Ruling → Reply
+reply_of w (ruling.Denied d) = replies.Deny d
+reply_of w (ruling.Seen s) = replies.See s
+reply_of w (ruling.Looked l) = replies.Look l
+reply_of w ruling.Reported = replies.Report (report_of w)
+reply_of w ruling.Full = replies.Refuse refused.Full
+reply_of w ruling.Journal = replies.Refuse refused.Journal
+reply_of w (ruling.Granted event done) = reply_of_done w.number w.place done

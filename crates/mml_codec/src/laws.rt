@@ -43,7 +43,7 @@ pub fn refusals_have_fixed_lines()
 {}
 
 /// The limits, as numbers: the most bytes of a request line, and the room in which the line of each
-/// reply but a look is written without taking memory.
+/// reply but a look and a report is written without taking memory.
 pub fn limits()
     ensures request { MAX_REQUEST ≡ 4096 }
     ensures room { REPLY_ROOM ≡ 2048 }

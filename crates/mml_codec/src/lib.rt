@@ -7,6 +7,7 @@ mod object;
 mod reading;
 mod reply;
 mod replying;
+mod reported;
 mod request;
 mod ruling;
 mod writing;

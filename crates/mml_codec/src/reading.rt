@@ -69,6 +69,7 @@ fn by_word(alloc: Global, word: &str, value: &Value) -> Result<Request, LineFaul
             let node = number_at(value, "node")?;
             Ok(Request::Do(Command::Release { node }))
         }
+        "report" => Ok(Request::Do(Command::Report)),
         _ => Err(LineFault::Malformed),
     }
 }

@@ -2,6 +2,7 @@ use mml_ids::{NodeSet, Rank};
 use mml_lab::Who;
 use mml_policy::{Denial, Look, See};
 use mml_rules::Kind;
+use mml_stable::Report;
 
 /// The capacity, in bytes, with which a reply line is written without taking memory.
 pub const REPLY_ROOM: usize = 2048;
@@ -85,6 +86,8 @@ pub enum Reply {
         place: u64,
         node: Rank,
     },
+    /// What is told of all nodes.
+    Report(Report),
     /// A clause of the request doesn't hold.
     Deny(Denial),
     /// The request was refused.

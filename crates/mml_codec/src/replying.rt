@@ -5,13 +5,14 @@ ghost use Rattle.mml_codec.specs.Replies.{truth_text, pointer_text, kind_text, k
 ghost use Rattle.mml_codec.specs.inside.Puts.{Puts};
 
 use crate::reply::{REPLY_ROOM, Refused, Reply};
+use crate::reported::put_report;
 use mml_ids::{IdTable, Memory, NodeSet, Piece, Rank, put};
 use mml_lab::{Roster, Who};
 use mml_policy::{Denial, Look, See};
 use mml_rules::{Kind, Regs};
 use std::alloc::Global;
 
-// Enough for the text of each reply but a look.
+// Enough for the text of each reply but a look and a report.
 const TEXT_ROOM: usize = 2000;
 
 /// Puts the line of a reply, with its byte 10, in the place of what the vector holds. The vector
@@ -92,6 +93,7 @@ fn put_text(ids: &IdTable, roster: &Roster, reply: &Reply, out: &mut Vec<u8>) ->
             dropped,
         } => put_ends(ids, "cut", *at, *place, *a, *b, *dropped, out),
         Reply::Release { at, place, node } => put_release(ids, *at, *place, *node, out),
+        Reply::Report(report) => put_report(ids, report, out),
         Reply::Deny(denial) => put_denial(*denial, out),
         Reply::Refuse(refused) => put_refusal(*refused, out),
     }
@@ -436,7 +438,7 @@ fn refusal(refused: Refused) -> &'static str
     }
 }
 
-fn truth(m: bool) -> &'static str
+pub(crate) fn truth(m: bool) -> &'static str
     ensures text { result.now ≡ truth_text m }
     ensures short { length result.now ≤ 5 }
 {
@@ -454,7 +456,7 @@ fn pointer(ids: &IdTable, p: Option<Rank>) -> Piece<'static>
     }
 }
 
-fn kind_word(kind: Kind) -> &'static str
+pub(crate) fn kind_word(kind: Kind) -> &'static str
     ensures text { result.now ≡ kind_text kind }
     ensures short { length result.now ≤ 13 }
 {

@@ -1,20 +1,28 @@
-ghost use Rattle.std.specs.Prelude.{◌≡◌};
+ghost use Rattle.std.specs.Prelude.{◌≡◌, IfOk, OnErr};
+ghost use Rattle.mml_policy.specs.declared.ruling.Ruling.TheVariants as rulings;
 ghost use Rattle.mml_codec.specs.Rulings.{reply_of, reply_of_done};
 
 use crate::reply::{Refused, Reply};
-use mml_board::Done;
+use mml_board::{Board, Done};
+use mml_ids::Memory;
 use mml_policy::Ruling;
+use mml_stable::report;
+use std::alloc::Global;
 
-/// The reply to a command that was judged, with the number and the place of the world after it.
-pub fn reply_of(at: u64, place: u64, ruling: Ruling) -> Reply
-    ensures { result ≡ reply_of at place ruling }
+/// The reply to a command that was judged. The board is that after the event, if one took place. Only
+/// a report takes memory.
+pub fn reply_of(alloc: Global, board: &Board, ruling: Ruling) -> Result<Reply, Memory>
+    ensures reply { IfOk result (λ r. r ≡ reply_of board.now ruling) }
+    ensures memory { OnErr result (ruling ≡ rulings.Reported) }
 {
     match ruling {
-        Ruling::Denied(denial) => Reply::Deny(denial),
-        Ruling::Seen(see) => Reply::See(see),
-        Ruling::Looked(look) => Reply::Look(look),
-        Ruling::Full => Reply::Refuse(Refused::Full),
-        Ruling::Granted { done, .. } => reply_of_done(at, place, done),
+        Ruling::Denied(denial) => Ok(Reply::Deny(denial)),
+        Ruling::Seen(see) => Ok(Reply::See(see)),
+        Ruling::Looked(look) => Ok(Reply::Look(look)),
+        Ruling::Reported => Ok(Reply::Report(report(alloc, board)?)),
+        Ruling::Full => Ok(Reply::Refuse(Refused::Full)),
+        Ruling::Journal => Ok(Reply::Refuse(Refused::Journal)),
+        Ruling::Granted { done, .. } => Ok(reply_of_done(board.number(), board.place(), done)),
     }
 }
 

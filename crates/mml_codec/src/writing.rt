@@ -59,6 +59,7 @@ fn command_text(alloc: Global, command: Command) -> Result<Vec<u8>, AllocError>
         Command::Link { a, b } => ends_text(alloc, "link", a, b),
         Command::Cut { a, b } => ends_text(alloc, "cut", a, b),
         Command::Release { node } => node_text(alloc, "release", node),
+        Command::Report => object_text(alloc, &[("do", Word("report"))]),
     }
 }
 

@@ -9,7 +9,7 @@ use Rattle.mml_board.proofs.EventsLemmas.{next_place}
 use Rattle.mml_board.specs.declared.done.Done.{Done}
 use Rattle.mml_board.specs.declared.done.Done.TheVariants as done
 use Rattle.mml_policy.specs.declared.ruling.Ruling.{Ruling}
-use Rattle.mml_policy.specs.declared.ruling.Ruling.TheVariants.{Denied, Seen, Looked, Full, Granted}
+use Rattle.mml_policy.specs.declared.ruling.Ruling.TheVariants.{Denied, Seen, Looked, Reported, Full, Journal, Granted}
 use Rattle.mml_policy.specs.Rulings.{ruling}
 use Rattle.mml_codec.specs.declared.request.LineFault.{LineFault}
 use Rattle.mml_codec.specs.declared.request.Request.{Request}
@@ -51,7 +51,9 @@ refused_told : (st : State) (r : Ruling) → IsRefusal (told st r).reply → (to
 refused_told st (Denied d) h = refl
 refused_told st (Seen s) h = refl
 refused_told st (Looked l) h = refl
+refused_told st Reported h = refl
 refused_told st Full h = refl
+refused_told st Journal h = refl
 refused_told st (Granted e d) h = absurd (granted_not_refused _ _ d h)
 
 refused_greeting : (lab : LabValue) (st : State) (k : ℕ) (known : Option Who) (r : Request) → known_on st k ≡ known
@@ -61,7 +63,7 @@ refused_greeting lab st k (Some x) (requests.Hello name key) e h = same_known st
 refused_greeting lab st k None requests.Bye e h = absurd h
 refused_greeting lab st k (Some x) requests.Bye e h = absurd h
 refused_greeting lab st k None (requests.Do c) e h = same_known st k None e
-refused_greeting lab st k (Some x) (requests.Do c) e h = refused_told st (ruling lab.ids lab.roster lab.events st.world x c) h
+refused_greeting lab st k (Some x) (requests.Do c) e h = refused_told st (ruling lab.ids lab.roster lab.events false st.world x c) h
 
 refused_answer : (lab : LabValue) (st : State) (k : ℕ) (asked : Result Request LineFault)
     → IsRefusal (answer_to lab st k asked).reply → (answer_to lab st k asked).state ≡ st
@@ -92,12 +94,14 @@ others_told : (st : State) (j : ℕ) (r : Ruling) → known_on (told st r).state
 others_told st j (Denied d) = refl
 others_told st j (Seen s) = refl
 others_told st j (Looked l) = refl
+others_told st j Reported = refl
 others_told st j Full = refl
+others_told st j Journal = refl
 others_told st j (Granted e d) = refl
 
 others_settled : (lab : LabValue) (st : State) (k j : ℕ) (g : Greeting) → 0 < k → 0 < j → j ≢ k → known_on (settled lab st k g).state j ≡ known_on st j
 others_settled lab st k j (Answered r x) some some' differ = other_known st k j x some some' differ
-others_settled lab st k j (LeftToJudge x c) some some' differ = others_told st j (ruling lab.ids lab.roster lab.events st.world x c)
+others_settled lab st k j (LeftToJudge x c) some some' differ = others_told st j (ruling lab.ids lab.roster lab.events false st.world x c)
 
 others_answer : (lab : LabValue) (st : State) (k j : ℕ) (asked : Result Request LineFault) → 0 < k → 0 < j → j ≢ k
     → known_on (answer_to lab st k asked).state j ≡ known_on st j
@@ -137,7 +141,9 @@ long_told : (st : State) (r : Ruling) → is_short (told st r).reply ≡ false �
 long_told st (Denied d) h = refl
 long_told st (Seen s) h = refl
 long_told st (Looked l) h = refl
+long_told st Reported h = refl
 long_told st Full h = refl
+long_told st Journal h = refl
 long_told st (Granted e d) h = absurd (granted_is_short _ _ d h)
 
 long_admission : (lab : LabValue) (st : State) (k : ℕ) (found : Option Who) → is_short (settled lab st k (admitted found)).reply ≡ false → ⊥
@@ -151,7 +157,7 @@ long_greeting lab st k (Some x) (requests.Hello name key) h = absurd (never h)
 long_greeting lab st k None requests.Bye h = absurd (never h)
 long_greeting lab st k (Some x) requests.Bye h = absurd (never h)
 long_greeting lab st k None (requests.Do c) h = absurd (never h)
-long_greeting lab st k (Some x) (requests.Do c) h = long_told st (ruling lab.ids lab.roster lab.events st.world x c) h
+long_greeting lab st k (Some x) (requests.Do c) h = long_told st (ruling lab.ids lab.roster lab.events false st.world x c) h
 
 long_answer : (lab : LabValue) (st : State) (k : ℕ) (asked : Result Request LineFault)
     → is_short (answer_to lab st k asked).reply ≡ false → (answer_to lab st k asked).state ≡ st
@@ -167,6 +173,7 @@ long_takes_memory (replies.Hello who) h = absurd (never h)
 long_takes_memory replies.Bye h = absurd (never h)
 long_takes_memory (replies.See s) h = absurd (never h)
 long_takes_memory (replies.Look l) h = refl
+long_takes_memory (replies.Report r) h = refl
 long_takes_memory (replies.Move at place node k) h = refl
 long_takes_memory (replies.Close at place moved) h = refl
 long_takes_memory (replies.Fault at place node dropped) h = refl
@@ -219,7 +226,9 @@ growing_told : (st : State) (r : Ruling) → GrowsByGrant st (told st r)
 growing_told st (Denied d) = inl (refl, refl, refl)
 growing_told st (Seen s) = inl (refl, refl, refl)
 growing_told st (Looked l) = inl (refl, refl, refl)
+growing_told st Reported = inl (refl, refl, refl)
 growing_told st Full = inl (refl, refl, refl)
+growing_told st Journal = inl (refl, refl, refl)
 growing_told st (Granted e d) =
     inr (e, refl, refl, place_of_done (after st.world e).number (after st.world e).place d ∙ ap Some (next_place st.world e))
 
@@ -233,7 +242,7 @@ growing_greeting lab st k (Some x) (requests.Hello name key) = inl (refl, refl, 
 growing_greeting lab st k None requests.Bye = inl (refl, refl, refl)
 growing_greeting lab st k (Some x) requests.Bye = inl (refl, refl, refl)
 growing_greeting lab st k None (requests.Do c) = inl (refl, refl, refl)
-growing_greeting lab st k (Some x) (requests.Do c) = growing_told st (ruling lab.ids lab.roster lab.events st.world x c)
+growing_greeting lab st k (Some x) (requests.Do c) = growing_told st (ruling lab.ids lab.roster lab.events false st.world x c)
 
 growing_answer : (lab : LabValue) (st : State) (k : ℕ) (asked : Result Request LineFault) → GrowsByGrant st (answer_to lab st k asked)
 growing_answer lab st k (Err fault) = inl (refl, refl, refl)

@@ -55,12 +55,12 @@ entered st (Some e) = with_event st e
 
 -- what comes of a ruling; the reply names the number and the place after it
 abbrev pub told : State → Ruling → Outcome
-told st r = let after = entered st (event_of r) in record { reply = reply_of after.world.number after.world.place r; state = after }
+told st r = let after = entered st (event_of r) in record { reply = reply_of after.world r; state = after }
 
 -- what comes of a request: it greets or says bye, or its command is ruled on
 abbrev pub settled : LabValue → State → ℕ → Greeting → Outcome
 settled lab st k (Answered r x) = record { reply = r; state = with_known st k x }
-settled lab st k (LeftToJudge x c) = told st (ruling lab.ids lab.roster lab.events st.world x c)
+settled lab st k (LeftToJudge x c) = told st (ruling lab.ids lab.roster lab.events false st.world x c)
 
 -- what comes of what a line asks
 abbrev pub answer_to : LabValue → State → ℕ → Result Request LineFault → Outcome
@@ -87,6 +87,7 @@ place_in (reply.Fault at place node dropped) = Some place
 place_in (reply.Link at place a b dropped) = Some place
 place_in (reply.Cut at place a b dropped) = Some place
 place_in (reply.Release at place node) = Some place
+place_in (reply.Report r) = None
 place_in (reply.Deny d) = None
 place_in (reply.Refuse r) = None
 
@@ -102,6 +103,7 @@ takes_memory (reply.Fault at place node dropped) = true
 takes_memory (reply.Link at place a b dropped) = true
 takes_memory (reply.Cut at place a b dropped) = true
 takes_memory (reply.Release at place node) = true
+takes_memory (reply.Report r) = true
 takes_memory (reply.Deny d) = false
 takes_memory (reply.Refuse r) = false
 
@@ -143,6 +145,7 @@ IsRefusal (reply.Fault at place node dropped) = ⊥
 IsRefusal (reply.Link at place a b dropped) = ⊥
 IsRefusal (reply.Cut at place a b dropped) = ⊥
 IsRefusal (reply.Release at place node) = ⊥
+IsRefusal (reply.Report r) = ⊥
 IsRefusal (reply.Deny d) = Unit {0}
 IsRefusal (reply.Refuse r) = Unit {0}
 

@@ -31,7 +31,7 @@ use Rattle.mml_policy.specs.Verdicts.{clauses}
 use Rattle.mml_policy.specs.Shown.{near, look_of}
 use Rattle.mml_policy.specs.Rulings.{told, ruled, ruling, after_ruling}
 use Rattle.mml_policy.specs.declared.ruling.Ruling.{Ruling}
-use Rattle.mml_policy.specs.declared.ruling.Ruling.TheVariants.{Seen, Looked, Full, Granted}
+use Rattle.mml_policy.specs.declared.ruling.Ruling.TheVariants.{Seen, Looked, Full, Journal, Granted}
 use Rattle.mml_policy.specs.Alike.{Alike, IsWorldOf}
 use Rattle.mml_ids.proofs.GivesLemmas.{bind-same, need-same, bind-if, need-if}
 use Rattle.mml_policy.proofs.ClausesLemmas.{node_there}
@@ -55,7 +55,7 @@ filter_alike t f g (x ∷ xs) h = go (t x) (h x) (filter_alike t f g xs h)
     go true e rest = λ k. e refl k ∷ rest k
     go false e rest = rest
 
-module _ (ids : List ℕ) (r : RosterValue) (limit : ℕ) (s : ℕ) (w v : World) (in_w : IsWorldOf ids w) (in_v : IsWorldOf ids v) (a : Alike r s w v) where
+module _ (ids : List ℕ) (r : RosterValue) (limit : ℕ) (is_halted : Bool) (s : ℕ) (w v : World) (in_w : IsWorldOf ids w) (in_v : IsWorldOf ids v) (a : Alike r s w v) where
   abbrev c : Configuration
   c = configuration w
 
@@ -113,6 +113,7 @@ module _ (ids : List ℕ) (r : RosterValue) (limit : ℕ) (s : ℕ) (w v : World
   same_clauses (command.Link first second) = refl
   same_clauses (command.Cut first second) = refl
   same_clauses (command.Release id) = refl
+  same_clauses command.Report = refl
 
   -- what is shown is the same
   same_seen : (i : ℕ) → is_visible r c x i ≡ true → registers_at w.network.registers i ≡ registers_at v.network.registers i
@@ -165,22 +166,23 @@ module _ (ids : List ℕ) (r : RosterValue) (limit : ℕ) (s : ℕ) (w v : World
 
   -- what the leave tells is the same, and the worlds afterwards are alike
   abbrev Keeps : Leave → Type 0
-  Keeps l = (told limit w l ≡ told limit v l) × Alike r s (after_ruling w (told limit w l)) (after_ruling v (told limit v l))
+  Keeps l = (told limit is_halted w l ≡ told limit is_halted v l) × Alike r s (after_ruling w (told limit is_halted w l)) (after_ruling v (told limit is_halted v l))
 
   -- the event takes place in both worlds or in neither
-  entered : (b : Bool) (g k : Ruling) → g ≡ k → Alike r s (after_ruling w g) (after_ruling v k) →
-      (cond b Full g ≡ cond b Full k) × Alike r s (after_ruling w (cond b Full g)) (after_ruling v (cond b Full k))
-  entered true g k e l = (refl, a)
-  entered false g k e l = (e, l)
+  entered : (b h : Bool) (g k : Ruling) → g ≡ k → Alike r s (after_ruling w g) (after_ruling v k) →
+      (cond b Full (cond h Journal g) ≡ cond b Full (cond h Journal k)) × Alike r s (after_ruling w (cond b Full (cond h Journal g))) (after_ruling v (cond b Full (cond h Journal k)))
+  entered true h g k e l = (refl, a)
+  entered false true g k e l = (refl, a)
+  entered false false g k e l = (e, l)
 
   keeps_move : (i : ℕ) (q : Rule) → i < length ids → Keeps (Grant (event.Grant s i q))
   keeps_move i q l =
       let e = event.Grant s i q in
       let g = Granted e (done_by w e) in
       let k = Granted e (done_by v e) in
-      subst (λ b. (cond (nat_le limit w.place) Full g ≡ cond b Full k) × Alike r s (after_ruling w (cond (nat_le limit w.place) Full g)) (after_ruling v (cond b Full k)))
+      subst (λ b. (cond (nat_le limit w.place) Full (cond is_halted Journal g) ≡ cond b Full (cond is_halted Journal k)) × Alike r s (after_ruling w (cond (nat_le limit w.place) Full (cond is_halted Journal g))) (after_ruling v (cond b Full (cond is_halted Journal k))))
       (ap (nat_le limit) a.place)
-      (entered (nat_le limit w.place) g k refl (choosing_alike i (Some q) l))
+      (entered (nat_le limit w.place) is_halted g k refl (choosing_alike i (Some q) l))
 
   keeps : (k : Command) → IfOk (clauses ids r w x k) Keeps
   keeps (command.See id) =
@@ -204,9 +206,10 @@ module _ (ids : List ℕ) (r : RosterValue) (limit : ℕ) (s : ℕ) (w v : World
   keeps (command.Link first second) = tt
   keeps (command.Cut first second) = tt
   keeps (command.Release id) = tt
+  keeps command.Report = tt
 
   abbrev Same : Result Leave Denial → Result Leave Denial → Type 0
-  Same p q = (ruled limit w p ≡ ruled limit v q) × Alike r s (after_ruling w (ruled limit w p)) (after_ruling v (ruled limit v q))
+  Same p q = (ruled limit is_halted w p ≡ ruled limit is_halted v q) × Alike r s (after_ruling w (ruled limit is_halted w p)) (after_ruling v (ruled limit is_halted v q))
 
   same : (p q : Result Leave Denial) → p ≡ q → IfOk p Keeps → Same p q
   same (Ok l) q e h = subst (Same (Ok l)) e h
@@ -215,8 +218,8 @@ module _ (ids : List ℕ) (r : RosterValue) (limit : ℕ) (s : ℕ) (w v : World
   both : (k : Command) → Same (clauses ids r w x k) (clauses ids r v x k)
   both k = same _ _ (same_clauses k) (keeps k)
 
-pub same_ruling : (ids : List ℕ) (r : RosterValue) (limit : ℕ) (w v : World) (s : ℕ) (k : Command) → IsWorldOf ids w → IsWorldOf ids v → Alike r s w v → ruling ids r limit w (who.Student s) k ≡ ruling ids r limit v (who.Student s) k
-same_ruling ids r limit w v s k in_w in_v a = (both ids r limit s w v in_w in_v a k).0
+pub same_ruling : (ids : List ℕ) (r : RosterValue) (limit : ℕ) (is_halted : Bool) (w v : World) (s : ℕ) (k : Command) → IsWorldOf ids w → IsWorldOf ids v → Alike r s w v → ruling ids r limit is_halted w (who.Student s) k ≡ ruling ids r limit is_halted v (who.Student s) k
+same_ruling ids r limit is_halted w v s k in_w in_v a = (both ids r limit is_halted s w v in_w in_v a k).0
 
-pub alike_afterwards : (ids : List ℕ) (r : RosterValue) (limit : ℕ) (w v : World) (s : ℕ) (k : Command) → IsWorldOf ids w → IsWorldOf ids v → Alike r s w v → Alike r s (after_ruling w (ruling ids r limit w (who.Student s) k)) (after_ruling v (ruling ids r limit v (who.Student s) k))
-alike_afterwards ids r limit w v s k in_w in_v a = (both ids r limit s w v in_w in_v a k).1
+pub alike_afterwards : (ids : List ℕ) (r : RosterValue) (limit : ℕ) (is_halted : Bool) (w v : World) (s : ℕ) (k : Command) → IsWorldOf ids w → IsWorldOf ids v → Alike r s w v → Alike r s (after_ruling w (ruling ids r limit is_halted w (who.Student s) k)) (after_ruling v (ruling ids r limit is_halted v (who.Student s) k))
+alike_afterwards ids r limit is_halted w v s k in_w in_v a = (both ids r limit is_halted s w v in_w in_v a k).1

@@ -223,3 +223,15 @@ module _ (ids : List ℕ) (r : RosterValue) (w : World) (x : Who) where
 
   pub release_means : (id : ℕ) (e : Event) → (verdict ids r w x (command.Release id) ≡ verdicts.Grant e) ↔ ((x ≡ who.Teacher) × MayRelease ids w id e)
   release_means id e = (to_release id e, from_release id e)
+
+  to_report : verdict ids r w x command.Report ≡ verdicts.Show → x ≡ who.Teacher
+  to_report h =
+      let shown = settled-show (clauses ids r w x command.Report) h in
+      let one = need-ok (is_teacher x) _ _ _ shown.1 in
+      teacher_is x one.0
+
+  from_report : x ≡ who.Teacher → verdict ids r w x command.Report ≡ verdicts.Show
+  from_report t = ap settled (need-from (is_teacher x) _ _ _ (ap is_teacher t) refl)
+
+  pub report_means : (verdict ids r w x command.Report ≡ verdicts.Show) ↔ (x ≡ who.Teacher)
+  report_means = (to_report, from_report)

@@ -9,25 +9,29 @@ use Rattle.mml_board.specs.World.{World, size}
 use Rattle.mml_board.specs.Events.{is_legal, done_by}
 use Rattle.mml_policy.specs.declared.command.Command.{Command}
 use Rattle.mml_policy.specs.declared.denial.Denial.{Denial}
-use Rattle.mml_policy.specs.declared.ruling.Ruling.TheVariants.{Full, Granted}
+use Rattle.mml_policy.specs.declared.ruling.Ruling.TheVariants.{Full, Journal, Granted}
 use Rattle.mml_policy.specs.declared.verdict.Leave.{Leave}
-use Rattle.mml_policy.specs.declared.verdict.Leave.TheVariants.{See, Look, Grant}
+use Rattle.mml_policy.specs.declared.verdict.Leave.TheVariants.{See, Look, Report, Grant}
 use Rattle.mml_policy.specs.Verdicts.{clauses}
 use Rattle.mml_policy.specs.Rulings.{ruled, ruling, event_of}
 use Rattle.mml_policy.proofs.VerdictLemmas.{IsFine, fine}
 
-unless_full : (b : Bool) (limit place : ℕ) (e f : Event) (w : World) → nat_le limit place ≡ b → event_of (cond b Full (Granted e (done_by w e))) ≡ Some f → (e ≡ f) × (place < limit)
-unless_full true limit place e f w h k = absurd (grind arith)
-unless_full false limit place e f w h k = ((grind arith), leb-false limit place h)
+unless_full : (b h : Bool) (limit place : ℕ) (e f : Event) (w : World) → nat_le limit place ≡ b → event_of (cond b Full (cond h Journal (Granted e (done_by w e)))) ≡ Some f
+    → (e ≡ f) × (place < limit) × (h ≡ false)
+unless_full true h limit place e f w n k = absurd (grind arith)
+unless_full false true limit place e f w n k = absurd (grind arith)
+unless_full false false limit place e f w n k = ((grind arith), leb-false limit place n, refl)
 
-taken : (ids : List ℕ) (r : RosterValue) (limit : ℕ) (w : World) (s : Result Leave Denial) (e : Event) → IfOk s (IsFine ids r w) → event_of (ruled limit w s) ≡ Some e → (is_legal r w e ≡ true) × (w.place < limit)
-taken ids r limit w (Ok (See i)) e h k = absurd (grind arith)
-taken ids r limit w (Ok (Look i)) e h k = absurd (grind arith)
-taken ids r limit w (Ok (Grant f)) e h k =
-    let found = unless_full (nat_le limit w.place) limit w.place f e w refl k in
-    (subst (λ x. is_legal r w x ≡ true) found.0 h, found.1)
-taken ids r limit w (Err d) e h k = absurd (grind arith)
+taken : (ids : List ℕ) (r : RosterValue) (limit : ℕ) (is_halted : Bool) (w : World) (s : Result Leave Denial) (e : Event) → IfOk s (IsFine ids r w) → event_of (ruled limit is_halted w s) ≡ Some e
+    → (is_legal r w e ≡ true) × (w.place < limit) × (is_halted ≡ false)
+taken ids r limit is_halted w (Ok (See i)) e h k = absurd (grind arith)
+taken ids r limit is_halted w (Ok (Look i)) e h k = absurd (grind arith)
+taken ids r limit is_halted w (Ok Report) e h k = absurd (grind arith)
+taken ids r limit is_halted w (Ok (Grant f)) e h k =
+    let found = unless_full (nat_le limit w.place) is_halted limit w.place f e w refl k in
+    (subst (λ x. is_legal r w x ≡ true) found.0 h, found.1, found.2)
+taken ids r limit is_halted w (Err d) e h k = absurd (grind arith)
 
-pub legal_event : (ids : List ℕ) (r : RosterValue) (limit : ℕ) (w : World) (x : Who) (c : Command) (e : Event) → length ids ≡ size w → event_of (ruling ids r limit w x c) ≡ Some e
-    → (is_legal r w e ≡ true) × (w.place < limit)
-legal_event ids r limit w x c e same k = taken ids r limit w (clauses ids r w x c) e (fine ids r w x same c) k
+pub legal_event : (ids : List ℕ) (r : RosterValue) (limit : ℕ) (is_halted : Bool) (w : World) (x : Who) (c : Command) (e : Event) → length ids ≡ size w
+    → event_of (ruling ids r limit is_halted w x c) ≡ Some e → (is_legal r w e ≡ true) × (w.place < limit) × (is_halted ≡ false)
+legal_event ids r limit is_halted w x c e same k = taken ids r limit is_halted w (clauses ids r w x c) e (fine ids r w x same c) k

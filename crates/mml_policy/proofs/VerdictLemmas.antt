@@ -17,7 +17,7 @@ use Rattle.mml_policy.specs.declared.denial.Denial.TheVariants.{Hidden, NotOwner
 use Rattle.mml_policy.specs.Visible.{is_teacher, is_visible}
 use Rattle.mml_policy.specs.declared.verdict.Verdict.TheVariants as verdicts
 use Rattle.mml_policy.specs.declared.verdict.Leave.{Leave}
-use Rattle.mml_policy.specs.declared.verdict.Leave.TheVariants.{See, Look, Grant}
+use Rattle.mml_policy.specs.declared.verdict.Leave.TheVariants.{See, Look, Report, Grant}
 use Rattle.mml_policy.specs.Clauses.{node, student, rule_of, pointer}
 use Rattle.mml_policy.specs.Verdicts.{clauses, settled, verdict}
 use Rattle.mml_ids.proofs.GivesLemmas.{bind-if, need-if}
@@ -26,18 +26,21 @@ use Rattle.mml_policy.proofs.ClausesLemmas.{node_there, student-ok}
 pub settled-grant : (s : Result Leave Denial) (e : Event) → settled s ≡ verdicts.Grant e → s ≡ Ok (Grant e)
 settled-grant (Ok (See i)) e h = absurd (grind arith)
 settled-grant (Ok (Look i)) e h = absurd (grind arith)
+settled-grant (Ok Report) e h = absurd (grind arith)
 settled-grant (Ok (Grant f)) e h = grind arith
 settled-grant (Err d) e h = absurd (grind arith)
 
 pub settled-deny : (s : Result Leave Denial) (d : Denial) → settled s ≡ verdicts.Deny d → s ≡ Err d
 settled-deny (Ok (See i)) d h = absurd (grind arith)
 settled-deny (Ok (Look i)) d h = absurd (grind arith)
+settled-deny (Ok Report) d h = absurd (grind arith)
 settled-deny (Ok (Grant e)) d h = absurd (grind arith)
 settled-deny (Err f) d h = grind arith
 
 abbrev pub IsFine : List ℕ → RosterValue → World → Leave → Type 0
 IsFine ids r w (See i) = i < length ids
 IsFine ids r w (Look i) = i < length ids
+IsFine ids r w Report = Unit {0}
 IsFine ids r w (Grant e) = is_legal r w e ≡ true
 
 -- a rank of the identifiers is a node of the world
@@ -92,6 +95,7 @@ module _ (ids : List ℕ) (r : RosterValue) (w : World) (x : Who) (same : length
       need-if good (is_teacher x) _ _ (λ _.
       bind-if good (node ids id NoNode) _ (λ i there.
       need-if good (is_some (chosen_at w.chosen i)) _ _ (λ is. is)))
+  fine command.Report = need-if good (is_teacher x) _ _ (λ _. tt)
 
   pub granted_legal : (c : Command) (e : Event) → verdict ids r w x c ≡ verdicts.Grant e → is_legal r w e ≡ true
   granted_legal c e h = IfOk-at_ok good (settled-grant (clauses ids r w x c) e h) (fine c)

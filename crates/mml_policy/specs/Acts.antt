@@ -13,3 +13,4 @@ is_act (command.Fault node p m) = true
 is_act (command.Link a b) = true
 is_act (command.Cut a b) = true
 is_act (command.Release node) = true
+is_act command.Report = false

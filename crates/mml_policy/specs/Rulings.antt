@@ -9,48 +9,54 @@ use Rattle.mml_board.specs.Events.{after, done_by}
 use Rattle.mml_policy.specs.declared.command.Command.{Command}
 use Rattle.mml_policy.specs.declared.denial.Denial.{Denial}
 use Rattle.mml_policy.specs.declared.ruling.Ruling.{Ruling}
-use Rattle.mml_policy.specs.declared.ruling.Ruling.TheVariants.{Denied, Seen, Looked, Full, Granted}
+use Rattle.mml_policy.specs.declared.ruling.Ruling.TheVariants.{Denied, Seen, Looked, Reported, Full, Journal, Granted}
 use Rattle.mml_policy.specs.declared.verdict.Leave.{Leave}
-use Rattle.mml_policy.specs.declared.verdict.Leave.TheVariants.{See, Look, Grant}
+use Rattle.mml_policy.specs.declared.verdict.Leave.TheVariants.{See, Look, Report, Grant}
 use Rattle.mml_policy.specs.Verdicts.{clauses}
 use Rattle.mml_policy.specs.Shown.{see_of, look_of}
 
--- what comes of a leave: as many events as the limit says are granted, and then no more
-abbrev pub told : ℕ → World → Leave → Ruling
-told limit w (See i) = Seen (see_of w i)
-told limit w (Look i) = Looked (look_of w i)
-told limit w (Grant e) = if nat_le limit w.place then Full else Granted e (done_by w e)
+-- what comes of a leave: as many events as the limit says are granted, and then no more; and none where the journal is halted
+abbrev pub told : ℕ → Bool → World → Leave → Ruling
+told limit is_halted w (See i) = Seen (see_of w i)
+told limit is_halted w (Look i) = Looked (look_of w i)
+told limit is_halted w Report = Reported
+told limit is_halted w (Grant e) = if nat_le limit w.place then Full else (if is_halted then Journal else Granted e (done_by w e))
 
-abbrev pub ruled : ℕ → World → Result Leave Denial → Ruling
-ruled limit w (Ok l) = told limit w l
-ruled limit w (Err d) = Denied d
+abbrev pub ruled : ℕ → Bool → World → Result Leave Denial → Ruling
+ruled limit is_halted w (Ok l) = told limit is_halted w l
+ruled limit is_halted w (Err d) = Denied d
 
 -- the denial of the first clause that doesn't hold, or what is shown, or the event that takes place with what it does
-abbrev pub ruling : List ℕ → RosterValue → ℕ → World → Who → Command → Ruling
-ruling ids r limit w x c = ruled limit w (clauses ids r w x c)
+abbrev pub ruling : List ℕ → RosterValue → ℕ → Bool → World → Who → Command → Ruling
+ruling ids r limit is_halted w x c = ruled limit is_halted w (clauses ids r w x c)
 
 -- the event that takes place, if one does
 abbrev pub event_of : Ruling → Option Event
 event_of (Denied d) = None
 event_of (Seen s) = None
 event_of (Looked l) = None
+event_of Reported = None
 event_of Full = None
+event_of Journal = None
 event_of (Granted e d) = Some e
 
 -- the world after a ruling
 abbrev pub after_ruling : World → Ruling → World
 after_ruling w r = option_map_or (after w) (event_of r) w
 
--- only a look takes memory
+-- only a look takes memory here
 abbrev pub is_look : Ruling → Bool
 is_look (Denied d) = false
 is_look (Seen s) = false
 is_look (Looked l) = true
+is_look Reported = false
 is_look Full = false
+is_look Journal = false
 is_look (Granted e d) = false
 
 -- the node to be shown is there
 abbrev pub IsThere : ℕ → Leave → Type 0
 IsThere size (See i) = i < size
 IsThere size (Look i) = i < size
+IsThere size Report = Unit {0}
 IsThere size (Grant e) = Unit {0}

@@ -14,7 +14,7 @@ use Rattle.mml_policy.specs.declared.denial.Denial.TheVariants.{Hidden, NotOwner
 use Rattle.mml_policy.specs.declared.verdict.Verdict.{Verdict}
 use Rattle.mml_policy.specs.declared.verdict.Verdict.TheVariants as verdicts
 use Rattle.mml_policy.specs.declared.verdict.Leave.{Leave}
-use Rattle.mml_policy.specs.declared.verdict.Leave.TheVariants.{See, Look, Grant}
+use Rattle.mml_policy.specs.declared.verdict.Leave.TheVariants.{See, Look, Report, Grant}
 use Rattle.mml_policy.specs.Visible.{is_teacher, is_visible}
 use Rattle.mml_policy.specs.Clauses.{node, student, rule_of, pointer}
 
@@ -65,10 +65,14 @@ clauses ids r w x (command.Release id) = do
   i ← node ids id NoNode
   need (is_some (chosen_at w.chosen i)) NotChosen
   Ok (Grant (event.Release i))
+clauses ids r w x command.Report = do
+  need (is_teacher x) NotTeacher
+  Ok Report
 
 abbrev pub settled : Result Leave Denial → Verdict
 settled (Ok (See i)) = verdicts.Show
 settled (Ok (Look i)) = verdicts.Show
+settled (Ok Report) = verdicts.Show
 settled (Ok (Grant e)) = verdicts.Grant e
 settled (Err d) = verdicts.Deny d
 

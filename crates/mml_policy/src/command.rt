@@ -20,6 +20,8 @@ pub enum Command {
     Cut { a: u64, b: u64 },
     /// To have the chosen move of a node dropped.
     Release { node: u64 },
+    /// To be told of all pairs, free and privileged nodes and open links.
+    Report,
 }
 
 /// A rule as it is asked for: the partner of a marriage is named by its identifier.
@@ -37,7 +39,7 @@ impl Command {
         ensures { result ≡ is_act self.now }
     {
         match self {
-            Command::See { .. } | Command::Look { .. } => false,
+            Command::See { .. } | Command::Look { .. } | Command::Report => false,
             Command::Move { .. }
             | Command::Close
             | Command::Fault { .. }

@@ -1,5 +1,5 @@
 //! Laws of the policy. Each is the clause of a function that does nothing.
-ghost use Rattle.std.specs.Prelude.{◌≡◌, ◌<◌, ◌↔◌, ◌⊎◌, ℕ, Bool, List, Option, Some, true, length};
+ghost use Rattle.std.specs.Prelude.{◌≡◌, ◌<◌, ◌↔◌, ◌⊎◌, ℕ, Bool, List, Option, Some, true, false, length};
 ghost use Rattle.mml_rules.specs.declared.rule.Rule.{Rule};
 ghost use Rattle.mml_rules.specs.Configuration.{Configuration, IsLawful};
 ghost use Rattle.mml_lab.specs.declared.who.Who.{Who};
@@ -118,18 +118,27 @@ pub fn legal_events_are_granted()
 /// What a student is answered depends on nothing that is hidden from the student: in worlds that are
 /// alike for a student each command has the same ruling, and the worlds afterwards are alike again.
 pub fn hidden_values_change_no_ruling()
-    ensures ruling { (ids : List ℕ) (r : RosterValue) (limit : ℕ) (w v : World) (s : ℕ)
+    ensures ruling { (ids : List ℕ) (r : RosterValue) (limit : ℕ) (is_halted : Bool)
+        (w v : World) (s : ℕ)
         (c : Command) → IsWorldOf ids w → IsWorldOf ids v → Alike r s w v →
-        ruling ids r limit w (who.Student s) c ≡ ruling ids r limit v (who.Student s) c }
-    ensures afterwards { (ids : List ℕ) (r : RosterValue) (limit : ℕ) (w v : World) (s : ℕ)
+        ruling ids r limit is_halted w (who.Student s) c ≡ ruling ids r limit is_halted v (who.Student s) c }
+    ensures afterwards { (ids : List ℕ) (r : RosterValue) (limit : ℕ) (is_halted : Bool)
+        (w v : World) (s : ℕ)
         (c : Command) → IsWorldOf ids w → IsWorldOf ids v → Alike r s w v →
-        Alike r s (after_ruling w (ruling ids r limit w (who.Student s) c))
-        (after_ruling v (ruling ids r limit v (who.Student s) c)) }
+        Alike r s (after_ruling w (ruling ids r limit is_halted w (who.Student s) c))
+        (after_ruling v (ruling ids r limit is_halted v (who.Student s) c)) }
 {}
 
-/// An event takes place only where it is legal and the limit of events isn't reached.
+/// A report is told exactly to the teacher.
+pub fn a_report_takes_the_teacher()
+    ensures { (ids : List ℕ) (r : RosterValue) (w : World) (x : Who) →
+        (verdict ids r w x command.Report ≡ verdicts.Show) ↔ (x ≡ who.Teacher) }
+{}
+
+/// An event takes place only where it is legal, the limit of events isn't reached and the journal
+/// isn't halted.
 pub fn events_that_take_place_are_legal()
-    ensures { (ids : List ℕ) (r : RosterValue) (limit : ℕ) (w : World) (x : Who) (c : Command)
-        (e : Event) → length ids ≡ size w → event_of (ruling ids r limit w x c) ≡ Some e →
-        (is_legal r w e ≡ true) × (w.place < limit) }
+    ensures { (ids : List ℕ) (r : RosterValue) (limit : ℕ) (is_halted : Bool) (w : World) (x : Who)
+        (c : Command) (e : Event) → length ids ≡ size w → event_of (ruling ids r limit is_halted w x c) ≡ Some e →
+        (is_legal r w e ≡ true) × (w.place < limit) × (is_halted ≡ false) }
 {}

@@ -21,8 +21,12 @@ pub enum Ruling {
     Seen(See),
     /// What a node shows to its owners and the teacher.
     Looked(Look),
+    /// The report on the board's configuration is told.
+    Reported,
     /// All clauses hold, and no event may follow any longer.
     Full,
+    /// All clauses hold and an event may follow, but the journal takes no line any longer.
+    Journal,
     /// The event takes place, and does this.
     Granted { event: Event, done: Done },
 }
@@ -34,51 +38,68 @@ impl Ruling {
     {
         match self {
             Ruling::Granted { event, .. } => Some(*event),
-            Ruling::Denied(_) | Ruling::Seen(_) | Ruling::Looked(_) | Ruling::Full => None,
+            Ruling::Denied(_)
+            | Ruling::Seen(_)
+            | Ruling::Looked(_)
+            | Ruling::Reported
+            | Ruling::Full
+            | Ruling::Journal => None,
         }
     }
 }
 
-/// Judges a command, and shows what it asks. Board, identifiers and roster are of one lab, and no
-/// event is granted where the limit of events is reached. Only a look takes memory.
+/// Judges a command, and shows what it asks; the value of a report is left to who answers. Board,
+/// identifiers and roster are of one lab, and no event is granted where the limit of events is
+/// reached, nor where the journal is halted. Only a look takes memory.
 pub fn rule_on(
     alloc: Global,
     board: &Board,
     ids: &IdTable,
     roster: &Roster,
     limit: u64,
+    is_halted: bool,
     who: Who,
     command: &Command,
 ) -> Result<Ruling, Memory>
     requires { length ids.now ≡ length board.now.network.registers }
     ensures ruling { IfOk result (λ r. r ≡
-        ruling ids.now roster.now limit board.now who command.now) }
+        ruling ids.now roster.now limit is_halted board.now who command.now) }
     ensures memory { OnErr result
-        (is_look (ruling ids.now roster.now limit board.now who command.now) ≡ true) }
+        (is_look (ruling ids.now roster.now limit is_halted board.now who command.now) ≡ true) }
 {
     match clauses(board, ids, roster, who, command) {
-        Ok(leave) => rule(alloc, board, limit, leave),
+        Ok(leave) => rule(alloc, board, limit, is_halted, leave),
         Err(denial) => Ok(Ruling::Denied(denial)),
     }
 }
 
-fn rule(alloc: Global, board: &Board, limit: u64, leave: Leave) -> Result<Ruling, Memory>
+fn rule(
+    alloc: Global,
+    board: &Board,
+    limit: u64,
+    is_halted: bool,
+    leave: Leave,
+) -> Result<Ruling, Memory>
     requires { IsThere (length board.now.network.registers) leave }
-    ensures ruling { IfOk result (λ r. r ≡ told limit board.now leave) }
-    ensures memory { OnErr result (is_look (told limit board.now leave) ≡ true) }
+    ensures ruling { IfOk result (λ r. r ≡ told limit is_halted board.now leave) }
+    ensures memory { OnErr result (is_look (told limit is_halted board.now leave) ≡ true) }
 {
     match leave {
         Leave::See(node) => Ok(Ruling::Seen(see_of(board, node))),
         Leave::Look(node) => Ok(Ruling::Looked(look_of(alloc, board, node)?)),
-        Leave::Grant(event) => Ok(grant(board, limit, event)),
+        Leave::Report => Ok(Ruling::Reported),
+        Leave::Grant(event) => Ok(grant(board, limit, is_halted, event)),
     }
 }
 
-fn grant(board: &Board, limit: u64, event: Event) -> Ruling
-    ensures { result ≡ told limit board.now (leaves.Grant event) }
+fn grant(board: &Board, limit: u64, is_halted: bool, event: Event) -> Ruling
+    ensures { result ≡ told limit is_halted board.now (leaves.Grant event) }
 {
     if limit <= board.place() {
         return Ruling::Full;
+    }
+    if is_halted {
+        return Ruling::Journal;
     }
     let done = board.done(&event);
     Ruling::Granted { event, done }

@@ -3,3 +3,4 @@ pub mod StepLemmas
 pub mod WalkLemmas
 pub mod ReportsLemmas
 pub mod RunsLemmas
+pub mod NamedLemmas

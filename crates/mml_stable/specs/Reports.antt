@@ -1,5 +1,5 @@
 -- What a report tells of a world.
-use Rattle.std.specs.Prelude.{ℕ, zero, suc, Bool, true, false, not, ◌&&◌, nat_lt, Option, None, Some, List, [], ◌∷◌, ◌++◌}
+use Rattle.std.specs.Prelude.{ℕ, ◌<◌, All, zero, suc, Bool, true, false, not, ◌&&◌, nat_lt, Option, None, Some, List, [], ◌∷◌, ◌++◌}
 use Rattle.mml_ids.specs.Search.{some_below}
 use Rattle.mml_rules.specs.declared.rule.Kind.{Kind}
 use Rattle.mml_rules.specs.Configuration.{Configuration, holds}
@@ -67,3 +67,18 @@ report_of w = record {
   open_links = open_links (configuration w);
   stable = is_stable (configuration w);
 }
+
+-- two nodes below n
+abbrev pub IsPairOf : ℕ → ℕ × ℕ → Type 0
+IsPairOf n p = (p.0 < n) × (p.1 < n)
+
+-- ends and witness are below n
+abbrev pub IsOpenLinkOf : ℕ → OpenLink → Type 0
+IsOpenLinkOf n l = (l.a < n) × (l.b < n) × (l.node < n)
+
+-- each node that is named is below n
+pub record NamesNodes (n : ℕ) (r : Report) : Type 0 where
+  pub pairs : All (IsPairOf n) r.pairs
+  pub free : All (λ i. i < n) r.free
+  pub privileged : All (λ p. p.0 < n) r.privileged
+  pub links : All (IsOpenLinkOf n) r.open_links

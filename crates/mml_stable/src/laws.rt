@@ -8,9 +8,9 @@ ghost use Rattle.mml_rules.specs.Matching.{IsPair, IsMatching, IsMaximal, IsStab
 ghost use Rattle.mml_rules.specs.Meaning.{IsMarried};
 ghost use Rattle.mml_lab.specs.Rosters.{RosterValue};
 ghost use Rattle.mml_board.specs.declared.event.Event.{Event};
-ghost use Rattle.mml_board.specs.World.{World, IsWorld};
+ghost use Rattle.mml_board.specs.World.{World, IsWorld, size};
 ghost use Rattle.mml_board.specs.Runs.{is_legal_list};
-ghost use Rattle.mml_stable.specs.Reports.{is_stable};
+ghost use Rattle.mml_stable.specs.Reports.{NamesNodes, is_stable, report_of};
 ghost use Rattle.mml_stable.specs.Runs.{is_of_step, changes_of_m};
 ghost use Rattle.mml_stable.specs.Walk.{top, LeadsTo};
 
@@ -44,4 +44,9 @@ pub fn walk_rises()
         (i < j) × (c.m j ≡ false) }
     ensures ends { (c : Configuration) (i : ℕ) → IsLawful c → i < c.size →
         (is_married c i ≡ false) ⊎ (c.m i ≡ false) → LeadsTo c i (top c i) }
+{}
+
+/// Each node that a report names is a node of its world.
+pub fn reports_name_nodes()
+    ensures { (w : World) → IsWorld w → NamesNodes (size w) (report_of w) }
 {}

@@ -1,0 +1,13 @@
+use Rattle.std.proofs.Common.{◌++◌, ◌∙◌, ap, arith}
+use Rattle.mml_codec.specs.Replies.{open_link_text}
+use Rattle.mml_codec.proofs.SeparatedLemmas.{comma_more, text_more}
+use Rattle.mml_codec.proofs.reported.put_links.Goals as goal
+
+pub loop-one-preserved : goal.loop-one-preserved
+loop-one-preserved c = record {
+  text = text_more (open_link_text c.args.ids.now) c.args.links.now c.loop-one.one-index _ c.args.out.now.items c.loop-one.out.items c.put.new.out.items c.put_link.new.out.items c.loop-one.comma.now
+      c.loop-one-test.true c.loop-one.invariant.comma c.loop-one.invariant.text c.in_ok-put.ensures.text
+      (c.in_ok-put_link.ensures.text ∙ ap (λ x. c.put.new.out.items ++ open_link_text c.args.ids.now x) c.one-item.is);
+  comma = comma_more (open_link_text c.args.ids.now) c.args.links.now c.loop-one.one-index c.one-item.result c.loop-one-test.true;
+  capacity = omega (arith, c.loop-one.invariant.capacity, c.put.ensures.capacity, c.put_link.ensures.capacity);
+}
