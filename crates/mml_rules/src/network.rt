@@ -60,29 +60,16 @@ impl Network {
         }
     }
 
-    /// Copies the rows of neighbours and the registers.
-    pub fn copy_of(
-        alloc: Global,
-        neighbours: &[NodeSet],
-        registers: &[Regs],
-    ) -> Result<Network, Memory>
-        requires { IsNetwork (record { neighbours = neighbours.now; registers = registers.now }) }
-        ensures { IfOk result
-            (λ network. network ≡ record { neighbours = neighbours.now; registers = registers.now }) }
-    {
-        let neighbours = Vec::from_slice(alloc, neighbours)?;
-        let registers = Vec::from_slice(alloc, registers)?;
-        Ok(Network {
-            neighbours,
-            registers,
-        })
-    }
-
     /// An equal network of its own.
     pub fn try_copy(&self, alloc: Global) -> Result<Network, Memory>
         ensures { IfOk result (λ network. network ≡ self.now) }
     {
-        Network::copy_of(alloc, &self.neighbours, &self.registers)
+        let neighbours = Vec::from_slice(alloc, &self.neighbours)?;
+        let registers = Vec::from_slice(alloc, &self.registers)?;
+        Ok(Network {
+            neighbours,
+            registers,
+        })
     }
 
     /// The nodes linked to a node; none where it is past the last one.
