@@ -5,8 +5,10 @@ mod board;
 mod done;
 mod event;
 mod granted;
+mod indexed_network;
 pub mod laws;
 mod monitor;
+mod node_sets;
 
 pub use board::Board;
 pub use done::Done;

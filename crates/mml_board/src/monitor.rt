@@ -1,14 +1,16 @@
 //! The privilege monitor: which nodes are privileged, kept up to date where something changed.
-ghost use Rattle.std.specs.Prelude.{◌≡◌, ℕ, ◌<◌, ◌==◌, true, length, if◌then◌else◌};
+ghost use Rattle.std.specs.Prelude.{◌≡◌, ℕ, ◌<◌, true, length, if◌then◌else◌};
 ghost use Rattle.std.specs.FinSet as set;
 ghost use Rattle.mml_rules.specs.Network.{configuration_of};
 ghost use Rattle.mml_board.specs.inside.Monitor.{is_privileged_node, privileged_nodes, IsUntouched};
 
+use crate::indexed_network::IndexedNetwork;
+use crate::node_sets::{except, put};
 use mml_ids::{NodeSet, Rank};
-use mml_rules::{Network, Scene, enabled};
+use mml_rules::{Scene, enabled};
 
 /// The privileged nodes, computed from scratch.
-pub fn privileged_nodes(network: &Network) -> NodeSet
+pub fn privileged_nodes(network: &IndexedNetwork) -> NodeSet
     ensures { result ≡ privileged_nodes (configuration_of network.now) }
 {
     let mut nodes = NodeSet::empty();
@@ -22,7 +24,7 @@ pub fn privileged_nodes(network: &Network) -> NodeSet
 }
 
 /// The privileged nodes after a change: the changed nodes and their neighbours are looked at anew.
-pub fn refresh(network: &Network, privileged: NodeSet, changed: NodeSet) -> NodeSet
+pub fn refresh(network: &IndexedNetwork, privileged: NodeSet, changed: NodeSet) -> NodeSet
     requires changed { (j : ℕ) → set.contains changed j ≡ true → j < length network.now.registers }
     requires others { (j : ℕ) → IsUntouched (configuration_of network.now) changed j →
         set.contains privileged j ≡ is_privileged_node (configuration_of network.now) j }
@@ -39,7 +41,7 @@ pub fn refresh(network: &Network, privileged: NodeSet, changed: NodeSet) -> Node
     privileged
 }
 
-fn refresh_each(network: &Network, privileged: NodeSet, nodes: NodeSet) -> NodeSet
+fn refresh_each(network: &IndexedNetwork, privileged: NodeSet, nodes: NodeSet) -> NodeSet
     requires { (j : ℕ) → set.contains nodes j ≡ true → j < length network.now.registers }
     ensures { (j : ℕ) → set.contains result j ≡
         (if set.contains nodes j then is_privileged_node (configuration_of network.now) j
@@ -53,23 +55,4 @@ fn refresh_each(network: &Network, privileged: NodeSet, nodes: NodeSet) -> NodeS
         left = except(left, node);
     }
     privileged
-}
-
-/// The set with the rank in it or not, and the others as they are.
-fn put(nodes: NodeSet, node: Rank, is_in: bool) -> NodeSet
-    ensures { (j : ℕ) → set.contains result j ≡
-        (if j == node then is_in else set.contains nodes j) }
-{
-    if is_in {
-        nodes.with(node)
-    } else {
-        except(nodes, node)
-    }
-}
-
-/// The set without a rank.
-pub fn except(nodes: NodeSet, node: Rank) -> NodeSet
-    ensures { result ≡ set.remove nodes node }
-{
-    nodes.without(NodeSet::empty().with(node))
 }

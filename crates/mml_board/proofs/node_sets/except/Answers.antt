@@ -1,7 +1,7 @@
 use Rattle.std.proofs.Common.{ap, ◌∙◌}
 use Rattle.std.specs.FinSet as sets
 use Rattle.mml_rules.proofs.NetworkLemmas.{without_one}
-use Rattle.mml_board.proofs.monitor.except.Goals as goal
+use Rattle.mml_board.proofs.node_sets.except.Goals as goal
 
 pub returns : goal.returns
 returns c = c.without.ensures ∙ ap (λ t. sets.difference c.args.nodes t) (c.with.ensures ∙ ap (λ t. sets.insert t c.args.node) c.empty.ensures) ∙ without_one c.args.nodes c.args.node

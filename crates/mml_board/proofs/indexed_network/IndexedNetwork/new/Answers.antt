@@ -1,0 +1,40 @@
+use Rattle.std.proofs.Common.{◌≡◌, ◌<◌, ℕ, cond, eqb, ap, sym, ◌∙◌, subst, arith, rules, length, is_none}
+use Rattle.std.specs.Prelude.{replicate}
+use Rattle.std.specs.FinSet as sets
+use Rattle.std.specs.Ordering.{nat_cmp}
+use Rattle.mml_rules.specs.Network.{Network, registers_at, configuration_of}
+use Rattle.mml_rules.proofs.RulesLemmas.{pointee_in}
+use Rattle.mml_board.specs.inside.Rows.{with_suitor, AreRows}
+use Rattle.mml_board.proofs.RowsLemmas.{no_rows, next_rows, none_told, written_back, length-with_suitor}
+use Rattle.mml_board.proofs.indexed_network.IndexedNetwork.new.Goals as goal
+
+pub loop-index-init : goal.loop-index-init
+loop-index-init c =
+    let n : Network = c.in_ok-network.network in
+    let empty : c.in_ok-suitors.suitors.items ≡ replicate (length n.registers) (sets.empty {R = nat_cmp}) = search rules in
+    no_rows n.registers c.in_ok-suitors.suitors.items _ _ empty c.empty-free.ensures c.empty-believing.ensures
+
+pub add_suitor-requires : goal.add_suitor-requires
+add_suitor-requires c = λ i e.
+    let l = pointee_in (configuration_of c.in_ok-network.network) c.at-node.result i c.size-index-end.ensures.lawful (sym c.p.ensures ∙ e) in
+    subst (λ n. i < n) (sym (ap length c.deref_mut.ensures.value ∙ c.loop-index.invariant.count)) l
+
+pub loop-index-preserved : goal.loop-index-preserved
+loop-index-preserved c =
+    let n : Network = c.in_ok-network.network in
+    let k : ℕ = c.loop-index.index in
+    let same : c.at-node.result ≡ k = c.at-node.ensures in
+    let p = c.p.ensures ∙ ap (λ x. (registers_at n.registers x).p) same in
+    let added : length c.add_suitor.new.suitors ≡ length c.loop-index.suitors.items = ap length c.add_suitor.ensures ∙ length-with_suitor c.deref_mut.result.now c.p.result c.at-node.result ∙ ap length c.deref_mut.ensures.value in
+    next_rows n.registers k c.p.result c.m.result c.loop-index.suitors.items _ c.loop-index.free c.loop-index.believing _ _ c.loop-index.invariant
+    (λ i e. pointee_in (configuration_of n) c.at-node.result i c.size-index-end.ensures.lawful (sym c.p.ensures ∙ e))
+    p (c.m.ensures ∙ ap (λ x. (registers_at n.registers x).m) same)
+    (written_back c.loop-index.suitors.len c.add_suitor.new.suitors _ (omega (arith, added, c.loop-index.suitors.ok.0)) ∙ c.add_suitor.ensures ∙ (λ z. with_suitor (c.deref_mut.ensures.value z) c.p.result (same z)))
+    (λ j. c.put-free.ensures j ∙ (λ z. cond (eqb j (same z)) (none_told c.p-in-loop-index.result c.is_none.result c.is_none.ensures z) (sets.contains c.loop-index.free j)) ∙ ap (λ o. cond (eqb j k) (is_none o) (sets.contains c.loop-index.free j)) (c.p-in-loop-index.ensures ∙ sym c.p.ensures))
+    (λ j. c.put-believing.ensures j ∙ ap (λ x. cond (eqb j x) c.m.result (sets.contains c.loop-index.believing j)) same)
+
+pub invariant_of-result : goal.invariant_of-result
+invariant_of-result c =
+    let n : Network = c.in_ok-network.network in
+    let all : c.loop-index.index ≡ length n.registers = omega (arith, c.size-index-end.ensures.size) in
+    subst (λ k. AreRows n.registers k c.loop-index.suitors.items c.loop-index.free c.loop-index.believing) all c.loop-index.invariant

@@ -1,0 +1,25 @@
+-- The rows of bits that stand beside a network.
+use Rattle.std.specs.Prelude.{◌≡◌, ℕ, ◌<◌, ◌&&◌, nat_lt, is_none, Option, None, Some, List, length}
+use Rattle.std.specs.FinSet as set
+use Rattle.std.specs.FinSet.{FinSet}
+use Rattle.std.specs.Ordering.{nat_cmp}
+use Rattle.mml_rules.specs.declared.registers.Regs.{Regs}
+use Rattle.mml_rules.specs.Configuration.{holds}
+use Rattle.mml_rules.specs.Network.{neighbours_at, registers_at, with_neighbour, without_neighbour}
+
+-- node among those that point at p, if p is a node
+abbrev pub with_suitor : List (FinSet nat_cmp) → Option ℕ → ℕ → List (FinSet nat_cmp)
+with_suitor suitors None node = suitors
+with_suitor suitors (Some i) node = with_neighbour suitors i node
+
+-- node not among those that point at p, if p is a node
+abbrev pub without_suitor : List (FinSet nat_cmp) → Option ℕ → ℕ → List (FinSet nat_cmp)
+without_suitor suitors None node = suitors
+without_suitor suitors (Some i) node = without_neighbour suitors i node
+
+-- the rows of the ranks below n: for each node those that point at it, those that point at nobody, and those whose m is true
+pub record AreRows (registers : List Regs) (n : ℕ) (suitors : List (FinSet nat_cmp)) (free believing : FinSet nat_cmp) : Type 0 where
+  pub count : length suitors ≡ length registers
+  pub pointing : (i j : ℕ) → i < length registers → set.contains (neighbours_at suitors i) j ≡ (nat_lt j n && holds (registers_at registers j).p i)
+  pub null : (j : ℕ) → set.contains free j ≡ (nat_lt j n && is_none (registers_at registers j).p)
+  pub true_m : (j : ℕ) → set.contains believing j ≡ (nat_lt j n && (registers_at registers j).m)

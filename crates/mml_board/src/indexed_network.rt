@@ -1,0 +1,201 @@
+//! A network with rows of bits beside it, so that a look at a node takes a few operations on words.
+ghost use Rattle.std.specs.Prelude.{◌≡◌, ◌≢◌, ℕ, ◌<◌, length, true, Some, IfOk};
+ghost use Rattle.std.specs.FinSet as set;
+ghost use Rattle.mml_rules.specs.Network.{neighbours_at, registers_at, configuration_of, unpointed, with_registers, with_link, without_link};
+ghost use Rattle.mml_board.specs.inside.Rows.{with_suitor, without_suitor};
+
+use crate::node_sets::{except, is_empty, put};
+use mml_ids::{Memory, NodeSet, Rank};
+use mml_rules::{Network, Regs, Scene};
+use std::alloc::Global;
+use std::marker::Model;
+
+/// A network. Contracts see it alone; the rows only make looks at it quick.
+#[derive(Debug, Drop)]
+pub struct IndexedNetwork {
+    network: Network,
+    // by rank: the nodes that point at the node
+    suitors: Vec<NodeSet>,
+    // the nodes that point at nobody
+    free: NodeSet,
+    // the nodes whose m is true
+    believing: NodeSet,
+}
+
+impl Model for IndexedNetwork {
+    ghost use Rattle.std.specs.Prelude.{length};
+    ghost use Rattle.std.specs.Coded.{codes};
+    ghost use Rattle.mml_ids.specs.Sets.{node_set_code};
+    ghost use Rattle.mml_rules.specs.Network.{Network};
+    ghost use Rattle.mml_board.specs.inside.Rows.{AreRows};
+
+    ghost Value = { Network };
+
+    ghost coded = { Prim.hlevel (codes, node_set_code) };
+
+    ghost view = { λ a. a.network };
+
+    ghost invariant = { λ a. AreRows a.network.registers (length a.network.registers) a.suitors.items a.free a.believing };
+}
+
+impl Scene for IndexedNetwork {
+    ghost configuration = { configuration_of };
+
+    fn size(&self) -> u64 {
+        self.network.size()
+    }
+
+    fn linked(&self, a: Rank, b: Rank) -> bool {
+        self.network.linked(a, b)
+    }
+
+    fn p(&self, node: Rank) -> Option<Rank> {
+        self.network.p(node)
+    }
+
+    fn m(&self, node: Rank) -> bool {
+        self.network.m(node)
+    }
+
+    fn has_suitor(&self, node: Rank) -> bool {
+        let _size = self.network.size();
+        !is_empty(self.suitors[node.index() as usize])
+    }
+
+    fn greatest_candidate(&self, node: Rank) -> Option<Rank> {
+        let _size = self.network.size();
+        let courted = self.network.neighbours(node).both(self.free);
+        let candidates = courted.without(self.believing).both(NodeSet::above(node));
+        candidates.greatest()
+    }
+}
+
+impl IndexedNetwork {
+    /// A copy of the network, with its rows.
+    pub fn new(alloc: Global, network: &Network) -> Result<IndexedNetwork, Memory>
+        ensures { IfOk result (λ indexed. indexed ≡ network.now) }
+    {
+        let network = network.try_copy(alloc)?;
+        let mut suitors = vec![in alloc; NodeSet::empty(); network.size() as usize]?;
+        let mut free = NodeSet::empty();
+        let mut believing = NodeSet::empty();
+        for index in 0..network.size() {
+            let node = Rank::at(index);
+            add_suitor(&mut suitors, network.p(node), node);
+            free = put(free, node, network.p(node).is_none());
+            believing = put(believing, node, network.m(node));
+        }
+        Ok(IndexedNetwork {
+            network,
+            suitors,
+            free,
+            believing,
+        })
+    }
+
+    /// An equal network with rows of its own.
+    pub fn try_copy(&self, alloc: Global) -> Result<IndexedNetwork, Memory>
+        ensures { IfOk result (λ indexed. indexed ≡ self.now) }
+    {
+        let network = self.network.try_copy(alloc)?;
+        let suitors = Vec::from_slice(alloc, &self.suitors)?;
+        Ok(IndexedNetwork {
+            network,
+            suitors,
+            free: self.free,
+            believing: self.believing,
+        })
+    }
+
+    /// The nodes linked to a node; none where it is past the last one.
+    pub fn neighbours(&self, node: Rank) -> NodeSet
+        ensures { result ≡ neighbours_at self.now.neighbours node }
+    {
+        self.network.neighbours(node)
+    }
+
+    /// A node's registers.
+    pub fn registers(&self, node: Rank) -> Regs
+        requires { node < length self.now.registers }
+        ensures { result ≡ registers_at self.now.registers node }
+    {
+        self.network.registers(node)
+    }
+
+    /// Writes a node's registers, of which p is null or a neighbour.
+    pub fn set_registers(&mut self, node: Rank, registers: Regs)
+        requires node { node < length self.old.registers }
+        requires linked { (j : ℕ) → registers.p ≡ Some j →
+            set.contains (neighbours_at self.old.neighbours node) j ≡ true }
+        ensures { self.new ≡ with_registers self.old node registers }
+    {
+        let _size = self.network.size();
+        let registers = &registers;
+        remove_suitor(&mut self.suitors, self.network.p(node), node);
+        add_suitor(&mut self.suitors, registers.p, node);
+        self.free = put(self.free, node, registers.p.is_none());
+        self.believing = put(self.believing, node, registers.m);
+        self.network.set_registers(node, *registers);
+    }
+
+    /// Links two different nodes.
+    pub fn link(&mut self, a: Rank, b: Rank)
+        requires a { a < length self.old.registers }
+        requires b { b < length self.old.registers }
+        requires apart { a ≢ b }
+        ensures { self.new ≡ with_link self.old a b }
+    {
+        self.network.link(a, b);
+    }
+
+    /// Takes the link between two nodes away, and the pointers over it.
+    pub fn cut(&mut self, a: Rank, b: Rank)
+        requires a { a < length self.old.registers }
+        requires b { b < length self.old.registers }
+        ensures { self.new ≡ without_link self.old a b }
+    {
+        self.unpoint(a, b);
+        self.unpoint(b, a);
+        self.network.cut(a, b);
+    }
+
+    /// Null where the pointer of `a` was `b`.
+    fn unpoint(&mut self, a: Rank, b: Rank)
+        requires { a < length self.old.registers }
+        ensures neighbours { self.new.neighbours ≡ self.old.neighbours }
+        ensures registers { self.new.registers ≡ unpointed self.old.registers a b }
+    {
+        let registers = self.network.registers(a);
+        if registers.p == Some(b) {
+            self.set_registers(
+                a,
+                Regs {
+                    p: None,
+                    m: registers.m,
+                },
+            );
+        }
+    }
+}
+
+/// Puts a node into the row of the node that it points at.
+fn add_suitor(suitors: &mut [NodeSet], p: Option<Rank>, node: Rank)
+    requires { (i : ℕ) → p ≡ Some i → i < length suitors.old }
+    ensures { suitors.new ≡ with_suitor suitors.old p node }
+{
+    if let Some(other) = p {
+        let row = suitors[other.index() as usize].with(node);
+        suitors[other.index() as usize] = row;
+    }
+}
+
+/// Takes a node out of the row of the node that it points at.
+fn remove_suitor(suitors: &mut [NodeSet], p: Option<Rank>, node: Rank)
+    requires { (i : ℕ) → p ≡ Some i → i < length suitors.old }
+    ensures { suitors.new ≡ without_suitor suitors.old p node }
+{
+    if let Some(other) = p {
+        let row = except(suitors[other.index() as usize], node);
+        suitors[other.index() as usize] = row;
+    }
+}
