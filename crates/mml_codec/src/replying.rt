@@ -29,6 +29,8 @@ pub fn write_reply(
     ensures memory { OnErr result (out.new.items ≡ []) }
     ensures capacity { vec_capacity out.old ≤ vec_capacity out.new }
     ensures room { REPLY_ROOM ≤ vec_capacity out.old → is_short reply.now ≡ true → IsOk result }
+    ensures kept { REPLY_ROOM ≤ vec_capacity out.old → is_short reply.now ≡ true →
+        vec_capacity out.new ≡ vec_capacity out.old }
 {
     out.clear();
     let written = put_line(ids, roster, reply, out);
@@ -45,6 +47,9 @@ fn put_line(ids: &IdTable, roster: &Roster, reply: &Reply, out: &mut Vec<u8>) ->
     ensures capacity { vec_capacity out.old ≤ vec_capacity out.new }
     ensures room { is_short reply.now ≡ true →
         OnErr result (vec_capacity out.old < length out.old.items + REPLY_ROOM) }
+    ensures kept { is_short reply.now ≡ true →
+        length out.old.items + REPLY_ROOM ≤ vec_capacity out.old →
+        vec_capacity out.new ≡ vec_capacity out.old }
 {
     put_text(ids, roster, reply, out)?;
     put(out, &[Piece::Text("\n")])
@@ -59,6 +64,9 @@ fn put_text(ids: &IdTable, roster: &Roster, reply: &Reply, out: &mut Vec<u8>) ->
         OnOk result (length out.new.items ≤ length out.old.items + TEXT_ROOM) }
     ensures room { is_short reply.now ≡ true →
         OnErr result (vec_capacity out.old < length out.old.items + TEXT_ROOM) }
+    ensures kept { is_short reply.now ≡ true →
+        length out.old.items + TEXT_ROOM ≤ vec_capacity out.old →
+        vec_capacity out.new ≡ vec_capacity out.old }
 {
     match reply {
         Reply::Hello(who) => put_hello(roster, *who, out),

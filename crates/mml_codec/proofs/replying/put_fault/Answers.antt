@@ -9,4 +9,5 @@ returns c = record {
   capacity = c.put.ensures.capacity;
   grows = search rules;
   room = search rules;
+  kept = search rules;
 }

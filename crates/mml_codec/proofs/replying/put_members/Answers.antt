@@ -1,4 +1,4 @@
-use Rattle.std.proofs.Common.{◌≤◌, ◌∙◌, sym, ap, arith, length}
+use Rattle.std.proofs.Common.{◌≤◌, ◌∙◌, sym, ap, arith, length, vec_capacity}
 use Rattle.mml_codec.proofs.SeparatedLemmas.{texts, length-comma_after, comma_with, comma_without, text_with, text_without}
 use Rattle.mml_codec.proofs.replying.put_members.Goals as goal
 use Rattle.mml_codec.proofs.replying.put_members.Goals.{then-has+in_ok-put, else-has}
@@ -14,6 +14,7 @@ loop-index-preserved c = elim c.if-has.branch [
             c.at-node.ensures (sym w.if-has.ensures) w.node_id.ensures c.loop-index.invariant.comma c.loop-index.invariant.text w.in_ok-put.ensures.text;
         comma = ap (λ r. r.now) w.comma-is ∙ comma_with c.args.ids.now c.args.moved c.loop-index.index c.at-node.result c.at-node.ensures (sym w.if-has.ensures);
         capacity = rw w.out-is (omega (arith, c.loop-index.invariant.capacity, w.put.ensures.capacity));
+        kept = λ there. ap vec_capacity w.out-is ∙ w.put.ensures.kept (omega (arith, there, c.loop-index.invariant.few, c.loop-index.invariant.kept there, short)) ∙ c.loop-index.invariant.kept there;
         few = rw w.out-is (omega (arith, c.loop-index.invariant.few, w.in_ok-put.ensures.grows, short));
       }
   | else-has w ↦ record {
@@ -21,6 +22,7 @@ loop-index-preserved c = elim c.if-has.branch [
         ∙ text_without c.args.ids.now c.args.moved c.loop-index.index c.at-node.result c.args.out.now.items c.loop-index.out.items c.at-node.ensures (sym w.if-has.ensures) c.loop-index.invariant.text;
     comma = ap (λ r. r.now) w.comma-is ∙ comma_without c.args.ids.now c.args.moved c.loop-index.index c.at-node.result c.loop-index.comma.now c.at-node.ensures (sym w.if-has.ensures) c.loop-index.invariant.comma;
     capacity = rw w.out-is (omega (arith, c.loop-index.invariant.capacity));
+    kept = λ there. ap vec_capacity w.out-is ∙ c.loop-index.invariant.kept there;
     few = rw w.out-is (omega (arith, c.loop-index.invariant.few));
   }
 ]
