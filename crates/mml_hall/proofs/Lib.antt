@@ -5,3 +5,5 @@ pub mod ServingLemmas
 pub mod HallsLemmas
 pub mod ShownLemmas
 pub mod TurnsLemmas
+pub mod AuditLemmas
+pub mod AuditMeaningLemmas

@@ -5,3 +5,5 @@ pub mod HallView
 pub mod ScriptLines
 pub mod Scripts
 pub mod Serving
+pub mod Audit
+pub mod AuditMeaning

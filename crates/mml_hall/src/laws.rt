@@ -10,6 +10,8 @@ ghost use Rattle.mml_hall.specs.Transcripts.{Transcript, bytes_read};
 
 use crate::MAX_SCRIPT_LINE;
 
+pub mod audit;
+
 /// The script lines of a transcript are the first lines of what it read with what comes after, and
 /// all of them where no line comes after.
 pub fn lines_of_a_transcript()

@@ -1,11 +1,13 @@
 //! The server of one thread: requests of many connections answered in turn, and scripts of them.
 #![tactic(auto)]
 
+mod auditing;
 mod hall;
 pub mod laws;
 mod script;
 mod script_line;
 
+pub use auditing::{AuditFault, audit};
 pub use hall::Hall;
 pub use script::{ScriptFault, run_script};
 
