@@ -1,5 +1,6 @@
 //! Both sides of each limit.
 use super::told;
+use mml_ids::Rank;
 use mml_lab::read_lab;
 use std::alloc::{AllocError, Global};
 use std::test::Fail;
@@ -64,14 +65,16 @@ fn all_links(alloc: Global) -> Result<String, AllocError> {
     Ok(text)
 }
 
+/// How many nodes and links such a lab has, and the rank of the greatest identifier.
+fn sizes(alloc: Global) -> Result<(u64, u64, Option<u64>), Fail> {
+    let document = all_links(alloc)?;
+    let lab = read_lab(alloc, document.as_bytes())?;
+    let greatest = lab.ids().rank_of(65535).map(Rank::index);
+    Ok((lab.node_count(), lab.link_count(), greatest))
+}
+
 #[test]
 fn reads_all_links(rt: HostRuntime) -> Result<(), Fail> {
-    let document = all_links(rt.alloc())?;
-    let lab = read_lab(rt.alloc(), document.as_bytes()).map_err(|_| "a lab")?;
-    assert_eq!(rt; (lab.node_count(), lab.link_count()), (256, 32640));
-    assert_eq!(rt;
-        lab.ids().rank_of(65535).map(|rank| rank.index()),
-        Some(255)
-    );
+    assert_eq!(rt; sizes(rt.alloc())?, (256, 32640, Some(255)));
     Ok(())
 }
