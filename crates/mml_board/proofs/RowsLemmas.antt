@@ -12,7 +12,7 @@ use Rattle.mml_ids.specs.Search.{greatest_below}
 use Rattle.mml_ids.proofs.SearchLemmas.{greatest_is, greatest_below-some}
 use Rattle.mml_ids.specs.inside.WordsLemmas.{has_empty, same_ranks}
 use Rattle.mml_rules.specs.declared.registers.Regs.{Regs}
-use Rattle.mml_rules.specs.Configuration.{IsLawful, holds}
+use Rattle.mml_rules.specs.Configuration.{Configuration, IsLawful, holds}
 use Rattle.mml_rules.specs.Rules.{has_suitor, is_candidate, greatest_candidate}
 use Rattle.mml_rules.specs.Network.{Network, neighbours_at, registers_at, configuration_of, unpointed}
 use Rattle.mml_rules.proofs.ConfigurationLemmas.{holds-true, holds-from}
@@ -214,18 +214,18 @@ candidates-read n rows free believing courted candidates s t i j lawful few are 
         shift false false = refl
 
 -- the greatest of the candidates
-pub greatest-told : (n : Network) (candidates : FinSet nat_cmp) (i : ℕ) (found : Option ℕ) → IsLawful (configuration_of n) → ((j : ℕ) → sets.contains candidates j ≡ is_candidate (configuration_of n) i j)
-    → IfNone found (candidates ≡ sets.empty) → IfSome found (λ j. sets.contains candidates j ≡ true) → IfSome found (λ j. (k : ℕ) → sets.contains candidates k ≡ true → k ≤ j) → found ≡ greatest_candidate (configuration_of n) i
+pub greatest_told : (c : Configuration) (candidates : FinSet nat_cmp) (i : ℕ) (found : Option ℕ) → IsLawful c → ((j : ℕ) → sets.contains candidates j ≡ is_candidate c i j)
+    → IfNone found (candidates ≡ sets.empty) → IfSome found (λ j. sets.contains candidates j ≡ true) → IfSome found (λ j. (k : ℕ) → sets.contains candidates k ≡ true → k ≤ j) → found ≡ greatest_candidate c i
 unfolding greatest_candidate
-greatest-told n candidates i None lawful is none member greatest = go (greatest_below (length n.registers) (is_candidate (configuration_of n) i)) refl
+greatest_told c candidates i None lawful is none member greatest = go (greatest_below c.size (is_candidate c i)) refl
   where
-    go : (o : Option ℕ) → greatest_below (length n.registers) (is_candidate (configuration_of n) i) ≡ o → None ≡ o
+    go : (o : Option ℕ) → greatest_below c.size (is_candidate c i) ≡ o → None ≡ o
     go None e = refl
-    go (Some j) e = absurd (both_ways (sets.contains candidates j) (ap (λ u. sets.contains u j) none ∙ has_empty j) (is j ∙ (greatest_below-some (length n.registers) j (is_candidate (configuration_of n) i) e).1))
-greatest-told n candidates i (Some j) lawful is none member greatest =
-    let test : is_candidate (configuration_of n) i j ≡ true = sym (is j) ∙ member in
-    let linked : (configuration_of n).linked i j ≡ true = (and_parts ((configuration_of n).linked i j) (ltb i j && (is_none (registers_at n.registers j).p && not (registers_at n.registers j).m)) test).0 in
-    sym (greatest_is (length n.registers) j (is_candidate (configuration_of n) i) (lawful.in_range i j linked).1 test (λ k l m. sym (is k) ∙ false_from_ne_true (sets.contains candidates k) (λ q. let o = greatest k q in absurd (omega arith))))
+    go (Some j) e = absurd (both_ways (sets.contains candidates j) (ap (λ u. sets.contains u j) none ∙ has_empty j) (is j ∙ (greatest_below-some c.size j (is_candidate c i) e).1))
+greatest_told c candidates i (Some j) lawful is none member greatest =
+    let test : is_candidate c i j ≡ true = sym (is j) ∙ member in
+    let linked : c.linked i j ≡ true = (and_parts (c.linked i j) (ltb i j && (is_none (c.p j) && not (c.m j))) test).0 in
+    sym (greatest_is c.size j (is_candidate c i) (lawful.in_range i j linked).1 test (λ k l m. sym (is k) ∙ false_from_ne_true (sets.contains candidates k) (λ q. let o = greatest k q in absurd (omega arith))))
 
 -- ---- a cut
 

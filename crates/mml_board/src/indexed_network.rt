@@ -1,6 +1,7 @@
 //! A network with rows of bits beside it, so that a look at a node takes a few operations on words.
 ghost use Rattle.std.specs.Prelude.{◌≡◌, ◌≢◌, ℕ, ◌<◌, length, true, Some, IfOk};
 ghost use Rattle.std.specs.FinSet as set;
+ghost use Rattle.mml_rules.specs.Rules.{is_candidate};
 ghost use Rattle.mml_rules.specs.Network.{neighbours_at, registers_at, configuration_of, unpointed, with_registers, with_link, without_link};
 ghost use Rattle.mml_board.specs.inside.Rows.{with_suitor, without_suitor};
 
@@ -62,11 +63,10 @@ impl Scene for IndexedNetwork {
         !is_empty(self.suitors[node.index() as usize])
     }
 
+    #[tactic(auto, using(crate::proofs::RowsLemmas::greatest_told))]
     fn greatest_candidate(&self, node: Rank) -> Option<Rank> {
-        let _size = self.network.size();
-        let courted = self.network.neighbours(node).both(self.free);
-        let candidates = courted.without(self.believing).both(NodeSet::above(node));
-        candidates.greatest()
+        let _size = self.size();
+        self.candidates(node).greatest()
     }
 }
 
@@ -120,6 +120,18 @@ impl IndexedNetwork {
         ensures { result ≡ registers_at self.now.registers node }
     {
         self.network.registers(node)
+    }
+
+    /// The nodes that a seduction of a node may choose.
+    fn candidates(&self, node: Rank) -> NodeSet
+        requires { node < length self.now.registers }
+        ensures { (j : ℕ) → set.contains result j ≡
+            is_candidate (configuration_of self.now) node j }
+    {
+        let _size = self.network.size();
+        let courted = self.network.neighbours(node).both(self.free);
+        let doubtful = courted.without(self.believing);
+        doubtful.both(NodeSet::above(node))
     }
 
     /// Writes a node's registers, of which p is null or a neighbour.
