@@ -6,7 +6,7 @@ ghost use Rattle.mml_server.specs.declared.fault.Fault.{Fault};
 ghost use Rattle.mml_server.specs.Answering.{AnswersScript};
 
 use crate::fault::{Fault, memory_or};
-use mml_hall::{Hall, run_script};
+use mml_hall::{Hall, audit, run_script};
 use mml_lab::Lab;
 use std::alloc::Global;
 use std::io::{BufWriter, Read, Write};
@@ -19,6 +19,28 @@ pub fn write_size<W: Write>(lab: &Lab, writer: &mut W) -> Result<(), Fault> {
     writeln!(
         writer,
         "ok: {nodes} nodes, {links} links, {students} students"
+    )
+    .map_err(|error| memory_or(&error, Fault::Write))
+}
+
+/// Writes how many events a journal has, and where they lead.
+pub fn write_audit<W: Write>(
+    alloc: Global,
+    lab: &Lab,
+    text: &[u8],
+    writer: &mut W,
+) -> Result<(), Fault> {
+    let board = audit(alloc, lab, text)?;
+    let events = board.place();
+    let number = board.number();
+    let standing = if board.privileged_count() == 0 {
+        "stable"
+    } else {
+        "not stable"
+    };
+    writeln!(
+        writer,
+        "ok: {events} events, configuration {number}, {standing}"
     )
     .map_err(|error| memory_or(&error, Fault::Write))
 }

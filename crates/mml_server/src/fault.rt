@@ -3,8 +3,8 @@ ghost use Rattle.std.specs.Prelude.{◌≡◌, ◌≢◌, ◌⊎◌};
 ghost use Rattle.std.specs.IoError.{error_kind};
 ghost use Rattle.mml_server.specs.declared.fault.Fault.TheVariants.{Memory};
 
-use crate::refusal::LabRefusal;
-use mml_hall::ScriptFault;
+use crate::refusal::{AuditRefusal, LabRefusal};
+use mml_hall::{AuditFault, ScriptFault};
 use mml_lab::LabFault;
 use std::alloc::AllocError;
 use std::io::{Error as IoError, ErrorKind};
@@ -22,12 +22,18 @@ pub enum Fault {
     /// The line of the script with this number, from 1, is no script line.
     #[error("script: line {0}: bad line")]
     BadLine(u64),
+    /// The text is no journal of the lab.
+    #[error("audit: {0}")]
+    Audit(AuditRefusal),
     /// The lab file can't be opened or read, or is too large.
     #[error("read fault: lab")]
     ReadLab,
     /// The script can't be opened or read, or is too large.
     #[error("read fault: script")]
     ReadScript,
+    /// The journal can't be opened or read, or is too large.
+    #[error("read fault: journal")]
+    ReadJournal,
     /// Standard output took less than all.
     #[error("write fault")]
     Write,
@@ -43,7 +49,8 @@ impl Fault {
         match self {
             Fault::CommandLine => 1,
             Fault::Lab(_) | Fault::BadLine(_) => 2,
-            Fault::ReadLab | Fault::ReadScript | Fault::Write => 4,
+            Fault::Audit(_) => 3,
+            Fault::ReadLab | Fault::ReadScript | Fault::ReadJournal | Fault::Write => 4,
             Fault::Memory => 5,
         }
     }
@@ -74,6 +81,15 @@ impl From<LabFault> for Fault {
     fn from(fault: LabFault) -> Fault {
         match LabRefusal::of(fault) {
             Some(refusal) => Fault::Lab(refusal),
+            None => Fault::Memory,
+        }
+    }
+}
+
+impl From<AuditFault> for Fault {
+    fn from(fault: AuditFault) -> Fault {
+        match AuditRefusal::of(fault) {
+            Some(refusal) => Fault::Audit(refusal),
             None => Fault::Memory,
         }
     }

@@ -1,4 +1,5 @@
-//! What a lab file is refused for, in the words of its fault line.
+//! What a lab file and a journal are refused for, in the words of their fault lines.
+use mml_hall::AuditFault;
 use mml_ids::IdFault;
 use mml_lab::{Key, LabFault};
 use thiserror::Error;
@@ -72,6 +73,35 @@ impl LabRefusal {
             IdFault::OutOfRange(index) => Some(LabRefusal::IdOutOfRange(index)),
             IdFault::Twice(index) => Some(LabRefusal::IdTwice(index)),
             IdFault::Memory => None,
+        }
+    }
+}
+
+/// Why a text is no journal of a lab. The numbers are those of the first bad line.
+#[derive(Clone, Copy, Debug, Drop, PartialEq, Eq, Error)]
+pub enum AuditRefusal {
+    #[error("line {0}: torn")]
+    Torn(u64),
+    #[error("line {0}: not an event")]
+    Shape(u64),
+    #[error("line {0}: wrong place or configuration")]
+    Place(u64),
+    #[error("line {0}: illegal, {1}")]
+    Illegal(u64, &'static str),
+    #[error("line {0}: over the limit of events")]
+    Full(u64),
+}
+
+impl AuditRefusal {
+    /// What the fault refuses the text for; want of memory refuses none.
+    pub fn of(fault: AuditFault) -> Option<AuditRefusal> {
+        match fault {
+            AuditFault::Torn(line) => Some(AuditRefusal::Torn(line)),
+            AuditFault::Shape(line) => Some(AuditRefusal::Shape(line)),
+            AuditFault::Place(line) => Some(AuditRefusal::Place(line)),
+            AuditFault::Illegal(line, denial) => Some(AuditRefusal::Illegal(line, denial.name())),
+            AuditFault::Full(line) => Some(AuditRefusal::Full(line)),
+            AuditFault::Memory => None,
         }
     }
 }

@@ -1,8 +1,8 @@
 //! From the words to the work.
-use crate::answering::{answer_script, answer_through_buffer, write_size};
+use crate::answering::{answer_script, answer_through_buffer, write_audit, write_size};
 use crate::built_in;
 use crate::fault::{Fault, memory_or};
-use crate::files::read_file;
+use crate::files::{read_file, read_journal};
 use crate::words::{Task, read_words};
 use mml_lab::{Lab, read_lab};
 use std::io::BufWriter;
@@ -17,6 +17,7 @@ pub fn run<R: Env + Files + Input + Print + AllocGlobal>(rt: &R) -> Result<(), F
         Task::BuiltIn => answer_input(rt),
         Task::Check { lab } => write_size(&lab_of(rt, lab)?, &mut io::writer(rt)),
         Task::Script { lab, script } => answer_file(rt, lab, script),
+        Task::Audit { lab, journal } => audit_file(rt, lab, journal),
     }
 }
 
@@ -43,6 +44,17 @@ fn answer_file<R: Files + Print + AllocGlobal>(
     ))?;
     answer_through_buffer(alloc, lab, &mut script.as_slice(), &mut writer)?;
     Ok(())
+}
+
+// Audits the journal of a file over the lab of a file.
+fn audit_file<R: Files + Print + AllocGlobal>(
+    rt: &R,
+    lab: &str,
+    journal: &str,
+) -> Result<(), Fault> {
+    let lab = lab_of(rt, lab)?;
+    let text = read_journal(rt, journal)?;
+    write_audit(rt.alloc(), &lab, text.as_slice(), &mut io::writer(rt))
 }
 
 // The words, the program's name first; one that isn't UTF-8 is not understood.

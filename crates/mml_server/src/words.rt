@@ -13,6 +13,8 @@ pub enum Task<'a> {
     Check { lab: &'a str },
     /// To answer the script of a file over the lab of a file.
     Script { lab: &'a str, script: &'a str },
+    /// To say whether the text of a file is the journal of a legal run of the lab of a file.
+    Audit { lab: &'a str, journal: &'a str },
 }
 
 /// Reads the words, of which the first is the program's name. A word that begins with `-` is refused
@@ -41,6 +43,10 @@ fn task_of<'a>(name: &str, values: &ArgMatches<'a>) -> Option<Task<'a>> {
             let script = values.get_str("script")?;
             Some(Task::Script { lab, script })
         }
+        "audit" => {
+            let journal = values.get_str("journal")?;
+            Some(Task::Audit { lab, journal })
+        }
         _ => None,
     }
 }
@@ -48,7 +54,8 @@ fn task_of<'a>(name: &str, values: &ArgMatches<'a>) -> Option<Task<'a>> {
 fn whole<'a>(alloc: Global) -> Result<Command<'a>, AllocError> {
     plain(alloc, "mml_server")
         .subcommand(subcommand(alloc, "check", &["lab"])?)?
-        .subcommand(subcommand(alloc, "script", &["lab", "script"])?)
+        .subcommand(subcommand(alloc, "script", &["lab", "script"])?)?
+        .subcommand(subcommand(alloc, "audit", &["lab", "journal"])?)
 }
 
 // A subcommand whose values are all wanted, by their places.

@@ -46,6 +46,13 @@ fn takes_each_form(rt: HostRuntime) -> Result<(), Fail> {
             },
         ),
         (
+            "audit a b",
+            Task::Audit {
+                lab: "a",
+                journal: "b",
+            },
+        ),
+        (
             "script help version",
             Task::Script {
                 lab: "help",
@@ -111,6 +118,10 @@ const NOT_UNDERSTOOD: [&str; 56] = [
     "c a",
     "checks a",
     "check=a",
+    "audit",
+    "audit a",
+    "audit a b c",
+    "audit a -",
     "script",
     "script a",
     "script a b c",
