@@ -72,7 +72,7 @@ fn takes_no_words_at_all(rt: HostRuntime) -> Result<(), Fail> {
     Ok(())
 }
 
-const NOT_UNDERSTOOD: [&str; 56] = [
+const NOT_UNDERSTOOD: [&str; 60] = [
     " ",
     "a",
     "help",
