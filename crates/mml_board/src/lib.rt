@@ -13,6 +13,3 @@ mod node_sets;
 pub use board::Board;
 pub use done::Done;
 pub use event::{Event, same_events};
-
-#[cfg(test)]
-mod tests;

@@ -1,10 +1,16 @@
-//! The board at the beginning of a run.
+//! The board at the beginning of a run, over rows and stars, and beside a plain one.
 ghost use Rattle.std.specs.Prelude.{◌<◌, length};
 
-use mml_board::Board;
+mod drawing;
+mod plain;
+mod row;
+mod stars;
+mod twins;
+
+use mml_board::{Board, Event};
 use mml_ids::Rank;
-use mml_lab::read_lab;
-use mml_rules::Scene;
+use mml_lab::{Student, read_lab};
+use mml_rules::{Rule, Scene};
 use std::alloc::{AllocError, Global};
 use std::test::Fail;
 
@@ -31,6 +37,16 @@ p = 3
 id = 3
 owner = "ana"
 "#;
+
+/// The first student's request for a move.
+pub fn grant(index: u64, rule: Rule) -> Option<Event> {
+    let node = Rank::new(index)?;
+    Some(Event::Grant {
+        who: Student::new(0),
+        node,
+        rule,
+    })
+}
 
 /// A node's registers, the rule that is enabled there, what is chosen, and its links.
 fn push_node(text: &mut String, board: &Board, node: Rank) -> Result<(), AllocError>

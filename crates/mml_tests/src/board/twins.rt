@@ -1,0 +1,110 @@
+//! A board and a plain one over the same events.
+ghost use Rattle.std.specs.Prelude.{◌<◌, ◌≤◌};
+ghost use Rattle.mml_ids.specs.declared.TheConstants.{MAX_NODES};
+
+use crate::board::drawing::{Numbers, drawn};
+use crate::board::plain::PlainBoard;
+use mml_board::{Board, Event};
+use mml_ids::{NodeSet, Rank};
+use mml_lab::read_lab;
+use mml_rules::Scene;
+use std::alloc::{AllocError, Global};
+use std::test::Fail;
+
+/// So many nodes in a ring, each linked with one further on too, all of one student.
+fn mesh(alloc: Global, count: u64) -> Result<String, AllocError> {
+    let mut text = format!(in alloc; "events = 2000\nsessions = 1\nlinks = [")?;
+    for id in 1..=count {
+        let next = (id % count).wrapping_add(1);
+        write!(text, "[{id}, {next}], ")?;
+        let far = (id.wrapping_add(count / 3) % count).wrapping_add(1);
+        write!(text, "[{id}, {far}], ")?;
+    }
+    text.push_str(
+        "]\n[teacher]\nname = \"t\"\nkey = \"t\"\n[[student]]\nname = \"s\"\nkey = \"s\"\n",
+    )?;
+    for id in 1..=count {
+        write!(text, "[[node]]\nid = {id}\nowner = \"s\"\n")?;
+    }
+    Ok(text)
+}
+
+/// One number for each kind of event.
+fn kind(event: &Event) -> u64 {
+    match *event {
+        Event::Grant {
+            who: _,
+            node: _,
+            rule: _,
+        } => 0,
+        Event::Release { node: _ } => 1,
+        Event::Close => 2,
+        Event::Fault { node: _, regs: _ } => 3,
+        Event::Link { a: _, b: _ } => 4,
+        Event::Cut { a: _, b: _ } => 5,
+    }
+}
+
+/// The nodes at which the boards are looked at in a round: all in each round that `every` divides,
+/// and one in `every` in the others, in turn.
+fn looked(size: u64, round: u64, every: u64) -> NodeSet
+    requires few { size ≤ MAX_NODES }
+    requires some { 0 < every }
+{
+    let mut nodes = NodeSet::empty();
+    let turn = round % every;
+    for index in 0..size {
+        if turn == 0 || index % every == turn {
+            nodes = nodes.with(Rank::at(index));
+        }
+    }
+    nodes
+}
+
+/// Of 1,000 events, how many were legal, did the same on both boards, and left every reader the
+/// same; and how many kinds of events there were.
+fn agreed(alloc: Global, count: u64, every: u64) -> Result<(u64, u64), Fail>
+    requires { 0 < every }
+{
+    let document = mesh(alloc, count)?;
+    let lab = read_lab(alloc, document.as_bytes())?;
+    let mut plain = PlainBoard::new(alloc, &lab)?;
+    let mut board = Board::new(alloc, &lab)?;
+    let mut twin = board.try_copy(alloc)?;
+    let mut numbers = Numbers { state: count };
+    let (mut agreed, mut kinds) = (0u64, NodeSet::empty());
+    for round in 0..1000u64 {
+        let event = &drawn(&plain, &mut numbers);
+        let is_done = plain.is_done(event, &board.done(event));
+        let is_legal = board.is_legal(lab.roster(), event);
+        if board.can_absorb(event) {
+            board.apply(*event);
+        }
+        twin.absorb_event(event);
+        let is_taken = plain.absorb(alloc, event)?;
+        let nodes = looked(board.size(), round, every);
+        if is_done
+            && is_legal
+            && is_taken
+            && board.is_same(&twin)
+            && plain.is_told_by(&board, nodes)
+        {
+            agreed = agreed.wrapping_add(1);
+        }
+        kinds = kinds.with(Rank::at(kind(event).min(5)));
+    }
+    Ok((agreed, kinds.len()))
+}
+
+#[test]
+fn board_of_64_nodes_is_the_plain_one(rt: HostRuntime) -> Result<(), Fail> {
+    assert_eq!(rt; agreed(rt.alloc(), 64, 1)?, (1000, 6));
+    Ok(())
+}
+
+// A scan of 256 nodes for each of them after each event would take a minute.
+#[test]
+fn board_of_256_nodes_is_the_plain_one(rt: HostRuntime) -> Result<(), Fail> {
+    assert_eq!(rt; agreed(rt.alloc(), 256, 16)?, (1000, 6));
+    Ok(())
+}
