@@ -1,5 +1,6 @@
 -- What a report names are nodes of its world.
-use Rattle.std.proofs.Common.{◌≡◌, ℕ, zero, suc, ◌+◌, ◌<◌, Bool, true, false, ◌&&◌, not, ltb, List, [], ◌∷◌, Option, None, Some, arith, refl}
+use Rattle.std.proofs.Common.{◌≡◌, ℕ, zero, suc, ◌<◌, Bool, true, false, ◌&&◌, ltb, List, [], Option, None, Some, Result, Ok, Err, arith, refl, sym, subst}
+use Rattle.std.specs.Result.{IfOk}
 use Rattle.std.specs.List.{All}
 use Rattle.std.proofs.lemmas.Bool.{and_parts, ltb-true, not-true}
 use Rattle.std.proofs.lemmas.List.Elements.{All-nil, All-cons, All-append}
@@ -8,7 +9,7 @@ use Rattle.mml_rules.specs.Configuration.{Configuration, IsLawful, holds}
 use Rattle.mml_rules.specs.Rules.{enabled_kind, is_married}
 use Rattle.mml_rules.proofs.RulesLemmas.{pointee_in}
 use Rattle.mml_board.specs.World.{World, IsWorld, size, configuration}
-use Rattle.mml_stable.specs.declared.open_link.OpenLink.{OpenLink}
+use Rattle.mml_stable.specs.declared.stability.Report.{Report}
 use Rattle.mml_stable.specs.Reports.{each_below, listed_if, pair_at, is_free, privileged_at, is_open, open_link, open_links_at, report_of, IsPairOf, IsOpenLinkOf, NamesNodes}
 use Rattle.mml_stable.proofs.WalkLemmas.{certified}
 
@@ -51,3 +52,7 @@ module _ (w : World) (is : IsWorld w) where
         all_below (IsOpenLinkOf c.size) c.size (λ b. listed_if (is_open c a b) (open_link c a b)) (λ b lb.
         all_listed (IsOpenLinkOf c.size) (is_open c a b) (open_link c a b) (link_names a b la lb)));
   }
+
+pub named : {E : Type 0} (w : World) (told : Result Report E) → IsWorld w → IfOk told (λ r. r ≡ report_of w) → IfOk told (NamesNodes (size w))
+named w (Ok r) is e = subst (NamesNodes (size w)) (sym e) (report_names w is)
+named w (Err fault) is e = tt

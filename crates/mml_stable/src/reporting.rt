@@ -2,7 +2,7 @@ ghost use Rattle.std.specs.Prelude.{◌≡◌, ℕ, ◌<◌, ◌++◌, length, t
 ghost use Rattle.std.specs.FinSet as set;
 ghost use Rattle.mml_ids.specs.Sets.{those_below};
 ghost use Rattle.mml_board.specs.World.{configuration};
-ghost use Rattle.mml_stable.specs.Reports.{pairs, is_free, free_nodes, privileged_nodes, is_open, open_link, open_links_at, open_links, is_stable, report_of};
+ghost use Rattle.mml_stable.specs.Reports.{pairs, is_free, free_nodes, privileged_nodes, is_open, open_link, open_links_at, open_links, is_stable, report_of, NamesNodes};
 
 use crate::certificate::certify;
 use crate::open_link::OpenLink;
@@ -14,6 +14,14 @@ use std::alloc::Global;
 
 /// What is told of the board's configuration.
 pub fn report(alloc: Global, board: &Board) -> Result<Report, Memory>
+    ensures report { IfOk result (λ report. report ≡ report_of board.now) }
+    ensures nodes { IfOk result (NamesNodes (length board.now.network.registers)) }
+{
+    let _number = board.number();
+    whole(alloc, board)
+}
+
+fn whole(alloc: Global, board: &Board) -> Result<Report, Memory>
     ensures { IfOk result (λ report. report ≡ report_of board.now) }
 {
     Ok(Report {
