@@ -41,6 +41,17 @@ impl FakeWriter {
             good_flushes: usize::MAX,
         }
     }
+
+    /// Fails at once, a flush too, with an error of that kind.
+    pub fn failing_with(kind: ErrorKind, alloc: Global) -> FakeWriter {
+        FakeWriter {
+            taken: Vec::new(alloc),
+            step: usize::MAX,
+            good: 0,
+            refusal: Refusal::Fails(kind),
+            good_flushes: 0,
+        }
+    }
 }
 
 impl Write for FakeWriter {
@@ -59,7 +70,10 @@ impl Write for FakeWriter {
 
     fn flush(&mut self) -> io::Result<()> {
         if self.good_flushes == 0 {
-            return Err(io::Error::from(ErrorKind::Other));
+            return match self.refusal {
+                Refusal::Fails(kind) => Err(io::Error::from(kind)),
+                Refusal::TakesNothing => Err(io::Error::from(ErrorKind::Other)),
+            };
         }
         self.good_flushes -= 1;
         Ok(())

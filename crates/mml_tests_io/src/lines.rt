@@ -72,18 +72,19 @@ fn a_line_is_as_long_as_the_limit(rt: HostRuntime) -> Result<(), Fail> {
     Ok(())
 }
 
+/// What is told of a bye with so many spaces and that end.
+fn told_of_bye(alloc: Global, spaces: usize, end: &[u8]) -> Result<String, Fail> {
+    let text = bye_line(alloc, spaces, end)?;
+    told_to_the_end(alloc, 4096, &mut text.as_slice())
+}
+
 #[test]
 fn what_is_no_line_ends_it(rt: HostRuntime) -> Result<(), Fail> {
-    for (spaces, end, wanted) in [
-        (4085, b"\n".as_slice(), "TooLong \n"),
-        (4084, b"".as_slice(), "End \n"),
-        (4085, b"".as_slice(), "TooLong \n"),
-        (9000, b"".as_slice(), "TooLong \n"),
-    ] {
-        let text = bye_line(rt.alloc(), spaces, end)?;
-        let told = told_to_the_end(rt.alloc(), 4096, &mut text.as_slice())?;
-        assert_eq!(rt; told.as_str(), wanted, "{spaces} spaces");
-    }
+    let mut told = told_of_bye(rt.alloc(), 4085, b"\n")?;
+    told.push_str(told_of_bye(rt.alloc(), 4084, b"")?.as_str())?;
+    told.push_str(told_of_bye(rt.alloc(), 4085, b"")?.as_str())?;
+    told.push_str(told_of_bye(rt.alloc(), 9000, b"")?.as_str())?;
+    assert_eq!(rt; told.as_str(), "TooLong \nEnd \nTooLong \nTooLong \n");
     Ok(())
 }
 
@@ -97,33 +98,50 @@ fn told_in_parts(alloc: Global, cut: usize, step: usize) -> Result<String, Fail>
     told_to_the_end(alloc, 2, &mut reader)
 }
 
-#[test]
-fn cuts_of_the_reads_change_nothing(rt: HostRuntime) -> Result<(), Fail> {
+/// The first cut that changes what is told, where the second part comes in reads of so many bytes.
+fn first_cut_that_changes(alloc: Global, step: usize) -> Result<Option<usize>, Fail> {
     for cut in 0..=TEXT.len() {
-        for step in [1, 100] {
-            let told = told_in_parts(rt.alloc(), cut, step)?;
-            assert_eq!(rt; told.as_str(), TOLD, "cut at {cut}");
+        if told_in_parts(alloc, cut, step)?.as_str() != TOLD {
+            return Ok(Some(cut));
         }
     }
+    Ok(None)
+}
+
+#[test]
+fn cuts_of_the_reads_change_nothing(rt: HostRuntime) -> Result<(), Fail> {
+    let by_bytes = first_cut_that_changes(rt.alloc(), 1)?;
+    let at_once = first_cut_that_changes(rt.alloc(), 100)?;
+    assert_eq!(rt; (by_bytes, at_once), (None, None));
     Ok(())
+}
+
+// After how many good reads of a byte what is told.
+const FAILED_READS: [(usize, &str); 8] = [
+    (0, "ReadFault \n"),
+    (2, "ReadFault \n"),
+    (3, "Line ab\nReadFault \n"),
+    (4, "Line ab\nLine \nReadFault \n"),
+    (6, "Line ab\nLine \nReadFault \n"),
+    (7, "Line ab\nLine \nLine cd\nReadFault \n"),
+    (8, "Line ab\nLine \nLine cd\nReadFault \n"),
+    (9, TOLD),
+];
+
+/// The first number of good reads after which something else is told.
+fn first_told_otherwise(alloc: Global) -> Result<Option<usize>, Fail> {
+    for (good, wanted) in &FAILED_READS {
+        let mut reader = FakeReader::failing_after(*good, TEXT);
+        if told_to_the_end(alloc, 2, &mut reader)?.as_str() != *wanted {
+            return Ok(Some(*good));
+        }
+    }
+    Ok(None)
 }
 
 #[test]
 fn a_failed_read_ends_the_lines(rt: HostRuntime) -> Result<(), Fail> {
-    for (good, wanted) in [
-        (0, "ReadFault \n"),
-        (2, "ReadFault \n"),
-        (3, "Line ab\nReadFault \n"),
-        (4, "Line ab\nLine \nReadFault \n"),
-        (6, "Line ab\nLine \nReadFault \n"),
-        (7, "Line ab\nLine \nLine cd\nReadFault \n"),
-        (8, "Line ab\nLine \nLine cd\nReadFault \n"),
-        (9, TOLD),
-    ] {
-        let mut reader = FakeReader::failing_after(good, TEXT);
-        let told = told_to_the_end(rt.alloc(), 2, &mut reader)?;
-        assert_eq!(rt; told.as_str(), wanted, "{good} good reads");
-    }
+    assert_eq!(rt; first_told_otherwise(rt.alloc())?, None);
     Ok(())
 }
 
@@ -201,28 +219,35 @@ fn puts(writer: &mut FakeWriter, out: usize) -> bool {
     told == wanted && writer.taken.len() == out && TEN.starts_with(writer.taken.as_slice())
 }
 
-#[test]
-fn put_all_tells_what_went_out(rt: HostRuntime) {
-    // How many bytes a write takes, how many writes are good, and how many bytes go out.
-    for (step, good, out) in [
-        (3, 1, 3),
-        (1, 0, 0),
-        (1, 9, 9),
-        (4, 2, 8),
-        (1, 10, 10),
-        (3, 4, 10),
-        (100, 1, 10),
-    ] {
-        for refusal in [Refusal::Fails(ErrorKind::Other), Refusal::TakesNothing] {
-            let mut writer = FakeWriter::failing_after(good, rt.alloc());
-            writer.step = step;
-            writer.refusal = refusal;
-            assert!(rt;
-                puts(&mut writer, out),
-                "{step} a write, {good} good, {refusal:?}"
-            );
+// How many bytes a write takes, how many writes are good, and how many bytes go out.
+const PUTS: [(usize, usize, usize); 7] = [
+    (3, 1, 3),
+    (1, 0, 0),
+    (1, 9, 9),
+    (4, 2, 8),
+    (1, 10, 10),
+    (3, 4, 10),
+    (100, 1, 10),
+];
+
+/// The first of these of which something else is told, over writers that refuse so.
+fn first_other_put(alloc: Global, refusal: Refusal) -> Option<(usize, usize, usize)> {
+    for (step, good, out) in PUTS {
+        let mut writer = FakeWriter::failing_after(good, alloc);
+        writer.step = step;
+        writer.refusal = refusal;
+        if !puts(&mut writer, out) {
+            return Some((step, good, out));
         }
     }
+    None
+}
+
+#[test]
+fn put_all_tells_what_went_out(rt: HostRuntime) {
+    let failed = first_other_put(rt.alloc(), Refusal::Fails(ErrorKind::Other));
+    let refused = first_other_put(rt.alloc(), Refusal::TakesNothing);
+    assert_eq!(rt; (failed, refused), (None, None));
 }
 
 /// Whether 2,000 bytes go out by writes of so many, and where the writes end early those first ones.
@@ -244,15 +269,20 @@ fn puts_long(alloc: Global, step: usize, good: usize) -> Result<bool, Fail> {
     Ok(told == wanted && reached && bytes.starts_with(writer.taken.as_slice()))
 }
 
-#[test]
-fn put_all_writes_until_all_is_out(rt: HostRuntime) -> Result<(), Fail> {
-    for step in [1, 7] {
-        for good in [0, 1, 285, 286, 1999, 2000, 2001] {
-            assert!(rt;
-                puts_long(rt.alloc(), step, good)?,
-                "{good} writes of {step}"
-            );
+/// The first number of good writes after which something else is told, by writes of so many bytes.
+fn first_other_long_put(alloc: Global, step: usize) -> Result<Option<usize>, Fail> {
+    for good in [0, 1, 285, 286, 1999, 2000, 2001] {
+        if !puts_long(alloc, step, good)? {
+            return Ok(Some(good));
         }
     }
+    Ok(None)
+}
+
+#[test]
+fn put_all_writes_until_all_is_out(rt: HostRuntime) -> Result<(), Fail> {
+    let by_ones = first_other_long_put(rt.alloc(), 1)?;
+    let by_sevens = first_other_long_put(rt.alloc(), 7)?;
+    assert_eq!(rt; (by_ones, by_sevens), (None, None));
     Ok(())
 }
