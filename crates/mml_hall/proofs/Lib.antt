@@ -3,7 +3,9 @@ pub mod TranscriptsLemmas
 pub mod ScriptsLemmas
 pub mod ServingLemmas
 pub mod HallsLemmas
+pub mod JournalsLemmas
 pub mod ShownLemmas
 pub mod TurnsLemmas
 pub mod AuditLemmas
 pub mod AuditMeaningLemmas
+pub mod HaltsLemmas

@@ -1,5 +1,5 @@
 -- What has been answered so far, and how it ends.
-use Rattle.std.proofs.Common.{◌≡◌, ℕ, ◌+◌, List, [], ◌∷◌, ◌++◌, length, map, flat_map, take, refl, sym, ◌∙◌, ap, append_assoc, append-nil, Option, Some, None, subst, length-append, arith}
+use Rattle.std.proofs.Common.{◌≡◌, ℕ, ◌+◌, List, [], ◌∷◌, ◌++◌, length, map, flat_map, take, refl, sym, ◌∙◌, ap, append_assoc, append-nil, Option, Some, None, subst, inl, length-append, arith}
 use Rattle.std.specs.List.{AllByRecursion}
 use Rattle.std.proofs.lemmas.Grind.{common_steps}
 use Rattle.std.proofs.KnownBytes.{Appends-nil, Appends-trans, Consumes-trans}
@@ -10,8 +10,10 @@ use Rattle.mml_codec.specs.declared.reply.Reply.{Reply}
 use Rattle.mml_hall.specs.declared.script.Next.{Next}
 use Rattle.mml_hall.specs.declared.script.Next.TheVariants as next
 use Rattle.mml_hall.specs.declared.script.ScriptFault.TheVariants as fault
-use Rattle.mml_hall.specs.Turns.{State, RequestLine, Outcome, Turn, Run, opening}
+use Rattle.mml_hall.specs.Turns.{State, RequestLine, Outcome, Turn, Run, Halts, opening}
 use Rattle.mml_hall.specs.Halls.{HallValue}
+use Rattle.mml_hall.specs.Journals.{IsFresh, TellsJournal, Journals}
+use Rattle.mml_hall.proofs.JournalsLemmas.{nothing_told, halts_on}
 use Rattle.mml_hall.specs.ScriptLines.{IsScriptLine, IsBad, script_line}
 use Rattle.mml_hall.specs.Transcripts.{Transcript, output_line, output_lines, bytes_read, bytes_written}
 use Rattle.mml_hall.specs.Scripts.{LineTurn, AllAnswered, Finished, Stopped, line_read, line_written}
@@ -71,48 +73,9 @@ count_longer : (lab : LabValue) (t : Transcript lab) (after : State) (s : LineTu
 unfolding longer
 count_longer lab t after s = grind (arith, common_steps, length-append t.lines (s.line ∷ []))
 
--- the lines so far make a transcript, which leads to where the hall stands
-pub record AnsweredSoFar (lab : LabValue) (hall : HallValue) (count : ℕ) (input left wrote wrote' : Option (List ℕ)) : Type 0 where
-  pub answered : AllAnswered lab input left wrote wrote'
-  pub same_lab : hall.lab ≡ lab
-  pub stands : answered.transcript.end ≡ hall.state
-  pub counted : length answered.transcript.lines ≡ count
-
 nothing_held : (a : Option (List ℕ)) (held : List ℕ) → held ≡ [] → Consumes a (prepend_known held a) []
 nothing_held None held e = tt
 nothing_held (Some xs) held e = rw e refl
-
-pub nothing_yet : (lab : LabValue) (hall : HallValue) (input wrote : Option (List ℕ)) (held : List ℕ)
-    → hall.lab ≡ lab → hall.state ≡ opening lab → held ≡ [] → AnsweredSoFar lab hall 0 input (prepend_known held input) wrote wrote
-nothing_yet lab hall input wrote held same opened none = record {
-  answered = record { transcript = empty lab; consumed = nothing_held input held none; appended = Appends-nil wrote };
-  same_lab = same;
-  stands = sym opened;
-  counted = refl;
-}
-
--- the next line, from where the transcript ends
-from_end : (lab : LabValue) (hall : HallValue) (st after : State) (next : Next) (a left c d : Option (List ℕ)) (held : List ℕ)
-    → hall.lab ≡ lab → st ≡ hall.state → ServesNext next hall.lab hall.state after a held left c d → ServesNext next lab st after a held left c d
-from_end lab hall st after next a left c d held same stands serves =
-    subst (λ (t : State). ServesNext next lab t after a held left c d) (sym stands) (subst (λ (t : LabValue). ServesNext next t hall.state after a held left c d) same serves)
-
-pub one_more : (lab : LabValue) (hall hall' : HallValue) (count : ℕ) (input a left wrote c d : Option (List ℕ)) (held : List ℕ)
-    → AnsweredSoFar lab hall count input a wrote c → hall'.lab ≡ hall.lab → ServesNext next.Answered hall.lab hall.state hall'.state a held left c d
-    → AnsweredSoFar lab hall' (count + 1) input (prepend_known held left) wrote d
-one_more lab hall hall' count input a left wrote c d held so same serves =
-    let t = so.answered.transcript in
-    let one = from_end lab hall t.end hall'.state next.Answered a left c d held so.same_lab so.stands serves in
-    record {
-      answered = record {
-        transcript = longer lab t hall'.state one.0;
-        consumed = rw (read_longer lab t hall'.state one.0) (Consumes-trans input a (prepend_known held left) (bytes_read t) (line_read one.0) so.answered.consumed one.1);
-        appended = rw (written_longer lab t hall'.state one.0) (Appends-trans wrote c d (bytes_written t) (line_written one.0) so.answered.appended one.2);
-      };
-      same_lab = same ∙ so.same_lab;
-      stands = end_longer lab t hall'.state one.0;
-      counted = count_longer lab t hall'.state one.0 ∙ ap (λ n. n + 1) so.counted;
-    }
 
 -- nothing was taken and nothing written since
 abbrev still : (lab : LabValue) (input a b wrote c d : Option (List ℕ)) → AllAnswered lab input a wrote c → Consumes a b [] → Appends c d [] → AllAnswered lab input b wrote d
@@ -124,47 +87,119 @@ still lab input a b wrote c d answered taken written = record {
       (Appends-trans wrote c d (bytes_written answered.transcript) [] answered.appended written);
 }
 
--- a hall by its lab and its state
-at_end : (hall : HallValue) (lab : LabValue) (st end : State) → hall.lab ≡ lab → hall.state ≡ st → end ≡ st → hall ≡ record { lab = lab; state = end }
-at_end hall lab st end same stands e = rw (← same, e, ← stands) refl
+module _ {S : Type 0} (contents : S → Option (List ℕ)) (failures : S → ℕ) (lab : LabValue) (first : S) where
+  -- how the sink is left
+  abbrev Left : S → State → Type 0
+  Left = Journals contents failures lab first
 
-pub finished_so : (lab : LabValue) (hall hall' : HallValue) (count : ℕ) (input a left wrote c d : Option (List ℕ)) (held : List ℕ)
-    → AnsweredSoFar lab hall count input a wrote c → hall'.lab ≡ hall.lab → ServesNext next.End hall.lab hall.state hall'.state a held left c d
-    → Finished hall' lab input left wrote d
-finished_so lab hall hall' count input a left wrote c d held so same serves = (
-  held,
-  still lab input a (prepend_known held left) wrote c d so.answered serves.1 serves.4,
-  at_end hall' lab hall.state so.answered.transcript.end (same ∙ so.same_lab) serves.0 so.stands,
-  serves.2,
-  serves.3,
-)
+  -- the lines so far make a transcript, which leads to where the hall stands
+  pub record AnsweredSoFar (hall : HallValue S) (count : ℕ) (input left wrote wrote' : Option (List ℕ)) : Type 0 where
+    pub answered : AllAnswered lab input left wrote wrote'
+    pub same_lab : hall.lab ≡ lab
+    pub stands : answered.transcript.end ≡ hall.state
+    pub counted : length answered.transcript.lines ≡ count
+    pub journals : Left hall.sink hall.state
 
-pub bad_so : (lab : LabValue) (hall : HallValue) (count : ℕ) (input a left wrote c d : Option (List ℕ)) (held : List ℕ) (after : State)
-    → AnsweredSoFar lab hall count input a wrote c → ServesNext next.BadLine hall.lab hall.state after a held left c d
-    → Stopped (fault.BadLine (count + 1)) lab input left wrote d
-bad_so lab hall count input a left wrote c d held after so serves =
-    (serves.0, still lab input a (prepend_known serves.0 left) wrote c d so.answered serves.1 serves.3, ap (λ n. n + 1) (sym so.counted), subst (λ (t : LabValue). IsBad t.sessions serves.0) so.same_lab serves.2)
+  pub nothing_yet : (hall : HallValue S) (a wrote : Option (List ℕ)) (held : List ℕ) → hall.lab ≡ lab → hall.state ≡ opening lab → hall.sink ≡ first → IsFresh (contents first) → held ≡ []
+      → AnsweredSoFar hall 0 a (prepend_known held a) wrote wrote
+  nothing_yet hall a wrote held same fresh sink untold none = record {
+    answered = record { transcript = empty lab; consumed = nothing_held a held none; appended = Appends-nil wrote };
+    same_lab = same;
+    stands = sym fresh;
+    counted = refl;
+    journals = rw (sink, fresh) (nothing_told lab (contents first) untold, inl (refl, refl));
+  }
 
-pub unread_so : (lab : LabValue) (hall : HallValue) (count : ℕ) (input a left wrote c d : Option (List ℕ)) (held : List ℕ) (after : State)
-    → AnsweredSoFar lab hall count input a wrote c → ServesNext next.ReadFault hall.lab hall.state after a held left c d
-    → Stopped fault.Read lab input left wrote d
-unread_so lab hall count input a left wrote c d held after so serves =
-    (held, still lab input a (prepend_known held left) wrote c d so.answered serves.0 serves.2, serves.1)
+  from_end : (hall : HallValue S) (st after : State) (next : Next) (a left c d : Option (List ℕ)) (held : List ℕ)
+      → hall.lab ≡ lab → st ≡ hall.state → ServesNext next hall.lab hall.state after a held left c d → ServesNext next lab st after a held left c d
+  from_end hall st after next a left c d held same stands serves =
+      subst (λ (t : State). ServesNext next lab t after a held left c d) (sym stands) (subst (λ (t : LabValue). ServesNext next t hall.state after a held left c d) same serves)
 
-pub unwritten_so : (lab : LabValue) (hall : HallValue) (count n : ℕ) (input a left wrote c d : Option (List ℕ)) (held : List ℕ) (after : State)
-    → AnsweredSoFar lab hall count input a wrote c → ServesNext (next.WriteFault n) hall.lab hall.state after a held left c d
-    → Stopped (fault.Write n) lab input left wrote d
-unwritten_so lab hall count n input a left wrote c d held after so serves =
-    let t = so.answered.transcript in
-    let one = from_end lab hall t.end after (next.WriteFault n) a left c d held so.same_lab so.stands serves in (
-      held,
+  -- the sink after a line more
+  journals_on : (hall hall' : HallValue S) → hall.lab ≡ lab → hall'.lab ≡ hall.lab → Left hall.sink hall.state
+      → TellsJournal hall'.lab hall'.state (contents hall'.sink) → Halts hall.state.halted hall'.state.halted (failures hall.sink) (failures hall'.sink)
+      → Left hall'.sink hall'.state
+  journals_on hall hall' same kept journals tells halts = (
+    subst (λ (t : LabValue). TellsJournal t hall'.state (contents hall'.sink)) (kept ∙ same) tells,
+    halts_on hall.state.halted hall'.state.halted (failures first) (failures hall.sink) (failures hall'.sink) journals.1 halts,
+  )
+
+  pub one_more : (hall hall' : HallValue S) (count : ℕ) (input a left wrote c d : Option (List ℕ)) (held : List ℕ)
+      → AnsweredSoFar hall count input a wrote c → hall'.lab ≡ hall.lab
+      → TellsJournal hall'.lab hall'.state (contents hall'.sink) → Halts hall.state.halted hall'.state.halted (failures hall.sink) (failures hall'.sink)
+      → ServesNext next.Answered hall.lab hall.state hall'.state a held left c d
+      → AnsweredSoFar hall' (count + 1) input (prepend_known held left) wrote d
+  one_more hall hall' count input a left wrote c d held so same tells halts serves =
+      let t = so.answered.transcript in
+      let one = from_end hall t.end hall'.state next.Answered a left c d held so.same_lab so.stands serves in
       record {
-        transcript = t;
-        after = after;
-        last = one.0;
-        short = one.3;
-        consumed = Consumes-trans input a (prepend_known held left) (bytes_read t) (line_read one.0) so.answered.consumed one.1;
-        appended = Appends-trans wrote c d (bytes_written t) (take n (line_written one.0)) so.answered.appended one.4;
-      },
-      one.2,
-    )
+        answered = record {
+          transcript = longer lab t hall'.state one.0;
+          consumed = rw (read_longer lab t hall'.state one.0) (Consumes-trans input a (prepend_known held left) (bytes_read t) (line_read one.0) so.answered.consumed one.1);
+          appended = rw (written_longer lab t hall'.state one.0) (Appends-trans wrote c d (bytes_written t) (line_written one.0) so.answered.appended one.2);
+        };
+        same_lab = same ∙ so.same_lab;
+        stands = end_longer lab t hall'.state one.0;
+        counted = count_longer lab t hall'.state one.0 ∙ ap (λ n. n + 1) so.counted;
+        journals = journals_on hall hall' so.same_lab same so.journals tells halts;
+      }
+
+  pub finished_so : (hall hall' : HallValue S) (count : ℕ) (input a left wrote c d : Option (List ℕ)) (held : List ℕ)
+      → AnsweredSoFar hall count input a wrote c → hall'.lab ≡ hall.lab
+      → TellsJournal hall'.lab hall'.state (contents hall'.sink) → Halts hall.state.halted hall'.state.halted (failures hall.sink) (failures hall'.sink)
+      → ServesNext next.End hall.lab hall.state hall'.state a held left c d
+      → Finished Left hall' lab input left wrote d
+  finished_so hall hall' count input a left wrote c d held so same tells halts serves =
+      let stands : hall'.state ≡ so.answered.transcript.end = serves.0 ∙ sym so.stands in (
+        held,
+        still lab input a (prepend_known held left) wrote c d so.answered serves.1 serves.4,
+        same ∙ so.same_lab,
+        stands,
+        subst (Left hall'.sink) stands (journals_on hall hall' so.same_lab same so.journals tells halts),
+        serves.2,
+        serves.3,
+      )
+
+  -- the sink as it stood at the last line that was answered
+  left_so : (hall : HallValue S) (count : ℕ) (input a wrote c : Option (List ℕ)) (so : AnsweredSoFar hall count input a wrote c)
+      → (sink : S) × Left sink so.answered.transcript.end
+  left_so hall count input a wrote c so = (hall.sink, subst (Left hall.sink) (sym so.stands) so.journals)
+
+  pub bad_so : (hall : HallValue S) (count : ℕ) (input a left wrote c d : Option (List ℕ)) (held : List ℕ) (after : State)
+      → AnsweredSoFar hall count input a wrote c → ServesNext next.BadLine hall.lab hall.state after a held left c d
+      → Stopped Left (fault.BadLine (count + 1)) lab input left wrote d
+  bad_so hall count input a left wrote c d held after so serves = (
+    serves.0,
+    still lab input a (prepend_known serves.0 left) wrote c d so.answered serves.1 serves.3,
+    left_so hall count input a wrote c so,
+    ap (λ n. n + 1) (sym so.counted),
+    subst (λ (t : LabValue). IsBad t.sessions serves.0) so.same_lab serves.2,
+  )
+
+  pub unread_so : (hall : HallValue S) (count : ℕ) (input a left wrote c d : Option (List ℕ)) (held : List ℕ) (after : State)
+      → AnsweredSoFar hall count input a wrote c → ServesNext next.ReadFault hall.lab hall.state after a held left c d
+      → Stopped Left fault.Read lab input left wrote d
+  unread_so hall count input a left wrote c d held after so serves =
+      (held, still lab input a (prepend_known held left) wrote c d so.answered serves.0 serves.2, left_so hall count input a wrote c so, serves.1)
+
+  pub unwritten_so : (hall hall' : HallValue S) (count n : ℕ) (input a left wrote c d : Option (List ℕ)) (held : List ℕ)
+      → AnsweredSoFar hall count input a wrote c → hall'.lab ≡ hall.lab
+      → TellsJournal hall'.lab hall'.state (contents hall'.sink) → Halts hall.state.halted hall'.state.halted (failures hall.sink) (failures hall'.sink)
+      → ServesNext (next.WriteFault n) hall.lab hall.state hall'.state a held left c d
+      → Stopped Left (fault.Write n) lab input left wrote d
+  unwritten_so hall hall' count n input a left wrote c d held so same tells halts serves =
+      let t = so.answered.transcript in
+      let after = hall'.state in
+      let one = from_end hall t.end after (next.WriteFault n) a left c d held so.same_lab so.stands serves in (
+        held,
+        record {
+          transcript = t;
+          after = after;
+          last = one.0;
+          short = one.3;
+          consumed = Consumes-trans input a (prepend_known held left) (bytes_read t) (line_read one.0) so.answered.consumed one.1;
+          appended = Appends-trans wrote c d (bytes_written t) (take n (line_written one.0)) so.answered.appended one.4;
+        },
+        (hall'.sink, journals_on hall hall' so.same_lab same so.journals tells halts),
+        one.2,
+      )

@@ -22,7 +22,7 @@ use Rattle.mml_codec.specs.Greetings.{greeting, admitted}
 use Rattle.mml_codec.specs.Lines.{request_in}
 use Rattle.mml_codec.specs.Replies.{is_short}
 use Rattle.mml_codec.specs.Rulings.{reply_of_done}
-use Rattle.mml_hall.specs.Turns.{State, Outcome, Turn, IsRefusal, GrowsByGrant, place_in, nothing, while_read, later, known_on, with_known, told, settled, answer_to, plain_turn, takes_memory, without_memory}
+use Rattle.mml_hall.specs.Turns.{State, Outcome, Turn, IsRefusal, GrowsByGrant, place_in, nothing, while_read, later, sink_failed, known_on, with_known, told, settled, answer_to, plain_turn, takes_memory, without_memory, is_grant, halting, IsKept}
 use Rattle.mml_hall.specs.Serving.{TellsFor}
 
 -- nothing changes where a connection stays known as it was
@@ -63,7 +63,7 @@ refused_greeting lab st k (Some x) (requests.Hello name key) e h = same_known st
 refused_greeting lab st k None requests.Bye e h = absurd h
 refused_greeting lab st k (Some x) requests.Bye e h = absurd h
 refused_greeting lab st k None (requests.Do c) e h = same_known st k None e
-refused_greeting lab st k (Some x) (requests.Do c) e h = refused_told st (ruling lab.ids lab.roster lab.events false st.world x c) h
+refused_greeting lab st k (Some x) (requests.Do c) e h = refused_told st (ruling lab.ids lab.roster lab.events st.halted st.world x c) h
 
 refused_answer : (lab : LabValue) (st : State) (k : ℕ) (asked : Result Request LineFault)
     → IsRefusal (answer_to lab st k asked).reply → (answer_to lab st k asked).state ≡ st
@@ -75,15 +75,27 @@ refused_later : (st : State) (out : Outcome) (takes : Bool) → (IsRefusal out.r
 refused_later st out true plain h = refl
 refused_later st out false plain h = plain h
 
-pub refused_turn : (lab : LabValue) (st : State) (k : ℕ) (line : List ℕ) (out : Outcome) → Turn lab st k line out → IsRefusal out.reply → out.state ≡ st
+kept : (st after : State) → after ≡ st → IsKept st after
+kept st after e = record { world = ap (λ (x : State). x.world) e; events = ap (λ (x : State). x.events) e; greeted = ap (λ (x : State). x.greeted) e }
+
+refused_failing : (st : State) (out : Outcome) (grants : Bool) → (IsRefusal out.reply → out.state ≡ st)
+    → IsRefusal (cond grants (halting st) out).reply → IsKept st (cond grants (halting st) out).state
+refused_failing st out true plain h = record { world = refl; events = refl; greeted = refl }
+refused_failing st out false plain h = kept st out.state (plain h)
+
+pub refused_turn : (lab : LabValue) (st : State) (k : ℕ) (line : List ℕ) (out : Outcome) → Turn lab st k line out → IsRefusal out.reply → IsKept st out.state
 unfolding plain_turn
 refused_turn lab st k line out (nothing, e) h =
-    ap (λ (o : Outcome). o.state) e ∙ refused_answer lab st k (request_in line) (subst (λ (o : Outcome). IsRefusal o.reply) e h)
-refused_turn lab st k line out (while_read, e) h = ap (λ (o : Outcome). o.state) e
+    kept st out.state (ap (λ (o : Outcome). o.state) e ∙ refused_answer lab st k (request_in line) (subst (λ (o : Outcome). IsRefusal o.reply) e h))
+refused_turn lab st k line out (while_read, e) h = kept st out.state (ap (λ (o : Outcome). o.state) e)
 refused_turn lab st k line out (later, e) h =
-    ap (λ (o : Outcome). o.state) e
+    kept st out.state (ap (λ (o : Outcome). o.state) e
     ∙ refused_later st (answer_to lab st k (request_in line)) (takes_memory (answer_to lab st k (request_in line)).reply) (refused_answer lab st k (request_in line))
-    (subst (λ (o : Outcome). IsRefusal o.reply) e h)
+    (subst (λ (o : Outcome). IsRefusal o.reply) e h))
+refused_turn lab st k line out (sink_failed, e) h =
+    subst (λ (o : Outcome). IsKept st o.state) (sym e)
+    (refused_failing st (answer_to lab st k (request_in line)) (is_grant (answer_to lab st k (request_in line)).reply) (refused_answer lab st k (request_in line))
+    (subst (λ (o : Outcome). IsRefusal o.reply) e h))
 
 other_known : (st : State) (k j : ℕ) (x : Option Who) → 0 < k → 0 < j → j ≢ k → known_on (with_known st k x) j ≡ known_on st j
 other_known st k j x some some' differ =
@@ -101,7 +113,7 @@ others_told st j (Granted e d) = refl
 
 others_settled : (lab : LabValue) (st : State) (k j : ℕ) (g : Greeting) → 0 < k → 0 < j → j ≢ k → known_on (settled lab st k g).state j ≡ known_on st j
 others_settled lab st k j (Answered r x) some some' differ = other_known st k j x some some' differ
-others_settled lab st k j (LeftToJudge x c) some some' differ = others_told st j (ruling lab.ids lab.roster lab.events false st.world x c)
+others_settled lab st k j (LeftToJudge x c) some some' differ = others_told st j (ruling lab.ids lab.roster lab.events st.halted st.world x c)
 
 others_answer : (lab : LabValue) (st : State) (k j : ℕ) (asked : Result Request LineFault) → 0 < k → 0 < j → j ≢ k
     → known_on (answer_to lab st k asked).state j ≡ known_on st j
@@ -113,6 +125,11 @@ others_later : (st : State) (j : ℕ) (out : Outcome) (takes : Bool) → known_o
 others_later st j out true plain = refl
 others_later st j out false plain = plain
 
+others_failing : (st : State) (j : ℕ) (out : Outcome) (grants : Bool) → known_on out.state j ≡ known_on st j
+    → known_on (cond grants (halting st) out).state j ≡ known_on st j
+others_failing st j out true plain = refl
+others_failing st j out false plain = plain
+
 pub others_turn : (lab : LabValue) (st : State) (k j : ℕ) (line : List ℕ) (out : Outcome) → Turn lab st k line out → 0 < k → 0 < j → j ≢ k
     → known_on out.state j ≡ known_on st j
 unfolding plain_turn
@@ -122,6 +139,10 @@ others_turn lab st k j line out (while_read, e) some some' differ = ap (λ (o : 
 others_turn lab st k j line out (later, e) some some' differ =
     ap (λ (o : Outcome). known_on o.state j) e
     ∙ others_later st j (answer_to lab st k (request_in line)) (takes_memory (answer_to lab st k (request_in line)).reply)
+    (others_answer lab st k j (request_in line) some some' differ)
+others_turn lab st k j line out (sink_failed, e) some some' differ =
+    ap (λ (o : Outcome). known_on o.state j) e
+    ∙ others_failing st j (answer_to lab st k (request_in line)) (is_grant (answer_to lab st k (request_in line)).reply)
     (others_answer lab st k j (request_in line) some some' differ)
 
 -- ---- a reply that isn't short
@@ -157,7 +178,7 @@ long_greeting lab st k (Some x) (requests.Hello name key) h = absurd (never h)
 long_greeting lab st k None requests.Bye h = absurd (never h)
 long_greeting lab st k (Some x) requests.Bye h = absurd (never h)
 long_greeting lab st k None (requests.Do c) h = absurd (never h)
-long_greeting lab st k (Some x) (requests.Do c) h = long_told st (ruling lab.ids lab.roster lab.events false st.world x c) h
+long_greeting lab st k (Some x) (requests.Do c) h = long_told st (ruling lab.ids lab.roster lab.events st.halted st.world x c) h
 
 long_answer : (lab : LabValue) (st : State) (k : ℕ) (asked : Result Request LineFault)
     → is_short (answer_to lab st k asked).reply ≡ false → (answer_to lab st k asked).state ≡ st
@@ -204,6 +225,16 @@ wanting_later : (lab : LabValue) (st : State) (k : ℕ) (line : List ℕ) (out :
 wanting_later lab st k line out told true e long want = absurd (not_without st out e long)
 wanting_later lab st k line out told false e long want = wanting lab st k line out told e long want
 
+-- so is that of a journal that halts
+not_halting : (st : State) (out : Outcome) → out ≡ halting st → is_short out.reply ≡ false → ⊥
+not_halting st out e long = never (sym (ap (λ (o : Outcome). is_short o.reply) e) ∙ long)
+
+wanting_failing : (lab : LabValue) (st : State) (k : ℕ) (line : List ℕ) (out : Outcome) (told : Reply) (grants : Bool)
+    → out ≡ cond grants (halting st) (plain_turn lab st k line) → is_short out.reply ≡ false → told ≡ (without_memory st).reply
+    → Turn lab st k line (record { reply = told; state = out.state })
+wanting_failing lab st k line out told true e long want = absurd (not_halting st out e long)
+wanting_failing lab st k line out told false e long want = wanting lab st k line out told e long want
+
 -- the reply that is told is that of a turn too
 pub told_turn : (lab : LabValue) (st : State) (k : ℕ) (line : List ℕ) (out : Outcome) (told : Reply) → Turn lab st k line out → TellsFor out.reply told
     → Turn lab st k line (record { reply = told; state = out.state })
@@ -211,6 +242,7 @@ told_turn lab st k line out told turn (inl same) = subst (λ (r : Reply). Turn l
 told_turn lab st k line out told (nothing, e) (inr want) = wanting lab st k line out told e want.0 want.1
 told_turn lab st k line out told (while_read, e) (inr want) = absurd (not_without st out e want.0)
 told_turn lab st k line out told (later, e) (inr want) = wanting_later lab st k line out told (takes_memory (plain_turn lab st k line).reply) e want.0 want.1
+told_turn lab st k line out told (sink_failed, e) (inr want) = wanting_failing lab st k line out told (is_grant (plain_turn lab st k line).reply) e want.0 want.1
 
 -- ---- the events that turns make
 
@@ -242,7 +274,7 @@ growing_greeting lab st k (Some x) (requests.Hello name key) = inl (refl, refl, 
 growing_greeting lab st k None requests.Bye = inl (refl, refl, refl)
 growing_greeting lab st k (Some x) requests.Bye = inl (refl, refl, refl)
 growing_greeting lab st k None (requests.Do c) = inl (refl, refl, refl)
-growing_greeting lab st k (Some x) (requests.Do c) = growing_told st (ruling lab.ids lab.roster lab.events false st.world x c)
+growing_greeting lab st k (Some x) (requests.Do c) = growing_told st (ruling lab.ids lab.roster lab.events st.halted st.world x c)
 
 growing_answer : (lab : LabValue) (st : State) (k : ℕ) (asked : Result Request LineFault) → GrowsByGrant st (answer_to lab st k asked)
 growing_answer lab st k (Err fault) = inl (refl, refl, refl)
@@ -252,6 +284,10 @@ growing_later : (st : State) (out : Outcome) (takes : Bool) → GrowsByGrant st 
 growing_later st out true grows = inl (refl, refl, refl)
 growing_later st out false grows = grows
 
+growing_failing : (st : State) (out : Outcome) (grants : Bool) → GrowsByGrant st out → GrowsByGrant st (cond grants (halting st) out)
+growing_failing st out true grows = inl (refl, refl, refl)
+growing_failing st out false grows = grows
+
 pub growing_turn : (lab : LabValue) (st : State) (k : ℕ) (line : List ℕ) (out : Outcome) → Turn lab st k line out → GrowsByGrant st out
 unfolding plain_turn
 growing_turn lab st k line out (nothing, e) = subst (GrowsByGrant st) (sym e) (growing_answer lab st k (request_in line))
@@ -259,3 +295,6 @@ growing_turn lab st k line out (while_read, e) = subst (GrowsByGrant st) (sym e)
 growing_turn lab st k line out (later, e) =
     subst (GrowsByGrant st) (sym e)
     (growing_later st (answer_to lab st k (request_in line)) (takes_memory (answer_to lab st k (request_in line)).reply) (growing_answer lab st k (request_in line)))
+growing_turn lab st k line out (sink_failed, e) =
+    subst (GrowsByGrant st) (sym e)
+    (growing_failing st (answer_to lab st k (request_in line)) (is_grant (answer_to lab st k (request_in line)).reply) (growing_answer lab st k (request_in line)))

@@ -6,17 +6,18 @@ use Rattle.mml_board.specs.World.{IsWorld, size, opening_of}
 use Rattle.mml_board.specs.Runs.{is_legal_list, world_of}
 use Rattle.mml_hall.specs.Turns.{State}
 
-pub record HallValue : Type 0 where
+pub record HallValue (S : Type 0) : Type 0 where
   pub lab : LabValue
   pub state : State
+  pub sink : S
 
 -- the events are legal from the lab's opening world, and the world is theirs; who is known on the lab's connections takes part
-pub record IsHall (h : HallValue) : Type 0 where
-  pub lab : IsLab h.lab
-  pub world : IsWorld h.state.world
-  pub nodes : size h.state.world ≡ length h.lab.ids
-  pub legal : is_legal_list h.lab.roster (opening_of h.lab.network) h.state.events ≡ true
-  pub events : h.state.world ≡ world_of (opening_of h.lab.network) h.state.events
-  pub few : length h.state.events ≤ h.lab.events
-  pub connections : length h.state.greeted ≡ h.lab.sessions
-  pub members : All (λ x. IfSome x (IsPrincipal h.lab.roster)) h.state.greeted
+pub record IsHall (lab : LabValue) (st : State) : Type 0 where
+  pub is_lab : IsLab lab
+  pub world : IsWorld st.world
+  pub nodes : size st.world ≡ length lab.ids
+  pub legal : is_legal_list lab.roster (opening_of lab.network) st.events ≡ true
+  pub events : st.world ≡ world_of (opening_of lab.network) st.events
+  pub few : length st.events ≤ lab.events
+  pub connections : length st.greeted ≡ lab.sessions
+  pub members : All (λ x. IfSome x (IsPrincipal lab.roster)) st.greeted

@@ -41,19 +41,23 @@ pub record LastCutShort (written : ℕ) (lab : LabValue) (input left wrote wrote
   pub consumed : Consumes input left (bytes_read transcript ++ line_read last)
   pub appended : Appends wrote wrote' (bytes_written transcript ++ take written (line_written last))
 
--- all lines of the input were answered, the hall is where they lead, and after them came the front of a script line
-abbrev pub Finished : HallValue → LabValue → Option (List ℕ) → Option (List ℕ) → Option (List ℕ) → Option (List ℕ) → Type 0
-Finished hall lab input left wrote wrote' =
-    (held : List ℕ) × (a : AllAnswered lab input (prepend_known held left) wrote wrote') × (hall ≡ record { lab = lab; state = a.transcript.end })
-    × IsWithinLimit MAX_SCRIPT_LINE held × IsAtEnd left
+-- all lines of the input were answered, the hall is where they lead, its sink is left so, and after the lines came the
+-- front of a script line
+abbrev pub Finished : {S : Type 0} → (S → State → Type 0) → HallValue S → LabValue → Option (List ℕ) → Option (List ℕ) → Option (List ℕ) → Option (List ℕ) → Type 0
+Finished Leaves hall lab input left wrote wrote' =
+    (held : List ℕ) × (a : AllAnswered lab input (prepend_known held left) wrote wrote') × (hall.lab ≡ lab) × (hall.state ≡ a.transcript.end)
+    × Leaves hall.sink a.transcript.end × IsWithinLimit MAX_SCRIPT_LINE held × IsAtEnd left
 
--- what was answered when a fault came. What comes after it of the input is what was held, and then what the reader has left:
--- after a failed read the front of a script line, after a failed write no more than one read brought in
-abbrev pub Stopped : ScriptFault → LabValue → Option (List ℕ) → Option (List ℕ) → Option (List ℕ) → Option (List ℕ) → Type 0
-Stopped fault.Read lab input left wrote wrote' =
-    (held : List ℕ) × AllAnswered lab input (prepend_known held left) wrote wrote' × IsWithinLimit MAX_SCRIPT_LINE held
-Stopped (fault.Write n) lab input left wrote wrote' =
-    (held : List ℕ) × LastCutShort n lab input (prepend_known held left) wrote wrote' × (length held < READ_SIZE)
-Stopped (fault.BadLine k) lab input left wrote wrote' =
-    (held : List ℕ) × (a : AllAnswered lab input (prepend_known held left) wrote wrote') × (k ≡ length a.transcript.lines + 1) × IsBad lab.sessions held
-Stopped fault.Memory lab input left wrote wrote' = Consumes input left [] × Appends wrote wrote' []
+-- what was answered when a fault came, and how the sink was left that is gone with the hall. What comes after it of the input
+-- is what was held, and then what the reader has left: after a failed read the front of a script line, after a failed write no
+-- more than one read brought in
+abbrev pub Stopped : {S : Type 0} → (S → State → Type 0) → ScriptFault → LabValue → Option (List ℕ) → Option (List ℕ) → Option (List ℕ) → Option (List ℕ) → Type 0
+Stopped {S} Leaves fault.Read lab input left wrote wrote' =
+    (held : List ℕ) × (a : AllAnswered lab input (prepend_known held left) wrote wrote') × ((sink : S) × Leaves sink a.transcript.end)
+    × IsWithinLimit MAX_SCRIPT_LINE held
+Stopped {S} Leaves (fault.Write n) lab input left wrote wrote' =
+    (held : List ℕ) × (a : LastCutShort n lab input (prepend_known held left) wrote wrote') × ((sink : S) × Leaves sink a.after) × (length held < READ_SIZE)
+Stopped {S} Leaves (fault.BadLine k) lab input left wrote wrote' =
+    (held : List ℕ) × (a : AllAnswered lab input (prepend_known held left) wrote wrote') × ((sink : S) × Leaves sink a.transcript.end)
+    × (k ≡ length a.transcript.lines + 1) × IsBad lab.sessions held
+Stopped Leaves fault.Memory lab input left wrote wrote' = Consumes input left [] × Appends wrote wrote' []

@@ -1,5 +1,5 @@
 -- What one line does, and what many do.
-use Rattle.std.specs.Prelude.{◌≡◌, ◌⊎◌, ℕ, ◌+◌, ◌-◌, List, [], ◌∷◌, ◌++◌, replicate, Bool, true, false, Option, None, Some, Result, Ok, Err, slice_index_or, slice_set, if◌then◌else◌}
+use Rattle.std.specs.Prelude.{◌≡◌, ◌⊎◌, ℕ, ◌+◌, ◌-◌, ◌<◌, List, [], ◌∷◌, ◌++◌, replicate, Bool, true, false, Option, None, Some, is_some, Result, Ok, Err, slice_index_or, slice_set, if◌then◌else◌}
 use Rattle.mml_lab.specs.declared.who.Who.{Who}
 use Rattle.mml_lab.specs.Labs.{LabValue}
 use Rattle.mml_board.specs.declared.event.Event.{Event}
@@ -12,11 +12,14 @@ use Rattle.mml_codec.specs.declared.request.Request.{Request}
 use Rattle.mml_codec.specs.Lines.{request_in}
 use Rattle.mml_codec.specs.declared.reply.Reply.{Reply}
 use Rattle.mml_codec.specs.declared.reply.Reply.TheVariants as reply
+use Rattle.mml_codec.specs.declared.reply.Refused.{Refused}
 use Rattle.mml_codec.specs.declared.reply.Refused.TheVariants as refused
 use Rattle.mml_codec.specs.declared.greeting.Greeting.{Greeting}
 use Rattle.mml_codec.specs.declared.greeting.Greeting.TheVariants.{Answered, LeftToJudge}
 use Rattle.mml_codec.specs.Greetings.{refusal_of, greeting}
 use Rattle.mml_codec.specs.Rulings.{reply_of}
+use Rattle.mml_hall.specs.declared.prevented.Prevented.{Prevented}
+use Rattle.mml_hall.specs.declared.prevented.Prevented.TheVariants as prevented
 
 pub record State : Type 0 where
   pub world : World
@@ -24,10 +27,12 @@ pub record State : Type 0 where
   pub events : List Event
   -- for each connection, from 1, who is known on it, if anyone is
   pub greeted : List (Option Who)
+  -- whether a put into the journal's sink has failed; then nothing is granted any longer
+  pub halted : Bool
 
--- at the beginning nothing was granted, and nobody is known on any connection
+-- at the beginning nothing was granted, nobody is known on any connection, and no put has failed
 abbrev pub opening : LabValue → State
-opening lab = record { world = opening_of lab.network; events = []; greeted = replicate lab.sessions None }
+opening lab = record { world = opening_of lab.network; events = []; greeted = replicate lab.sessions None; halted = false }
 
 abbrev pub known_on : State → ℕ → Option Who
 known_on st k = slice_index_or st.greeted (k - 1) None
@@ -60,20 +65,24 @@ told st r = let after = entered st (event_of r) in record { reply = reply_of aft
 -- what comes of a request: it greets or says bye, or its command is ruled on
 abbrev pub settled : LabValue → State → ℕ → Greeting → Outcome
 settled lab st k (Answered r x) = record { reply = r; state = with_known st k x }
-settled lab st k (LeftToJudge x c) = told st (ruling lab.ids lab.roster lab.events false st.world x c)
+settled lab st k (LeftToJudge x c) = told st (ruling lab.ids lab.roster lab.events st.halted st.world x c)
 
 -- what comes of what a line asks
 abbrev pub answer_to : LabValue → State → ℕ → Result Request LineFault → Outcome
 answer_to lab st k (Err fault) = replied st (reply.Refuse (refusal_of fault))
 answer_to lab st k (Ok request) = settled lab st k (greeting lab.roster (known_on st k) request)
 
--- the turn of a line on a connection, which knows no want of memory
+-- the turn of a line on a connection, which knows no want of memory and no sink that fails
 unfoldable pub plain_turn : LabValue → State → ℕ → List ℕ → Outcome
 plain_turn lab st k line = answer_to lab st k (request_in line)
 
 -- nothing happens for want of memory
 abbrev pub without_memory : State → Outcome
 without_memory st = replied st (reply.Refuse refused.Memory)
+
+-- the line of the journal isn't taken: the event doesn't take place, and the journal is halted for good
+abbrev pub halting : State → Outcome
+halting st = record { reply = reply.Refuse refused.Journal; state = record st { halted = true } }
 
 -- the reply to a grant names the place of its event
 abbrev pub place_in : Reply → Option ℕ
@@ -107,6 +116,10 @@ takes_memory (reply.Report r) = true
 takes_memory (reply.Deny d) = false
 takes_memory (reply.Refuse r) = false
 
+-- the reply tells a grant
+abbrev pub is_grant : Reply → Bool
+is_grant r = is_some (place_in r)
+
 -- what may befall a turn
 pub data Mishap : Type 0 where
   nothing : Mishap
@@ -114,24 +127,54 @@ pub data Mishap : Type 0 where
   while_read : Mishap
   -- a growth was refused later
   later : Mishap
+  -- a put of the line of the journal failed
+  sink_failed : Mishap
 
 -- the outcome, unless the memory that it takes was refused
 abbrev pub unless_refused : State → Outcome → Outcome
 unless_refused st out = if takes_memory out.reply then without_memory st else out
+
+-- the outcome, unless it is a grant, whose line wasn't taken
+abbrev pub unless_failed : State → Outcome → Outcome
+unless_failed st out = if is_grant out.reply then halting st else out
 
 -- the turn of a line on a connection, by what befell it
 abbrev pub turn : Mishap → LabValue → State → ℕ → List ℕ → Outcome
 turn nothing lab st k line = plain_turn lab st k line
 turn while_read lab st k line = without_memory st
 turn later lab st k line = unless_refused st (plain_turn lab st k line)
+turn sink_failed lab st k line = unless_failed st (plain_turn lab st k line)
 
--- the plain outcome, or nothing for want of the memory that it takes
+-- the refusal that tells what was prevented
+abbrev pub refusal_for : Prevented → Refused
+refusal_for prevented.Memory = refused.Memory
+refusal_for prevented.Journal = refused.Journal
+
+-- what keeps a plain outcome from coming, and the state that it leaves: it takes memory that was refused, or it is a grant
+-- whose line wasn't taken
+abbrev pub Prevents : Prevented → State → Outcome → State → Type 0
+Prevents prevented.Memory st plain after = (takes_memory plain.reply ≡ true) × (after ≡ st)
+Prevents prevented.Journal st plain after = (is_grant plain.reply ≡ true) × (after ≡ (halting st).state)
+
+-- the plain outcome, or that it was prevented
 abbrev pub Comes : State → Outcome → Outcome → Type 0
-Comes st plain out = (out ≡ plain) ⊎ ((takes_memory plain.reply ≡ true) × (out ≡ without_memory st))
+Comes st plain out =
+    (out ≡ plain) ⊎ ((takes_memory plain.reply ≡ true) × (out ≡ without_memory st)) ⊎ ((is_grant plain.reply ≡ true) × (out ≡ halting st))
 
 -- a turn, whatever befell it
 abbrev pub Turn : LabValue → State → ℕ → List ℕ → Outcome → Type 0
 Turn lab st k line out = (mishap : Mishap) × (out ≡ turn mishap lab st k line)
+
+-- from one moment to a later one: whether the journal was and is halted, and how many puts of its sink had and have failed.
+-- A put that fails halts it, and no other put fails
+abbrev pub Halts : Bool → Bool → ℕ → ℕ → Type 0
+Halts was now before after = ((now ≡ was) × (after ≡ before)) ⊎ ((was ≡ false) × (now ≡ true) × (before < after))
+
+-- world, events and who is known are as they were
+pub record IsKept (st after : State) : Type 0 where
+  pub world : after.world ≡ st.world
+  pub events : after.events ≡ st.events
+  pub greeted : after.greeted ≡ st.greeted
 
 -- a clause doesn't hold, or the request was refused
 abbrev pub IsRefusal : Reply → Type 0

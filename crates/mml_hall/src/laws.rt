@@ -1,10 +1,12 @@
 //! Laws of turns and scripts. Each is the clause of a function that does nothing.
 
-ghost use Rattle.std.specs.Prelude.{◌≡◌, ◌≢◌, ◌<◌, ◌≤◌, ◌++◌, ℕ, List, length, map};
+ghost use Rattle.std.specs.Prelude.{◌≡◌, ◌≢◌, ◌<◌, ◌≤◌, ◌⊎◌, ◌++◌, ℕ, List, true, length, map};
 ghost use Rattle.mml_lab.specs.declared.TheConstants.{MAX_SESSIONS};
 ghost use Rattle.mml_lab.specs.Labs.{LabValue};
 ghost use Rattle.mml_lines.specs.LinesOf.{IsUnbroken, lines_of};
-ghost use Rattle.mml_hall.specs.Turns.{State, Outcome, Turn, IsRefusal, GrowsByGrant, known_on};
+ghost use Rattle.mml_codec.specs.declared.reply.Reply.TheVariants.{Refuse};
+ghost use Rattle.mml_codec.specs.declared.reply.Refused.TheVariants as refused;
+ghost use Rattle.mml_hall.specs.Turns.{State, Outcome, Turn, Mishap, turn, sink_failed, plain_turn, is_grant, halting, IsRefusal, IsKept, GrowsByGrant, known_on};
 ghost use Rattle.mml_hall.specs.ScriptLines.{script_line};
 ghost use Rattle.mml_hall.specs.Transcripts.{Transcript, bytes_read};
 
@@ -28,10 +30,11 @@ pub fn one_reply_each()
     ensures { (lab : LabValue) (t : Transcript lab) → length t.replies ≡ length t.lines }
 {}
 
-/// What is denied or refused leaves the world, and who is known on each connection, as they were.
+/// What is denied or refused leaves the world, the events, and who is known on each connection, as
+/// they were.
 pub fn refusals_change_nothing()
     ensures { (lab : LabValue) (st : State) (connection : ℕ) (line : List ℕ) (out : Outcome)
-        → Turn lab st connection line out → IsRefusal out.reply → out.state ≡ st }
+        → Turn lab st connection line out → IsRefusal out.reply → IsKept st out.state }
 {}
 
 /// A turn makes at most one event, and only where its reply tells a grant; that names the place of the
@@ -39,6 +42,23 @@ pub fn refusals_change_nothing()
 pub fn events_grow_by_grants()
     ensures { (lab : LabValue) (st : State) (connection : ℕ) (line : List ℕ) (out : Outcome)
         → Turn lab st connection line out → GrowsByGrant st out }
+{}
+
+/// A put that failed halts the journal, in the place of a grant, and nothing else does; it stays halted.
+/// The refusal that tells it comes only where the journal is halted then.
+pub fn failed_puts_halt_for_good()
+    ensures failed { (lab : LabValue) (st : State) (connection : ℕ) (line : List ℕ)
+        → is_grant (plain_turn lab st connection line).reply ≡ true
+        → turn sink_failed lab st connection line ≡ halting st }
+    ensures only { (lab : LabValue) (st : State) (connection : ℕ) (line : List ℕ) (mishap : Mishap)
+        → (turn mishap lab st connection line).state.halted ≡ true
+        → (st.halted ≡ true) ⊎ ((mishap ≡ sink_failed)
+        × (is_grant (plain_turn lab st connection line).reply ≡ true)) }
+    ensures stays { (lab : LabValue) (st : State) (connection : ℕ) (line : List ℕ) (out : Outcome)
+        → Turn lab st connection line out → st.halted ≡ true → out.state.halted ≡ true }
+    ensures cause { (lab : LabValue) (st : State) (connection : ℕ) (line : List ℕ) (out : Outcome)
+        → Turn lab st connection line out → out.reply ≡ Refuse refused.Journal
+        → out.state.halted ≡ true }
 {}
 
 /// A turn changes nothing of who is known on other connections.

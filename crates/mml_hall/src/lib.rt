@@ -4,6 +4,7 @@
 mod auditing;
 mod hall;
 pub mod laws;
+mod prevented;
 mod script;
 mod script_line;
 

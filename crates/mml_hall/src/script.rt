@@ -1,6 +1,8 @@
-ghost use Rattle.std.specs.Prelude.{◌≡◌, ℕ, ◌+◌, ◌<◌, ◌≤◌, length, take, None, OnOk, IfOk, IfErr, vec_capacity};
+ghost use Rattle.std.specs.Prelude.{◌≡◌, ℕ, ◌+◌, ◌-◌, ◌^◌, ◌<◌, ◌≤◌, length, take, None, OnOk, IfOk, IfErr, vec_capacity};
 ghost use Rattle.std.specs.Io.KnownBytes.{Appends, prepend_known};
 ghost use Rattle.mml_codec.specs.Replies.{IsAbout, reply_line};
+ghost use Rattle.mml_hall.specs.Turns.{Halts};
+ghost use Rattle.mml_hall.specs.Journals.{IsFresh, TellsJournal, Journals};
 ghost use Rattle.mml_hall.specs.ScriptLines.{IsScriptLine, line_of};
 ghost use Rattle.mml_hall.specs.Transcripts.{output_line};
 ghost use Rattle.mml_hall.specs.Scripts.{Finished, Stopped};
@@ -11,6 +13,7 @@ use crate::hall::Hall;
 use crate::script_line::{ScriptLine, read_script_line};
 use mml_codec::{REPLY_ROOM, Refused, Reply, write_reply};
 use mml_ids::{Memory, Piece, put};
+use mml_journal::Sink;
 use mml_lab::Lab;
 use mml_lines::{Lines, Step, WriteFault, put_all};
 use std::alloc::{AllocError, Global};
@@ -51,25 +54,30 @@ impl From<Memory> for ScriptFault {
     }
 }
 
-/// Answers the lines of a script one by one, each reply written before the next line is judged.
-pub fn run_script<R: Read, W: Write>(
+/// Answers the lines of a script one by one, each reply written before the next line is judged. The
+/// lines of the granted events go to the sink, which is let go with the hall where a fault ends the
+/// script.
+pub fn run_script<R: Read, W: Write, S: Sink + Drop>(
     alloc: Global,
     lab: Lab,
     reader: &mut R,
     writer: &mut W,
-) -> Result<Hall, ScriptFault>
-    ensures finished { IfOk result (λ hall. Finished hall lab
-        (R.remaining reader.old) (R.remaining reader.new)
+    sink: S,
+) -> Result<Hall<S>, ScriptFault>
+    requires fresh { IsFresh (S.contents sink) }
+    requires countable { S.failures sink < 2 ^ 64 - 1 }
+    ensures finished { IfOk result (λ hall. Finished (Journals S.contents S.failures lab sink)
+        hall lab (R.remaining reader.old) (R.remaining reader.new)
         (W.contents writer.old) (W.contents writer.new)) }
-    ensures stopped { IfErr result (λ fault. Stopped fault lab
-        (R.remaining reader.old) (R.remaining reader.new)
+    ensures stopped { IfErr result (λ fault. Stopped (Journals S.contents S.failures lab sink)
+        fault lab (R.remaining reader.old) (R.remaining reader.new)
         (W.contents writer.old) (W.contents writer.new)) }
     ensures untouched { result ≡ Err ScriptFault.Memory →
         (reader.new ≡ reader.old) × (writer.new ≡ writer.old) }
 {
     let mut lines = Lines::new(alloc, MAX_SCRIPT_LINE)?;
     let mut out = Vec::with_capacity(alloc, REPLY_ROOM)?;
-    let mut hall = Hall::new(alloc, lab)?;
+    let mut hall = Hall::new(alloc, lab, sink)?;
     let mut answered: u64 = 0;
     loop {
         match serve_next(alloc, &mut hall, &mut lines, &mut out, reader, writer) {
@@ -93,9 +101,9 @@ enum Next {
 }
 
 // Reads the next line, answers it and writes the reply.
-fn serve_next<R: Read, W: Write>(
+fn serve_next<R: Read, W: Write, S: Sink>(
     alloc: Global,
-    hall: &mut Hall,
+    hall: &mut Hall<S>,
     lines: &mut Lines,
     out: &mut Vec<u8>,
     reader: &mut R,
@@ -108,6 +116,9 @@ fn serve_next<R: Read, W: Write>(
     ensures limit { lines.new.limit ≡ MAX_SCRIPT_LINE }
     ensures room { REPLY_ROOM ≤ vec_capacity out.new }
     ensures lab { hall.new.lab ≡ hall.old.lab }
+    ensures halts { Halts hall.old.state.halted hall.new.state.halted
+        (S.failures hall.old.sink) (S.failures hall.new.sink) }
+    ensures journal { TellsJournal hall.new.lab hall.new.state (S.contents hall.new.sink) }
     // Each line brings the end nearer, since there is a most of reads.
     ensures progress { result ≡ Next.Answered → bytes_ahead lines.new < bytes_ahead lines.old }
     ensures serves { ServesNext result hall.old.lab hall.old.state hall.new.state
@@ -115,8 +126,9 @@ fn serve_next<R: Read, W: Write>(
         lines.new.unread (R.remaining reader.new)
         (W.contents writer.old) (W.contents writer.new) }
 {
+    let sessions = hall.lab().sessions();
     match lines.next(reader) {
-        Step::Line => match read_script_line(lines.bytes(), hall.lab().sessions()) {
+        Step::Line => match read_script_line(lines.bytes(), sessions) {
             Some(line) => match serve(alloc, hall, line, out, writer) {
                 Ok(()) => Next::Answered,
                 Err(fault) => Next::WriteFault(fault.written),
@@ -130,9 +142,9 @@ fn serve_next<R: Read, W: Write>(
 }
 
 // Answers a script line and writes the reply.
-fn serve<W: Write>(
+fn serve<W: Write, S: Sink>(
     alloc: Global,
-    hall: &mut Hall,
+    hall: &mut Hall<S>,
     line: ScriptLine<'_>,
     out: &mut Vec<u8>,
     writer: &mut W,
@@ -141,6 +153,9 @@ fn serve<W: Write>(
     requires room { REPLY_ROOM ≤ vec_capacity out.old }
     ensures room { REPLY_ROOM ≤ vec_capacity out.new }
     ensures lab { hall.new.lab ≡ hall.old.lab }
+    ensures halts { Halts hall.old.state.halted hall.new.state.halted
+        (S.failures hall.old.sink) (S.failures hall.new.sink) }
+    ensures journal { TellsJournal hall.new.lab hall.new.state (S.contents hall.new.sink) }
     ensures serves { ServesLine result hall.old.lab hall.old.state hall.new.state
         (line_of line.entry) (W.contents writer.old) (W.contents writer.new) }
 {

@@ -34,6 +34,9 @@ pub enum Fault {
     /// The journal can't be opened or read, or is too large.
     #[error("read fault: journal")]
     ReadJournal,
+    /// The journal's file can't be made, or a line of the journal wasn't taken whole.
+    #[error("journal fault")]
+    Journal,
     /// Standard output took less than all.
     #[error("write fault")]
     Write,
@@ -44,13 +47,17 @@ pub enum Fault {
 
 impl Fault {
     /// The exit status that goes with the fault: 1 where the words aren't understood, 2 where lab or
-    /// script is refused, 4 where a read or write failed, 5 for want of memory.
+    /// script is refused, 4 where a read, a write or the journal failed, 5 for want of memory.
     pub fn status(&self) -> u8 {
         match self {
             Fault::CommandLine => 1,
             Fault::Lab(_) | Fault::BadLine(_) => 2,
             Fault::Audit(_) => 3,
-            Fault::ReadLab | Fault::ReadScript | Fault::ReadJournal | Fault::Write => 4,
+            Fault::ReadLab
+            | Fault::ReadScript
+            | Fault::ReadJournal
+            | Fault::Journal
+            | Fault::Write => 4,
             Fault::Memory => 5,
         }
     }

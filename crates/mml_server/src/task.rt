@@ -1,22 +1,37 @@
 //! From the words to the work.
+ghost use Rattle.std.specs.Prelude.{◌<◌, ◌-◌, ◌^◌};
+ghost use Rattle.mml_hall.specs.Journals.{IsFresh};
+
 use crate::answering::{answer_script, answer_through_buffer, write_audit, write_size};
 use crate::built_in;
 use crate::fault::{Fault, memory_or};
-use crate::files::{read_file, read_journal};
+use crate::files::{journal_at, read_file, read_journal};
 use crate::words::{Task, read_words};
+use mml_journal::{NullSink, Sink};
 use mml_lab::{Lab, read_lab};
+use std::fs::File;
 use std::io::BufWriter;
 use std::rt::{Env, Files};
 use std::{env, io};
 
-/// Does what the words of the command line ask for. The lab is read first, and the script is opened
-/// only where there is a lab.
-pub fn run<R: Env + Files + Input + Print + AllocGlobal>(rt: &R) -> Result<(), Fault> {
+/// Does what the words of the command line ask for. The lab is read first, then the journal is made or
+/// emptied, and the script is opened last.
+pub fn run<R: Env + Files<File = File> + Input + Print + AllocGlobal>(rt: &R) -> Result<(), Fault> {
     let words = words_of(rt)?;
     match read_words(rt.alloc(), words.as_slice())? {
         Task::BuiltIn => answer_input(rt),
         Task::Check { lab } => write_size(&lab_of(rt, lab)?, &mut io::writer(rt)),
-        Task::Script { lab, script } => answer_file(rt, lab, script),
+        Task::Script {
+            lab,
+            script,
+            journal,
+        } => {
+            let lab = lab_of(rt, lab)?;
+            match journal {
+                Some(path) => answer_file(rt, lab, script, journal_at(rt, path)?),
+                None => answer_file(rt, lab, script, NullSink::new()),
+            }
+        }
         Task::Audit { lab, journal } => audit_file(rt, lab, journal),
     }
 }
@@ -25,24 +40,37 @@ pub fn run<R: Env + Files + Input + Print + AllocGlobal>(rt: &R) -> Result<(), F
 fn answer_input<R: Input + Print + AllocGlobal>(rt: &R) -> Result<(), Fault> {
     let alloc = rt.alloc();
     let lab = read_lab(alloc, built_in::LAB.as_bytes())?;
-    answer_script(alloc, lab, &mut rt.reader(), &mut io::writer(rt))?;
+    answer_script(
+        alloc,
+        lab,
+        &mut rt.reader(),
+        &mut io::writer(rt),
+        NullSink::new(),
+    )?;
     Ok(())
 }
 
-// Answers the script of a file over the lab of a file, through a buffer.
-fn answer_file<R: Files + Print + AllocGlobal>(
+// Answers the script of a file over a lab, through a buffer. A journal that was halted is told at the
+// end.
+fn answer_file<R: Files + Print + AllocGlobal, S: Sink + Drop>(
     rt: &R,
-    lab: &str,
+    lab: Lab,
     script: &str,
-) -> Result<(), Fault> {
+    sink: S,
+) -> Result<(), Fault>
+    requires fresh { IsFresh (S.contents sink) }
+    requires countable { S.failures sink < 2 ^ 64 - 1 }
+{
     let alloc = rt.alloc();
-    let lab = lab_of(rt, lab)?;
     let script = read_file(rt, script, Fault::ReadScript)?;
     let mut writer = BufWriter::new(alloc, io::writer(rt)).map_err(|error| memory_or(
         &error,
         Fault::Write,
     ))?;
-    answer_through_buffer(alloc, lab, &mut script.as_slice(), &mut writer)?;
+    let hall = answer_through_buffer(alloc, lab, &mut script.as_slice(), &mut writer, sink)?;
+    if hall.halted() {
+        return Err(Fault::Journal);
+    }
     Ok(())
 }
 

@@ -44,6 +44,7 @@ fn faults_have_lines_and_statuses(rt: HostRuntime) -> Result<(), Fail> {
         (Fault::ReadLab, "read fault: lab", 4),
         (Fault::ReadScript, "read fault: script", 4),
         (Fault::ReadJournal, "read fault: journal", 4),
+        (Fault::Journal, "journal fault", 4),
         (Fault::Write, "write fault", 4),
         (Fault::Memory, "out of memory", 5),
     ] {

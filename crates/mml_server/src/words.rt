@@ -10,11 +10,21 @@ pub enum Task<'a> {
     /// To answer the script on standard input over the built-in lab.
     BuiltIn,
     /// To say how large the lab of a file is.
-    Check { lab: &'a str },
+    Check {
+        lab: &'a str,
+    },
     /// To answer the script of a file over the lab of a file.
-    Script { lab: &'a str, script: &'a str },
+    /// The lines of the granted events go to the journal, where one is named.
+    Script {
+        lab: &'a str,
+        script: &'a str,
+        journal: Option<&'a str>,
+    },
     /// To say whether the text of a file is the journal of a legal run of the lab of a file.
-    Audit { lab: &'a str, journal: &'a str },
+    Audit {
+        lab: &'a str,
+        journal: &'a str,
+    },
 }
 
 /// Reads the words, of which the first is the program's name. A word that begins with `-` is refused
@@ -41,7 +51,12 @@ fn task_of<'a>(name: &str, values: &ArgMatches<'a>) -> Option<Task<'a>> {
         "check" => Some(Task::Check { lab }),
         "script" => {
             let script = values.get_str("script")?;
-            Some(Task::Script { lab, script })
+            let journal = values.get_str("journal");
+            Some(Task::Script {
+                lab,
+                script,
+                journal,
+            })
         }
         "audit" => {
             let journal = values.get_str("journal")?;
@@ -54,7 +69,7 @@ fn task_of<'a>(name: &str, values: &ArgMatches<'a>) -> Option<Task<'a>> {
 fn whole<'a>(alloc: Global) -> Result<Command<'a>, AllocError> {
     plain(alloc, "mml_server")
         .subcommand(subcommand(alloc, "check", &["lab"])?)?
-        .subcommand(subcommand(alloc, "script", &["lab", "script"])?)?
+        .subcommand(with_journal(alloc, subcommand(alloc, "script", &["lab", "script"])?)?)?
         .subcommand(subcommand(alloc, "audit", &["lab", "journal"])?)
 }
 
@@ -69,6 +84,11 @@ fn subcommand<'a>(
         command = command.arg(Arg::new(alloc, value).required(true).action(ArgAction::Set))?;
     }
     Ok(command)
+}
+
+// One value more, which may be left out.
+fn with_journal<'a>(alloc: Global, command: Command<'a>) -> Result<Command<'a>, AllocError> {
+    command.arg(Arg::new(alloc, "journal").action(ArgAction::Set))
 }
 
 // A command without help and version.

@@ -1,5 +1,6 @@
 //! Scripts from the bytes that come in to the bytes that go out.
 mod failing;
+mod journals;
 mod order;
 mod reads;
 mod requests;
@@ -8,6 +9,7 @@ use mml_fakes::FakeWriter;
 use mml_fakes::labs::PATH_OF_THREE;
 use mml_fakes::scripts::{FIRST_LOOK, FIRST_LOOK_REPLIES, GREETING, GREETING_REPLIES};
 use mml_hall::{ScriptFault, run_script};
+use mml_journal::NullSink;
 use mml_lab::read_lab;
 use std::alloc::{AllocError, Global};
 use std::io::{Read, Write};
@@ -20,7 +22,7 @@ fn fault_of<R: Read, W: Write>(
     writer: &mut W,
 ) -> Result<Option<ScriptFault>, Fail> {
     let lab = read_lab(alloc, PATH_OF_THREE.as_bytes())?;
-    Ok(run_script(alloc, lab, reader, writer).err())
+    Ok(run_script(alloc, lab, reader, writer, NullSink::new()).err())
 }
 
 /// What was written in answer to a script, and then its fault.

@@ -1,6 +1,7 @@
 use super::*;
 use crate::built_in;
 use mml_ids::IdFault;
+use mml_journal::NullSink;
 use mml_lab::{LabFault, read_lab};
 use std::cell::Cell;
 use std::io;
@@ -63,7 +64,13 @@ fn built_in_lab(alloc: Global) -> Result<Lab, Fault> {
 // What came of a script over the built-in lab through a buffer before the writer.
 fn buffered(alloc: Global, script: &str, writer: &mut BufWriter<Recorder>) -> Option<Fault> {
     match built_in_lab(alloc) {
-        Ok(lab) => answer_through_buffer(alloc, lab, &mut script.as_bytes(), writer).err(),
+        Ok(lab) => answer_through_buffer(
+            alloc,
+            lab,
+            &mut script.as_bytes(),
+            writer,
+            NullSink::new(),
+        ).err(),
         Err(fault) => Some(fault),
     }
 }
@@ -71,7 +78,7 @@ fn buffered(alloc: Global, script: &str, writer: &mut BufWriter<Recorder>) -> Op
 // The same with a write for each line.
 fn at_once(alloc: Global, script: &str, writer: &mut Recorder) -> Option<Fault> {
     match built_in_lab(alloc) {
-        Ok(lab) => answer_script(alloc, lab, &mut script.as_bytes(), writer).err(),
+        Ok(lab) => answer_script(alloc, lab, &mut script.as_bytes(), writer, NullSink::new()).err(),
         Err(fault) => Some(fault),
     }
 }
@@ -208,7 +215,13 @@ fn tells_want_of_memory(rt: HostRuntime) -> Result<(), Fail> {
         let lab = built_in_lab(alloc)?;
         assert_eq!(rt; write_size(&lab, &mut Failing { kind }), Err(write));
         let mut writer = BufWriter::new(alloc, Failing { kind })?;
-        let fault = answer_through_buffer(alloc, lab, &mut "".as_bytes(), &mut writer).err();
+        let fault = answer_through_buffer(
+            alloc,
+            lab,
+            &mut "".as_bytes(),
+            &mut writer,
+            NullSink::new(),
+        ).err();
         let wanted = memory_or(&io::Error::from(kind), Fault::Write);
         assert_eq!(rt; fault, Some(wanted));
     }
@@ -224,7 +237,7 @@ fn tells_a_failed_read(rt: HostRuntime) -> Result<(), Fail> {
         kind: ErrorKind::Other,
     };
     let mut out = Vec::new(rt.alloc());
-    let fault = answer_script(rt.alloc(), lab, &mut reader, &mut out).err();
+    let fault = answer_script(rt.alloc(), lab, &mut reader, &mut out, NullSink::new()).err();
     assert_eq!(rt; fault, Some(Fault::ReadScript));
     Ok(())
 }
@@ -277,7 +290,7 @@ fn replies_go_out_before_the_next_read(rt: HostRuntime) -> Result<(), Fail> {
     };
     let mut counter = Counter { replies: &replies };
     let lab = built_in_lab(rt.alloc())?;
-    let fault = answer_script(rt.alloc(), lab, &mut asker, &mut counter).err();
+    let fault = answer_script(rt.alloc(), lab, &mut asker, &mut counter, NullSink::new()).err();
     assert_eq!(rt; fault, None);
     assert_eq!(rt; asker.seen.as_slice(), [0, 1, 2, 3, 4].as_slice());
     Ok(())

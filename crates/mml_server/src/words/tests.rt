@@ -36,6 +36,7 @@ fn takes_each_form(rt: HostRuntime) -> Result<(), Fail> {
             Task::Script {
                 lab: "a",
                 script: "b",
+                journal: None,
             },
         ),
         (
@@ -43,6 +44,23 @@ fn takes_each_form(rt: HostRuntime) -> Result<(), Fail> {
             Task::Script {
                 lab: "a",
                 script: "a",
+                journal: None,
+            },
+        ),
+        (
+            "script a b c",
+            Task::Script {
+                lab: "a",
+                script: "b",
+                journal: Some("c"),
+            },
+        ),
+        (
+            "script a b ",
+            Task::Script {
+                lab: "a",
+                script: "b",
+                journal: Some(""),
             },
         ),
         (
@@ -57,6 +75,7 @@ fn takes_each_form(rt: HostRuntime) -> Result<(), Fail> {
             Task::Script {
                 lab: "help",
                 script: "version",
+                journal: None,
             },
         ),
     ] {
@@ -124,7 +143,7 @@ const NOT_UNDERSTOOD: [&str; 60] = [
     "audit a -",
     "script",
     "script a",
-    "script a b c",
+    "script a b -",
     "script a b c d",
     "script a -",
     "script - b",

@@ -2,6 +2,7 @@
 use mml_fakes::labs::PATH_OF_THREE;
 use mml_fakes::scripts::FIRST_LOOK;
 use mml_hall::run_script;
+use mml_journal::NullSink;
 use mml_lab::read_lab;
 use std::cell::Cell;
 use std::io;
@@ -56,7 +57,7 @@ fn replies_go_out_before_the_next_read(rt: HostRuntime) -> Result<(), Fail> {
     };
     let mut counter = Counter { replies: &replies };
     let lab = read_lab(rt.alloc(), PATH_OF_THREE.as_bytes())?;
-    let fault = run_script(rt.alloc(), lab, &mut asker, &mut counter).err();
+    let fault = run_script(rt.alloc(), lab, &mut asker, &mut counter, NullSink::new()).err();
     assert_eq!(rt; fault, None);
     assert_eq!(rt; asker.seen.as_slice(), [0, 1, 2, 3, 4].as_slice());
     Ok(())

@@ -3,6 +3,7 @@ use mml_fakes::labs::PATH_OF_THREE;
 use mml_fakes::scripts::{FIRST_LOOK, FIRST_LOOK_REPLIES, GREETING, GREETING_REPLIES};
 use mml_fakes::{FakeReader, FakeWriter};
 use mml_hall::{ScriptFault, run_script};
+use mml_journal::NullSink;
 use mml_lab::read_lab;
 use std::alloc::Global;
 use std::test::Fail;
@@ -15,7 +16,7 @@ fn run(
 ) -> Result<(Option<ScriptFault>, Vec<u8>), Fail> {
     let lab = read_lab(alloc, lab.as_bytes())?;
     let mut writer = FakeWriter::patient(alloc);
-    let fault = run_script(alloc, lab, reader, &mut writer).err();
+    let fault = run_script(alloc, lab, reader, &mut writer, NullSink::new()).err();
     Ok((fault, writer.taken))
 }
 

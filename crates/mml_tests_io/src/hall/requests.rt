@@ -2,6 +2,7 @@
 use mml_codec::{Refused, Reply};
 use mml_fakes::labs::PAIR;
 use mml_hall::Hall;
+use mml_journal::NullSink;
 use mml_lab::{Who, read_lab};
 use mml_policy::Denial;
 use std::alloc::Global;
@@ -111,7 +112,7 @@ const TURNS: [(u8, &str, Told); 25] = [
 ];
 
 /// The answer on a connection, if there is such a one.
-fn answered(alloc: Global, hall: &mut Hall, connection: u8, line: &str) -> Option<Told> {
+fn answered(alloc: Global, hall: &mut Hall<NullSink>, connection: u8, line: &str) -> Option<Told> {
     if connection == 0 || connection > hall.lab().sessions() {
         return None;
     }
@@ -122,7 +123,7 @@ fn answered(alloc: Global, hall: &mut Hall, connection: u8, line: &str) -> Optio
 #[test]
 fn requests_are_answered(rt: HostRuntime) -> Result<(), Fail> {
     let lab = read_lab(rt.alloc(), PAIR.as_bytes())?;
-    let mut hall = Hall::new(rt.alloc(), lab)?;
+    let mut hall = Hall::new(rt.alloc(), lab, NullSink::new())?;
     for (connection, line, wanted) in TURNS {
         let found = answered(rt.alloc(), &mut hall, connection, line);
         assert_eq!(rt; found, Some(wanted), "{connection} {line}");

@@ -10,7 +10,7 @@ use Rattle.mml_hall.proofs.script.run_script.Given as goal
 
 abbrev pub invariant-loop-answered : goal.invariant-loop-answered
 invariant-loop-answered g l = record {
-  so_far : AnsweredSoFar l.fn.lab l.hall l.answered (g.R.Read.remaining l.fn.reader) (prepend_known l.lines.unread (g.R.Read.remaining l.reader)) (g.W.Write.contents l.fn.writer) (g.W.Write.contents l.writer);
+  so_far : AnsweredSoFar g.S.Sink.contents g.S.Sink.failures l.fn.lab l.fn.sink l.hall l.answered (g.R.Read.remaining l.fn.reader) (prepend_known l.lines.unread (g.R.Read.remaining l.reader)) (g.W.Write.contents l.fn.writer) (g.W.Write.contents l.writer);
   going : l.lines.ending ≡ None;
   limit : l.lines.limit ≡ MAX_SCRIPT_LINE;
   few : l.answered + bytes_ahead l.lines ≤ READ_SIZE * MAX_READS;

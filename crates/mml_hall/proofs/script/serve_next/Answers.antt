@@ -35,4 +35,4 @@ returns-in-None-clause-serves g c =
     bad_next c.args.hall.now.lab c.args.hall.now.state c.args.hall.now.state _ _ _ c.next.new.self.unread
     (bad_line (prepend_known c.args.lines.now.unread (g.R.Read.remaining c.args.reader.now)) (g.R.Read.remaining c.next.new.reader) c.next.new.self.line c.next.new.self.unread
     c.next.new.self.limit c.args.hall.now.lab.sessions c.in-Line.ensures.taken (c.in-Line.ensures.limit ∙ c.requires.limit) says.0 says.1
-    (rw (c.bytes.ensures, c.sessions.ensures, c.lab.ensures.lab) at c.in-None.ensures.none))
+    (rw (c.bytes.ensures, c.sessions-sessions.ensures, c.lab.ensures.lab) at c.in-None.ensures.none))

@@ -1,0 +1,239 @@
+//! Scripts over sinks in memory: what is refused once a put has failed, and what the sink has then.
+use mml_fakes::FakeWriter;
+use mml_fakes::labs::PATH_OF_THREE;
+use mml_hall::{Hall, run_script};
+use mml_journal::{MemorySink, Sink, SinkFault};
+use mml_lab::read_lab;
+use std::alloc::Global;
+use std::test::Fail;
+
+/// The greetings of all four.
+const GREETINGS: &str = r#"1 {"do":"hello","key":"a-key","name":"ana"}
+2 {"do":"hello","key":"b-key","name":"ben"}
+3 {"do":"hello","key":"c-key","name":"cyd"}
+4 {"do":"hello","key":"chalk","name":"tess"}
+"#;
+
+const WELCOMES: &str = r#"1 {"ok":"hello","who":"ana"}
+2 {"ok":"hello","who":"ben"}
+3 {"ok":"hello","who":"cyd"}
+4 {"ok":"hello","who":"tess"}
+"#;
+
+/// Ten acts that are granted.
+const TEN_ACTS: &str = r#"1 {"at":0,"do":"move","node":1,"rule":"seduction"}
+2 {"at":0,"do":"move","node":2,"rule":"seduction"}
+4 {"do":"close"}
+3 {"at":1,"do":"move","node":3,"rule":"marriage","with":2}
+4 {"do":"close"}
+2 {"at":2,"do":"move","node":2,"rule":"update"}
+3 {"at":2,"do":"move","node":3,"rule":"update"}
+4 {"do":"close"}
+1 {"at":3,"do":"move","node":1,"rule":"abandonment"}
+4 {"do":"close"}
+"#;
+
+const TEN_GRANTS: &str = r#"1 {"at":0,"node":1,"ok":"move","place":1,"rule":"seduction"}
+2 {"at":0,"node":2,"ok":"move","place":2,"rule":"seduction"}
+4 {"at":1,"moved":[1,2],"ok":"close","place":3}
+3 {"at":1,"node":3,"ok":"move","place":4,"rule":"marriage"}
+4 {"at":2,"moved":[3],"ok":"close","place":5}
+2 {"at":2,"node":2,"ok":"move","place":6,"rule":"update"}
+3 {"at":2,"node":3,"ok":"move","place":7,"rule":"update"}
+4 {"at":3,"moved":[2,3],"ok":"close","place":8}
+1 {"at":3,"node":1,"ok":"move","place":9,"rule":"abandonment"}
+4 {"at":4,"moved":[1],"ok":"close","place":10}
+"#;
+
+const TEN_LINES: &str = r#"1 0 grant ana 1 seduction
+2 0 grant ben 2 seduction
+3 0 close
+4 1 grant cyd 3 marriage 2
+5 1 close
+6 2 grant ben 2 update
+7 2 grant cyd 3 update
+8 2 close
+9 3 grant ana 1 abandonment
+10 3 close
+"#;
+
+/// A sink that takes one byte a put, and after so many fails for good.
+#[derive(Drop)]
+struct Drip {
+    bytes: Vec<u8>,
+    left: usize,
+    failures: u64,
+}
+
+impl Sink for Drip {
+    ghost use Rattle.std.specs.Prelude.{None};
+
+    ghost contents = { λ _. None };
+
+    ghost failures = { λ s. s.failures };
+
+    fn put(&mut self, bytes: &[u8]) -> Result<usize, SinkFault> {
+        if self.left == 0 || self.bytes.push(bytes[0]).is_err() {
+            self.failures += 1;
+            return Err(SinkFault);
+        }
+        self.left -= 1;
+        Ok(1)
+    }
+}
+
+/// The replies to the greetings and then a script over a sink in memory, and the hall that it leaves.
+fn run(
+    alloc: Global,
+    script: &str,
+    fail_at: Option<u64>,
+) -> Result<(String, Hall<MemorySink>), Fail> {
+    let lab = read_lab(alloc, PATH_OF_THREE.as_bytes())?;
+    let lines = format!(in alloc; "{GREETINGS}{script}")?;
+    let mut writer = FakeWriter::patient(alloc);
+    let sink = MemorySink::new(alloc, fail_at);
+    let hall = run_script(alloc, lab, &mut lines.as_bytes(), &mut writer, sink)?;
+    Ok((String::from_utf8(writer.taken)?, hall))
+}
+
+const AFTER_A_HALT: &str = r#"1 {"at":0,"do":"move","node":1,"rule":"seduction"}
+2 {"at":0,"do":"move","node":2,"rule":"seduction"}
+2 {"do":"look","node":2}
+1 {"at":0,"do":"move","node":1,"rule":"seduction"}
+2 {"at":0,"do":"move","node":2,"rule":"seduction"}
+4 {"do":"close"}
+4 {"do":"release","node":1}
+4 {"do":"fault","m":true,"node":3,"p":null}
+4 {"a":1,"b":3,"do":"link"}
+4 {"a":1,"b":2,"do":"cut"}
+4 {"a":1,"b":3,"do":"cut"}
+3 {"do":"bye"}
+"#;
+
+const AFTER_A_HALT_REPLIES: &str = r#"1 {"at":0,"node":1,"ok":"move","place":1,"rule":"seduction"}
+2 {"refuse":"journal"}
+2 {"at":0,"chosen":null,"m":false,"near":[{"m":false,"node":1,"p":null},{"m":false,"node":3,"p":null}],"node":2,"ok":"look","p":null,"rule":"seduction"}
+1 {"clause":3,"deny":"chosen","text":"this node is already chosen"}
+2 {"refuse":"journal"}
+4 {"refuse":"journal"}
+4 {"refuse":"journal"}
+4 {"refuse":"journal"}
+4 {"refuse":"journal"}
+4 {"refuse":"journal"}
+4 {"clause":3,"deny":"not-linked","text":"these nodes are not linked"}
+3 {"ok":"bye"}
+"#;
+
+#[test]
+fn nothing_is_granted_after_a_failed_put(rt: HostRuntime) -> Result<(), Fail> {
+    let (replies, hall) = run(rt.alloc(), AFTER_A_HALT, Some(2))?;
+    let wanted = format!(in rt.alloc(); "{WELCOMES}{AFTER_A_HALT_REPLIES}")?;
+    assert_eq!(rt; replies, wanted);
+    assert_eq!(rt;
+        hall.sink().bytes(),
+        b"1 0 grant ana 1 seduction\n".as_slice()
+    );
+    assert_eq!(rt;
+        (hall.halted(), hall.events().len(), hall.board().place()),
+        (true, 1, 1)
+    );
+    Ok(())
+}
+
+/// The first lines of a text, so many.
+fn first_lines(text: &str, count: usize) -> &str {
+    let mut rest = text;
+    for _ in 0..count {
+        match rest.split_once('\n') {
+            Some((_, after)) => rest = after,
+            None => return text,
+        }
+    }
+    text.strip_suffix(rest).unwrap_or(text)
+}
+
+/// Whether a line denies, or tells that the journal takes no line.
+fn is_refused(line: &str) -> bool {
+    line.ends_with("{\"refuse\":\"journal\"}") || line.contains("\"deny\":")
+}
+
+/// Whether a sink that fails at this put leaves the acts before it granted, with their lines, and all
+/// later ones refused.
+fn stops_at(alloc: Global, put: u64) -> Result<bool, Fail> {
+    let (replies, hall) = run(alloc, TEN_ACTS, Some(put))?;
+    let granted = hall.events().len();
+    let before = format!(in alloc; "{WELCOMES}{}", first_lines(TEN_GRANTS, granted))?;
+    let Some(after) = replies.strip_prefix(before.as_str()) else {
+        return Ok(false);
+    };
+    let Some((first, _)) = after.split_once('\n') else {
+        return Ok(false);
+    };
+    Ok(
+        granted as u64 + 1 == put
+            && hall.halted()
+            && hall.sink().bytes() == first_lines(TEN_LINES, granted).as_bytes()
+            && first.ends_with("{\"refuse\":\"journal\"}")
+            && after.lines().all(is_refused),
+    )
+}
+
+#[test]
+fn each_put_may_fail(rt: HostRuntime) -> Result<(), Fail> {
+    let mut stopped = 0usize;
+    for put in 1..=10 {
+        if stops_at(rt.alloc(), put)? {
+            stopped = stopped.saturating_add(1);
+        }
+    }
+    assert_eq!(rt; stopped, 10);
+    Ok(())
+}
+
+#[test]
+fn a_run_has_its_journal(rt: HostRuntime) -> Result<(), Fail> {
+    let script = format!(in rt.alloc();
+        "{TEN_ACTS}4 {{\"do\":\"report\"}}\n1 {{\"do\":\"report\"}}\n"
+    )?;
+    let (replies, hall) = run(rt.alloc(), script.as_str(), Some(11))?;
+    let wanted = format!(in rt.alloc();
+        "{WELCOMES}{TEN_GRANTS}{}{}",
+        "4 {\"at\":4,\"free\":[1],\"ok\":\"report\",\"open\":[],\"pairs\":[[2,3]],\"privileged\":[],\"stable\":true}\n",
+        "1 {\"clause\":1,\"deny\":\"not-teacher\",\"text\":\"only the teacher may do this\"}\n",
+    )?;
+    assert_eq!(rt; replies, wanted);
+    assert_eq!(rt; hall.sink().bytes(), TEN_LINES.as_bytes());
+    assert_eq!(rt; hall.halted(), false);
+    Ok(())
+}
+
+/// Whether a sink that takes one byte a put and fails after so many has exactly these bytes.
+fn drips(alloc: Global, puts: usize) -> Result<bool, Fail> {
+    let lab = read_lab(alloc, PATH_OF_THREE.as_bytes())?;
+    let lines = format!(in alloc; "{GREETINGS}{TEN_ACTS}")?;
+    let mut writer = FakeWriter::patient(alloc);
+    let sink = Drip {
+        bytes: Vec::new(alloc),
+        left: puts,
+        failures: 0,
+    };
+    let (wanted, _) = TEN_LINES.as_bytes().split_at(puts.min(TEN_LINES.len()));
+    let hall = run_script(alloc, lab, &mut lines.as_bytes(), &mut writer, sink)?;
+    Ok(
+        hall.sink().bytes.as_slice() == wanted
+            && hall.halted() == (puts < TEN_LINES.len())
+            && hall.sink().failures == u64::from(hall.halted()),
+    )
+}
+
+#[test]
+fn each_byte_of_a_journal_may_be_the_last(rt: HostRuntime) -> Result<(), Fail> {
+    let mut exact = 0usize;
+    for puts in 0..=TEN_LINES.len() {
+        if drips(rt.alloc(), puts)? {
+            exact = exact.saturating_add(1);
+        }
+    }
+    assert_eq!(rt; exact, TEN_LINES.len().saturating_add(1));
+    Ok(())
+}
