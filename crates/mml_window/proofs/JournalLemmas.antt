@@ -1,0 +1,45 @@
+-- What the sink of a house has taken, as it begins, grants and halts.
+use Rattle.std.proofs.Common.{◌≡◌, ℕ, ◌<◌, true, false, List, [], ◌∷◌, ◌++◌, ◌∙◌, append-nil, length, take, sym, ap, refl, subst, Option, None, Some, arith}
+use Rattle.mml_lab.specs.Labs.{LabValue}
+use Rattle.mml_board.specs.declared.event.Event.{Event}
+use Rattle.mml_board.specs.World.{opening_of}
+use Rattle.mml_board.specs.Events.{is_legal}
+use Rattle.mml_journal.specs.EventLines.{event_line}
+use Rattle.mml_journal.specs.JournalText.{ended_line, next_line}
+use Rattle.mml_journal.specs.Sinks.{with_more}
+use Rattle.mml_journal.proofs.JournalTextLemmas.{one_more}
+use Rattle.mml_window.specs.Lists.{world_in, text_in}
+use Rattle.mml_window.specs.Journals.{IsJournal, TellsJournal, IsFresh}
+use Rattle.mml_window.proofs.ListLemmas.{place_in}
+
+-- nothing was granted yet
+pub nothing_told : (lab : LabValue) (told : Option (List ℕ)) → IsFresh told → TellsJournal lab [] false told
+nothing_told lab None fresh = tt
+nothing_told lab (Some bytes) fresh = ([], fresh, refl)
+
+-- the text of one event more
+text-one_more : (lab : LabValue) (l : List Event) (e : Event) → text_in lab (l ++ e ∷ []) ≡ text_in lab l ++ next_line lab.ids lab.roster (world_in lab l) e
+text-one_more lab l e =
+    one_more lab.ids lab.roster (opening_of lab.network) l e
+    ∙ ap (λ n. text_in lab l ++ ended_line (event_line lab.ids lab.roster n (world_in lab l).number e)) (omega (arith, place_in lab l))
+
+-- no line is torn before the journal halts
+whole : (lab : LabValue) (l : List Event) (bytes : List ℕ) → IsJournal lab l false bytes → bytes ≡ text_in lab l
+whole lab l bytes j = j.1 ∙ ap (λ t. text_in lab l ++ t) j.2 ∙ append-nil _
+
+-- the line of a granted event was taken
+pub line_taken : (lab : LabValue) (l : List Event) (e : Event) (old new : Option (List ℕ)) → TellsJournal lab l false old
+    → new ≡ with_more old (next_line lab.ids lab.roster (world_in lab l) e) → TellsJournal lab (l ++ e ∷ []) false new
+line_taken lab l e None new j more = subst (TellsJournal lab (l ++ e ∷ []) false) (sym more) tt
+line_taken lab l e (Some bytes) new j more = subst (TellsJournal lab (l ++ e ∷ []) false) (sym more)
+    ([], ap (λ t. t ++ next_line lab.ids lab.roster (world_in lab l) e) (whole lab l bytes j) ∙ sym (text-one_more lab l e) ∙ sym (append-nil _), refl)
+
+-- a part of its line was taken
+pub line_torn : (lab : LabValue) (l : List Event) (e : Event) → is_legal lab.roster (world_in lab l) e ≡ true → (n : ℕ) → n < length (next_line lab.ids lab.roster (world_in lab l) e)
+    → (old new : Option (List ℕ)) → TellsJournal lab l false old → new ≡ with_more old (take n (next_line lab.ids lab.roster (world_in lab l) e)) → TellsJournal lab l true new
+line_torn lab l e legal n part None new j more = subst (TellsJournal lab l true) (sym more) tt
+line_torn lab l e legal n part (Some bytes) new j more = subst (TellsJournal lab l true) (sym more) (
+  take n (next_line lab.ids lab.roster (world_in lab l) e),
+  ap (λ t. t ++ take n (next_line lab.ids lab.roster (world_in lab l) e)) (whole lab l bytes j),
+  (e, n, legal, part, refl),
+)

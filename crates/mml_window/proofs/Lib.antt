@@ -1,0 +1,10 @@
+pub mod PrefixLemmas
+pub mod ListLemmas
+pub mod RuleLemmas
+pub mod RulingLemmas
+pub mod ClimbingLemmas
+pub mod ViewLemmas
+pub mod ActLemmas
+pub mod JournalLemmas
+pub mod BookLemmas
+pub mod AnswerLemmas

@@ -1,0 +1,58 @@
+-- What views say, put together.
+use Rattle.std.proofs.Common.{◌≡◌, ℕ, List, [], Result, Ok, Err, refl, ap, ◌∙◌, sym, subst}
+use mathlib.Core.List.{IsPrefix}
+use Rattle.mml_lab.specs.declared.who.Who.{Who}
+use Rattle.mml_lab.specs.Labs.{LabValue}
+use Rattle.mml_board.specs.declared.event.Event.{Event}
+use Rattle.mml_board.specs.World.{World}
+use Rattle.mml_policy.specs.declared.command.Command.{Command}
+use Rattle.mml_policy.specs.declared.ruling.Ruling.{Ruling}
+use Rattle.mml_window.specs.declared.sight.SightFault.{SightFault}
+use Rattle.mml_window.specs.declared.sight.SightFault.TheVariants as fault
+use Rattle.mml_window.specs.declared.sight.Closed.{Closed}
+use Rattle.mml_window.specs.declared.rule.View.{View}
+use Rattle.mml_window.specs.declared.published.Published.{Published}
+use Rattle.mml_window.specs.Lists.{is_legal_in, ruling_at, world_in}
+use Rattle.mml_window.specs.Rule.{Saw}
+use Rattle.mml_window.specs.Windows.{WindowValue, window, SeesOn}
+use Rattle.mml_window.specs.Views.{Shows, Tells, TellsNumber}
+
+-- what is shown at a list that was seen
+pub tells : {A : Type 0} (shown : A → Ruling) (lab : LabValue) (old new : WindowValue) (who : Who) (command : Command) (r : Result A SightFault) → SeesOn lab old new
+    → Shows shown (ruling_at lab (world_in lab new.seen) who command) r → Tells shown lab old who command r new
+tells shown lab old new who command (Ok x) on s = (s, on)
+tells shown lab old new who command (Err (fault.Denied d)) on s = (s, on)
+tells shown lab old new who command (Err fault.Memory) on s = (s, on)
+tells shown lab old new who command (Err fault.Closed) on s = absurd s
+
+-- what is shown by a reader that entered and left
+pub tells_entered : {A : Type 0} (shown : A → Ruling) (lab lab' : LabValue) (x : Published) (v w u : View) (board : World) (who : Who) (command : Command) (r : Result A SightFault) → lab' ≡ lab → Saw lab v x w → u ≡ w → board ≡ x.board
+    → Shows shown (ruling_at lab' board who command) r → Tells shown lab (window v.seen []) who command r (window u.seen [])
+tells_entered shown lab lab' x v w u board who command r named saw left read s =
+    let seen : u.seen ≡ x.events.items = ap (λ (y : View). y.seen) (left ∙ saw.view) in
+    let world : board ≡ world_in lab u.seen = read ∙ saw.published.board ∙ ap (world_in lab) (sym seen) in
+    tells shown lab (window v.seen []) (window u.seen []) who command r
+    (record { begins = subst (IsPrefix v.seen) (sym seen) saw.begins; legal = ap (is_legal_in lab) seen ∙ saw.published.legal; places = refl })
+    (subst (λ (k : LabValue). Shows shown (ruling_at k (world_in lab u.seen) who command) r) named (subst (λ (b : World). Shows shown (ruling_at lab' b who command) r) world s))
+
+-- the places that were granted play no part
+beside : (lab : LabValue) (a b : List Event) (ps : List ℕ) → SeesOn lab (window a []) (window b []) → SeesOn lab (window a ps) (window b ps)
+beside lab a b ps on = record { begins = on.begins; legal = on.legal; places = refl }
+
+pub tells_beside : {A : Type 0} (shown : A → Ruling) (lab : LabValue) (a b : List Event) (ps : List ℕ) (who : Who) (command : Command) (r : Result A SightFault) (old : WindowValue) → old ≡ window a ps
+    → Tells shown lab (window a []) who command r (window b []) → Tells shown lab old who command r (window b ps)
+tells_beside shown lab a b ps who command r old same t = subst (λ (o : WindowValue). Tells shown lab o who command r (window b ps)) (sym same) (go r t)
+  where
+    go : (r : Result _ SightFault) → Tells shown lab (window a []) who command r (window b []) → Tells shown lab (window a ps) who command r (window b ps)
+    go (Ok x) t = (t.0, beside lab a b ps t.1)
+    go (Err (fault.Denied d)) t = (t.0, beside lab a b ps t.1)
+    go (Err fault.Memory) t = (t.0, beside lab a b ps t.1)
+    go (Err fault.Closed) t = ap (λ (w : WindowValue). window w.seen ps) t
+
+pub number_beside : (lab : LabValue) (a b : List Event) (ps : List ℕ) (r : Result ℕ Closed) (old : WindowValue) → old ≡ window a ps
+    → TellsNumber lab (window a []) r (window b []) → TellsNumber lab old r (window b ps)
+number_beside lab a b ps r old same t = subst (λ (o : WindowValue). TellsNumber lab o r (window b ps)) (sym same) (go r t)
+  where
+    go : (r : Result ℕ Closed) → TellsNumber lab (window a []) r (window b []) → TellsNumber lab (window a ps) r (window b ps)
+    go (Ok n) t = (t.0, beside lab a b ps t.1)
+    go (Err closed) t = ap (λ (w : WindowValue). window w.seen ps) t

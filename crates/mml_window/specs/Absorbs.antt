@@ -1,0 +1,13 @@
+-- What absorbing an event does to a copy of what is published.
+use Rattle.std.specs.Prelude.{ℕ, ◌&&◌, nat_lt, if◌then◌else◌, List, [], ◌∷◌, ◌++◌, length}
+use Rattle.mml_board.specs.declared.event.Event.{Event}
+use Rattle.mml_board.specs.World.{World}
+use Rattle.mml_board.specs.Events.{can_absorb, after}
+use Rattle.mml_window.specs.declared.published.Common.{Common}
+
+abbrev pub common : World → ℕ → List Event → Common
+common board limit events = record { board = board; limit = limit; events = events }
+
+-- the event behind the others, where there is room and it may happen, else nothing
+abbrev pub absorbs : Common → Event → Common
+absorbs s e = if (nat_lt (length s.events) s.limit && can_absorb s.board e) then common (after s.board e) s.limit (s.events ++ e ∷ []) else s

@@ -1,0 +1,59 @@
+-- What an answer to an act says.
+use Rattle.std.specs.Prelude.{◌≡◌, ◌⊎◌, ℕ, ◌+◌, true, false, List, [], ◌∷◌, ◌++◌, length}
+use mathlib.Core.List.{IsPrefix}
+use Rattle.mml_lab.specs.declared.who.Who.{Who}
+use Rattle.mml_lab.specs.Labs.{LabValue}
+use Rattle.mml_board.specs.declared.event.Event.{Event}
+use Rattle.mml_board.specs.declared.done.Done.{Done}
+use Rattle.mml_policy.specs.declared.command.Command.{Command}
+use Rattle.mml_policy.specs.declared.ruling.Ruling.TheVariants as ruling
+use Rattle.mml_window.specs.declared.answer.Answer.{Answer}
+use Rattle.mml_window.specs.declared.answer.Answer.TheVariants.{Granted, Denied, Refused}
+use Rattle.mml_window.specs.declared.answer.Refusal.TheVariants.{Full, Journal, Memory}
+use Rattle.mml_window.specs.Lists.{is_legal_in, world_in, ruling_at}
+use Rattle.mml_window.specs.Windows.{WindowValue, window}
+use Rattle.mml_window.specs.Books.{BookValue, Grows, Halts}
+
+-- an event would take place there
+abbrev pub Grants : LabValue → List Event → Who → Command → Type 0
+Grants lab l who command = (e : Event) × (done : Done) × (ruling_at lab (world_in lab l) who command ≡ ruling.Granted e done)
+
+-- the event takes place there and does this, at the next place; the number is that of the configuration after it
+pub record Takes (lab : LabValue) (l : List Event) (who : Who) (command : Command) (e : Event) (place number : ℕ) (done : Done) : Type 0 where
+  pub ruled : ruling_at lab (world_in lab l) who command ≡ ruling.Granted e done
+  pub next : place ≡ length l + 1
+  pub placed : place ≡ (world_in lab (l ++ e ∷ [])).place
+  pub numbered : number ≡ (world_in lab (l ++ e ∷ [])).number
+
+-- what deciding does to the book
+abbrev pub Decides : {S : Type 0} → LabValue → (S → ℕ) → BookValue S → Who → Command → Answer → BookValue S → Type 0
+Decides lab failures old who command (Denied d) new = (ruling_at lab (world_in lab old.events) who command ≡ ruling.Denied d) × (new ≡ old)
+Decides lab failures old who command (Refused Full) new =
+    (ruling_at lab (world_in lab old.events) who command ≡ ruling.Full) × (length old.events ≡ lab.events) × (new ≡ old)
+Decides lab failures old who command (Refused Journal) new =
+    Grants lab old.events who command × (((old.halted ≡ true) × (new ≡ old)) ⊎ Halts failures old new)
+Decides lab failures old who command (Refused Memory) new = Grants lab old.events who command × (old.halted ≡ false) × (new ≡ old)
+Decides lab failures old who command (Granted place number done) new =
+    (e : Event) × Takes lab old.events who command e place number done × Grows failures old new e
+
+-- what letting a legal event take place does to the book, where there is room and the journal isn't halted
+abbrev pub Lets : {S : Type 0} → LabValue → (S → ℕ) → BookValue S → Event → Done → Answer → BookValue S → Type 0
+Lets lab failures old e done (Denied d) new = ⊥
+Lets lab failures old e done (Refused Full) new = ⊥
+Lets lab failures old e done (Refused Journal) new = Halts failures old new
+Lets lab failures old e done (Refused Memory) new = new ≡ old
+Lets lab failures old e done (Granted place number d) new = (d ≡ done) × (place ≡ length old.events + 1) × (number ≡ (world_in lab new.events).number) × Grows failures old new e
+
+-- what an answer says of the list at which it is given, and of the window afterwards
+abbrev pub Says : LabValue → List Event → List ℕ → Who → Command → Answer → WindowValue → Type 0
+Says lab l places who command (Denied d) new = (ruling_at lab (world_in lab l) who command ≡ ruling.Denied d) × (new ≡ window l places)
+Says lab l places who command (Refused Full) new =
+    (ruling_at lab (world_in lab l) who command ≡ ruling.Full) × (length l ≡ lab.events) × (new ≡ window l places)
+Says lab l places who command (Refused Journal) new = Grants lab l who command × (new ≡ window l places)
+Says lab l places who command (Refused Memory) new = Grants lab l who command × (new ≡ window l places)
+Says lab l places who command (Granted place number done) new =
+    (e : Event) × Takes lab l who command e place number done × (new ≡ window (l ++ e ∷ []) (places ++ place ∷ []))
+
+-- the answer is given at a legal list that begins with all that the window had seen
+abbrev pub Answers : LabValue → WindowValue → Who → Command → Answer → WindowValue → Type 0
+Answers lab old who command answer new = (l : List Event) × IsPrefix old.seen l × (is_legal_in lab l ≡ true) × Says lab l old.places who command answer new

@@ -1,0 +1,11 @@
+pub mod Lists
+pub mod Journals
+pub mod Absorbs
+pub mod Rule
+pub mod Climbing
+pub mod Windows
+pub mod Views
+pub mod Books
+pub mod Answers
+pub mod Houses
+pub mod inside

@@ -1,0 +1,40 @@
+-- What a view says.
+use Rattle.std.specs.Prelude.{◌≡◌, ℕ, Result, Ok, Err}
+use Rattle.mml_lab.specs.declared.who.Who.{Who}
+use Rattle.mml_lab.specs.Labs.{LabValue}
+use Rattle.mml_policy.specs.declared.see.See.{See}
+use Rattle.mml_policy.specs.declared.look.Look.{Look}
+use Rattle.mml_policy.specs.declared.command.Command.{Command}
+use Rattle.mml_policy.specs.declared.command.Command.TheVariants as command
+use Rattle.mml_policy.specs.declared.ruling.Ruling.{Ruling}
+use Rattle.mml_policy.specs.declared.ruling.Ruling.TheVariants.{Denied, Seen, Looked}
+use Rattle.mml_window.specs.declared.sight.SightFault.{SightFault}
+use Rattle.mml_window.specs.declared.sight.SightFault.TheVariants as fault
+use Rattle.mml_window.specs.declared.sight.Closed.{Closed}
+use Rattle.mml_window.specs.Lists.{ruling_at, world_in}
+use Rattle.mml_window.specs.Windows.{WindowValue, SeesOn}
+
+-- the number of the world of the list that the window has then seen
+abbrev pub TellsNumber : LabValue → WindowValue → Result ℕ Closed → WindowValue → Type 0
+TellsNumber lab old (Ok n) new = (n ≡ (world_in lab new.seen).number) × SeesOn lab old new
+TellsNumber lab old (Err closed) new = new ≡ old
+
+-- what is ruled is shown, or it is denied; want of memory says that it would be shown
+abbrev pub Shows : {A : Type 0} → (A → Ruling) → Ruling → Result A SightFault → Type 0
+Shows shown r (Ok x) = r ≡ shown x
+Shows shown r (Err (fault.Denied d)) = r ≡ Denied d
+Shows {A} shown r (Err fault.Memory) = (x : A) × (r ≡ shown x)
+Shows shown r (Err fault.Closed) = ⊥
+
+-- it is ruled in the world of the list that the window has then seen; a window that is closed has seen nothing more
+abbrev pub Tells : {A : Type 0} → (A → Ruling) → LabValue → WindowValue → Who → Command → Result A SightFault → WindowValue → Type 0
+Tells shown lab old who command (Ok x) new = Shows shown (ruling_at lab (world_in lab new.seen) who command) (Ok x) × SeesOn lab old new
+Tells shown lab old who command (Err (fault.Denied d)) new = (ruling_at lab (world_in lab new.seen) who command ≡ Denied d) × SeesOn lab old new
+Tells shown lab old who command (Err fault.Memory) new = Shows shown (ruling_at lab (world_in lab new.seen) who command) (Err fault.Memory) × SeesOn lab old new
+Tells shown lab old who command (Err fault.Closed) new = new ≡ old
+
+abbrev pub TellsSee : LabValue → WindowValue → Who → ℕ → Result See SightFault → WindowValue → Type 0
+TellsSee lab old who node result new = Tells Seen lab old who (command.See node) result new
+
+abbrev pub TellsLook : LabValue → WindowValue → Who → ℕ → Result Look SightFault → WindowValue → Type 0
+TellsLook lab old who node result new = Tells Looked lab old who (command.Look node) result new

@@ -1,0 +1,32 @@
+use crate::published::Published;
+use crate::rule::{Kept, View};
+use left_right::reader::Reader;
+use left_right::writer::Writer;
+use mml_board::Event;
+pub use std::marker::Brand;
+
+/// Names one house, for contracts alone: a type of it ties a desk, its book and its windows.
+pub trait House {
+    ghost use denote.RawPtr.{Ptr};
+    ghost use Rattle.mml_lab.specs.Labs.{LabValue};
+
+    // What no other house has while it stands.
+    ghost name: { Ptr };
+
+    // Its identifiers, roster, links and registers at the beginning, and limits.
+    ghost lab: { LabValue };
+}
+
+impl House for Brand {
+    ghost use Rattle.mml_window.specs.Houses.{no_name, no_lab};
+
+    ghost name = { no_name };
+
+    ghost lab = { no_lab };
+}
+
+/// A reader's place at what a house publishes.
+pub(crate) type Place<H> = Reader<Published, View, Kept<H>>;
+
+/// What publishes for a house.
+pub(crate) type Press<H> = Writer<Published, Event, View, Kept<H>>;

@@ -1,0 +1,23 @@
+//! One list of events behind a lock, and windows that see what is published without it.
+#![tactic(auto)]
+
+mod answer;
+mod blank;
+mod book;
+mod desk;
+mod house;
+mod looking;
+mod press;
+mod published;
+mod rule;
+mod showing;
+mod sight;
+mod window;
+
+pub use answer::{Answer, Refusal};
+pub use blank::{Blank, HouseFault, open_house};
+pub use book::Book;
+pub use desk::Desk;
+pub use house::{Brand, House};
+pub use sight::{Closed, SightFault};
+pub use window::Window;

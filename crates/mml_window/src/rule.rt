@@ -1,0 +1,35 @@
+use crate::house::House;
+use crate::published::Published;
+use crossbeam_utils::rule::{Outcome, Protocol};
+use mml_board::Event;
+use std::collections::LinkedList;
+use std::marker::PhantomData;
+
+/// The events that the writer or a reader has seen. No value of it is made.
+pub struct View {
+    pub seen: LinkedList<Event>,
+}
+
+/// What is published is legal in the lab of H, and what each has seen is a beginning of it.
+pub struct Kept<H: House> {
+    of: PhantomData<H>,
+}
+
+impl<H: House> Protocol<Published, View> for Kept<H> {
+    ghost use Rattle.mml_window.specs.Rule.{IsKept, newcomer};
+
+    ghost holds = { IsKept H.lab };
+
+    ghost first = { newcomer };
+}
+
+/// The writer publishes, or a reader enters: a list that begins with all that it had seen.
+pub struct Seeing<H: House> {
+    of: PhantomData<H>,
+}
+
+impl<H: House> Outcome<Published, View> for Seeing<H> {
+    ghost use Rattle.mml_window.specs.Rule.{Saw};
+
+    ghost then = { λ v x y w. Saw H.lab v y w };
+}

@@ -1,0 +1,16 @@
+use mml_policy::Denial;
+
+/// The writer is gone, or the window has no reader's place.
+#[derive(Clone, Copy, Debug, PartialEq, Eq)]
+pub struct Closed;
+
+/// Why a view shows nothing.
+#[derive(Clone, Copy, Debug, PartialEq, Eq)]
+pub enum SightFault {
+    /// A clause doesn't hold.
+    Denied(Denial),
+    /// Memory was refused. What is asked would be shown.
+    Memory,
+    /// The writer is gone, or the window has no reader's place.
+    Closed,
+}
