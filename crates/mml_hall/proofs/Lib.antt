@@ -9,3 +9,4 @@ pub mod TurnsLemmas
 pub mod AuditLemmas
 pub mod AuditMeaningLemmas
 pub mod HaltsLemmas
+pub mod AuditFaultLemmas
