@@ -14,3 +14,5 @@ mod lab;
 mod policy;
 #[cfg(test)]
 mod rules;
+#[cfg(test)]
+mod stable;

@@ -1,0 +1,255 @@
+//! The stability report: over worlds that are easy to tell, and against a plain search.
+mod drawn;
+mod plain;
+
+use mml_board::{Board, Event};
+use mml_ids::Rank;
+use mml_lab::read_lab;
+use mml_rules::Kind;
+use mml_stable::{OpenLink, Report, report};
+use std::alloc::{AllocError, Global};
+use std::test::Fail;
+
+/// A lab of these links and nodes, each with what a document says of it beside identifier and owner.
+fn lab_text(alloc: Global, links: &str, nodes: &[(u64, &str)]) -> Result<String, AllocError> {
+    let mut text = format!(in alloc;
+        "events = 100000\nsessions = 1\nlinks = [{links}]\n[teacher]\nname = \"t\"\nkey = \"t\"\n[[student]]\nname = \"s\"\nkey = \"s\"\n"
+    )?;
+    for (id, registers) in nodes {
+        write!(text, "[[node]]\nid = {id}\nowner = \"s\"\n{registers}\n")?;
+    }
+    Ok(text)
+}
+
+/// Nodes 1 to `count`, without links.
+fn loose(alloc: Global, count: u64) -> Result<String, AllocError> {
+    let mut text = lab_text(alloc, "", &[])?;
+    for id in 1..=count {
+        write!(text, "[[node]]\nid = {id}\nowner = \"s\"\n")?;
+    }
+    Ok(text)
+}
+
+/// Nodes 1 to `count` in a row, each of which points at the next.
+fn row(alloc: Global, count: u64) -> Result<String, AllocError> {
+    let mut links = String::new(alloc);
+    let mut nodes = String::new(alloc);
+    for id in 1..=count {
+        write!(nodes, "[[node]]\nid = {id}\nowner = \"s\"\n")?;
+        if id < count {
+            let next = id + 1;
+            write!(links, "[{id}, {next}], ")?;
+            write!(nodes, "p = {next}\n")?;
+        }
+    }
+    let mut text = lab_text(alloc, links.as_str(), &[])?;
+    text.push_str(nodes.as_str())?;
+    Ok(text)
+}
+
+/// Nodes 1 to `count`, each linked to `centre`; all others point there, if that is wanted.
+fn star(alloc: Global, centre: u64, count: u64, inward: bool) -> Result<String, AllocError> {
+    let mut links = String::new(alloc);
+    let mut nodes = String::new(alloc);
+    for id in 1..=count {
+        write!(nodes, "[[node]]\nid = {id}\nowner = \"s\"\n")?;
+        if id != centre {
+            write!(links, "[{centre}, {id}], ")?;
+            if inward {
+                write!(nodes, "p = {centre}\n")?;
+            }
+        }
+    }
+    let mut text = lab_text(alloc, links.as_str(), &[])?;
+    text.push_str(nodes.as_str())?;
+    Ok(text)
+}
+
+fn board_of(alloc: Global, document: &str) -> Result<Board, Fail> {
+    let lab = read_lab(alloc, document.as_bytes())?;
+    Ok(Board::new(alloc, &lab)?)
+}
+
+/// The lists of a report, by ranks.
+fn told(alloc: Global, report: &Report) -> Result<String, AllocError> {
+    let mut text = format!(in alloc; "{} {};", report.at, report.stable)?;
+    for (lower, greater) in report.pairs.as_slice() {
+        write!(text, " {}={}", lower.index(), greater.index())?;
+    }
+    text.push_str(";")?;
+    for node in report.free.as_slice() {
+        write!(text, " {}", node.index())?;
+    }
+    text.push_str(";")?;
+    for (node, kind) in report.privileged.as_slice() {
+        write!(text, " {} {kind:?}", node.index())?;
+    }
+    text.push_str(";")?;
+    for link in report.open_links.as_slice() {
+        push_link(&mut text, link)?;
+    }
+    Ok(text)
+}
+
+fn push_link(text: &mut String, link: &OpenLink) -> Result<(), AllocError> {
+    let [a, b, node] = [link.a.index(), link.b.index(), link.node.index()];
+    write!(text, " {a}-{b} {node} {:?}", link.kind)
+}
+
+fn told_of(alloc: Global, document: &str) -> Result<String, Fail> {
+    let board = board_of(alloc, document)?;
+    Ok(told(alloc, &report(alloc, &board)?)?)
+}
+
+// Links, nodes with their registers, and what is told.
+const SMALL: &[(&str, &[(u64, &str)], &str)] = &[
+    ("", &[(1, "")], "0 true;; 0;;"),
+    // Two that point at each other, and one of them doesn't believe it yet.
+    (
+        "[1, 2]",
+        &[(1, "p = 2\nm = true"), (2, "p = 1")],
+        "0 false; 0=1;; 1 Update;",
+    ),
+    (
+        "[1, 2]",
+        &[(1, "p = 2\nm = true"), (2, "p = 1\nm = true")],
+        "0 true; 0=1;;;",
+    ),
+    // After two seductions in a row of three.
+    (
+        "[1, 2], [2, 3]",
+        &[(1, "p = 2"), (2, "p = 3"), (3, "")],
+        "0 false;; 0 1 2; 2 Marriage; 0-1 2 Marriage 1-2 2 Marriage",
+    ),
+    (
+        "[3, 5]",
+        &[(3, "p = 5"), (5, "")],
+        "0 false;; 0 1; 1 Marriage; 0-1 1 Marriage",
+    ),
+];
+
+/// How many of the small worlds are told as wanted.
+fn small_told(alloc: Global) -> Result<usize, Fail> {
+    let mut right = 0usize;
+    for (links, nodes, wanted) in SMALL {
+        let document = lab_text(alloc, links, nodes)?;
+        let is_right = told_of(alloc, document.as_str())?.as_str() == *wanted;
+        right = usize::saturating_add(right, usize::from(is_right));
+    }
+    Ok(right)
+}
+
+#[test]
+fn small_worlds(rt: HostRuntime) -> Result<(), Fail> {
+    assert_eq!(rt; small_told(rt.alloc())?, 5);
+    Ok(())
+}
+
+/// The report after the link of a married pair was cut, and after it was made again.
+fn cut_and_linked(alloc: Global) -> Result<(String, String), Fail> {
+    let nodes = [(1, "p = 2\nm = true"), (2, "p = 1\nm = true")];
+    let document = lab_text(alloc, "[1, 2]", &nodes)?;
+    let mut board = board_of(alloc, document.as_str())?;
+    let [a, b] = [Rank::at(0), Rank::at(1)];
+    board.absorb_event(&Event::Cut { a, b });
+    let cut = told(alloc, &report(alloc, &board)?)?;
+    board.absorb_event(&Event::Link { a, b });
+    let linked = told(alloc, &report(alloc, &board)?)?;
+    Ok((cut, linked))
+}
+
+#[test]
+fn cut_and_link(rt: HostRuntime) -> Result<(), Fail> {
+    let (cut, linked) = cut_and_linked(rt.alloc())?;
+    assert_eq!(rt; cut.as_str(), "1 false;; 0 1; 0 Update 1 Update;");
+    assert_eq!(rt;
+        linked.as_str(),
+        "2 false;; 0 1; 0 Update 1 Update; 0-1 0 Update"
+    );
+    Ok(())
+}
+
+/// Whether each witness is this node with this rule.
+fn each_names(report: &Report, node: u64, kind: Kind) -> bool {
+    report
+        .open_links
+        .as_slice()
+        .iter()
+        .all(|link| link.node.index() == node && link.kind == kind)
+}
+
+/// How many nodes are free, how many are privileged, and how many links are open.
+fn counts(report: &Report) -> (usize, usize, usize) {
+    let free = report.free.as_slice().len();
+    let privileged = report.privileged.as_slice().len();
+    (free, privileged, report.open_links.as_slice().len())
+}
+
+/// Whether the report on a world has these counts, and each open link names this witness.
+fn is_told(
+    alloc: Global,
+    document: &str,
+    wanted: (usize, usize, usize),
+    node: u64,
+    kind: Kind,
+) -> Result<bool, Fail> {
+    let board = board_of(alloc, document)?;
+    let report = report(alloc, &board)?;
+    Ok(counts(&report) == wanted && each_names(&report, node, kind))
+}
+
+/// Whether each link of a row is open and names the last node.
+fn row_is_told(alloc: Global, count: u64) -> Result<bool, Fail> {
+    let document = row(alloc, count)?;
+    let last = count.saturating_sub(1);
+    let wanted = (count as usize, 1, last as usize);
+    is_told(alloc, document.as_str(), wanted, last, Kind::Marriage)
+}
+
+#[test]
+fn every_link_of_a_row_names_the_last_node(rt: HostRuntime) -> Result<(), Fail> {
+    assert!(rt; row_is_told(rt.alloc(), 64)? && row_is_told(rt.alloc(), 256)?);
+    Ok(())
+}
+
+/// Whether each link of a star is open and names the centre.
+fn star_is_told(alloc: Global, centre: u64, inward: bool, kind: Kind) -> Result<bool, Fail> {
+    let document = star(alloc, centre, 256, inward)?;
+    is_told(
+        alloc,
+        document.as_str(),
+        (256, 1, 255),
+        centre.saturating_sub(1),
+        kind,
+    )
+}
+
+#[test]
+fn every_link_of_a_star_names_its_centre(rt: HostRuntime) -> Result<(), Fail> {
+    assert!(rt; star_is_told(rt.alloc(), 1, false, Kind::Seduction)?);
+    assert!(rt; star_is_told(rt.alloc(), 256, true, Kind::Marriage)?);
+    Ok(())
+}
+
+/// How many of so many drawn worlds have the report that a plain search finds, how many have a pair,
+/// and how many an open link.
+fn found_again(alloc: Global, worlds: u64) -> Result<(u64, u64, u64), Fail> {
+    let (mut same, mut paired, mut open) = (0u64, 0u64, 0u64);
+    for seed in 1..=worlds {
+        let document = loose(alloc, 1 + seed % 40)?;
+        let mut board = board_of(alloc, document.as_str())?;
+        drawn::draw(&mut board, seed);
+        let report = report(alloc, &board)?;
+        let (told, searched) = (told(alloc, &report)?, plain::searched(alloc, &board)?);
+        same = u64::saturating_add(same, u64::from(told.as_str() == searched.as_str()));
+        paired = u64::saturating_add(paired, u64::from(!report.pairs.as_slice().is_empty()));
+        open = u64::saturating_add(open, u64::from(!report.open_links.as_slice().is_empty()));
+    }
+    Ok((same, paired, open))
+}
+
+#[test]
+fn drawn_worlds_are_told_as_searched(rt: HostRuntime) -> Result<(), Fail> {
+    assert_eq!(rt; found_again(rt.alloc(), 300)?, (300, 273, 275));
+    Ok(())
+}

@@ -1,0 +1,61 @@
+//! Worlds that are drawn by fixed numbers.
+use mml_board::{Board, Event};
+use mml_ids::Rank;
+use mml_rules::{Regs, Scene};
+
+/// The numbers that a seed gives, one after another.
+#[derive(Drop)]
+struct Numbers {
+    last: u64,
+}
+
+impl Numbers {
+    /// The next number below a limit.
+    fn below(&mut self, limit: u64) -> u64 {
+        self.last = self
+            .last
+            .wrapping_mul(6364136223846793005)
+            .wrapping_add(1442695040888963407);
+        (self.last >> 33) % limit.max(1)
+    }
+
+    /// A node of the board, if the rank is one.
+    fn node(&mut self, board: &Board) -> Option<Rank> {
+        Rank::new(self.below(board.size()))
+    }
+}
+
+/// Draws links, and then registers: some nodes point at a neighbour, and some of these back.
+pub fn draw(board: &mut Board, seed: u64) {
+    let mut numbers = Numbers { last: seed };
+    let size = board.size();
+    for _ in 0..2 * size {
+        if let (Some(a), Some(b)) = (numbers.node(board), numbers.node(board)) {
+            board.absorb_event(&Event::Link { a, b });
+        }
+    }
+    for _ in 0..3 * size {
+        if let (Some(a), Some(b)) = (numbers.node(board), numbers.node(board)) {
+            point(board, &mut numbers, a, b);
+        }
+    }
+}
+
+/// Lets a node point at another, if the two are linked; and that one back, in one case of three.
+fn point(board: &mut Board, numbers: &mut Numbers, node: Rank, other: Rank) {
+    let forth = Regs {
+        p: Some(other),
+        m: numbers.below(3) == 0,
+    };
+    board.absorb_event(&Event::Fault { node, regs: forth });
+    let back = Regs {
+        p: Some(node),
+        m: numbers.below(2) == 0,
+    };
+    if numbers.below(3) == 0 {
+        board.absorb_event(&Event::Fault {
+            node: other,
+            regs: back,
+        });
+    }
+}
