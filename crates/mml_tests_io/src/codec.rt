@@ -1,5 +1,6 @@
 //! Requests and replies as lines.
 mod replies;
+mod reports;
 
 use mml_codec::{Request, read_request, write_request};
 use mml_ids::Word;
@@ -83,6 +84,7 @@ const LINES: &[(&[u8], &str)] = &[
         br#"{"do":"release","node":1}"#,
         r#"{"do":"release","node":1}"#,
     ),
+    (br#"{"do":"report","node":1}"#, r#"{"do":"report"}"#),
     // A letter may stand as an escape.
     (br#"{"do":"see","n\u006fde":2}"#, SEE_2),
     (
@@ -134,6 +136,7 @@ const LINES: &[(&[u8], &str)] = &[
     (br#"{"do":"link","a":1}"#, MALFORMED),
     (br#"{"do":"cut","b":1}"#, MALFORMED),
     (br#"{"do":"release"}"#, MALFORMED),
+    (br#"{"do":"Report"}"#, MALFORMED),
     (br#"{"do":"hello","name":"ana"}"#, MALFORMED),
     (br#"{"do":"hello","key":"a-key"}"#, MALFORMED),
     (

@@ -1,7 +1,9 @@
 //! Replies, over a lab of two nodes far apart.
 ghost use Rattle.mml_codec.specs.Replies.{IsAbout};
 
-use mml_codec::{FULL_LINE, MALFORMED_LINE, MEMORY_LINE, REPLY_ROOM, Refused, Reply, write_reply};
+use mml_codec::{
+    FULL_LINE, JOURNAL_LINE, MALFORMED_LINE, MEMORY_LINE, REPLY_ROOM, Refused, Reply, write_reply,
+};
 use mml_fakes::labs::FAR_APART;
 use mml_lab::{Lab, read_lab};
 use mml_policy::{Denial, See};
@@ -10,7 +12,7 @@ use std::alloc::Global;
 use std::test::Fail;
 
 /// The line of a reply, written over an older text.
-fn line_of(alloc: Global, lab: &Lab, reply: &Reply) -> Result<String, Fail>
+pub fn line_of(alloc: Global, lab: &Lab, reply: &Reply) -> Result<String, Fail>
     requires { IsAbout lab.now.ids lab.now.roster reply.now }
 {
     let mut out = b"older text".to_vec(alloc)?;
@@ -74,76 +76,87 @@ fn denial_line(alloc: Global, denial: Denial) -> Result<String, Fail> {
     line_of(alloc, &lab, &Reply::Deny(denial))
 }
 
+// Each denial with its line.
+const DENIALS: &[(Denial, &str)] = &[
+    (
+        Denial::NotGreeted,
+        "{\"clause\":0,\"deny\":\"not-greeted\",\"text\":\"say hello first\"}\n",
+    ),
+    (
+        Denial::Greeted,
+        "{\"clause\":1,\"deny\":\"greeted\",\"text\":\"this connection has a name already\"}\n",
+    ),
+    (
+        Denial::Unknown,
+        "{\"clause\":2,\"deny\":\"unknown\",\"text\":\"name and key do not match\"}\n",
+    ),
+    (
+        Denial::Hidden,
+        "{\"clause\":1,\"deny\":\"hidden\",\"text\":\"this node is not shown to you\"}\n",
+    ),
+    (
+        Denial::NotOwner,
+        "{\"clause\":1,\"deny\":\"not-owner\",\"text\":\"you do not own this node\"}\n",
+    ),
+    (
+        Denial::Stale(12),
+        "{\"at\":12,\"clause\":2,\"deny\":\"stale\",\"text\":\"this is not the current configuration\"}\n",
+    ),
+    (
+        Denial::Chosen,
+        "{\"clause\":3,\"deny\":\"chosen\",\"text\":\"this node is already chosen\"}\n",
+    ),
+    (
+        Denial::Guard,
+        "{\"clause\":4,\"deny\":\"guard\",\"text\":\"the guard of this rule does not hold\"}\n",
+    ),
+    (
+        Denial::NotTeacher,
+        "{\"clause\":1,\"deny\":\"not-teacher\",\"text\":\"only the teacher may do this\"}\n",
+    ),
+    (
+        Denial::Empty,
+        "{\"clause\":2,\"deny\":\"empty\",\"text\":\"no node is chosen\"}\n",
+    ),
+    (
+        Denial::NoNode,
+        "{\"clause\":2,\"deny\":\"no-node\",\"text\":\"there is no such node\"}\n",
+    ),
+    (
+        Denial::BadRegister,
+        "{\"clause\":3,\"deny\":\"bad-register\",\"text\":\"p must be null or a neighbour\"}\n",
+    ),
+    (
+        Denial::Loop,
+        "{\"clause\":3,\"deny\":\"loop\",\"text\":\"a node is not linked to itself\"}\n",
+    ),
+    (
+        Denial::Linked,
+        "{\"clause\":4,\"deny\":\"linked\",\"text\":\"these nodes are linked already\"}\n",
+    ),
+    (
+        Denial::NotLinked,
+        "{\"clause\":3,\"deny\":\"not-linked\",\"text\":\"these nodes are not linked\"}\n",
+    ),
+    (
+        Denial::NotChosen,
+        "{\"clause\":3,\"deny\":\"not-chosen\",\"text\":\"this node is not chosen\"}\n",
+    ),
+];
+
+/// How many denials have their line.
+fn denials_told(alloc: Global) -> Result<usize, Fail> {
+    let mut right = 0usize;
+    for (denial, wanted) in DENIALS {
+        let is_right = denial_line(alloc, *denial)?.as_str() == *wanted;
+        right = usize::saturating_add(right, usize::from(is_right));
+    }
+    Ok(right)
+}
+
 #[test]
 fn denials_are_told(rt: HostRuntime) -> Result<(), Fail> {
-    for (denial, wanted) in [
-        (
-            Denial::NotGreeted,
-            "{\"clause\":0,\"deny\":\"not-greeted\",\"text\":\"say hello first\"}\n",
-        ),
-        (
-            Denial::Greeted,
-            "{\"clause\":1,\"deny\":\"greeted\",\"text\":\"this connection has a name already\"}\n",
-        ),
-        (
-            Denial::Unknown,
-            "{\"clause\":2,\"deny\":\"unknown\",\"text\":\"name and key do not match\"}\n",
-        ),
-        (
-            Denial::Hidden,
-            "{\"clause\":1,\"deny\":\"hidden\",\"text\":\"this node is not shown to you\"}\n",
-        ),
-        (
-            Denial::NotOwner,
-            "{\"clause\":1,\"deny\":\"not-owner\",\"text\":\"you do not own this node\"}\n",
-        ),
-        (
-            Denial::Stale(12),
-            "{\"at\":12,\"clause\":2,\"deny\":\"stale\",\"text\":\"this is not the current configuration\"}\n",
-        ),
-        (
-            Denial::Chosen,
-            "{\"clause\":3,\"deny\":\"chosen\",\"text\":\"this node is already chosen\"}\n",
-        ),
-        (
-            Denial::Guard,
-            "{\"clause\":4,\"deny\":\"guard\",\"text\":\"the guard of this rule does not hold\"}\n",
-        ),
-        (
-            Denial::NotTeacher,
-            "{\"clause\":1,\"deny\":\"not-teacher\",\"text\":\"only the teacher may do this\"}\n",
-        ),
-        (
-            Denial::Empty,
-            "{\"clause\":2,\"deny\":\"empty\",\"text\":\"no node is chosen\"}\n",
-        ),
-        (
-            Denial::NoNode,
-            "{\"clause\":2,\"deny\":\"no-node\",\"text\":\"there is no such node\"}\n",
-        ),
-        (
-            Denial::BadRegister,
-            "{\"clause\":3,\"deny\":\"bad-register\",\"text\":\"p must be null or a neighbour\"}\n",
-        ),
-        (
-            Denial::Loop,
-            "{\"clause\":3,\"deny\":\"loop\",\"text\":\"a node is not linked to itself\"}\n",
-        ),
-        (
-            Denial::Linked,
-            "{\"clause\":4,\"deny\":\"linked\",\"text\":\"these nodes are linked already\"}\n",
-        ),
-        (
-            Denial::NotLinked,
-            "{\"clause\":3,\"deny\":\"not-linked\",\"text\":\"these nodes are not linked\"}\n",
-        ),
-        (
-            Denial::NotChosen,
-            "{\"clause\":3,\"deny\":\"not-chosen\",\"text\":\"this node is not chosen\"}\n",
-        ),
-    ] {
-        assert_eq!(rt; denial_line(rt.alloc(), denial)?.as_str(), wanted);
-    }
+    assert_eq!(rt; denials_told(rt.alloc())?, 16);
     Ok(())
 }
 
@@ -161,6 +174,7 @@ fn refusals_are_told(rt: HostRuntime) -> Result<(), Fail> {
             "{\"refuse\":\"malformed\"}\n",
         ),
         (Refused::Full, FULL_LINE, "{\"refuse\":\"full\"}\n"),
+        (Refused::Journal, JOURNAL_LINE, "{\"refuse\":\"journal\"}\n"),
         (Refused::Memory, MEMORY_LINE, "{\"refuse\":\"memory\"}\n"),
     ] {
         let told = refusal_line(rt.alloc(), refused)?;
