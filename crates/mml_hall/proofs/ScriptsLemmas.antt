@@ -12,7 +12,8 @@ use Rattle.mml_hall.specs.declared.script.Next.TheVariants as next
 use Rattle.mml_hall.specs.declared.script.ScriptFault.TheVariants as fault
 use Rattle.mml_hall.specs.Turns.{State, RequestLine, Outcome, Turn, Run, Halts, opening}
 use Rattle.mml_hall.specs.Halls.{HallValue}
-use Rattle.mml_hall.specs.Journals.{IsFresh, TellsJournal, Journals}
+use Rattle.mml_journal.specs.Taken.{IsFresh}
+use Rattle.mml_hall.specs.Journals.{TellsJournal, Journals}
 use Rattle.mml_hall.proofs.JournalsLemmas.{nothing_told, halts_on}
 use Rattle.mml_hall.specs.ScriptLines.{IsScriptLine, IsBad, script_line}
 use Rattle.mml_hall.specs.Transcripts.{Transcript, output_line, output_lines, bytes_read, bytes_written}

@@ -2,7 +2,8 @@ ghost use Rattle.std.specs.Prelude.{◌≡◌, ℕ, ◌+◌, ◌-◌, ◌^◌, �
 ghost use Rattle.std.specs.Io.KnownBytes.{Appends, prepend_known};
 ghost use Rattle.mml_codec.specs.Replies.{IsAbout, reply_line};
 ghost use Rattle.mml_hall.specs.Turns.{Halts};
-ghost use Rattle.mml_hall.specs.Journals.{IsFresh, TellsJournal, Journals};
+ghost use Rattle.mml_journal.specs.Taken.{IsFresh};
+ghost use Rattle.mml_hall.specs.Journals.{TellsJournal, Journals};
 ghost use Rattle.mml_hall.specs.ScriptLines.{IsScriptLine, line_of};
 ghost use Rattle.mml_hall.specs.Transcripts.{output_line};
 ghost use Rattle.mml_hall.specs.Scripts.{Finished, Stopped};

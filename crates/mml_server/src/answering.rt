@@ -2,7 +2,8 @@
 ghost use Rattle.std.specs.Prelude.{◌≡◌, ◌<◌, ◌-◌, ◌^◌, ◌⊎◌, [], Err, Result};
 ghost use Rattle.std.specs.Io.Buffered.{writer_buffer, writer_contents};
 ghost use Rattle.mml_hall.specs.Halls.{HallValue};
-ghost use Rattle.mml_hall.specs.Journals.{IsFresh, Journals};
+ghost use Rattle.mml_journal.specs.Taken.{IsFresh};
+ghost use Rattle.mml_hall.specs.Journals.{Journals};
 ghost use Rattle.mml_server.specs.declared.fault.Fault.{Fault};
 ghost use Rattle.mml_server.specs.Answering.{AnswersScript};
 

@@ -1,6 +1,6 @@
 //! From the words to the work.
 ghost use Rattle.std.specs.Prelude.{◌<◌, ◌-◌, ◌^◌};
-ghost use Rattle.mml_hall.specs.Journals.{IsFresh};
+ghost use Rattle.mml_journal.specs.Taken.{IsFresh};
 
 use crate::answering::{answer_script, answer_through_buffer, write_audit, write_size};
 use crate::built_in;

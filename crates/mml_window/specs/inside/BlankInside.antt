@@ -3,7 +3,7 @@ use Rattle.std.specs.Prelude.{◌≡◌, false, ℕ, Bool, List, [], Option}
 use Rattle.mml_lab.specs.Labs.{LabValue, IsLab}
 use Rattle.mml_board.specs.World.{opening_of}
 use Rattle.mml_window.specs.declared.published.Published.{Published}
-use Rattle.mml_window.specs.Journals.{IsFresh}
+use Rattle.mml_journal.specs.Taken.{IsFresh}
 
 -- a copy of what is to be published, with no events
 pub record IsOpening (lab : LabValue) (x : Published) : Type 0 where
