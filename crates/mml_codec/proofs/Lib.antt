@@ -5,3 +5,4 @@ pub mod FieldsLemmas
 pub mod CanonicalLemmas
 pub mod SeparatedLemmas
 pub mod ReportLemmas
+pub mod AboutLemmas

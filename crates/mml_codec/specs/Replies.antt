@@ -12,6 +12,7 @@ use Rattle.mml_policy.specs.declared.denial.Denial.{Denial}
 use Rattle.mml_policy.specs.declared.denial.Denial.TheVariants as denial
 use Rattle.mml_policy.specs.declared.look.Look.{Look}
 use Rattle.mml_policy.specs.declared.see.See.{See}
+use Rattle.mml_policy.specs.About.{IsSeen, IsLookedAt}
 use Rattle.mml_policy.specs.Denials.{clause_of, text_of}
 use Rattle.mml_policy.specs.Denials as denials
 use Rattle.mml_stable.specs.declared.open_link.OpenLink.{OpenLink}
@@ -168,19 +169,6 @@ is_short (replies.Release at place node) = true
 is_short (replies.Report r) = false
 is_short (replies.Deny d) = true
 is_short (replies.Refuse r) = true
-
--- what is shown is of the lab's nodes
-pub record IsSeen (ids : List ℕ) (s : See) : Type 0 where
-  pub node : s.node < length ids
-  pub pointer : IfSome s.regs.p (λ j. j < length ids)
-
-abbrev pub IsNear : List ℕ → ℕ × Regs → Type 0
-IsNear ids n = (n.0 < length ids) × IfSome n.1.p (λ j. j < length ids)
-
-pub record IsLookedAt (ids : List ℕ) (l : Look) : Type 0 where
-  pub node : l.node < length ids
-  pub pointer : IfSome l.regs.p (λ j. j < length ids)
-  pub near : All (IsNear ids) l.near
 
 -- the reply is about nodes and principals of the lab
 abbrev pub IsAbout : List ℕ → RosterValue → Reply → Type 0

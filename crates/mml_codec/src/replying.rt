@@ -1,7 +1,8 @@
 ghost use Rattle.std.specs.Prelude.{◌≡◌, ◌≤◌, ◌<◌, ◌+◌, ◌++◌, [], true, All, codes, length, map, OnOk, OnErr, IsOk, IfSome, vec_capacity};
 ghost use Rattle.mml_ids.specs.Pieces.{piece_text, piece_room};
 ghost use Rattle.mml_lab.specs.Rosters.{name_of, IsPrincipal};
-ghost use Rattle.mml_codec.specs.Replies.{truth_text, pointer_text, kind_text, kind_or_null, node_text, members, separated, hello_text, see_text, near_text, look_head, look_tail, look_text, move_text, close_text, fault_text, ends_text, release_text, current_number, number_first, deny_text, refuse_text, text, reply_line, is_short, IsAbout, IsSeen, IsNear, IsLookedAt};
+ghost use Rattle.mml_codec.specs.Replies.{truth_text, pointer_text, kind_text, kind_or_null, node_text, members, separated, hello_text, see_text, near_text, look_head, look_tail, look_text, move_text, close_text, fault_text, ends_text, release_text, current_number, number_first, deny_text, refuse_text, text, reply_line, is_short, IsAbout};
+ghost use Rattle.mml_policy.specs.About.{IsSeen, IsNear, IsLookedAt};
 ghost use Rattle.mml_codec.specs.inside.Puts.{Puts};
 
 use crate::reply::{REPLY_ROOM, Refused, Reply};

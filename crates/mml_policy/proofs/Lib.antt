@@ -8,3 +8,4 @@ pub mod AlikeLemmas
 pub mod AskingLemmas
 pub mod RulingsLemmas
 pub mod LookLemmas
+pub mod AboutLemmas

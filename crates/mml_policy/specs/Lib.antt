@@ -5,6 +5,7 @@ pub mod Clauses
 pub mod Verdicts
 pub mod Shown
 pub mod Rulings
+pub mod About
 pub mod Meaning
 pub mod Asking
 pub mod Alike

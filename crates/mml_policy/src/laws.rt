@@ -17,6 +17,7 @@ ghost use Rattle.mml_policy.specs.Visible.{is_visible, IsVisible};
 ghost use Rattle.mml_policy.specs.Verdicts.{verdict};
 ghost use Rattle.mml_ids.specs.Ids.{IsTable};
 ghost use Rattle.mml_lab.specs.declared.who.Who.TheVariants as who;
+ghost use Rattle.mml_policy.specs.About.{IsRuled};
 ghost use Rattle.mml_policy.specs.Rulings.{ruling, event_of, after_ruling};
 ghost use Rattle.mml_policy.specs.Asking.{asker, command_of};
 ghost use Rattle.mml_policy.specs.Alike.{Alike, IsWorldOf};
@@ -141,4 +142,10 @@ pub fn events_that_take_place_are_legal()
     ensures { (ids : List ℕ) (r : RosterValue) (limit : ℕ) (is_halted : Bool) (w : World) (x : Who)
         (c : Command) (e : Event) → length ids ≡ size w → event_of (ruling ids r limit is_halted w x c) ≡ Some e →
         (is_legal r w e ≡ true) × (w.place < limit) × (is_halted ≡ false) }
+{}
+
+/// What comes of a command names nodes of the lab.
+pub fn rulings_name_nodes()
+    ensures { (ids : List ℕ) (r : RosterValue) (limit : ℕ) (is_halted : Bool) (w : World) (x : Who)
+        (c : Command) → IsWorldOf ids w → IsRuled ids (ruling ids r limit is_halted w x c) }
 {}

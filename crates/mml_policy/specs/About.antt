@@ -1,0 +1,41 @@
+-- What comes of a command names nodes of the lab.
+use Rattle.std.specs.Prelude.{ℕ, ◌<◌, List, length, IfSome}
+use Rattle.std.specs.List.{All}
+use Rattle.mml_rules.specs.declared.registers.Regs.{Regs}
+use Rattle.mml_board.specs.declared.done.Done.{Done}
+use Rattle.mml_board.specs.declared.done.Done.TheVariants as done
+use Rattle.mml_policy.specs.declared.see.See.{See}
+use Rattle.mml_policy.specs.declared.look.Look.{Look}
+use Rattle.mml_policy.specs.declared.ruling.Ruling.{Ruling}
+use Rattle.mml_policy.specs.declared.ruling.Ruling.TheVariants.{Denied, Seen, Looked, Reported, Full, Journal, Granted}
+
+pub record IsSeen (ids : List ℕ) (s : See) : Type 0 where
+  pub node : s.node < length ids
+  pub pointer : IfSome s.regs.p (λ j. j < length ids)
+
+abbrev pub IsNear : List ℕ → ℕ × Regs → Type 0
+IsNear ids n = (n.0 < length ids) × IfSome n.1.p (λ j. j < length ids)
+
+pub record IsLookedAt (ids : List ℕ) (l : Look) : Type 0 where
+  pub node : l.node < length ids
+  pub pointer : IfSome l.regs.p (λ j. j < length ids)
+  pub near : All (IsNear ids) l.near
+
+-- of an event
+abbrev pub IsDone : List ℕ → Done → Type 0
+IsDone ids (done.Move node kind) = node < length ids
+IsDone ids (done.Close moved) = Unit {0}
+IsDone ids (done.Fault node dropped) = node < length ids
+IsDone ids (done.Link a b dropped) = (a < length ids) × (b < length ids)
+IsDone ids (done.Cut a b dropped) = (a < length ids) × (b < length ids)
+IsDone ids (done.Release node) = node < length ids
+
+-- of any command
+abbrev pub IsRuled : List ℕ → Ruling → Type 0
+IsRuled ids (Denied d) = Unit {0}
+IsRuled ids (Seen s) = IsSeen ids s
+IsRuled ids (Looked l) = IsLookedAt ids l
+IsRuled ids Reported = Unit {0}
+IsRuled ids Full = Unit {0}
+IsRuled ids Journal = Unit {0}
+IsRuled ids (Granted e done) = IsDone ids done
