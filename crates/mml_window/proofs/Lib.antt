@@ -8,3 +8,4 @@ pub mod ActLemmas
 pub mod JournalLemmas
 pub mod BookLemmas
 pub mod AnswerLemmas
+pub mod AboutLemmas

@@ -7,6 +7,7 @@ use Rattle.mml_board.specs.declared.event.Event.{Event}
 use Rattle.mml_board.specs.declared.done.Done.{Done}
 use Rattle.mml_policy.specs.declared.command.Command.{Command}
 use Rattle.mml_policy.specs.declared.ruling.Ruling.TheVariants as ruling
+use Rattle.mml_policy.specs.About.{IsDone}
 use Rattle.mml_window.specs.declared.answer.Answer.{Answer}
 use Rattle.mml_window.specs.declared.answer.Answer.TheVariants.{Granted, Denied, Refused}
 use Rattle.mml_window.specs.declared.answer.Refusal.TheVariants.{Full, Journal, Memory}
@@ -57,3 +58,9 @@ Says lab l places who command (Granted place number done) new =
 -- the answer is given at a legal list that begins with all that the window had seen
 abbrev pub Answers : LabValue → WindowValue → Who → Command → Answer → WindowValue → Type 0
 Answers lab old who command answer new = (l : List Event) × IsPrefix old.seen l × (is_legal_in lab l ≡ true) × Says lab l old.places who command answer new
+
+-- the nodes that an answer names are among these
+abbrev pub IsAnswered : List ℕ → Answer → Type 0
+IsAnswered ids (Denied d) = Unit {0}
+IsAnswered ids (Refused why) = Unit {0}
+IsAnswered ids (Granted place number done) = IsDone ids done

@@ -4,11 +4,12 @@ ghost use Rattle.left_right.specs.Sides.{view};
 ghost use Rattle.mml_lab.specs.Labs.{IsLab};
 ghost use Rattle.mml_policy.specs.declared.command.Command.TheVariants as command;
 ghost use Rattle.mml_policy.specs.declared.ruling.Ruling.TheVariants as rulings;
-ghost use Rattle.mml_stable.specs.Reports.{report_of};
+ghost use Rattle.mml_policy.specs.About.{IsSeen, IsLookedAt};
+ghost use Rattle.mml_stable.specs.Reports.{report_of, NamesNodes};
 ghost use Rattle.mml_window.specs.declared.sight.SightFault.TheVariants as faults;
 ghost use Rattle.mml_window.specs.Lists.{world_in};
 ghost use Rattle.mml_window.specs.Rule.{viewer};
-ghost use Rattle.mml_window.specs.Windows.{window, SeesOn};
+ghost use Rattle.mml_window.specs.Windows.{window, IsWindow, SeesOn};
 ghost use Rattle.mml_window.specs.Views.{Tells, TellsNumber};
 
 use crate::house::{House, Place, Press};
@@ -83,14 +84,16 @@ impl<H: House> Window<H> {
 
     /// The nodes' identifiers.
     pub fn ids(&self) -> &IdTable
-        ensures { result.now ≡ H.lab.ids }
+        ensures ids { result.now ≡ H.lab.ids }
+        ensures window { IsWindow H.lab self.now }
     {
         self.lab.ids()
     }
 
     /// Who takes part, and who owns which node.
     pub fn roster(&self) -> &Roster
-        ensures { result.now ≡ H.lab.roster }
+        ensures roster { result.now ≡ H.lab.roster }
+        ensures window { IsWindow H.lab self.now }
     {
         self.lab.roster()
     }
@@ -112,6 +115,7 @@ impl<H: House> Window<H> {
     #[tactic(auto, using(crate::proofs::ClimbingLemmas::climbs_on))]
     pub fn see(&mut self, who: Who, node: u64) -> Result<See, SightFault>
         ensures tells { Tells rulings.Seen H.lab self.old who (command.See node) result self.new }
+        ensures nodes { IfOk result (IsSeen H.lab.ids) }
         ensures memory { IfErr result (λ fault. fault ≢ faults.Memory) }
     {
         let Some(reader) = self.reader.take() else {
@@ -125,7 +129,9 @@ impl<H: House> Window<H> {
     /// What a node shows to its owners and the teacher.
     #[tactic(auto, using(crate::proofs::ClimbingLemmas::climbs_on))]
     pub fn look(&mut self, alloc: Global, who: Who, node: u64) -> Result<Look, SightFault>
-        ensures { Tells rulings.Looked H.lab self.old who (command.Look node) result self.new }
+        ensures tells { Tells rulings.Looked H.lab self.old who (command.Look node) result
+            self.new }
+        ensures nodes { IfOk result (IsLookedAt H.lab.ids) }
     {
         let Some(reader) = self.reader.take() else {
             return Err(SightFault::Closed);
@@ -141,6 +147,7 @@ impl<H: House> Window<H> {
         ensures tells { Tells (λ r. rulings.Reported) H.lab self.old who command.Report result
             self.new }
         ensures report { IfOk result (λ r. r ≡ report_of (world_in H.lab self.new.seen)) }
+        ensures nodes { IfOk result (NamesNodes (length H.lab.ids)) }
     {
         let Some(reader) = self.reader.take() else {
             return Err(SightFault::Closed);

@@ -1,0 +1,60 @@
+-- What windows tell names nodes of the lab.
+use Rattle.std.proofs.Common.{◌≡◌, ℕ, true, false, None, List, length, Result, Ok, Err, sym, subst}
+use Rattle.std.specs.Result.{IfOk}
+use Rattle.mml_lab.specs.declared.who.Who.{Who}
+use Rattle.mml_lab.specs.Labs.{LabValue, IsLab}
+use Rattle.mml_board.specs.declared.event.Event.{Event}
+use Rattle.mml_board.specs.World.{IsWorld, opening_of}
+use Rattle.mml_board.proofs.WorldLemmas.{length-none, hold-none}
+use Rattle.mml_board.proofs.RunsLemmas.{list-world}
+use Rattle.mml_policy.specs.declared.command.Command.{Command}
+use Rattle.mml_policy.specs.declared.ruling.Ruling.{Ruling}
+use Rattle.mml_policy.specs.declared.ruling.Ruling.TheVariants.{Seen, Looked}
+use Rattle.mml_policy.specs.declared.see.See.{See}
+use Rattle.mml_policy.specs.declared.look.Look.{Look}
+use Rattle.mml_policy.specs.About.{IsSeen, IsLookedAt, IsRuled}
+use Rattle.mml_policy.proofs.AboutLemmas.{ruled_is}
+use Rattle.mml_stable.specs.declared.stability.Report.{Report}
+use Rattle.mml_stable.specs.Reports.{NamesNodes, report_of}
+use Rattle.mml_stable.proofs.NamedLemmas.{report_names}
+use Rattle.mml_window.specs.declared.answer.Answer.{Answer}
+use Rattle.mml_window.specs.declared.answer.Answer.TheVariants.{Granted, Denied, Refused}
+use Rattle.mml_window.specs.declared.sight.SightFault.{SightFault}
+use Rattle.mml_window.specs.Lists.{is_legal_in, world_in, ruling_at}
+use Rattle.mml_window.specs.Windows.{WindowValue, SeesOn}
+use Rattle.mml_window.specs.Views.{Tells}
+use Rattle.mml_window.specs.Books.{BookValue}
+use Rattle.mml_window.specs.Answers.{Decides, IsAnswered}
+use Rattle.mml_window.proofs.ListLemmas.{nodes_in}
+
+module _ (lab : LabValue) (is : IsLab lab) where
+  pub world_is : (l : List Event) → is_legal_in lab l ≡ true → IsWorld (world_in lab l)
+  world_is l legal = list-world lab.roster (opening_of lab.network) l (record {
+    network = is.network;
+    choices = length-none (length lab.network.registers) None;
+    hold = hold-none (length lab.network.registers) _;
+  }) legal
+
+  -- what is ruled at a legal list
+  ruled_there : (l : List Event) (who : Who) (command : Command) (r : Ruling) → is_legal_in lab l ≡ true → ruling_at lab (world_in lab l) who command ≡ r → IsRuled lab.ids r
+  ruled_there l who command r legal same =
+      subst (IsRuled lab.ids) same (ruled_is lab.ids lab.roster (world_in lab l) (world_is l legal) (sym (nodes_in lab l is)) lab.events false who command)
+
+  pub seen_is : (old new : WindowValue) (who : Who) (command : Command) (r : Result See SightFault) → Tells Seen lab old who command r new → IfOk r (IsSeen lab.ids)
+  seen_is old new who command (Ok s) t = ruled_there new.seen who command (Seen s) t.1.legal t.0
+  seen_is old new who command (Err fault) t = tt
+
+  pub looked_at_is : (old new : WindowValue) (who : Who) (command : Command) (r : Result Look SightFault) → Tells Looked lab old who command r new → IfOk r (IsLookedAt lab.ids)
+  looked_at_is old new who command (Ok s) t = ruled_there new.seen who command (Looked s) t.1.legal t.0
+  looked_at_is old new who command (Err fault) t = tt
+
+  pub report_is : (shown : Report → Ruling) (old new : WindowValue) (who : Who) (command : Command) (r : Result Report SightFault) → Tells shown lab old who command r new → IfOk r (λ told. told ≡ report_of (world_in lab new.seen))
+      → IfOk r (NamesNodes (length lab.ids))
+  report_is shown old new who command (Ok s) t told =
+      subst (NamesNodes (length lab.ids)) (sym told) (subst (λ n. NamesNodes n (report_of (world_in lab new.seen))) (sym (nodes_in lab new.seen is)) (report_names (world_in lab new.seen) (world_is new.seen t.1.legal)))
+  report_is shown old new who command (Err fault) t told = tt
+
+  pub answered_is : {S : Type 0} (failures : S → ℕ) (old new : BookValue S) (who : Who) (command : Command) (answer : Answer) → is_legal_in lab old.events ≡ true → Decides lab failures old who command answer new → IsAnswered lab.ids answer
+  answered_is failures old new who command (Denied d) legal h = tt
+  answered_is failures old new who command (Refused why) legal h = tt
+  answered_is failures old new who command (Granted place number done) legal h = ruled_there old.events who command _ legal h.1.ruled
