@@ -2,6 +2,7 @@
 //! that several tests speak of. Nothing of the program stands on it.
 #![tactic(auto)]
 
+pub mod cycles;
 pub mod labs;
 mod reading;
 pub mod scripts;

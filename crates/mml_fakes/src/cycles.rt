@@ -1,0 +1,28 @@
+//! Labs whose network is a cycle, of any size.
+use std::alloc::{AllocError, Global};
+use std::fmt::Write;
+
+const PEOPLE: &str = r#"teacher = { name = "tess", key = "chalk" }
+student = [{ name = "ana", key = "a-key" }, { name = "ben", key = "b-key" }]
+"#;
+
+/// Nodes from 1 on in a cycle, the first half of ana, the others of ben; the teacher is tess.
+pub fn cycle(
+    alloc: Global,
+    nodes: u64,
+    events: u64,
+    sessions: u64,
+) -> Result<String, AllocError> {
+    let mut text = String::from_str(alloc, PEOPLE)?;
+    write!(text, "events = {events}\nsessions = {sessions}\n")?;
+    write!(text, "links = [[1, {nodes}]")?;
+    for node in 1..nodes {
+        write!(text, ", [{node}, {}]", node.saturating_add(1))?;
+    }
+    text.push_str("]\n")?;
+    for node in 1..=nodes {
+        let owner = if node <= nodes / 2 { "ana" } else { "ben" };
+        write!(text, "[[node]]\nid = {node}\nowner = \"{owner}\"\n")?;
+    }
+    Ok(text)
+}
