@@ -1,0 +1,15 @@
+-- What a request asks of the window.
+use Rattle.std.specs.Prelude.{◌≡◌, false, Option, Some}
+use Rattle.mml_lab.specs.declared.who.Who.{Who}
+use Rattle.mml_policy.specs.declared.command.Command.{Command}
+use Rattle.mml_policy.specs.Acts.{is_act}
+use Rattle.mml_codec.specs.declared.request.Request.{Request}
+use Rattle.mml_codec.specs.declared.request.Request.TheVariants.{Do}
+
+-- it is the command of one who is known, and asks only to be shown something
+pub record AsksToSee (known : Option Who) (request : Request) : Type 0 where
+  pub who : Who
+  pub command : Command
+  pub by : known ≡ Some who
+  pub asked : request ≡ Do command
+  pub view : is_act command ≡ false

@@ -1,0 +1,72 @@
+-- What the end of a session tells of its input, of what was written and of its window.
+use Rattle.std.specs.Prelude.{◌≡◌, ℕ, ◌<◌, false, List, [], ◌++◌, length, take, Option, Some, Ok}
+use Rattle.std.specs.Io.KnownBytes.{Appends, Consumes, IsAtEnd, prepend_known}
+use Rattle.mml_lab.specs.declared.who.Who.{Who}
+use Rattle.mml_lab.specs.Labs.{LabValue}
+use Rattle.mml_lines.specs.LinesOf.{IsWithinLimit, IsTooLong, ended}
+use Rattle.mml_lines.specs.declared.lines.TheConstants.{READ_SIZE}
+use Rattle.mml_policy.specs.declared.command.Command.{Command}
+use Rattle.mml_policy.specs.Acts.{is_act}
+use Rattle.mml_codec.specs.declared.TheConstants.{MAX_REQUEST}
+use Rattle.mml_codec.specs.declared.request.Request.TheVariants as requests
+use Rattle.mml_codec.specs.declared.reply.Reply.TheVariants as reply
+use Rattle.mml_codec.specs.Lines.{request_in}
+use Rattle.mml_window.specs.Windows.{WindowValue}
+use Rattle.mml_session.specs.declared.session.SessionEnd.{SessionEnd}
+use Rattle.mml_session.specs.declared.session.SessionEnd.TheVariants as end
+use Rattle.mml_session.specs.Turns.{Standing}
+use Rattle.mml_session.specs.Talks.{Talk, LineTurn, newcomer, bytes_read, bytes_written, line_read, line_written}
+
+-- the line asks of one who is known only to be shown something
+pub record IsView (st : Standing) (line : List ℕ) : Type 0 where
+  pub who : Who
+  pub command : Command
+  pub known : st.known ≡ Some who
+  pub asked : request_in line ≡ Ok (requests.Do command)
+  pub view : is_act command ≡ false
+
+-- all lines that were taken from the input were answered, the window is where they lead, and their replies are out
+pub record AllAnswered (lab : LabValue) (old new : WindowValue) (input left wrote wrote' : Option (List ℕ)) : Type 0 where
+  pub talk : Talk lab (newcomer old)
+  pub stands : talk.end.window ≡ new
+  pub consumed : Consumes input left (bytes_read talk)
+  pub appended : Appends wrote wrote' (bytes_written talk)
+
+-- and one line more, of whose reply's line so much is out
+pub record LastAnswered (sent : List ℕ → List ℕ) (lab : LabValue) (old new : WindowValue) (input left wrote wrote' : Option (List ℕ)) : Type 0 where
+  pub talk : Talk lab (newcomer old)
+  pub after : Standing
+  pub last : LineTurn lab talk.end after
+  pub stands : after.window ≡ new
+  pub consumed : Consumes input left (bytes_read talk ++ line_read last)
+  pub appended : Appends wrote wrote' (bytes_written talk ++ sent (line_written last))
+
+-- and one line more was taken, a view, which has no reply
+pub record LastUnanswered (lab : LabValue) (old new : WindowValue) (input left wrote wrote' : Option (List ℕ)) : Type 0 where
+  pub talk : Talk lab (newcomer old)
+  pub line : List ℕ
+  pub short : IsWithinLimit MAX_REQUEST line
+  pub view : IsView talk.end line
+  pub stands : talk.end.window ≡ new
+  pub consumed : Consumes input left (bytes_read talk ++ ended line)
+  pub appended : Appends wrote wrote' (bytes_written talk)
+
+-- what was answered, by how the session ended. What comes after it of the input is what was held, and then what the reader has
+-- left: after a bye, a failed write and a window that is closed no more than one read brought in, at the end of the input the
+-- front of a line and nothing else, after a failed read such a front, and else bytes that are too many for a line
+abbrev pub Ended : SessionEnd → LabValue → WindowValue → WindowValue → Option (List ℕ) → Option (List ℕ) → Option (List ℕ) → Option (List ℕ) → Type 0
+Ended end.Bye lab old new input left wrote wrote' =
+    (held : List ℕ) × (a : LastAnswered (λ line. line) lab old new input (prepend_known held left) wrote wrote')
+    × (a.last.reply ≡ reply.Bye) × (length held < READ_SIZE)
+Ended end.End lab old new input left wrote wrote' =
+    (held : List ℕ) × AllAnswered lab old new input (prepend_known held left) wrote wrote' × IsWithinLimit MAX_REQUEST held × IsAtEnd left
+Ended end.ReadFault lab old new input left wrote wrote' =
+    (held : List ℕ) × AllAnswered lab old new input (prepend_known held left) wrote wrote' × IsWithinLimit MAX_REQUEST held
+Ended end.WriteFault lab old new input left wrote wrote' =
+    (held : List ℕ) × (n : ℕ) × (a : LastAnswered (take n) lab old new input (prepend_known held left) wrote wrote')
+    × (n < length (line_written a.last)) × (length held < READ_SIZE)
+Ended end.TooLong lab old new input left wrote wrote' =
+    (held : List ℕ) × AllAnswered lab old new input (prepend_known held left) wrote wrote' × IsTooLong MAX_REQUEST held
+Ended end.Closed lab old new input left wrote wrote' =
+    (held : List ℕ) × LastUnanswered lab old new input (prepend_known held left) wrote wrote' × (length held < READ_SIZE)
+Ended end.Memory lab old new input left wrote wrote' = (new ≡ old) × Consumes input left [] × Appends wrote wrote' []

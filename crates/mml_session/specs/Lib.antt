@@ -1,0 +1,5 @@
+pub mod Turns
+pub mod Talks
+pub mod Ends
+pub mod Serving
+pub mod Asking

@@ -1,0 +1,60 @@
+-- What comes of the next line of a session.
+use Rattle.std.specs.Prelude.{◌≡◌, ◌⊎◌, ℕ, ◌+◌, ◌-◌, ◌*◌, ◌<◌, false, List, [], length, take, Option}
+use Rattle.std.specs.Io.KnownBytes.{Appends, Consumes, IsAtEnd, prepend_known}
+use Rattle.mml_lab.specs.Labs.{LabValue}
+use Rattle.mml_lines.specs.LinesOf.{IsWithinLimit, IsTooLong, ended}
+use Rattle.mml_lines.specs.LinesState.{LinesState}
+use Rattle.mml_lines.specs.declared.lines.TheConstants.{MAX_READS, READ_SIZE}
+use Rattle.mml_codec.specs.declared.TheConstants.{MAX_REQUEST}
+use Rattle.mml_codec.specs.declared.reply.Reply.{Reply}
+use Rattle.mml_codec.specs.declared.reply.Reply.TheVariants as reply
+use Rattle.mml_codec.specs.declared.reply.Refused.TheVariants as refused
+use Rattle.mml_codec.specs.Replies.{is_short}
+use Rattle.mml_session.specs.declared.session.SessionEnd.TheVariants as end
+use Rattle.mml_session.specs.declared.session.Next.{Next}
+use Rattle.mml_session.specs.declared.session.Next.TheVariants as next
+use Rattle.mml_session.specs.declared.session.Said.{Said}
+use Rattle.mml_session.specs.declared.session.Said.TheVariants as said
+use Rattle.mml_session.specs.Turns.{Standing, is_bye}
+use Rattle.mml_session.specs.Talks.{LineTurn, line_read, line_written}
+use Rattle.mml_session.specs.Ends.{IsView}
+
+-- the reply that is told is the one that was given, or want of memory in the place of one that isn't short
+abbrev pub TellsFor : Reply → Reply → Type 0
+TellsFor given told = (told ≡ given) ⊎ ((is_short given ≡ false) × (told ≡ reply.Refuse refused.Memory))
+
+-- the line had its turn; its reply's line is out, or the front of it
+abbrev pub ServesLine : Said → LabValue → Standing → Standing → List ℕ → Option (List ℕ) → Option (List ℕ) → Type 0
+ServesLine said.Told lab st after line wrote wrote' =
+    (t : LineTurn lab st after) × (t.line ≡ line) × (is_bye t.reply ≡ false) × Appends wrote wrote' (line_written t)
+ServesLine said.Bye lab st after line wrote wrote' =
+    (t : LineTurn lab st after) × (t.line ≡ line) × (t.reply ≡ reply.Bye) × Appends wrote wrote' (line_written t)
+ServesLine (said.Unwritten n) lab st after line wrote wrote' =
+    (t : LineTurn lab st after) × (t.line ≡ line) × (n < length (line_written t)) × Appends wrote wrote' (take n (line_written t))
+ServesLine said.Closed lab st after line wrote wrote' = (after ≡ st) × IsView st line × Appends wrote wrote' []
+
+-- what came of the next line says of where the session stands, of the bytes to come, of which those held are first, and of the
+-- bytes written
+abbrev pub ServesNext : Next → LabValue → Standing → Standing → Option (List ℕ) → List ℕ → Option (List ℕ) → Option (List ℕ) → Option (List ℕ) → Type 0
+ServesNext next.Served lab st after input held left wrote wrote' =
+    (t : LineTurn lab st after) × (is_bye t.reply ≡ false) × Consumes input (prepend_known held left) (line_read t) × Appends wrote wrote' (line_written t)
+ServesNext (next.Ended end.Bye) lab st after input held left wrote wrote' =
+    (t : LineTurn lab st after) × (t.reply ≡ reply.Bye) × Consumes input (prepend_known held left) (line_read t) × (length held < READ_SIZE)
+    × Appends wrote wrote' (line_written t)
+ServesNext (next.Ended end.End) lab st after input held left wrote wrote' =
+    (after ≡ st) × Consumes input (prepend_known held left) [] × IsWithinLimit MAX_REQUEST held × IsAtEnd left × Appends wrote wrote' []
+ServesNext (next.Ended end.ReadFault) lab st after input held left wrote wrote' =
+    (after ≡ st) × Consumes input (prepend_known held left) [] × IsWithinLimit MAX_REQUEST held × Appends wrote wrote' []
+ServesNext (next.Ended end.WriteFault) lab st after input held left wrote wrote' =
+    (t : LineTurn lab st after) × (n : ℕ) × (n < length (line_written t)) × Consumes input (prepend_known held left) (line_read t)
+    × (length held < READ_SIZE) × Appends wrote wrote' (take n (line_written t))
+ServesNext (next.Ended end.TooLong) lab st after input held left wrote wrote' =
+    (after ≡ st) × Consumes input (prepend_known held left) [] × IsTooLong MAX_REQUEST held × Appends wrote wrote' []
+ServesNext (next.Ended end.Closed) lab st after input held left wrote wrote' =
+    (after ≡ st) × (line : List ℕ) × IsWithinLimit MAX_REQUEST line × IsView st line × Consumes input (prepend_known held left) (ended line)
+    × (length held < READ_SIZE) × Appends wrote wrote' []
+ServesNext (next.Ended end.Memory) lab st after input held left wrote wrote' = ⊥
+
+-- the most bytes that may still come, by the reads that are left
+abbrev pub bytes_ahead : LinesState → ℕ
+bytes_ahead lines = length lines.unread + READ_SIZE * (MAX_READS - lines.reads)

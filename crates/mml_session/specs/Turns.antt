@@ -1,0 +1,106 @@
+-- What one line does in a session, and what many do.
+use Rattle.std.specs.Prelude.{◌≡◌, ◌⊎◌, ℕ, Bool, true, false, List, [], ◌∷◌, ◌++◌, Option, None, Some, Result, Ok, Err}
+use mathlib.Core.List.{IsPrefix}
+use Rattle.mml_lab.specs.declared.who.Who.{Who}
+use Rattle.mml_lab.specs.Labs.{LabValue}
+use Rattle.mml_board.specs.declared.event.Event.{Event}
+use Rattle.mml_policy.specs.declared.command.Command.{Command}
+use Rattle.mml_policy.specs.declared.ruling.Ruling.{Ruling}
+use Rattle.mml_policy.specs.declared.ruling.Ruling.TheVariants.{Denied, Seen, Looked, Reported, Full, Journal, Granted}
+use Rattle.mml_policy.specs.Rulings.{event_of, after_ruling}
+use Rattle.mml_codec.specs.declared.request.LineFault.{LineFault}
+use Rattle.mml_codec.specs.declared.request.Request.{Request}
+use Rattle.mml_codec.specs.declared.greeting.Greeting.{Greeting}
+use Rattle.mml_codec.specs.declared.greeting.Greeting.TheVariants.{Answered, LeftToJudge}
+use Rattle.mml_codec.specs.declared.reply.Refused.{Refused}
+use Rattle.mml_codec.specs.declared.reply.Refused.TheVariants as refused
+use Rattle.mml_codec.specs.declared.reply.Reply.{Reply}
+use Rattle.mml_codec.specs.declared.reply.Reply.TheVariants as reply
+use Rattle.mml_codec.specs.Greetings.{greeting, refusal_of}
+use Rattle.mml_codec.specs.Lines.{request_in}
+use Rattle.mml_codec.specs.Rulings.{reply_of}
+use Rattle.mml_window.specs.Lists.{is_legal_in, world_in, ruling_at}
+use Rattle.mml_window.specs.Windows.{WindowValue, window}
+
+-- where a session stands: who is known on its connection, if anyone is, and what its window has seen and was granted
+pub record Standing : Type 0 where
+  pub known : Option Who
+  pub window : WindowValue
+
+abbrev pub standing : Option Who → WindowValue → Standing
+standing known window = record { known = known; window = window }
+
+-- the list after a ruling at it: with the event that took place, if one did
+abbrev pub entered : List Event → Option Event → List Event
+entered l None = l
+entered l (Some e) = l ++ e ∷ []
+
+-- the place that a reply names, if it names one: that of a grant's event
+abbrev pub places_in : Reply → List ℕ
+places_in (reply.Hello who) = []
+places_in reply.Bye = []
+places_in (reply.See s) = []
+places_in (reply.Look l) = []
+places_in (reply.Move at place node kind) = place ∷ []
+places_in (reply.Close at place moved) = place ∷ []
+places_in (reply.Fault at place node dropped) = place ∷ []
+places_in (reply.Link at place a b dropped) = place ∷ []
+places_in (reply.Cut at place a b dropped) = place ∷ []
+places_in (reply.Release at place node) = place ∷ []
+places_in (reply.Report r) = []
+places_in (reply.Deny d) = []
+places_in (reply.Refuse r) = []
+
+-- which refusals may stand in the place of what was ruled: memory may be refused to what has a list, and to a grant, whose
+-- line the journal may not take either
+abbrev pub MayRefuse : Ruling → Refused → Type 0
+MayRefuse (Looked l) refused.Memory = Unit {0}
+MayRefuse Reported refused.Memory = Unit {0}
+MayRefuse (Granted e done) refused.Memory = Unit {0}
+MayRefuse (Granted e done) refused.Journal = Unit {0}
+MayRefuse _ _ = ⊥
+
+-- the reply is that to the ruling at the list, and the window has then seen the list and the event that took place
+abbrev pub Plainly : LabValue → List Event → List ℕ → Ruling → Reply → WindowValue → Type 0
+Plainly lab l ps ruled r new = (r ≡ reply_of (after_ruling (world_in lab l) ruled) ruled) × (new ≡ window (entered l (event_of ruled)) (ps ++ places_in r))
+
+-- the reply is a refusal in the place of the ruling at the list, and the window has then seen the list
+abbrev pub Refuses : List Event → List ℕ → Ruling → Reply → WindowValue → Type 0
+Refuses l ps ruled r new = (why : Refused) × (r ≡ reply.Refuse why) × MayRefuse ruled why × (new ≡ window l ps)
+
+-- the window's reply to a command: it is given at a legal list that begins with all that the window had seen
+pub record Told (lab : LabValue) (old : WindowValue) (who : Who) (c : Command) (r : Reply) (new : WindowValue) : Type 0 where
+  pub list : List Event
+  pub later : IsPrefix old.seen list
+  pub legal : is_legal_in lab list ≡ true
+  pub says : Plainly lab list old.places (ruling_at lab (world_in lab list) who c) r new
+      ⊎ Refuses list old.places (ruling_at lab (world_in lab list) who c) r new
+
+-- what comes of a request: it greets or says bye, or the window replies to its command
+abbrev pub Settles : LabValue → Standing → Greeting → Reply → Standing → Type 0
+Settles lab st (Answered r x) r' next = (r' ≡ r) × (next ≡ standing x st.window)
+Settles lab st (LeftToJudge who c) r' next = (next.known ≡ st.known) × Told lab st.window who c r' next.window
+
+-- what comes of what a line asks
+abbrev pub Asked : LabValue → Standing → Result Request LineFault → Reply → Standing → Type 0
+Asked lab st (Err fault) r next = (r ≡ reply.Refuse (refusal_of fault)) × (next ≡ st)
+Asked lab st (Ok request) r next = Settles lab st (greeting lab.roster st.known request) r next
+
+-- a growth was refused while the line was read, and nothing else happens
+abbrev pub Unread : Standing → Reply → Standing → Type 0
+Unread st r next = (r ≡ reply.Refuse refused.Memory) × (next ≡ st)
+
+-- the turn of a line
+abbrev pub Turn : LabValue → Standing → List ℕ → Reply → Standing → Type 0
+Turn lab st line r next = Asked lab st (request_in line) r next ⊎ Unread st r next
+
+-- one turn after another, from a standing to the end
+abbrev pub Run : LabValue → Standing → List (List ℕ) → List Reply → Standing → Type 0
+Run lab st [] [] end = end ≡ st
+Run lab st (line ∷ lines) (r ∷ rs) end = (next : Standing) × Turn lab st line r next × Run lab next lines rs end
+Run lab st [] (r ∷ rs) end = ⊥
+Run lab st (line ∷ lines) [] end = ⊥
+
+abbrev pub is_bye : Reply → Bool
+is_bye reply.Bye = true
+is_bye _ = false

@@ -1,0 +1,22 @@
+/// Where a session may be held.
+#[derive(Clone, Copy, Debug, PartialEq, Eq)]
+pub enum Point {
+    /// A line was read and isn't judged yet.
+    Line,
+    /// Its reply has gone out.
+    Told,
+}
+
+/// What may hold a session at its points, for as long as it likes: no lock is held there.
+pub trait Gate {
+    /// Returns when the session of this connection may go on.
+    fn pass(&self, connection: u8, point: Point);
+}
+
+/// Holds nobody.
+#[derive(Clone, Copy, Debug)]
+pub struct NoGate;
+
+impl Gate for NoGate {
+    fn pass(&self, _connection: u8, _point: Point) {}
+}

@@ -1,0 +1,37 @@
+//! Laws of sessions.
+ghost use Rattle.std.specs.Prelude.{◌≡◌, ◌++◌, ℕ, List, flat_map, length};
+ghost use mathlib.Core.List.{IsPrefix};
+ghost use Rattle.mml_lab.specs.Labs.{LabValue};
+ghost use Rattle.mml_lines.specs.LinesOf.{IsUnbroken, lines_of};
+ghost use Rattle.mml_session.specs.Turns.{Standing, places_in};
+ghost use Rattle.mml_session.specs.Talks.{Talk, bytes_read};
+
+/// A window's list of places grows by those that the replies name, in order, and by no others.
+pub fn places_are_those_told()
+    ensures { (lab : LabValue) (st : Standing) (t : Talk lab st) →
+        t.end.window.places ≡ st.window.places ++ flat_map places_in t.replies }
+{
+}
+
+/// What a window had seen begins what it has seen afterwards.
+pub fn seen_goes_on()
+    ensures { (lab : LabValue) (st : Standing) (t : Talk lab st) →
+        IsPrefix st.window.seen t.end.window.seen }
+{
+}
+
+/// Each line has one reply.
+pub fn one_reply_each()
+    ensures { (lab : LabValue) (st : Standing) (t : Talk lab st) →
+        length t.replies ≡ length t.lines }
+{
+}
+
+/// The lines that were answered are the first of the input, and all where no line comes after them.
+pub fn lines_of_a_talk()
+    ensures first { (lab : LabValue) (st : Standing) (t : Talk lab st) (rest : List ℕ) →
+        lines_of (bytes_read t ++ rest) ≡ t.lines ++ lines_of rest }
+    ensures all { (lab : LabValue) (st : Standing) (t : Talk lab st) (rest : List ℕ) →
+        IsUnbroken rest → lines_of (bytes_read t ++ rest) ≡ t.lines }
+{
+}

@@ -1,0 +1,203 @@
+ghost use Rattle.std.specs.Prelude.{◌≡◌, ◌<◌, ◌≤◌, length, None, IfOk, IfErr, IfSome, vec_capacity};
+ghost use Rattle.std.specs.Io.KnownBytes.{Appends, prepend_known};
+ghost use Rattle.mml_lines.specs.LinesOf.{IsWithinLimit};
+ghost use Rattle.mml_lab.specs.Rosters.{IsPrincipal};
+ghost use Rattle.mml_codec.specs.Replies.{IsAbout, reply_line};
+ghost use Rattle.mml_session.specs.Turns.{standing, is_bye};
+ghost use Rattle.mml_session.specs.Ends.{Ended};
+ghost use Rattle.mml_session.specs.Serving.{ServesLine, ServesNext, TellsFor, bytes_ahead};
+
+use crate::answering::answer;
+use crate::gate::{Gate, Point};
+use mml_codec::{MAX_REQUEST, REPLY_ROOM, Refused, Reply, write_reply};
+use mml_journal::Sink;
+use mml_lab::Who;
+use mml_lines::{Lines, Step, put_all};
+use mml_window::{Desk, House, Window};
+use std::alloc::Global;
+use std::io::{Read, Write};
+use std::sync::Wait;
+
+/// How a session ended.
+#[derive(Clone, Copy, Debug, PartialEq, Eq)]
+pub enum SessionEnd {
+    /// The last reply was to a bye.
+    Bye,
+    /// The reader is at its end.
+    End,
+    /// A read failed, or one more was needed after the most that there may be.
+    ReadFault,
+    /// A write failed, or took nothing.
+    WriteFault,
+    /// More bytes than a request may have came without byte 10.
+    TooLong,
+    /// The window shows nothing any more.
+    Closed,
+    /// A growth was refused before anything was read.
+    Memory,
+}
+
+/// Answers the lines of a reader one by one, each reply written before the next line is judged. A
+/// granted event stands though its reply couldn't be written.
+pub fn serve_one<Rt: Wait, S: Sink + Drop, H: House, R: Read, W: Write, G: Gate>(
+    rt: &Rt,
+    alloc: Global,
+    desk: &Desk<S, H>,
+    window: &mut Window<H>,
+    reader: &mut R,
+    writer: &mut W,
+    gate: &G,
+    connection: u8,
+) -> SessionEnd
+    ensures ended { Ended result H.lab window.old window.new
+        (R.remaining reader.old) (R.remaining reader.new)
+        (W.contents writer.old) (W.contents writer.new) }
+    ensures untouched { result ≡ SessionEnd.Memory →
+        (reader.new ≡ reader.old) × (writer.new ≡ writer.old) }
+{
+    let Ok(mut lines) = Lines::new(alloc, MAX_REQUEST) else {
+        return SessionEnd::Memory;
+    };
+    let Ok(mut out) = Vec::with_capacity(alloc, REPLY_ROOM) else {
+        return SessionEnd::Memory;
+    };
+    let mut known = None;
+    loop {
+        match serve_next(
+            rt, alloc, desk, window, &mut known, &mut lines, &mut out, reader, writer, gate,
+            connection,
+        ) {
+            Next::Served => (),
+            Next::Ended(end) => return end,
+        }
+    }
+}
+
+// What came of the next line.
+#[derive(Clone, Copy)]
+enum Next {
+    Served,
+    Ended(SessionEnd),
+}
+
+// Reads the next line, answers it and writes the reply.
+fn serve_next<Rt: Wait, S: Sink + Drop, H: House, R: Read, W: Write, G: Gate>(
+    rt: &Rt,
+    alloc: Global,
+    desk: &Desk<S, H>,
+    window: &mut Window<H>,
+    known: &mut Option<Who>,
+    lines: &mut Lines,
+    out: &mut Vec<u8>,
+    reader: &mut R,
+    writer: &mut W,
+    gate: &G,
+    connection: u8,
+) -> Next
+    requires going { lines.old.ending ≡ None }
+    requires limit { lines.old.limit ≡ MAX_REQUEST }
+    requires room { REPLY_ROOM ≤ vec_capacity out.old }
+    requires principal { IfSome known.old (IsPrincipal H.lab.roster) }
+    ensures going { result ≡ Next.Served → lines.new.ending ≡ None }
+    ensures limit { lines.new.limit ≡ MAX_REQUEST }
+    ensures room { REPLY_ROOM ≤ vec_capacity out.new }
+    ensures principal { IfSome known.new (IsPrincipal H.lab.roster) }
+    // Each line brings the end nearer, since there is a most of reads.
+    ensures progress { result ≡ Next.Served → bytes_ahead lines.new < bytes_ahead lines.old }
+    ensures serves { ServesNext result H.lab (standing known.old window.old)
+        (standing known.new window.new)
+        (prepend_known lines.old.unread (R.remaining reader.old))
+        lines.new.unread (R.remaining reader.new)
+        (W.contents writer.old) (W.contents writer.new) }
+{
+    match lines.next(reader) {
+        Step::Line => {
+            gate.pass(connection, Point::Line);
+            let said = serve_line(rt, alloc, desk, window, known, lines.bytes(), out, writer);
+            match said {
+                Said::Told => {
+                    gate.pass(connection, Point::Told);
+                    Next::Served
+                }
+                Said::Bye => {
+                    gate.pass(connection, Point::Told);
+                    Next::Ended(SessionEnd::Bye)
+                }
+                Said::Unwritten(_) => Next::Ended(SessionEnd::WriteFault),
+                Said::Closed => Next::Ended(SessionEnd::Closed),
+            }
+        }
+        Step::TooLong => Next::Ended(SessionEnd::TooLong),
+        Step::End => Next::Ended(SessionEnd::End),
+        Step::ReadFault => Next::Ended(SessionEnd::ReadFault),
+    }
+}
+
+// What came of a line.
+#[derive(Clone, Copy)]
+enum Said {
+    // Its reply is out.
+    Told,
+    // So is bye.
+    Bye,
+    // So many bytes of its reply's line are out.
+    Unwritten(usize),
+    // It has no reply.
+    Closed,
+}
+
+// Answers a line and writes the reply.
+fn serve_line<Rt: Wait, S: Sink + Drop, H: House, W: Write>(
+    rt: &Rt,
+    alloc: Global,
+    desk: &Desk<S, H>,
+    window: &mut Window<H>,
+    known: &mut Option<Who>,
+    line: &[u8],
+    out: &mut Vec<u8>,
+    writer: &mut W,
+) -> Said
+    requires line { IsWithinLimit MAX_REQUEST line.now }
+    requires room { REPLY_ROOM ≤ vec_capacity out.old }
+    requires principal { IfSome known.old (IsPrincipal H.lab.roster) }
+    ensures room { REPLY_ROOM ≤ vec_capacity out.new }
+    ensures principal { IfSome known.new (IsPrincipal H.lab.roster) }
+    ensures serves { ServesLine result H.lab (standing known.old window.old)
+        (standing known.new window.new) line.now (W.contents writer.old) (W.contents writer.new) }
+{
+    let Ok(reply) = answer(rt, alloc, desk, window, known, line) else {
+        return Said::Closed;
+    };
+    let told = put_reply(alloc, window, reply, out);
+    match put_all(writer, out) {
+        Ok(()) => { if is_bye(&told) { Said::Bye } else { Said::Told } }
+        Err(fault) => Said::Unwritten(fault.written),
+    }
+}
+
+fn is_bye(reply: &Reply) -> bool
+    ensures { result ≡ is_bye reply.now }
+{
+    matches!(reply, Reply::Bye)
+}
+
+// Puts the line of a reply, or that of want of memory, and gives the reply whose line it is.
+fn put_reply<H: House>(
+    alloc: Global,
+    window: &Window<H>,
+    reply: Reply,
+    out: &mut Vec<u8>,
+) -> Reply
+    requires room { REPLY_ROOM ≤ vec_capacity out.old }
+    requires about { IsAbout H.lab.ids H.lab.roster reply }
+    ensures told { TellsFor reply result }
+    ensures room { REPLY_ROOM ≤ vec_capacity out.new }
+    ensures line { out.new.items ≡ reply_line H.lab.ids H.lab.roster result }
+{
+    if write_reply(alloc, window.ids(), window.roster(), &reply, out).is_ok() {
+        return reply;
+    }
+    let told = Reply::Refuse(Refused::Memory);
+    write_reply(alloc, window.ids(), window.roster(), &told, out).unwrap();
+    told
+}
