@@ -10,22 +10,19 @@ ghost use Rattle.mml_session.specs.Talks.{Talk, bytes_read};
 pub fn places_are_those_told()
     ensures { (lab : LabValue) (st : Standing) (t : Talk lab st) →
         t.end.window.places ≡ st.window.places ++ flat_map places_in t.replies }
-{
-}
+{}
 
 /// What a window had seen begins what it has seen afterwards.
 pub fn seen_goes_on()
     ensures { (lab : LabValue) (st : Standing) (t : Talk lab st) →
         IsPrefix st.window.seen t.end.window.seen }
-{
-}
+{}
 
 /// Each line has one reply.
 pub fn one_reply_each()
     ensures { (lab : LabValue) (st : Standing) (t : Talk lab st) →
         length t.replies ≡ length t.lines }
-{
-}
+{}
 
 /// The lines that were answered are the first of the input, and all where no line comes after them.
 pub fn lines_of_a_talk()
@@ -33,5 +30,4 @@ pub fn lines_of_a_talk()
         lines_of (bytes_read t ++ rest) ≡ t.lines ++ lines_of rest }
     ensures all { (lab : LabValue) (st : Standing) (t : Talk lab st) (rest : List ℕ) →
         IsUnbroken rest → lines_of (bytes_read t ++ rest) ≡ t.lines }
-{
-}
+{}

@@ -182,12 +182,7 @@ fn is_bye(reply: &Reply) -> bool
 }
 
 // Puts the line of a reply, or that of want of memory, and gives the reply whose line it is.
-fn put_reply<H: House>(
-    alloc: Global,
-    window: &Window<H>,
-    reply: Reply,
-    out: &mut Vec<u8>,
-) -> Reply
+fn put_reply<H: House>(alloc: Global, window: &Window<H>, reply: Reply, out: &mut Vec<u8>) -> Reply
     requires room { REPLY_ROOM ≤ vec_capacity out.old }
     requires about { IsAbout H.lab.ids H.lab.roster reply }
     ensures told { TellsFor reply result }

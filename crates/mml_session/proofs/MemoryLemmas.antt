@@ -1,0 +1,81 @@
+-- Where the line of a reply that isn't short can't be written, want of memory is told in its place.
+use Rattle.std.proofs.Common.{◌≡◌, ◌⊎◌, ℕ, true, false, true≢false, List, [], ◌++◌, refl, sym, ap, ◌∙◌, subst, inl, inr, append-nil, Result, Ok, Err}
+use Rattle.mml_lab.specs.declared.who.Who.{Who}
+use Rattle.mml_lab.specs.Labs.{LabValue}
+use Rattle.mml_board.specs.declared.event.Event.{Event}
+use Rattle.mml_board.specs.declared.done.Done.{Done}
+use Rattle.mml_board.specs.declared.done.Done.TheVariants as dones
+use Rattle.mml_board.specs.World.{World}
+use Rattle.mml_policy.specs.declared.command.Command.{Command}
+use Rattle.mml_policy.specs.declared.ruling.Ruling.{Ruling}
+use Rattle.mml_policy.specs.declared.ruling.Ruling.TheVariants.{Denied, Seen, Looked, Reported, Full, Journal, Granted}
+use Rattle.mml_policy.specs.Rulings.{event_of, after_ruling}
+use Rattle.mml_codec.specs.declared.request.LineFault.{LineFault}
+use Rattle.mml_codec.specs.declared.request.Request.{Request}
+use Rattle.mml_codec.specs.declared.greeting.Greeting.{Greeting}
+use Rattle.mml_codec.specs.declared.greeting.Greeting.TheVariants.{Answered, LeftToJudge}
+use Rattle.mml_codec.specs.declared.reply.Refused.TheVariants as refused
+use Rattle.mml_codec.specs.declared.reply.Reply.{Reply}
+use Rattle.mml_codec.specs.declared.reply.Reply.TheVariants as replies
+use Rattle.mml_codec.specs.Greetings.{greeting, refusal_of}
+use Rattle.mml_codec.specs.Lines.{request_in}
+use Rattle.mml_codec.specs.Replies.{is_short}
+use Rattle.mml_codec.specs.Rulings.{reply_of, reply_of_done}
+use Rattle.mml_window.specs.Lists.{world_in, ruling_at}
+use Rattle.mml_window.specs.Windows.{WindowValue, window}
+use Rattle.mml_session.specs.Turns.{Standing, entered, places_in, MayRefuse, Plainly, Refuses, Told, Settles, Asked, Turn}
+use Rattle.mml_session.specs.Serving.{TellsFor}
+use Rattle.mml_session.proofs.GreetingLemmas.{IsPlain, plain_greeting}
+
+long_not_short : {P : Type 0} (r q : Reply) → is_short r ≡ false → r ≡ q → is_short q ≡ true → P
+long_not_short r q long same short = absurd (true≢false (sym short ∙ (ap is_short (sym same) ∙ long)))
+
+short_done : (number place : ℕ) (done : Done) → is_short (reply_of_done number place done) ≡ true
+short_done number place (dones.Move node kind) = refl
+short_done number place (dones.Close moved) = refl
+short_done number place (dones.Fault node dropped) = refl
+short_done number place (dones.Link a b dropped) = refl
+short_done number place (dones.Cut a b dropped) = refl
+short_done number place (dones.Release node) = refl
+
+-- what isn't short shows a list, and names no place
+stays : (l : List Event) (ps : List ℕ) (r q : Reply) (new : WindowValue) → new ≡ window l (ps ++ places_in r) → r ≡ q → places_in q ≡ [] → new ≡ window l ps
+stays l ps r q new at same none = at ∙ ap (λ xs. window l xs) (ap (λ (x : Reply). ps ++ places_in x) same ∙ (ap (λ xs. ps ++ xs) none ∙ append-nil ps))
+
+long_refused : (w : World) (l : List Event) (ps : List ℕ) (r : Reply) (new : WindowValue) (ruled : Ruling) → is_short r ≡ false
+    → r ≡ reply_of (after_ruling w ruled) ruled → new ≡ window (entered l (event_of ruled)) (ps ++ places_in r) → MayRefuse ruled refused.Memory × (new ≡ window l ps)
+long_refused w l ps r new (Denied d) long same at = long_not_short r (replies.Deny d) long same refl
+long_refused w l ps r new (Seen s) long same at = long_not_short r (replies.See s) long same refl
+long_refused w l ps r new (Looked k) long same at = (tt, stays l ps r (replies.Look k) new at same refl)
+long_refused w l ps r new Reported long same at = (tt, stays l ps r (reply_of w Reported) new at same refl)
+long_refused w l ps r new Full long same at = long_not_short r (replies.Refuse refused.Full) long same refl
+long_refused w l ps r new Journal long same at = long_not_short r (replies.Refuse refused.Journal) long same refl
+long_refused w l ps r new (Granted e done) long same at =
+    let v = after_ruling w (Granted e done) in long_not_short r (reply_of_done v.number v.place done) long same (short_done v.number v.place done)
+
+module _ (lab : LabValue) where
+  told_memory : (old new : WindowValue) (who : Who) (c : Command) (r : Reply) → is_short r ≡ false → Told lab old who c r new → Told lab old who c (replies.Refuse refused.Memory) new
+  told_memory old new who c r long t = record { list = t.list; later = t.later; legal = t.legal; says = inr (says t.says) }
+    where
+      says : Plainly lab t.list old.places (ruling_at lab (world_in lab t.list) who c) r new ⊎ Refuses t.list old.places (ruling_at lab (world_in lab t.list) who c) r new
+          → Refuses t.list old.places (ruling_at lab (world_in lab t.list) who c) (replies.Refuse refused.Memory) new
+      says (inl p) =
+          let k = long_refused (world_in lab t.list) t.list old.places r new (ruling_at lab (world_in lab t.list) who c) long p.0 p.1 in
+          (refused.Memory, refl, k.0, k.1)
+      says (inr q) = long_not_short r (replies.Refuse q.0) long q.1 refl
+
+  settles_memory : (st next : Standing) (g : Greeting) (r : Reply) → IsPlain g → is_short r ≡ false → Settles lab st g r next → Settles lab st g (replies.Refuse refused.Memory) next
+  settles_memory st next (Answered q x) r plain long h = long_not_short r q long h.0 plain.0
+  settles_memory st next (LeftToJudge who c) r plain long h = (h.0, told_memory st.window next.window who c r long h.1)
+
+  asked_memory : (st next : Standing) (asked : Result Request LineFault) (r : Reply) → is_short r ≡ false → Asked lab st asked r next → Asked lab st asked (replies.Refuse refused.Memory) next
+  asked_memory st next (Err fault) r long h = long_not_short r (replies.Refuse (refusal_of fault)) long h.0 refl
+  asked_memory st next (Ok request) r long h = settles_memory st next (greeting lab.roster st.known request) r (plain_greeting lab.roster st.known request) long h
+
+  turn_memory : (st next : Standing) (line : List ℕ) (r : Reply) → is_short r ≡ false → Turn lab st line r next → Turn lab st line (replies.Refuse refused.Memory) next
+  turn_memory st next line r long (inl h) = inl (asked_memory st next (request_in line) r long h)
+  turn_memory st next line r long (inr h) = long_not_short r (replies.Refuse refused.Memory) long h.0 refl
+
+  pub turn_told : (st next : Standing) (line : List ℕ) (r told : Reply) → TellsFor r told → Turn lab st line r next → Turn lab st line told next
+  turn_told st next line r told (inl same) t = subst (λ (q : Reply). Turn lab st line q next) (sym same) t
+  turn_told st next line r told (inr h) t = subst (λ (q : Reply). Turn lab st line q next) (sym h.1) (turn_memory st next line r h.0 t)

@@ -1,0 +1,50 @@
+-- What comes of a line, from what its parts say.
+use Rattle.std.proofs.Common.{◌≡◌, ℕ, ◌+◌, ◌-◌, ◌*◌, ◌<◌, ◌≤◌, arith, true, true≢false, List, length, sym, refl, Option, subst}
+use Rattle.std.specs.Io.KnownBytes.{Consumes, prepend_known}
+use Rattle.mml_lab.specs.Labs.{LabValue}
+use Rattle.mml_lines.specs.LinesOf.{IsWithinLimit, ended}
+use Rattle.mml_lines.specs.declared.lines.TheConstants.{READ_SIZE}
+use Rattle.mml_codec.specs.declared.TheConstants.{MAX_REQUEST}
+use Rattle.mml_codec.specs.declared.reply.Reply.{Reply}
+use Rattle.mml_codec.specs.declared.reply.Reply.TheVariants as replies
+use Rattle.mml_session.specs.declared.session.SessionEnd.TheVariants as ends
+use Rattle.mml_session.specs.declared.session.Next.TheVariants as next
+use Rattle.mml_session.specs.declared.session.Said.TheVariants as said
+use Rattle.mml_session.specs.Turns.{Standing, is_bye}
+use Rattle.mml_session.specs.Serving.{ServesLine, ServesNext}
+
+taken_by : (a b : Option (List ℕ)) (line line' : List ℕ) → Consumes a b (ended line) → line' ≡ line → Consumes a b (ended line')
+taken_by a b line line' taken same = subst (λ (t : List ℕ). Consumes a b (ended t)) (sym same) taken
+
+module _ (lab : LabValue) (st after : Standing) (a left c d : Option (List ℕ)) (held line : List ℕ) (taken : Consumes a (prepend_known held left) (ended line)) where
+  pub told_next : ServesLine said.Told lab st after line c d → ServesNext next.Served lab st after a held left c d
+  told_next had = (had.0, had.2, taken_by a (prepend_known held left) line had.0.line taken had.1, had.3)
+
+  pub bye_next : length held < READ_SIZE → ServesLine said.Bye lab st after line c d → ServesNext (next.Ended ends.Bye) lab st after a held left c d
+  bye_next few had = (had.0, had.2, taken_by a (prepend_known held left) line had.0.line taken had.1, few, had.3)
+
+  pub unwritten_next : (n : ℕ) → length held < READ_SIZE → ServesLine (said.Unwritten n) lab st after line c d → ServesNext (next.Ended ends.WriteFault) lab st after a held left c d
+  unwritten_next n few had = (had.0, n, had.2, taken_by a (prepend_known held left) line had.0.line taken had.1, few, had.3)
+
+  pub closed_next : IsWithinLimit MAX_REQUEST line → length held < READ_SIZE → ServesLine said.Closed lab st after line c d → ServesNext (next.Ended ends.Closed) lab st after a held left c d
+  closed_next short few had = (had.0, line, short, had.1, taken, few, had.2)
+
+pub bye_is : (r : Reply) → is_bye r ≡ true → r ≡ replies.Bye
+bye_is (replies.Hello who) is = absurd (true≢false (sym is))
+bye_is replies.Bye is = refl
+bye_is (replies.See s) is = absurd (true≢false (sym is))
+bye_is (replies.Look l) is = absurd (true≢false (sym is))
+bye_is (replies.Move at place node kind) is = absurd (true≢false (sym is))
+bye_is (replies.Close at place moved) is = absurd (true≢false (sym is))
+bye_is (replies.Fault at place node dropped) is = absurd (true≢false (sym is))
+bye_is (replies.Link at place x y dropped) is = absurd (true≢false (sym is))
+bye_is (replies.Cut at place x y dropped) is = absurd (true≢false (sym is))
+bye_is (replies.Release at place node) is = absurd (true≢false (sym is))
+bye_is (replies.Report r) is = absurd (true≢false (sym is))
+bye_is (replies.Deny d) is = absurd (true≢false (sym is))
+bye_is (replies.Refuse r) is = absurd (true≢false (sym is))
+
+-- a line was taken, and fewer bytes may come
+pub nearer : (u u' r r' most taken : ℕ) → taken + u' ≤ u + READ_SIZE * (r' - r) → r ≤ r' → r' ≤ most → 0 < taken
+    → u' + READ_SIZE * (most - r') < u + READ_SIZE * (most - r)
+nearer u u' r r' most taken counted grow end some = omega arith

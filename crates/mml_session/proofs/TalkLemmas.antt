@@ -1,0 +1,109 @@
+-- What a talk leaves in its window, and which lines it answers.
+use Rattle.std.proofs.Common.{◌≡◌, ◌⊎◌, ℕ, suc, List, [], ◌∷◌, ◌++◌, length, flat_map, refl, sym, ◌∙◌, ap, append_assoc, append-nil, subst, inl, inr, Option, Some, None, Result, Ok, Err, All}
+use Rattle.std.specs.List.{AllByRecursion}
+use Rattle.std.proofs.lemmas.List.Elements.{All-nil, All-cons}
+use mathlib.Core.List.{IsPrefix}
+use Rattle.mml_lab.specs.declared.who.Who.{Who}
+use Rattle.mml_lab.specs.Labs.{LabValue}
+use Rattle.mml_lines.specs.LinesOf.{IsUnbroken, IsWithinLimit, lines_of}
+use Rattle.mml_lines.proofs.LinesOfLemmas.{lines_first, no_line}
+use Rattle.mml_board.specs.declared.event.Event.{Event}
+use Rattle.mml_policy.specs.declared.command.Command.{Command}
+use Rattle.mml_policy.specs.Rulings.{event_of}
+use Rattle.mml_codec.specs.declared.TheConstants.{MAX_REQUEST}
+use Rattle.mml_codec.specs.declared.request.LineFault.{LineFault}
+use Rattle.mml_codec.specs.declared.request.Request.{Request}
+use Rattle.mml_codec.specs.declared.greeting.Greeting.{Greeting}
+use Rattle.mml_codec.specs.declared.greeting.Greeting.TheVariants.{Answered, LeftToJudge}
+use Rattle.mml_codec.specs.declared.reply.Reply.{Reply}
+use Rattle.mml_codec.specs.Greetings.{greeting}
+use Rattle.mml_codec.specs.Lines.{request_in}
+use Rattle.mml_window.specs.Lists.{world_in, ruling_at}
+use Rattle.mml_window.specs.Windows.{WindowValue}
+use Rattle.mml_window.proofs.PrefixLemmas.{prefix_self, prefix_trans, prefix_more}
+use Rattle.mml_session.specs.Turns.{Standing, places_in, entered, Plainly, Refuses, Told, Settles, Asked, Turn, Run}
+use Rattle.mml_session.specs.Talks.{Talk, bytes_read}
+use Rattle.mml_session.proofs.GreetingLemmas.{IsPlain, plain_greeting}
+
+-- the window went on: its places by those that the reply names, and what it has seen
+pub record WentOn (old new : WindowValue) (r : Reply) : Type 0 where
+  pub places : new.places ≡ old.places ++ places_in r
+  pub seen : IsPrefix old.seen new.seen
+
+-- the window is as it was, and the reply names no place
+stays : (old new : WindowValue) (r : Reply) → new ≡ old → places_in r ≡ [] → WentOn old new r
+stays old new r same none = record {
+  places = ap (λ (w : WindowValue). w.places) same ∙ (sym (append-nil old.places) ∙ sym (ap (λ ps. old.places ++ ps) none));
+  seen = subst (λ (w : WindowValue). IsPrefix old.seen w.seen) (sym same) (prefix_self old.seen);
+}
+
+entered_on : (seen l : List Event) (e : Option Event) → IsPrefix seen l → IsPrefix seen (entered l e)
+entered_on seen l None p = p
+entered_on seen l (Some e) p = prefix_more seen l (e ∷ []) p
+
+module _ (lab : LabValue) where
+  told_on : (old new : WindowValue) (who : Who) (c : Command) (r : Reply) → Told lab old who c r new → WentOn old new r
+  told_on old new who c r t = on t.says
+    where
+      on : Plainly lab t.list old.places (ruling_at lab (world_in lab t.list) who c) r new ⊎ Refuses t.list old.places (ruling_at lab (world_in lab t.list) who c) r new → WentOn old new r
+      on (inl p) = record {
+        places = ap (λ (w : WindowValue). w.places) p.1;
+        seen = subst (λ (w : WindowValue). IsPrefix old.seen w.seen) (sym p.1) (entered_on old.seen t.list (event_of (ruling_at lab (world_in lab t.list) who c)) t.later);
+      }
+      on (inr q) = record {
+        places = ap (λ (w : WindowValue). w.places) q.3 ∙ (sym (append-nil old.places) ∙ sym (ap (λ (x : Reply). old.places ++ places_in x) q.1));
+        seen = subst (λ (w : WindowValue). IsPrefix old.seen w.seen) (sym q.3) t.later;
+      }
+
+  settles_on : (st next : Standing) (g : Greeting) (r : Reply) → IsPlain g → Settles lab st g r next → WentOn st.window next.window r
+  settles_on st next (Answered q x) r plain h = stays st.window next.window r (ap (λ (t : Standing). t.window) h.1) (ap places_in h.0 ∙ plain.1)
+  settles_on st next (LeftToJudge who c) r plain h = told_on st.window next.window who c r h.1
+
+  asked_on : (st next : Standing) (asked : Result Request LineFault) (r : Reply) → Asked lab st asked r next → WentOn st.window next.window r
+  asked_on st next (Err fault) r h = stays st.window next.window r (ap (λ (t : Standing). t.window) h.1) (ap places_in h.0)
+  asked_on st next (Ok request) r h = settles_on st next (greeting lab.roster st.known request) r (plain_greeting lab.roster st.known request) h
+
+  turn_on : (st next : Standing) (line : List ℕ) (r : Reply) → Turn lab st line r next → WentOn st.window next.window r
+  turn_on st next line r (inl h) = asked_on st next (request_in line) r h
+  turn_on st next line r (inr h) = stays st.window next.window r (ap (λ (t : Standing). t.window) h.1) (ap places_in h.0)
+
+  run_places : (st end : Standing) (ls : List (List ℕ)) (rs : List Reply) → Run lab st ls rs end → end.window.places ≡ st.window.places ++ flat_map places_in rs
+  run_places st end [] [] run = ap (λ (t : Standing). t.window.places) run ∙ sym (append-nil st.window.places)
+  run_places st end [] (r ∷ rs) run = absurd run
+  run_places st end (l ∷ ls) [] run = absurd run
+  run_places st end (l ∷ ls) (r ∷ rs) run =
+      run_places run.0 end ls rs run.2
+      ∙ (ap (λ ps. ps ++ flat_map places_in rs) (turn_on st run.0 l r run.1).places ∙ append_assoc st.window.places (places_in r) (flat_map places_in rs))
+
+  run_seen : (st end : Standing) (ls : List (List ℕ)) (rs : List Reply) → Run lab st ls rs end → IsPrefix st.window.seen end.window.seen
+  run_seen st end [] [] run = subst (λ (t : Standing). IsPrefix st.window.seen t.window.seen) (sym run) (prefix_self st.window.seen)
+  run_seen st end [] (r ∷ rs) run = absurd run
+  run_seen st end (l ∷ ls) [] run = absurd run
+  run_seen st end (l ∷ ls) (r ∷ rs) run =
+      prefix_trans st.window.seen run.0.window.seen end.window.seen (turn_on st run.0 l r run.1).seen (run_seen run.0 end ls rs run.2)
+
+  run_count : (st end : Standing) (ls : List (List ℕ)) (rs : List Reply) → Run lab st ls rs end → length rs ≡ length ls
+  run_count st end [] [] run = refl
+  run_count st end [] (r ∷ rs) run = absurd run
+  run_count st end (l ∷ ls) [] run = absurd run
+  run_count st end (l ∷ ls) (r ∷ rs) run = ap (λ n. suc n) (run_count run.0 end ls rs run.2)
+
+  pub talk_places : (st : Standing) (t : Talk lab st) → t.end.window.places ≡ st.window.places ++ flat_map places_in t.replies
+  talk_places st t = run_places st t.end t.lines t.replies t.run
+
+  pub talk_seen : (st : Standing) (t : Talk lab st) → IsPrefix st.window.seen t.end.window.seen
+  talk_seen st t = run_seen st t.end t.lines t.replies t.run
+
+  pub talk_count : (st : Standing) (t : Talk lab st) → length t.replies ≡ length t.lines
+  talk_count st t = run_count st t.end t.lines t.replies t.run
+
+all_unbroken : (limit : ℕ) (ls : List (List ℕ)) → AllByRecursion (IsWithinLimit limit) ls → All IsUnbroken ls
+all_unbroken limit [] each = All-nil IsUnbroken
+all_unbroken limit (l ∷ ls) each = All-cons IsUnbroken l ls each.0.0 (all_unbroken limit ls each.1)
+
+pub first_lines : (lab : LabValue) (st : Standing) (t : Talk lab st) (rest : List ℕ) → lines_of (bytes_read t ++ rest) ≡ t.lines ++ lines_of rest
+first_lines lab st t rest = lines_first t.lines rest (all_unbroken MAX_REQUEST t.lines t.each)
+
+pub all_lines : (lab : LabValue) (st : Standing) (t : Talk lab st) (rest : List ℕ) → IsUnbroken rest → lines_of (bytes_read t ++ rest) ≡ t.lines
+all_lines lab st t rest unbroken =
+    first_lines lab st t rest ∙ (ap (λ (ls : List (List ℕ)). t.lines ++ ls) (no_line rest unbroken) ∙ append-nil t.lines)

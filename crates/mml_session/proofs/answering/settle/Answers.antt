@@ -1,0 +1,10 @@
+use Rattle.mml_session.proofs.GreetingLemmas.{closed_so}
+use Rattle.mml_session.proofs.answering.settle.Goals as goal
+
+pub returns-in-Answered-clause-about : goal.returns-in-Answered-clause-about
+returns-in-Answered-clause-about g c = rw c.roster.ensures.roster at c.in-Answered.ensures.about.0 g.H.House.lab.ids
+
+pub returns-in-LeftToJudge-clause-closed : goal.returns-in-LeftToJudge-clause-closed
+returns-in-LeftToJudge-clause-closed g c =
+    closed_so c.obey.result c.roster.result.now c.args.known.now c.args.request c.in-LeftToJudge.who c.in-LeftToJudge.command c.args.window.now c.obey.new.window
+    c.in-LeftToJudge.ensures.greeting c.obey.ensures.closed

@@ -1,0 +1,25 @@
+use Rattle.std.proofs.Common.{ap, refl, arith}
+use Rattle.mml_session.proofs.EndingLemmas.{nothing_yet, one_more, ended_so}
+use Rattle.mml_session.proofs.session.serve_one.Goals as goal
+
+pub loop-end-init : goal.loop-end-init
+loop-end-init g c = record {
+  so_far = nothing_yet g.H.House.lab c.args.window.now (g.R.Read.remaining c.args.reader.now) (g.W.Write.contents c.args.writer.now) c.in-Ok.lines.unread (ap (λ x. x.unread) c.in-Ok.ensures);
+  going = ap (λ x. x.ending) c.in-Ok.ensures;
+  limit = ap (λ x. x.limit) c.in-Ok.ensures;
+  room = omega (arith, c.in-Ok-with_capacity.ensures.exact);
+  principal = tt;
+}
+
+pub loop-end-preserved : goal.loop-end-preserved
+loop-end-preserved g c = record {
+  so_far = one_more g.H.House.lab _ _ _ _ _ _ _ _ _ _ c.loop-end.invariant.so_far c.in-Served.ensures.serves;
+  going = c.in-Served.ensures.going refl;
+  limit = c.in-Served.ensures.limit;
+  room = c.in-Served.ensures.room;
+  principal = c.in-Served.ensures.principal;
+}
+
+pub returns-in-Ended-clause-ended : goal.returns-in-Ended-clause-ended
+returns-in-Ended-clause-ended g c =
+    ended_so g.H.House.lab _ _ _ c.in-Ended.end _ _ _ _ _ _ _ c.loop-end.invariant.so_far c.in-Ended.ensures.serves

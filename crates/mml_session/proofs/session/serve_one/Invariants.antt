@@ -1,0 +1,23 @@
+use Rattle.std.proofs.Common.{◌≡◌, ◌≤◌, None}
+use Rattle.std.specs.Prelude.{IfSome}
+use Rattle.std.specs.Vec.{vec_capacity}
+use Rattle.std.specs.Io.KnownBytes.{prepend_known}
+use Rattle.mml_lab.specs.Rosters.{IsPrincipal}
+use Rattle.mml_codec.specs.declared.TheConstants.{MAX_REQUEST}
+use Rattle.mml_codec.specs.declared.reply.TheConstants.{REPLY_ROOM}
+use Rattle.mml_session.specs.Turns.{standing}
+use Rattle.mml_session.specs.Serving.{bytes_ahead}
+use Rattle.mml_session.proofs.EndingLemmas.{AnsweredSoFar}
+use Rattle.mml_session.proofs.session.serve_one.Given as goal
+
+abbrev pub invariant-loop-end : goal.invariant-loop-end
+invariant-loop-end g l = record {
+  so_far : AnsweredSoFar g.H.House.lab l.fn.window (standing l.known l.window) (g.R.Read.remaining l.fn.reader) (prepend_known l.lines.unread (g.R.Read.remaining l.reader)) (g.W.Write.contents l.fn.writer) (g.W.Write.contents l.writer);
+  going : l.lines.ending ≡ None;
+  limit : l.lines.limit ≡ MAX_REQUEST;
+  room : REPLY_ROOM ≤ vec_capacity l.out;
+  principal : IfSome l.known (IsPrincipal g.H.House.lab.roster);
+}
+
+abbrev pub decreases-loop-end : goal.decreases-loop-end
+decreases-loop-end g l = bytes_ahead l.lines
