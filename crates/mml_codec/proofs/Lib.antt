@@ -6,3 +6,7 @@ pub mod CanonicalLemmas
 pub mod SeparatedLemmas
 pub mod ReportLemmas
 pub mod AboutLemmas
+pub mod ReplyTextLemmas
+pub mod ReadBackLemmas
+pub mod ReplyValuesLemmas
+pub mod GreetingsLemmas

@@ -3,6 +3,7 @@ pub mod Lines
 pub mod Fields
 pub mod Canonical
 pub mod Replies
+pub mod ReplyValues
 pub mod Rulings
 pub mod Greetings
 pub mod inside

@@ -1,10 +1,21 @@
 //! Laws of requests and replies. Each is the clause of a function that does nothing.
-ghost use Rattle.std.specs.Prelude.{◌≡◌, ◌≢◌, List, ℕ, All, Ok};
+ghost use Rattle.std.specs.Prelude.{◌≡◌, ◌≢◌, ◌↔◌, List, ℕ, All, Ok, Option, Some, None, true};
 ghost use Rattle.mml_codec.specs.declared.request.Request.{Request};
-ghost use Rattle.mml_lab.specs.Rosters.{RosterValue};
+ghost use Rattle.mml_lab.specs.Rosters.{RosterValue, IsRoster};
+ghost use Rattle.mml_lab.specs.RosterMeaning.{IsKnownAs};
+ghost use Rattle.mml_lab.specs.declared.who.Who.{Who};
+ghost use Rattle.mml_policy.specs.declared.denial.Denial.{Denial};
+ghost use Rattle.mml_codec.specs.declared.request.Request.TheVariants as requests;
+ghost use Rattle.mml_codec.specs.declared.greeting.Greeting.TheVariants.{Answered};
+ghost use Rattle.mml_codec.specs.Greetings.{greeting};
 ghost use Rattle.mml_codec.specs.Canonical.{canonical, IsWritable};
 ghost use Rattle.mml_codec.specs.Lines.{request_in};
-ghost use Rattle.mml_codec.specs.Replies.{reply_line};
+ghost use Rattle.mml_codec.specs.Replies.{text, reply_line, IsAbout};
+ghost use Rattle.mml_codec.specs.ReplyValues.{reply_value, AreWritableCounts, has_rising_keys};
+ghost use Rattle.mml_ids.specs.Ids.{IsTable};
+ghost use Rattle.serde_json.specs.Read.{read};
+ghost use Rattle.serde_json.specs.Written.{compact_text};
+ghost use Rattle.mml_codec.specs.declared.reply.Reply.{Reply};
 ghost use Rattle.mml_codec.specs.declared.reply.Refused.TheVariants as refused;
 ghost use Rattle.mml_codec.specs.declared.reply.Reply.TheVariants as replies;
 ghost use Rattle.mml_codec.specs.declared.reply.Reply.TheVariants.{Refuse};
@@ -28,6 +39,38 @@ pub fn a_text_asks_its_request()
 /// No byte of a request's text is 10, so with a byte 10 at its end it is one line.
 pub fn a_text_is_one_line()
     ensures { (r : Request) → IsWritable r → All (λ byte. byte ≢ 10) (canonical r) }
+{}
+
+/// No byte of a reply's text is 10, so its line is one line.
+pub fn a_reply_is_one_line()
+    ensures { (ids : List ℕ) (roster : RosterValue) (r : Reply) → IsTable ids → IsRoster roster →
+        IsAbout ids roster r → AreWritableCounts r → All (λ byte. byte ≢ 10) (text ids roster r) }
+{}
+
+/// The text of a reply spells an object, without a space, and is read as that object, whose keys rise
+/// in byte order.
+pub fn a_reply_reads_back()
+    ensures text { (ids : List ℕ) (roster : RosterValue) (r : Reply) → IsRoster roster →
+        IsAbout ids roster r → text ids roster r ≡ compact_text (reply_value ids roster r) }
+    ensures value { (ids : List ℕ) (roster : RosterValue) (r : Reply) → IsTable ids →
+        IsRoster roster → IsAbout ids roster r → AreWritableCounts r →
+        read (text ids roster r) ≡ Some (reply_value ids roster r) }
+    ensures order { (ids : List ℕ) (roster : RosterValue) (r : Reply) →
+        has_rising_keys (reply_value ids roster r) ≡ true }
+{}
+
+/// A hello is granted exactly to the one who takes part under that name and key, and the connection is
+/// then known as that one; after a bye it is known as no one, and after a denial as before.
+pub fn a_greeting_tells_who_is_known()
+    ensures hello { (r : RosterValue) (name key : List ℕ) (who : Who) (known : Option Who) →
+        IsRoster r →
+        (greeting r None (requests.Hello name key) ≡ Answered (replies.Hello who) known) ↔
+        (IsKnownAs r who name key × (known ≡ Some who)) }
+    ensures bye { (r : RosterValue) (known : Option Who) →
+        greeting r known requests.Bye ≡ Answered replies.Bye None }
+    ensures denied { (r : RosterValue) (before : Option Who) (q : Request) (d : Denial)
+        (known : Option Who) →
+        greeting r before q ≡ Answered (replies.Deny d) known → known ≡ before }
 {}
 
 /// The lines of refusals are the same in each lab.

@@ -1,7 +1,10 @@
-ghost use Rattle.std.specs.Prelude.{◌≡◌, ◌≤◌, ◌<◌, ◌+◌, ◌++◌, [], true, All, codes, length, map, OnOk, OnErr, IsOk, IfSome, vec_capacity};
+ghost use Rattle.std.specs.Prelude.{◌≡◌, ◌≤◌, ◌<◌, ◌+◌, ◌^◌, ◌++◌, [], true, All, codes, length, map, OnOk, OnErr, IsOk, IfSome, vec_capacity};
 ghost use Rattle.mml_ids.specs.Pieces.{piece_text, piece_room};
+ghost use Rattle.mml_ids.specs.declared.piece.Piece.TheVariants.{Number};
 ghost use Rattle.mml_lab.specs.Rosters.{name_of, IsPrincipal};
 ghost use Rattle.mml_codec.specs.Replies.{truth_text, pointer_text, kind_text, kind_or_null, node_text, members, separated, hello_text, see_text, near_text, look_head, look_tail, look_text, move_text, close_text, fault_text, ends_text, release_text, current_number, number_first, deny_text, refuse_text, text, reply_line, is_short, IsAbout};
+ghost use Rattle.mml_codec.specs.ReplyValues.{AreWritableCounts};
+ghost use Rattle.mml_codec.specs.declared.reply.Reply.TheVariants.{Deny};
 ghost use Rattle.mml_policy.specs.About.{IsSeen, IsNear, IsLookedAt};
 ghost use Rattle.mml_codec.specs.inside.Puts.{Puts};
 
@@ -32,6 +35,7 @@ pub fn write_reply(
     ensures room { REPLY_ROOM ≤ vec_capacity out.old → is_short reply.now ≡ true → IsOk result }
     ensures kept { REPLY_ROOM ≤ vec_capacity out.old → is_short reply.now ≡ true →
         vec_capacity out.new ≡ vec_capacity out.old }
+    ensures counts { AreWritableCounts reply.now }
 {
     out.clear();
     let written = put_line(ids, roster, reply, out);
@@ -51,6 +55,7 @@ fn put_line(ids: &IdTable, roster: &Roster, reply: &Reply, out: &mut Vec<u8>) ->
     ensures kept { is_short reply.now ≡ true →
         length out.old.items + REPLY_ROOM ≤ vec_capacity out.old →
         vec_capacity out.new ≡ vec_capacity out.old }
+    ensures counts { AreWritableCounts reply.now }
 {
     put_text(ids, roster, reply, out)?;
     put(out, &[Piece::Text("\n")])
@@ -68,6 +73,7 @@ fn put_text(ids: &IdTable, roster: &Roster, reply: &Reply, out: &mut Vec<u8>) ->
     ensures kept { is_short reply.now ≡ true →
         length out.old.items + TEXT_ROOM ≤ vec_capacity out.old →
         vec_capacity out.new ≡ vec_capacity out.old }
+    ensures counts { AreWritableCounts reply.now }
 {
     match reply {
         Reply::Hello(who) => put_hello(roster, *who, out),
@@ -126,13 +132,14 @@ fn put_hello(roster: &Roster, who: Who, out: &mut Vec<u8>) -> Result<(), Memory>
 #[tactic(auto, unfolding(crate::specs::Replies::see_text))]
 fn put_see(ids: &IdTable, see: &See, out: &mut Vec<u8>) -> Result<(), Memory>
     requires { IsSeen ids.now see.now }
-    ensures { Puts (see_text ids.now see.now) TEXT_ROOM out.old out.new result }
+    ensures puts { Puts (see_text ids.now see.now) TEXT_ROOM out.old out.new result }
+    ensures count { see.now.at < 2 ^ 64 }
 {
     put(
         out,
         &[
             Piece::Text("{\"at\":"),
-            Piece::Number(see.at),
+            counted(see.at),
             Piece::Text(",\"m\":"),
             Piece::Text(truth(see.regs.m)),
             Piece::Text(",\"node\":"),
@@ -184,6 +191,7 @@ fn put_look(ids: &IdTable, look: &Look, out: &mut Vec<u8>) -> Result<(), Memory>
     requires { IsLookedAt ids.now look.now }
     ensures text { OnOk result (out.new.items ≡ out.old.items ++ look_text ids.now look.now) }
     ensures capacity { vec_capacity out.old ≤ vec_capacity out.new }
+    ensures count { look.now.at < 2 ^ 64 }
 {
     put_look_head(look, out)?;
     put_near(ids, look.near.as_slice(), out)?;
@@ -194,12 +202,13 @@ fn put_look(ids: &IdTable, look: &Look, out: &mut Vec<u8>) -> Result<(), Memory>
 fn put_look_head(look: &Look, out: &mut Vec<u8>) -> Result<(), Memory>
     ensures text { OnOk result (out.new.items ≡ out.old.items ++ look_head look.now) }
     ensures capacity { vec_capacity out.old ≤ vec_capacity out.new }
+    ensures count { look.now.at < 2 ^ 64 }
 {
     put(
         out,
         &[
             Piece::Text("{\"at\":"),
-            Piece::Number(look.at),
+            counted(look.at),
             Piece::Text(",\"chosen\":"),
             Piece::Text(kind_or_null(look.chosen)),
             Piece::Text(",\"m\":"),
@@ -394,7 +403,8 @@ fn put_release(
 
 #[tactic(auto, unfolding(crate::specs::Replies::deny_text))]
 fn put_denial(denial: Denial, out: &mut Vec<u8>) -> Result<(), Memory>
-    ensures { Puts (deny_text denial) TEXT_ROOM out.old out.new result }
+    ensures puts { Puts (deny_text denial) TEXT_ROOM out.old out.new result }
+    ensures count { AreWritableCounts (Deny denial) }
 {
     put_number_first(denial, out)?;
     put(
@@ -412,7 +422,8 @@ fn put_denial(denial: Denial, out: &mut Vec<u8>) -> Result<(), Memory>
 }
 
 fn put_number_first(denial: Denial, out: &mut Vec<u8>) -> Result<(), Memory>
-    ensures { Puts (number_first (current_number denial)) 40 out.old out.new result }
+    ensures puts { Puts (number_first (current_number denial)) 40 out.old out.new result }
+    ensures count { AreWritableCounts (Deny denial) }
 {
     match denial {
         Denial::Stale(at) => put(
@@ -445,6 +456,14 @@ fn refusal(refused: Refused) -> &'static str
         Refused::Journal => "{\"refuse\":\"journal\"}",
         Refused::Memory => "{\"refuse\":\"memory\"}",
     }
+}
+
+// In a contract a number is any; that of a piece fits its type.
+pub(crate) fn counted(count: u64) -> Piece<'static>
+    ensures piece { result ≡ Number count }
+    ensures fits { count < 2 ^ 64 }
+{
+    Piece::Number(count)
 }
 
 pub(crate) fn truth(m: bool) -> &'static str

@@ -1,10 +1,10 @@
 //! The text of a report.
-ghost use Rattle.std.specs.Prelude.{◌≡◌, ◌≤◌, ◌<◌, ◌++◌, All, length, map, OnOk, vec_capacity};
+ghost use Rattle.std.specs.Prelude.{◌≡◌, ◌≤◌, ◌<◌, ◌^◌, ◌++◌, All, length, map, OnOk, vec_capacity};
 ghost use Rattle.mml_stable.specs.Reports.{IsPairOf, IsOpenLinkOf, NamesNodes};
 ghost use Rattle.mml_codec.specs.Replies.{node_text, pair_text, privileged_text, open_link_text, report_text, separated};
 ghost use Rattle.mml_codec.specs.inside.Puts.{Puts};
 
-use crate::replying::{kind_word, truth};
+use crate::replying::{counted, kind_word, truth};
 use mml_ids::{IdTable, Memory, Piece, Rank, put};
 use mml_rules::Kind;
 use mml_stable::{OpenLink, Report};
@@ -14,12 +14,13 @@ pub(crate) fn put_report(ids: &IdTable, report: &Report, out: &mut Vec<u8>) -> R
     requires { NamesNodes (length ids.now) report.now }
     ensures text { OnOk result (out.new.items ≡ out.old.items ++ report_text ids.now report.now) }
     ensures capacity { vec_capacity out.old ≤ vec_capacity out.new }
+    ensures count { report.now.at < 2 ^ 64 }
 {
     put(
         out,
         &[
             Piece::Text("{\"at\":"),
-            Piece::Number(report.at),
+            counted(report.at),
             Piece::Text(",\"free\":["),
         ],
     )?;

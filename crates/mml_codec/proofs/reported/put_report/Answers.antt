@@ -1,4 +1,5 @@
-use Rattle.std.proofs.Common.{◌++◌, ◌∙◌, ap, codes, decimal, map}
+use Rattle.std.proofs.Common.{[], ◌++◌, ◌∙◌, ap, codes, decimal, map}
+use Rattle.mml_ids.specs.Pieces.{piece_text}
 use Rattle.mml_codec.specs.Replies.{node_text, pair_text, privileged_text, open_link_text, report_text, separated}
 use Rattle.mml_codec.proofs.ReportLemmas.{on_ok, parts_put, grouped}
 use Rattle.mml_codec.proofs.reported.put_report.Goals as goal
@@ -9,7 +10,7 @@ returns-clause-text c =
     let ids = c.args.ids.now in
     on_ok c.put-5.result (λ last.
     parts_put _ _ _ _ _ _ _ _ _ _ _ _ _ _ _ _ _ _ _
-    c.in_ok-put.ensures.text
+    (c.in_ok-put.ensures.text ∙ ap (λ q. c.args.out.now.items ++ (codes "{\"at\":" ++ (piece_text q ++ (codes ",\"free\":[" ++ [])))) c.counted.ensures.piece)
     (c.in_ok-put_nodes.ensures.text ∙ ap (λ xs. c.put.new.out.items ++ separated (map (node_text ids) xs)) c.as_slice.ensures)
     c.in_ok-put-2.ensures.text
     (c.in_ok-put_links.ensures.text ∙ ap (λ xs. c.put-2.new.out.items ++ separated (map (open_link_text ids) xs)) c.as_slice-2.ensures)

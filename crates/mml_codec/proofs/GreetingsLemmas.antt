@@ -1,0 +1,35 @@
+-- Who a connection is known as after an answer.
+use Rattle.std.proofs.Common.{◌≡◌, ◌↔◌, ℕ, List, Option, None, Some, refl, sym, ap, ◌∙◌}
+use Rattle.mml_lab.specs.declared.who.Who.{Who}
+use Rattle.mml_lab.specs.Rosters.{RosterValue, IsRoster, principal}
+use Rattle.mml_lab.specs.RosterMeaning.{IsKnownAs}
+use Rattle.mml_lab.proofs.RosterMeaningLemmas.{principal-one}
+use Rattle.mml_policy.specs.declared.denial.Denial.{Denial}
+use Rattle.mml_codec.specs.declared.request.Request.{Request}
+use Rattle.mml_codec.specs.declared.request.Request.TheVariants as requests
+use Rattle.mml_codec.specs.declared.reply.Reply.TheVariants as replies
+use Rattle.mml_codec.specs.declared.greeting.Greeting.TheVariants.{Answered}
+use Rattle.mml_codec.specs.Greetings.{admitted, greeting}
+
+granted : (found : Option Who) (who : Who) (known : Option Who) → admitted found ≡ Answered (replies.Hello who) known → (found ≡ Some who) × (known ≡ Some who)
+granted None who known e = absurd cc
+granted (Some w) who known e = let same : w ≡ who = cc in let after : Some w ≡ known = cc in (ap Some same, sym after ∙ ap Some same)
+
+pub hello_is_granted : (r : RosterValue) (name key : List ℕ) (who : Who) (known : Option Who) → IsRoster r
+    → (greeting r None (requests.Hello name key) ≡ Answered (replies.Hello who) known) ↔ (IsKnownAs r who name key × (known ≡ Some who))
+hello_is_granted r name key who known roster = (
+  λ e. let both = granted (principal r name key) who known e in ((principal-one r name key who roster).0 both.0, both.1),
+  λ h. rw ((principal-one r name key who roster).1 h.0, h.1) refl,
+)
+
+denied_before : (found : Option Who) (d : Denial) (known : Option Who) → admitted found ≡ Answered (replies.Deny d) known → known ≡ None
+denied_before None d known e = cc
+denied_before (Some w) d known e = absurd cc
+
+pub denied_is_known_as_before : (r : RosterValue) (before : Option Who) (q : Request) (d : Denial) (known : Option Who) → greeting r before q ≡ Answered (replies.Deny d) known → known ≡ before
+denied_is_known_as_before r None (requests.Hello name key) d known e = denied_before (principal r name key) d known e
+denied_is_known_as_before r (Some who) (requests.Hello name key) d known e = cc
+denied_is_known_as_before r None requests.Bye d known e = absurd cc
+denied_is_known_as_before r (Some who) requests.Bye d known e = absurd cc
+denied_is_known_as_before r None (requests.Do c) d known e = cc
+denied_is_known_as_before r (Some who) (requests.Do c) d known e = absurd cc

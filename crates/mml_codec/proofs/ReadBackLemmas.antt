@@ -1,0 +1,112 @@
+-- What is read of the text of a value: integers, words, lists and objects.
+use Rattle.std.proofs.Common.{◌≡◌, ℕ, suc, ◌<◌, ◌≤◌, ◌^◌, List, [], ◌∷◌, Bool, true, ◌&&◌, Some, All, IsUtf8, map, refl, ap, ◌∙◌, arith}
+use Rattle.std.specs.List.{AllByRecursion}
+use Rattle.std.specs.Option.{option_map}
+use Rattle.std.proofs.Math.Nat.{max-le}
+use Rattle.std.proofs.lemmas.Bool.{and_parts, and_from}
+use Rattle.std.proofs.lemmas.List.Elements.{All-head, All-tail}
+use Rattle.json.specs.Tree as tree
+use Rattle.json.proofs.Printed.Utf8.{are_ascii, IsUtf8-are_ascii}
+use Rattle.serde_json.specs.Data.{Data, null, boolean, string, array, object, Members, no_members, put}
+use Rattle.serde_json.specs.Read.{of_json, of_items, of_members, read, max_depth}
+use Rattle.serde_json.specs.Written.{outline, items_outline, members_outline, compact_text}
+use Rattle.serde_json.proofs.Numbers.{number_of-decimal}
+use Rattle.mml_codec.specs.ReplyValues.{items_with, members_with, array_of, object_with, count, has_rising_keys, items_have_rising_keys}
+use Rattle.mml_codec.proofs.CompactTextLemmas.{HasText, ItemsHaveText, MembersHaveText, read-compact_text}
+
+-- its text is read as the value again, in which arrays and objects nest n deep at most
+pub record IsReadable (n : ℕ) (d : Data) : Type 0 where
+  pub text : HasText d
+  pub back : of_json (outline d) ≡ Some d
+  pub shallow : tree.depth (outline d) ≤ n
+
+pub null_read : (n : ℕ) → IsReadable n null
+null_read n = record { text = tt; back = refl; shallow = omega arith }
+
+pub truth_read : (n : ℕ) (b : Bool) → IsReadable n (boolean b)
+truth_read n b = record { text = tt; back = refl; shallow = omega arith }
+
+pub count_read : (n k : ℕ) → k < 2 ^ 64 → IsReadable n (count k)
+count_read n k h = record { text = h; back = rw (number_of-decimal k h) refl; shallow = omega arith }
+
+pub string_read : (n : ℕ) (s : List ℕ) → IsUtf8 s → IsReadable n (string s)
+string_read n s h = record { text = h; back = refl; shallow = omega arith }
+
+pub word_read : (n : ℕ) (s : List ℕ) → are_ascii s ≡ true → IsReadable n (string s)
+word_read n s h = string_read n s (IsUtf8-are_ascii s h)
+
+-- ---- lists
+
+items_text : (n : ℕ) (ds : List Data) → AllByRecursion (IsReadable n) ds → ItemsHaveText (items_with ds)
+items_text n [] h = tt
+items_text n (d ∷ ds) h = (h.0.text, items_text n ds h.1)
+
+items_back : (n : ℕ) (ds : List Data) → AllByRecursion (IsReadable n) ds → of_items (items_outline (items_with ds)) ≡ Some (items_with ds)
+items_back n [] h = refl
+items_back n (d ∷ ds) h = rw (h.0.back, items_back n ds h.1) refl
+
+items_shallow : (n : ℕ) (ds : List Data) → AllByRecursion (IsReadable n) ds → tree.items_depth (items_outline (items_with ds)) ≤ n
+items_shallow n [] h = omega arith
+items_shallow n (d ∷ ds) h = max-le h.0.shallow (items_shallow n ds h.1)
+
+pub items_read : (n : ℕ) (ds : List Data) → AllByRecursion (IsReadable n) ds → IsReadable (suc n) (array (items_with ds))
+items_read n ds h = record {
+  text = items_text n ds h;
+  back = ap (option_map array) (items_back n ds h);
+  shallow = let within = items_shallow n ds h in omega (arith, within);
+}
+
+each_read : {A : Type 0} (n : ℕ) (P : A → Type 0) (f : A → Data) → ((x : A) → P x → IsReadable n (f x)) → (xs : List A) → All P xs → AllByRecursion (IsReadable n) (map f xs)
+each_read n P f each [] h = tt
+each_read n P f each (x ∷ xs) h = (each x (All-head P x xs h), each_read n P f each xs (All-tail P x xs h))
+
+pub array_read : {A : Type 0} (n : ℕ) (P : A → Type 0) (f : A → Data) → ((x : A) → P x → IsReadable n (f x)) → (xs : List A) → All P xs → IsReadable (suc n) (array_of f xs)
+array_read n P f each xs h = items_read n (map f xs) (each_read n P f each xs h)
+
+-- ---- objects
+
+-- the members as a reader puts them in, one after another
+abbrev pub put_in_turn : List (List ℕ × Data) → Members → Members
+put_in_turn [] found = found
+put_in_turn (m ∷ ms) found = put_in_turn ms (put m.0 m.1 found)
+
+abbrev pub has_ascii_keys : List (List ℕ × Data) → Bool
+has_ascii_keys [] = true
+has_ascii_keys (m ∷ ms) = are_ascii m.0 && has_ascii_keys ms
+
+abbrev pub AreReadable : ℕ → List (List ℕ × Data) → Type 0
+AreReadable n ms = AllByRecursion (λ m. IsReadable n m.1) ms
+
+members_text : (n : ℕ) (ms : List (List ℕ × Data)) → has_ascii_keys ms ≡ true → AreReadable n ms → MembersHaveText (members_with ms)
+members_text n [] keys h = tt
+members_text n (m ∷ ms) keys h = let parts = and_parts _ _ keys in (IsUtf8-are_ascii m.0 parts.0, (h.0.text, members_text n ms parts.1 h.1))
+
+members_back : (n : ℕ) (ms : List (List ℕ × Data)) (found : Members) → AreReadable n ms → of_members (members_outline (members_with ms)) found ≡ Some (put_in_turn ms found)
+members_back n [] found h = refl
+members_back n (m ∷ ms) found h = rw h.0.back (members_back n ms (put m.0 m.1 found) h.1)
+
+members_shallow : (n : ℕ) (ms : List (List ℕ × Data)) → AreReadable n ms → tree.members_depth (members_outline (members_with ms)) ≤ n
+members_shallow n [] h = omega arith
+members_shallow n (m ∷ ms) h = max-le h.0.shallow (members_shallow n ms h.1)
+
+-- the keys rise, each once, and are ASCII
+pub record IsKeyed (ms : List (List ℕ × Data)) : Type 0 where
+  pub rising : put_in_turn ms no_members ≡ members_with ms
+  pub ascii : has_ascii_keys ms ≡ true
+
+pub object_read : (n : ℕ) (ms : List (List ℕ × Data)) → IsKeyed ms → AreReadable n ms → IsReadable (suc n) (object_with ms)
+object_read n ms keyed h = record {
+  text = members_text n ms keyed.ascii h;
+  back = ap (option_map object) (members_back n ms no_members h ∙ ap Some keyed.rising);
+  shallow = let within = members_shallow n ms h in omega (arith, within);
+}
+
+-- the text is read as the value
+pub read_value : (n : ℕ) (d : Data) → n ≤ max_depth → IsReadable n d → read (compact_text d) ≡ Some d
+read_value n d few h = read-compact_text d h.text (omega (arith, h.shallow, few)) h.back
+
+-- ---- keys in byte order
+
+pub items_rise : {A : Type 0} (f : A → Data) → ((x : A) → has_rising_keys (f x) ≡ true) → (xs : List A) → items_have_rising_keys (items_with (map f xs)) ≡ true
+items_rise f each [] = refl
+items_rise f each (x ∷ xs) = and_from _ _ (each x) (items_rise f each xs)

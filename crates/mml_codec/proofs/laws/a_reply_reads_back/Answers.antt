@@ -1,0 +1,12 @@
+use Rattle.mml_codec.proofs.ReplyTextLemmas.{reply_text}
+use Rattle.mml_codec.proofs.ReplyValuesLemmas.{read-reply, keys_rise}
+use Rattle.mml_codec.proofs.laws.a_reply_reads_back.Goals as goal
+
+pub returns-clause-text : goal.returns-clause-text
+returns-clause-text c ids roster r is about = reply_text ids roster r is about
+
+pub returns-clause-value : goal.returns-clause-value
+returns-clause-value c ids roster r table is about counts = read-reply ids roster table is r about counts
+
+pub returns-clause-order : goal.returns-clause-order
+returns-clause-order c ids roster r = keys_rise ids roster r
