@@ -9,3 +9,4 @@ pub mod JournalLemmas
 pub mod BookLemmas
 pub mod AnswerLemmas
 pub mod AboutLemmas
+pub mod TallyLemmas

@@ -7,5 +7,7 @@ pub mod Windows
 pub mod Views
 pub mod Books
 pub mod Answers
+pub mod Tallies
+pub mod Logs
 pub mod Houses
 pub mod inside

@@ -1,3 +1,4 @@
 pub mod Leaves
 pub mod BookInside
 pub mod BlankInside
+pub mod Cursors

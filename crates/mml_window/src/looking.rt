@@ -60,3 +60,30 @@ pub(crate) fn look_for_event<H: House, R: Wait>(
     }
     unreachable!()
 }
+
+/// Lets a reader look until it sees all these events.
+pub(crate) fn look_for_all<H: House, R: Wait>(
+    rt: &R,
+    reader: Place<H>,
+    events: &[Event],
+) -> Place<H>
+    ensures view { view result.place ≡ viewer events.now }
+    ensures begins { IsPrefix (view reader.place).seen events.now }
+    ensures legal { is_legal_in H.lab events.now ≡ true }
+    ensures few { length events.now ≤ H.lab.events }
+{
+    let mut reader = reader;
+    'looks: for _ in rt.forever() {
+        match reader.enter_as::<Seeing<H>>() {
+            Ok(reading) => {
+                let found = reading.get().has_all(events);
+                reader = reading.leave();
+                if found {
+                    return reader;
+                }
+            }
+            Err(same) => reader = same,
+        }
+    }
+    unreachable!()
+}

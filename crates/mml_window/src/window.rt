@@ -1,7 +1,9 @@
-ghost use Rattle.std.specs.Prelude.{◌≡◌, ◌≢◌, ◌+◌, ◌<◌, ◌≤◌, ◌++◌, ◌∷◌, [], length, vec_capacity, IfOk, IfErr};
+ghost use Rattle.std.specs.Prelude.{◌≡◌, ◌≢◌, ℕ, ◌+◌, ◌<◌, ◌≤◌, ◌++◌, ◌∷◌, [], length, drop, vec_capacity, IfOk, IfErr, IsTrue, IsFalse, MatchBool};
+ghost use mathlib.Core.List.{IsPrefix};
 ghost use Rattle.std.specs.Arc.{arc_value};
 ghost use Rattle.left_right.specs.Sides.{view};
 ghost use Rattle.mml_lab.specs.Labs.{IsLab};
+ghost use Rattle.mml_lab.specs.declared.TheConstants.{MAX_EVENTS};
 ghost use Rattle.mml_policy.specs.declared.command.Command.TheVariants as command;
 ghost use Rattle.mml_policy.specs.declared.ruling.Ruling.TheVariants as rulings;
 ghost use Rattle.mml_policy.specs.About.{IsSeen, IsLookedAt};
@@ -11,9 +13,11 @@ ghost use Rattle.mml_window.specs.Lists.{world_in};
 ghost use Rattle.mml_window.specs.Rule.{viewer};
 ghost use Rattle.mml_window.specs.Windows.{window, IsWindow, SeesOn};
 ghost use Rattle.mml_window.specs.Views.{Tells, TellsNumber};
+ghost use Rattle.mml_window.specs.Tallies.{times};
+ghost use Rattle.mml_window.specs.inside.Cursors.{IsStuck};
 
 use crate::house::{House, Place, Press};
-use crate::looking::{look_for_board, look_for_event};
+use crate::looking::{look_for_all, look_for_board, look_for_event};
 use crate::press::new_place;
 use crate::rule::Seeing;
 use crate::showing::{look_at, report_at, see_at};
@@ -190,6 +194,47 @@ impl<H: House> Window<H> {
         };
         self.reader = Some(look_for_event(rt, reader, place, event));
         self.places.push_reserved(place);
+    }
+
+    /// Looks until it sees all that is published.
+    #[tactic(auto, using(crate::proofs::ClimbingLemmas::climbs_on))]
+    pub(crate) fn look_for_all<R: Wait>(&mut self, rt: &R, press: &Press<H>)
+        ensures window { self.new ≡ window press.now.desk.shown.value.events.items self.old.places }
+        ensures begins { IsPrefix self.old.seen press.now.desk.shown.value.events.items }
+    {
+        let reader = match self.reader.take() {
+            Some(reader) => reader,
+            None => new_place(rt, press),
+        };
+        self.reader = Some(look_for_all(rt, reader, press.published().events.as_slice()));
+    }
+
+    /// How many places it was granted.
+    pub(crate) fn place_count(&self) -> u64
+        ensures count { result ≡ length self.now.places }
+        ensures few { result ≤ MAX_EVENTS }
+    {
+        self.places.len() as u64
+    }
+
+    /// Whether this is its place at the cursor.
+    pub(crate) fn is_next(&self, cursor: usize, place: u64) -> bool
+        ensures next { IsTrue result → (drop cursor self.now.places
+            ≡ place ∷ drop (cursor + 1) self.now.places) × (cursor < MAX_EVENTS) }
+        ensures stuck { IsFalse result → IsStuck place (drop cursor self.now.places) }
+    {
+        match self.places.get(cursor) {
+            Some(next) => *next == place,
+            None => false,
+        }
+    }
+
+    /// Whether no place is left at the cursor.
+    pub(crate) fn is_at_end(&self, cursor: usize) -> bool
+        ensures { MatchBool result (drop cursor self.now.places ≡ [])
+            ((p : ℕ) × (0 < times p (drop cursor self.now.places))) }
+    {
+        cursor >= self.places.len()
     }
 }
 

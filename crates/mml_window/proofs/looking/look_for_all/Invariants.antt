@@ -1,0 +1,6 @@
+use mathlib.Core.List.{IsPrefix}
+use Rattle.left_right.specs.Sides.{view}
+use Rattle.mml_window.proofs.looking.look_for_all.Given as goal
+
+abbrev pub invariant-looks : goal.invariant-looks
+invariant-looks g l = IsPrefix (view l.fn.reader.place).seen (view l.reader.place).seen

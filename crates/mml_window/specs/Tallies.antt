@@ -1,0 +1,21 @@
+-- The places that windows were told, counted.
+use Rattle.std.specs.Prelude.{◌≡◌, ℕ, suc, ◌==◌, ◌&&◌, nat_lt, nat_le, if◌then◌else◌, List, [], ◌∷◌, ◌++◌}
+use Rattle.mml_window.specs.Windows.{WindowValue}
+
+-- how often a number stands in a list
+abbrev pub times : ℕ → List ℕ → ℕ
+times p [] = 0
+times p (q ∷ qs) = if p == q then suc (times p qs) else times p qs
+
+-- once for 1 to n, else never
+abbrev pub once_to : ℕ → ℕ → ℕ
+once_to n p = if (nat_lt 0 p && nat_le p n) then 1 else 0
+
+-- the list holds 1 to n, each once, and nothing else
+abbrev pub IsEachOnce : ℕ → List ℕ → Type 0
+IsEachOnce n ps = (p : ℕ) → times p ps ≡ once_to n p
+
+-- the places of all windows
+abbrev pub told_of : List WindowValue → List ℕ
+told_of [] = []
+told_of (w ∷ ws) = w.places ++ told_of ws

@@ -1,0 +1,69 @@
+//! Whether the places of windows are 1 to so many, each once.
+ghost use Rattle.std.specs.Prelude.{◌≡◌, ℕ, ◌+◌, ◌<◌, ◌≤◌, List, [], ◌∷◌, length, MatchBool};
+ghost use Rattle.mml_lab.specs.declared.TheConstants.{MAX_SESSIONS};
+ghost use Rattle.mml_window.specs.Tallies.{times, told_of, IsEachOnce};
+ghost use Rattle.mml_window.specs.inside.Cursors.{left_of, IsStuck};
+
+use crate::house::House;
+use crate::window::Window;
+
+/// For each window, how many of its places were counted off.
+type Cursors = [usize; 16];
+
+/// How many places the windows have in all.
+pub(crate) fn told<H: House>(windows: &[Window<H>]) -> u64
+    requires few { length windows.now ≤ MAX_SESSIONS }
+    ensures { result ≡ length (told_of windows.now) }
+{
+    let mut told = 0;
+    'windows: for index in 0..windows.len() {
+        told += windows[index].place_count();
+    }
+    told
+}
+
+/// Whether the windows' places are 1 to so many, each once. The places of each window climb, so one
+/// pass with a cursor for each tells it.
+pub(crate) fn is_each_once<H: House>(windows: &[Window<H>], most: u64) -> bool
+    requires few { length windows.now ≤ MAX_SESSIONS }
+    ensures { MatchBool result (IsEachOnce most (told_of windows.now))
+        (¬ (IsEachOnce most (told_of windows.now))) }
+{
+    let mut cursors = [0; 16];
+    'places: for counted in 0..most {
+        if !count_off(windows, &mut cursors, counted + 1) {
+            return false;
+        }
+    }
+    are_at_end(windows, &cursors)
+}
+
+/// Moves the first cursor on that stands before this place. None may.
+fn count_off<H: House>(windows: &[Window<H>], cursors: &mut Cursors, place: u64) -> bool
+    requires few { length windows.now ≤ MAX_SESSIONS }
+    ensures { MatchBool result ((p : ℕ) → times p (left_of windows.now cursors.old)
+        ≡ times p (place ∷ []) + times p (left_of windows.now cursors.new))
+        (IsStuck place (left_of windows.now cursors.old)) }
+{
+    'windows: for index in 0..windows.len() {
+        if windows[index].is_next(cursors[index], place) {
+            cursors[index] += 1;
+            return true;
+        }
+    }
+    false
+}
+
+/// Whether no place is left behind a cursor.
+fn are_at_end<H: House>(windows: &[Window<H>], cursors: &Cursors) -> bool
+    requires few { length windows.now ≤ MAX_SESSIONS }
+    ensures { MatchBool result (left_of windows.now cursors.now ≡ [])
+        ((p : ℕ) × (0 < times p (left_of windows.now cursors.now))) }
+{
+    'windows: for index in 0..windows.len() {
+        if !windows[index].is_at_end(cursors[index]) {
+            return false;
+        }
+    }
+    true
+}
