@@ -1,18 +1,10 @@
-//! The program: it checks lab files, and answers scripts over them.
+//! The program: it checks lab files, answers scripts over them, and audits journals.
 #![tactic(auto)]
-
-mod answering;
-mod built_in;
-mod fault;
-mod files;
-mod refusal;
-mod task;
-mod words;
 
 use std::process::ExitCode;
 
 fn main(rt: HostRuntime) -> ExitCode {
-    match task::run(&rt) {
+    match mml_program::run(&rt) {
         Ok(()) => ExitCode::SUCCESS,
         Err(fault) => {
             let _ = eprintln!(rt; "{fault}");
@@ -20,6 +12,3 @@ fn main(rt: HostRuntime) -> ExitCode {
         }
     }
 }
-
-#[cfg(test)]
-mod tests;

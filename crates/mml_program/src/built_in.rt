@@ -1,5 +1,5 @@
 /// The lab of a call without words: three nodes in a row, each of one student.
-pub const LAB: &str = r#"events = 100
+pub const BUILT_IN: &str = r#"events = 100
 sessions = 4
 links = [[1, 2], [2, 3]]
 

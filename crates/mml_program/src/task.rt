@@ -3,7 +3,7 @@ ghost use Rattle.std.specs.Prelude.{◌<◌, ◌-◌, ◌^◌};
 ghost use Rattle.mml_journal.specs.Taken.{IsFresh};
 
 use crate::answering::{answer_script, answer_through_buffer, write_audit, write_size};
-use crate::built_in;
+use crate::built_in::BUILT_IN;
 use crate::fault::{Fault, memory_or};
 use crate::files::{journal_at, read_file, read_journal};
 use crate::words::{Task, read_words};
@@ -39,7 +39,7 @@ pub fn run<R: Env + Files<File = File> + Input + Print + AllocGlobal>(rt: &R) ->
 // Answers the script on standard input over the built-in lab, each line with a write.
 fn answer_input<R: Input + Print + AllocGlobal>(rt: &R) -> Result<(), Fault> {
     let alloc = rt.alloc();
-    let lab = read_lab(alloc, built_in::LAB.as_bytes())?;
+    let lab = read_lab(alloc, BUILT_IN.as_bytes())?;
     answer_script(
         alloc,
         lab,

@@ -5,8 +5,8 @@ use Rattle.mml_hall.specs.declared.script.ScriptFault.{ScriptFault}
 use Rattle.mml_hall.specs.Turns.{State}
 use Rattle.mml_hall.specs.Halls.{HallValue}
 use Rattle.mml_hall.specs.Scripts.{Finished, Stopped}
-use Rattle.mml_server.specs.declared.fault.Fault.{Fault}
-use Rattle.mml_server.specs.Faults.{of_script}
+use Rattle.mml_program.specs.declared.fault.Fault.{Fault}
+use Rattle.mml_program.specs.Faults.{of_script}
 
 -- all lines of the input were answered, or those before a fault, and the sink was left so
 abbrev pub AnswersScript : {S : Type 0} → (S → State → Type 0) → Result (HallValue S) Fault → LabValue → Option (List ℕ) → Option (List ℕ) → Option (List ℕ) → Option (List ℕ) → Type 0

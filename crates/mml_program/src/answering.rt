@@ -4,8 +4,8 @@ ghost use Rattle.std.specs.Io.Buffered.{writer_buffer, writer_contents};
 ghost use Rattle.mml_hall.specs.Halls.{HallValue};
 ghost use Rattle.mml_journal.specs.Taken.{IsFresh};
 ghost use Rattle.mml_hall.specs.Journals.{Journals};
-ghost use Rattle.mml_server.specs.declared.fault.Fault.{Fault};
-ghost use Rattle.mml_server.specs.Answering.{AnswersScript};
+ghost use Rattle.mml_program.specs.declared.fault.Fault.{Fault};
+ghost use Rattle.mml_program.specs.Answering.{AnswersScript};
 
 use crate::fault::{Fault, memory_or};
 use mml_hall::{Hall, audit, run_script};
@@ -89,6 +89,3 @@ pub fn answer_through_buffer<R: Read, W: Write + Drop, S: Sink + Drop>(
         Err(error) => Err(memory_or(&error, Fault::Write)),
     }
 }
-
-#[cfg(test)]
-mod tests;

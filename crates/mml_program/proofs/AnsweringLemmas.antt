@@ -8,9 +8,9 @@ use Rattle.mml_hall.specs.Turns.{State}
 use Rattle.mml_hall.specs.Halls.{HallValue}
 use Rattle.mml_hall.specs.Transcripts.{bytes_written}
 use Rattle.mml_hall.specs.Scripts.{Finished, Stopped, line_written}
-use Rattle.mml_server.specs.declared.fault.Fault.{Fault}
-use Rattle.mml_server.specs.declared.fault.Fault.TheVariants as fault
-use Rattle.mml_server.specs.Answering.{AnswersScript}
+use Rattle.mml_program.specs.declared.fault.Fault.{Fault}
+use Rattle.mml_program.specs.declared.fault.Fault.TheVariants as fault
+use Rattle.mml_program.specs.Answering.{AnswersScript}
 
 appends_kept : (a b c : Option (List ℕ)) (bs : List ℕ) → Appends a b bs → Keeps b c → Appends a c bs
 appends_kept None b c bs wrote kept = tt

@@ -1,7 +1,7 @@
 //! What ends the program early: one line on standard error and a status.
 ghost use Rattle.std.specs.Prelude.{◌≡◌, ◌≢◌, ◌⊎◌};
 ghost use Rattle.std.specs.IoError.{error_kind};
-ghost use Rattle.mml_server.specs.declared.fault.Fault.TheVariants.{Memory};
+ghost use Rattle.mml_program.specs.declared.fault.Fault.TheVariants.{Memory};
 
 use crate::refusal::{AuditRefusal, LabRefusal};
 use mml_hall::{AuditFault, ScriptFault};
@@ -103,7 +103,7 @@ impl From<AuditFault> for Fault {
 }
 
 impl From<ScriptFault> for Fault {
-    ghost use Rattle.mml_server.specs.Faults.{of_script};
+    ghost use Rattle.mml_program.specs.Faults.{of_script};
 
     ghost from_gives = { λ fault e. e ≡ of_script fault };
 

@@ -98,6 +98,3 @@ fn plain<'a>(alloc: Global, name: &'a str) -> Command<'a> {
         .disable_version_flag(true)
         .disable_help_subcommand(true)
 }
-
-#[cfg(test)]
-mod tests;

@@ -1,8 +1,8 @@
 use Rattle.std.proofs.Common.{inr, refl, Err}
 use Rattle.std.specs.Io.Buffered.{writer_contents}
 use Rattle.mml_hall.specs.Journals.{Journals}
-use Rattle.mml_server.proofs.AnsweringLemmas.{answered_kept, flush_told}
-use Rattle.mml_server.proofs.answering.answer_through_buffer.Goals as goal
+use Rattle.mml_program.proofs.AnsweringLemmas.{answered_kept, flush_told}
+use Rattle.mml_program.proofs.answering.answer_through_buffer.Goals as goal
 
 pub returns-in-Ok : goal.returns-in-Ok
 returns-in-Ok g c = (

@@ -1,0 +1,18 @@
+//! The body of the program: its words, what each of them does, its fault lines and statuses.
+#![tactic(auto)]
+
+mod answering;
+mod built_in;
+mod fault;
+mod files;
+mod refusal;
+mod task;
+mod words;
+
+pub use answering::{answer_script, answer_through_buffer, write_audit, write_size};
+pub use built_in::BUILT_IN;
+pub use fault::{Fault, memory_or};
+pub use files::{MAX_FILE, MAX_JOURNAL, journal_at, read_file, read_journal};
+pub use refusal::{AuditRefusal, LabRefusal};
+pub use task::run;
+pub use words::{Task, read_words};
