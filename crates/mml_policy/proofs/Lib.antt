@@ -9,3 +9,5 @@ pub mod AskingLemmas
 pub mod RulingsLemmas
 pub mod LookLemmas
 pub mod AboutLemmas
+pub mod SeenLemmas
+pub mod IdentifiersLemmas

@@ -9,3 +9,4 @@ pub mod About
 pub mod Meaning
 pub mod Asking
 pub mod Alike
+pub mod Identifiers

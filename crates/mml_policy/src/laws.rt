@@ -1,5 +1,5 @@
 //! Laws of the policy. Each is the clause of a function that does nothing.
-ghost use Rattle.std.specs.Prelude.{◌≡◌, ◌<◌, ◌↔◌, ◌⊎◌, ℕ, Bool, List, Option, Some, true, false, length};
+ghost use Rattle.std.specs.Prelude.{◌≡◌, ◌<◌, ◌↔◌, ◌⊎◌, ℕ, Bool, List, Option, Some, true, false, length, slice_index};
 ghost use Rattle.mml_rules.specs.declared.rule.Rule.{Rule};
 ghost use Rattle.mml_rules.specs.Configuration.{Configuration, IsLawful};
 ghost use Rattle.mml_lab.specs.declared.who.Who.{Who};
@@ -15,14 +15,21 @@ ghost use Rattle.mml_policy.specs.declared.denial.Denial.{Denial};
 ghost use Rattle.mml_policy.specs.declared.verdict.Verdict.TheVariants as verdicts;
 ghost use Rattle.mml_policy.specs.Visible.{is_visible, IsVisible};
 ghost use Rattle.mml_policy.specs.Verdicts.{verdict};
-ghost use Rattle.mml_ids.specs.Ids.{IsTable};
+ghost use Rattle.mml_ids.specs.Ids.{IsTable, rank_in};
+ghost use Rattle.mml_rules.specs.Naming.{IsRenamed};
+ghost use Rattle.mml_rules.specs.Network.{configuration_of};
+ghost use Rattle.mml_lab.specs.Labs.{LabValue, IsLab};
+ghost use Rattle.mml_policy.specs.Identifiers.{with_identifiers};
+ghost use Rattle.mml_policy.specs.declared.denial.Denial.TheVariants.{Hidden};
+ghost use Rattle.mml_policy.specs.declared.ruling.Ruling.TheVariants.{Seen, Denied};
+ghost use Rattle.mml_policy.specs.declared.see.See.{See};
 ghost use Rattle.mml_lab.specs.declared.who.Who.TheVariants as who;
 ghost use Rattle.mml_policy.specs.About.{IsRuled};
 ghost use Rattle.mml_policy.specs.Rulings.{ruling, event_of, after_ruling};
 ghost use Rattle.mml_policy.specs.Asking.{asker, command_of};
 ghost use Rattle.mml_policy.specs.Alike.{Alike, IsWorldOf};
 ghost use Rattle.mml_policy.specs.Meaning.{MayMove, DeniesMove, MaySee, MayLook, MayClose, MayFault, MayLink, MayCut, MayRelease, ShowsWhatIsVisible};
-ghost use Rattle.mml_policy.specs.Shown.{look_of};
+ghost use Rattle.mml_policy.specs.Shown.{see_of, look_of};
 
 /// A node is visible to the teacher, to its owners and to the owners of its neighbours, and to no one
 /// else.
@@ -52,6 +59,19 @@ pub fn a_see_takes_a_visible_node()
     ensures { (ids : List ℕ) (r : RosterValue) (w : World) (x : Who) (id : ℕ) →
         IsLawful (configuration w) →
         (verdict ids r w x (command.See id) ≡ verdicts.Show) ↔ MaySee ids r w x id }
+{}
+
+/// A see is answered exactly where there is such a node and it is visible to the one who asks, with
+/// that node's registers in the world at hand; else it is denied as hidden.
+pub fn a_see_shows_the_registers()
+    ensures seen { (ids : List ℕ) (r : RosterValue) (limit : ℕ) (is_halted : Bool) (w : World)
+        (x : Who) (id : ℕ) (s : See) → IsLawful (configuration w) →
+        (ruling ids r limit is_halted w x (command.See id) ≡ Seen s) ↔
+        ((i : ℕ) × (rank_in ids id ≡ Some i) × IsVisible r (configuration w) x i
+        × (s ≡ see_of w i)) }
+    ensures hidden { (ids : List ℕ) (r : RosterValue) (limit : ℕ) (is_halted : Bool) (w : World)
+        (x : Who) (id : ℕ) → IsLawful (configuration w) → ¬ MaySee ids r w x id →
+        ruling ids r limit is_halted w x (command.See id) ≡ Denied Hidden }
 {}
 
 /// A node is looked at exactly by its owners and the teacher.
@@ -148,4 +168,14 @@ pub fn events_that_take_place_are_legal()
 pub fn rulings_name_nodes()
     ensures { (ids : List ℕ) (r : RosterValue) (limit : ℕ) (is_halted : Bool) (w : World) (x : Who)
         (c : Command) → IsWorldOf ids w → IsRuled ids (ruling ids r limit is_halted w x c) }
+{}
+
+/// The identifiers of a lab are names of its nodes that come in the order of their ranks: so what the
+/// rules say of ranks holds of identifiers, in the lab's network and in each world of its nodes.
+pub fn identifiers_are_names()
+    ensures lab { (lab : LabValue) → IsLab lab →
+        IsRenamed (slice_index lab.ids) (configuration_of lab.network)
+        (with_identifiers lab.ids (configuration_of lab.network)) }
+    ensures world { (ids : List ℕ) (w : World) → IsTable ids → IsWorldOf ids w →
+        IsRenamed (slice_index ids) (configuration w) (with_identifiers ids (configuration w)) }
 {}

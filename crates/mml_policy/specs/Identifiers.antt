@@ -1,0 +1,22 @@
+-- A configuration whose nodes have their identifiers as names.
+use Rattle.std.specs.Prelude.{ℕ, ◌+◌, Bool, false, List, Option, None, Some, slice_index}
+use Rattle.std.specs.Option.{option_and_then, option_map_or}
+use Rattle.mml_ids.specs.declared.TheConstants.{MAX_ID}
+use Rattle.mml_ids.specs.Ids.{rank_in}
+use Rattle.mml_rules.specs.Configuration.{Configuration}
+use Rattle.mml_rules.specs.Naming.{renamed}
+
+-- two ranks, if there are both, are linked
+abbrev pub are_linked : Configuration → Option ℕ → Option ℕ → Bool
+are_linked c None b = false
+are_linked c (Some i) None = false
+are_linked c (Some i) (Some j) = c.linked i j
+
+-- each node by its identifier; a number that is no identifier has no link, points at nobody, and its m is false
+abbrev pub with_identifiers : List ℕ → Configuration → Configuration
+with_identifiers ids c = record {
+  size = MAX_ID + 1;
+  linked = λ x y. are_linked c (rank_in ids x) (rank_in ids y);
+  p = λ x. option_and_then (λ i. renamed (slice_index ids) (c.p i)) (rank_in ids x);
+  m = λ x. option_map_or c.m (rank_in ids x) false;
+}
