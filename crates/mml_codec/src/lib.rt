@@ -3,6 +3,7 @@
 
 mod greeting;
 pub mod laws;
+mod listed;
 mod object;
 mod reading;
 mod reply;

@@ -2,18 +2,19 @@ ghost use Rattle.std.specs.Prelude.{◌≡◌, ◌≤◌, ◌<◌, ◌+◌, ◌^
 ghost use Rattle.mml_ids.specs.Pieces.{piece_text, piece_room};
 ghost use Rattle.mml_ids.specs.declared.piece.Piece.TheVariants.{Number};
 ghost use Rattle.mml_lab.specs.Rosters.{name_of, IsPrincipal};
-ghost use Rattle.mml_codec.specs.Replies.{truth_text, pointer_text, kind_text, kind_or_null, node_text, members, separated, hello_text, see_text, near_text, look_head, look_tail, look_text, move_text, close_text, fault_text, ends_text, release_text, current_number, number_first, deny_text, refuse_text, text, reply_line, is_short, IsAbout};
+ghost use Rattle.mml_codec.specs.Replies.{truth_text, pointer_text, kind_text, kind_or_null, node_text, members, separated, hello_text, see_text, look_head, look_tail, look_text, move_text, close_text, fault_text, ends_text, release_text, current_number, number_first, deny_text, refuse_text, text, reply_line, is_short, IsAbout};
 ghost use Rattle.mml_codec.specs.ReplyValues.{AreWritableCounts};
 ghost use Rattle.mml_codec.specs.declared.reply.Reply.TheVariants.{Deny};
-ghost use Rattle.mml_policy.specs.About.{IsSeen, IsNear, IsLookedAt};
+ghost use Rattle.mml_policy.specs.About.{IsSeen, IsLookedAt};
 ghost use Rattle.mml_codec.specs.inside.Puts.{Puts};
 
+use crate::listed::put_list;
 use crate::reply::{REPLY_ROOM, Refused, Reply};
 use crate::reported::put_report;
 use mml_ids::{IdTable, Memory, NodeSet, Piece, Rank, put};
 use mml_lab::{Roster, Who};
 use mml_policy::{Denial, Look, See};
-use mml_rules::{Kind, Regs};
+use mml_rules::Kind;
 use std::alloc::Global;
 
 // Enough for the text of each reply but a look and a report.
@@ -151,41 +152,6 @@ fn put_see(ids: &IdTable, see: &See, out: &mut Vec<u8>) -> Result<(), Memory>
     )
 }
 
-fn put_near(ids: &IdTable, near: &[(Rank, Regs)], out: &mut Vec<u8>) -> Result<(), Memory>
-    requires { All (IsNear ids.now) near.now }
-    ensures text { OnOk result
-        (out.new.items ≡ out.old.items ++ separated (map (near_text ids.now) near.now)) }
-    ensures capacity { vec_capacity out.old ≤ vec_capacity out.new }
-{
-    let mut comma = "";
-    for one in near {
-        put(out, &[Piece::Text(comma)])?;
-        put_one_near(ids, one, out)?;
-        comma = ",";
-    }
-    Ok(())
-}
-
-#[tactic(auto, unfolding(crate::specs::Replies::near_text))]
-fn put_one_near(ids: &IdTable, near: &(Rank, Regs), out: &mut Vec<u8>) -> Result<(), Memory>
-    requires { IsNear ids.now near.now }
-    ensures { Puts (near_text ids.now near.now) TEXT_ROOM out.old out.new result }
-{
-    let (node, regs) = near;
-    put(
-        out,
-        &[
-            Piece::Text("{\"m\":"),
-            Piece::Text(truth(regs.m)),
-            Piece::Text(",\"node\":"),
-            Piece::Id(ids.node_id(*node)),
-            Piece::Text(",\"p\":"),
-            pointer(ids, regs.p),
-            Piece::Text("}"),
-        ],
-    )
-}
-
 #[tactic(auto, unfolding(crate::specs::Replies::look_text))]
 fn put_look(ids: &IdTable, look: &Look, out: &mut Vec<u8>) -> Result<(), Memory>
     requires { IsLookedAt ids.now look.now }
@@ -194,7 +160,7 @@ fn put_look(ids: &IdTable, look: &Look, out: &mut Vec<u8>) -> Result<(), Memory>
     ensures count { look.now.at < 2 ^ 64 }
 {
     put_look_head(look, out)?;
-    put_near(ids, look.near.as_slice(), out)?;
+    put_list(ids, look.near.as_slice(), out)?;
     put_look_tail(ids, look, out)
 }
 
@@ -473,7 +439,7 @@ pub(crate) fn truth(m: bool) -> &'static str
     if m { "true" } else { "false" }
 }
 
-fn pointer(ids: &IdTable, p: Option<Rank>) -> Piece<'static>
+pub(crate) fn pointer(ids: &IdTable, p: Option<Rank>) -> Piece<'static>
     requires { IfSome p (λ j. j < length ids.now) }
     ensures text { piece_text result ≡ pointer_text ids.now p }
     ensures short { piece_room result ≤ 5 }

@@ -1,0 +1,11 @@
+use Rattle.std.proofs.Common.{◌≡◌, ◌≤◌, ◌++◌, take, map, vec_capacity}
+use Rattle.mml_codec.specs.Replies.{separated}
+use Rattle.mml_codec.proofs.SeparatedLemmas.{comma_after}
+use Rattle.mml_codec.proofs.listed.put_list.Given as goal
+
+abbrev pub invariant-loop-item : goal.invariant-loop-item
+invariant-loop-item g l = record {
+  text : l.out.items ≡ l.fn.out.items ++ separated (map (g.T.Listed.text l.ids) (take l.item-index l.items));
+  comma : l.comma ≡ comma_after (map (g.T.Listed.text l.ids) (take l.item-index l.items));
+  capacity : vec_capacity l.fn.out ≤ vec_capacity l.out;
+}
