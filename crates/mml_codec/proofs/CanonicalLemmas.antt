@@ -11,26 +11,26 @@ use Rattle.mml_codec.specs.Canonical.{fields_of, canonical, IsWritable}
 use Rattle.mml_codec.specs.Lines.{request_in}
 use Rattle.mml_codec.proofs.CompactTextLemmas.{IsUtf8-compact_text}
 use Rattle.mml_codec.proofs.OneLineLemmas.{compact_text_line}
-use Rattle.mml_codec.proofs.FieldsLemmas.{IsObject, HasText-object_of, read-object_of}
+use Rattle.mml_codec.proofs.FieldsLemmas.{IsObject, flat_object_read, read-object_of}
 use Rattle.mml_codec.proofs.LinesLemmas.{value_in-some, request_in-some}
 
 -- each word: its fields are those of an object
 IsObject-fields_of : (r : Request) → IsObject (fields_of r)
-IsObject-fields_of (requests.Hello n k) = record { rising = refl; ascii = refl }
-IsObject-fields_of requests.Bye = record { rising = refl; ascii = refl }
-IsObject-fields_of (requests.Do (command.See n)) = record { rising = refl; ascii = refl }
-IsObject-fields_of (requests.Do (command.Look n)) = record { rising = refl; ascii = refl }
-IsObject-fields_of (requests.Do (command.Move n asked.Update at)) = record { rising = refl; ascii = refl }
-IsObject-fields_of (requests.Do (command.Move n (asked.Marriage w) at)) = record { rising = refl; ascii = refl }
-IsObject-fields_of (requests.Do (command.Move n asked.Seduction at)) = record { rising = refl; ascii = refl }
-IsObject-fields_of (requests.Do (command.Move n asked.Abandonment at)) = record { rising = refl; ascii = refl }
-IsObject-fields_of (requests.Do command.Close) = record { rising = refl; ascii = refl }
-IsObject-fields_of (requests.Do (command.Fault n None m)) = record { rising = refl; ascii = refl }
-IsObject-fields_of (requests.Do (command.Fault n (Some p) m)) = record { rising = refl; ascii = refl }
-IsObject-fields_of (requests.Do (command.Link a b)) = record { rising = refl; ascii = refl }
-IsObject-fields_of (requests.Do (command.Cut a b)) = record { rising = refl; ascii = refl }
-IsObject-fields_of (requests.Do (command.Release n)) = record { rising = refl; ascii = refl }
-IsObject-fields_of (requests.Do command.Report) = record { rising = refl; ascii = refl }
+IsObject-fields_of (requests.Hello n k) = record { keyed = record { rising = refl; ascii = refl }; ascii = refl }
+IsObject-fields_of requests.Bye = record { keyed = record { rising = refl; ascii = refl }; ascii = refl }
+IsObject-fields_of (requests.Do (command.See n)) = record { keyed = record { rising = refl; ascii = refl }; ascii = refl }
+IsObject-fields_of (requests.Do (command.Look n)) = record { keyed = record { rising = refl; ascii = refl }; ascii = refl }
+IsObject-fields_of (requests.Do (command.Move n asked.Update at)) = record { keyed = record { rising = refl; ascii = refl }; ascii = refl }
+IsObject-fields_of (requests.Do (command.Move n (asked.Marriage w) at)) = record { keyed = record { rising = refl; ascii = refl }; ascii = refl }
+IsObject-fields_of (requests.Do (command.Move n asked.Seduction at)) = record { keyed = record { rising = refl; ascii = refl }; ascii = refl }
+IsObject-fields_of (requests.Do (command.Move n asked.Abandonment at)) = record { keyed = record { rising = refl; ascii = refl }; ascii = refl }
+IsObject-fields_of (requests.Do command.Close) = record { keyed = record { rising = refl; ascii = refl }; ascii = refl }
+IsObject-fields_of (requests.Do (command.Fault n None m)) = record { keyed = record { rising = refl; ascii = refl }; ascii = refl }
+IsObject-fields_of (requests.Do (command.Fault n (Some p) m)) = record { keyed = record { rising = refl; ascii = refl }; ascii = refl }
+IsObject-fields_of (requests.Do (command.Link a b)) = record { keyed = record { rising = refl; ascii = refl }; ascii = refl }
+IsObject-fields_of (requests.Do (command.Cut a b)) = record { keyed = record { rising = refl; ascii = refl }; ascii = refl }
+IsObject-fields_of (requests.Do (command.Release n)) = record { keyed = record { rising = refl; ascii = refl }; ascii = refl }
+IsObject-fields_of (requests.Do command.Report) = record { keyed = record { rising = refl; ascii = refl }; ascii = refl }
 
 -- each word: its object asks it
 request-fields_of : (r : Request) → request (object_of (fields_of r)) ≡ Some r
@@ -53,11 +53,11 @@ request-fields_of (requests.Do command.Report) = refl
 
 pub canonical_line : (r : Request) → IsWritable r → All (λ b. b ≢ 10) (canonical r)
 unfolding canonical
-canonical_line r h = compact_text_line (object_of (fields_of r)) (HasText-object_of (fields_of r) (IsObject-fields_of r) h)
+canonical_line r h = compact_text_line (object_of (fields_of r)) (flat_object_read (fields_of r) (IsObject-fields_of r) h).text
 
 pub request_in-canonical : (r : Request) → IsWritable r → request_in (canonical r) ≡ Ok r
 unfolding canonical
 request_in-canonical r h =
     let is = IsObject-fields_of r in
-    let utf8 = IsUtf8-compact_text (object_of (fields_of r)) (HasText-object_of (fields_of r) is h) in
+    let utf8 = IsUtf8-compact_text (object_of (fields_of r)) (flat_object_read (fields_of r) is h).text in
     request_in-some _ (object_of (fields_of r)) (value_in-some _ (object_of (fields_of r)) utf8 (read-object_of (fields_of r) is h)) ∙ rw (request-fields_of r) refl

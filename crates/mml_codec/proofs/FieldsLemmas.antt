@@ -1,87 +1,49 @@
 -- The text of a flat object is read as that object.
-use Rattle.std.proofs.Common.{◌≡◌, ℕ, suc, ◌≤◌, List, [], ◌∷◌, ◌++◌, Bool, true, ◌&&◌, Some, length, map, drop, refl, sym, ap, ◌∙◌, lit≤}
+use Rattle.std.proofs.Common.{◌≡◌, ℕ, ◌≤◌, List, [], ◌∷◌, ◌++◌, Bool, true, ◌&&◌, Some, length, map, drop, sym, ap, ◌∙◌, lit≤}
 use Rattle.std.proofs.lemmas.Bool.{and_parts}
 use Rattle.std.proofs.lemmas.List.{drop_all}
 use Rattle.json.specs.Token.{Token, end_object}
 use Rattle.json.specs.Print.{print}
 use Rattle.json.specs.Tree as tree
-use Rattle.json.proofs.Printed.Utf8.{are_ascii, IsUtf8-are_ascii}
-use Rattle.serde_json.specs.Data.{Members, no_members, put, object}
-use Rattle.serde_json.specs.Read.{of_json, of_members, read, max_depth}
+use Rattle.json.proofs.Printed.Utf8.{are_ascii}
+use Rattle.serde_json.specs.Read.{read}
 use Rattle.serde_json.specs.Written.{outline, members_outline, compact_text}
-use Rattle.serde_json.proofs.Numbers.{number_of-decimal}
 use Rattle.serde_json.proofs.Texts.{print-outline}
-use Rattle.std.specs.Option.{option_map}
-use Rattle.mml_codec.specs.Fields.{Field, number, word, text, truth, null, value_of, members_of, object_of, IsWritableField, AreWritable}
-use Rattle.mml_codec.proofs.CompactTextLemmas.{HasText, MembersHaveText, read-compact_text}
+use Rattle.mml_codec.specs.Fields.{Field, number, word, text, truth, null, value_of, member_of, members_of, object_of, IsWritableField, AreWritable}
+use Rattle.mml_codec.proofs.ReadBackLemmas.{IsReadable, AreReadable, IsKeyed, null_read, truth_read, count_read, string_read, word_read, object_read, read_value}
 
--- the members as a reader puts them in, one after another
-abbrev pub put_all : List (List ℕ × Field) → Members → Members
-put_all [] found = found
-put_all (f ∷ fs) found = put_all fs (put f.0 (value_of f.1) found)
+-- the words that the protocol fixes are ASCII
+abbrev has_ascii_word : Field → Bool
+has_ascii_word (number n) = true
+has_ascii_word (word w) = are_ascii w
+has_ascii_word (text s) = true
+has_ascii_word (truth b) = true
+has_ascii_word null = true
 
-abbrev is_ascii_field : Field → Bool
-is_ascii_field (number n) = true
-is_ascii_field (word w) = are_ascii w
-is_ascii_field (text s) = true
-is_ascii_field (truth b) = true
-is_ascii_field null = true
+abbrev pub have_ascii_words : List (List ℕ × Field) → Bool
+have_ascii_words [] = true
+have_ascii_words (f ∷ fs) = has_ascii_word f.1 && have_ascii_words fs
 
-abbrev pub are_ascii_fields : List (List ℕ × Field) → Bool
-are_ascii_fields [] = true
-are_ascii_fields (f ∷ fs) = (are_ascii f.0 && is_ascii_field f.1) && are_ascii_fields fs
-
--- the keys rise, each once; they and the fixed words are ASCII
 pub record IsObject (fs : List (List ℕ × Field)) : Type 0 where
-  pub rising : put_all fs no_members ≡ members_of fs
-  pub ascii : are_ascii_fields fs ≡ true
+  pub keyed : IsKeyed (map member_of fs)
+  pub ascii : have_ascii_words fs ≡ true
 
-of_json-value_of : (f : Field) → IsWritableField f → of_json (outline (value_of f)) ≡ Some (value_of f)
-of_json-value_of (number n) h = rw (number_of-decimal n h) refl
-of_json-value_of (word w) h = refl
-of_json-value_of (text s) h = refl
-of_json-value_of (truth b) h = refl
-of_json-value_of null h = refl
+field_read : (f : Field) → has_ascii_word f ≡ true → IsWritableField f → IsReadable 0 (value_of f)
+field_read (number n) a h = count_read 0 n h
+field_read (word w) a h = word_read 0 w a
+field_read (text s) a h = string_read 0 s h
+field_read (truth b) a h = truth_read 0 b
+field_read null a h = null_read 0
 
-of_members-members_of : (fs : List (List ℕ × Field)) (found : Members) → AreWritable fs → of_members (members_outline (members_of fs)) found ≡ Some (put_all fs found)
-of_members-members_of [] found h = refl
-of_members-members_of (f ∷ fs) found h = rw (of_json-value_of f.1 h.0) (of_members-members_of fs (put f.0 (value_of f.1) found) h.1)
+fields_read : (fs : List (List ℕ × Field)) → have_ascii_words fs ≡ true → AreWritable fs → AreReadable 0 (map member_of fs)
+fields_read [] a h = tt
+fields_read (f ∷ fs) a h = let parts = and_parts (has_ascii_word f.1) (have_ascii_words fs) a in (field_read f.1 parts.0 h.0, fields_read fs parts.1 h.1)
 
-value_text : (f : Field) → is_ascii_field f ≡ true → IsWritableField f → HasText (value_of f)
-value_text (number n) a h = h
-value_text (word w) a h = IsUtf8-are_ascii w a
-value_text (text s) a h = h
-value_text (truth b) a h = tt
-value_text null a h = tt
-
-members_text : (fs : List (List ℕ × Field)) → are_ascii_fields fs ≡ true → AreWritable fs → MembersHaveText (members_of fs)
-members_text [] a h = tt
-members_text (f ∷ fs) a h =
-    let parts = and_parts _ _ a in
-    let first = and_parts _ _ parts.0 in
-    (IsUtf8-are_ascii f.0 first.0, (value_text f.1 first.1 h.0, members_text fs parts.1 h.1))
-
-pub HasText-object_of : (fs : List (List ℕ × Field)) → IsObject fs → AreWritable fs → HasText (object_of fs)
-HasText-object_of fs is h = members_text fs is.ascii h
-
-flat_value : (f : Field) → tree.depth (outline (value_of f)) ≡ 0
-flat_value (number n) = refl
-flat_value (word w) = refl
-flat_value (text s) = refl
-flat_value (truth b) = refl
-flat_value null = refl
-
-flat_members : (fs : List (List ℕ × Field)) → tree.members_depth (members_outline (members_of fs)) ≡ 0
-flat_members [] = refl
-flat_members (f ∷ fs) = rw (flat_value f.1, flat_members fs) refl
-
-shallow : (n : ℕ) → n ≡ 0 → suc n ≤ max_depth
-shallow n e = rw e (lit≤ tt)
+pub flat_object_read : (fs : List (List ℕ × Field)) → IsObject fs → AreWritable fs → IsReadable 1 (object_of fs)
+flat_object_read fs is h = object_read 0 (map member_of fs) is.keyed (fields_read fs is.ascii h)
 
 pub read-object_of : (fs : List (List ℕ × Field)) → IsObject fs → AreWritable fs → read (compact_text (object_of fs)) ≡ Some (object_of fs)
-read-object_of fs is h =
-    read-compact_text (object_of fs) (HasText-object_of fs is h) (shallow _ (flat_members fs))
-    (ap (option_map object) (of_members-members_of fs no_members h ∙ ap Some is.rising))
+read-object_of fs is h = read_value 1 (object_of fs) (lit≤ tt) (flat_object_read fs is h)
 
 -- the tokens of an object are written as its text
 pub object_written : (fs : List (List ℕ × Field)) (items before : List ℕ) (tokens : List Token) → before ≡ [] → tokens ≡ tree.json_tokens (outline (object_of fs))

@@ -1,12 +1,12 @@
 pub mod LinesLemmas
 pub mod CompactTextLemmas
 pub mod OneLineLemmas
+pub mod ReadBackLemmas
 pub mod FieldsLemmas
 pub mod CanonicalLemmas
 pub mod SeparatedLemmas
 pub mod ReportLemmas
 pub mod AboutLemmas
 pub mod ReplyTextLemmas
-pub mod ReadBackLemmas
 pub mod ReplyValuesLemmas
 pub mod GreetingsLemmas

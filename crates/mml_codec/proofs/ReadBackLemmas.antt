@@ -11,7 +11,8 @@ use Rattle.serde_json.specs.Data.{Data, null, boolean, string, array, object, Me
 use Rattle.serde_json.specs.Read.{of_json, of_items, of_members, read, max_depth}
 use Rattle.serde_json.specs.Written.{outline, items_outline, members_outline, compact_text}
 use Rattle.serde_json.proofs.Numbers.{number_of-decimal}
-use Rattle.mml_codec.specs.ReplyValues.{items_with, members_with, array_of, object_with, count, has_rising_keys, items_have_rising_keys}
+use Rattle.mml_codec.specs.Objects.{items_with, members_with, array_of, object_with}
+use Rattle.mml_codec.specs.ReplyValues.{count, has_rising_keys, items_have_rising_keys}
 use Rattle.mml_codec.proofs.CompactTextLemmas.{HasText, ItemsHaveText, MembersHaveText, read-compact_text}
 
 -- its text is read as the value again, in which arrays and objects nest n deep at most

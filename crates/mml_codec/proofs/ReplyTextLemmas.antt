@@ -30,7 +30,8 @@ use Rattle.mml_codec.specs.declared.reply.Refused.TheVariants as refused
 use Rattle.mml_codec.specs.declared.reply.Reply.{Reply}
 use Rattle.mml_codec.specs.declared.reply.Reply.TheVariants as replies
 use Rattle.mml_codec.specs.Replies.{truth_text, node_text, pointer_text, kind_text, kind_or_null, separated, members, hello_text, see_text, near_text, look_head, look_tail, look_text, move_text, close_text, fault_text, ends_text, release_text, pair_text, privileged_text, open_link_text, report_text, deny_text, refuse_text, text, IsAbout}
-use Rattle.mml_codec.specs.ReplyValues.{items_with, node_value, pointer_value, kind_value, kind_or_null_value, near_value, pair_value, privileged_value, open_link_value, reply_value}
+use Rattle.mml_codec.specs.Objects.{items_with}
+use Rattle.mml_codec.specs.ReplyValues.{node_value, pointer_value, kind_value, kind_or_null_value, near_value, pair_value, privileged_value, open_link_value, reply_value}
 
 -- ---- words, and the texts of one item
 

@@ -28,7 +28,8 @@ use Rattle.mml_codec.specs.declared.reply.Refused.TheVariants as refused
 use Rattle.mml_codec.specs.declared.reply.Reply.{Reply}
 use Rattle.mml_codec.specs.declared.reply.Reply.TheVariants as replies
 use Rattle.mml_codec.specs.Replies.{members, current_number, text, IsAbout}
-use Rattle.mml_codec.specs.ReplyValues.{object_with, node_value, pointer_value, kind_value, kind_or_null_value, near_keys, near_value, pair_value, privileged_value, open_link_value, number_key, told_keys, current_numbers, refused_value, reply_keys, reply_value, AreWritableCounts, has_rising_keys}
+use Rattle.mml_codec.specs.Objects.{object_with}
+use Rattle.mml_codec.specs.ReplyValues.{node_value, pointer_value, kind_value, kind_or_null_value, near_keys, near_value, pair_value, privileged_value, open_link_value, number_key, told_keys, current_numbers, refused_value, reply_keys, reply_value, AreWritableCounts, has_rising_keys}
 use Rattle.mml_codec.proofs.OneLineLemmas.{compact_text_line}
 use Rattle.mml_codec.proofs.ReplyTextLemmas.{name_bytes, reply_text}
 use Rattle.mml_codec.proofs.ReadBackLemmas.{IsReadable, AreReadable, IsKeyed, null_read, truth_read, count_read, word_read, items_read, array_read, object_read, read_value, items_rise}

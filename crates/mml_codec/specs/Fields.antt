@@ -1,7 +1,8 @@
 -- Flat objects: what each key holds.
-use Rattle.std.specs.Prelude.{ℕ, ◌<◌, ◌^◌, List, [], ◌∷◌, Bool, IsUtf8}
+use Rattle.std.specs.Prelude.{ℕ, ◌<◌, ◌^◌, List, map, Bool, IsUtf8}
 use Rattle.std.specs.List.{AllByRecursion}
 use Rattle.serde_json.specs.Data as value
+use Rattle.mml_codec.specs.Objects.{members_with, object_with}
 
 -- a number, a word that the protocol fixes, a text that it doesn't, a truth value, or null
 pub data Field : Type 0 where
@@ -18,13 +19,15 @@ value_of (text s) = value.string s
 value_of (truth b) = value.boolean b
 value_of null = value.null
 
+abbrev pub member_of : List ℕ × Field → List ℕ × value.Data
+member_of f = (f.0, value_of f.1)
+
 abbrev pub members_of : List (List ℕ × Field) → value.Members
-members_of [] = value.no_members
-members_of (f ∷ fs) = value.member f.0 (value_of f.1) (members_of fs)
+members_of fs = members_with (map member_of fs)
 
 -- the object with these keys, in this order
 abbrev pub object_of : List (List ℕ × Field) → value.Data
-object_of fs = value.object (members_of fs)
+object_of fs = object_with (map member_of fs)
 
 -- its number fits 64 bits, its text is UTF-8
 abbrev pub IsWritableField : Field → Type 0

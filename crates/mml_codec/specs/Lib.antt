@@ -1,5 +1,6 @@
 pub mod Requests
 pub mod Lines
+pub mod Objects
 pub mod Fields
 pub mod Canonical
 pub mod Replies

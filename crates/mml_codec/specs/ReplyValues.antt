@@ -1,5 +1,5 @@
 -- The JSON value that the text of each reply spells.
-use Rattle.std.specs.Prelude.{ℕ, ◌<◌, ◌^◌, List, [], ◌∷◌, ◌++◌, length, map, Bool, true, ◌&&◌, Option, None, Some, codes, slice_index}
+use Rattle.std.specs.Prelude.{ℕ, ◌<◌, ◌^◌, List, [], ◌∷◌, ◌++◌, length, Bool, true, ◌&&◌, Option, None, Some, codes, slice_index}
 use Rattle.std.specs.List.{AllByRecursion}
 use Rattle.std.specs.Ordering.{nat_cmp, is_lt}
 use Rattle.std.specs.Cmp.Lexicographic.{slice_cmp}
@@ -15,23 +15,8 @@ use Rattle.mml_codec.specs.declared.reply.Refused.{Refused}
 use Rattle.mml_codec.specs.declared.reply.Refused.TheVariants as refused
 use Rattle.mml_codec.specs.declared.reply.Reply.{Reply}
 use Rattle.mml_codec.specs.declared.reply.Reply.TheVariants as replies
+use Rattle.mml_codec.specs.Objects.{items_with, array_of, object_with}
 use Rattle.mml_codec.specs.Replies.{members, current_number}
-
-abbrev pub items_with : List Data → Items
-items_with [] = no_items
-items_with (d ∷ ds) = item d (items_with ds)
-
-abbrev pub members_with : List (List ℕ × Data) → Members
-members_with [] = no_members
-members_with (m ∷ ms) = member m.0 m.1 (members_with ms)
-
--- each of a list, as a value
-abbrev pub array_of : {A : Type 0} → (A → Data) → List A → Data
-array_of f xs = array (items_with (map f xs))
-
--- the object with these keys, in this order
-abbrev pub object_with : List (List ℕ × Data) → Data
-object_with ms = object (members_with ms)
 
 abbrev pub count : ℕ → Data
 count n = number (unsigned n)
