@@ -1,10 +1,12 @@
-//! A session: the lines of one connection, answered in order through a window.
+//! Sessions: the lines of a connection, answered in order through a window, and many at once.
 #![tactic(auto)]
 
 mod answering;
+mod each;
 mod gate;
 pub mod laws;
 mod session;
 
+pub use each::{Seat, Served, serve_each, serve_seat};
 pub use gate::{Gate, NoGate, Point};
 pub use session::{SessionEnd, serve_one};
