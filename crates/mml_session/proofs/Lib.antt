@@ -5,3 +5,4 @@ pub mod LongerLemmas
 pub mod EndingLemmas
 pub mod ServingLemmas
 pub mod TalkLemmas
+pub mod HouseLemmas

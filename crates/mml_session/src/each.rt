@@ -1,4 +1,3 @@
-//! Many sessions at once.
 ghost use Rattle.std.specs.Prelude.{◌≡◌, ◌<◌, ℕ, length, IfOk, slice_index_or};
 ghost use Rattle.std.specs.Thread.{IsSync, IsSend};
 ghost use Rattle.mml_session.specs.Ends.{Ended};
@@ -14,13 +13,19 @@ use std::sync::Wait;
 use std::thread;
 use std::thread::Threads;
 
-/// A window, and the two ends of the connection that is served through it.
+/// The two ends of a connection, with the number by which a gate knows it.
 #[derive(Drop)]
-pub struct Seat<H: House, R: Drop, W: Drop> {
-    pub connection: u8,
-    pub window: Window<H>,
+pub struct Connection<R: Drop, W: Drop> {
+    pub number: u8,
     pub reader: R,
     pub writer: W,
+}
+
+/// A connection, and the window through which it is served.
+#[derive(Drop)]
+pub struct Seat<H: House, R: Drop, W: Drop> {
+    pub window: Window<H>,
+    pub connection: Connection<R, W>,
 }
 
 /// A seat, and how its session ended.
@@ -47,13 +52,16 @@ pub fn serve_each<
     gate: &G,
 ) -> Result<Vec<Served<H, R, W>>, Memory>
     ensures all { IfOk result (λ served. length served.items ≡ length seats.items) }
+    ensures numbers { IfOk result (λ served. (i : ℕ) (s : Seat _ _ _) (t : Served _ _ _) →
+        i < length seats.items → (slice_index_or served.items i t).seat.connection.number
+        ≡ (slice_index_or seats.items i s).connection.number) }
     ensures each { IfOk result (λ served. (i : ℕ) (s : Seat _ _ _) (t : Served _ _ _) →
         i < length seats.items → Ended (slice_index_or served.items i t).end H.lab
         (slice_index_or seats.items i s).window (slice_index_or served.items i t).seat.window
-        (R.remaining (slice_index_or seats.items i s).reader)
-        (R.remaining (slice_index_or served.items i t).seat.reader)
-        (W.contents (slice_index_or seats.items i s).writer)
-        (W.contents (slice_index_or served.items i t).seat.writer)) }
+        (R.remaining (slice_index_or seats.items i s).connection.reader)
+        (R.remaining (slice_index_or served.items i t).seat.connection.reader)
+        (W.contents (slice_index_or seats.items i s).connection.writer)
+        (W.contents (slice_index_or served.items i t).seat.connection.writer)) }
 {
     let served = thread::map_vec(rt, seats, &|seat| serve_seat(rt, alloc, desk, seat, gate))?;
     Ok(served)
@@ -67,16 +75,20 @@ pub fn serve_seat<Rt: Wait, S: Sink + Drop, H: House, R: Read + Drop, W: Write +
     seat: Seat<H, R, W>,
     gate: &G,
 ) -> Served<H, R, W>
-    ensures { Ended result.end H.lab seat.window result.seat.window
-        (R.remaining seat.reader) (R.remaining result.seat.reader)
-        (W.contents seat.writer) (W.contents result.seat.writer) }
+    ensures number { result.seat.connection.number ≡ seat.connection.number }
+    ensures ended { Ended result.end H.lab seat.window result.seat.window
+        (R.remaining seat.connection.reader) (R.remaining result.seat.connection.reader)
+        (W.contents seat.connection.writer) (W.contents result.seat.connection.writer) }
 {
     let Seat {
-        connection,
         mut window,
+        connection,
+    } = seat;
+    let Connection {
+        number,
         mut reader,
         mut writer,
-    } = seat;
+    } = connection;
     let end = serve_one(
         rt,
         alloc,
@@ -85,13 +97,13 @@ pub fn serve_seat<Rt: Wait, S: Sink + Drop, H: House, R: Read + Drop, W: Write +
         &mut reader,
         &mut writer,
         gate,
-        connection,
+        number,
     );
-    let seat = Seat {
-        connection,
-        window,
+    let connection = Connection {
+        number,
         reader,
         writer,
     };
+    let seat = Seat { window, connection };
     Served { seat, end }
 }

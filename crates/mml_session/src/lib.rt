@@ -4,9 +4,11 @@
 mod answering;
 mod each;
 mod gate;
+mod house;
 pub mod laws;
 mod session;
 
-pub use each::{Seat, Served, serve_each, serve_seat};
+pub use each::{Connection, Seat, Served, serve_each, serve_seat};
 pub use gate::{Gate, NoGate, Point};
+pub use house::{EndedSession, ServedFault, ServedHouse, serve_house};
 pub use session::{SessionEnd, serve_one};
