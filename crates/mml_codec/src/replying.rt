@@ -1,4 +1,4 @@
-ghost use Rattle.std.specs.Prelude.{◌≡◌, ◌≤◌, ◌<◌, ◌+◌, ◌^◌, ◌++◌, [], true, All, codes, length, map, OnOk, OnErr, IsOk, IfSome, vec_capacity};
+ghost use Rattle.std.specs.Prelude.{◌≡◌, ◌≤◌, ◌<◌, ◌+◌, ◌^◌, ◌++◌, [], true, codes, length, map, OnOk, OnErr, IsOk, IfSome, vec_capacity};
 ghost use Rattle.mml_ids.specs.Pieces.{piece_text, piece_room};
 ghost use Rattle.mml_ids.specs.declared.piece.Piece.TheVariants.{Number};
 ghost use Rattle.mml_lab.specs.Rosters.{name_of, IsPrincipal};
