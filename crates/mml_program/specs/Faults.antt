@@ -1,6 +1,8 @@
 -- The faults of the program that those of the crates below are.
 use Rattle.mml_hall.specs.declared.script.ScriptFault.{ScriptFault}
 use Rattle.mml_hall.specs.declared.script.ScriptFault.TheVariants as script
+use Rattle.mml_program.specs.declared.serving.ServeFault.{ServeFault}
+use Rattle.mml_program.specs.declared.serving.ServeFault.TheVariants as serving
 use Rattle.mml_program.specs.declared.fault.Fault.{Fault}
 use Rattle.mml_program.specs.declared.fault.Fault.TheVariants as fault
 
@@ -10,3 +12,12 @@ of_script script.Read = fault.ReadScript
 of_script (script.Write n) = fault.Write
 of_script (script.BadLine k) = fault.BadLine k
 of_script script.Memory = fault.Memory
+
+-- a halted journal is told as one whose file can't be made
+abbrev pub of_serving : ServeFault → Fault
+of_serving serving.Memory = fault.Memory
+of_serving serving.Place = fault.Place
+of_serving serving.Accept = fault.Accept
+of_serving serving.Astray = fault.Astray
+of_serving serving.Halted = fault.Journal
+of_serving serving.Write = fault.Write

@@ -4,6 +4,7 @@ ghost use Rattle.std.specs.IoError.{error_kind};
 ghost use Rattle.mml_program.specs.declared.fault.Fault.TheVariants.{Memory};
 
 use crate::refusal::{AuditRefusal, LabRefusal};
+use crate::serving::ServeFault;
 use mml_hall::{AuditFault, ScriptFault};
 use mml_lab::LabFault;
 use std::alloc::AllocError;
@@ -34,6 +35,21 @@ pub enum Fault {
     /// The journal can't be opened or read, or is too large.
     #[error("read fault: journal")]
     ReadJournal,
+    /// More connections were asked for than the lab has sessions.
+    #[error("serve: more connections than sessions")]
+    TooManyConnections,
+    /// The port can't be listened on.
+    #[error("serve: cannot listen")]
+    Listen,
+    /// A connection couldn't be accepted.
+    #[error("serve: cannot accept")]
+    Accept,
+    /// The places that were told aren't those of the events, each once.
+    #[error("serve: the tally does not fit")]
+    Astray,
+    /// There was no reader's place for a window.
+    #[error("serve: no place for a window")]
+    Place,
     /// The journal's file can't be made, or a line of the journal wasn't taken whole.
     #[error("journal fault")]
     Journal,
@@ -46,19 +62,23 @@ pub enum Fault {
 }
 
 impl Fault {
-    /// The exit status that goes with the fault: 1 where the words aren't understood, 2 where lab or
-    /// script is refused, 4 where a read, a write or the journal failed, 5 for want of memory.
+    /// The exit status that goes with the fault: 1 where the words aren't understood, 2 where lab,
+    /// script or number of connections is refused, 3 where an audit says no, 4 where a read, a write,
+    /// the journal or the network failed, 5 for want of memory or of a reader's place.
     pub fn status(&self) -> u8 {
         match self {
             Fault::CommandLine => 1,
-            Fault::Lab(_) | Fault::BadLine(_) => 2,
+            Fault::Lab(_) | Fault::BadLine(_) | Fault::TooManyConnections => 2,
             Fault::Audit(_) => 3,
             Fault::ReadLab
             | Fault::ReadScript
             | Fault::ReadJournal
+            | Fault::Listen
+            | Fault::Accept
+            | Fault::Astray
             | Fault::Journal
             | Fault::Write => 4,
-            Fault::Memory => 5,
+            Fault::Place | Fault::Memory => 5,
         }
     }
 }
@@ -113,6 +133,23 @@ impl From<ScriptFault> for Fault {
             ScriptFault::Read => Fault::ReadScript,
             ScriptFault::Write { .. } => Fault::Write,
             ScriptFault::Memory => Fault::Memory,
+        }
+    }
+}
+
+impl From<ServeFault> for Fault {
+    ghost use Rattle.mml_program.specs.Faults.{of_serving};
+
+    ghost from_gives = { λ fault e. e ≡ of_serving fault };
+
+    fn from(fault: ServeFault) -> Fault {
+        match fault {
+            ServeFault::Memory => Fault::Memory,
+            ServeFault::Place => Fault::Place,
+            ServeFault::Accept => Fault::Accept,
+            ServeFault::Astray => Fault::Astray,
+            ServeFault::Halted => Fault::Journal,
+            ServeFault::Write => Fault::Write,
         }
     }
 }

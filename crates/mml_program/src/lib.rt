@@ -6,6 +6,7 @@ mod built_in;
 mod fault;
 mod files;
 mod refusal;
+mod serving;
 mod task;
 mod words;
 
@@ -14,5 +15,6 @@ pub use built_in::BUILT_IN;
 pub use fault::{Fault, memory_or};
 pub use files::{MAX_FILE, MAX_JOURNAL, journal_at, read_file, read_journal};
 pub use refusal::{AuditRefusal, LabRefusal};
+pub use serving::{ServeFault, serve_on, write_listening};
 pub use task::run;
 pub use words::{Task, read_words};

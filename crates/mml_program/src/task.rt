@@ -1,22 +1,38 @@
 //! From the words to the work.
-ghost use Rattle.std.specs.Prelude.{◌<◌, ◌-◌, ◌^◌};
+ghost use Rattle.std.specs.Prelude.{◌<◌, ◌≤◌, ◌-◌, ◌^◌};
 ghost use Rattle.mml_journal.specs.Taken.{IsFresh};
 
 use crate::answering::{answer_script, answer_through_buffer, write_audit, write_size};
 use crate::built_in::BUILT_IN;
 use crate::fault::{Fault, memory_or};
 use crate::files::{journal_at, read_file, read_journal};
+use crate::serving::{serve_on, write_listening};
 use crate::words::{Task, read_words};
 use mml_journal::{NullSink, Sink};
 use mml_lab::{Lab, read_lab};
+use mml_session::NoGate;
 use std::fs::File;
 use std::io::BufWriter;
+use std::net::{Ipv4Addr, Net, SocketAddr, TcpListener, TcpStream};
+use std::num::{NonZeroU8, NonZeroU16};
 use std::rt::{Env, Files};
+use std::sync::Wait;
+use std::thread::Threads;
 use std::{env, io};
 
 /// Does what the words of the command line ask for. The lab is read first, then the journal is made or
-/// emptied, and the script is opened last.
-pub fn run<R: Env + Files<File = File> + Input + Print + AllocGlobal>(rt: &R) -> Result<(), Fault> {
+/// emptied, and the script is opened or the port taken last.
+pub fn run<
+    R: Env
+        + Files<File = File>
+        + Net<Listener = TcpListener, Stream = TcpStream>
+        + Threads
+        + Wait
+        + Sync
+        + Input
+        + Print
+        + AllocGlobal,
+>(rt: &R) -> Result<(), Fault> {
     let words = words_of(rt)?;
     match read_words(rt.alloc(), words.as_slice())? {
         Task::BuiltIn => answer_input(rt),
@@ -33,6 +49,12 @@ pub fn run<R: Env + Files<File = File> + Input + Print + AllocGlobal>(rt: &R) ->
             }
         }
         Task::Audit { lab, journal } => audit_file(rt, lab, journal),
+        Task::Serve {
+            lab,
+            port,
+            connections,
+            journal,
+        } => serve_file(rt, lab, port, connections, journal),
     }
 }
 
@@ -83,6 +105,67 @@ fn audit_file<R: Files + Print + AllocGlobal>(
     let lab = lab_of(rt, lab)?;
     let text = read_journal(rt, journal)?;
     write_audit(rt.alloc(), &lab, text.as_slice(), &mut io::writer(rt))
+}
+
+// Serves connections over the lab of a file.
+fn serve_file<
+    R: Files<File = File>
+        + Net<Listener = TcpListener, Stream = TcpStream>
+        + Threads
+        + Wait
+        + Sync
+        + Print
+        + AllocGlobal,
+>(
+    rt: &R,
+    lab: &str,
+    port: NonZeroU16,
+    connections: NonZeroU8,
+    journal: Option<&str>,
+) -> Result<(), Fault> {
+    let lab = lab_of(rt, lab)?;
+    let connections = connections.get();
+    if connections > lab.sessions() {
+        return Err(Fault::TooManyConnections);
+    }
+    match journal {
+        Some(path) => serve_port(rt, lab, port.get(), connections, journal_at(rt, path)?),
+        None => serve_port(rt, lab, port.get(), connections, NullSink::new()),
+    }
+}
+
+// Listens on a port of this machine alone, says so, and serves the connections.
+fn serve_port<
+    R: Net<Listener = TcpListener, Stream = TcpStream>
+        + Threads
+        + Wait
+        + Sync
+        + Print
+        + AllocGlobal,
+    S: Sink + Send + Drop,
+>(rt: &R, lab: Lab, port: u16, connections: u8, sink: S) -> Result<(), Fault>
+    requires some { 0 < connections }
+    requires sessions { connections ≤ lab.sessions }
+    requires fresh { IsFresh (S.contents sink) }
+    requires countable { S.failures sink < 2 ^ 64 - 1 }
+{
+    let alloc = rt.alloc();
+    let listener = TcpListener::bind(rt, SocketAddr::from((Ipv4Addr::LOCALHOST, port))).map_err(
+        |error| memory_or(&error, Fault::Listen),
+    )?;
+    let mut writer = io::writer(rt);
+    write_listening(alloc, port, &mut writer)?;
+    serve_on(
+        rt,
+        alloc,
+        lab,
+        listener,
+        connections,
+        sink,
+        &NoGate,
+        &mut writer,
+    )?;
+    Ok(())
 }
 
 // The words, the program's name first; one that isn't UTF-8 is not understood.

@@ -1,8 +1,14 @@
 //! The words of the command line.
+ghost use Rattle.std.specs.Prelude.{◌≡◌, ◌≤◌, decimal, IfSome};
+ghost use Rattle.std.specs.Int.NonZero.{non_zero_u16_get};
+
 use crate::fault::Fault;
 use clap::error::ErrorKind;
 use clap::{Arg, ArgAction, ArgMatches, Command};
+use itoa::Buffer;
+use mml_lab::MAX_SESSIONS;
 use std::alloc::{AllocError, Global};
+use std::num::{NonZeroU8, NonZeroU16};
 
 /// What the words ask for.
 #[derive(Clone, Copy, Debug, PartialEq, Eq, Drop)]
@@ -24,6 +30,14 @@ pub enum Task<'a> {
     Audit {
         lab: &'a str,
         journal: &'a str,
+    },
+    /// To serve so many connections on a port over the lab of a file.
+    /// The lines of the granted events go to the journal, where one is named.
+    Serve {
+        lab: &'a str,
+        port: NonZeroU16,
+        connections: NonZeroU8,
+        journal: Option<&'a str>,
     },
 }
 
@@ -62,7 +76,31 @@ fn task_of<'a>(name: &str, values: &ArgMatches<'a>) -> Option<Task<'a>> {
             let journal = values.get_str("journal")?;
             Some(Task::Audit { lab, journal })
         }
+        "serve" => {
+            let port = number_of(values.get_str("port")?, u64::from(u16::MAX))?;
+            let connections = number_of(values.get_str("connections")?, MAX_SESSIONS)?;
+            Some(Task::Serve {
+                lab,
+                port,
+                connections: NonZeroU8::new(u8::try_from(connections.get()).ok()?)?,
+                journal: values.get_str("journal"),
+            })
+        }
         _ => None,
+    }
+}
+
+// A number from 1 to the most, in decimal without sign or leading zero.
+fn number_of(text: &str, most: u64) -> Option<NonZeroU16>
+    ensures spelled { IfSome result (λ n. text.now ≡ decimal (non_zero_u16_get n)) }
+    ensures most { IfSome result (λ n. non_zero_u16_get n ≤ most) }
+{
+    let number = text.parse::<NonZeroU16>().ok()?;
+    let mut digits = Buffer::new();
+    if u64::from(number.get()) <= most && digits.format(number.get()) == text {
+        Some(number)
+    } else {
+        None
     }
 }
 
@@ -70,7 +108,11 @@ fn whole<'a>(alloc: Global) -> Result<Command<'a>, AllocError> {
     plain(alloc, "mml_server")
         .subcommand(subcommand(alloc, "check", &["lab"])?)?
         .subcommand(with_journal(alloc, subcommand(alloc, "script", &["lab", "script"])?)?)?
-        .subcommand(subcommand(alloc, "audit", &["lab", "journal"])?)
+        .subcommand(subcommand(alloc, "audit", &["lab", "journal"])?)?
+        .subcommand(with_journal(
+            alloc,
+            subcommand(alloc, "serve", &["lab", "port", "connections"])?,
+        )?)
 }
 
 // A subcommand whose values are all wanted, by their places.
