@@ -1,5 +1,6 @@
 -- What turns leave as it was, and a reply that wants memory.
-use Rattle.std.proofs.Common.{◌≡◌, ◌≢◌, ◌<◌, ◌-◌, ℕ, Bool, true, false, cond, List, Option, Some, None, Result, Ok, Err, refl, sym, ap, ◌∙◌, arith, subst, inl, inr}
+use Rattle.std.proofs.Common.{◌≡◌, ◌≢◌, ◌<◌, ◌-◌, ℕ, Bool, true, false, not, cond, List, Option, Some, None, Result, Ok, Err, refl, sym, ap, ◌∙◌, arith, subst, inl, inr}
+use Rattle.std.proofs.lemmas.Bool.{or_right}
 use Rattle.std.proofs.lemmas.List.{get_or-set_other, set-get_or}
 use Rattle.mml_lab.specs.declared.who.Who.{Who}
 use Rattle.mml_lab.specs.Labs.{LabValue}
@@ -15,14 +16,13 @@ use Rattle.mml_codec.specs.declared.request.LineFault.{LineFault}
 use Rattle.mml_codec.specs.declared.request.Request.{Request}
 use Rattle.mml_codec.specs.declared.request.Request.TheVariants as requests
 use Rattle.mml_codec.specs.declared.reply.Reply.{Reply}
-use Rattle.mml_codec.specs.declared.reply.Reply.TheVariants as replies
 use Rattle.mml_codec.specs.declared.greeting.Greeting.{Greeting}
 use Rattle.mml_codec.specs.declared.greeting.Greeting.TheVariants.{Answered, LeftToJudge}
 use Rattle.mml_codec.specs.Greetings.{greeting, admitted}
 use Rattle.mml_codec.specs.Lines.{request_in}
 use Rattle.mml_codec.specs.Replies.{is_short}
 use Rattle.mml_codec.specs.Rulings.{reply_of_done}
-use Rattle.mml_hall.specs.Turns.{State, Outcome, Turn, IsRefusal, GrowsByGrant, place_in, nothing, while_read, later, sink_failed, known_on, with_known, told, settled, answer_to, plain_turn, takes_memory, without_memory, is_grant, halting, IsKept}
+use Rattle.mml_hall.specs.Turns.{State, Outcome, Turn, IsRefusal, GrowsByGrant, place_in, is_grant, nothing, while_read, later, sink_failed, known_on, with_known, told, settled, answer_to, plain_turn, takes_memory, without_memory, is_grant, halting, IsKept}
 use Rattle.mml_hall.specs.Serving.{TellsFor}
 
 -- nothing changes where a connection stays known as it was
@@ -190,19 +190,7 @@ unfolding plain_turn
 long_turn lab st k line h = long_answer lab st k (request_in line) h
 
 long_takes_memory : (r : Reply) → is_short r ≡ false → takes_memory r ≡ true
-long_takes_memory (replies.Hello who) h = absurd (never h)
-long_takes_memory replies.Bye h = absurd (never h)
-long_takes_memory (replies.See s) h = absurd (never h)
-long_takes_memory (replies.Look l) h = refl
-long_takes_memory (replies.Report r) h = refl
-long_takes_memory (replies.Move at place node k) h = refl
-long_takes_memory (replies.Close at place moved) h = refl
-long_takes_memory (replies.Fault at place node dropped) h = refl
-long_takes_memory (replies.Link at place a b dropped) h = refl
-long_takes_memory (replies.Cut at place a b dropped) h = refl
-long_takes_memory (replies.Release at place node) h = refl
-long_takes_memory (replies.Deny d) h = absurd (never h)
-long_takes_memory (replies.Refuse r) h = absurd (never h)
+long_takes_memory r h = or_right (is_grant r) (not (is_short r)) (ap not h)
 
 -- the reply is want of memory, which is short
 not_without : (st : State) (out : Outcome) → out ≡ without_memory st → is_short out.reply ≡ false → ⊥

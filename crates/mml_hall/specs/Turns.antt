@@ -1,5 +1,5 @@
 -- What one line does, and what many do.
-use Rattle.std.specs.Prelude.{◌≡◌, ◌⊎◌, ℕ, ◌+◌, ◌-◌, ◌<◌, List, [], ◌∷◌, ◌++◌, replicate, Bool, true, false, Option, None, Some, is_some, Result, Ok, Err, slice_index_or, slice_set, if◌then◌else◌}
+use Rattle.std.specs.Prelude.{◌≡◌, ◌⊎◌, ℕ, ◌+◌, ◌-◌, ◌<◌, List, [], ◌∷◌, ◌++◌, replicate, Bool, true, false, not, ◌||◌, Option, None, Some, is_some, Result, Ok, Err, slice_index_or, slice_set, if◌then◌else◌}
 use Rattle.mml_lab.specs.declared.who.Who.{Who}
 use Rattle.mml_lab.specs.Labs.{LabValue}
 use Rattle.mml_board.specs.declared.event.Event.{Event}
@@ -17,6 +17,7 @@ use Rattle.mml_codec.specs.declared.reply.Refused.TheVariants as refused
 use Rattle.mml_codec.specs.declared.greeting.Greeting.{Greeting}
 use Rattle.mml_codec.specs.declared.greeting.Greeting.TheVariants.{Answered, LeftToJudge}
 use Rattle.mml_codec.specs.Greetings.{refusal_of, greeting}
+use Rattle.mml_codec.specs.Replies.{is_short}
 use Rattle.mml_codec.specs.Rulings.{reply_of}
 use Rattle.mml_hall.specs.declared.prevented.Prevented.{Prevented}
 use Rattle.mml_hall.specs.declared.prevented.Prevented.TheVariants as prevented
@@ -100,25 +101,13 @@ place_in (reply.Report r) = None
 place_in (reply.Deny d) = None
 place_in (reply.Refuse r) = None
 
--- the reply shows a view or tells a grant: for these memory is needed after the line is read
-abbrev pub takes_memory : Reply → Bool
-takes_memory (reply.Hello who) = false
-takes_memory reply.Bye = false
-takes_memory (reply.See s) = false
-takes_memory (reply.Look l) = true
-takes_memory (reply.Move at place node kind) = true
-takes_memory (reply.Close at place moved) = true
-takes_memory (reply.Fault at place node dropped) = true
-takes_memory (reply.Link at place a b dropped) = true
-takes_memory (reply.Cut at place a b dropped) = true
-takes_memory (reply.Release at place node) = true
-takes_memory (reply.Report r) = true
-takes_memory (reply.Deny d) = false
-takes_memory (reply.Refuse r) = false
-
 -- the reply tells a grant
 abbrev pub is_grant : Reply → Bool
 is_grant r = is_some (place_in r)
+
+-- the reply shows a look or a report, or tells a grant: for these memory is needed after the line is read
+abbrev pub takes_memory : Reply → Bool
+takes_memory r = is_grant r || not (is_short r)
 
 -- what may befall a turn
 pub data Mishap : Type 0 where
