@@ -7,27 +7,22 @@ use Rattle.mml_lines.specs.declared.lines.TheConstants.{READ_SIZE}
 use Rattle.mml_codec.specs.declared.TheConstants.{MAX_REQUEST}
 use Rattle.mml_codec.specs.declared.reply.Reply.{Reply}
 use Rattle.mml_codec.specs.declared.reply.Reply.TheVariants as replies
-use Rattle.mml_session.specs.declared.session.SessionEnd.TheVariants as ends
-use Rattle.mml_session.specs.declared.session.Next.TheVariants as next
-use Rattle.mml_session.specs.declared.session.Said.TheVariants as said
+use Rattle.mml_session.specs.declared.session.Said.{Said}
+use Rattle.mml_session.specs.declared.session.Said.TheVariants as says
 use Rattle.mml_session.specs.Turns.{Standing, is_bye}
-use Rattle.mml_session.specs.Serving.{ServesLine, ServesNext}
+use Rattle.mml_session.specs.Serving.{ServesLine, ServesNext, next_after}
 
 taken_by : (a b : Option (List ℕ)) (line line' : List ℕ) → Consumes a b (ended line) → line' ≡ line → Consumes a b (ended line')
 taken_by a b line line' taken same = subst (λ (t : List ℕ). Consumes a b (ended t)) (sym same) taken
 
-module _ (lab : LabValue) (st after : Standing) (a left c d : Option (List ℕ)) (held line : List ℕ) (taken : Consumes a (prepend_known held left) (ended line)) where
-  pub told_next : ServesLine said.Told lab st after line c d → ServesNext next.Served lab st after a held left c d
-  told_next had = (had.0, had.2, taken_by a (prepend_known held left) line had.0.line taken had.1, had.3)
-
-  pub bye_next : length held < READ_SIZE → ServesLine said.Bye lab st after line c d → ServesNext (next.Ended ends.Bye) lab st after a held left c d
-  bye_next few had = (had.0, had.2, taken_by a (prepend_known held left) line had.0.line taken had.1, few, had.3)
-
-  pub unwritten_next : (n : ℕ) → length held < READ_SIZE → ServesLine (said.Unwritten n) lab st after line c d → ServesNext (next.Ended ends.WriteFault) lab st after a held left c d
-  unwritten_next n few had = (had.0, n, had.2, taken_by a (prepend_known held left) line had.0.line taken had.1, few, had.3)
-
-  pub closed_next : IsWithinLimit MAX_REQUEST line → length held < READ_SIZE → ServesLine said.Closed lab st after line c d → ServesNext (next.Ended ends.Closed) lab st after a held left c d
-  closed_next short few had = (had.0, line, short, had.1, taken, few, had.2)
+-- a line was taken, short enough, and no more than one read brought in is held after it
+module _ (lab : LabValue) (st after : Standing) (a left c d : Option (List ℕ)) (held line : List ℕ) (taken : Consumes a (prepend_known held left) (ended line))
+    (short : IsWithinLimit MAX_REQUEST line) (few : length held < READ_SIZE) where
+  pub serves_next : (said : Said) → ServesLine said lab st after line c d → ServesNext (next_after said) lab st after a held left c d
+  serves_next says.Told had = (had.0, had.2, taken_by a (prepend_known held left) line had.0.line taken had.1, had.3)
+  serves_next says.Bye had = (had.0, had.2, taken_by a (prepend_known held left) line had.0.line taken had.1, few, had.3)
+  serves_next (says.Unwritten n) had = (had.0, n, had.2, taken_by a (prepend_known held left) line had.0.line taken had.1, few, had.3)
+  serves_next says.Closed had = (had.0, line, short, had.1, taken, few, had.2)
 
 pub bye_is : (r : Reply) → is_bye r ≡ true → r ≡ replies.Bye
 bye_is (replies.Hello who) is = absurd (true≢false (sym is))

@@ -22,7 +22,7 @@ use Rattle.mml_window.specs.Lists.{world_in, ruling_at}
 use Rattle.mml_window.specs.Windows.{WindowValue}
 use Rattle.mml_window.proofs.PrefixLemmas.{prefix_self, prefix_trans, prefix_more}
 use Rattle.mml_session.specs.Turns.{Standing, places_in, entered, Plainly, Refuses, Told, Settles, Asked, Turn, Run}
-use Rattle.mml_session.specs.Talks.{Talk, bytes_read}
+use Rattle.mml_session.specs.Talks.{Talk, LineTurn, bytes_read}
 use Rattle.mml_session.proofs.GreetingLemmas.{IsPlain, plain_greeting}
 
 -- the window went on: its places by those that the reply names, and what it has seen
@@ -87,6 +87,12 @@ module _ (lab : LabValue) where
   run_count st end [] (r ∷ rs) run = absurd run
   run_count st end (l ∷ ls) [] run = absurd run
   run_count st end (l ∷ ls) (r ∷ rs) run = ap (λ n. suc n) (run_count run.0 end ls rs run.2)
+
+  pub turn_places : (st after : Standing) (t : LineTurn lab st after) → after.window.places ≡ st.window.places ++ places_in t.reply
+  turn_places st after t = (turn_on st after t.line t.reply t.turn).places
+
+  pub turn_seen : (st after : Standing) (t : LineTurn lab st after) → IsPrefix st.window.seen after.window.seen
+  turn_seen st after t = (turn_on st after t.line t.reply t.turn).seen
 
   pub talk_places : (st : Standing) (t : Talk lab st) → t.end.window.places ≡ st.window.places ++ flat_map places_in t.replies
   talk_places st t = run_places st t.end t.lines t.replies t.run

@@ -33,6 +33,13 @@ ServesLine (said.Unwritten n) lab st after line wrote wrote' =
     (t : LineTurn lab st after) × (t.line ≡ line) × (n < length (line_written t)) × Appends wrote wrote' (take n (line_written t))
 ServesLine said.Closed lab st after line wrote wrote' = (after ≡ st) × IsView st line × Appends wrote wrote' []
 
+-- a session goes on where its reply is out and isn't that to a bye
+abbrev pub next_after : Said → Next
+next_after said.Told = next.Served
+next_after said.Bye = next.Ended end.Bye
+next_after (said.Unwritten n) = next.Ended end.WriteFault
+next_after said.Closed = next.Ended end.Closed
+
 -- what came of the next line says of where the session stands, of the bytes to come, of which those held are first, and of the
 -- bytes written
 abbrev pub ServesNext : Next → LabValue → Standing → Standing → Option (List ℕ) → List ℕ → Option (List ℕ) → Option (List ℕ) → Option (List ℕ) → Type 0

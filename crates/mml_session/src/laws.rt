@@ -1,20 +1,24 @@
-//! Laws of sessions.
+//! Laws of turns and sessions. Each is the clause of a function that does nothing.
 ghost use Rattle.std.specs.Prelude.{◌≡◌, ◌++◌, ℕ, List, flat_map, length};
 ghost use mathlib.Core.List.{IsPrefix};
 ghost use Rattle.mml_lab.specs.Labs.{LabValue};
 ghost use Rattle.mml_lines.specs.LinesOf.{IsUnbroken, lines_of};
 ghost use Rattle.mml_session.specs.Turns.{Standing, places_in};
-ghost use Rattle.mml_session.specs.Talks.{Talk, bytes_read};
+ghost use Rattle.mml_session.specs.Talks.{Talk, LineTurn, bytes_read};
 
 /// A window's list of places grows by those that the replies name, in order, and by no others.
 pub fn places_are_those_told()
-    ensures { (lab : LabValue) (st : Standing) (t : Talk lab st) →
+    ensures turn { (lab : LabValue) (st after : Standing) (t : LineTurn lab st after) →
+        after.window.places ≡ st.window.places ++ places_in t.reply }
+    ensures talk { (lab : LabValue) (st : Standing) (t : Talk lab st) →
         t.end.window.places ≡ st.window.places ++ flat_map places_in t.replies }
 {}
 
 /// What a window had seen begins what it has seen afterwards.
 pub fn seen_goes_on()
-    ensures { (lab : LabValue) (st : Standing) (t : Talk lab st) →
+    ensures turn { (lab : LabValue) (st after : Standing) (t : LineTurn lab st after) →
+        IsPrefix st.window.seen after.window.seen }
+    ensures talk { (lab : LabValue) (st : Standing) (t : Talk lab st) →
         IsPrefix st.window.seen t.end.window.seen }
 {}
 

@@ -5,7 +5,7 @@ ghost use Rattle.mml_lab.specs.Rosters.{IsPrincipal};
 ghost use Rattle.mml_codec.specs.Replies.{IsAbout, reply_line};
 ghost use Rattle.mml_session.specs.Turns.{standing, is_bye};
 ghost use Rattle.mml_session.specs.Ends.{Ended};
-ghost use Rattle.mml_session.specs.Serving.{ServesLine, ServesNext, TellsFor, bytes_ahead};
+ghost use Rattle.mml_session.specs.Serving.{ServesLine, ServesNext, TellsFor, bytes_ahead, next_after};
 
 use crate::answering::answer;
 use crate::gate::{Gate, Point};
@@ -114,22 +114,29 @@ fn serve_next<Rt: Wait, S: Sink + Drop, H: House, R: Read, W: Write, G: Gate>(
         Step::Line => {
             gate.pass(connection, Point::Line);
             let said = serve_line(rt, alloc, desk, window, known, lines.bytes(), out, writer);
-            match said {
-                Said::Told => {
-                    gate.pass(connection, Point::Told);
-                    Next::Served
-                }
-                Said::Bye => {
-                    gate.pass(connection, Point::Told);
-                    Next::Ended(SessionEnd::Bye)
-                }
-                Said::Unwritten(_) => Next::Ended(SessionEnd::WriteFault),
-                Said::Closed => Next::Ended(SessionEnd::Closed),
-            }
+            go_on(said, gate, connection)
         }
         Step::TooLong => Next::Ended(SessionEnd::TooLong),
         Step::End => Next::Ended(SessionEnd::End),
         Step::ReadFault => Next::Ended(SessionEnd::ReadFault),
+    }
+}
+
+// Lets the session stand at its gate where its reply is out, and tells whether it goes on.
+fn go_on<G: Gate>(said: Said, gate: &G, connection: u8) -> Next
+    ensures { result ≡ next_after said }
+{
+    match said {
+        Said::Told => {
+            gate.pass(connection, Point::Told);
+            Next::Served
+        }
+        Said::Bye => {
+            gate.pass(connection, Point::Told);
+            Next::Ended(SessionEnd::Bye)
+        }
+        Said::Unwritten(_) => Next::Ended(SessionEnd::WriteFault),
+        Said::Closed => Next::Ended(SessionEnd::Closed),
     }
 }
 
