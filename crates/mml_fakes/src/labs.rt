@@ -1,4 +1,5 @@
 //! Labs that several tests speak of, as TOML documents.
+use std::alloc::{AllocError, Global};
 
 /// Nodes 1, 2 and 3 in a row, of ana, ben and cyd; the teacher is tess, four connections.
 pub const PATH_OF_THREE: &str = r#"
@@ -95,3 +96,29 @@ owner = "ana"
 id = 65535
 owner = "ana"
 "#;
+
+/// The largest lab: 256 nodes with the greatest identifiers, each linked to each other one and of
+/// two students, as many students with the longest names and keys, and the greatest limits of a run.
+pub fn greatest(alloc: Global) -> Result<String, AllocError> {
+    let mut text = String::from_str(alloc, "events = 100000\nsessions = 16\nlinks = [\n")?;
+    for a in 65280..65536u64 {
+        for b in 65280..a {
+            write!(text, "[{a},{b}],")?;
+        }
+    }
+    text.push_str("]\nteacher = { name = \"tess\", key = \"chalk\" }\n")?;
+    for number in 0..256u64 {
+        write!(
+            text,
+            "[[student]]\nname = \"s{number:031}\"\nkey = \"{number:064}\"\n"
+        )?;
+    }
+    for id in 65280..65536u64 {
+        let (number, next) = (id % 256, (id + 1) % 256);
+        write!(
+            text,
+            "[[node]]\nid = {id}\nowners = [\"s{number:031}\", \"s{next:031}\"]\n"
+        )?;
+    }
+    Ok(text)
+}

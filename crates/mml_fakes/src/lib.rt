@@ -1,12 +1,14 @@
-//! For tests alone: readers and writers that fail where they are told, and the labs and scripts
-//! that several tests speak of. Nothing of the program stands on it.
+//! For tests alone: readers and writers that fail where they are told, numbers that look drawn, and
+//! the labs and scripts that several tests speak of. Nothing of the program stands on it.
 #![tactic(auto)]
 
 pub mod cycles;
 pub mod labs;
+mod numbers;
 mod reading;
 pub mod scripts;
 mod writing;
 
+pub use numbers::Numbers;
 pub use reading::{FakeReader, Parts};
 pub use writing::{FakeWriter, Refusal};

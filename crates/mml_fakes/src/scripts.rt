@@ -33,3 +33,16 @@ pub const FIRST_LOOK_REPLIES: &str = r#"1 {"ok":"hello","who":"ana"}
 1 {"clause":1,"deny":"hidden","text":"this node is not shown to you"}
 1 {"clause":1,"deny":"hidden","text":"this node is not shown to you"}
 "#;
+
+/// The journal of ten acts over `labs::PATH_OF_THREE`, up to a pair that holds.
+pub const TEN_LINES: &str = r#"1 0 grant ana 1 seduction
+2 0 grant ben 2 seduction
+3 0 close
+4 1 grant cyd 3 marriage 2
+5 1 close
+6 2 grant ben 2 update
+7 2 grant cyd 3 update
+8 2 close
+9 3 grant ana 1 abandonment
+10 3 close
+"#;

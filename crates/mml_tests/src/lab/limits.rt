@@ -1,5 +1,6 @@
 //! Both sides of each limit.
 use super::told;
+use mml_fakes::labs::greatest;
 use mml_ids::Rank;
 use mml_lab::read_lab;
 use std::alloc::{AllocError, Global};
@@ -49,25 +50,9 @@ fn keeps_lengths(rt: HostRuntime) -> Result<(), Fail> {
     Ok(())
 }
 
-/// 256 nodes with the greatest identifiers, each linked to each other one.
-fn all_links(alloc: Global) -> Result<String, AllocError> {
-    let mut text = String::from_str(alloc, "events = 1\nsessions = 1\nlinks = [\n")?;
-    for a in 65280..65536u64 {
-        for b in 65280..a {
-            write!(text, "[{a},{b}],")?;
-        }
-    }
-    text.push_str("]\n[teacher]\nname = \"t\"\nkey = \"k\"\n")?;
-    text.push_str("[[student]]\nname = \"ana\"\nkey = \"a-key\"\n")?;
-    for id in 65280..65536u64 {
-        write!(text, "[[node]]\nid = {id}\nowner = \"ana\"\n")?;
-    }
-    Ok(text)
-}
-
-/// How many nodes and links such a lab has, and the rank of the greatest identifier.
+/// How many nodes and links the largest lab has, and the rank of the greatest identifier.
 fn sizes(alloc: Global) -> Result<(u64, u64, Option<u64>), Fail> {
-    let document = all_links(alloc)?;
+    let document = greatest(alloc)?;
     let lab = read_lab(alloc, document.as_bytes())?;
     let greatest = lab.ids().rank_of(65535).map(Rank::index);
     Ok((lab.node_count(), lab.link_count(), greatest))

@@ -2,9 +2,10 @@
 ghost use Rattle.std.specs.Prelude.{◌<◌, ◌≤◌};
 ghost use Rattle.mml_ids.specs.declared.TheConstants.{MAX_NODES};
 
-use crate::board::drawing::{Numbers, drawn};
+use crate::board::drawing::drawn;
 use crate::board::plain::PlainBoard;
 use mml_board::{Board, Event};
+use mml_fakes::Numbers;
 use mml_ids::{NodeSet, Rank};
 use mml_lab::read_lab;
 use mml_rules::Scene;

@@ -1,27 +1,10 @@
 //! Legal events drawn by a fixed list of numbers.
 use crate::board::plain::PlainBoard;
 use mml_board::Event;
+use mml_fakes::Numbers;
 use mml_ids::{NodeSet, Rank};
 use mml_lab::Student;
 use mml_rules::{Regs, Scene};
-
-/// Numbers that look drawn, the same each time.
-#[derive(Drop)]
-pub struct Numbers {
-    pub state: u64,
-}
-
-impl Numbers {
-    /// The next number, below the limit.
-    fn below(&mut self, limit: u64) -> u64 {
-        self.state = self
-            .state
-            .wrapping_mul(6364136223846793005)
-            .wrapping_add(1442695040888963407);
-        let drawn = self.state >> 33;
-        if limit == 0 { 0 } else { drawn % limit }
-    }
-}
 
 /// An event that may happen: mostly a grant, now and then a close of all that are chosen.
 pub fn drawn(plain: &PlainBoard, numbers: &mut Numbers) -> Event {

@@ -1,41 +1,25 @@
 //! Worlds that are drawn by fixed numbers.
 use mml_board::{Board, Event};
+use mml_fakes::Numbers;
 use mml_ids::Rank;
 use mml_rules::{Regs, Scene};
 
-/// The numbers that a seed gives, one after another.
-#[derive(Drop)]
-struct Numbers {
-    last: u64,
-}
-
-impl Numbers {
-    /// The next number below a limit.
-    fn below(&mut self, limit: u64) -> u64 {
-        self.last = self
-            .last
-            .wrapping_mul(6364136223846793005)
-            .wrapping_add(1442695040888963407);
-        (self.last >> 33) % limit.max(1)
-    }
-
-    /// A node of the board, if the rank is one.
-    fn node(&mut self, board: &Board) -> Option<Rank> {
-        Rank::new(self.below(board.size()))
-    }
+/// A node of the board, if the rank that comes next is one.
+fn node(numbers: &mut Numbers, board: &Board) -> Option<Rank> {
+    Rank::new(numbers.below(board.size()))
 }
 
 /// Draws links, and then registers: some nodes point at a neighbour, and some of these back.
 pub fn draw(board: &mut Board, seed: u64) {
-    let mut numbers = Numbers { last: seed };
+    let mut numbers = Numbers { state: seed };
     let size = board.size();
     for _ in 0..2 * size {
-        if let (Some(a), Some(b)) = (numbers.node(board), numbers.node(board)) {
+        if let (Some(a), Some(b)) = (node(&mut numbers, board), node(&mut numbers, board)) {
             board.absorb_event(&Event::Link { a, b });
         }
     }
     for _ in 0..3 * size {
-        if let (Some(a), Some(b)) = (numbers.node(board), numbers.node(board)) {
+        if let (Some(a), Some(b)) = (node(&mut numbers, board), node(&mut numbers, board)) {
             point(board, &mut numbers, a, b);
         }
     }

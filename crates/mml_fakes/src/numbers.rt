@@ -1,0 +1,18 @@
+//! Numbers that look drawn.
+
+/// The same numbers each time, from a seed.
+#[derive(Drop)]
+pub struct Numbers {
+    pub state: u64,
+}
+
+impl Numbers {
+    /// The next number, below the limit unless that is 0.
+    pub fn below(&mut self, limit: u64) -> u64 {
+        self.state = self
+            .state
+            .wrapping_mul(6364136223846793005)
+            .wrapping_add(1442695040888963407);
+        (self.state >> 33) % limit.max(1)
+    }
+}
