@@ -1,6 +1,11 @@
 -- How a script line is spelled, and what is none.
-use Rattle.std.proofs.Common.{◌≡◌, ◌≢◌, ℕ, ◌+◌, ◌-◌, ◌<◌, ◌≤◌, ◌^◌, List, [], ◌∷◌, ◌++◌, length, map, decimal, get_or, arith, sym, subst, ◌∙◌, length-append, append_assoc, refl, ap, zero, suc, All, Option, Some, None, inl, inr}
-use Rattle.std.proofs.lemmas.Fmt.{decimal-digits_of}
+use Rattle.std.proofs.Common.{◌≡◌, ◌≢◌, ℕ, ◌+◌, ◌-◌, ◌*◌, ◌/◌, ◌%◌, ◌<◌, ◌≤◌, ◌^◌, ◌⊎◌, take, List, [], ◌∷◌, ◌++◌, length, map, decimal, get_or, arith, sym, subst, ◌∙◌, length-append, append_assoc, refl, ap, zero, suc, All, Option, Some, None, inl, inr}
+use Rattle.std.specs.Prelude.{slice_index}
+use Rattle.std.proofs.lemmas.Bool.{cases_lt}
+use Rattle.std.proofs.Math.Seq.{take-append_seam}
+use Rattle.itoa.proofs.Decimal.{decimal_two}
+use Rattle.mml_codec.specs.declared.TheConstants.{MAX_REQUEST}
+use Rattle.std.proofs.lemmas.Fmt.{decimal-digits_of, decimal_digit}
 use Rattle.std.proofs.lemmas.List.{append_cancel_left, get_or-append_right}
 use Rattle.std.proofs.lemmas.List.Elements.{All-nil, All-cons}
 use Rattle.std.specs.Int.Digits.{digits_of}
@@ -71,3 +76,67 @@ pub too_long : (a b : Option (List ℕ)) (held : List ℕ) (limit sessions : ℕ
     → IsTooLong limit held → length held ≤ limit + READ_SIZE → ComesBad sessions a b
 too_long a b held limit sessions kept e long few =
     (held, kept, inr (subst (λ (n : ℕ). IsTooLong n held × (length held ≤ n + READ_SIZE)) e (long, few)))
+
+-- a line that begins with the number of a connection and a space: one digit, or 1 and one more
+FirstDigits : ℕ → List ℕ → Type 0
+FirstDigits n line = ((n < 10) × (slice_index line 0 ≡ 48 + n) × (slice_index line 1 ≡ 32) × (1 < length line))
+    ⊎ ((10 ≤ n) × (slice_index line 0 ≡ 49) × (slice_index line 1 ≡ 38 + n) × (1 < length line))
+
+first_digits : (line rest : List ℕ) (n : ℕ) → n ≤ 16 → line ≡ decimal n ++ 32 ∷ rest → FirstDigits n line
+unfolding FirstDigits
+first_digits line rest n few e =
+    elim (cases_lt n 10) [
+      | inl one ↦
+          let whole : line ≡ (48 + n) ∷ 32 ∷ rest = e ∙ ap (λ t. t ++ 32 ∷ rest) (decimal_digit n one) in
+          inl (one, ap (λ t. slice_index t 0) whole, ap (λ t. slice_index t 1) whole, omega (arith, ap length whole))
+      | inr two ↦
+          let whole : line ≡ (48 + n / 10) ∷ (48 + n % 10) ∷ 32 ∷ rest = e ∙ ap (λ t. t ++ 32 ∷ rest) (decimal_two n two (omega (arith, few))) in
+          let tens : 48 + n / 10 ≡ 49 = omega (arith, two, few) in
+          let units : 48 + n % 10 ≡ 38 + n = omega (arith, two, few) in
+          inr (two, ap (λ t. slice_index t 0) whole ∙ tens, ap (λ t. slice_index t 1) whole ∙ units, omega (arith, ap length whole))
+    ]
+
+pub two_digits : (line rest : List ℕ) (n tens units : ℕ) → n ≤ 16 → line ≡ decimal n ++ 32 ∷ rest → slice_index line 0 ≡ 48 + tens → slice_index line 1 ≡ 48 + units
+    → units < 10 → 10 * tens + units ≡ n
+unfolding FirstDigits
+two_digits line rest n tens units few e first second small = elim (first_digits line rest n few e) [
+      | inl one ↦ absurd (omega (arith, one.2, second))
+      | inr two ↦ omega (arith, two.1, two.2, first, second)
+    ]
+
+pub one_digit : (line rest : List ℕ) (n units : ℕ) → n ≤ 16 → line ≡ decimal n ++ 32 ∷ rest → slice_index line 0 ≡ 48 + units
+    → (1 < length line → (d : ℕ) → d < 10 → slice_index line 1 ≢ 48 + d) → units ≡ n
+unfolding FirstDigits
+one_digit line rest n units few e first other = elim (first_digits line rest n few e) [
+      | inl one ↦ omega (arith, one.1, first)
+      | inr two ↦ let digit : 38 + n ≡ 48 + (n - 10) = omega (arith, two.0) in absurd (other two.3 (n - 10) (omega (arith, few)) (two.2 ∙ digit))
+    ]
+
+pub no_digit : (line rest : List ℕ) (n : ℕ) → n ≤ 16 → line ≡ decimal n ++ 32 ∷ rest
+    → (0 < length line → (d : ℕ) → d < 10 → slice_index line 0 ≢ 48 + d) → 0 ≡ n
+unfolding FirstDigits
+no_digit line rest n few e other = elim (first_digits line rest n few e) [
+      | inl one ↦ absurd (other (omega (arith, one.3)) n one.0 one.1)
+      | inr two ↦ let digit : 49 ≡ 48 + 1 = refl in absurd (other (omega (arith, two.3)) 1 (omega arith) (two.1 ∙ digit))
+    ]
+
+-- the number that the line begins with is that of no connection
+pub none_outside : (sessions found : ℕ) (line : List ℕ) → sessions ≤ 16 → ((n : ℕ) (rest : List ℕ) → 0 < n → n ≤ 16 → line ≡ decimal n ++ 32 ∷ rest → found ≡ n)
+    → (found ≡ 0) ⊎ (sessions < found) → (s : RequestLine) → IsScriptLine sessions s → line ≢ script_line s
+none_outside sessions found line few exact outside s valid e =
+    let same : found ≡ s.connection = exact s.connection s.request valid.some (omega (arith, few, valid.known)) e in
+    omega (arith, outside, same, valid.some, valid.known)
+
+-- it is a connection's, and no request of its comes after
+pub none_after : (sessions found : ℕ) (line : List ℕ) → sessions ≤ 16 → ((n : ℕ) (rest : List ℕ) → 0 < n → n ≤ 16 → line ≡ decimal n ++ 32 ∷ rest → found ≡ n)
+    → ((request : List ℕ) → length request ≤ MAX_REQUEST → line ≢ decimal found ++ 32 ∷ request) → (s : RequestLine) → IsScriptLine sessions s → line ≢ script_line s
+none_after sessions found line few exact differs s valid e =
+    let same : found ≡ s.connection = exact s.connection s.request valid.some (omega (arith, few, valid.known)) e in
+    differs s.request valid.request.1 (e ∙ ap (λ n. decimal n ++ 32 ∷ s.request) (sym same))
+
+-- what stands before the request
+pub front_of : (line word request : List ℕ) → line ≡ word ++ 32 ∷ request → take (length line - length request) line ≡ word ++ 32 ∷ []
+front_of line word request e =
+    let whole : line ≡ (word ++ 32 ∷ []) ++ request = e ∙ sym (append_assoc word (32 ∷ []) request) in
+    let size : length line - length request ≡ length (word ++ 32 ∷ []) = omega (arith, ap length whole, length-append (word ++ 32 ∷ []) request) in
+    ap (λ n. take n line) size ∙ (ap (take (length (word ++ 32 ∷ []))) whole ∙ take-append_seam (word ++ 32 ∷ []) request)

@@ -1,14 +1,19 @@
 -- What has been answered so far, and how it ends.
-use Rattle.std.proofs.Common.{◌≡◌, ℕ, ◌+◌, List, [], ◌∷◌, ◌++◌, length, map, flat_map, take, refl, sym, ◌∙◌, ap, append_assoc, append-nil, Option, Some, None, subst, inl, length-append, arith}
+use Rattle.std.proofs.Common.{◌≡◌, ℕ, ◌+◌, List, [], ◌∷◌, ◌++◌, length, map, flat_map, refl, sym, ◌∙◌, ap, append_assoc, append-nil, Option, Some, None, subst, inl, inr, Result, Ok, Err, IfErr, IsErrAnd, ◌<◌, length-append, arith}
 use Rattle.std.specs.List.{AllByRecursion}
 use Rattle.std.proofs.lemmas.Grind.{common_steps}
-use Rattle.std.proofs.KnownBytes.{Appends-nil, Appends-trans, Consumes-trans}
-use Rattle.std.specs.Io.KnownBytes.{Consumes, Appends, prepend_known}
+use Rattle.std.proofs.KnownBytes.{Consumes-trans}
+use Rattle.std.specs.Io.KnownBytes.{Consumes, prepend_known}
 use Rattle.mml_lab.specs.Labs.{LabValue}
 use Rattle.mml_lines.specs.LinesOf.{ended}
+use Rattle.mml_lines.specs.Sending.{BreaksOff, Sends}
+use Rattle.mml_lines.specs.declared.lines.TheConstants.{READ_SIZE}
+use Rattle.mml_lines.specs.declared.writing.WriteFault.{WriteFault}
+use Rattle.mml_lines.proofs.SendingLemmas.{nothing_sent, sends_on, sends_more, all_out, breaks_on, breaks_more}
 use Rattle.mml_codec.specs.declared.reply.Reply.{Reply}
 use Rattle.mml_hall.specs.declared.script.Next.{Next}
 use Rattle.mml_hall.specs.declared.script.Next.TheVariants as next
+use Rattle.mml_hall.specs.declared.script.ScriptFault.{ScriptFault}
 use Rattle.mml_hall.specs.declared.script.ScriptFault.TheVariants as fault
 use Rattle.mml_hall.specs.Turns.{State, RequestLine, Outcome, Turn, Run, Halts, opening}
 use Rattle.mml_hall.specs.Halls.{HallValue}
@@ -16,7 +21,7 @@ use Rattle.mml_journal.specs.Taken.{IsFresh}
 use Rattle.mml_hall.specs.Journals.{TellsJournal, Journals}
 use Rattle.mml_hall.proofs.JournalsLemmas.{nothing_told, halts_on}
 use Rattle.mml_hall.specs.ScriptLines.{IsScriptLine, IsBad, script_line}
-use Rattle.mml_hall.specs.Transcripts.{Transcript, output_line, output_lines, bytes_read, bytes_written}
+use Rattle.mml_hall.specs.Transcripts.{Transcript, output_line, output_lines, bytes_read, lines_written}
 use Rattle.mml_hall.specs.Scripts.{LineTurn, AllAnswered, Finished, Stopped, line_read, line_written}
 use Rattle.mml_hall.specs.Serving.{ServesNext}
 
@@ -28,13 +33,11 @@ longer_run lab st mid (x ∷ ss) [] s out run turn = absurd run
 longer_run lab st mid (x ∷ ss) (r ∷ rs) s out run turn = (run.0, run.1, longer_run lab run.0 mid ss rs s out run.2 turn)
 
 longer_written : (lab : LabValue) (st mid : State) (ss : List RequestLine) (rs : List Reply) (s : RequestLine) (r : Reply)
-    → Run lab st ss rs mid → output_lines lab (ss ++ s ∷ []) (rs ++ r ∷ []) ≡ output_lines lab ss rs ++ output_line lab s.connection r
-longer_written lab st mid [] [] s r run = append-nil (output_line lab s.connection r)
+    → Run lab st ss rs mid → output_lines lab (ss ++ s ∷ []) (rs ++ r ∷ []) ≡ output_lines lab ss rs ++ output_line lab s.connection r ∷ []
+longer_written lab st mid [] [] s r run = refl
 longer_written lab st mid [] (q ∷ rs) s r run = absurd run
 longer_written lab st mid (x ∷ ss) [] s r run = absurd run
-longer_written lab st mid (x ∷ ss) (q ∷ rs) s r run =
-    ap (λ t. output_line lab x.connection q ++ t) (longer_written lab run.0 mid ss rs s r run.2)
-    ∙ sym (append_assoc (output_line lab x.connection q) (output_lines lab ss rs) (output_line lab s.connection r))
+longer_written lab st mid (x ∷ ss) (q ∷ rs) s r run = ap (λ t. output_line lab x.connection q ∷ t) (longer_written lab run.0 mid ss rs s r run.2)
 
 longer_read : (ss : List RequestLine) (s : RequestLine) → flat_map ended (map script_line (ss ++ s ∷ [])) ≡ flat_map ended (map script_line ss) ++ ended (script_line s)
 longer_read [] s = append-nil (ended (script_line s))
@@ -62,7 +65,7 @@ read_longer : (lab : LabValue) (t : Transcript lab) (after : State) (s : LineTur
 unfolding longer
 read_longer lab t after s = longer_read t.lines s.line
 
-written_longer : (lab : LabValue) (t : Transcript lab) (after : State) (s : LineTurn lab t.end after) → bytes_written (longer lab t after s) ≡ bytes_written t ++ line_written s
+written_longer : (lab : LabValue) (t : Transcript lab) (after : State) (s : LineTurn lab t.end after) → lines_written (longer lab t after s) ≡ lines_written t ++ line_written s ∷ []
 unfolding longer
 written_longer lab t after s = longer_written lab (opening lab) t.end t.lines t.replies s.line s.reply t.run
 
@@ -78,43 +81,65 @@ nothing_held : (a : Option (List ℕ)) (held : List ℕ) → held ≡ [] → Con
 nothing_held None held e = tt
 nothing_held (Some xs) held e = rw e refl
 
--- nothing was taken and nothing written since
-abbrev still : (lab : LabValue) (input a b wrote c d : Option (List ℕ)) → AllAnswered lab input a wrote c → Consumes a b [] → Appends c d [] → AllAnswered lab input b wrote d
-still lab input a b wrote c d answered taken written = record {
-  transcript = answered.transcript;
-  consumed = subst (λ (bytes : List ℕ). Consumes input b bytes) (append-nil (bytes_read answered.transcript))
-      (Consumes-trans input a b (bytes_read answered.transcript) [] answered.consumed taken);
-  appended = subst (λ (bytes : List ℕ). Appends wrote d bytes) (append-nil (bytes_written answered.transcript))
-      (Appends-trans wrote c d (bytes_written answered.transcript) [] answered.appended written);
-}
+-- nothing was taken since
+nothing_taken : (lab : LabValue) (t : Transcript lab) (input a b : Option (List ℕ)) → Consumes input a (bytes_read t) → Consumes a b [] → Consumes input b (bytes_read t)
+nothing_taken lab t input a b consumed taken =
+    subst (λ (bytes : List ℕ). Consumes input b bytes) (append-nil (bytes_read t)) (Consumes-trans input a b (bytes_read t) [] consumed taken)
 
 module _ {S : Type 0} (contents : S → Option (List ℕ)) (failures : S → ℕ) (lab : LabValue) (first : S) where
   -- how the sink is left
   abbrev Left : S → State → Type 0
   Left = Journals contents failures lab first
 
-  -- the lines so far make a transcript, which leads to where the hall stands
-  pub record AnsweredSoFar (hall : HallValue S) (count : ℕ) (input left wrote wrote' : Option (List ℕ)) : Type 0 where
-    pub answered : AllAnswered lab input left wrote wrote'
+  -- the lines so far make a transcript, which leads to where the hall stands, and the last of the lines in answer aren't written
+  pub record AnsweredSoFar (hall : HallValue S) (count : ℕ) (input left : Option (List ℕ)) (unsent : List (List ℕ)) (wrote wrote' : Option (List ℕ)) : Type 0 where
+    pub transcript : Transcript lab
+    pub consumed : Consumes input left (bytes_read transcript)
+    pub sent : Sends wrote wrote' (lines_written transcript) unsent
     pub same_lab : hall.lab ≡ lab
-    pub stands : answered.transcript.end ≡ hall.state
-    pub counted : length answered.transcript.lines ≡ count
+    pub stands : transcript.end ≡ hall.state
+    pub counted : length transcript.lines ≡ count
     pub journals : Left hall.sink hall.state
 
-  pub nothing_yet : (hall : HallValue S) (a wrote : Option (List ℕ)) (held : List ℕ) → hall.lab ≡ lab → hall.state ≡ opening lab → hall.sink ≡ first → IsFresh (contents first) → held ≡ []
-      → AnsweredSoFar hall 0 a (prepend_known held a) wrote wrote
-  nothing_yet hall a wrote held same fresh sink untold none = record {
-    answered = record { transcript = empty lab; consumed = nothing_held a held none; appended = Appends-nil wrote };
+  pub nothing_yet : (hall : HallValue S) (a wrote : Option (List ℕ)) (held : List ℕ) (unsent : List (List ℕ)) → hall.lab ≡ lab → hall.state ≡ opening lab → hall.sink ≡ first → IsFresh (contents first) → held ≡ [] → unsent ≡ []
+      → AnsweredSoFar hall 0 a (prepend_known held a) unsent wrote wrote
+  nothing_yet hall a wrote held unsent same fresh sink untold none quiet = record {
+    transcript = empty lab;
+    consumed = nothing_held a held none;
+    sent = rw quiet (nothing_sent wrote []);
     same_lab = same;
     stands = sym fresh;
     counted = refl;
     journals = rw (sink, fresh) (nothing_told lab (contents first) untold, inl (refl, refl));
   }
 
-  from_end : (hall : HallValue S) (st after : State) (next : Next) (a left c d : Option (List ℕ)) (held : List ℕ)
-      → hall.lab ≡ lab → st ≡ hall.state → ServesNext next hall.lab hall.state after a held left c d → ServesNext next lab st after a held left c d
-  from_end hall st after next a left c d held same stands serves =
-      subst (λ (t : State). ServesNext next lab t after a held left c d) (sym stands) (subst (λ (t : LabValue). ServesNext next t hall.state after a held left c d) same serves)
+  -- some of the lines that weren't written are
+  pub sent_on : (hall : HallValue S) (count : ℕ) (input a wrote c d : Option (List ℕ)) (unsent unsent' : List (List ℕ))
+      → AnsweredSoFar hall count input a unsent wrote c → Sends c d unsent unsent' → AnsweredSoFar hall count input a unsent' wrote d
+  sent_on hall count input a wrote c d unsent unsent' so more = record {
+    transcript = so.transcript;
+    consumed = so.consumed;
+    sent = sends_on wrote c d (lines_written so.transcript) unsent unsent' so.sent more;
+    same_lab = so.same_lab;
+    stands = so.stands;
+    counted = so.counted;
+    journals = so.journals;
+  }
+
+  -- nothing was taken of the input since, and all is out
+  abbrev still : (hall : HallValue S) (count : ℕ) (input a b wrote c d : Option (List ℕ)) (unsent : List (List ℕ))
+      → AnsweredSoFar hall count input a unsent wrote c → Consumes a b [] → Sends c d unsent [] → AllAnswered lab input b wrote d
+  still hall count input a b wrote c d unsent so taken more = record {
+    transcript = so.transcript;
+    consumed = nothing_taken lab so.transcript input a b so.consumed taken;
+    appended = all_out wrote d (lines_written so.transcript) (sends_on wrote c d (lines_written so.transcript) unsent [] so.sent more);
+  }
+
+  from_end : (hall : HallValue S) (st after : State) (next : Next) (a left c d : Option (List ℕ)) (held : List ℕ) (unsent unsent' : List (List ℕ))
+      → hall.lab ≡ lab → st ≡ hall.state → ServesNext next hall.lab hall.state after a held left unsent unsent' c d → ServesNext next lab st after a held left unsent unsent' c d
+  from_end hall st after next a left c d held unsent unsent' same stands serves =
+      subst (λ (t : State). ServesNext next lab t after a held left unsent unsent' c d) (sym stands)
+      (subst (λ (t : LabValue). ServesNext next t hall.state after a held left unsent unsent' c d) same serves)
 
   -- the sink after a line more
   journals_on : (hall hall' : HallValue S) → hall.lab ≡ lab → hall'.lab ≡ hall.lab → Left hall.sink hall.state
@@ -125,35 +150,33 @@ module _ {S : Type 0} (contents : S → Option (List ℕ)) (failures : S → ℕ
     halts_on hall.state.halted hall'.state.halted (failures first) (failures hall.sink) (failures hall'.sink) journals.1 halts,
   )
 
-  pub one_more : (hall hall' : HallValue S) (count : ℕ) (input a left wrote c d : Option (List ℕ)) (held : List ℕ)
-      → AnsweredSoFar hall count input a wrote c → hall'.lab ≡ hall.lab
+  pub one_more : (hall hall' : HallValue S) (count : ℕ) (input a left wrote c d : Option (List ℕ)) (held : List ℕ) (unsent unsent' : List (List ℕ))
+      → AnsweredSoFar hall count input a unsent wrote c → hall'.lab ≡ hall.lab
       → TellsJournal hall'.lab hall'.state (contents hall'.sink) → Halts hall.state.halted hall'.state.halted (failures hall.sink) (failures hall'.sink)
-      → ServesNext next.Answered hall.lab hall.state hall'.state a held left c d
-      → AnsweredSoFar hall' (count + 1) input (prepend_known held left) wrote d
-  one_more hall hall' count input a left wrote c d held so same tells halts serves =
-      let t = so.answered.transcript in
-      let one = from_end hall t.end hall'.state next.Answered a left c d held so.same_lab so.stands serves in
+      → ServesNext next.Answered hall.lab hall.state hall'.state a held left unsent unsent' c d
+      → AnsweredSoFar hall' (count + 1) input (prepend_known held left) unsent' wrote d
+  one_more hall hall' count input a left wrote c d held unsent unsent' so same tells halts serves =
+      let t = so.transcript in
+      let one = from_end hall t.end hall'.state next.Answered a left c d held unsent unsent' so.same_lab so.stands serves in
       record {
-        answered = record {
-          transcript = longer lab t hall'.state one.0;
-          consumed = rw (read_longer lab t hall'.state one.0) (Consumes-trans input a (prepend_known held left) (bytes_read t) (line_read one.0) so.answered.consumed one.1);
-          appended = rw (written_longer lab t hall'.state one.0) (Appends-trans wrote c d (bytes_written t) (line_written one.0) so.answered.appended one.2);
-        };
+        transcript = longer lab t hall'.state one.0;
+        consumed = rw (read_longer lab t hall'.state one.0) (Consumes-trans input a (prepend_known held left) (bytes_read t) (line_read one.0) so.consumed one.1);
+        sent = rw (written_longer lab t hall'.state one.0) (sends_more wrote c d (lines_written t) unsent (line_written one.0 ∷ []) unsent' so.sent one.2);
         same_lab = same ∙ so.same_lab;
         stands = end_longer lab t hall'.state one.0;
         counted = count_longer lab t hall'.state one.0 ∙ ap (λ n. n + 1) so.counted;
         journals = journals_on hall hall' so.same_lab same so.journals tells halts;
       }
 
-  pub finished_so : (hall hall' : HallValue S) (count : ℕ) (input a left wrote c d : Option (List ℕ)) (held : List ℕ)
-      → AnsweredSoFar hall count input a wrote c → hall'.lab ≡ hall.lab
+  pub finished_so : (hall hall' : HallValue S) (count : ℕ) (input a left wrote c d : Option (List ℕ)) (held : List ℕ) (unsent unsent' : List (List ℕ))
+      → AnsweredSoFar hall count input a unsent wrote c → hall'.lab ≡ hall.lab
       → TellsJournal hall'.lab hall'.state (contents hall'.sink) → Halts hall.state.halted hall'.state.halted (failures hall.sink) (failures hall'.sink)
-      → ServesNext next.End hall.lab hall.state hall'.state a held left c d
+      → ServesNext next.End hall.lab hall.state hall'.state a held left unsent unsent' c d
       → Finished Left hall' lab input left wrote d
-  finished_so hall hall' count input a left wrote c d held so same tells halts serves =
-      let stands : hall'.state ≡ so.answered.transcript.end = serves.0 ∙ sym so.stands in (
+  finished_so hall hall' count input a left wrote c d held unsent unsent' so same tells halts serves =
+      let stands : hall'.state ≡ so.transcript.end = serves.0 ∙ sym so.stands in (
         held,
-        still lab input a (prepend_known held left) wrote c d so.answered serves.1 serves.4,
+        still hall count input a (prepend_known held left) wrote c d unsent so serves.1 serves.4,
         same ∙ so.same_lab,
         stands,
         subst (Left hall'.sink) stands (journals_on hall hall' so.same_lab same so.journals tells halts),
@@ -162,45 +185,74 @@ module _ {S : Type 0} (contents : S → Option (List ℕ)) (failures : S → ℕ
       )
 
   -- the sink as it stood at the last line that was answered
-  left_so : (hall : HallValue S) (count : ℕ) (input a wrote c : Option (List ℕ)) (so : AnsweredSoFar hall count input a wrote c)
-      → (sink : S) × Left sink so.answered.transcript.end
-  left_so hall count input a wrote c so = (hall.sink, subst (Left hall.sink) (sym so.stands) so.journals)
+  left_so : (hall : HallValue S) (count : ℕ) (input a wrote c : Option (List ℕ)) (unsent : List (List ℕ)) (so : AnsweredSoFar hall count input a unsent wrote c)
+      → (sink : S) × Left sink so.transcript.end
+  left_so hall count input a wrote c unsent so = (hall.sink, subst (Left hall.sink) (sym so.stands) so.journals)
 
-  pub bad_so : (hall : HallValue S) (count : ℕ) (input a left wrote c d : Option (List ℕ)) (held : List ℕ) (after : State)
-      → AnsweredSoFar hall count input a wrote c → ServesNext next.BadLine hall.lab hall.state after a held left c d
-      → Stopped Left (fault.BadLine (count + 1)) lab input left wrote d
-  bad_so hall count input a left wrote c d held after so serves = (
+  pub bad_so : (hall : HallValue S) (count : ℕ) (input a left wrote c d e : Option (List ℕ)) (held : List ℕ) (after : State) (unsent unsent' : List (List ℕ))
+      → AnsweredSoFar hall count input a unsent wrote c → ServesNext next.BadLine hall.lab hall.state after a held left unsent unsent' c d → Sends d e unsent' []
+      → Stopped Left (fault.BadLine (count + 1)) lab input left wrote e
+  bad_so hall count input a left wrote c d e held after unsent unsent' so serves flushed = (
     serves.0,
-    still lab input a (prepend_known serves.0 left) wrote c d so.answered serves.1 serves.3,
-    left_so hall count input a wrote c so,
+    still hall count input a (prepend_known serves.0 left) wrote c e unsent so serves.1 (sends_on c d e unsent unsent' [] serves.3 flushed),
+    left_so hall count input a wrote c unsent so,
     ap (λ n. n + 1) (sym so.counted),
     subst (λ (t : LabValue). IsBad t.sessions serves.0) so.same_lab serves.2,
   )
 
-  pub unread_so : (hall : HallValue S) (count : ℕ) (input a left wrote c d : Option (List ℕ)) (held : List ℕ) (after : State)
-      → AnsweredSoFar hall count input a wrote c → ServesNext next.ReadFault hall.lab hall.state after a held left c d
+  pub unread_so : (hall : HallValue S) (count : ℕ) (input a left wrote c d : Option (List ℕ)) (held : List ℕ) (after : State) (unsent unsent' : List (List ℕ))
+      → AnsweredSoFar hall count input a unsent wrote c → ServesNext next.ReadFault hall.lab hall.state after a held left unsent unsent' c d
       → Stopped Left fault.Read lab input left wrote d
-  unread_so hall count input a left wrote c d held after so serves =
-      (held, still lab input a (prepend_known held left) wrote c d so.answered serves.0 serves.2, left_so hall count input a wrote c so, serves.1)
+  unread_so hall count input a left wrote c d held after unsent unsent' so serves =
+      (held, still hall count input a (prepend_known held left) wrote c d unsent so serves.0 serves.2, left_so hall count input a wrote c unsent so, serves.1)
 
-  pub unwritten_so : (hall hall' : HallValue S) (count n : ℕ) (input a left wrote c d : Option (List ℕ)) (held : List ℕ)
-      → AnsweredSoFar hall count input a wrote c → hall'.lab ≡ hall.lab
+  -- the output line of the next line is not wholly out, or one before it
+  pub unwritten_so : (hall hall' : HallValue S) (count : ℕ) (f : WriteFault) (input a left wrote c d : Option (List ℕ)) (held : List ℕ) (unsent unsent' : List (List ℕ))
+      → AnsweredSoFar hall count input a unsent wrote c → hall'.lab ≡ hall.lab
       → TellsJournal hall'.lab hall'.state (contents hall'.sink) → Halts hall.state.halted hall'.state.halted (failures hall.sink) (failures hall'.sink)
-      → ServesNext (next.WriteFault n) hall.lab hall.state hall'.state a held left c d
-      → Stopped Left (fault.Write n) lab input left wrote d
-  unwritten_so hall hall' count n input a left wrote c d held so same tells halts serves =
-      let t = so.answered.transcript in
+      → ServesNext (next.WriteFault f) hall.lab hall.state hall'.state a held left unsent unsent' c d
+      → Stopped Left (fault.Write f.written) lab input left wrote d
+  unwritten_so hall hall' count f input a left wrote c d held unsent unsent' so same tells halts serves =
+      let t = so.transcript in
       let after = hall'.state in
-      let one = from_end hall t.end after (next.WriteFault n) a left c d held so.same_lab so.stands serves in (
+      let one = from_end hall t.end after (next.WriteFault f) a left c d held unsent unsent' so.same_lab so.stands serves in (
         held,
         record {
-          transcript = t;
-          after = after;
-          last = one.0;
-          short = one.3;
-          consumed = Consumes-trans input a (prepend_known held left) (bytes_read t) (line_read one.0) so.answered.consumed one.1;
-          appended = Appends-trans wrote c d (bytes_written t) (take n (line_written one.0)) so.answered.appended one.4;
+          transcript = longer lab t after one.0;
+          consumed = rw (read_longer lab t after one.0) (Consumes-trans input a (prepend_known held left) (bytes_read t) (line_read one.0) so.consumed one.1);
+          cut = rw (written_longer lab t after one.0) (breaks_more f wrote c d (lines_written t) unsent (line_written one.0 ∷ []) so.sent one.3);
         },
-        (hall'.sink, journals_on hall hall' so.same_lab same so.journals tells halts),
-        one.2,
+        (hall'.sink, rw (end_longer lab t after one.0) (journals_on hall hall' so.same_lab same so.journals tells halts)),
+        inl one.2,
       )
+
+  -- a flush before a read failed
+  pub unflushed_so : (hall : HallValue S) (count : ℕ) (f : WriteFault) (input left wrote c d : Option (List ℕ)) (held : List ℕ) (unsent : List (List ℕ))
+      → AnsweredSoFar hall count input (prepend_known held left) unsent wrote c → length held < READ_SIZE → BreaksOff f c d unsent
+      → Stopped Left (fault.Write f.written) lab input left wrote d
+  unflushed_so hall count f input left wrote c d held unsent so few breaks = (
+    held,
+    record { transcript = so.transcript; consumed = so.consumed; cut = breaks_on f wrote c d (lines_written so.transcript) unsent so.sent breaks },
+    left_so hall count input (prepend_known held left) wrote c unsent so,
+    inl few,
+  )
+
+  -- a flush before a bad line was told failed
+  pub bad_unflushed_so : (hall : HallValue S) (count : ℕ) (f : WriteFault) (input a left wrote c d e : Option (List ℕ)) (held : List ℕ) (after : State) (unsent unsent' : List (List ℕ))
+      → AnsweredSoFar hall count input a unsent wrote c → ServesNext next.BadLine hall.lab hall.state after a held left unsent unsent' c d → BreaksOff f d e unsent'
+      → Stopped Left (fault.Write f.written) lab input left wrote e
+  bad_unflushed_so hall count f input a left wrote c d e held after unsent unsent' so serves breaks = (
+    serves.0,
+    record {
+      transcript = so.transcript;
+      consumed = nothing_taken lab so.transcript input a (prepend_known serves.0 left) so.consumed serves.1;
+      cut = breaks_on f wrote d e (lines_written so.transcript) unsent' (sends_on wrote c d (lines_written so.transcript) unsent unsent' so.sent serves.3) breaks;
+    },
+    left_so hall count input a wrote c unsent so,
+    inr (subst (λ (t : LabValue). IsBad t.sessions serves.0) so.same_lab serves.2),
+  )
+
+-- a fault that a failed write is turned into
+pub write_told : {A : Type 0} (r : Result A ScriptFault) (P : ScriptFault → Type 0) (n : ℕ) → IsErrAnd r (λ e. e ≡ fault.Write n) → P (fault.Write n) → IfErr r P
+write_told (Ok x) P n h p = tt
+write_told (Err e) P n h p = subst P (sym h) p

@@ -1,8 +1,9 @@
 -- What `run_script` tells of the input, of what is left of it and of what was written.
-use Rattle.std.specs.Prelude.{◌≡◌, ℕ, ◌+◌, ◌<◌, List, [], ◌++◌, length, take, Option}
+use Rattle.std.specs.Prelude.{◌≡◌, ◌⊎◌, ℕ, ◌+◌, ◌<◌, List, [], length, Option}
 use Rattle.std.specs.Io.KnownBytes.{Appends, Consumes, IsAtEnd, prepend_known}
 use Rattle.mml_lab.specs.Labs.{LabValue}
 use Rattle.mml_lines.specs.LinesOf.{IsWithinLimit, ended}
+use Rattle.mml_lines.specs.Sending.{BreaksOff}
 use Rattle.mml_lines.specs.declared.lines.TheConstants.{READ_SIZE}
 use Rattle.mml_codec.specs.declared.reply.Reply.{Reply}
 use Rattle.mml_hall.specs.declared.TheConstants.{MAX_SCRIPT_LINE}
@@ -11,7 +12,7 @@ use Rattle.mml_hall.specs.declared.script.ScriptFault.TheVariants as fault
 use Rattle.mml_hall.specs.Halls.{HallValue}
 use Rattle.mml_hall.specs.Turns.{State, RequestLine, Turn}
 use Rattle.mml_hall.specs.ScriptLines.{IsScriptLine, IsBad, script_line}
-use Rattle.mml_hall.specs.Transcripts.{Transcript, output_line, bytes_read, bytes_written}
+use Rattle.mml_hall.specs.Transcripts.{Transcript, output_line, bytes_read, lines_written, bytes_written}
 
 -- the turn of one script line
 pub record LineTurn (lab : LabValue) (st after : State) : Type 0 where
@@ -32,14 +33,12 @@ pub record AllAnswered (lab : LabValue) (input left wrote wrote' : Option (List 
   pub consumed : Consumes input left (bytes_read transcript)
   pub appended : Appends wrote wrote' (bytes_written transcript)
 
--- and one line more, of whose output line that many bytes are out
-pub record LastCutShort (written : ℕ) (lab : LabValue) (input left wrote wrote' : Option (List ℕ)) : Type 0 where
+-- the first lines of the input, those of a transcript, were answered, and of the bytes of their replies the first are out: so
+-- many of the first line that isn't wholly out
+pub record CutShort (written : ℕ) (lab : LabValue) (input left wrote wrote' : Option (List ℕ)) : Type 0 where
   pub transcript : Transcript lab
-  pub after : State
-  pub last : LineTurn lab transcript.end after
-  pub short : written < length (line_written last)
-  pub consumed : Consumes input left (bytes_read transcript ++ line_read last)
-  pub appended : Appends wrote wrote' (bytes_written transcript ++ take written (line_written last))
+  pub consumed : Consumes input left (bytes_read transcript)
+  pub cut : BreaksOff (record { written = written }) wrote wrote' (lines_written transcript)
 
 -- all lines of the input were answered, the hall is where they lead, its sink is left so, and after the lines came the
 -- front of a script line
@@ -50,13 +49,14 @@ Finished Leaves hall lab input left wrote wrote' =
 
 -- what was answered when a fault came, and how the sink was left that is gone with the hall. What comes after it of the input
 -- is what was held, and then what the reader has left: after a failed read the front of a script line, after a failed write no
--- more than one read brought in
+-- more than one read brought in, or what is no script line
 abbrev pub Stopped : {S : Type 0} → (S → State → Type 0) → ScriptFault → LabValue → Option (List ℕ) → Option (List ℕ) → Option (List ℕ) → Option (List ℕ) → Type 0
 Stopped {S} Leaves fault.Read lab input left wrote wrote' =
     (held : List ℕ) × (a : AllAnswered lab input (prepend_known held left) wrote wrote') × ((sink : S) × Leaves sink a.transcript.end)
     × IsWithinLimit MAX_SCRIPT_LINE held
 Stopped {S} Leaves (fault.Write n) lab input left wrote wrote' =
-    (held : List ℕ) × (a : LastCutShort n lab input (prepend_known held left) wrote wrote') × ((sink : S) × Leaves sink a.after) × (length held < READ_SIZE)
+    (held : List ℕ) × (a : CutShort n lab input (prepend_known held left) wrote wrote') × ((sink : S) × Leaves sink a.transcript.end)
+    × ((length held < READ_SIZE) ⊎ IsBad lab.sessions held)
 Stopped {S} Leaves (fault.BadLine k) lab input left wrote wrote' =
     (held : List ℕ) × (a : AllAnswered lab input (prepend_known held left) wrote wrote') × ((sink : S) × Leaves sink a.transcript.end)
     × (k ≡ length a.transcript.lines + 1) × IsBad lab.sessions held

@@ -1,8 +1,9 @@
 -- What comes of the next line of a script.
-use Rattle.std.specs.Prelude.{◌≡◌, ◌⊎◌, false, ℕ, ◌+◌, ◌-◌, ◌*◌, ◌<◌, List, [], length, take, Option, Result, Ok, Err, ⊤}
-use Rattle.std.specs.Io.KnownBytes.{Appends, Consumes, IsAtEnd, prepend_known}
+use Rattle.std.specs.Prelude.{◌≡◌, ◌⊎◌, false, ℕ, ◌+◌, ◌-◌, ◌*◌, ◌<◌, List, [], ◌∷◌, ◌++◌, length, Option, Result, Ok, Err, ⊤}
+use Rattle.std.specs.Io.KnownBytes.{Consumes, IsAtEnd, prepend_known}
 use Rattle.mml_lab.specs.Labs.{LabValue}
 use Rattle.mml_lines.specs.LinesOf.{IsWithinLimit}
+use Rattle.mml_lines.specs.Sending.{BreaksOff, Sends}
 use Rattle.mml_lines.specs.LinesState.{LinesState}
 use Rattle.mml_lines.specs.declared.lines.TheConstants.{MAX_READS, READ_SIZE}
 use Rattle.mml_lines.specs.declared.writing.WriteFault.{WriteFault}
@@ -21,26 +22,27 @@ use Rattle.mml_hall.specs.Scripts.{LineTurn, line_read, line_written}
 abbrev pub TellsFor : Reply → Reply → Type 0
 TellsFor reply told = (told ≡ reply) ⊎ ((is_short reply ≡ false) × (told ≡ Refuse refused.Memory))
 
--- the line had its turn; its output line is written, or the front of it
-abbrev pub ServesLine : Result ⊤ WriteFault → LabValue → State → State → RequestLine → Option (List ℕ) → Option (List ℕ) → Type 0
-ServesLine (Ok done) lab st after line wrote wrote' =
-    (t : LineTurn lab st after) × (t.line ≡ line) × Appends wrote wrote' (line_written t)
-ServesLine (Err fault) lab st after line wrote wrote' =
-    (t : LineTurn lab st after) × (t.line ≡ line) × (fault.written < length (line_written t)) × Appends wrote wrote' (take fault.written (line_written t))
+-- the line had its turn; its output line comes after those that aren't written, of which the first are out
+abbrev pub ServesLine : Result ⊤ WriteFault → LabValue → State → State → RequestLine → List (List ℕ) → List (List ℕ) → Option (List ℕ) → Option (List ℕ) → Type 0
+ServesLine (Ok done) lab st after line unsent unsent' wrote wrote' =
+    (t : LineTurn lab st after) × (t.line ≡ line) × Sends wrote wrote' (unsent ++ line_written t ∷ []) unsent'
+ServesLine (Err fault) lab st after line unsent unsent' wrote wrote' =
+    (t : LineTurn lab st after) × (t.line ≡ line) × BreaksOff fault wrote wrote' (unsent ++ line_written t ∷ [])
 
--- what came of the next line says of the states, of the bytes to come, of which those held are first, and of the bytes written
-abbrev pub ServesNext : Next → LabValue → State → State → Option (List ℕ) → List ℕ → Option (List ℕ) → Option (List ℕ) → Option (List ℕ) → Type 0
-ServesNext next.Answered lab st after input held left wrote wrote' =
-    (t : LineTurn lab st after) × Consumes input (prepend_known held left) (line_read t) × Appends wrote wrote' (line_written t)
-ServesNext next.End lab st after input held left wrote wrote' =
-    (after ≡ st) × Consumes input (prepend_known held left) [] × IsWithinLimit MAX_SCRIPT_LINE held × IsAtEnd left × Appends wrote wrote' []
-ServesNext next.BadLine lab st after input held left wrote wrote' =
-    (bad : List ℕ) × Consumes input (prepend_known bad left) [] × IsBad lab.sessions bad × Appends wrote wrote' []
-ServesNext next.ReadFault lab st after input held left wrote wrote' =
-    Consumes input (prepend_known held left) [] × IsWithinLimit MAX_SCRIPT_LINE held × Appends wrote wrote' []
-ServesNext (next.WriteFault n) lab st after input held left wrote wrote' =
+-- what came of the next line says of the states, of the bytes to come, of which those held are first, of the lines that aren't
+-- written and of the bytes that are
+abbrev pub ServesNext : Next → LabValue → State → State → Option (List ℕ) → List ℕ → Option (List ℕ) → List (List ℕ) → List (List ℕ) → Option (List ℕ) → Option (List ℕ) → Type 0
+ServesNext next.Answered lab st after input held left unsent unsent' wrote wrote' =
+    (t : LineTurn lab st after) × Consumes input (prepend_known held left) (line_read t) × Sends wrote wrote' (unsent ++ line_written t ∷ []) unsent'
+ServesNext next.End lab st after input held left unsent unsent' wrote wrote' =
+    (after ≡ st) × Consumes input (prepend_known held left) [] × IsWithinLimit MAX_SCRIPT_LINE held × IsAtEnd left × Sends wrote wrote' unsent []
+ServesNext next.BadLine lab st after input held left unsent unsent' wrote wrote' =
+    (bad : List ℕ) × Consumes input (prepend_known bad left) [] × IsBad lab.sessions bad × Sends wrote wrote' unsent unsent'
+ServesNext next.ReadFault lab st after input held left unsent unsent' wrote wrote' =
+    Consumes input (prepend_known held left) [] × IsWithinLimit MAX_SCRIPT_LINE held × Sends wrote wrote' unsent []
+ServesNext (next.WriteFault fault) lab st after input held left unsent unsent' wrote wrote' =
     (t : LineTurn lab st after) × Consumes input (prepend_known held left) (line_read t) × (length held < READ_SIZE)
-    × (n < length (line_written t)) × Appends wrote wrote' (take n (line_written t))
+    × BreaksOff fault wrote wrote' (unsent ++ line_written t ∷ [])
 
 -- the most bytes that may still come, by the reads that are left
 abbrev pub bytes_ahead : LinesState → ℕ

@@ -1,6 +1,6 @@
 -- A run over the lines of a script, as bytes that come in and bytes that go out.
 use Rattle.std.specs.Prelude.{ℕ, List, [], ◌∷◌, ◌++◌, map, flat_map, decimal}
-use Rattle.std.specs.List.{AllByRecursion}
+use Rattle.std.specs.List.{AllByRecursion, concat}
 use Rattle.mml_lab.specs.Labs.{LabValue}
 use Rattle.mml_lines.specs.LinesOf.{ended}
 use Rattle.mml_codec.specs.declared.reply.Reply.{Reply}
@@ -12,11 +12,11 @@ use Rattle.mml_hall.specs.ScriptLines.{IsScriptLine, script_line}
 abbrev pub output_line : LabValue → ℕ → Reply → List ℕ
 output_line lab connection r = decimal connection ++ 32 ∷ reply_line lab.ids lab.roster r
 
--- the lines that are written in answer, one after another
-abbrev pub output_lines : LabValue → List RequestLine → List Reply → List ℕ
+-- the lines that are written in answer, in order
+abbrev pub output_lines : LabValue → List RequestLine → List Reply → List (List ℕ)
 output_lines lab [] rs = []
 output_lines lab (s ∷ ss) [] = []
-output_lines lab (s ∷ ss) (r ∷ rs) = output_line lab s.connection r ++ output_lines lab ss rs
+output_lines lab (s ∷ ss) (r ∷ rs) = output_line lab s.connection r ∷ output_lines lab ss rs
 
 -- script lines, the reply to each, and the state that they lead to
 pub record Transcript (lab : LabValue) : Type 0 where
@@ -30,6 +30,10 @@ pub record Transcript (lab : LabValue) : Type 0 where
 abbrev pub bytes_read : {lab : LabValue} → Transcript lab → List ℕ
 bytes_read t = flat_map ended (map script_line t.lines)
 
--- the bytes of the lines written in answer
+-- the lines written in answer
+abbrev pub lines_written : {lab : LabValue} → Transcript lab → List (List ℕ)
+lines_written {lab} t = output_lines lab t.lines t.replies
+
+-- their bytes
 abbrev pub bytes_written : {lab : LabValue} → Transcript lab → List ℕ
-bytes_written {lab} t = output_lines lab t.lines t.replies
+bytes_written t = concat (lines_written t)

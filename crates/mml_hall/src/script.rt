@@ -1,11 +1,13 @@
-ghost use Rattle.std.specs.Prelude.{◌≡◌, ℕ, ◌+◌, ◌-◌, ◌^◌, ◌<◌, ◌≤◌, length, take, None, OnOk, IfOk, IfErr, vec_capacity};
-ghost use Rattle.std.specs.Io.KnownBytes.{Appends, prepend_known};
+ghost use Rattle.std.specs.Prelude.{◌≡◌, ◌+◌, ◌-◌, ◌^◌, ◌<◌, ◌≤◌, ◌++◌, ◌∷◌, [], length, decimal, None, OnOk, IfOk, IfErr, vec_capacity};
+ghost use Rattle.std.specs.Io.KnownBytes.{prepend_known};
+ghost use Rattle.mml_lines.specs.declared.lines.TheConstants.{READ_SIZE};
+ghost use Rattle.mml_lines.specs.LinesOf.{IsWithinLimit};
+ghost use Rattle.mml_lines.specs.Sending.{BreaksOff, Sends};
 ghost use Rattle.mml_codec.specs.Replies.{IsAbout, reply_line};
 ghost use Rattle.mml_hall.specs.Turns.{Halts};
 ghost use Rattle.mml_journal.specs.Taken.{IsFresh};
 ghost use Rattle.mml_hall.specs.Journals.{TellsJournal, Journals};
 ghost use Rattle.mml_hall.specs.ScriptLines.{IsScriptLine, line_of};
-ghost use Rattle.mml_hall.specs.Transcripts.{output_line};
 ghost use Rattle.mml_hall.specs.Scripts.{Finished, Stopped};
 ghost use Rattle.mml_hall.specs.Serving.{ServesLine, ServesNext, TellsFor, bytes_ahead};
 
@@ -13,10 +15,10 @@ use crate::MAX_SCRIPT_LINE;
 use crate::hall::Hall;
 use crate::script_line::{ScriptLine, read_script_line};
 use mml_codec::{REPLY_ROOM, Refused, Reply, write_reply};
-use mml_ids::{Memory, Piece, put};
+use mml_ids::Memory;
 use mml_journal::Sink;
 use mml_lab::Lab;
-use mml_lines::{Lines, Step, WriteFault, put_all};
+use mml_lines::{Lines, Outgoing, Step, WriteFault};
 use std::alloc::{AllocError, Global};
 use std::io::{Read, Write};
 
@@ -25,7 +27,8 @@ use std::io::{Read, Write};
 pub enum ScriptFault {
     /// A read failed, or one more was needed after the most that there may be.
     Read,
-    /// A write failed, or took nothing, after that many bytes of the line at hand.
+    /// A write failed, or took nothing, after that many bytes of the first line that isn't wholly out.
+    /// A flush that failed after all lines is told as 0.
     Write { written: usize },
     /// The line with this number, from 1, is no script line.
     BadLine(u64),
@@ -55,9 +58,22 @@ impl From<Memory> for ScriptFault {
     }
 }
 
-/// Answers the lines of a script one by one, each reply written before the next line is judged. The
-/// lines of the granted events go to the sink, which is let go with the hall where a fault ends the
-/// script.
+impl From<WriteFault> for ScriptFault {
+    ghost use Rattle.std.specs.Prelude.{◌≡◌};
+    ghost use Rattle.mml_hall.specs.declared.script.ScriptFault.TheVariants as fault;
+
+    ghost from_gives = { λ f e. e ≡ fault.Write f.written };
+
+    fn from(fault: WriteFault) -> ScriptFault {
+        ScriptFault::Write {
+            written: fault.written,
+        }
+    }
+}
+
+/// Answers the lines of a script one by one. Replies go out together, so that one write takes many: the
+/// writer is flushed where the next line needs a read, and before a bad line is told. The lines of the
+/// granted events go to the sink, which is let go with the hall where a fault ends the script.
 pub fn run_script<R: Read, W: Write, S: Sink + Drop>(
     alloc: Global,
     lab: Lab,
@@ -78,17 +94,42 @@ pub fn run_script<R: Read, W: Write, S: Sink + Drop>(
 {
     let mut lines = Lines::new(alloc, MAX_SCRIPT_LINE)?;
     let mut out = Vec::with_capacity(alloc, REPLY_ROOM)?;
+    let mut outgoing = Outgoing::new(alloc)?;
     let mut hall = Hall::new(alloc, lab, sink)?;
     let mut answered: u64 = 0;
     loop {
-        match serve_next(alloc, &mut hall, &mut lines, &mut out, reader, writer) {
+        flush_before_read(&lines, &mut outgoing, writer)?;
+        match serve_next(
+            alloc,
+            &mut hall,
+            &mut lines,
+            &mut out,
+            &mut outgoing,
+            reader,
+            writer,
+        ) {
             Next::Answered => answered += 1,
             Next::End => return Ok(hall),
-            Next::BadLine => return Err(ScriptFault::BadLine(answered + 1)),
+            Next::BadLine => {
+                outgoing.flush(writer)?;
+                return Err(bad_line_after(answered));
+            }
             Next::ReadFault => return Err(ScriptFault::Read),
-            Next::WriteFault(written) => return Err(ScriptFault::Write { written }),
+            Next::WriteFault(fault) => {
+                return Err(ScriptFault::Write {
+                    written: fault.written,
+                });
+            }
         }
     }
+}
+
+// Lines count from 1.
+fn bad_line_after(answered: u64) -> ScriptFault
+    requires { answered < 2 ^ 64 - 1 }
+    ensures { result ≡ ScriptFault.BadLine (answered + 1) }
+{
+    ScriptFault::BadLine(answered + 1)
 }
 
 // What came of the next line.
@@ -98,23 +139,49 @@ enum Next {
     End,
     BadLine,
     ReadFault,
-    WriteFault(usize),
+    WriteFault(WriteFault),
 }
 
-// Reads the next line, answers it and writes the reply.
+// Lets all go out where the next line needs a read, and else nothing.
+fn flush_before_read<W: Write>(
+    lines: &Lines,
+    outgoing: &mut Outgoing,
+    writer: &mut W,
+) -> Result<(), WriteFault>
+    requires going { lines.now.ending ≡ None }
+    ensures written { OnOk result
+        (IsWithinLimit lines.now.limit lines.now.unread → outgoing.new ≡ []) }
+    ensures unneeded { ¬ (IsWithinLimit lines.now.limit lines.now.unread)
+        → (outgoing.new ≡ outgoing.old) × (writer.new ≡ writer.old) }
+    ensures ok { OnOk result (Sends (W.contents writer.old) (W.contents writer.new)
+        outgoing.old outgoing.new) }
+    ensures err { IfErr result (λ fault. BreaksOff fault
+        (W.contents writer.old) (W.contents writer.new) outgoing.old) }
+{
+    if lines.needs_read() {
+        outgoing.flush(writer)?;
+    }
+    Ok(())
+}
+
+// Gets the next line, which it reads only where nothing is unwritten, and answers it.
 fn serve_next<R: Read, W: Write, S: Sink>(
     alloc: Global,
     hall: &mut Hall<S>,
     lines: &mut Lines,
     out: &mut Vec<u8>,
+    outgoing: &mut Outgoing,
     reader: &mut R,
     writer: &mut W,
 ) -> Next
     requires going { lines.old.ending ≡ None }
     requires limit { lines.old.limit ≡ MAX_SCRIPT_LINE }
     requires room { REPLY_ROOM ≤ vec_capacity out.old }
+    // Nothing is unwritten at a read.
+    requires written { IsWithinLimit lines.old.limit lines.old.unread → outgoing.old ≡ [] }
     ensures going { result ≡ Next.Answered → lines.new.ending ≡ None }
     ensures limit { lines.new.limit ≡ MAX_SCRIPT_LINE }
+    ensures few { result ≡ Next.Answered → length lines.new.unread < READ_SIZE }
     ensures room { REPLY_ROOM ≤ vec_capacity out.new }
     ensures lab { hall.new.lab ≡ hall.old.lab }
     ensures halts { Halts hall.old.state.halted hall.new.state.halted
@@ -124,15 +191,15 @@ fn serve_next<R: Read, W: Write, S: Sink>(
     ensures progress { result ≡ Next.Answered → bytes_ahead lines.new < bytes_ahead lines.old }
     ensures serves { ServesNext result hall.old.lab hall.old.state hall.new.state
         (prepend_known lines.old.unread (R.remaining reader.old))
-        lines.new.unread (R.remaining reader.new)
+        lines.new.unread (R.remaining reader.new) outgoing.old outgoing.new
         (W.contents writer.old) (W.contents writer.new) }
 {
     let sessions = hall.lab().sessions();
     match lines.next(reader) {
         Step::Line => match read_script_line(lines.bytes(), sessions) {
-            Some(line) => match serve(alloc, hall, line, out, writer) {
+            Some(line) => match serve(alloc, hall, line, out, outgoing, writer) {
                 Ok(()) => Next::Answered,
-                Err(fault) => Next::WriteFault(fault.written),
+                Err(fault) => Next::WriteFault(fault),
             },
             None => Next::BadLine,
         },
@@ -142,15 +209,17 @@ fn serve_next<R: Read, W: Write, S: Sink>(
     }
 }
 
-// Answers a script line and writes the reply.
+// Answers a script line and lets the reply go out.
 fn serve<W: Write, S: Sink>(
     alloc: Global,
     hall: &mut Hall<S>,
     line: ScriptLine<'_>,
     out: &mut Vec<u8>,
+    outgoing: &mut Outgoing,
     writer: &mut W,
 ) -> Result<(), WriteFault>
     requires script { IsScriptLine hall.old.lab.sessions (line_of line) }
+    requires front { line.front.now ≡ decimal line.connection ++ 32 ∷ [] }
     requires room { REPLY_ROOM ≤ vec_capacity out.old }
     ensures room { REPLY_ROOM ≤ vec_capacity out.new }
     ensures lab { hall.new.lab ≡ hall.old.lab }
@@ -158,65 +227,12 @@ fn serve<W: Write, S: Sink>(
         (S.failures hall.old.sink) (S.failures hall.new.sink) }
     ensures journal { TellsJournal hall.new.lab hall.new.state (S.contents hall.new.sink) }
     ensures serves { ServesLine result hall.old.lab hall.old.state hall.new.state
-        (line_of line.entry) (W.contents writer.old) (W.contents writer.new) }
+        (line_of line.entry) outgoing.old outgoing.new
+        (W.contents writer.old) (W.contents writer.new) }
 {
     let reply = hall.answer(alloc, line.connection, line.request);
-    let (_told, written) = put_answer(alloc, hall.lab(), line.connection, reply, out, writer);
-    written
-}
-
-// Writes a connection, one space and the line of a reply, and tells which reply that is.
-fn put_answer<W: Write>(
-    alloc: Global,
-    lab: &Lab,
-    connection: u8,
-    reply: Reply,
-    out: &mut Vec<u8>,
-    writer: &mut W,
-) -> (Reply, Result<(), WriteFault>)
-    requires room { REPLY_ROOM ≤ vec_capacity out.old }
-    requires about { IsAbout lab.now.ids lab.now.roster reply }
-    ensures told { TellsFor reply result.0 }
-    ensures room { REPLY_ROOM ≤ vec_capacity out.new }
-    ensures ok { OnOk result.1 (Appends (W.contents writer.old) (W.contents writer.new)
-        (output_line lab.now connection result.0)) }
-    ensures partial { IfErr result.1 (λ fault.
-        fault.written < length (output_line lab.now connection result.0)) }
-    ensures err { IfErr result.1 (λ fault. Appends (W.contents writer.old)
-        (W.contents writer.new)
-        (take fault.written (output_line lab.now connection result.0))) }
-{
-    out.clear();
-    put(
-        out,
-        &[Piece::Number(u64::from(connection)), Piece::Text(" ")],
-    )
-    .unwrap();
-    match put_all(writer, out) {
-        Ok(()) => {
-            let front = out.len();
-            let told = put_reply(alloc, lab, reply, out);
-            (told, put_rest(writer, out, front))
-        }
-        Err(fault) => (reply, Err(fault)),
-    }
-}
-
-// Writes what comes after a front of that many bytes, which a fault counts too.
-fn put_rest<W: Write>(writer: &mut W, bytes: &[u8], front: usize) -> Result<(), WriteFault>
-    requires { front ≤ REPLY_ROOM }
-    ensures ok { OnOk result (Appends (W.contents writer.old) (W.contents writer.new) bytes.now) }
-    ensures partial { IfErr result (λ fault. fault.written < front + length bytes.now) }
-    ensures err { IfErr result (λ fault. (taken : ℕ) × (fault.written ≡ front + taken)
-        × Appends (W.contents writer.old) (W.contents writer.new) (take taken bytes.now)) }
-{
-    match put_all(writer, bytes) {
-        Ok(()) => Ok(()),
-        Err(fault) => {
-            let written = front + fault.written;
-            Err(WriteFault { written })
-        }
-    }
+    let _told = put_reply(alloc, hall.lab(), reply, out);
+    outgoing.put(line.front, out, writer)
 }
 
 // Puts the line of a reply, or that of want of memory, and gives the reply whose line it is.

@@ -1,4 +1,4 @@
-ghost use Rattle.std.specs.Prelude.{◌≡◌, ◌≢◌, ℕ, ◌≤◌, ◌++◌, ◌∷◌, List, length, decimal, IfSome, IfNone, MatchOption};
+ghost use Rattle.std.specs.Prelude.{◌≡◌, ◌≢◌, ℕ, ◌<◌, ◌≤◌, ◌+◌, ◌++◌, ◌∷◌, [], List, length, slice_index, decimal, IfSome, IfNone, MatchOption};
 ghost use Rattle.mml_lab.specs.declared.TheConstants.{MAX_SESSIONS};
 ghost use Rattle.mml_codec.specs.declared.TheConstants.{MAX_REQUEST};
 ghost use Rattle.mml_lines.specs.LinesOf.{IsUnbroken, IsWithinLimit};
@@ -13,6 +13,8 @@ use mml_codec::MAX_REQUEST;
 #[derive(Clone, Copy)]
 pub struct ScriptLine<'a> {
     pub connection: u8,
+    /// The connection and the space after it, as the line has them.
+    pub front: &'a [u8],
     pub request: &'a [u8],
 }
 
@@ -22,19 +24,44 @@ pub fn read_script_line(line: &[u8], sessions: u8) -> Option<ScriptLine<'_>>
     requires line { IsWithinLimit MAX_SCRIPT_LINE line.now }
     ensures valid { IfSome result (λ s. IsScriptLine sessions (line_of s)) }
     ensures spelled { IfSome result (λ s. line.now ≡ script_line (line_of s)) }
+    ensures front { IfSome result (λ s. s.front.now ≡ decimal s.connection ++ 32 ∷ []) }
     ensures none { IfNone result
         ((s : RequestLine) → IsScriptLine sessions s → line.now ≢ script_line s) }
 {
-    for before in 0..sessions {
-        let connection = before + 1;
-        if let Some(request) = short_request_on(connection, line) {
-            return Some(ScriptLine {
-                connection,
-                request,
-            });
-        }
+    let connection = connection_of(line);
+    if connection == 0 || connection > sessions {
+        return None;
     }
-    None
+    let request = short_request_on(connection, line)?;
+    let (front, _) = line.split_at(line.len() - request.len());
+    Some(ScriptLine {
+        connection,
+        front,
+        request,
+    })
+}
+
+// The number of one or two digits that a line begins with, or 0.
+fn connection_of(line: &[u8]) -> u8
+    ensures { (n : ℕ) (rest : List ℕ) → 0 < n → n ≤ MAX_SESSIONS
+        → line.now ≡ decimal n ++ 32 ∷ rest → result ≡ n }
+{
+    match (digit_at(line, 0), digit_at(line, 1)) {
+        (Some(tens), Some(units)) => 10 * tens + units,
+        (Some(units), None) => units,
+        (None, _) => 0,
+    }
+}
+
+fn digit_at(line: &[u8], place: usize) -> Option<u8>
+    ensures digit { IfSome result (λ d. (d < 10) × (place < length line.now) × (slice_index line.now place ≡ 48 + d)) }
+    ensures none { IfNone result (place < length line.now → (d : ℕ) → d < 10 → slice_index line.now place ≢ 48 + d) }
+{
+    if place < line.len() && line[place].is_ascii_digit() {
+        Some(line[place] - b'0')
+    } else {
+        None
+    }
 }
 
 // The request of a line that begins with this connection, where it isn't too long.

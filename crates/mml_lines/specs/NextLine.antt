@@ -22,10 +22,10 @@ bytes_taken End line = []
 bytes_taken ReadFault line = []
 
 -- what the answer says of the line, or of what comes next: nothing is read once that is known, so no more is held after
--- it than one read brought in; both an end and a read fault need a read, and only where all reads were made a fault
--- comes without one
+-- it than one read brought in; both an end and a read fault need a read, by what was held, and only where all reads were
+-- made a fault comes without one
 abbrev pub Says : Step → LinesState → LinesState → Option (List ℕ) → Type 0
 Says Line old new left = IsWithinLimit new.limit new.line × (length new.unread < READ_SIZE)
 Says TooLong old new left = IsTooLong new.limit new.unread × (length new.unread ≤ new.limit + READ_SIZE)
-Says End old new left = IsWithinLimit new.limit new.unread × IsAtEnd left × (old.reads < new.reads)
-Says ReadFault old new left = IsWithinLimit new.limit new.unread × (old.reads < MAX_READS → old.reads < new.reads)
+Says End old new left = IsWithinLimit new.limit new.unread × IsAtEnd left × (old.reads < new.reads) × IsWithinLimit old.limit old.unread
+Says ReadFault old new left = IsWithinLimit new.limit new.unread × (old.reads < MAX_READS → old.reads < new.reads) × IsWithinLimit old.limit old.unread

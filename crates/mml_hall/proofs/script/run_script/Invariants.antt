@@ -1,4 +1,4 @@
-use Rattle.std.proofs.Common.{◌≡◌, ◌≤◌, ◌+◌, ◌*◌, None}
+use Rattle.std.proofs.Common.{◌≡◌, ◌≤◌, ◌<◌, ◌+◌, ◌*◌, None, length}
 use Rattle.mml_lines.specs.declared.lines.TheConstants.{MAX_READS, READ_SIZE}
 use Rattle.mml_hall.specs.Serving.{bytes_ahead}
 use Rattle.std.specs.Vec.{vec_capacity}
@@ -8,14 +8,15 @@ use Rattle.mml_hall.specs.declared.TheConstants.{MAX_SCRIPT_LINE}
 use Rattle.mml_hall.proofs.ScriptsLemmas.{AnsweredSoFar}
 use Rattle.mml_hall.proofs.script.run_script.Given as goal
 
-abbrev pub invariant-loop-answered : goal.invariant-loop-answered
-invariant-loop-answered g l = record {
-  so_far : AnsweredSoFar g.S.Sink.contents g.S.Sink.failures l.fn.lab l.fn.sink l.hall l.answered (g.R.Read.remaining l.fn.reader) (prepend_known l.lines.unread (g.R.Read.remaining l.reader)) (g.W.Write.contents l.fn.writer) (g.W.Write.contents l.writer);
+abbrev pub invariant-loop-hall : goal.invariant-loop-hall
+invariant-loop-hall g l = record {
+  so_far : AnsweredSoFar g.S.Sink.contents g.S.Sink.failures l.fn.lab l.fn.sink l.hall l.answered (g.R.Read.remaining l.fn.reader) (prepend_known l.lines.unread (g.R.Read.remaining l.reader)) l.outgoing (g.W.Write.contents l.fn.writer) (g.W.Write.contents l.writer);
   going : l.lines.ending ≡ None;
   limit : l.lines.limit ≡ MAX_SCRIPT_LINE;
+  few_held : length l.lines.unread < READ_SIZE;
   few : l.answered + bytes_ahead l.lines ≤ READ_SIZE * MAX_READS;
   room : REPLY_ROOM ≤ vec_capacity l.out;
 }
 
-abbrev pub decreases-loop-answered : goal.decreases-loop-answered
-decreases-loop-answered g l = bytes_ahead l.lines
+abbrev pub decreases-loop-hall : goal.decreases-loop-hall
+decreases-loop-hall g l = bytes_ahead l.lines

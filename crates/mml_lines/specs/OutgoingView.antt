@@ -1,0 +1,26 @@
+-- How lines that go out together are held.
+use Rattle.std.specs.Prelude.{◌≡◌, ℕ, ◌≤◌, ◌+◌, List, [], ◌∷◌, length, take, drop, vec_len}
+use Rattle.std.specs.Vec.{vec_capacity}
+use Rattle.mml_lines.specs.declared.outgoing.Outgoing.TheInside.{Inside}
+use Rattle.mml_lines.specs.declared.outgoing.TheConstants.{OUTGOING_BYTES, OUTGOING_LINES}
+
+-- the bytes in parts of these lengths
+abbrev pub parted : List ℕ → List ℕ → List (List ℕ)
+parted [] bytes = []
+parted (n ∷ ns) bytes = take n bytes ∷ parted ns (drop n bytes)
+
+abbrev pub total : List ℕ → ℕ
+total [] = 0
+total (n ∷ ns) = n + total ns
+
+-- what the fields stand for
+abbrev pub outgoing_view : Inside → List (List ℕ)
+outgoing_view a = parted a.lengths.items a.bytes.items
+
+-- the lengths are those of the lines, and there is room for as many bytes and lines as may be held
+pub record IsOutgoingInside (a : Inside) : Type 0 where
+  pub whole : total a.lengths.items ≡ length a.bytes.items
+  pub few_bytes : vec_len a.bytes ≤ OUTGOING_BYTES
+  pub few_lines : vec_len a.lengths ≤ OUTGOING_LINES
+  pub room_of_bytes : OUTGOING_BYTES ≤ vec_capacity a.bytes
+  pub room_of_lines : OUTGOING_LINES ≤ vec_capacity a.lengths

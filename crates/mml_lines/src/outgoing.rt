@@ -1,0 +1,157 @@
+//! Lines that go out together.
+
+ghost use Rattle.std.specs.Prelude.{◌≡◌, ◌<◌, ◌++◌, ◌∷◌, [], length, take, IfOk, IfErr, OnOk, if◌then◌else◌};
+ghost use Rattle.std.specs.Io.KnownBytes.{Appends};
+ghost use Rattle.mml_lines.specs.Sending.{BreaksOff, Sends, part_in};
+
+use crate::writing::{WriteFault, put_all};
+use mml_ids::Memory;
+use std::alloc::Global;
+use std::io::Write;
+use std::marker::Model;
+
+/// The most bytes that are held.
+pub const OUTGOING_BYTES: usize = 8192;
+
+/// The most lines that are held.
+pub const OUTGOING_LINES: usize = 512;
+
+/// Lines that aren't written yet, so that one write takes many. It takes memory only when it is made.
+/// Contracts see the lines.
+#[derive(Drop)]
+pub struct Outgoing {
+    bytes: Vec<u8>,
+    // Of each line.
+    lengths: Vec<usize>,
+}
+
+impl Model for Outgoing {
+    ghost use Rattle.std.specs.Prelude.{ℕ, List};
+
+    ghost Value = { List (List ℕ) };
+
+    ghost use Rattle.mml_lines.specs.OutgoingView.{outgoing_view, IsOutgoingInside};
+
+    ghost view = { outgoing_view };
+
+    ghost invariant = { IsOutgoingInside };
+}
+
+impl Outgoing {
+    /// Reserves all that it ever needs.
+    pub fn new(alloc: Global) -> Result<Outgoing, Memory>
+        ensures { IfOk result (λ lines. lines ≡ []) }
+    {
+        Ok(Outgoing {
+            bytes: Vec::with_capacity(alloc, OUTGOING_BYTES)?,
+            lengths: Vec::with_capacity(alloc, OUTGOING_LINES)?,
+        })
+    }
+
+    /// Puts a line, in two parts, after those that are held. Where it has no room, those go to the
+    /// writer first, and a line that is longer than all the room goes there too. Nothing is flushed.
+    #[tactic(auto, using(crate::proofs::SendingLemmas::breaks_before))]
+    pub fn put<W: Write>(
+        &mut self,
+        front: &[u8],
+        rest: &[u8],
+        writer: &mut W,
+    ) -> Result<(), WriteFault>
+        ensures ok { OnOk result (Sends (W.contents writer.old) (W.contents writer.new)
+            (self.old ++ (front.now ++ rest.now) ∷ []) self.new) }
+        ensures err { IfErr result (λ fault. BreaksOff fault
+            (W.contents writer.old) (W.contents writer.new)
+            (self.old ++ (front.now ++ rest.now) ∷ [])) }
+    {
+        if self.hold(front, rest) {
+            return Ok(());
+        }
+        self.write_out(writer)?;
+        if self.hold(front, rest) {
+            return Ok(());
+        }
+        put_both(front, rest, writer)
+    }
+
+    /// Writes all that is held, and flushes the writer.
+    pub fn flush<W: Write>(&mut self, writer: &mut W) -> Result<(), WriteFault>
+        ensures empty { OnOk result (self.new ≡ []) }
+        ensures ok { OnOk result (Sends (W.contents writer.old) (W.contents writer.new) self.old []) }
+        ensures err { IfErr result (λ fault. BreaksOff fault
+            (W.contents writer.old) (W.contents writer.new) self.old) }
+    {
+        self.write_out(writer)?;
+        match writer.flush() {
+            Ok(()) => Ok(()),
+            Err(_) => Err(WriteFault { written: 0 }),
+        }
+    }
+
+    fn write_out<W: Write>(&mut self, writer: &mut W) -> Result<(), WriteFault>
+        ensures empty { OnOk result (self.new ≡ []) }
+        ensures ok { OnOk result (Sends (W.contents writer.old) (W.contents writer.new) self.old []) }
+        ensures err { IfErr result (λ fault. BreaksOff fault
+            (W.contents writer.old) (W.contents writer.new) self.old) }
+    {
+        match put_all(writer, &self.bytes) {
+            Ok(()) => {
+                self.bytes.clear();
+                self.lengths.clear();
+                Ok(())
+            }
+            Err(fault) => {
+                let written = part_of(&self.lengths, fault.written);
+                Err(WriteFault { written })
+            }
+        }
+    }
+
+    // Whether there is room for a line in two parts, which is then held.
+    fn hold(&mut self, front: &[u8], rest: &[u8]) -> bool
+        ensures { self.new ≡ (if result then self.old ++ (front.now ++ rest.now) ∷ [] else self.old) }
+    {
+        let room = OUTGOING_BYTES - self.bytes.len();
+        if self.lengths.len() == OUTGOING_LINES || room < front.len() {
+            return false;
+        }
+        if room - front.len() < rest.len() {
+            return false;
+        }
+        self.bytes.extend_from_slice(front).unwrap();
+        self.bytes.extend_from_slice(rest).unwrap();
+        self.lengths.push_reserved(front.len() + rest.len());
+        true
+    }
+}
+
+// Of lines of these lengths that many bytes are out: how many of them are of the first line that isn't
+// wholly out.
+fn part_of(lengths: &[usize], out: usize) -> usize
+    ensures { result ≡ part_in lengths.now out }
+{
+    let mut left = out;
+    for len in lengths {
+        if left < *len {
+            return left;
+        }
+        left -= *len;
+    }
+    left
+}
+
+fn put_both<W: Write>(front: &[u8], rest: &[u8], writer: &mut W) -> Result<(), WriteFault>
+    ensures ok { OnOk result
+        (Appends (W.contents writer.old) (W.contents writer.new) (front.now ++ rest.now)) }
+    ensures partial { IfErr result (λ fault. fault.written < length (front.now ++ rest.now)) }
+    ensures err { IfErr result (λ fault. Appends (W.contents writer.old) (W.contents writer.new)
+        (take fault.written (front.now ++ rest.now))) }
+{
+    put_all(writer, front)?;
+    match put_all(writer, rest) {
+        Ok(()) => Ok(()),
+        Err(fault) => {
+            let written = front.len() + fault.written;
+            Err(WriteFault { written })
+        }
+    }
+}
