@@ -1,2 +1,1 @@
-pub mod AnsweringLemmas
 mod ClosingsLemmas

@@ -1,10 +1,7 @@
 //! What the subcommands do, over readers and writers.
-ghost use Rattle.std.specs.Prelude.{◌≡◌, ◌<◌, ◌-◌, ◌^◌, ◌⊎◌, [], Err, Result};
-ghost use Rattle.std.specs.Io.Buffered.{writer_buffer, writer_contents};
-ghost use Rattle.mml_hall.specs.Halls.{HallValue};
+ghost use Rattle.std.specs.Prelude.{◌<◌, ◌-◌, ◌^◌};
 ghost use Rattle.mml_journal.specs.Taken.{IsFresh};
 ghost use Rattle.mml_hall.specs.Journals.{Journals};
-ghost use Rattle.mml_program.specs.declared.fault.Fault.{Fault};
 ghost use Rattle.mml_program.specs.Answering.{AnswersScript};
 
 use crate::fault::{Fault, memory_or};
@@ -12,7 +9,7 @@ use mml_hall::{Hall, audit, run_script};
 use mml_journal::Sink;
 use mml_lab::Lab;
 use std::alloc::Global;
-use std::io::{BufWriter, Read, Write};
+use std::io::{Read, Write};
 
 /// Writes how many nodes, links and students a lab has.
 pub fn write_size<W: Write>(lab: &Lab, writer: &mut W) -> Result<(), Fault> {
@@ -48,8 +45,8 @@ pub fn write_audit<W: Write>(
     .map_err(|error| memory_or(&error, Fault::Write))
 }
 
-/// Answers the lines of a script, each reply written before the next line is judged. The lines of the
-/// granted events go to the sink.
+/// Answers the lines of a script. Replies go out together, and all of them before each read. The lines
+/// of the granted events go to the sink.
 pub fn answer_script<R: Read, W: Write, S: Sink + Drop>(
     alloc: Global,
     lab: Lab,
@@ -64,28 +61,4 @@ pub fn answer_script<R: Read, W: Write, S: Sink + Drop>(
 {
     let hall = run_script(alloc, lab, reader, writer, sink)?;
     Ok(hall)
-}
-
-/// The same through a buffer, which is flushed at the end, be that good or a fault. A flush that
-/// fails is told in the place of that end, since what the buffer held was answered before it.
-pub fn answer_through_buffer<R: Read, W: Write + Drop, S: Sink + Drop>(
-    alloc: Global,
-    lab: Lab,
-    reader: &mut R,
-    writer: &mut BufWriter<W>,
-    sink: S,
-) -> Result<Hall<S>, Fault>
-    requires fresh { IsFresh (S.contents sink) }
-    requires countable { S.failures sink < 2 ^ 64 - 1 }
-    ensures { (answered : Result (HallValue S) Fault)
-        × AnswersScript (Journals S.contents S.failures lab sink) answered lab (R.remaining reader.old) (R.remaining reader.new)
-        (writer_contents W.contents writer.old) (writer_contents W.contents writer.new)
-        × ((result ≡ Err Fault.Write) ⊎ (result ≡ Err Fault.Memory)
-        ⊎ ((result ≡ answered) × (writer_buffer writer.new ≡ []))) }
-{
-    let answered = answer_script(alloc, lab, reader, writer, sink);
-    match writer.flush() {
-        Ok(()) => answered,
-        Err(error) => Err(memory_or(&error, Fault::Write)),
-    }
 }

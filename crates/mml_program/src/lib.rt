@@ -10,7 +10,7 @@ mod serving;
 mod task;
 mod words;
 
-pub use answering::{answer_script, answer_through_buffer, write_audit, write_size};
+pub use answering::{answer_script, write_audit, write_size};
 pub use built_in::BUILT_IN;
 pub use fault::{Fault, memory_or};
 pub use files::{MAX_FILE, MAX_JOURNAL, journal_at, read_file, read_journal};

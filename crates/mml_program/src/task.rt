@@ -2,7 +2,7 @@
 ghost use Rattle.std.specs.Prelude.{◌<◌, ◌≤◌, ◌-◌, ◌^◌};
 ghost use Rattle.mml_journal.specs.Taken.{IsFresh};
 
-use crate::answering::{answer_script, answer_through_buffer, write_audit, write_size};
+use crate::answering::{answer_script, write_audit, write_size};
 use crate::built_in::BUILT_IN;
 use crate::fault::{Fault, memory_or};
 use crate::files::{journal_at, read_file, read_journal};
@@ -12,7 +12,6 @@ use mml_journal::{NullSink, Sink};
 use mml_lab::{Lab, read_lab};
 use mml_session::NoGate;
 use std::fs::File;
-use std::io::BufWriter;
 use std::net::{Ipv4Addr, Net, SocketAddr, TcpListener, TcpStream};
 use std::num::{NonZeroU8, NonZeroU16};
 use std::rt::{Env, Files};
@@ -58,7 +57,7 @@ pub fn run<
     }
 }
 
-// Answers the script on standard input over the built-in lab, each line with a write.
+// Answers the script on standard input over the built-in lab.
 fn answer_input<R: Input + Print + AllocGlobal>(rt: &R) -> Result<(), Fault> {
     let alloc = rt.alloc();
     let lab = read_lab(alloc, BUILT_IN.as_bytes())?;
@@ -72,8 +71,7 @@ fn answer_input<R: Input + Print + AllocGlobal>(rt: &R) -> Result<(), Fault> {
     Ok(())
 }
 
-// Answers the script of a file over a lab, through a buffer. A journal that was halted is told at the
-// end.
+// Answers the script of a file over a lab. A journal that was halted is told at the end.
 fn answer_file<R: Files + Print + AllocGlobal, S: Sink + Drop>(
     rt: &R,
     lab: Lab,
@@ -85,11 +83,13 @@ fn answer_file<R: Files + Print + AllocGlobal, S: Sink + Drop>(
 {
     let alloc = rt.alloc();
     let script = read_file(rt, script, Fault::ReadScript)?;
-    let mut writer = BufWriter::new(alloc, io::writer(rt)).map_err(|error| memory_or(
-        &error,
-        Fault::Write,
-    ))?;
-    let hall = answer_through_buffer(alloc, lab, &mut script.as_slice(), &mut writer, sink)?;
+    let hall = answer_script(
+        alloc,
+        lab,
+        &mut script.as_slice(),
+        &mut io::writer(rt),
+        sink,
+    )?;
     if hall.halted() {
         return Err(Fault::Journal);
     }

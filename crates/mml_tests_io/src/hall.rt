@@ -1,5 +1,6 @@
 //! Scripts from the bytes that come in to the bytes that go out.
 mod failing;
+mod flushing;
 mod journals;
 mod order;
 mod reads;

@@ -4,9 +4,9 @@ use mml_fakes::scripts::{FIRST_LOOK, FIRST_LOOK_REPLIES};
 use mml_fakes::{FakeReader, FakeWriter};
 use mml_journal::NullSink;
 use mml_lab::read_lab;
-use mml_program::{BUILT_IN, Fault, answer_script, answer_through_buffer, write_size};
+use mml_program::{BUILT_IN, Fault, answer_script, write_size};
 use std::alloc::Global;
-use std::io::{BufWriter, ErrorKind, Read, Write};
+use std::io::{ErrorKind, Read, Write};
 use std::test::Fail;
 
 const BAD_SECOND_LINE: &str = "1 {\"do\":\"bye\"}\n5 {\"do\":\"bye\"}\n";
@@ -23,24 +23,14 @@ fn failing_after(alloc: Global, writes: usize, flushes: usize) -> FakeWriter {
     writer
 }
 
-// What came of a script over the built-in lab, with a write for each line.
-fn at_once<R: Read + Drop, W: Write>(
+// What came of a script over the built-in lab.
+fn fault_of<R: Read + Drop, W: Write>(
     alloc: Global,
     mut reader: R,
     writer: &mut W,
 ) -> Result<Option<Fault>, Fail> {
     let lab = read_lab(alloc, BUILT_IN.as_bytes())?;
     Ok(answer_script(alloc, lab, &mut reader, writer, NullSink::new()).err())
-}
-
-// The same through a buffer before the writer.
-fn buffered(
-    alloc: Global,
-    script: &str,
-    writer: &mut BufWriter<FakeWriter>,
-) -> Result<Option<Fault>, Fail> {
-    let lab = read_lab(alloc, BUILT_IN.as_bytes())?;
-    Ok(answer_through_buffer(alloc, lab, &mut script.as_bytes(), writer, NullSink::new()).err())
 }
 
 // What `check` says of the built-in lab to a writer.
@@ -63,30 +53,21 @@ fn the_size_of_a_lab_is_told(rt: HostRuntime) -> Result<(), Fail> {
     Ok(())
 }
 
-// Whether a script has these replies and this end with a write for each line, and through a buffer
-// with one write and one flush for all.
+// Whether a script, all of which comes in one read, has these replies in one write, and this end.
 fn is_answered_so(
     alloc: Global,
     script: &str,
     replies: &str,
     end: Option<Fault>,
 ) -> Result<bool, Fail> {
-    let mut direct = failing_after(alloc, 100, 0);
-    if at_once(alloc, script.as_bytes(), &mut direct)? != end {
-        return Ok(false);
-    }
-    let mut held = BufWriter::new(alloc, failing_after(alloc, 1, 1))?;
-    let fault = buffered(alloc, script, &mut held)?;
-    Ok(
-        fault == end
-            && direct.taken.as_slice() == replies.as_bytes()
-            && held.get_ref().taken.as_slice() == replies.as_bytes()
-            && held.get_ref().good_flushes == 0,
-    )
+    // A flush before each of two reads.
+    let mut writer = failing_after(alloc, 1, 2);
+    let fault = fault_of(alloc, script.as_bytes(), &mut writer)?;
+    Ok(fault == end && writer.taken.as_slice() == replies.as_bytes())
 }
 
 #[test]
-fn a_buffer_changes_no_reply(rt: HostRuntime) -> Result<(), Fail> {
+fn replies_go_out_in_one_write(rt: HostRuntime) -> Result<(), Fail> {
     let alloc = rt.alloc();
     assert!(rt; is_answered_so(alloc, "", "", None)?);
     assert!(rt; is_answered_so(alloc, FIRST_LOOK, FIRST_LOOK_REPLIES, None)?);
@@ -95,44 +76,28 @@ fn a_buffer_changes_no_reply(rt: HostRuntime) -> Result<(), Fail> {
     Ok(())
 }
 
-// Whether the replies of the first look stop with a write fault after so many writes.
-fn stops_after(alloc: Global, writes: usize) -> Result<bool, Fail> {
-    let mut writer = failing_after(alloc, writes, 1);
-    let fault = at_once(alloc, FIRST_LOOK.as_bytes(), &mut writer)?;
-    let taken = writer.taken.as_slice();
-    Ok(fault == Some(Fault::Write) && FIRST_LOOK_REPLIES.as_bytes().starts_with(taken))
-}
-
-#[test]
-fn failed_writes_are_told(rt: HostRuntime) -> Result<(), Fail> {
-    // Each of the four replies goes out in two writes.
-    for writes in 0..8 {
-        assert!(rt; stops_after(rt.alloc(), writes)?, "{writes} writes");
-    }
-    Ok(())
-}
-
-// What is told where the writer behind a buffer fails, and whether it got anything.
-fn fault_behind_buffer(
+// What is told where a writer fails, and whether it got anything.
+fn fault_at(
     alloc: Global,
     script: &str,
-    writer: FakeWriter,
+    mut writer: FakeWriter,
 ) -> Result<(Option<Fault>, bool), Fail> {
-    let mut writer = BufWriter::new(alloc, writer)?;
-    let fault = buffered(alloc, script, &mut writer)?;
-    Ok((fault, !writer.get_ref().taken.is_empty()))
+    let fault = fault_of(alloc, script.as_bytes(), &mut writer)?;
+    Ok((fault, !writer.taken.is_empty()))
 }
 
-// A flush that fails is told in the place of a good end and of the fault that would be told after it.
+// A write or a flush that fails is told in the place of a good end and of the fault that would be told
+// after it.
 #[test]
-fn failures_behind_a_buffer_are_told(rt: HostRuntime) -> Result<(), Fail> {
+fn failures_of_a_writer_are_told(rt: HostRuntime) -> Result<(), Fail> {
     let alloc = rt.alloc();
-    for (script, writes, is_some) in [
-        (FIRST_LOOK, 0, false),
-        (FIRST_LOOK, 100, true),
-        (BAD_SECOND_LINE, 100, true),
+    for (script, writes, flushes, is_some) in [
+        (FIRST_LOOK, 0, 2, false),
+        (FIRST_LOOK, 1, 0, false),
+        (FIRST_LOOK, 1, 1, true),
+        (BAD_SECOND_LINE, 1, 1, true),
     ] {
-        let found = fault_behind_buffer(alloc, script, failing_after(alloc, writes, 0))?;
+        let found = fault_at(alloc, script, failing_after(alloc, writes, flushes))?;
         assert_eq!(rt; found, (Some(Fault::Write), is_some));
     }
     Ok(())
@@ -149,16 +114,16 @@ fn long_script(alloc: Global) -> Result<(String, String), Fail> {
     Ok((script, replies))
 }
 
-// More replies than the buffer holds go out in several writes, of which the second may fail.
+// More replies than are held go out in several writes, of which the second may fail.
 #[test]
 fn a_failed_write_of_a_long_script_is_told(rt: HostRuntime) -> Result<(), Fail> {
     let alloc = rt.alloc();
     let (script, replies) = long_script(alloc)?;
-    let found = fault_behind_buffer(alloc, script.as_str(), failing_after(alloc, 1, 1))?;
+    let found = fault_at(alloc, script.as_str(), failing_after(alloc, 1, 100))?;
     assert_eq!(rt; found, (Some(Fault::Write), true));
-    let mut writer = BufWriter::new(alloc, failing_after(alloc, 100, 1))?;
-    assert_eq!(rt; buffered(alloc, script.as_str(), &mut writer)?, None);
-    assert_eq!(rt; writer.get_ref().taken.as_slice(), replies.as_bytes());
+    let mut writer = failing_after(alloc, 100, 100);
+    assert_eq!(rt; fault_of(alloc, script.as_bytes(), &mut writer)?, None);
+    assert_eq!(rt; writer.taken.as_slice(), replies.as_bytes());
     Ok(())
 }
 
@@ -168,8 +133,6 @@ fn want_of_memory_is_told(rt: HostRuntime) -> Result<(), Fail> {
     let alloc = rt.alloc();
     let writer = || FakeWriter::failing_with(ErrorKind::OutOfMemory, alloc);
     assert_eq!(rt; size_to(alloc, &mut writer())?, Some(Fault::Memory));
-    let (fault, _) = fault_behind_buffer(alloc, "", writer())?;
-    assert_eq!(rt; fault, Some(Fault::Memory));
     Ok(())
 }
 
@@ -177,7 +140,7 @@ fn want_of_memory_is_told(rt: HostRuntime) -> Result<(), Fail> {
 fn a_failed_read_is_told(rt: HostRuntime) -> Result<(), Fail> {
     let reader = FakeReader::failing_with(ErrorKind::Other);
     let mut out = Vec::new(rt.alloc());
-    let fault = at_once(rt.alloc(), reader, &mut out)?;
+    let fault = fault_of(rt.alloc(), reader, &mut out)?;
     assert_eq!(rt; fault, Some(Fault::ReadScript));
     Ok(())
 }

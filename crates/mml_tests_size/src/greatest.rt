@@ -68,7 +68,7 @@ fn is_end(hall: &Hall<MemorySink>, journal: &str) -> bool {
 }
 
 /// Whether the script has its replies and its journal, by one read for each byte and one that finds
-/// the end, and nothing is flushed.
+/// the end, and at most one flush comes before each read.
 fn is_answered(alloc: Global, lab: Lab, story: &Story) -> Result<bool, Fail> {
     let mut reader = FakeReader::failing_after(usize::MAX, story.script.as_bytes());
     let mut writer = FakeWriter::patient(alloc);
@@ -76,8 +76,9 @@ fn is_answered(alloc: Global, lab: Lab, story: &Story) -> Result<bool, Fail> {
     let hall = run_script(alloc, lab, &mut reader, &mut writer, sink)?;
     let is_read = reader.reads == story.script.len().saturating_add(1);
     let is_written = writer.taken.as_slice() == story.replies.as_bytes();
-    let is_unflushed = writer.good_flushes == usize::MAX;
-    Ok(is_read && is_written && is_unflushed && is_end(&hall, story.journal.as_str()))
+    let flushes = usize::MAX - writer.good_flushes;
+    let is_flushed = 0 < flushes && flushes <= reader.reads;
+    Ok(is_read && is_written && is_flushed && is_end(&hall, story.journal.as_str()))
 }
 
 /// Whether the journal passes an audit, up to the last event.
