@@ -100,25 +100,25 @@ pub two_digits : (line rest : List ℕ) (n tens units : ℕ) → n ≤ 16 → li
     → units < 10 → 10 * tens + units ≡ n
 unfolding FirstDigits
 two_digits line rest n tens units few e first second small = elim (first_digits line rest n few e) [
-      | inl one ↦ absurd (omega (arith, one.2, second))
-      | inr two ↦ omega (arith, two.1, two.2, first, second)
-    ]
+  | inl one ↦ absurd (omega (arith, one.2, second))
+  | inr two ↦ omega (arith, two.1, two.2, first, second)
+]
 
 pub one_digit : (line rest : List ℕ) (n units : ℕ) → n ≤ 16 → line ≡ decimal n ++ 32 ∷ rest → slice_index line 0 ≡ 48 + units
     → (1 < length line → (d : ℕ) → d < 10 → slice_index line 1 ≢ 48 + d) → units ≡ n
 unfolding FirstDigits
 one_digit line rest n units few e first other = elim (first_digits line rest n few e) [
-      | inl one ↦ omega (arith, one.1, first)
-      | inr two ↦ let digit : 38 + n ≡ 48 + (n - 10) = omega (arith, two.0) in absurd (other two.3 (n - 10) (omega (arith, few)) (two.2 ∙ digit))
-    ]
+  | inl one ↦ omega (arith, one.1, first)
+  | inr two ↦ let digit : 38 + n ≡ 48 + (n - 10) = omega (arith, two.0) in absurd (other two.3 (n - 10) (omega (arith, few)) (two.2 ∙ digit))
+]
 
 pub no_digit : (line rest : List ℕ) (n : ℕ) → n ≤ 16 → line ≡ decimal n ++ 32 ∷ rest
     → (0 < length line → (d : ℕ) → d < 10 → slice_index line 0 ≢ 48 + d) → 0 ≡ n
 unfolding FirstDigits
 no_digit line rest n few e other = elim (first_digits line rest n few e) [
-      | inl one ↦ absurd (other (omega (arith, one.3)) n one.0 one.1)
-      | inr two ↦ let digit : 49 ≡ 48 + 1 = refl in absurd (other (omega (arith, two.3)) 1 (omega arith) (two.1 ∙ digit))
-    ]
+  | inl one ↦ absurd (other (omega (arith, one.3)) n one.0 one.1)
+  | inr two ↦ let digit : 49 ≡ 48 + 1 = refl in absurd (other (omega (arith, two.3)) 1 (omega arith) (two.1 ∙ digit))
+]
 
 -- the number that the line begins with is that of no connection
 pub none_outside : (sessions found : ℕ) (line : List ℕ) → sessions ≤ 16 → ((n : ℕ) (rest : List ℕ) → 0 < n → n ≤ 16 → line ≡ decimal n ++ 32 ∷ rest → found ≡ n)

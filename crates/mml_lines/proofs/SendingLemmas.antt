@@ -56,7 +56,7 @@ breaks_on f a b c lines held h k =
       omega (arith, k.1, ap length bytes, length-append (concat h.0) (concat held)),
       k.2 ∙ (sym (part_past h.0 held k.0) ∙ ap (λ (ls : List (List ℕ)). part_in (map length ls) (length (concat h.0) + k.0)) (sym h.1)),
       subst (λ (t : List ℕ). Appends a c t) (sym (ap (take (length (concat h.0) + k.0)) bytes ∙ take-append-add (concat h.0) (concat held) k.0))
-      (Appends-trans a b c (concat h.0) (take k.0 (concat held)) h.2 k.3),
+          (Appends-trans a b c (concat h.0) (take k.0 (concat held)) h.2 k.3),
     )
 
 pub breaks_more : (f : WriteFault) (a b c : Option (List ℕ)) (lines held more : List (List ℕ)) → Sends a b lines held → BreaksOff f b c (held ++ more) → BreaksOff f a c (lines ++ more)

@@ -37,7 +37,8 @@ struct Flushed<'a> {
 impl<'a> Write for Flushed<'a> {
     fn write(&mut self, buf: &[u8]) -> io::Result<usize> {
         self.taken.extend_from_slice(buf)?;
-        self.unflushed.set(self.unflushed.get().saturating_add(buf.len()));
+        self.unflushed
+            .set(self.unflushed.get().saturating_add(buf.len()));
         Ok(buf.len())
     }
 
