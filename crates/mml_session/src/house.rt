@@ -1,9 +1,9 @@
-ghost use Rattle.std.specs.Prelude.{◌≡◌, ◌≤◌, [], List, All, length, IfOk, map, vec_len};
+ghost use Rattle.std.specs.Prelude.{◌≡◌, ◌≤◌, [], List, All, length, IfOk, IfErr, map, vec_len};
 ghost use Rattle.std.specs.Thread.{IsSync, IsSend};
 ghost use Rattle.mml_window.specs.Houses.{house_of};
 ghost use Rattle.mml_window.specs.Logs.{IsLog};
 ghost use Rattle.mml_window.specs.Windows.{WindowValue, window};
-ghost use Rattle.mml_session.specs.Houses.{Each, IsServed, ended_session};
+ghost use Rattle.mml_session.specs.Houses.{Each, EndsAstray, IsServed, ended_session};
 
 use crate::each::{Connection, Seat, Served, serve_each};
 use crate::gate::Gate;
@@ -60,10 +60,12 @@ pub fn serve_house<
 ) -> Result<ServedHouse<S, R, W>, ServedFault>
     requires named { blank ≡ house_of H.name H.lab }
     requires few { length connections.items ≤ H.lab.sessions }
-    ensures { IfOk result (λ house. (windows : List WindowValue)
+    ensures served { IfOk result (λ house. (windows : List WindowValue)
         × IsLog H.lab S.contents windows house.log
         × Each (IsServed H.lab R.remaining W.contents) connections.items house.sessions.items
         windows) }
+    ensures astray { IfErr result
+        (EndsAstray H.lab R.remaining W.contents connections.items) }
 {
     let Ok((desk, windows)) = blank.start::<H>(alloc) else {
         return Err(ServedFault::Memory);
