@@ -1,10 +1,9 @@
 //! What happens in a row of three, told after each event.
 ghost use Rattle.std.specs.Prelude.{◌<◌, length};
 
-use crate::board::grant;
+use crate::board::{board_of, grant};
 use mml_board::{Board, Event};
 use mml_ids::Rank;
-use mml_lab::read_lab;
 use mml_rules::{Regs, Rule, Scene};
 use std::alloc::{AllocError, Global};
 use std::test::Fail;
@@ -116,12 +115,17 @@ fn follows(alloc: Global, board: &mut Board, story: &[Part]) -> Result<bool, All
     Ok(follows)
 }
 
+/// Whether the moves are told so, and then the changes.
+fn are_told(alloc: Global, board: &mut Board) -> Result<bool, AllocError> {
+    let moved = follows(alloc, board, &moves())?;
+    let changed = follows(alloc, board, &changes())?;
+    Ok(moved && changed)
+}
+
 #[test]
 fn events_in_a_row_of_three(rt: HostRuntime) -> Result<(), Fail> {
-    let alloc = rt.alloc();
-    let lab = read_lab(alloc, ROW.as_bytes())?;
-    let mut board = Board::new(alloc, &lab)?;
-    assert!(rt; follows(alloc, &mut board, &moves())?);
-    assert!(rt; follows(alloc, &mut board, &changes())?);
+    let mut board = board_of(rt.alloc(), ROW.as_bytes())?;
+    let are_told = are_told(rt.alloc(), &mut board)?;
+    assert!(rt; are_told);
     Ok(())
 }

@@ -1,8 +1,7 @@
 //! Stars: the greatest free leaf is seduced, and all leaves move at once.
-use crate::board::grant;
+use crate::board::{board_of, grant};
 use mml_board::{Board, Done, Event};
 use mml_ids::Rank;
-use mml_lab::read_lab;
 use mml_rules::{Rule, Scene};
 use std::alloc::{AllocError, Global};
 use std::test::Fail;
@@ -28,11 +27,6 @@ fn star(alloc: Global, centre: u64, count: u64, believing: u64) -> Result<String
         write!(text, "[[node]]\nid = {id}\nowner = \"s\"\nm = {m}\n")?;
     }
     Ok(text)
-}
-
-fn board_of(alloc: Global, document: &str) -> Result<Board, Fail> {
-    let lab = read_lab(alloc, document.as_bytes())?;
-    Ok(Board::new(alloc, &lab)?)
 }
 
 fn choose(board: &mut Board, index: u64) {
@@ -66,7 +60,7 @@ const STARS: [(u64, u64, u64); 5] = [
 fn first_other(alloc: Global) -> Result<Option<(u64, u64, u64)>, Fail> {
     for (count, believing, wanted) in STARS {
         let document = star(alloc, 1, count, believing)?;
-        let mut board = board_of(alloc, document.as_str())?;
+        let mut board = board_of(alloc, document.as_bytes())?;
         if seduced(&mut board) != Some(wanted) {
             return Ok(Some((count, believing, wanted)));
         }
@@ -91,7 +85,7 @@ fn moved(board: &Board) -> u64 {
 #[test]
 fn every_leaf_moves_at_once(rt: HostRuntime) -> Result<(), Fail> {
     let document = star(rt.alloc(), 256, 256, 257)?;
-    let mut board = board_of(rt.alloc(), document.as_str())?;
+    let mut board = board_of(rt.alloc(), document.as_bytes())?;
     let before = board.privileged_count();
     for index in 0..255 {
         choose(&mut board, index);

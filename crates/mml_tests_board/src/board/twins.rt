@@ -6,8 +6,8 @@ use crate::board::drawing::drawn;
 use crate::board::plain::PlainBoard;
 use mml_board::{Board, Event};
 use mml_fakes::Numbers;
-use mml_ids::{NodeSet, Rank};
-use mml_lab::read_lab;
+use mml_ids::{Memory, NodeSet, Rank};
+use mml_lab::{Lab, read_lab};
 use mml_rules::Scene;
 use std::alloc::{AllocError, Global};
 use std::test::Fail;
@@ -62,39 +62,69 @@ fn looked(size: u64, round: u64, every: u64) -> NodeSet
     nodes
 }
 
-/// Of 1,000 events, how many were legal, did the same on both boards, and left every reader the
-/// same; and how many kinds of events there were.
-fn agreed(alloc: Global, count: u64, every: u64) -> Result<(u64, u64), Fail>
+/// A plain board, one to which events are applied, and one that absorbs them.
+#[derive(Drop)]
+struct Twins {
+    plain: PlainBoard,
+    board: Board,
+    twin: Board,
+}
+
+impl Twins {
+    fn new(alloc: Global, lab: &Lab) -> Result<Twins, Memory> {
+        let plain = PlainBoard::new(alloc, lab)?;
+        let board = Board::new(alloc, lab)?;
+        let twin = board.try_copy(alloc)?;
+        Ok(Twins { plain, board, twin })
+    }
+
+    /// Whether the event is legal, does the same on all boards, and leaves every reader the same.
+    fn agree(
+        &mut self,
+        alloc: Global,
+        lab: &Lab,
+        event: &Event,
+        nodes: NodeSet,
+    ) -> Result<bool, Memory> {
+        let is_done = self.plain.is_done(event, &self.board.done(event));
+        let is_legal = self.board.is_legal(lab.roster(), event);
+        if self.board.can_absorb(event) {
+            self.board.apply(*event);
+        }
+        self.twin.absorb_event(event);
+        let is_taken = self.plain.absorb(alloc, event)?;
+        let is_same = self.board.is_same(&self.twin) && self.plain.is_told_by(&self.board, nodes);
+        Ok(is_done && is_legal && is_taken && is_same)
+    }
+}
+
+/// Of 1,000 events over a lab, on how many the boards agree; and how many kinds of events there were.
+fn agreed_over(alloc: Global, lab: &Lab, every: u64) -> Result<(u64, u64), Memory>
     requires { 0 < every }
 {
-    let document = mesh(alloc, count)?;
-    let lab = read_lab(alloc, document.as_bytes())?;
-    let mut plain = PlainBoard::new(alloc, &lab)?;
-    let mut board = Board::new(alloc, &lab)?;
-    let mut twin = board.try_copy(alloc)?;
-    let mut numbers = Numbers { state: count };
+    let mut twins = Twins::new(alloc, lab)?;
+    let mut numbers = Numbers {
+        state: lab.node_count(),
+    };
     let (mut agreed, mut kinds) = (0u64, NodeSet::empty());
     for round in 0..1000u64 {
-        let event = &drawn(&plain, &mut numbers);
-        let is_done = plain.is_done(event, &board.done(event));
-        let is_legal = board.is_legal(lab.roster(), event);
-        if board.can_absorb(event) {
-            board.apply(*event);
-        }
-        twin.absorb_event(event);
-        let is_taken = plain.absorb(alloc, event)?;
-        let nodes = looked(board.size(), round, every);
-        if is_done
-            && is_legal
-            && is_taken
-            && board.is_same(&twin)
-            && plain.is_told_by(&board, nodes)
-        {
+        let event = &drawn(&twins.plain, &mut numbers);
+        let nodes = looked(twins.board.size(), round, every);
+        if twins.agree(alloc, lab, event, nodes)? {
             agreed = agreed.wrapping_add(1);
         }
         kinds = kinds.with(Rank::at(kind(event).min(5)));
     }
     Ok((agreed, kinds.len()))
+}
+
+/// The same over a mesh of so many nodes.
+fn agreed(alloc: Global, count: u64, every: u64) -> Result<(u64, u64), Fail>
+    requires { 0 < every }
+{
+    let document = mesh(alloc, count)?;
+    let lab = read_lab(alloc, document.as_bytes())?;
+    Ok(agreed_over(alloc, &lab, every)?)
 }
 
 #[test]
