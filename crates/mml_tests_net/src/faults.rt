@@ -17,6 +17,10 @@ const REFUSED: &[Row] = &[
     (Fault::BadLine(1), "2 script: line 1: bad line"),
     (Fault::BadLine(300), "2 script: line 300: bad line"),
     (
+        Fault::TooManyConnections,
+        "2 serve: more connections than sessions",
+    ),
+    (
         Fault::Audit(AuditRefusal::Torn(10)),
         "3 audit: line 10: torn",
     ),
@@ -42,8 +46,12 @@ const FAILED: &[Row] = &[
     (Fault::ReadLab, "4 read fault: lab"),
     (Fault::ReadScript, "4 read fault: script"),
     (Fault::ReadJournal, "4 read fault: journal"),
+    (Fault::Listen, "4 serve: cannot listen"),
+    (Fault::Accept, "4 serve: cannot accept"),
+    (Fault::Astray, "4 serve: the tally does not fit"),
     (Fault::Journal, "4 journal fault"),
     (Fault::Write, "4 write fault"),
+    (Fault::Place, "5 serve: no place for a window"),
     (Fault::Memory, "5 out of memory"),
 ];
 

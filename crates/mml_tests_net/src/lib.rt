@@ -10,4 +10,6 @@ mod files;
 #[cfg(test)]
 mod labs;
 #[cfg(test)]
+mod serving;
+#[cfg(test)]
 mod words;

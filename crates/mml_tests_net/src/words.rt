@@ -15,72 +15,61 @@ fn given(alloc: Global, line: &str) -> Result<Vec<String>, Fail> {
     Ok(words)
 }
 
-const FORMS: &[(&str, Task<'static>)] = &[
-    ("", Task::BuiltIn),
-    ("check a", Task::Check { lab: "a" }),
-    (
-        "check some/lab.toml",
-        Task::Check {
-            lab: "some/lab.toml",
-        },
-    ),
-    ("check check", Task::Check { lab: "check" }),
-    ("check help", Task::Check { lab: "help" }),
-    ("check ", Task::Check { lab: "" }),
+// A command line, and what it asks for.
+const FORMS: &[(&str, &str)] = &[
+    ("", "BuiltIn"),
+    ("check a", "Check { lab: \"a\" }"),
+    ("check some/lab.toml", "Check { lab: \"some/lab.toml\" }"),
+    ("check check", "Check { lab: \"check\" }"),
+    ("check help", "Check { lab: \"help\" }"),
+    ("check ", "Check { lab: \"\" }"),
     (
         "script a b",
-        Task::Script {
-            lab: "a",
-            script: "b",
-            journal: None,
-        },
+        "Script { lab: \"a\", script: \"b\", journal: None }",
     ),
     (
         "script a a",
-        Task::Script {
-            lab: "a",
-            script: "a",
-            journal: None,
-        },
+        "Script { lab: \"a\", script: \"a\", journal: None }",
     ),
     (
         "script a b c",
-        Task::Script {
-            lab: "a",
-            script: "b",
-            journal: Some("c"),
-        },
+        "Script { lab: \"a\", script: \"b\", journal: Some(\"c\") }",
     ),
     (
         "script a b ",
-        Task::Script {
-            lab: "a",
-            script: "b",
-            journal: Some(""),
-        },
+        "Script { lab: \"a\", script: \"b\", journal: Some(\"\") }",
     ),
-    (
-        "audit a b",
-        Task::Audit {
-            lab: "a",
-            journal: "b",
-        },
-    ),
+    ("audit a b", "Audit { lab: \"a\", journal: \"b\" }"),
     (
         "script help version",
-        Task::Script {
-            lab: "help",
-            script: "version",
-            journal: None,
-        },
+        "Script { lab: \"help\", script: \"version\", journal: None }",
+    ),
+    (
+        "serve a 1 1",
+        "Serve { lab: \"a\", port: 1, connections: 1, journal: None }",
+    ),
+    (
+        "serve a 65535 16 b",
+        "Serve { lab: \"a\", port: 65535, connections: 16, journal: Some(\"b\") }",
+    ),
+    (
+        "serve 7000 7000 10 ",
+        "Serve { lab: \"7000\", port: 7000, connections: 10, journal: Some(\"\") }",
     ),
 ];
 
+// What a line asks for.
+fn asked(alloc: Global, line: &str) -> Result<String, Fail> {
+    let words = given(alloc, line)?;
+    let task = read_words(alloc, words.as_slice())?;
+    Ok(format!(in alloc; "{task:?}")?)
+}
+
 // The first line that asks for something else.
-fn first_other(alloc: Global) -> Result<Option<&'static str>, Fail> {
-    for (line, task) in FORMS {
-        let words = given(alloc, line)?;
-        if read_words(alloc, words.as_slice()) != Ok(*task) {
+fn first_other(alloc: Global, rows: &[(&'static str, &str)]) -> Result<Option<&'static str>, Fail> {
+    for (line, wanted) in rows {
+        let found = asked(alloc, line)?;
+        if found.as_str() != *wanted {
             return Ok(Some(*line));
         }
     }
@@ -89,7 +78,7 @@ fn first_other(alloc: Global) -> Result<Option<&'static str>, Fail> {
 
 #[test]
 fn each_form_is_taken(rt: HostRuntime) -> Result<(), Fail> {
-    assert_eq!(rt; first_other(rt.alloc())?, None);
+    assert_eq!(rt; first_other(rt.alloc(), FORMS)?, None);
     Ok(())
 }
 
@@ -99,7 +88,7 @@ fn no_words_are_taken(rt: HostRuntime) -> Result<(), Fail> {
     Ok(())
 }
 
-const NOT_UNDERSTOOD: [&str; 60] = [
+const NOT_UNDERSTOOD: &[&str] = &[
     " ",
     "a",
     "help",
@@ -160,6 +149,30 @@ const NOT_UNDERSTOOD: [&str; 60] = [
     "script a --script b",
     "Script a b",
     "check a script a b",
+    "serve",
+    "serve a",
+    "serve a 1",
+    "serve a 1 1 b c",
+    "serve a 1 1 -",
+    "serve a -1 1",
+    "serve a 0 1",
+    "serve a 65536 1",
+    "serve a 65537 1",
+    "serve a 99999999999999999999 1",
+    "serve a 01 1",
+    "serve a +1 1",
+    "serve a 1. 1",
+    "serve a x 1",
+    "serve a  1 1",
+    "serve a 1 0",
+    "serve a 1 17",
+    "serve a 1 256",
+    "serve a 1 257",
+    "serve a 1 01",
+    "serve a 1 +1",
+    "serve a 1 ",
+    "serve a 1 x",
+    "Serve a 1 1",
 ];
 
 // The first line that is understood.
@@ -167,7 +180,7 @@ fn first_understood(alloc: Global) -> Result<Option<&'static str>, Fail> {
     for line in NOT_UNDERSTOOD {
         let words = given(alloc, line)?;
         if read_words(alloc, words.as_slice()) != Err(Fault::CommandLine) {
-            return Ok(Some(line));
+            return Ok(Some(*line));
         }
     }
     Ok(None)

@@ -1,0 +1,257 @@
+//! Connections over sockets of this machine. Clients connect and send before the server accepts: the
+//! system holds what they sent, and what they are answered.
+mod ends;
+
+use mml_fakes::FakeWriter;
+use mml_fakes::scripts::{FIRST_LOOK, FIRST_LOOK_REPLIES};
+use mml_journal::MemorySink;
+use mml_lab::read_lab;
+use mml_program::{BUILT_IN, ServeFault, serve_on};
+use mml_session::{Gate, Point};
+use std::alloc::Global;
+use std::io::{Read, Write};
+use std::net::{Ipv4Addr, Net, Shutdown, SocketAddr, TcpListener, TcpStream};
+use std::sync::Wait;
+use std::sync::atomic::{AtomicU64, Ordering};
+use std::test::Fail;
+use std::thread::Threads;
+use std::{io, thread};
+
+/// What came of a listener and of its clients.
+#[derive(Drop)]
+struct Served {
+    /// None where the number of connections is out of its limits.
+    ended: Option<Result<(), ServeFault>>,
+    /// What the server wrote of itself.
+    written: Vec<u8>,
+    /// What each client got.
+    replies: Vec<String>,
+}
+
+fn listener<R: Net<Listener = TcpListener, Stream = TcpStream>>(rt: &R) -> io::Result<TcpListener> {
+    TcpListener::bind(rt, SocketAddr::from((Ipv4Addr::LOCALHOST, 0)))
+}
+
+/// Connects a client for each text before any of them is sent; then each sends its own, and ends it.
+fn clients<R: Net<Listener = TcpListener, Stream = TcpStream> + AllocGlobal>(
+    rt: &R,
+    listener: &TcpListener,
+    texts: &[&str],
+) -> io::Result<Vec<TcpStream>> {
+    let address = listener.local_addr()?;
+    let mut streams = Vec::new(rt.alloc());
+    for _ in texts {
+        streams.push(TcpStream::connect(rt, address)?)?;
+    }
+    for (stream, text) in streams.iter().zip(texts) {
+        let mut writer = stream;
+        writer.write_all(text.as_bytes())?;
+        stream.shutdown(Shutdown::Write)?;
+    }
+    Ok(streams)
+}
+
+/// All that each client is answered.
+fn replies_to(alloc: Global, streams: &[TcpStream]) -> Result<Vec<String>, Fail> {
+    let mut replies = Vec::new(alloc);
+    for stream in streams {
+        let mut reader = stream;
+        let mut found = Vec::new(alloc);
+        reader.read_to_end(&mut found)?;
+        replies.push(String::from_utf8(found)?)?;
+    }
+    Ok(replies)
+}
+
+/// Serves so many connections of a listener over a lab, with a journal that fails at a put.
+fn serve<R: Threads + Wait + Sync + AllocGlobal, G: Gate + Sync, W: Write>(
+    rt: &R,
+    lab: &str,
+    listener: TcpListener,
+    connections: u8,
+    fail_at: Option<u64>,
+    gate: &G,
+    writer: &mut W,
+) -> Result<Option<Result<(), ServeFault>>, Fail> {
+    let alloc = rt.alloc();
+    let lab = read_lab(alloc, lab.as_bytes())?;
+    let sink = MemorySink::new(alloc, fail_at);
+    if connections == 0 || connections > lab.sessions() {
+        return Ok(None);
+    }
+    Ok(Some(serve_on(rt, alloc, lab, listener, connections, sink, gate, writer)))
+}
+
+/// Serves a client for each text over a lab.
+fn serve_clients<
+    R: Net<Listener = TcpListener, Stream = TcpStream> + Threads + Wait + Sync + AllocGlobal,
+    G: Gate + Sync,
+>(rt: &R, lab: &str, texts: &[&str], gate: &G) -> Result<Served, Fail> {
+    let alloc = rt.alloc();
+    let listener = listener(rt)?;
+    let streams = clients(rt, &listener, texts)?;
+    let connections = u8::try_from(texts.len()).map_err(|_| "too many texts")?;
+    let mut writer = FakeWriter::patient(alloc);
+    let ended = serve(rt, lab, listener, connections, None, gate, &mut writer)?;
+    Ok(Served {
+        ended,
+        written: writer.taken,
+        replies: replies_to(alloc, streams.as_slice())?,
+    })
+}
+
+/// Whether all connections were served, the last line is so, and each client got what is wanted.
+fn is_served_so(served: &Served, done: &str, replies: &[&str]) -> bool {
+    let mut found = served.replies.iter().map(|reply| reply.as_str());
+    served.ended == Some(Ok(()))
+        && served.written.as_slice() == done.as_bytes()
+        && found.eq(replies.iter().copied())
+}
+
+/// The lines of a script whose lines all come on connection 1, or of its replies, without the number.
+fn without_numbers(alloc: Global, script: &str) -> Result<String, Fail> {
+    let mut text = String::new(alloc);
+    for line in script.lines() {
+        text.push_str(line.strip_prefix("1 ").unwrap_or(line))?;
+        text.push('\n')?;
+    }
+    Ok(text)
+}
+
+/// How often a gate looks before it gives up.
+const TURNS: u64 = 10_000_000;
+
+/// Holds each connection at its first line until so many are there, and likewise at its first reply.
+#[derive(Drop)]
+struct Meeting {
+    wanted: u64,
+    lines: AtomicU64,
+    replies: AtomicU64,
+    given_up: AtomicU64,
+}
+
+impl Meeting {
+    fn of(wanted: u64) -> Meeting {
+        Meeting {
+            wanted,
+            lines: AtomicU64::new(0),
+            replies: AtomicU64::new(0),
+            given_up: AtomicU64::new(0),
+        }
+    }
+
+    /// Whether all were there each time.
+    fn was_held(&self) -> bool {
+        self.given_up.load(Ordering::SeqCst) == 0
+    }
+
+    fn hold(&self, arrived: &AtomicU64) {
+        arrived.fetch_add(1, Ordering::SeqCst);
+        for _ in 0..TURNS {
+            if arrived.load(Ordering::SeqCst) >= self.wanted {
+                return;
+            }
+            thread::yield_now();
+        }
+        self.given_up.fetch_add(1, Ordering::SeqCst);
+    }
+}
+
+impl Gate for Meeting {
+    fn pass(&self, _connection: u8, point: Point) {
+        match point {
+            Point::Line => self.hold(&self.lines),
+            Point::Told => self.hold(&self.replies),
+        }
+    }
+}
+
+#[test]
+fn two_clients_are_served_at_once(rt: HostRuntime) -> Result<(), Fail> {
+    let text = without_numbers(rt.alloc(), FIRST_LOOK)?;
+    let replies = without_numbers(rt.alloc(), FIRST_LOOK_REPLIES)?;
+    let gate = Meeting::of(2);
+    let served = serve_clients(&rt, BUILT_IN, &[text.as_str(), text.as_str()], &gate)?;
+    let wanted = [replies.as_str(), replies.as_str()];
+    assert!(rt; is_served_so(&served, "done: 0 events, configuration 0\n", &wanted));
+    assert!(rt; gate.was_held());
+    Ok(())
+}
+
+const HELLO_TEACHER: &str = "{\"do\":\"hello\",\"key\":\"chalk\",\"name\":\"tess\"}\n";
+
+#[test]
+fn sixteen_clients_are_served_at_once(rt: HostRuntime) -> Result<(), Fail> {
+    let lab = BUILT_IN.replacen(rt.alloc(), "sessions = 4", "sessions = 16", 1)?;
+    let gate = Meeting::of(16);
+    let served = serve_clients(&rt, lab.as_str(), &[HELLO_TEACHER; 16], &gate)?;
+    let wanted = ["{\"ok\":\"hello\",\"who\":\"tess\"}\n"; 16];
+    assert!(rt; is_served_so(&served, "done: 0 events, configuration 0\n", &wanted));
+    assert!(rt; gate.was_held());
+    Ok(())
+}
+
+const MOVE: &str = "{\"do\":\"hello\",\"key\":\"a-key\",\"name\":\"ana\"}
+{\"at\":0,\"do\":\"move\",\"node\":1,\"rule\":\"seduction\"}
+";
+
+const GRANTED: &str = "{\"ok\":\"hello\",\"who\":\"ana\"}
+{\"at\":0,\"node\":1,\"ok\":\"move\",\"place\":1,\"rule\":\"seduction\"}
+";
+
+const CHOSEN: &str = "{\"ok\":\"hello\",\"who\":\"ana\"}
+{\"clause\":3,\"deny\":\"chosen\",\"text\":\"this node is already chosen\"}
+";
+
+#[test]
+fn one_of_two_raced_moves_is_granted(rt: HostRuntime) -> Result<(), Fail> {
+    let gate = Meeting::of(2);
+    let served = serve_clients(&rt, BUILT_IN, &[MOVE, MOVE], &gate)?;
+    let done = "done: 1 events, configuration 0\n";
+    let first = is_served_so(&served, done, &[GRANTED, CHOSEN]);
+    let second = is_served_so(&served, done, &[CHOSEN, GRANTED]);
+    assert!(rt; first || second);
+    assert!(rt; gate.was_held());
+    Ok(())
+}
+
+const STEP: &str = "{\"do\":\"hello\",\"key\":\"chalk\",\"name\":\"tess\"}
+{\"do\":\"close\"}
+";
+
+const STEP_REPLIES: &str = "{\"ok\":\"hello\",\"who\":\"tess\"}
+{\"at\":1,\"moved\":[1],\"ok\":\"close\",\"place\":2}
+";
+
+// Lets a connection begin when another has had so many replies.
+#[derive(Drop)]
+struct After {
+    replies: AtomicU64,
+    wanted: u64,
+}
+
+impl Gate for After {
+    fn pass(&self, connection: u8, point: Point) {
+        if connection == 1 && point == Point::Told {
+            self.replies.fetch_add(1, Ordering::SeqCst);
+        }
+        for _ in 0..TURNS {
+            if connection == 1 || self.replies.load(Ordering::SeqCst) >= self.wanted {
+                return;
+            }
+            thread::yield_now();
+        }
+    }
+}
+
+#[test]
+fn connections_are_numbered_as_they_come(rt: HostRuntime) -> Result<(), Fail> {
+    let gate = After {
+        replies: AtomicU64::new(0),
+        wanted: 2,
+    };
+    let served = serve_clients(&rt, BUILT_IN, &[MOVE, STEP], &gate)?;
+    let done = "done: 2 events, configuration 1\n";
+    assert!(rt; is_served_so(&served, done, &[GRANTED, STEP_REPLIES]));
+    Ok(())
+}
