@@ -1,67 +1,94 @@
-//! Measures how long the greatest lab takes to read, against what `toml` alone takes for the same bytes. With a word on
-//! the command line the times are printed; without one a fixed line tells so.
+//! Measures what the program's calls take, beside what they can't do without. The words on the command
+//! line say what: `labs`, `views`, `events`, `lines`. Without a word a fixed line tells so.
 #![tactic(auto)]
 
 mod all_links;
+mod events;
+mod labs;
+mod lines;
+mod timing;
+mod turns;
+mod views;
 
-use all_links::all_links;
-use mml_lab::read_lab;
+use crate::lines::Words;
+use crate::timing::{a_second, percent};
 use std::alloc::Global;
+use std::io::Print;
 use std::rt::Clock;
-use std::time::Instant;
+use std::sync::Wait;
+use std::thread::Threads;
 use std::{env, io};
 
-const ROUNDS: usize = 5;
-
 fn main(rt: HostRuntime) -> io::Result<()> {
-    let mut words = 0usize;
-    for _ in env::args(&rt)? {
-        words = words.saturating_add(1);
+    let mut is_asked = false;
+    for word in env::args(&rt)? {
+        is_asked = measure(&rt, rt.alloc(), word.as_str())? || is_asked;
     }
-    if words < 2 {
-        println!(rt; "a word, as in `times`, asks for the times of labs")?;
-        return Ok(());
+    if !is_asked {
+        println!(rt; "say what is to be measured: labs, views, events, lines")?;
     }
-    let file = all_links(rt.alloc())?;
-    let mut toml = [0; ROUNDS];
-    let mut labs = [0; ROUNDS];
-    for round in 0..ROUNDS {
-        toml[round] = time(&rt, rt.alloc(), file.as_bytes(), Reading::Toml)?;
-        labs[round] = time(&rt, rt.alloc(), file.as_bytes(), Reading::Lab)?;
-    }
-    let toml = median(toml);
-    let labs = median(labs);
-    let percent = labs.saturating_mul(100) / toml.max(1);
-    println!(rt; "256 nodes, 32640 links: toml {toml} us, read_lab {labs} us, {percent} %")?;
     Ok(())
 }
 
-/// What is measured.
-#[derive(Clone, Copy)]
-enum Reading {
-    Toml,
-    Lab,
-}
-
-fn succeeds(reading: Reading, alloc: Global, bytes: &[u8]) -> bool {
-    match reading {
-        Reading::Toml => toml::table_from_slice(alloc, bytes).is_ok(),
-        Reading::Lab => read_lab(alloc, bytes).is_ok(),
+/// Measures what a word says, and tells whether it is one.
+fn measure<R: Clock + Print + Threads + Wait + Sync>(
+    rt: &R,
+    alloc: Global,
+    word: &str,
+) -> io::Result<bool> {
+    match word {
+        "labs" => measure_labs(rt, alloc)?,
+        "views" => measure_views(rt, alloc)?,
+        "events" => measure_events(rt, alloc)?,
+        "lines" => measure_lines(rt, alloc)?,
+        _ => return Ok(false),
     }
+    Ok(true)
 }
 
-/// How many microseconds a reading takes; it has to succeed.
-fn time(clock: &impl Clock, alloc: Global, bytes: &[u8], reading: Reading) -> io::Result<u64> {
-    let start = Instant::now(clock)?;
-    let read = succeeds(reading, alloc, bytes);
-    let spent = start.elapsed(clock)?;
-    if !read {
-        return Err(io::Error::from(io::ErrorKind::InvalidData));
+fn measure_labs<R: Clock + Print>(rt: &R, alloc: Global) -> io::Result<()> {
+    let (toml, lab) = labs::times(rt, alloc)?;
+    let ratio = percent(lab, toml);
+    println!(rt; "256 nodes, 32640 links: toml {toml} us, read_lab {lab} us, {ratio} %")
+}
+
+fn measure_views<R: Clock + Print + Threads + Wait + Sync>(
+    rt: &R,
+    alloc: Global,
+) -> io::Result<()> {
+    let times = views::times(rt, alloc)?;
+    let alone = a_second(views::VIEWS, times.alone);
+    let spinning = a_second(views::VIEWS, times.spinning);
+    let granting = a_second(views::VIEWS, times.granting);
+    let ratio = percent(granting, spinning);
+    println!(rt; "views of a window in a second: alone {alone}")?;
+    println!(rt; "of each of two: beside a spinner {spinning}, beside grants {granting}, {ratio} %")
+}
+
+fn measure_events<R: Clock + Print + Wait>(rt: &R, alloc: Global) -> io::Result<()> {
+    let (early, late) = events::times(rt, alloc)?;
+    let ratio = percent(late, early);
+    println!(rt; "events 11 to 1010: {early} us, 99001 to 100000: {late} us, {ratio} %")
+}
+
+fn measure_lines<R: Clock + Print>(rt: &R, alloc: Global) -> io::Result<()> {
+    for words in [
+        Words::See,
+        Words::Look,
+        Words::Report,
+        Words::MoveRelease,
+        Words::MoveCloseFault,
+        Words::CutLink,
+    ] {
+        for nodes in [3, 64, 256] {
+            let times = lines::times(rt, alloc, words, nodes)?;
+            let (json, answer, script) = (times.json, times.answer, times.script);
+            let answer_ratio = percent(answer, json);
+            let script_ratio = percent(script, json);
+            println!(rt;
+                "{words:?}, {nodes} nodes: json {json} ns, answer {answer} ns, {answer_ratio} %, script {script} ns, {script_ratio} %"
+            )?;
+        }
     }
-    Ok(u64::try_from(spent.as_micros()).unwrap_or(u64::MAX))
-}
-
-fn median(mut times: [u64; ROUNDS]) -> u64 {
-    times.sort_unstable();
-    times[ROUNDS / 2]
+    Ok(())
 }
