@@ -1,5 +1,5 @@
 -- What the roster's definitions mean.
-use Rattle.std.proofs.Common.{◌≡◌, ◌≢◌, ◌↔◌, ◌==◌, ℕ, suc, ◌<◌, ◌≤◌, List, ◌∷◌, length, get_or, take, Option, Some, None, Bool, true, false, cond, not, ◌⊎◌, inl, inr, refl, sym, ap, ◌∙◌, arith, true≢false, All, Contains}
+use Rattle.std.proofs.Common.{◌≡◌, ◌↔◌, ◌==◌, ℕ, suc, ◌<◌, ◌≤◌, List, ◌∷◌, length, get_or, take, Option, Some, None, Bool, true, false, cond, not, ◌⊎◌, inl, inr, refl, sym, ap, ◌∙◌, arith, true≢false, All, Contains}
 use Rattle.std.specs.Prelude.{bytes_eq}
 use Rattle.std.specs.List.{position}
 use Rattle.std.specs.Option.{option_map}
