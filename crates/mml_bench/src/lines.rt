@@ -136,16 +136,30 @@ fn time_answers(
     let is_answered = answers(alloc, &mut hall, script);
     let spent = micros_since(start, clock)?;
     let granted = hall.events().len();
-    if is_answered && granted == events { Ok(spent) } else { Err(otherwise()) }
+    if is_answered && granted == events {
+        Ok(spent)
+    } else {
+        Err(otherwise())
+    }
 }
 
 /// How many microseconds the whole script takes from memory to memory.
 fn time_script(clock: &impl Clock, alloc: Global, lab: Lab, script: &str) -> io::Result<u64> {
     let mut out = Vec::with_capacity(alloc, script.len().saturating_mul(4))?;
     let start = Instant::now(clock)?;
-    let hall = run_script(alloc, lab, &mut script.as_bytes(), &mut out, NullSink::new());
+    let hall = run_script(
+        alloc,
+        lab,
+        &mut script.as_bytes(),
+        &mut out,
+        NullSink::new(),
+    );
     let spent = micros_since(start, clock)?;
-    if hall.is_ok() { Ok(spent) } else { Err(otherwise()) }
+    if hall.is_ok() {
+        Ok(spent)
+    } else {
+        Err(otherwise())
+    }
 }
 
 /// The request of a script line.

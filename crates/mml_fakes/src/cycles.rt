@@ -7,12 +7,7 @@ student = [{ name = "ana", key = "a-key" }, { name = "ben", key = "b-key" }]
 "#;
 
 /// Nodes from 1 on in a cycle, the first half of ana, the others of ben; the teacher is tess.
-pub fn cycle(
-    alloc: Global,
-    nodes: u64,
-    events: u64,
-    sessions: u64,
-) -> Result<String, AllocError> {
+pub fn cycle(alloc: Global, nodes: u64, events: u64, sessions: u64) -> Result<String, AllocError> {
     let mut text = String::from_str(alloc, PEOPLE)?;
     write!(text, "events = {events}\nsessions = {sessions}\n")?;
     write!(text, "links = [[1, {nodes}]")?;
