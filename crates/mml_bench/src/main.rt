@@ -1,11 +1,12 @@
 //! Measures what the program's calls take, beside what they can't do without. The words on the command
-//! line say what: `labs`, `views`, `events`, `lines`. Without a word a fixed line tells so.
+//! line say what: `labs`, `views`, `events`, `lines`, `sockets`. Without a word a fixed line tells so.
 #![tactic(auto)]
 
 mod all_links;
 mod events;
 mod labs;
 mod lines;
+mod sockets;
 mod timing;
 mod turns;
 mod views;
@@ -14,6 +15,7 @@ use crate::lines::Words;
 use crate::timing::{a_second, percent};
 use std::alloc::Global;
 use std::io::Print;
+use std::net::{Net, TcpListener, TcpStream};
 use std::rt::Clock;
 use std::sync::Wait;
 use std::thread::Threads;
@@ -25,22 +27,21 @@ fn main(rt: HostRuntime) -> io::Result<()> {
         is_asked = measure(&rt, rt.alloc(), word.as_str())? || is_asked;
     }
     if !is_asked {
-        println!(rt; "say what is to be measured: labs, views, events, lines")?;
+        println!(rt; "say what is to be measured: labs, views, events, lines, sockets")?;
     }
     Ok(())
 }
 
 /// Measures what a word says, and tells whether it is one.
-fn measure<R: Clock + Print + Threads + Wait + Sync>(
-    rt: &R,
-    alloc: Global,
-    word: &str,
-) -> io::Result<bool> {
+fn measure<
+    R: Clock + Print + Net<Listener = TcpListener, Stream = TcpStream> + Threads + Wait + Sync,
+>(rt: &R, alloc: Global, word: &str) -> io::Result<bool> {
     match word {
         "labs" => measure_labs(rt, alloc)?,
         "views" => measure_views(rt, alloc)?,
         "events" => measure_events(rt, alloc)?,
         "lines" => measure_lines(rt, alloc)?,
+        "sockets" => measure_sockets(rt, alloc)?,
         _ => return Ok(false),
     }
     Ok(true)
@@ -91,4 +92,19 @@ fn measure_lines<R: Clock + Print>(rt: &R, alloc: Global) -> io::Result<()> {
         }
     }
     Ok(())
+}
+
+fn measure_sockets<
+    R: Clock + Print + Net<Listener = TcpListener, Stream = TcpStream> + Threads + Wait + Sync,
+>(rt: &R, alloc: Global) -> io::Result<()> {
+    let times = sockets::times(rt, alloc)?;
+    let count = sockets::REQUESTS.saturating_mul(u64::from(sockets::CONNECTIONS));
+    let echo = a_second(count, times.echo);
+    let views = a_second(count, times.views);
+    let mixed = a_second(count, times.mixed);
+    let views_ratio = percent(views, echo);
+    let mixed_ratio = percent(mixed, echo);
+    let denied = times.denied;
+    println!(rt; "requests in a second: echo {echo}, views {views}, {views_ratio} %")?;
+    println!(rt; "mixed {mixed}, {mixed_ratio} %, of {count} denied {denied}")
 }
