@@ -76,7 +76,7 @@ fn is_answered(alloc: Global, lab: Lab, story: &Story) -> Result<bool, Fail> {
     let hall = run_script(alloc, lab, &mut reader, &mut writer, sink)?;
     let is_read = reader.reads == story.script.len().saturating_add(1);
     let is_written = writer.taken.as_slice() == story.replies.as_bytes();
-    let flushes = usize::MAX - writer.good_flushes;
+    let flushes = usize::MAX.saturating_sub(writer.good_flushes);
     let is_flushed = 0 < flushes && flushes <= reader.reads;
     Ok(is_read && is_written && is_flushed && is_end(&hall, story.journal.as_str()))
 }
