@@ -1,5 +1,5 @@
 -- Lines that go out together, over several steps.
-use Rattle.std.proofs.Common.{◌≡◌, ℕ, zero, suc, ◌+◌, ◌-◌, ◌<◌, ◌≤◌, arith, List, [], ◌∷◌, ◌++◌, length, take, drop, map, refl, sym, ◌∙◌, ap, append_assoc, append-nil, length-append, length-take, length-drop, Option, subst, Result, Ok, Err, OnOk, IfErr, Bool, true, false, if◌then◌else◌, cond}
+use Rattle.std.proofs.Common.{◌≡◌, ℕ, zero, suc, ◌+◌, ◌-◌, ◌<◌, ◌≤◌, arith, List, [], ◌∷◌, ◌++◌, length, take, drop, map, refl, sym, ◌∙◌, ap, append_assoc, append-nil, length-append, length-take, length-drop, Option, subst, Result, Ok, Err, OnOk, IfErr, cond}
 use Rattle.std.specs.Prelude.{nat_lt, ⊤}
 use Rattle.std.specs.List.{concat}
 use Rattle.std.proofs.lemmas.List.Folds.{concat-append}

@@ -1,5 +1,5 @@
 //! Connections, each served in a thread of its own through a window of its own.
-ghost use Rattle.std.specs.Prelude.{◌≡◌, ◌<◌, ◌≤◌, ◌-◌, ◌^◌, length, OnOk};
+ghost use Rattle.std.specs.Prelude.{◌≡◌, ◌<◌, ◌≤◌, ◌+◌, ◌-◌, ◌^◌, length, vec_len, OnOk};
 ghost use Rattle.std.specs.Thread.{IsSync, IsSend};
 ghost use Rattle.std.specs.Io.KnownBytes.{Appends};
 ghost use Rattle.mml_ids.specs.Pieces.{joined};
@@ -189,16 +189,12 @@ fn serve_all<
             };
             for index in 0..connections {
                 let number = index + 1;
-                let stream = match accept_on(listener) {
-                    Ok(stream) => stream,
+                let (stream, window) = match next_on(listener, &mut windows) {
+                    Ok(next) => next,
                     Err(refusal) => {
                         fault = Some(refusal);
                         break;
                     }
-                };
-                let Some(window) = windows.pop() else {
-                    fault = Some(ServeFault::Place);
-                    break;
                 };
                 match scope.spawn(move || serve_stream(
                     rt, alloc, desk, window, stream, gate, number,
@@ -218,6 +214,21 @@ fn serve_all<
             (windows, fault)
         },
     )
+}
+
+// The next connection, and a window for it.
+fn next_on<H: House>(
+    listener: &TcpListener,
+    windows: &mut Vec<Window<H>>,
+) -> Result<(TcpStream, Window<H>), ServeFault>
+    ensures taken { OnOk result (vec_len windows.new + 1 ≡ vec_len windows.old) }
+    ensures kept { vec_len windows.new ≤ vec_len windows.old }
+{
+    let stream = accept_on(listener)?;
+    match windows.pop() {
+        Some(window) => Ok((stream, window)),
+        None => Err(ServeFault::Place),
+    }
 }
 
 // The next connection, whose writes go out as they are made.

@@ -1,5 +1,5 @@
 //! What comes of a line: who is known, and the window, go on.
-ghost use Rattle.std.specs.Prelude.{◌≡◌, false, true, Some, IfOk, IfErr, IfSome};
+ghost use Rattle.std.specs.Prelude.{◌≡◌, false, true, IfOk, IfErr, IfSome};
 ghost use Rattle.mml_lab.specs.Rosters.{IsPrincipal};
 ghost use Rattle.mml_policy.specs.declared.command.Command.TheVariants as command;
 ghost use Rattle.mml_policy.specs.Acts.{is_act};

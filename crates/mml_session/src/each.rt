@@ -1,5 +1,4 @@
 ghost use Rattle.std.specs.Prelude.{◌≡◌, ◌<◌, ℕ, length, IfOk, slice_index_or};
-ghost use Rattle.std.specs.Thread.{IsSync, IsSend};
 ghost use Rattle.mml_session.specs.Ends.{Ended};
 
 use crate::gate::Gate;

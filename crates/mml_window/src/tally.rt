@@ -1,5 +1,5 @@
 //! Whether the places of windows are 1 to so many, each once.
-ghost use Rattle.std.specs.Prelude.{◌≡◌, ℕ, ◌+◌, ◌<◌, ◌≤◌, List, [], ◌∷◌, length, MatchBool};
+ghost use Rattle.std.specs.Prelude.{◌≡◌, ℕ, ◌+◌, ◌<◌, ◌≤◌, [], ◌∷◌, length, MatchBool};
 ghost use Rattle.mml_lab.specs.declared.TheConstants.{MAX_SESSIONS};
 ghost use Rattle.mml_window.specs.Tallies.{times, told_of, IsEachOnce};
 ghost use Rattle.mml_window.specs.inside.Cursors.{left_of, IsStuck};
