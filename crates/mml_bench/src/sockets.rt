@@ -52,6 +52,7 @@ pub struct Medians {
     pub denied: u64,
 }
 
+/// What the requests of each kind take, in microseconds: the medians of the rounds.
 pub fn times<R: Clock + Net<Listener = TcpListener, Stream = TcpStream> + Threads + Wait + Sync>(
     rt: &R,
     alloc: Global,

@@ -12,6 +12,7 @@ pub fn micros_since(start: Instant, clock: &impl Clock) -> io::Result<u64> {
     Ok(u64::try_from(spent.as_micros()).unwrap_or(u64::MAX).max(1))
 }
 
+/// The middle one of the rounds' times.
 pub fn median(mut times: [u64; ROUNDS]) -> u64 {
     times.sort_unstable();
     times[ROUNDS / 2]
