@@ -90,17 +90,29 @@ fn told(alloc: Global, board: &Board) -> Result<String, AllocError> {
 const OPENING: &str =
     "0 0 2 0\nNone false Some(Marriage) true .-\nSome(0) false Some(Abandonment) true -.";
 
-/// Whether a board and its copy are told so.
-fn are_opening(alloc: Global, board: &Board) -> Result<bool, Fail> {
+fn is_opening(alloc: Global, board: &Board) -> Result<bool, Fail> {
+    let told = told(alloc, board)?;
+    Ok(told.as_str() == OPENING)
+}
+
+fn is_copy_opening(alloc: Global, board: &Board) -> Result<bool, Fail> {
     let copy = board.try_copy(alloc)?;
-    let (first, second) = (told(alloc, board)?, told(alloc, &copy)?);
-    Ok(first.as_str() == OPENING && second.as_str() == OPENING)
+    is_opening(alloc, &copy)
+}
+
+/// Whether a board and its copy are told so.
+fn are_opening(alloc: Global, board: &Board) -> Result<(bool, bool), Fail> {
+    Ok((is_opening(alloc, board)?, is_copy_opening(alloc, board)?))
+}
+
+/// The same of the board where the higher points.
+fn are_opening_where_higher_points(alloc: Global) -> Result<(bool, bool), Fail> {
+    let board = board_of(alloc, HIGHER_POINTS)?;
+    are_opening(alloc, &board)
 }
 
 #[test]
 fn opening_board(rt: HostRuntime) -> Result<(), Fail> {
-    let board = board_of(rt.alloc(), HIGHER_POINTS)?;
-    let are_opening = are_opening(rt.alloc(), &board)?;
-    assert!(rt; are_opening);
+    assert_eq!(rt; are_opening_where_higher_points(rt.alloc())?, (true, true));
     Ok(())
 }

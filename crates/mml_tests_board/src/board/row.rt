@@ -116,16 +116,20 @@ fn follows(alloc: Global, board: &mut Board, story: &[Part]) -> Result<bool, All
 }
 
 /// Whether the moves are told so, and then the changes.
-fn are_told(alloc: Global, board: &mut Board) -> Result<bool, AllocError> {
+fn follow(alloc: Global, board: &mut Board) -> Result<(bool, bool), Fail> {
     let moved = follows(alloc, board, &moves())?;
     let changed = follows(alloc, board, &changes())?;
-    Ok(moved && changed)
+    Ok((moved, changed))
+}
+
+/// The same from the beginning of a run.
+fn are_told(alloc: Global) -> Result<(bool, bool), Fail> {
+    let mut board = board_of(alloc, ROW.as_bytes())?;
+    follow(alloc, &mut board)
 }
 
 #[test]
 fn events_in_a_row_of_three(rt: HostRuntime) -> Result<(), Fail> {
-    let mut board = board_of(rt.alloc(), ROW.as_bytes())?;
-    let are_told = are_told(rt.alloc(), &mut board)?;
-    assert!(rt; are_told);
+    assert_eq!(rt; are_told(rt.alloc())?, (true, true));
     Ok(())
 }

@@ -29,6 +29,12 @@ fn star(alloc: Global, centre: u64, count: u64, believing: u64) -> Result<String
     Ok(text)
 }
 
+/// The board at the beginning of a run of such a star.
+fn board_of_star(alloc: Global, centre: u64, count: u64, believing: u64) -> Result<Board, Fail> {
+    let document = star(alloc, centre, count, believing)?;
+    board_of(alloc, document.as_bytes())
+}
+
 fn choose(board: &mut Board, index: u64) {
     if let Some(event) = grant(index, Rule::Seduction) {
         board.absorb_event(&event);
@@ -56,12 +62,16 @@ const STARS: [(u64, u64, u64); 5] = [
     (256, 193, 191),
 ];
 
+/// Where it leads in a star around the first node.
+fn seduced_in(alloc: Global, count: u64, believing: u64) -> Result<Option<u64>, Fail> {
+    let mut board = board_of_star(alloc, 1, count, believing)?;
+    Ok(seduced(&mut board))
+}
+
 /// The first star of these whose centre seduces another.
 fn first_other(alloc: Global) -> Result<Option<(u64, u64, u64)>, Fail> {
     for (count, believing, wanted) in STARS {
-        let document = star(alloc, 1, count, believing)?;
-        let mut board = board_of(alloc, document.as_bytes())?;
-        if seduced(&mut board) != Some(wanted) {
+        if seduced_in(alloc, count, believing)? != Some(wanted) {
             return Ok(Some((count, believing, wanted)));
         }
     }
@@ -82,19 +92,28 @@ fn moved(board: &Board) -> u64 {
     }
 }
 
-#[test]
-fn every_leaf_moves_at_once(rt: HostRuntime) -> Result<(), Fail> {
-    let document = star(rt.alloc(), 256, 256, 257)?;
-    let mut board = board_of(rt.alloc(), document.as_bytes())?;
+/// Lets all leaves move at once: how many nodes are privileged before it and how many move, and how
+/// many are privileged then, the number and the place.
+fn counts(board: &mut Board) -> [u64; 5] {
     let before = board.privileged_count();
     for index in 0..255 {
-        choose(&mut board, index);
+        choose(board, index);
     }
-    let moved = moved(&board);
+    let moved = moved(board);
     board.absorb_event(&Event::Close);
-    assert_eq!(rt; (before, moved), (255, 255));
-    // The centre has 255 suitors, and each of them waits.
-    let after = (board.privileged_count(), board.number(), board.place());
-    assert_eq!(rt; after, (1, 1, 256));
+    let after = board.privileged_count();
+    [before, moved, after, board.number(), board.place()]
+}
+
+/// The same in the largest star, around the last node.
+fn counts_of_the_largest(alloc: Global) -> Result<[u64; 5], Fail> {
+    let mut board = board_of_star(alloc, 256, 256, 257)?;
+    Ok(counts(&mut board))
+}
+
+#[test]
+fn every_leaf_moves_at_once(rt: HostRuntime) -> Result<(), Fail> {
+    // The centre has 255 suitors then, and each of them waits.
+    assert_eq!(rt; counts_of_the_largest(rt.alloc())?, [255, 255, 1, 1, 256]);
     Ok(())
 }

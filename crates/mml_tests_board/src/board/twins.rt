@@ -99,10 +99,9 @@ impl Twins {
 }
 
 /// Of 1,000 events over a lab, on how many the boards agree; and how many kinds of events there were.
-fn agreed_over(alloc: Global, lab: &Lab, every: u64) -> Result<(u64, u64), Memory>
+fn agreed_by(alloc: Global, lab: &Lab, twins: &mut Twins, every: u64) -> Result<(u64, u64), Memory>
     requires { 0 < every }
 {
-    let mut twins = Twins::new(alloc, lab)?;
     let mut numbers = Numbers {
         state: lab.node_count(),
     };
@@ -118,13 +117,21 @@ fn agreed_over(alloc: Global, lab: &Lab, every: u64) -> Result<(u64, u64), Memor
     Ok((agreed, kinds.len()))
 }
 
+/// The same from the beginning of a run.
+fn agreed_over(alloc: Global, lab: &Lab, every: u64) -> Result<(u64, u64), Fail>
+    requires { 0 < every }
+{
+    let mut twins = Twins::new(alloc, lab)?;
+    Ok(agreed_by(alloc, lab, &mut twins, every)?)
+}
+
 /// The same over a mesh of so many nodes.
 fn agreed(alloc: Global, count: u64, every: u64) -> Result<(u64, u64), Fail>
     requires { 0 < every }
 {
     let document = mesh(alloc, count)?;
     let lab = read_lab(alloc, document.as_bytes())?;
-    Ok(agreed_over(alloc, &lab, every)?)
+    agreed_over(alloc, &lab, every)
 }
 
 #[test]
