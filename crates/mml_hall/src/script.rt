@@ -1,10 +1,11 @@
-ghost use Rattle.std.specs.Prelude.{◌≡◌, ◌+◌, ◌-◌, ◌^◌, ◌<◌, ◌≤◌, ◌++◌, ◌∷◌, [], length, decimal, None, OnOk, IfOk, IfErr, vec_capacity};
+ghost use Rattle.std.specs.Prelude.{◌≡◌, ◌≢◌, ◌+◌, ◌-◌, ◌^◌, ◌<◌, ◌≤◌, ◌++◌, ◌∷◌, [], length, decimal, None, OnOk, IfOk, IfErr, vec_capacity};
 ghost use Rattle.std.specs.Io.KnownBytes.{prepend_known};
 ghost use Rattle.mml_lines.specs.declared.lines.TheConstants.{READ_SIZE};
 ghost use Rattle.mml_lines.specs.LinesOf.{IsWithinLimit};
+ghost use Rattle.mml_lines.specs.LinesState.{fresh};
 ghost use Rattle.mml_lines.specs.Sending.{BreaksOff, Sends};
 ghost use Rattle.mml_codec.specs.Replies.{IsAbout, reply_line};
-ghost use Rattle.mml_hall.specs.Turns.{Halts};
+ghost use Rattle.mml_hall.specs.Turns.{Halts, opening};
 ghost use Rattle.mml_journal.specs.Taken.{IsFresh};
 ghost use Rattle.mml_hall.specs.Journals.{TellsJournal, Journals};
 ghost use Rattle.mml_hall.specs.ScriptLines.{IsScriptLine, line_of};
@@ -92,24 +93,65 @@ pub fn run_script<R: Read, W: Write, S: Sink + Drop>(
     ensures untouched { result ≡ Err ScriptFault.Memory →
         (reader.new ≡ reader.old) × (writer.new ≡ writer.old) }
 {
-    let mut lines = Lines::new(alloc, MAX_SCRIPT_LINE)?;
-    let mut out = Vec::with_capacity(alloc, REPLY_ROOM)?;
-    let mut outgoing = Outgoing::new(alloc)?;
     let mut hall = Hall::new(alloc, lab, sink)?;
+    let (mut lines, mut out, mut outgoing) = buffers(alloc)?;
+    match answer_lines(
+        alloc,
+        &mut hall,
+        &mut lines,
+        &mut out,
+        &mut outgoing,
+        reader,
+        writer,
+    ) {
+        Ok(()) => Ok(hall),
+        Err(fault) => Err(fault),
+    }
+}
+
+// What is reserved before anything is read: for lines, for one reply and for lines that go out together.
+fn buffers(alloc: Global) -> Result<(Lines, Vec<u8>, Outgoing), Memory>
+    ensures lines { IfOk result (λ b. b.0 ≡ fresh MAX_SCRIPT_LINE) }
+    ensures room { IfOk result (λ b. REPLY_ROOM ≤ vec_capacity b.1) }
+    ensures outgoing { IfOk result (λ b. b.2 ≡ []) }
+{
+    let lines = Lines::new(alloc, MAX_SCRIPT_LINE)?;
+    let out = Vec::with_capacity(alloc, REPLY_ROOM)?;
+    let outgoing = Outgoing::new(alloc)?;
+    Ok((lines, out, outgoing))
+}
+
+// Answers all lines of the input in a hall that was just opened.
+fn answer_lines<R: Read, W: Write, S: Sink>(
+    alloc: Global,
+    hall: &mut Hall<S>,
+    lines: &mut Lines,
+    out: &mut Vec<u8>,
+    outgoing: &mut Outgoing,
+    reader: &mut R,
+    writer: &mut W,
+) -> Result<(), ScriptFault>
+    requires fresh { IsFresh (S.contents hall.old.sink) }
+    requires opening { hall.old.state ≡ opening hall.old.lab }
+    requires nothing_read { lines.old ≡ fresh MAX_SCRIPT_LINE }
+    requires room { REPLY_ROOM ≤ vec_capacity out.old }
+    requires nothing_held { outgoing.old ≡ [] }
+    ensures finished { OnOk result
+        (Finished (Journals S.contents S.failures hall.old.lab hall.old.sink)
+        hall.new hall.old.lab (R.remaining reader.old) (R.remaining reader.new)
+        (W.contents writer.old) (W.contents writer.new)) }
+    ensures stopped { IfErr result (λ fault.
+        Stopped (Journals S.contents S.failures hall.old.lab hall.old.sink)
+        fault hall.old.lab (R.remaining reader.old) (R.remaining reader.new)
+        (W.contents writer.old) (W.contents writer.new)) }
+    ensures begun { result ≢ Err ScriptFault.Memory }
+{
     let mut answered: u64 = 0;
     loop {
-        flush_before_read(&lines, &mut outgoing, writer)?;
-        match serve_next(
-            alloc,
-            &mut hall,
-            &mut lines,
-            &mut out,
-            &mut outgoing,
-            reader,
-            writer,
-        ) {
+        flush_before_read(lines, outgoing, writer)?;
+        match serve_next(alloc, hall, lines, out, outgoing, reader, writer) {
             Next::Answered => answered += 1,
-            Next::End => return Ok(hall),
+            Next::End => return Ok(()),
             Next::BadLine => {
                 outgoing.flush(writer)?;
                 return Err(bad_line_after(answered));

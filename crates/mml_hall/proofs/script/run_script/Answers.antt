@@ -1,63 +1,7 @@
-use Rattle.std.proofs.Common.{arith, ap, refl}
-use Rattle.mml_hall.proofs.ScriptsLemmas.{nothing_yet, sent_on, one_more, finished_so, bad_so, unread_so, unwritten_so, unflushed_so, bad_unflushed_so, write_told}
 use Rattle.mml_hall.proofs.script.run_script.Goals as goal
 
-pub loop-hall-init : goal.loop-hall-init
-loop-hall-init g c = record {
-  so_far = nothing_yet g.S.Sink.contents g.S.Sink.failures c.args.lab c.args.sink c.in_ok-hall.hall (g.R.Read.remaining c.args.reader.now) (g.W.Write.contents c.args.writer.now) c.in_ok-lines.lines.unread c.in_ok-outgoing.outgoing
-      c.in_ok-hall.ensures.lab c.in_ok-hall.ensures.opening c.in_ok-hall.ensures.sink c.requires.fresh (ap (λ x. x.unread) c.in_ok-lines.ensures) c.in_ok-outgoing.ensures;
-  going = ap (λ x. x.ending) c.in_ok-lines.ensures;
-  limit = ap (λ x. x.limit) c.in_ok-lines.ensures;
-  few_held = rw (ap (λ x. x.unread) c.in_ok-lines.ensures) (omega arith);
-  few = rw (ap (λ x. x.unread) c.in_ok-lines.ensures, ap (λ x. x.reads) c.in_ok-lines.ensures) (omega arith);
-  room = omega (arith, c.in_ok-out.ensures.exact);
-}
+pub returns-in-Ok-clause-finished : goal.returns-in-Ok-clause-finished
+returns-in-Ok-clause-finished g c = rw (c.in_ok-hall.ensures.lab, c.in_ok-hall.ensures.sink) at c.in-Ok.ensures.finished
 
-pub returns-in_err-flush_before_read-clause-stopped : goal.returns-in_err-flush_before_read-clause-stopped
-returns-in_err-flush_before_read-clause-stopped g c =
-    write_told c.from_residual-in_err-flush_before_read.result _ c.in_err-flush_before_read.field-0.0.written c.from_residual-in_err-flush_before_read.ensures.1
-    (unflushed_so g.S.Sink.contents g.S.Sink.failures c.args.lab c.args.sink c.loop-hall.hall c.loop-hall.answered c.in_err-flush_before_read.field-0.0 _ _ _ _ _ c.loop-hall.lines.unread c.loop-hall.outgoing
-    c.loop-hall.invariant.so_far c.loop-hall.invariant.few_held c.in_err-flush_before_read.ensures.err)
-
-pub loop-hall-preserved : goal.loop-hall-preserved
-loop-hall-preserved g c = record {
-  so_far = one_more g.S.Sink.contents g.S.Sink.failures c.args.lab c.args.sink c.loop-hall.hall c.serve_next.new.hall c.loop-hall.answered _ _ _ _ _ _ c.serve_next.new.lines.unread c.flush_before_read.new.outgoing c.serve_next.new.outgoing
-      (sent_on g.S.Sink.contents g.S.Sink.failures c.args.lab c.args.sink c.loop-hall.hall c.loop-hall.answered _ _ _ _ _ c.loop-hall.outgoing c.flush_before_read.new.outgoing c.loop-hall.invariant.so_far c.in_ok-flush_before_read.ensures.ok)
-      c.in-Answered.ensures.lab c.in-Answered.ensures.journal c.in-Answered.ensures.halts c.in-Answered.ensures.serves;
-  going = c.in-Answered.ensures.going refl;
-  limit = c.in-Answered.ensures.limit;
-  few_held = c.in-Answered.ensures.few refl;
-  few = omega (arith, c.loop-hall.invariant.few, c.in-Answered.ensures.progress refl);
-  room = c.in-Answered.ensures.room;
-}
-
-pub returns-in-End-clause-finished : goal.returns-in-End-clause-finished
-returns-in-End-clause-finished g c =
-    finished_so g.S.Sink.contents g.S.Sink.failures c.args.lab c.args.sink c.loop-hall.hall c.serve_next.new.hall c.loop-hall.answered _ _ _ _ _ _ c.serve_next.new.lines.unread c.flush_before_read.new.outgoing c.serve_next.new.outgoing
-    (sent_on g.S.Sink.contents g.S.Sink.failures c.args.lab c.args.sink c.loop-hall.hall c.loop-hall.answered _ _ _ _ _ c.loop-hall.outgoing c.flush_before_read.new.outgoing c.loop-hall.invariant.so_far c.in_ok-flush_before_read.ensures.ok)
-    c.in-End.ensures.lab c.in-End.ensures.journal c.in-End.ensures.halts c.in-End.ensures.serves
-
-pub returns-in_err-flush-in-BadLine-clause-stopped : goal.returns-in_err-flush-in-BadLine-clause-stopped
-returns-in_err-flush-in-BadLine-clause-stopped g c =
-    write_told c.from_residual-in_err-flush-in-BadLine.result _ c.in_err-flush-in-BadLine.field-0.0.written c.from_residual-in_err-flush-in-BadLine.ensures.1
-    (bad_unflushed_so g.S.Sink.contents g.S.Sink.failures c.args.lab c.args.sink c.loop-hall.hall c.loop-hall.answered c.in_err-flush-in-BadLine.field-0.0 _ _ _ _ _ _ _ c.serve_next.new.lines.unread c.serve_next.new.hall.state c.flush_before_read.new.outgoing c.serve_next.new.outgoing
-    (sent_on g.S.Sink.contents g.S.Sink.failures c.args.lab c.args.sink c.loop-hall.hall c.loop-hall.answered _ _ _ _ _ c.loop-hall.outgoing c.flush_before_read.new.outgoing c.loop-hall.invariant.so_far c.in_ok-flush_before_read.ensures.ok)
-    c.in-BadLine.ensures.serves c.in_err-flush-in-BadLine.ensures.err)
-
-pub returns-in-BadLine-clause-stopped : goal.returns-in-BadLine-clause-stopped
-returns-in-BadLine-clause-stopped g c =
-    rw c.bad_line_after.ensures (bad_so g.S.Sink.contents g.S.Sink.failures c.args.lab c.args.sink c.loop-hall.hall c.loop-hall.answered _ _ _ _ _ _ _ c.serve_next.new.lines.unread c.serve_next.new.hall.state c.flush_before_read.new.outgoing c.serve_next.new.outgoing
-    (sent_on g.S.Sink.contents g.S.Sink.failures c.args.lab c.args.sink c.loop-hall.hall c.loop-hall.answered _ _ _ _ _ c.loop-hall.outgoing c.flush_before_read.new.outgoing c.loop-hall.invariant.so_far c.in_ok-flush_before_read.ensures.ok)
-    c.in-BadLine.ensures.serves c.in_ok-flush-in-BadLine.ensures.ok)
-
-pub returns-in-ReadFault-clause-stopped : goal.returns-in-ReadFault-clause-stopped
-returns-in-ReadFault-clause-stopped g c =
-    unread_so g.S.Sink.contents g.S.Sink.failures c.args.lab c.args.sink c.loop-hall.hall c.loop-hall.answered _ _ _ _ _ _ c.serve_next.new.lines.unread c.serve_next.new.hall.state c.flush_before_read.new.outgoing c.serve_next.new.outgoing
-    (sent_on g.S.Sink.contents g.S.Sink.failures c.args.lab c.args.sink c.loop-hall.hall c.loop-hall.answered _ _ _ _ _ c.loop-hall.outgoing c.flush_before_read.new.outgoing c.loop-hall.invariant.so_far c.in_ok-flush_before_read.ensures.ok)
-    c.in-ReadFault.ensures.serves
-
-pub returns-in-WriteFault-clause-stopped : goal.returns-in-WriteFault-clause-stopped
-returns-in-WriteFault-clause-stopped g c =
-    unwritten_so g.S.Sink.contents g.S.Sink.failures c.args.lab c.args.sink c.loop-hall.hall c.serve_next.new.hall c.loop-hall.answered c.in-WriteFault.fault _ _ _ _ _ _ c.serve_next.new.lines.unread c.flush_before_read.new.outgoing c.serve_next.new.outgoing
-    (sent_on g.S.Sink.contents g.S.Sink.failures c.args.lab c.args.sink c.loop-hall.hall c.loop-hall.answered _ _ _ _ _ c.loop-hall.outgoing c.flush_before_read.new.outgoing c.loop-hall.invariant.so_far c.in_ok-flush_before_read.ensures.ok)
-    c.in-WriteFault.ensures.lab c.in-WriteFault.ensures.journal c.in-WriteFault.ensures.halts c.in-WriteFault.ensures.serves
+pub returns-in-Err-clause-stopped : goal.returns-in-Err-clause-stopped
+returns-in-Err-clause-stopped g c = rw (c.in_ok-hall.ensures.lab, c.in_ok-hall.ensures.sink) at c.in-Err.ensures.stopped

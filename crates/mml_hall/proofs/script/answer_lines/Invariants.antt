@@ -6,11 +6,11 @@ use Rattle.std.specs.Io.KnownBytes.{prepend_known}
 use Rattle.mml_codec.specs.declared.reply.TheConstants.{REPLY_ROOM}
 use Rattle.mml_hall.specs.declared.TheConstants.{MAX_SCRIPT_LINE}
 use Rattle.mml_hall.proofs.ScriptsLemmas.{AnsweredSoFar}
-use Rattle.mml_hall.proofs.script.run_script.Given as goal
+use Rattle.mml_hall.proofs.script.answer_lines.Given as goal
 
 abbrev pub invariant-loop-hall : goal.invariant-loop-hall
 invariant-loop-hall g l = record {
-  so_far : AnsweredSoFar g.S.Sink.contents g.S.Sink.failures l.fn.lab l.fn.sink l.hall l.answered (g.R.Read.remaining l.fn.reader) (prepend_known l.lines.unread (g.R.Read.remaining l.reader)) l.outgoing (g.W.Write.contents l.fn.writer) (g.W.Write.contents l.writer);
+  so_far : AnsweredSoFar g.S.Sink.contents g.S.Sink.failures l.fn.hall.lab l.fn.hall.sink l.hall l.answered (g.R.Read.remaining l.fn.reader) (prepend_known l.lines.unread (g.R.Read.remaining l.reader)) l.outgoing (g.W.Write.contents l.fn.writer) (g.W.Write.contents l.writer);
   going : l.lines.ending ≡ None;
   limit : l.lines.limit ≡ MAX_SCRIPT_LINE;
   few_held : length l.lines.unread < READ_SIZE;
