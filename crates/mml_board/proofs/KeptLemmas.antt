@@ -113,19 +113,6 @@ same_sets s t e f = same_ranks _ _ (λ q. go (sets.contains s q) (sets.contains 
     go false true h k = sym k
     go false false h k = refl
 
--- one rank less
-pub len-remove_one : (s : FinSet nat_cmp) (a : ℕ) → sets.contains s a ≡ true → sets.len s ≡ sets.len (sets.remove s a) + 1
-len-remove_one s a h =
-    ap sets.len (same_ranks s (sets.insert (sets.remove s a) a) (λ q. sym (has_insert (sets.remove s a) a q ∙ ap (λ b. eqb q a || b) (has_remove s a q) ∙ back q)))
-    ∙ sets.len-insert nat_cmp_total (sets.remove s a) a
-    ∙ ap (λ b. cond b (sets.len (sets.remove s a)) (sets.len (sets.remove s a) + 1)) (has_remove s a a ∙ ap (λ b. not b && sets.contains s a) (eq-eqb a a refl))
-  where
-    back : (q : ℕ) → (eqb q a || (not (eqb q a) && sets.contains s q)) ≡ sets.contains s q
-    back q = elim (cases_eq q a) [
-      | inl e ↦ rw (e, eq-eqb a a refl) (sym h)
-      | inr ne ↦ rw (ne_eqb q a ne) refl
-    ]
-
 len-insert_new : (s : FinSet nat_cmp) (k : ℕ) → sets.contains s k ≡ false → sets.len (sets.insert s k) ≡ sets.len s + 1
 len-insert_new s k e = sets.len-insert nat_cmp_total s k ∙ ap (λ c. cond c (sets.len s) (sets.len s + 1)) e
 

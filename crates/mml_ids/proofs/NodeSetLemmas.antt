@@ -238,3 +238,32 @@ none_above_highest n words w k q high zeros there =
         ]
       ]
     ]
+
+-- a one of a word
+pub has-one : (n : ℕ) (words : List ℕ) (w k : ℕ) → 64 * w + k < n → k < 64 → bit_at (get_or words w 0) k ≡ 1 → sets.contains (set_of n words) (64 * w + k) ≡ true
+has-one n words w k inside below one =
+    let place : (64 * w + k) / 64 ≡ w = omega arith in
+    let bit : (64 * w + k) % 64 ≡ k = omega arith in
+    has-set_of n words (64 * w + k)
+    ∙ ap (λ b. b && bit_in words (64 * w + k)) (lt-ltb (64 * w + k) n inside)
+    ∙ ap (λ x. eqb (bit_at (get_or words x 0) ((64 * w + k) % 64)) 1) place
+    ∙ ap (λ x. eqb (bit_at (get_or words w 0) x) 1) bit
+    ∙ eq-eqb (bit_at (get_or words w 0) k) 1 one
+
+-- where no earlier word has a one, none is below the lowest of this one
+pub none_below_lowest : (n : ℕ) (words : List ℕ) (w k q : ℕ) → k < 64 → ((i : ℕ) → i < k → bit_at (get_or words w 0) i ≡ 0) → ((v : ℕ) → v < w → get_or words v 0 ≡ 0) → sets.contains (set_of n words) q ≡ true → 64 * w + k ≤ q
+none_below_lowest n words w k q below low zeros there =
+    let parts = and_parts (ltb q n) (bit_in words q) (sym (has-set_of n words q) ∙ there) in
+    let one : digit words q ≡ 1 = eqb-true (digit words q) 1 parts.1 in
+    elim (cases_lt q (64 * w + k)) [
+      | inr le ↦ le
+      | inl less ↦ elim (cases_eq (q / 64) w) [
+        | inl same ↦
+            let bit : bit_at (get_or words w 0) (q % 64) ≡ 0 = low (q % 64) (omega arith) in
+            let other : digit words q ≡ bit_at (get_or words w 0) (q % 64) = ap (λ x. bit_at (get_or words x 0) (q % 64)) same in
+            omega arith
+        | inr other ↦
+            let bit : digit words q ≡ 0 = ap (λ b. bit_at b (q % 64)) (zeros (q / 64) (omega arith)) ∙ bit_at-zero (q % 64) in
+            omega arith
+      ]
+    ]

@@ -1,7 +1,11 @@
 -- To whom a node is shown, as tests and as facts.
-use Rattle.std.proofs.Common.{◌≡◌, ℕ, ◌<◌, true, false, ◌&&◌, ◌||◌, inl, inr, refl, sym, ap, ◌∙◌}
+use Rattle.std.proofs.Common.{◌≡◌, ℕ, ◌<◌, Bool, true, false, not, ◌&&◌, ◌||◌, inl, inr, refl, sym, ap, ◌∙◌}
 use Rattle.std.specs.Prelude.{◌↔◌}
-use Rattle.std.proofs.lemmas.Bool.{and_parts, and_from, or_cases, or_left, or_right, false≢true}
+use Rattle.std.proofs.lemmas.Bool.{cases_eq, ne_eqb, and_parts, and_from, or_cases, or_left, or_right, both_ways, false_from_ne_true, false≢true}
+use Rattle.std.specs.Ordering.{nat_cmp}
+use Rattle.std.specs.FinSet as sets
+use Rattle.std.specs.FinSet.{FinSet}
+use Rattle.mml_ids.specs.inside.WordsLemmas.{has_remove}
 use Rattle.mml_ids.specs.Search.{some_below}
 use Rattle.mml_rules.specs.Configuration.{Configuration, IsLawful}
 use Rattle.mml_ids.proofs.SearchLemmas.{some_below-find, some_below-at}
@@ -43,6 +47,16 @@ from_fact r c x i l v = elim v [
 pub visible_means : (r : RosterValue) (c : Configuration) (x : Who) (i : ℕ) → IsLawful c → (is_visible r c x i ≡ true) ↔ IsVisible r c x i
 visible_means r c x i l = (to_fact r c x i, from_fact r c x i l)
 
-pub no_owner : (r : RosterValue) (c : Configuration) (x : Who) (i n : ℕ) → n ≡ c.size → some_below n (λ j. c.linked i j && owns r x j) ≡ false → false ≡ owns_neighbour r c x i
+pub no_owner : (r : RosterValue) (c : Configuration) (x : Who) (i : ℕ) → ((j : ℕ) → c.linked i j ≡ true → owns r x j ≡ false) → false ≡ owns_neighbour r c x i
 unfolding owns_neighbour
-no_owner r c x i n all h = sym (ap (λ k. some_below k (λ j. c.linked i j && owns r x j)) (sym all) ∙ h)
+no_owner r c x i none = sym (false_from_ne_true (some_below c.size (λ j. c.linked i j && owns r x j)) (λ h.
+    let found = some_below-find c.size (λ j. c.linked i j && owns r x j) h in
+    let both = and_parts (c.linked i found.0) (owns r x found.0) found.2 in
+    both_ways (owns r x found.0) (none found.0 both.0) both.1))
+
+-- one more is looked at
+pub none_yet : (left rest : FinSet nat_cmp) (a j : ℕ) (test : ℕ → Bool) → rest ≡ sets.remove left a → test a ≡ false → (sets.contains left j ≡ false → test j ≡ false) → sets.contains rest j ≡ false → test j ≡ false
+none_yet left rest a j test removed here before gone = elim (cases_eq j a) [
+  | inl e ↦ ap test e ∙ here
+  | inr ne ↦ before (sym (ap (λ b. not b && sets.contains left j) (ne_eqb j a ne)) ∙ sym (has_remove left a j) ∙ sym (ap (λ s. sets.contains s j) removed) ∙ gone)
+]

@@ -40,12 +40,11 @@ fn near(alloc: Global, board: &Board, node: Rank) -> Result<Vec<(Rank, Regs)>, M
     requires { node < length board.now.network.registers }
     ensures { IfOk result (λ nodes. nodes.items ≡ near board.now node) }
 {
+    let _size = board.size();
     let mut near = Vec::new(alloc);
-    for index in 0..board.size() {
-        let other = Rank::at(index);
-        if board.linked(node, other) {
-            near.push((other, board.regs(other)))?;
-        }
+    let mut left = board.neighbours(node);
+    while let Some(other) = left.take_least() {
+        near.push((other, board.regs(other)))?;
     }
     Ok(near)
 }

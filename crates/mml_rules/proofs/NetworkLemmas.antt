@@ -4,29 +4,10 @@ use Rattle.std.proofs.lemmas.Bool.{cases_eq, eq-eqb, ne_eqb, eqb-true, and_parts
 use Rattle.std.specs.FinSet as sets
 use Rattle.std.specs.FinSet.{FinSet}
 use Rattle.std.specs.Ordering.{nat_cmp}
-use Rattle.std.specs.Cmp.{nat_cmp_total}
-use Rattle.mml_ids.specs.inside.WordsLemmas.{has_empty, has_insert, has_remove, same_ranks}
+use Rattle.mml_ids.specs.inside.WordsLemmas.{has_insert, has_remove}
 use Rattle.mml_rules.specs.declared.registers.Regs.{Regs}
 use Rattle.mml_rules.specs.Configuration.{holds}
 use Rattle.mml_rules.specs.Network.{Network, neighbours_at, registers_at, configuration_of, IsNetwork, with_neighbour, without_neighbour, unpointed, with_registers, with_link, without_link}
-
-or_none : (b : Bool) → (b || false) ≡ b
-or_none true = refl
-or_none false = refl
-
-and_swap : (u v : Bool) → (u && v) ≡ (v && u)
-and_swap true true = refl
-and_swap true false = refl
-and_swap false true = refl
-and_swap false false = refl
-
--- a set without the ranks of another that has one rank alone
-pub without_one : (s : FinSet nat_cmp) (b : ℕ) → sets.difference s (sets.insert sets.empty b) ≡ sets.remove s b
-without_one s b = same_ranks _ _ (λ q.
-    sets.contains-difference nat_cmp_total s (sets.insert sets.empty b) q
-    ∙ ap (λ x. sets.contains s q && not x) (has_insert sets.empty b q ∙ ap (λ x. eqb q b || x) (has_empty q) ∙ or_none (eqb q b))
-    ∙ and_swap (sets.contains s q) (not (eqb q b))
-    ∙ sym (has_remove s b q))
 
 pub neighbours_at-set : (neighbours : List (FinSet nat_cmp)) (a i : ℕ) (s : FinSet nat_cmp) → a < length neighbours → neighbours_at (set neighbours a s) i ≡ cond (eqb i a) s (neighbours_at neighbours i)
 neighbours_at-set neighbours a i s l = elim (cases_eq i a) [

@@ -1,27 +1,43 @@
--- The lists of a report: one more of what is listed, and the open links of a node from rows of sets.
-use Rattle.std.proofs.Common.{◌≡◌, ℕ, ◌+◌, ◌≤◌, Bool, true, false, ◌&&◌, ltb, List, [], ◌∷◌, ◌++◌, sym, refl, ap, ◌∙◌, arith, add-one, append_assoc, append-nil}
-use Rattle.std.proofs.lemmas.Bool.{lt-ltb}
+-- The lists of a report: the open links of a node from rows of sets, and that no node is privileged.
+use Rattle.std.proofs.Common.{◌≡◌, ℕ, zero, suc, ◌+◌, ◌<◌, ◌≤◌, Bool, true, false, cond, not, ◌&&◌, ◌||◌, eqb, ltb, [], ◌∷◌, ◌++◌, map, sym, refl, ap, ◌∙◌, arith, zero-add, add-one}
+use Rattle.std.proofs.lemmas.Bool.{lt-ltb, ne_eqb, and_parts}
+use Rattle.std.specs.List.{range_with_len}
+use Rattle.std.proofs.lemmas.List.Elements.{filter_agree}
+use Rattle.std.specs.Ordering.{nat_cmp}
+use Rattle.std.specs.FinSet as sets
+use Rattle.std.specs.FinSet.{FinSet}
+use Rattle.mml_ids.specs.Search.{some_below, count_below}
+use Rattle.mml_ids.proofs.SetsLemmas.{ranks_in, passing, passing_more}
 use Rattle.mml_rules.specs.Configuration.{Configuration, IsLawful}
-use Rattle.mml_stable.specs.declared.open_link.OpenLink.{OpenLink}
-use Rattle.mml_stable.specs.Reports.{each_below, listed_if, is_free, is_open, open_link}
+use Rattle.mml_stable.specs.Reports.{each_below, listed_if, is_free, is_open, open_link, open_links_at}
 
-put_next : {A : Type 0} (before now new : List A) (n : ℕ) (f : ℕ → List A) (xs : List A) → now ≡ before ++ each_below n f → new ≡ now ++ xs → xs ≡ f n → new ≡ before ++ each_below (n + 1) f
-put_next before now new n f xs so_far put is =
-    put ∙ ap (λ ys. ys ++ xs) so_far ∙ append_assoc before (each_below n f) xs ∙ ap (λ ys. before ++ (each_below n f ++ ys)) is
-    ∙ ap (λ k. before ++ each_below k f) (sym (add-one n))
+-- what is listed of the numbers below n that pass
+listed_below : {A : Type 0} (t : ℕ → Bool) (f : ℕ → A) (n : ℕ) → passing t f n ≡ each_below n (λ b. listed_if (t b) (f b))
+listed_below t f zero = refl
+listed_below t f (suc n) = ap (passing t f) (sym (add-one n)) ∙ passing_more t f n ∙ (λ i. listed_below t f n i ++ one (t n) i)
+  where
+    one : (b : Bool) → map f (cond b (n ∷ []) []) ≡ listed_if b (f n)
+    one true = refl
+    one false = refl
 
--- what is listed of a and b
-abbrev pub link_at : Configuration → ℕ → ℕ → List OpenLink
-link_at c a b = listed_if (is_open c a b) (open_link c a b)
+-- of the ends of the open links of a
+pub links_of_ends : (c : Configuration) (a : ℕ) (ends : FinSet nat_cmp) → ((b : ℕ) → sets.contains ends b ≡ is_open c a b) → map (open_link c a) (ranks_in c.size ends) ≡ open_links_at c a
+links_of_ends c a ends same =
+    ap (map (open_link c a)) (filter_agree (sets.contains ends) (is_open c a) same (range_with_len 0 c.size))
+    ∙ listed_below (is_open c a) (open_link c a) c.size
 
-pub put_link : (c : Configuration) (a b n : ℕ) (x : OpenLink) (before now new : List OpenLink) → now ≡ before ++ each_below n (link_at c a) → new ≡ now ++ (x ∷ []) → b ≡ n → x ≡ open_link c a b → is_open c a b ≡ true → new ≡ before ++ each_below (n + 1) (link_at c a)
-put_link c a b n x before now new so_far put at is open_b =
-    put_next before now new n (link_at c a) (x ∷ []) so_far put
-    (ap (λ y. y ∷ []) is ∙ sym (ap (λ t. listed_if t (open_link c a b)) open_b) ∙ ap (link_at c a) at)
+-- both ends of an open link are nodes
+pub greater_end : (c : Configuration) (a b : ℕ) → IsLawful c → is_open c a b ≡ true → b < c.size
+greater_end c a b lawful open_b = (lawful.in_range a b (and_parts (c.linked a b) _ open_b).0).1
 
-pub pass_link : (c : Configuration) (a b n : ℕ) (before now new : List OpenLink) → now ≡ before ++ each_below n (link_at c a) → new ≡ now → b ≡ n → is_open c a b ≡ false → new ≡ before ++ each_below (n + 1) (link_at c a)
-pass_link c a b n before now new so_far same at closed_b =
-    put_next before now new n (link_at c a) [] so_far (same ∙ sym (append-nil now)) (sym (ap (λ t. listed_if t (open_link c a b)) closed_b) ∙ ap (link_at c a) at)
+-- no node is counted where there is none
+pub none_counted : (n : ℕ) (t : ℕ → Bool) → eqb (count_below n t) 0 ≡ not (some_below n t)
+none_counted zero t = refl
+none_counted (suc n) t = go (t n) (none_counted n t)
+  where
+    go : (b : Bool) → eqb (count_below n t) 0 ≡ not (some_below n t) → eqb (cond b 1 0 + count_below n t) 0 ≡ not (b || some_below n t)
+    go true below = ne_eqb (1 + count_below n t) 0 (λ e. omega arith)
+    go false below = ap (λ k. eqb k 0) (zero-add (count_below n t)) ∙ below
 
 row : (linked free_b above in_size few free_a : Bool) → (linked ≡ true → (in_size ≡ true) × (few ≡ true)) → free_a ≡ true → ((linked && (in_size && free_b)) && (above && few)) ≡ (linked && (above && (free_a && free_b)))
 row false free_b above in_size few free_a within free = refl

@@ -126,11 +126,10 @@ fn put_open_links(
     ensures { OnOk result
         (all.new.items ≡ all.old.items ++ open_links_at (configuration board.now) a) }
 {
-    for index in 0..board.size() {
-        let b = Rank::at(index);
-        if ends.has(b) {
-            all.push(open_link(board, a, b))?;
-        }
+    let _size = board.size();
+    let mut left = ends;
+    while let Some(b) = left.take_least() {
+        all.push(open_link(board, a, b))?;
     }
     Ok(())
 }
@@ -151,10 +150,5 @@ fn open_links(alloc: Global, board: &Board) -> Result<Vec<OpenLink>, Memory>
 fn is_stable(board: &Board) -> bool
     ensures { result ≡ is_stable (configuration board.now) }
 {
-    for index in 0..board.size() {
-        if board.enabled(Rank::at(index)).is_some() {
-            return false;
-        }
-    }
-    true
+    board.privileged_count() == 0
 }

@@ -84,14 +84,31 @@ fn ranges(rt: HostRuntime) {
     }
 }
 
-/// Whether a set has these ranks, of which the last is the greatest, and no other.
+/// Whether these ranks are taken out of the set in this order, and then none.
+fn gives_in_order(set: NodeSet, ranks: &[u64]) -> bool {
+    let mut left = set;
+    for index in ranks {
+        if left.take_least().map(Rank::index) != Some(*index) {
+            return false;
+        }
+    }
+    left.take_least().is_none()
+}
+
+/// Whether a set has these ranks, of which the first is the least and the last the greatest, and no
+/// other.
 fn has_only(set: NodeSet, ranks: &[u64]) -> bool {
+    let least = set.least().map(Rank::index);
     let greatest = set.greatest().map(Rank::index);
     let has_all = ranks.iter().all(|index| match Rank::new(*index) {
         Some(rank) => set.has(rank),
         None => false,
     });
-    has_all && set.len() == ranks.len() as u64 && greatest == ranks.last().copied()
+    has_all
+        && set.len() == ranks.len() as u64
+        && least == ranks.first().copied()
+        && greatest == ranks.last().copied()
+        && gives_in_order(set, ranks)
 }
 
 #[test]
@@ -140,9 +157,11 @@ fn is_list(set: NodeSet, list: &[bool]) -> bool {
     let members = list.iter().enumerate().all(|(index, there)| {
         Rank::new(index as u64).is_some_and(|rank| set.has(rank) == *there)
     });
+    let least = list.iter().position(|there| *there);
     let greatest = list.iter().rposition(|there| *there);
     members
         && set.len() == list.iter().filter(|there| **there).count() as u64
+        && set.least().map(Rank::index) == least.map(|index| index as u64)
         && set.greatest().map(Rank::index) == greatest.map(|index| index as u64)
 }
 

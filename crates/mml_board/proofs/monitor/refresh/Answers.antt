@@ -5,7 +5,8 @@ use Rattle.std.specs.Ordering.{nat_cmp}
 use Rattle.mml_rules.specs.Network.{configuration_of}
 use Rattle.mml_rules.specs.Configuration.{Configuration}
 use Rattle.mml_board.specs.inside.Monitor.{is_privileged_node}
-use Rattle.mml_board.proofs.KeptLemmas.{len-remove_one, in_remove}
+use Rattle.mml_ids.proofs.SetsLemmas.{len-remove_one}
+use Rattle.mml_board.proofs.KeptLemmas.{in_remove}
 use Rattle.mml_board.proofs.MonitorLemmas.{around-within, around_refreshed, none_touched, privileged-is}
 use Rattle.mml_board.proofs.monitor.refresh.Goals as goal
 

@@ -4,7 +4,8 @@ use Rattle.mml_rules.specs.Rules.{is_privileged}
 use Rattle.mml_rules.specs.Network.{configuration_of}
 use Rattle.mml_rules.specs.Configuration.{Configuration}
 use Rattle.mml_board.specs.inside.Monitor.{is_privileged_node}
-use Rattle.mml_board.proofs.KeptLemmas.{len-remove_one, in_remove}
+use Rattle.mml_ids.proofs.SetsLemmas.{len-remove_one}
+use Rattle.mml_board.proofs.KeptLemmas.{in_remove}
 use Rattle.mml_board.proofs.MonitorLemmas.{one_refreshed, all_refreshed, node_test}
 use Rattle.mml_board.proofs.monitor.refresh_each.Goals as goal
 

@@ -1,6 +1,6 @@
 use Rattle.std.proofs.Common.{ap, ◌∙◌}
 use Rattle.std.specs.FinSet as sets
-use Rattle.mml_rules.proofs.NetworkLemmas.{without_one}
+use Rattle.mml_ids.proofs.SetsLemmas.{without_one}
 use Rattle.mml_board.proofs.node_sets.except.Goals as goal
 
 pub returns : goal.returns

@@ -1,19 +1,32 @@
-use Rattle.std.proofs.Common.{◌≡◌, ◌∙◌, sym, ap, arith, length}
-use Rattle.mml_policy.proofs.NearLemmas.{near_with, near_without, near_all}
+use Rattle.std.proofs.Common.{◌∙◌, ◌<◌, ℕ, List, ◌++◌, ◌∷◌, [], map, ap, sym}
+use Rattle.std.specs.FinSet as sets
+use Rattle.mml_ids.proofs.SetsLemmas.{ranks_in, one_put, all_put}
+use Rattle.mml_rules.specs.declared.registers.Regs.{Regs}
+use Rattle.mml_board.specs.World.{size}
+use Rattle.mml_board.proofs.KeptLemmas.{in_remove}
+use Rattle.mml_policy.specs.Shown.{near}
+use Rattle.mml_policy.proofs.NearLemmas.{shown, near-is}
 use Rattle.mml_policy.proofs.look.near.Goals as goal
-use Rattle.mml_policy.proofs.look.near.Goals.{then-linked+in_ok-push, else-linked}
 
-pub loop-index-preserved : goal.loop-index-preserved
-loop-index-preserved c = elim c.if-linked.branch [
-  | then-linked+in_ok-push w ↦
-      near_with c.args.board.now c.args.node c.loop-index.index c.at-other.result c.loop-index.near.items c.if-linked.near.items w.regs.result c.at-other.ensures
-      (sym w.if-linked.ensures) w.regs.ensures c.loop-index.invariant (ap (λ v. v.items) w.near-is ∙ w.in_ok-push.ensures.items)
-  | else-linked w ↦
-      ap (λ v. v.items) w.near-is
-      ∙ near_without c.args.board.now c.args.node c.loop-index.index c.at-other.result c.loop-index.near.items c.at-other.ensures (sym w.if-linked.ensures) c.loop-index.invariant
-]
+pub loop-other-init : goal.loop-other-init
+loop-other-init c = record {
+  within = λ j h. (c.size-size.ensures.lawful.in_range c.args.node j (ap (λ s. sets.contains s j) (sym c.neighbours-left.ensures) ∙ h)).1;
+  so_far = ap (λ (xs : List (ℕ × Regs)). xs ++ map (shown c.args.board.now) (ranks_in (size c.args.board.now) c.neighbours-left.result)) c.new-near.ensures.items
+      ∙ near-is c.args.board.now c.args.node c.neighbours-left.result c.neighbours-left.ensures;
+}
+
+pub loop-other-preserved : goal.loop-other-preserved
+loop-other-preserved c =
+    let w = c.args.board.now in
+    let left = c.loop-other.left in
+    let other = c.in-Some.other in
+    let taken = c.in-Some.ensures in
+    let below : other < size w = c.loop-other.invariant.within other taken.member in
+    record {
+      within = λ j h. c.loop-other.invariant.within j (in_remove left other j (ap (λ s. sets.contains s j) (sym taken.rest) ∙ h));
+      so_far = one_put (shown w) (size w) left _ other c.loop-other.near.items _ (near w c.args.node) taken.member taken.least below taken.rest
+          (c.in_ok-push.ensures.items ∙ ap (λ (r : Regs). c.loop-other.near.items ++ (other, r) ∷ []) c.regs.ensures) c.loop-other.invariant.so_far;
+    }
 
 pub returns : goal.returns
-returns c =
-    let all : c.loop-index.index ≡ length c.args.board.now.network.registers = omega (arith, c.size-index-end.ensures.size) in
-    near_all c.args.board.now c.args.node c.loop-index.index c.loop-index.near.items all c.loop-index.invariant
+returns c = all_put (shown c.args.board.now) (size c.args.board.now) c.loop-other.left c.loop-other.near.items (near c.args.board.now c.args.node) c.in_default.ensures.none c.loop-other.invariant.so_far

@@ -1,6 +1,17 @@
-use Rattle.std.proofs.Common.{◌≡◌}
-use Rattle.mml_policy.specs.Shown.{near_below}
+use Rattle.std.proofs.Common.{◌≡◌, ℕ, ◌<◌, ◌++◌, true, map, length}
+use Rattle.std.specs.FinSet as sets
+use Rattle.mml_ids.proofs.SetsLemmas.{ranks_in}
+use Rattle.mml_board.specs.World.{size}
+use Rattle.mml_policy.specs.Shown.{near}
+use Rattle.mml_policy.proofs.NearLemmas.{shown}
 use Rattle.mml_policy.proofs.look.near.Given as goal
 
-abbrev pub invariant-loop-index : goal.invariant-loop-index
-invariant-loop-index l = l.near.items ≡ near_below l.board l.node l.index
+-- what was put, and what is shown of those that are left
+abbrev pub invariant-loop-other : goal.invariant-loop-other
+invariant-loop-other l = record {
+  within : (j : ℕ) → sets.contains l.left j ≡ true → j < length l.board.network.registers;
+  so_far : l.near.items ++ map (shown l.board) (ranks_in (size l.board) l.left) ≡ near l.board l.fn.node;
+}
+
+abbrev pub decreases-loop-other : goal.decreases-loop-other
+decreases-loop-other l = sets.len l.left

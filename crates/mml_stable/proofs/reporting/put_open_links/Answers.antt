@@ -1,15 +1,33 @@
-use Rattle.std.proofs.Common.{◌∙◌, sym, ap}
-use Rattle.mml_board.specs.World.{configuration}
-use Rattle.mml_stable.proofs.ReportsLemmas.{put_link, pass_link}
+use Rattle.std.proofs.Common.{◌≡◌, ◌∙◌, ◌<◌, ◌++◌, ◌∷◌, [], true, ap, sym}
+use Rattle.std.specs.FinSet as sets
+use Rattle.mml_ids.proofs.SetsLemmas.{one_put, all_put}
+use Rattle.mml_board.specs.World.{size, configuration}
+use Rattle.mml_board.proofs.KeptLemmas.{in_remove}
+use Rattle.mml_stable.specs.declared.open_link.OpenLink.{OpenLink}
+use Rattle.mml_stable.specs.Reports.{is_open, open_link, open_links_at}
+use Rattle.mml_stable.proofs.ReportsLemmas.{links_of_ends, greater_end}
 use Rattle.mml_stable.proofs.reporting.put_open_links.Goals as goal
-use Rattle.mml_stable.proofs.reporting.put_open_links.Goals.{then-has+in_ok-push, else-has}
 
-pub loop-index-preserved : goal.loop-index-preserved
-loop-index-preserved c = elim c.if-has.branch [
-  | then-has+in_ok-push w ↦
-      put_link (configuration c.args.board.now) c.args.a c.at-b.result c.loop-index.index w.open_link.result c.args.all.now.items c.loop-index.all.items c.if-has.all.items
-      c.loop-index.invariant (ap (λ v. v.items) w.all-is ∙ w.in_ok-push.ensures.items) c.at-b.ensures w.open_link.ensures (sym (c.requires c.at-b.result) ∙ sym w.if-has.ensures)
-  | else-has w ↦
-      pass_link (configuration c.args.board.now) c.args.a c.at-b.result c.loop-index.index c.args.all.now.items c.loop-index.all.items c.if-has.all.items
-      c.loop-index.invariant (ap (λ v. v.items) w.all-is) c.at-b.ensures (sym (c.requires c.at-b.result) ∙ sym w.if-has.ensures)
-]
+pub loop-b-init : goal.loop-b-init
+loop-b-init c = record {
+  each = λ b h. sym (c.requires b) ∙ h;
+  so_far = ap (λ links. c.args.all.now.items ++ links) (links_of_ends (configuration c.args.board.now) c.args.a c.args.ends c.requires);
+}
+
+pub loop-b-preserved : goal.loop-b-preserved
+loop-b-preserved c =
+    let d = configuration c.args.board.now in
+    let a = c.args.a in
+    let b = c.in-Some.b in
+    let left = c.loop-b.left in
+    let taken = c.in-Some.ensures in
+    let open_b : is_open d a b ≡ true = c.loop-b.invariant.each b taken.member in
+    let below : b < size c.args.board.now = greater_end d a b c.size-size.ensures.lawful open_b in
+    record {
+      each = λ k h. c.loop-b.invariant.each k (in_remove left b k (ap (λ s. sets.contains s k) (sym taken.rest) ∙ h));
+      so_far = one_put (open_link d a) (size c.args.board.now) left _ b c.loop-b.all.items _ (c.args.all.now.items ++ open_links_at d a) taken.member taken.least below taken.rest
+          (c.in_ok-push.ensures.items ∙ ap (λ (x : OpenLink). c.loop-b.all.items ++ x ∷ []) c.open_link.ensures) c.loop-b.invariant.so_far;
+    }
+
+pub returns : goal.returns
+returns c = all_put (open_link (configuration c.args.board.now) c.args.a) (size c.args.board.now) c.loop-b.left c.loop-b.all.items (c.args.all.now.items ++ open_links_at (configuration c.args.board.now) c.args.a) c.in_default.ensures.none c.loop-b.invariant.so_far

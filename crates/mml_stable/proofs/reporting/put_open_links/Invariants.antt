@@ -1,7 +1,16 @@
-use Rattle.std.proofs.Common.{◌≡◌, ◌++◌}
-use Rattle.mml_board.specs.World.{configuration}
-use Rattle.mml_stable.specs.Reports.{each_below, listed_if, is_open, open_link}
+use Rattle.std.proofs.Common.{◌≡◌, ℕ, ◌++◌, true, map}
+use Rattle.std.specs.FinSet as sets
+use Rattle.mml_ids.proofs.SetsLemmas.{ranks_in}
+use Rattle.mml_board.specs.World.{size, configuration}
+use Rattle.mml_stable.specs.Reports.{is_open, open_link, open_links_at}
 use Rattle.mml_stable.proofs.reporting.put_open_links.Given as goal
 
-abbrev pub invariant-loop-index : goal.invariant-loop-index
-invariant-loop-index l = l.all.items ≡ l.fn.all.items ++ each_below l.index (λ b. listed_if (is_open (configuration l.board) l.a b) (open_link (configuration l.board) l.a b))
+-- what was put, and the links of those that are left
+abbrev pub invariant-loop-b : goal.invariant-loop-b
+invariant-loop-b l = record {
+  each : (b : ℕ) → sets.contains l.left b ≡ true → is_open (configuration l.board) l.a b ≡ true;
+  so_far : l.all.items ++ map (open_link (configuration l.board) l.a) (ranks_in (size l.board) l.left) ≡ l.fn.all.items ++ open_links_at (configuration l.board) l.a;
+}
+
+abbrev pub decreases-loop-b : goal.decreases-loop-b
+decreases-loop-b l = sets.len l.left

@@ -1,0 +1,113 @@
+-- Sets of ranks: their ranks in rising order, one after the other, and a set without one of its ranks.
+use Rattle.std.proofs.Common.{◌≡◌, ◌≢◌, ℕ, zero, suc, ◌+◌, ◌<◌, ◌≤◌, Bool, true, false, cond, eqb, not, ◌&&◌, ◌||◌, List, [], ◌∷◌, ◌++◌, map, filter, sym, refl, ap, ◌∙◌, arith, inl, inr, append-nil, append_assoc, zero-add}
+use Rattle.std.proofs.lemmas.Bool.{cases_eq, eq-eqb, ne_eqb, false_from_ne_true}
+use Rattle.std.specs.List.{range_with_len}
+use Rattle.std.proofs.lemmas.List.{map-append}
+use Rattle.std.proofs.lemmas.List.FromFn.{map-range_with_len_more}
+use Rattle.std.proofs.lemmas.List.Elements.{filter-append}
+use Rattle.std.specs.Cmp.{nat_cmp_total}
+use Rattle.std.specs.Ordering.{nat_cmp}
+use Rattle.std.specs.FinSet as sets
+use Rattle.std.specs.FinSet.{FinSet}
+use Rattle.mml_ids.specs.inside.WordsLemmas.{has_empty, has_insert, has_remove, same_ranks}
+
+-- the ranks below n that are in the set
+abbrev pub ranks_in : ℕ → FinSet nat_cmp → List ℕ
+ranks_in n s = filter (sets.contains s) (range_with_len 0 n)
+
+same_from : (t u : ℕ → Bool) (k n : ℕ) → ((q : ℕ) → k ≤ q → t q ≡ u q) → filter t (range_with_len k n) ≡ filter u (range_with_len k n)
+same_from t u k zero h = refl
+same_from t u k (suc n) h =
+    ap (λ b. cond b (k ∷ filter t (range_with_len (k + 1) n)) (filter t (range_with_len (k + 1) n))) (h k (omega arith))
+    ∙ ap (λ xs. cond (u k) (k ∷ xs) xs) (same_from t u (k + 1) n (λ q l. h q (omega arith)))
+
+-- the first that passes comes first, and then what passes without it
+first_passes : (t u : ℕ → Bool) (k n a : ℕ) → k ≤ a → a < k + n → t a ≡ true → u a ≡ false → ((q : ℕ) → q ≢ a → t q ≡ u q) → ((q : ℕ) → q < a → t q ≡ false) → filter t (range_with_len k n) ≡ a ∷ filter u (range_with_len k n)
+first_passes t u k zero a from below here gone others before = absurd (omega arith)
+first_passes t u k (suc n) a from below here gone others before = elim (cases_eq k a) [
+  | inl e ↦
+      ap (λ b. cond b (k ∷ filter t (range_with_len (k + 1) n)) (filter t (range_with_len (k + 1) n))) (ap t e ∙ here)
+      ∙ (λ i. e i ∷ same_from t u (k + 1) n (λ q l. others q (λ same. omega arith)) i)
+      ∙ sym (ap (λ b. a ∷ cond b (k ∷ filter u (range_with_len (k + 1) n)) (filter u (range_with_len (k + 1) n))) (ap u e ∙ gone))
+  | inr ne ↦
+      let early : t k ≡ false = before k (omega arith) in
+      ap (λ b. cond b (k ∷ filter t (range_with_len (k + 1) n)) (filter t (range_with_len (k + 1) n))) early
+      ∙ first_passes t u (k + 1) n a (omega arith) (omega arith) here gone others before
+      ∙ sym (ap (λ b. a ∷ cond b (k ∷ filter u (range_with_len (k + 1) n)) (filter u (range_with_len (k + 1) n))) (sym (others k ne) ∙ early))
+]
+
+-- the least rank comes first, and then those of the set without it
+pub least_first : (n : ℕ) (s rest : FinSet nat_cmp) (a : ℕ) → sets.contains s a ≡ true → ((q : ℕ) → sets.contains s q ≡ true → a ≤ q) → a < n → rest ≡ sets.remove s a → ranks_in n s ≡ a ∷ ranks_in n rest
+least_first n s rest a there least below removed = first_passes (sets.contains s) (sets.contains rest) 0 n a (omega arith) (omega arith) there
+    (has a ∙ ap (λ b. not b && sets.contains s a) (eq-eqb a a refl))
+    (λ q ne. sym (has q ∙ ap (λ b. not b && sets.contains s q) (ne_eqb q a ne)))
+    (λ q lt. false_from_ne_true (sets.contains s q) (λ h. let le = least q h in omega arith))
+  where
+    has : (q : ℕ) → sets.contains rest q ≡ (not (eqb q a) && sets.contains s q)
+    has q = ap (λ r. sets.contains r q) removed ∙ has_remove s a q
+
+none_pass : (xs : List ℕ) → filter (λ q. false) xs ≡ []
+none_pass [] = refl
+none_pass (x ∷ xs) = none_pass xs
+
+pub no_ranks : (n : ℕ) (s : FinSet nat_cmp) → s ≡ sets.empty → ranks_in n s ≡ []
+no_ranks n s e = same_from (sets.contains s) (λ q. false) 0 n (λ q l. ap (λ r. sets.contains r q) e ∙ has_empty q) ∙ none_pass (range_with_len 0 n)
+
+-- ---- what is made of each rank, in a loop that takes out the least
+
+-- what was put, and what is made of the ranks that are left, stays the whole
+pub one_put : {X : Type 0} (f : ℕ → X) (n : ℕ) (left rest : FinSet nat_cmp) (a : ℕ) (held pushed whole : List X) → sets.contains left a ≡ true → ((q : ℕ) → sets.contains left q ≡ true → a ≤ q) → a < n → rest ≡ sets.remove left a
+    → pushed ≡ held ++ f a ∷ [] → held ++ map f (ranks_in n left) ≡ whole → pushed ++ map f (ranks_in n rest) ≡ whole
+one_put f n left rest a held pushed whole there least below removed put so_far =
+    ap (λ xs. xs ++ map f (ranks_in n rest)) put ∙ append_assoc held (f a ∷ []) (map f (ranks_in n rest))
+    ∙ sym (ap (λ xs. held ++ map f xs) (least_first n left rest a there least below removed)) ∙ so_far
+
+pub all_put : {X : Type 0} (f : ℕ → X) (n : ℕ) (left : FinSet nat_cmp) (held whole : List X) → left ≡ sets.empty → held ++ map f (ranks_in n left) ≡ whole → held ≡ whole
+all_put f n left held whole none so_far = sym (append-nil held) ∙ sym (ap (λ xs. held ++ map f xs) (no_ranks n left none)) ∙ so_far
+
+-- ---- one more number below n
+
+map-same : (xs : List ℕ) → map (λ x. x) xs ≡ xs
+map-same [] = refl
+map-same (x ∷ xs) = ap (λ ys. x ∷ ys) (map-same xs)
+
+range_more : (n : ℕ) → range_with_len 0 (n + 1) ≡ range_with_len 0 n ++ n ∷ []
+range_more n =
+    sym (map-same (range_with_len 0 (n + 1))) ∙ map-range_with_len_more (λ x. x) 0 n n (zero-add n)
+    ∙ ap (λ xs. xs ++ n ∷ []) (map-same (range_with_len 0 n))
+
+-- what is made of each number below n that passes
+abbrev pub passing : {X : Type 0} → (ℕ → Bool) → (ℕ → X) → ℕ → List X
+passing t f n = map f (filter t (range_with_len 0 n))
+
+pub passing_more : {X : Type 0} (t : ℕ → Bool) (f : ℕ → X) (n : ℕ) → passing t f (n + 1) ≡ passing t f n ++ map f (cond (t n) (n ∷ []) [])
+passing_more t f n =
+    ap (λ xs. map f (filter t xs)) (range_more n) ∙ ap (map f) (filter-append t (range_with_len 0 n) (n ∷ []))
+    ∙ map-append f (filter t (range_with_len 0 n)) (cond (t n) (n ∷ []) [])
+
+-- ---- a set without one of its ranks
+
+pub without_one : (s : FinSet nat_cmp) (a : ℕ) → sets.difference s (sets.insert sets.empty a) ≡ sets.remove s a
+without_one s a = same_ranks _ _ (λ q.
+    sets.contains-difference nat_cmp_total s (sets.insert sets.empty a) q
+    ∙ ap (λ b. sets.contains s q && not b) (has_insert sets.empty a q ∙ ap (λ b. eqb q a || b) (has_empty q))
+    ∙ go (sets.contains s q) (eqb q a)
+    ∙ sym (has_remove s a q))
+  where
+    go : (x y : Bool) → (x && not (y || false)) ≡ (not y && x)
+    go true true = refl
+    go true false = refl
+    go false true = refl
+    go false false = refl
+
+pub len-remove_one : (s : FinSet nat_cmp) (a : ℕ) → sets.contains s a ≡ true → sets.len s ≡ sets.len (sets.remove s a) + 1
+len-remove_one s a h =
+    ap sets.len (same_ranks s (sets.insert (sets.remove s a) a) (λ q. sym (has_insert (sets.remove s a) a q ∙ ap (λ b. eqb q a || b) (has_remove s a q) ∙ back q)))
+    ∙ sets.len-insert nat_cmp_total (sets.remove s a) a
+    ∙ ap (λ b. cond b (sets.len (sets.remove s a)) (sets.len (sets.remove s a) + 1)) (has_remove s a a ∙ ap (λ b. not b && sets.contains s a) (eq-eqb a a refl))
+  where
+    back : (q : ℕ) → (eqb q a || (not (eqb q a) && sets.contains s q)) ≡ sets.contains s q
+    back q = elim (cases_eq q a) [
+      | inl e ↦ rw (e, eq-eqb a a refl) (sym h)
+      | inr ne ↦ rw (ne_eqb q a ne) refl
+    ]
