@@ -2,7 +2,7 @@ ghost use Rattle.std.specs.Prelude.{◌≡◌, map, string_bytes, codes, Some, N
 ghost use Rattle.mml_ids.specs.Gives.{Gives};
 ghost use Rattle.toml.specs.Data.{as_str, as_integer, as_bool, as_table, as_array, get_member};
 ghost use Rattle.toml.specs.View.{view, table_view, array_view};
-ghost use Rattle.mml_lab.specs.Shape.{is_memory, need, of_kind, optional_of, optional, names_of, owner_names, each, account_in, student_of, node_of, link_of, links_of, raw_of, two_of, spelled};
+ghost use Rattle.mml_lab.specs.Shape.{is_memory, need, needed, of_kind, optional_of, optional, names_of, owner_names, each, account_in, student_of, node_of, link_of, links_of, raw_of, two_of, spelled};
 ghost use Rattle.mml_lab.specs.Raw.{account_view, node_view, raw_view};
 
 use crate::MAX_OWNERS;
@@ -100,6 +100,34 @@ fn array_of(value: &Value, key: Key) -> Result<&Array, LabFault>
     }
 }
 
+fn integer_at(table: &Table, name: &str, key: Key) -> Result<i64, LabFault>
+    ensures { Gives is_memory (λ z. z) result
+        (needed key name.now as_integer (table_view table.now)) }
+{
+    integer(value_at(table, name, key)?, key)
+}
+
+fn text_at(alloc: Global, table: &Table, name: &str, key: Key) -> Result<String, LabFault>
+    ensures { Gives is_memory string_bytes result
+        (needed key name.now as_str (table_view table.now)) }
+{
+    text(alloc, value_at(table, name, key)?, key)
+}
+
+fn table_at<'a>(table: &'a Table, name: &str, key: Key) -> Result<&'a Table, LabFault>
+    ensures { Gives is_memory (λ t. table_view t.now) result
+        (needed key name.now as_table (table_view table.now)) }
+{
+    table_of(value_at(table, name, key)?, key)
+}
+
+fn array_at<'a>(table: &'a Table, name: &str, key: Key) -> Result<&'a Array, LabFault>
+    ensures { Gives is_memory (λ t. array_view t.now) result
+        (needed key name.now as_array (table_view table.now)) }
+{
+    array_of(value_at(table, name, key)?, key)
+}
+
 #[tactic(auto, unfolding(crate::specs::Shape::account_in))]
 fn account_at(
     alloc: Global,
@@ -110,8 +138,8 @@ fn account_at(
     ensures { Gives is_memory account_view result
         (account_in name_key key_key (table_view table.now)) }
 {
-    let name = text(alloc, value_at(table, "name", name_key)?, name_key)?;
-    let key = text(alloc, value_at(table, "key", key_key)?, key_key)?;
+    let name = text_at(alloc, table, "name", name_key)?;
+    let key = text_at(alloc, table, "key", key_key)?;
     Ok(Account { name, key })
 }
 
@@ -228,7 +256,7 @@ fn node(alloc: Global, value: &Value) -> Result<RawNode, LabFault>
     ensures { Gives is_memory node_view result (node_of (view value.now)) }
 {
     let table = table_of(value, Key::Node)?;
-    let id = integer(value_at(table, "id", Key::NodeId)?, Key::NodeId)?;
+    let id = integer_at(table, "id", Key::NodeId)?;
     let owner = optional_text(alloc, table, "owner", Key::NodeOwner)?;
     let owners = optional_names(alloc, table)?;
     let both = owner.is_some() && owners.is_some();
@@ -302,14 +330,12 @@ fn links_at(alloc: Global, table: &Table) -> Result<Vec<(i64, i64)>, LabFault>
 pub fn read_raw(alloc: Global, table: &Table) -> Result<RawLab, LabFault>
     ensures { Gives is_memory raw_view result (raw_of (table_view table.now)) }
 {
-    let events = integer(value_at(table, "events", Key::Events)?, Key::Events)?;
-    let sessions = integer(value_at(table, "sessions", Key::Sessions)?, Key::Sessions)?;
-    let teacher = table_of(value_at(table, "teacher", Key::Teacher)?, Key::Teacher)?;
+    let events = integer_at(table, "events", Key::Events)?;
+    let sessions = integer_at(table, "sessions", Key::Sessions)?;
+    let teacher = table_at(table, "teacher", Key::Teacher)?;
     let teacher = account_at(alloc, teacher, Key::TeacherName, Key::TeacherKey)?;
-    let list = array_of(value_at(table, "student", Key::Student)?, Key::Student)?;
-    let students = students(alloc, list)?;
-    let list = array_of(value_at(table, "node", Key::Node)?, Key::Node)?;
-    let nodes = nodes(alloc, list)?;
+    let students = students(alloc, array_at(table, "student", Key::Student)?)?;
+    let nodes = nodes(alloc, array_at(table, "node", Key::Node)?)?;
     let links = links_at(alloc, table)?;
     Ok(RawLab {
         events,
