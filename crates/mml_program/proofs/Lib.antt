@@ -1,1 +1,2 @@
-mod ClosingsLemmas
+mod ArrivingLemmas
+mod ServingLemmas

@@ -1,21 +1,23 @@
 //! Connections over sockets of this machine. Clients connect and send before the server accepts: the
 //! system holds what they sent, and what they are answered.
 mod ends;
+mod unread;
 
 use mml_fakes::FakeWriter;
+use mml_fakes::meeting::{Meeting, wait_for};
 use mml_fakes::scripts::{FIRST_LOOK, FIRST_LOOK_REPLIES};
 use mml_journal::MemorySink;
-use mml_lab::read_lab;
+use mml_lab::{Lab, read_lab};
 use mml_program::{BUILT_IN, ServeFault, serve_on};
 use mml_session::{Gate, Point};
 use std::alloc::Global;
+use std::io;
 use std::io::{Read, Write};
 use std::net::{Ipv4Addr, Net, Shutdown, SocketAddr, TcpListener, TcpStream};
 use std::sync::Wait;
 use std::sync::atomic::{AtomicU64, Ordering};
 use std::test::Fail;
 use std::thread::Threads;
-use std::{io, thread};
 
 /// What came of a listener and of its clients.
 #[derive(Drop)]
@@ -32,21 +34,36 @@ fn listener<R: Net<Listener = TcpListener, Stream = TcpStream>>(rt: &R) -> io::R
     TcpListener::bind(rt, SocketAddr::from((Ipv4Addr::LOCALHOST, 0)))
 }
 
+/// Connects so many clients.
+fn connect<R: Net<Listener = TcpListener, Stream = TcpStream> + AllocGlobal>(
+    rt: &R,
+    listener: &TcpListener,
+    count: usize,
+) -> io::Result<Vec<TcpStream>> {
+    let address = listener.local_addr()?;
+    let mut streams = Vec::new(rt.alloc());
+    for _ in 0..count {
+        streams.push(TcpStream::connect(rt, address)?)?;
+    }
+    Ok(streams)
+}
+
+/// Sends all that a client says.
+fn send(stream: &TcpStream, text: &str) -> io::Result<()> {
+    let mut writer = stream;
+    writer.write_all(text.as_bytes())?;
+    stream.shutdown(Shutdown::Write)
+}
+
 /// Connects a client for each text before any of them is sent; then each sends its own, and ends it.
 fn clients<R: Net<Listener = TcpListener, Stream = TcpStream> + AllocGlobal>(
     rt: &R,
     listener: &TcpListener,
     texts: &[&str],
 ) -> io::Result<Vec<TcpStream>> {
-    let address = listener.local_addr()?;
-    let mut streams = Vec::new(rt.alloc());
-    for _ in texts {
-        streams.push(TcpStream::connect(rt, address)?)?;
-    }
+    let streams = connect(rt, listener, texts.len())?;
     for (stream, text) in streams.iter().zip(texts) {
-        let mut writer = stream;
-        writer.write_all(text.as_bytes())?;
-        stream.shutdown(Shutdown::Write)?;
+        send(stream, text)?;
     }
     Ok(streams)
 }
@@ -75,11 +92,25 @@ fn serve<R: Threads + Wait + Sync + AllocGlobal, G: Gate + Sync, W: Write>(
 ) -> Result<Option<Result<(), ServeFault>>, Fail> {
     let alloc = rt.alloc();
     let lab = read_lab(alloc, lab.as_bytes())?;
-    let sink = MemorySink::new(alloc, fail_at);
+    Ok(serve_lab(rt, alloc, lab, listener, connections, fail_at, gate, writer))
+}
+
+/// None where the number of connections is out of its limits.
+fn serve_lab<R: Threads + Wait + Sync, G: Gate + Sync, W: Write>(
+    rt: &R,
+    alloc: Global,
+    lab: Lab,
+    listener: TcpListener,
+    connections: u8,
+    fail_at: Option<u64>,
+    gate: &G,
+    writer: &mut W,
+) -> Option<Result<(), ServeFault>> {
     if connections == 0 || connections > lab.sessions() {
-        return Ok(None);
+        return None;
     }
-    Ok(Some(serve_on(rt, alloc, lab, listener, connections, sink, gate, writer)))
+    let sink = MemorySink::new(alloc, fail_at);
+    Some(serve_on(rt, alloc, lab, listener, connections, sink, gate, writer))
 }
 
 /// Serves a client for each text over a lab.
@@ -118,50 +149,15 @@ fn without_numbers(alloc: Global, script: &str) -> Result<String, Fail> {
     Ok(text)
 }
 
-/// How often a gate looks before it gives up.
-const TURNS: u64 = 10_000_000;
-
-/// Holds each connection at its first line until so many are there, and likewise at its first reply.
+/// Sessions that meet at their gate.
 #[derive(Drop)]
-struct Meeting {
-    wanted: u64,
-    lines: AtomicU64,
-    replies: AtomicU64,
-    given_up: AtomicU64,
-}
+struct Together(Meeting);
 
-impl Meeting {
-    fn of(wanted: u64) -> Meeting {
-        Meeting {
-            wanted,
-            lines: AtomicU64::new(0),
-            replies: AtomicU64::new(0),
-            given_up: AtomicU64::new(0),
-        }
-    }
-
-    /// Whether all were there each time.
-    fn was_held(&self) -> bool {
-        self.given_up.load(Ordering::SeqCst) == 0
-    }
-
-    fn hold(&self, arrived: &AtomicU64) {
-        arrived.fetch_add(1, Ordering::SeqCst);
-        for _ in 0..TURNS {
-            if arrived.load(Ordering::SeqCst) >= self.wanted {
-                return;
-            }
-            thread::yield_now();
-        }
-        self.given_up.fetch_add(1, Ordering::SeqCst);
-    }
-}
-
-impl Gate for Meeting {
+impl Gate for Together {
     fn pass(&self, _connection: u8, point: Point) {
         match point {
-            Point::Line => self.hold(&self.lines),
-            Point::Told => self.hold(&self.replies),
+            Point::Line => self.0.line(),
+            Point::Told => self.0.reply(),
         }
     }
 }
@@ -170,11 +166,11 @@ impl Gate for Meeting {
 fn two_clients_are_served_at_once(rt: HostRuntime) -> Result<(), Fail> {
     let text = without_numbers(rt.alloc(), FIRST_LOOK)?;
     let replies = without_numbers(rt.alloc(), FIRST_LOOK_REPLIES)?;
-    let gate = Meeting::of(2);
+    let gate = Together(Meeting::of(2));
     let served = serve_clients(&rt, BUILT_IN, &[text.as_str(), text.as_str()], &gate)?;
     let wanted = [replies.as_str(), replies.as_str()];
     assert!(rt; is_served_so(&served, "done: 0 events, configuration 0\n", &wanted));
-    assert!(rt; gate.was_held());
+    assert!(rt; gate.0.was_held());
     Ok(())
 }
 
@@ -183,11 +179,11 @@ const HELLO_TEACHER: &str = "{\"do\":\"hello\",\"key\":\"chalk\",\"name\":\"tess
 #[test]
 fn sixteen_clients_are_served_at_once(rt: HostRuntime) -> Result<(), Fail> {
     let lab = BUILT_IN.replacen(rt.alloc(), "sessions = 4", "sessions = 16", 1)?;
-    let gate = Meeting::of(16);
+    let gate = Together(Meeting::of(16));
     let served = serve_clients(&rt, lab.as_str(), &[HELLO_TEACHER; 16], &gate)?;
     let wanted = ["{\"ok\":\"hello\",\"who\":\"tess\"}\n"; 16];
     assert!(rt; is_served_so(&served, "done: 0 events, configuration 0\n", &wanted));
-    assert!(rt; gate.was_held());
+    assert!(rt; gate.0.was_held());
     Ok(())
 }
 
@@ -205,13 +201,13 @@ const CHOSEN: &str = "{\"ok\":\"hello\",\"who\":\"ana\"}
 
 #[test]
 fn one_of_two_raced_moves_is_granted(rt: HostRuntime) -> Result<(), Fail> {
-    let gate = Meeting::of(2);
+    let gate = Together(Meeting::of(2));
     let served = serve_clients(&rt, BUILT_IN, &[MOVE, MOVE], &gate)?;
     let done = "done: 1 events, configuration 0\n";
     let first = is_served_so(&served, done, &[GRANTED, CHOSEN]);
     let second = is_served_so(&served, done, &[CHOSEN, GRANTED]);
     assert!(rt; first || second);
-    assert!(rt; gate.was_held());
+    assert!(rt; gate.0.was_held());
     Ok(())
 }
 
@@ -235,11 +231,8 @@ impl Gate for After {
         if connection == 1 && point == Point::Told {
             self.replies.fetch_add(1, Ordering::SeqCst);
         }
-        for _ in 0..TURNS {
-            if connection == 1 || self.replies.load(Ordering::SeqCst) >= self.wanted {
-                return;
-            }
-            thread::yield_now();
+        if connection != 1 {
+            wait_for(&self.replies, self.wanted);
         }
     }
 }

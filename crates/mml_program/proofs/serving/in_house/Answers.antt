@@ -1,8 +1,11 @@
-use Rattle.std.proofs.Common.{length, ap, ◌∙◌}
-use Rattle.mml_program.proofs.ClosingsLemmas.{closing}
+use Rattle.std.proofs.Common.{arith, length}
+use Rattle.mml_session.specs.Houses.{IsServed}
+use Rattle.mml_program.proofs.ServingLemmas.{each_long}
 use Rattle.mml_program.proofs.serving.in_house.Goals as goal
 
-pub returns-in-Ok-ended : goal.returns-in-Ok-ended
-returns-in-Ok-ended g c =
-    let log = c.in-Ok-ended.ensures.log in
-    closing c.write_done.result g.H.House.lab c.in-Ok-ended.log.events _ c.number.result _ _ log.book.legal (ap length c.as_slice.ensures) (c.number.ensures.number ∙ ap (λ w. w.number) log.board) c.write_done.ensures
+pub finish-requires : goal.finish-requires
+finish-requires g c =
+    let all = c.in-Ok-serve_all.ensures in
+    record {
+      few = omega (arith, each_long (IsServed g.H.House.lab g.R.Read.remaining g.W.Write.contents) all.connections c.in-Ok-serve_all.sessions.items c.in-Ok-serve_all.windows.items all.served, all.all, c.requires.few);
+    }

@@ -1,0 +1,56 @@
+-- Connections that came and were served, one more at a time.
+use Rattle.std.proofs.Common.{◌≡◌, ℕ, ◌+◌, List, [], ◌∷◌, ◌++◌, map, length, arith, refl, Option, IfOk, Result, Ok, Err}
+use Rattle.std.proofs.lemmas.List.{map-append, length-map}
+use Rattle.mml_lab.specs.Labs.{LabValue}
+use Rattle.mml_window.specs.Windows.{WindowValue}
+use Rattle.mml_session.specs.declared.each.Connection.{Connection}
+use Rattle.mml_session.specs.declared.house.EndedSession.{EndedSession}
+use Rattle.mml_session.specs.Houses.{Each, IsServed}
+use Rattle.mml_program.specs.Arriving.{Takes}
+use Rattle.mml_program.specs.Serving.{Numbered, ServesAll, ends}
+use Rattle.mml_program.proofs.ArrivingLemmas.{Takes-trans}
+
+numbered_more : {R W : Type 0} (n : ℕ) (cs : List (Connection R W)) (c : Connection R W) → Numbered n cs → c.number ≡ n + length cs → Numbered n (cs ++ c ∷ [])
+numbered_more n [] c so_far at = (omega (arith, at), tt)
+numbered_more n (x ∷ xs) c so_far at = (so_far.0, numbered_more (n + 1) xs c so_far.1 (omega (arith, at)))
+
+each_more : {A B C : Type 0} (P : A → B → C → Type 0) (xs : List A) (ys : List B) (zs : List C) (x : A) (y : B) (z : C) → Each P xs ys zs → P x y z
+    → Each P (xs ++ x ∷ []) (ys ++ y ∷ []) (zs ++ z ∷ [])
+each_more P [] [] [] x y z so_far one = (one, tt)
+each_more P (a ∷ us) (b ∷ vs) (c ∷ ws) x y z so_far one = (so_far.0, each_more P us vs ws x y z so_far.1 one)
+each_more P [] [] (c ∷ ws) x y z so_far one = absurd so_far
+each_more P [] (b ∷ vs) ws x y z so_far one = absurd so_far
+each_more P (a ∷ us) [] ws x y z so_far one = absurd so_far
+each_more P (a ∷ us) (b ∷ vs) [] x y z so_far one = absurd so_far
+
+-- one thread more was joined, of that connection f tells
+pub served_more : {H A B C : Type 0} (P : A → B → C → Type 0) (f : H → A) (hs : List H) (h : H) (ys ys' : List B) (y : B) (zs zs' : List C) (z : C)
+    → ys' ≡ ys ++ y ∷ [] → zs' ≡ zs ++ z ∷ [] → Each P (map f hs) ys zs → P (f h) y z → Each P (map f (hs ++ h ∷ [])) ys' zs'
+served_more P f hs h ys ys' y zs zs' z one two so_far it = rw (one, two, map-append f hs (h ∷ [])) (each_more P (map f hs) ys zs (f h) y z so_far it)
+
+-- one thread more was started
+module _ {H R W : Type 0} (f : H → Connection R W) (hs hs' : List H) (h : H) (one : hs' ≡ hs ++ h ∷ []) where
+  pub numbered_so : (n : ℕ) (c : Connection R W) → f h ≡ c → c.number ≡ n + length hs → Numbered n (map f hs) → Numbered n (map f hs')
+  numbered_so n c it at so_far = rw (one, map-append f hs (h ∷ []), it) (numbered_more n (map f hs) c so_far (rw (length-map hs f) at))
+
+  pub came_so : (known a b : Option (List (R × W))) (c : Connection R W) → f h ≡ c → Takes known a (map ends (map f hs)) → Takes a b (ends c ∷ []) → Takes known b (map ends (map f hs'))
+  came_so known a b c it so_far next =
+      rw (one, map-append f hs (h ∷ []), map-append ends (map f hs) (f h ∷ []), it) (Takes-trans known a b (map ends (map f hs)) (ends c ∷ []) so_far next)
+
+module _ {R W : Type 0} (lab : LabValue) (remaining : R → Option (List ℕ)) (contents : W → Option (List ℕ)) (to_come : Option (List (R × W))) (count : ℕ) where
+  -- all threads were joined
+  pub all_came : {X E : Type 0} (sessions : X → List (EndedSession R W)) (windows : X → List WindowValue) (left : Option (List (R × W))) (cs : List (Connection R W)) (r : Result X E)
+      → Takes to_come left (map ends cs) → length cs ≡ count → Numbered 1 cs → IfOk r (λ p. Each (IsServed lab remaining contents) cs (sessions p) (windows p))
+      → IfOk r (λ p. ServesAll lab remaining contents to_come count (sessions p) (windows p))
+  all_came sessions windows left cs (Ok p) came all numbered served =
+      record { connections = cs; left = left; came = came; all = all; numbered = numbered; served = served }
+  all_came sessions windows left cs (Err e) came all numbered served = tt
+
+-- as many windows as connections
+pub each_long : {A B C : Type 0} (P : A → B → C → Type 0) (xs : List A) (ys : List B) (zs : List C) → Each P xs ys zs → length zs ≡ length xs
+each_long P [] [] [] h = refl
+each_long P (a ∷ us) (b ∷ vs) (c ∷ ws) h = omega (arith, each_long P us vs ws h.1)
+each_long P [] [] (c ∷ ws) h = absurd h
+each_long P [] (b ∷ vs) ws h = absurd h
+each_long P (a ∷ us) [] ws h = absurd h
+each_long P (a ∷ us) (b ∷ vs) [] h = absurd h

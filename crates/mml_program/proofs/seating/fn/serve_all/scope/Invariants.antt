@@ -1,0 +1,15 @@
+use Rattle.std.proofs.Common.{◌≡◌, ◌≤◌, ◌+◌, [], map, length, All, vec_len, vec_capacity}
+use Rattle.mml_window.specs.Windows.{window}
+use Rattle.mml_program.specs.Arriving.{Takes}
+use Rattle.mml_program.specs.Serving.{Numbered, ends}
+use Rattle.mml_program.proofs.seating.fn.serve_all.scope.Given as goal
+
+abbrev pub invariant-loop-index : goal.invariant-loop-index
+invariant-loop-index g l = record {
+  fresh : All (λ w. w ≡ window [] []) l.windows.items;
+  few : l.index-end ≤ length l.windows.items + l.index;
+  count : length l.handles.items ≡ l.index;
+  room : l.index-end ≤ vec_capacity l.handles;
+  numbered : Numbered 1 (map (λ h. h.promise.0.value) l.handles.items);
+  came : Takes (g.A.Arrivals.to_come l.initial.arrivals) (g.A.Arrivals.to_come l.arrivals) (map ends (map (λ h. h.promise.0.value) l.handles.items));
+}

@@ -1,0 +1,37 @@
+-- Connections that were served as they came.
+use Rattle.std.specs.Prelude.{◌≡◌, ℕ, ◌+◌, List, [], ◌∷◌, length, map, ⊤, Option}
+use Rattle.mml_lab.specs.Labs.{LabValue}
+use Rattle.mml_window.specs.declared.log.Log.{Log}
+use Rattle.mml_window.specs.Logs.{IsLog}
+use Rattle.mml_window.specs.Windows.{WindowValue}
+use Rattle.mml_session.specs.declared.each.Connection.{Connection}
+use Rattle.mml_session.specs.declared.house.EndedSession.{EndedSession}
+use Rattle.mml_session.specs.Houses.{Each, IsServed}
+use Rattle.mml_program.specs.Arriving.{Takes}
+
+-- a connection without its number
+abbrev pub ends : {R W : Type 0} → Connection R W → R × W
+ends c = (c.reader, c.writer)
+
+-- their numbers are n, and one more from each to the next
+abbrev pub Numbered : {R W : Type 0} → ℕ → List (Connection R W) → Type 0
+Numbered n [] = ⊤
+Numbered n (c ∷ cs) = (c.number ≡ n) × Numbered (n + 1) cs
+
+-- the first so many connections to come were numbered from 1, and each was served to an end, through a window that had seen nothing
+pub record ServesAll {R W : Type 0} (lab : LabValue) (remaining : R → Option (List ℕ)) (contents : W → Option (List ℕ)) (to_come : Option (List (R × W))) (count : ℕ)
+    (sessions : List (EndedSession R W)) (windows : List WindowValue) : Type 0 where
+  pub connections : List (Connection R W)
+  pub left : Option (List (R × W))
+  pub came : Takes to_come left (map ends connections)
+  pub all : length connections ≡ count
+  pub numbered : Numbered 1 connections
+  pub served : Each (IsServed lab remaining contents) connections sessions windows
+
+-- and the house through whose windows they were served left the log: the lab's legal list of events, of which each window has seen
+-- a beginning, and whose places are those that the windows were told, each once
+pub record ServesHouse {S R W : Type 0} (lab : LabValue) (sink : S → Option (List ℕ)) (remaining : R → Option (List ℕ)) (contents : W → Option (List ℕ))
+    (to_come : Option (List (R × W))) (count : ℕ) (sessions : List (EndedSession R W)) (log : Log S) : Type 0 where
+  pub windows : List WindowValue
+  pub kept : IsLog lab sink windows log
+  pub each : ServesAll lab remaining contents to_come count sessions windows

@@ -1,0 +1,169 @@
+//! Connections, each served in a thread of its own through a window of its own, as they come.
+ghost use Rattle.std.specs.Prelude.{◌≡◌, ◌<◌, ◌≤◌, ◌+◌, [], ◌∷◌, All, IfOk, OnOk, length, map};
+ghost use Rattle.std.specs.Thread.{IsSync, IsSend};
+ghost use Rattle.mml_window.specs.Windows.{window};
+ghost use Rattle.mml_session.specs.Houses.{Each, IsServed};
+ghost use Rattle.mml_program.specs.Arriving.{Takes};
+ghost use Rattle.mml_program.specs.Serving.{ServesAll, ends};
+
+use crate::arriving::{Arrivals, HangUp};
+use crate::serving::ServeFault;
+use mml_journal::Sink;
+use mml_session::{Connection, EndedSession, Gate, Seat, Served, serve_seat};
+use mml_window::{Desk, House, Window};
+use std::alloc::Global;
+use std::io::{ErrorKind, Read, Write};
+use std::snapshot::Snapshot;
+use std::sync::Wait;
+use std::thread;
+use std::thread::{Promise, PromisedHandle, Threads};
+
+/// Serves so many connections, and gives back their windows and how their sessions ended, in the order
+/// in which they came. All threads have ended when it returns, after a fault too.
+pub(crate) fn serve_all<
+    Rt: Threads + Wait + Sync,
+    S: Sink + Send + Drop,
+    H: House + Send + Sync,
+    R: Read + Send + Drop,
+    W: Write + HangUp + Send + Drop,
+    A: Arrivals<R, W> + Drop,
+    G: Gate + Sync,
+>(
+    rt: &Rt,
+    alloc: Global,
+    desk: &Desk<S, H>,
+    windows: Vec<Window<H>>,
+    arrivals: A,
+    connections: u8,
+    gate: &G,
+) -> Result<(Vec<Window<H>>, Vec<EndedSession<R, W>>), ServeFault>
+    requires fresh { All (λ w. w ≡ window [] []) windows.items }
+    requires few { connections ≤ length windows.items }
+    ensures { IfOk result (λ parts. ServesAll H.lab R.remaining W.contents
+        (A.to_come arrivals) connections parts.1.items parts.0.items) }
+{
+    thread::scope(
+        thread::scope_env(),
+        rt,
+        |scope| -> Result<(Vec<Window<H>>, Vec<EndedSession<R, W>>), ServeFault>
+            requires { IsSync Rt.row × IsSync G.row × IsSend S.row × IsSend H.row × IsSync H.row
+                × IsSend R.row × IsSend W.row × All (λ w. w ≡ window [] []) windows.items
+                × (connections ≤ length windows.items) }
+            ensures { IfOk result (λ parts. ServesAll H.lab R.remaining W.contents
+                (A.to_come arrivals) connections parts.1.items parts.0.items) }
+        {
+            let mut arrivals = arrivals;
+            let mut windows = windows;
+            let Ok(mut handles) = Vec::with_capacity(alloc, usize::from(connections)) else {
+                return Err(ServeFault::Memory);
+            };
+            for index in 0..connections {
+                let seat = next_seat(&mut arrivals, &mut windows, index + 1)?;
+                let pledge = Pledge(Snapshot::of(&seat.connection));
+                match scope.spawn_with(
+                    pledge,
+                    move || -> (Window<H>, EndedSession<R, W>)
+                        requires { seat.window ≡ window [] [] }
+                        ensures { IsServed H.lab R.remaining W.contents seat.connection
+                            result.1 result.0 }
+                    { serve_apart(rt, alloc, desk, seat, gate) },
+                ) {
+                    Ok(handle) => handles.push_reserved(handle),
+                    Err(_) => return Err(ServeFault::Memory),
+                }
+            }
+            join_all(rt, alloc, handles)
+        },
+    )
+}
+
+// That the connection was served to an end, through a window that had seen nothing.
+#[derive(Drop)]
+struct Pledge<R: Drop, W: Drop>(Snapshot<Connection<R, W>>);
+
+impl<H: House, R: Read + Drop, W: Write + Drop> Promise<(Window<H>, EndedSession<R, W>)>
+    for Pledge<R, W> {
+    ghost use Rattle.mml_session.specs.Houses.{IsServed};
+
+    ghost kept_by = { λ pledge t. IsServed H.lab R.remaining W.contents pledge.0.value t.1 t.0 };
+}
+
+// The next connection, with its number and a window for it.
+fn next_seat<H: House, R: Read + Drop, W: Write + Drop, A: Arrivals<R, W>>(
+    arrivals: &mut A,
+    windows: &mut Vec<Window<H>>,
+    number: u8,
+) -> Result<Seat<H, R, W>, ServeFault>
+    requires fresh { All (λ w. w ≡ window [] []) windows.old.items }
+    requires some { 0 < length windows.old.items }
+    ensures taken { IfOk result (λ seat. Takes (A.to_come arrivals.old) (A.to_come arrivals.new)
+        (ends seat.connection ∷ [])) }
+    ensures number { IfOk result (λ seat. seat.connection.number ≡ number) }
+    ensures seated { IfOk result (λ seat. seat.window ≡ window [] []) }
+    ensures fresh { OnOk result (All (λ w. w ≡ window [] []) windows.new.items) }
+    ensures left { OnOk result (length windows.old.items ≤ length windows.new.items + 1) }
+{
+    let (reader, writer) = match arrivals.accept_next() {
+        Ok(ends) => ends,
+        Err(error) if error.kind() == ErrorKind::OutOfMemory => return Err(ServeFault::Memory),
+        Err(_) => return Err(ServeFault::Accept),
+    };
+    match windows.pop() {
+        Some(window) => Ok(Seat {
+            window,
+            connection: Connection {
+                number,
+                reader,
+                writer,
+            },
+        }),
+        None => unreachable!(),
+    }
+}
+
+// Serves the connection of a seat and hangs up, so that the other side needn't wait for the others.
+fn serve_apart<
+    Rt: Wait,
+    S: Sink + Drop,
+    H: House,
+    R: Read + Drop,
+    W: Write + HangUp + Drop,
+    G: Gate,
+>(
+    rt: &Rt,
+    alloc: Global,
+    desk: &Desk<S, H>,
+    seat: Seat<H, R, W>,
+    gate: &G,
+) -> (Window<H>, EndedSession<R, W>)
+    requires fresh { seat.window ≡ window [] [] }
+    ensures served { IsServed H.lab R.remaining W.contents seat.connection result.1 result.0 }
+{
+    let Served { seat, end } = serve_seat(rt, alloc, desk, seat, gate);
+    let Seat { window, connection } = seat;
+    connection.writer.hang_up();
+    (window, EndedSession { end, connection })
+}
+
+// Waits for all sessions, and parts their windows from them.
+fn join_all<Rt: Threads, H: House, R: Read + Drop, W: Write + Drop>(
+    rt: &Rt,
+    alloc: Global,
+    handles: Vec<PromisedHandle<(Window<H>, EndedSession<R, W>), Pledge<R, W>>>,
+) -> Result<(Vec<Window<H>>, Vec<EndedSession<R, W>>), ServeFault>
+    ensures { IfOk result (λ parts. Each (IsServed H.lab R.remaining W.contents)
+        (map (λ h. h.promise.0.value) handles.items) parts.1.items parts.0.items) }
+{
+    let Ok(mut windows) = Vec::with_capacity(alloc, handles.len()) else {
+        return Err(ServeFault::Memory);
+    };
+    let Ok(mut sessions) = Vec::with_capacity(alloc, handles.len()) else {
+        return Err(ServeFault::Memory);
+    };
+    for handle in handles {
+        let (window, session) = handle.join(rt);
+        windows.push_reserved(window);
+        sessions.push_reserved(session);
+    }
+    Ok((windows, sessions))
+}
