@@ -2,10 +2,6 @@
 #![tactic(auto)]
 
 #[cfg(test)]
-mod audit;
-#[cfg(test)]
 mod codec;
-#[cfg(test)]
-mod hall;
 #[cfg(test)]
 mod lines;

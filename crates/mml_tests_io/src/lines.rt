@@ -162,8 +162,8 @@ fn reads_are_counted_over_all_lines(rt: HostRuntime) -> Result<(), Fail> {
     let mut reader = FakeReader::failing_after(usize::MAX, breaks.as_slice());
     let mut lines = Lines::new(rt.alloc(), 4096)?;
     let counted = count_lines(&mut lines, &mut reader);
-    assert_eq!(rt; counted, (MAX_READS, Step::ReadFault));
-    assert_eq!(rt; reader.rest.len(), 1);
+    let found = (counted, reader.rest.len());
+    assert_eq!(rt; found, ((MAX_READS, Step::ReadFault), 1));
     Ok(())
 }
 
@@ -172,9 +172,10 @@ fn a_line_may_come_byte_by_byte(rt: HostRuntime) -> Result<(), Fail> {
     let text = bye_line(rt.alloc(), 4084, b"\n")?;
     let mut reader = FakeReader::failing_after(usize::MAX, text.as_slice());
     let mut lines = Lines::new(rt.alloc(), 4096)?;
-    assert_eq!(rt; count_lines(&mut lines, &mut reader), (1, Step::End));
-    // one read for each byte, and one that finds the end
-    assert_eq!(rt; reader.reads, 4098);
+    let counted = count_lines(&mut lines, &mut reader);
+    // One read for each byte, and one that finds the end.
+    let found = (counted, reader.reads);
+    assert_eq!(rt; found, ((1, Step::End), 4098));
     Ok(())
 }
 
@@ -190,9 +191,9 @@ fn at_the_greatest_limit(alloc: Global, len: usize) -> Result<(Step, usize), Fai
 #[test]
 fn the_greatest_limit_is_kept(rt: HostRuntime) -> Result<(), Fail> {
     let most = at_the_greatest_limit(rt.alloc(), 65_536)?;
-    assert_eq!(rt; most, (Step::Line, 65_536));
     let over = at_the_greatest_limit(rt.alloc(), 65_537)?;
-    assert_eq!(rt; over, (Step::TooLong, 0));
+    let wanted = ((Step::Line, 65_536), (Step::TooLong, 0));
+    assert_eq!(rt; (most, over), wanted);
     Ok(())
 }
 
@@ -201,8 +202,8 @@ fn what_is_held_is_given_before_a_failed_read(rt: HostRuntime) -> Result<(), Fai
     let mut reader = FakeReader::failing_after(1, TEXT);
     reader.step = 100;
     let told = told_to_the_end(rt.alloc(), 2, &mut reader)?;
-    assert_eq!(rt; told.as_str(), "Line ab\nLine \nLine cd\nReadFault \n");
-    assert_eq!(rt; reader.reads, 2);
+    let found = (told.as_str(), reader.reads);
+    assert_eq!(rt; found, ("Line ab\nLine \nLine cd\nReadFault \n", 2));
     Ok(())
 }
 

@@ -29,21 +29,31 @@ fn greeting(alloc: Global, name: &str, key: &str) -> Result<String, Fail> {
     }
 }
 
+// Name, key and the line.
+const GREETINGS: &[(&str, &str, &str)] = &[
+    ("tess", "chalk", "{\"ok\":\"hello\",\"who\":\"tess\"}\n"),
+    ("ana", "a-key", "{\"ok\":\"hello\",\"who\":\"ana\"}\n"),
+    (
+        "b-0123456789-0123456789-01234567",
+        "b-key",
+        "{\"ok\":\"hello\",\"who\":\"b-0123456789-0123456789-01234567\"}\n",
+    ),
+    ("ana", "b-key", "{\"ok\":\"bye\"}\n"),
+];
+
+/// The first row of these with another line.
+fn first_greeted_otherwise(alloc: Global) -> Result<Option<usize>, Fail> {
+    for (row, (name, key, wanted)) in GREETINGS.iter().enumerate() {
+        if greeting(alloc, name, key)?.as_str() != *wanted {
+            return Ok(Some(row));
+        }
+    }
+    Ok(None)
+}
+
 #[test]
 fn greetings_are_told(rt: HostRuntime) -> Result<(), Fail> {
-    let longest = "b-0123456789-0123456789-01234567";
-    for (name, key, wanted) in [
-        ("tess", "chalk", "{\"ok\":\"hello\",\"who\":\"tess\"}\n"),
-        ("ana", "a-key", "{\"ok\":\"hello\",\"who\":\"ana\"}\n"),
-        (
-            longest,
-            "b-key",
-            "{\"ok\":\"hello\",\"who\":\"b-0123456789-0123456789-01234567\"}\n",
-        ),
-        ("ana", "b-key", "{\"ok\":\"bye\"}\n"),
-    ] {
-        assert_eq!(rt; greeting(rt.alloc(), name, key)?.as_str(), wanted);
-    }
+    assert_eq!(rt; first_greeted_otherwise(rt.alloc())?, None);
     Ok(())
 }
 
@@ -63,11 +73,12 @@ fn sight(alloc: Global, at: u64, id: u64, pointer: u64, m: bool) -> Result<Strin
 #[test]
 fn registers_are_told(rt: HostRuntime) -> Result<(), Fail> {
     let first = sight(rt.alloc(), 0, 7, 0, false)?;
-    let wanted = "{\"at\":0,\"m\":false,\"node\":7,\"ok\":\"see\",\"p\":null}\n";
-    assert_eq!(rt; first.as_str(), wanted);
     let last = sight(rt.alloc(), u64::MAX, 65535, 7, true)?;
-    let wanted = "{\"at\":18446744073709551615,\"m\":true,\"node\":65535,\"ok\":\"see\",\"p\":7}\n";
-    assert_eq!(rt; last.as_str(), wanted);
+    let wanted = (
+        "{\"at\":0,\"m\":false,\"node\":7,\"ok\":\"see\",\"p\":null}\n",
+        "{\"at\":18446744073709551615,\"m\":true,\"node\":65535,\"ok\":\"see\",\"p\":7}\n",
+    );
+    assert_eq!(rt; (first.as_str(), last.as_str()), wanted);
     Ok(())
 }
 
@@ -165,34 +176,55 @@ fn refusal_line(alloc: Global, refused: Refused) -> Result<String, Fail> {
     line_of(alloc, &lab, &Reply::Refuse(refused))
 }
 
+// Each refusal with its constant and its line.
+const REFUSALS: &[(Refused, &str, &str)] = &[
+    (
+        Refused::Malformed,
+        MALFORMED_LINE,
+        "{\"refuse\":\"malformed\"}\n",
+    ),
+    (Refused::Full, FULL_LINE, "{\"refuse\":\"full\"}\n"),
+    (Refused::Journal, JOURNAL_LINE, "{\"refuse\":\"journal\"}\n"),
+    (Refused::Memory, MEMORY_LINE, "{\"refuse\":\"memory\"}\n"),
+];
+
+/// The first refusal with another line.
+fn first_refused_otherwise(alloc: Global) -> Result<Option<Refused>, Fail> {
+    for (refused, line, wanted) in REFUSALS {
+        if refusal_line(alloc, *refused)?.as_str() != *wanted || *line != *wanted {
+            return Ok(Some(*refused));
+        }
+    }
+    Ok(None)
+}
+
 #[test]
 fn refusals_are_told(rt: HostRuntime) -> Result<(), Fail> {
-    for (refused, line, wanted) in [
-        (
-            Refused::Malformed,
-            MALFORMED_LINE,
-            "{\"refuse\":\"malformed\"}\n",
-        ),
-        (Refused::Full, FULL_LINE, "{\"refuse\":\"full\"}\n"),
-        (Refused::Journal, JOURNAL_LINE, "{\"refuse\":\"journal\"}\n"),
-        (Refused::Memory, MEMORY_LINE, "{\"refuse\":\"memory\"}\n"),
-    ] {
-        let told = refusal_line(rt.alloc(), refused)?;
-        assert_eq!(rt; (told.as_str(), line), (wanted, wanted));
-    }
+    assert_eq!(rt; first_refused_otherwise(rt.alloc())?, None);
     Ok(())
+}
+
+/// The room of a vector once a denial is written into it.
+fn room_after(alloc: Global, lab: &Lab, denial: Denial, out: &mut Vec<u8>) -> Result<usize, Fail> {
+    let reply = Reply::Deny(denial);
+    write_reply(alloc, lab.ids(), lab.roster(), &reply, out)?;
+    Ok(out.capacity())
+}
+
+/// The room of a vector at first, and after each of two replies.
+fn rooms(alloc: Global, lab: &Lab) -> Result<(usize, usize, usize), Fail> {
+    let mut out = Vec::with_capacity(alloc, REPLY_ROOM)?;
+    let room = out.capacity();
+    let first = room_after(alloc, lab, Denial::Greeted, &mut out)?;
+    let second = room_after(alloc, lab, Denial::Hidden, &mut out)?;
+    Ok((room, first, second))
 }
 
 /// Whether two replies fit into one room: a vector with room doesn't grow, and isn't given back.
 fn stays_in_its_room(alloc: Global) -> Result<bool, Fail> {
     let lab = read_lab(alloc, FAR_APART.as_bytes())?;
-    let mut out = Vec::with_capacity(alloc, REPLY_ROOM)?;
-    let room = out.capacity();
-    let (greeted, hidden) = (Reply::Deny(Denial::Greeted), Reply::Deny(Denial::Hidden));
-    write_reply(alloc, lab.ids(), lab.roster(), &greeted, &mut out)?;
-    let first = out.capacity();
-    write_reply(alloc, lab.ids(), lab.roster(), &hidden, &mut out)?;
-    Ok(first == room && out.capacity() == room)
+    let (room, first, second) = rooms(alloc, &lab)?;
+    Ok(first == room && second == room)
 }
 
 #[test]

@@ -34,18 +34,19 @@ fn is_read_in(
     Ok(fault.is_none() && written.as_slice() == replies.as_bytes() && reader.reads == reads)
 }
 
+/// Whether a script is answered so by a read for each byte, and by one for all, each time with one
+/// more that finds the end.
+fn is_read_once(alloc: Global, script: &str, replies: &str) -> Result<(bool, bool), Fail> {
+    let by_bytes = is_read_in(alloc, script, replies, 1, script.len().saturating_add(1))?;
+    let at_once = is_read_in(alloc, script, replies, 4096, 2)?;
+    Ok((by_bytes, at_once))
+}
+
 #[test]
 fn each_read_is_made_once(rt: HostRuntime) -> Result<(), Fail> {
-    for (script, replies) in [
-        (FIRST_LOOK, FIRST_LOOK_REPLIES),
-        (GREETING, GREETING_REPLIES),
-    ] {
-        // A read for each byte, or one for all, and one that finds the end.
-        for (step, reads) in [(1, script.len().saturating_add(1)), (4096, 2)] {
-            let holds = is_read_in(rt.alloc(), script, replies, step, reads)?;
-            assert!(rt; holds, "{step} a read");
-        }
-    }
+    let look = is_read_once(rt.alloc(), FIRST_LOOK, FIRST_LOOK_REPLIES)?;
+    let greeting = is_read_once(rt.alloc(), GREETING, GREETING_REPLIES)?;
+    assert_eq!(rt; (look, greeting), ((true, true), (true, true)));
     Ok(())
 }
 
@@ -54,9 +55,13 @@ fn nothing_is_read_after_a_bad_line(rt: HostRuntime) -> Result<(), Fail> {
     let script = b"2 {\"do\":\"bye\"}\n\n2 {\"do\":\"bye\"}\n";
     let mut reader = FakeReader::failing_after(usize::MAX, script.as_slice());
     let (fault, written) = run(rt.alloc(), PATH_OF_THREE, &mut reader)?;
-    assert_eq!(rt; fault, Some(ScriptFault::BadLine(2)));
-    assert_eq!(rt; written.as_slice(), b"2 {\"ok\":\"bye\"}\n".as_slice());
-    assert_eq!(rt; reader.rest, b"2 {\"do\":\"bye\"}\n".as_slice());
+    let found = (fault, written.as_slice(), reader.rest);
+    let wanted = (
+        Some(ScriptFault::BadLine(2)),
+        b"2 {\"ok\":\"bye\"}\n".as_slice(),
+        b"2 {\"do\":\"bye\"}\n".as_slice(),
+    );
+    assert_eq!(rt; found, wanted);
     Ok(())
 }
 
@@ -77,17 +82,28 @@ fn hellos(alloc: Global, connections: u8) -> Result<(String, String), Fail> {
     Ok((script, replies))
 }
 
+/// Whether the hellos on the connections up to a number have these replies, and then that fault.
+fn is_answered(
+    alloc: Global,
+    lab: &str,
+    connections: u8,
+    replies: &str,
+    fault: Option<ScriptFault>,
+) -> Result<bool, Fail> {
+    let (script, _) = hellos(alloc, connections)?;
+    let mut reader = FakeReader::failing_after(usize::MAX, script.as_bytes());
+    let (found, written) = run(alloc, lab, &mut reader)?;
+    Ok(found == fault && written.as_slice() == replies.as_bytes())
+}
+
 #[test]
 fn sixteen_connections_are_answered(rt: HostRuntime) -> Result<(), Fail> {
     let alloc = rt.alloc();
     let lab = PATH_OF_THREE.replacen(alloc, "sessions = 4", "sessions = 16", 1)?;
     let (_, replies) = hellos(alloc, 16)?;
-    for (connections, fault) in [(16, None), (17, Some(ScriptFault::BadLine(17)))] {
-        let (script, _) = hellos(alloc, connections)?;
-        let mut reader = FakeReader::failing_after(usize::MAX, script.as_bytes());
-        let (found, written) = run(alloc, lab.as_str(), &mut reader)?;
-        assert_eq!(rt; found, fault);
-        assert_eq!(rt; written.as_slice(), replies.as_bytes());
-    }
+    let all = is_answered(alloc, lab.as_str(), 16, replies.as_str(), None)?;
+    let one_more = Some(ScriptFault::BadLine(17));
+    let over = is_answered(alloc, lab.as_str(), 17, replies.as_str(), one_more)?;
+    assert_eq!(rt; (all, over), (true, true));
     Ok(())
 }

@@ -1,6 +1,7 @@
 //! Scripts over sinks in memory: what is refused once a put has failed, and what the sink has then.
 use mml_fakes::FakeWriter;
 use mml_fakes::labs::PATH_OF_THREE;
+use mml_fakes::scripts::TEN_LINES;
 use mml_hall::{Hall, run_script};
 use mml_journal::{MemorySink, Sink, SinkFault};
 use mml_lab::read_lab;
@@ -45,18 +46,6 @@ const TEN_GRANTS: &str = r#"1 {"at":0,"node":1,"ok":"move","place":1,"rule":"sed
 4 {"at":4,"moved":[1],"ok":"close","place":10}
 "#;
 
-const TEN_LINES: &str = r#"1 0 grant ana 1 seduction
-2 0 grant ben 2 seduction
-3 0 close
-4 1 grant cyd 3 marriage 2
-5 1 close
-6 2 grant ben 2 update
-7 2 grant cyd 3 update
-8 2 close
-9 3 grant ana 1 abandonment
-10 3 close
-"#;
-
 /// A sink that takes one byte a put, and after so many fails for good.
 #[derive(Drop)]
 struct Drip {
@@ -82,18 +71,26 @@ impl Sink for Drip {
     }
 }
 
-/// The replies to the greetings and then a script over a sink in memory, and the hall that it leaves.
-fn run(
-    alloc: Global,
-    script: &str,
-    fail_at: Option<u64>,
-) -> Result<(String, Hall<MemorySink>), Fail> {
+/// The replies, then the journal, and what the hall says of itself.
+fn text_of(replies: Vec<u8>, hall: &Hall<MemorySink>) -> Result<String, Fail> {
+    let mut told = String::from_utf8(replies)?;
+    let journal = str::from_utf8(hall.sink().bytes())?;
+    let (events, place) = (hall.events().len(), hall.board().place());
+    let halted = hall.halted();
+    write!(
+        told,
+        "journal:\n{journal}{events} events, place {place}, halted: {halted}"
+    )?;
+    Ok(told)
+}
+
+/// What is told of a script over a sink in memory that may fail at a put.
+fn told(alloc: Global, script: &str, fail_at: Option<u64>) -> Result<String, Fail> {
     let lab = read_lab(alloc, PATH_OF_THREE.as_bytes())?;
-    let lines = format!(in alloc; "{GREETINGS}{script}")?;
     let mut writer = FakeWriter::patient(alloc);
     let sink = MemorySink::new(alloc, fail_at);
-    let hall = run_script(alloc, lab, &mut lines.as_bytes(), &mut writer, sink)?;
-    Ok((String::from_utf8(writer.taken)?, hall))
+    let hall = run_script(alloc, lab, &mut script.as_bytes(), &mut writer, sink)?;
+    text_of(writer.taken, &hall)
 }
 
 const AFTER_A_HALT: &str = r#"1 {"at":0,"do":"move","node":1,"rule":"seduction"}
@@ -126,17 +123,13 @@ const AFTER_A_HALT_REPLIES: &str = r#"1 {"at":0,"node":1,"ok":"move","place":1,"
 
 #[test]
 fn nothing_is_granted_after_a_failed_put(rt: HostRuntime) -> Result<(), Fail> {
-    let (replies, hall) = run(rt.alloc(), AFTER_A_HALT, Some(2))?;
-    let wanted = format!(in rt.alloc(); "{WELCOMES}{AFTER_A_HALT_REPLIES}")?;
-    assert_eq!(rt; replies, wanted);
-    assert_eq!(rt;
-        hall.sink().bytes(),
-        b"1 0 grant ana 1 seduction\n".as_slice()
-    );
-    assert_eq!(rt;
-        (hall.halted(), hall.events().len(), hall.board().place()),
-        (true, 1, 1)
-    );
+    let script = format!(in rt.alloc(); "{GREETINGS}{AFTER_A_HALT}")?;
+    let told = told(rt.alloc(), script.as_str(), Some(2))?;
+    let wanted = format!(in rt.alloc();
+        "{WELCOMES}{AFTER_A_HALT_REPLIES}journal:\n{}\n1 events, place 1, halted: true",
+        "1 0 grant ana 1 seduction",
+    )?;
+    assert_eq!(rt; told, wanted);
     Ok(())
 }
 
@@ -157,83 +150,95 @@ fn is_refused(line: &str) -> bool {
     line.ends_with("{\"refuse\":\"journal\"}") || line.contains("\"deny\":")
 }
 
+/// What stands between the replies to these many acts and what is then told of the journal.
+fn between<'a>(alloc: Global, told: &'a str, granted: usize) -> Result<Option<&'a str>, Fail> {
+    let before = format!(in alloc; "{WELCOMES}{}", first_lines(TEN_GRANTS, granted))?;
+    let after = format!(in alloc;
+        "journal:\n{}{granted} events, place {granted}, halted: true",
+        first_lines(TEN_LINES, granted)
+    )?;
+    let rest = told.strip_prefix(before.as_str());
+    Ok(rest.and_then(|rest| rest.strip_suffix(after.as_str())))
+}
+
 /// Whether a sink that fails at this put leaves the acts before it granted, with their lines, and all
 /// later ones refused.
-fn stops_at(alloc: Global, put: u64) -> Result<bool, Fail> {
-    let (replies, hall) = run(alloc, TEN_ACTS, Some(put))?;
-    let granted = hall.events().len();
-    let before = format!(in alloc; "{WELCOMES}{}", first_lines(TEN_GRANTS, granted))?;
-    let Some(after) = replies.strip_prefix(before.as_str()) else {
+fn stops_at(alloc: Global, script: &str, put: usize) -> Result<bool, Fail> {
+    let told = told(alloc, script, Some(put as u64))?;
+    let Some(rest) = between(alloc, told.as_str(), put.saturating_sub(1))? else {
         return Ok(false);
     };
-    let Some((first, _)) = after.split_once('\n') else {
-        return Ok(false);
-    };
-    Ok(
-        granted as u64 + 1 == put
-            && hall.halted()
-            && hall.sink().bytes() == first_lines(TEN_LINES, granted).as_bytes()
-            && first.ends_with("{\"refuse\":\"journal\"}")
-            && after.lines().all(is_refused),
-    )
+    let first = rest.lines().next().unwrap_or("");
+    Ok(first.ends_with("{\"refuse\":\"journal\"}") && rest.lines().all(is_refused))
+}
+
+/// The first put that fails with something else left.
+fn first_put_told_otherwise(alloc: Global) -> Result<Option<usize>, Fail> {
+    let script = format!(in alloc; "{GREETINGS}{TEN_ACTS}")?;
+    for put in 1..=10usize {
+        if !stops_at(alloc, script.as_str(), put)? {
+            return Ok(Some(put));
+        }
+    }
+    Ok(None)
 }
 
 #[test]
 fn each_put_may_fail(rt: HostRuntime) -> Result<(), Fail> {
-    let mut stopped = 0usize;
-    for put in 1..=10 {
-        if stops_at(rt.alloc(), put)? {
-            stopped = stopped.saturating_add(1);
-        }
-    }
-    assert_eq!(rt; stopped, 10);
+    assert_eq!(rt; first_put_told_otherwise(rt.alloc())?, None);
     Ok(())
 }
 
 #[test]
 fn a_run_has_its_journal(rt: HostRuntime) -> Result<(), Fail> {
     let script = format!(in rt.alloc();
-        "{TEN_ACTS}4 {{\"do\":\"report\"}}\n1 {{\"do\":\"report\"}}\n"
+        "{GREETINGS}{TEN_ACTS}4 {{\"do\":\"report\"}}\n1 {{\"do\":\"report\"}}\n"
     )?;
-    let (replies, hall) = run(rt.alloc(), script.as_str(), Some(11))?;
+    let told = told(rt.alloc(), script.as_str(), Some(11))?;
     let wanted = format!(in rt.alloc();
-        "{WELCOMES}{TEN_GRANTS}{}{}",
+        "{WELCOMES}{TEN_GRANTS}{}{}journal:\n{TEN_LINES}10 events, place 10, halted: false",
         "4 {\"at\":4,\"free\":[1],\"ok\":\"report\",\"open\":[],\"pairs\":[[2,3]],\"privileged\":[],\"stable\":true}\n",
         "1 {\"clause\":1,\"deny\":\"not-teacher\",\"text\":\"only the teacher may do this\"}\n",
     )?;
-    assert_eq!(rt; replies, wanted);
-    assert_eq!(rt; hall.sink().bytes(), TEN_LINES.as_bytes());
-    assert_eq!(rt; hall.halted(), false);
+    assert_eq!(rt; told, wanted);
     Ok(())
 }
 
+/// Whether a hall has the first bytes of the journal, so many at most, and is halted by one failed put
+/// unless these are all.
+fn has_dripped(hall: &Hall<Drip>, puts: usize) -> bool {
+    let (wanted, _) = TEN_LINES.as_bytes().split_at(puts.min(TEN_LINES.len()));
+    hall.sink().bytes.as_slice() == wanted
+        && hall.halted() == (puts < TEN_LINES.len())
+        && hall.sink().failures == u64::from(hall.halted())
+}
+
 /// Whether a sink that takes one byte a put and fails after so many has exactly these bytes.
-fn drips(alloc: Global, puts: usize) -> Result<bool, Fail> {
+fn drips(alloc: Global, script: &str, puts: usize) -> Result<bool, Fail> {
     let lab = read_lab(alloc, PATH_OF_THREE.as_bytes())?;
-    let lines = format!(in alloc; "{GREETINGS}{TEN_ACTS}")?;
     let mut writer = FakeWriter::patient(alloc);
     let sink = Drip {
         bytes: Vec::new(alloc),
         left: puts,
         failures: 0,
     };
-    let (wanted, _) = TEN_LINES.as_bytes().split_at(puts.min(TEN_LINES.len()));
-    let hall = run_script(alloc, lab, &mut lines.as_bytes(), &mut writer, sink)?;
-    Ok(
-        hall.sink().bytes.as_slice() == wanted
-            && hall.halted() == (puts < TEN_LINES.len())
-            && hall.sink().failures == u64::from(hall.halted()),
-    )
+    let hall = run_script(alloc, lab, &mut script.as_bytes(), &mut writer, sink)?;
+    Ok(has_dripped(&hall, puts))
+}
+
+/// The first number of bytes after which something else is left.
+fn first_byte_told_otherwise(alloc: Global) -> Result<Option<usize>, Fail> {
+    let script = format!(in alloc; "{GREETINGS}{TEN_ACTS}")?;
+    for puts in 0..=TEN_LINES.len() {
+        if !drips(alloc, script.as_str(), puts)? {
+            return Ok(Some(puts));
+        }
+    }
+    Ok(None)
 }
 
 #[test]
 fn each_byte_of_a_journal_may_be_the_last(rt: HostRuntime) -> Result<(), Fail> {
-    let mut exact = 0usize;
-    for puts in 0..=TEN_LINES.len() {
-        if drips(rt.alloc(), puts)? {
-            exact = exact.saturating_add(1);
-        }
-    }
-    assert_eq!(rt; exact, TEN_LINES.len().saturating_add(1));
+    assert_eq!(rt; first_byte_told_otherwise(rt.alloc())?, None);
     Ok(())
 }

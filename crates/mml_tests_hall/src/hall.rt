@@ -68,12 +68,19 @@ const SCRIPTS: &[(&str, &str)] = &[
     ),
 ];
 
+/// The first row of these of which something else is told.
+fn first_told_otherwise(alloc: Global) -> Result<Option<usize>, Fail> {
+    for (row, (script, wanted)) in SCRIPTS.iter().enumerate() {
+        if told(alloc, script.as_bytes())?.as_str() != *wanted {
+            return Ok(Some(row));
+        }
+    }
+    Ok(None)
+}
+
 #[test]
 fn lines_are_answered(rt: HostRuntime) -> Result<(), Fail> {
-    for (script, wanted) in SCRIPTS {
-        let told = told(rt.alloc(), script.as_bytes())?;
-        assert_eq!(rt; told.as_str(), *wanted, "{script:?}");
-    }
+    assert_eq!(rt; first_told_otherwise(rt.alloc())?, None);
     Ok(())
 }
 
@@ -87,19 +94,33 @@ fn long_bye(alloc: Global, len: usize, end: &[u8]) -> Result<Vec<u8>, AllocError
     Ok(script)
 }
 
+// How long a bye is, what ends its line, and what is told of it.
+const LONG_BYES: &[(usize, &str, &str)] = &[
+    (4096, "\n", "1 {\"ok\":\"bye\"}\n"),
+    (4097, "\n", "BadLine(1)"),
+    (4098, "\n", "BadLine(1)"),
+    // 4099 bytes without byte 10 may stand at the end, and no more.
+    (4097, "", ""),
+    (4098, "", "BadLine(1)"),
+];
+
+fn told_of_long_bye(alloc: Global, len: usize, end: &str) -> Result<String, Fail> {
+    let script = long_bye(alloc, len, end.as_bytes())?;
+    told(alloc, script.as_slice())
+}
+
+/// The first row of these of which something else is told.
+fn first_bye_told_otherwise(alloc: Global) -> Result<Option<usize>, Fail> {
+    for (row, (len, end, wanted)) in LONG_BYES.iter().enumerate() {
+        if told_of_long_bye(alloc, *len, end)?.as_str() != *wanted {
+            return Ok(Some(row));
+        }
+    }
+    Ok(None)
+}
+
 #[test]
 fn lines_have_limits(rt: HostRuntime) -> Result<(), Fail> {
-    for (len, end, wanted) in [
-        (4096, b"\n".as_slice(), "1 {\"ok\":\"bye\"}\n"),
-        (4097, b"\n".as_slice(), "BadLine(1)"),
-        (4098, b"\n".as_slice(), "BadLine(1)"),
-        // 4099 bytes without byte 10 may stand at the end, and no more.
-        (4097, b"".as_slice(), ""),
-        (4098, b"".as_slice(), "BadLine(1)"),
-    ] {
-        let script = long_bye(rt.alloc(), len, end)?;
-        let told = told(rt.alloc(), script.as_slice())?;
-        assert_eq!(rt; told.as_str(), wanted, "{len}");
-    }
+    assert_eq!(rt; first_bye_told_otherwise(rt.alloc())?, None);
     Ok(())
 }

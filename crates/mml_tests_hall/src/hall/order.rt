@@ -58,7 +58,7 @@ fn replies_go_out_before_the_next_read(rt: HostRuntime) -> Result<(), Fail> {
     let mut counter = Counter { replies: &replies };
     let lab = read_lab(rt.alloc(), PATH_OF_THREE.as_bytes())?;
     let fault = run_script(rt.alloc(), lab, &mut asker, &mut counter, NullSink::new()).err();
-    assert_eq!(rt; fault, None);
-    assert_eq!(rt; asker.seen.as_slice(), [0, 1, 2, 3, 4].as_slice());
+    let found = (fault, asker.seen.as_slice());
+    assert_eq!(rt; found, (None, [0, 1, 2, 3, 4].as_slice()));
     Ok(())
 }
