@@ -96,9 +96,14 @@ fn push_link(text: &mut String, link: &OpenLink) -> Result<(), AllocError> {
     write!(text, " {a}-{b} {node} {:?}", link.kind)
 }
 
+fn told_of_board(alloc: Global, board: &Board) -> Result<String, Fail> {
+    let report = report(alloc, board)?;
+    Ok(told(alloc, &report)?)
+}
+
 fn told_of(alloc: Global, document: &str) -> Result<String, Fail> {
     let board = board_of(alloc, document)?;
-    Ok(told(alloc, &report(alloc, &board)?)?)
+    told_of_board(alloc, &board)
 }
 
 // Links, nodes with their registers, and what is told.
@@ -145,26 +150,37 @@ fn small_worlds(rt: HostRuntime) -> Result<(), Fail> {
     Ok(())
 }
 
-/// The report after the link of a married pair was cut, and after it was made again.
-fn cut_and_linked(alloc: Global) -> Result<(String, String), Fail> {
+fn married_pair(alloc: Global) -> Result<Board, Fail> {
     let nodes = [(1, "p = 2\nm = true"), (2, "p = 1\nm = true")];
     let document = lab_text(alloc, "[1, 2]", &nodes)?;
-    let mut board = board_of(alloc, document.as_str())?;
+    board_of(alloc, document.as_str())
+}
+
+/// The report after the link of two nodes was cut, and after it was made again.
+fn cut_and_linked(alloc: Global, board: &mut Board) -> Result<(String, String), Fail> {
     let [a, b] = [Rank::at(0), Rank::at(1)];
     board.absorb_event(&Event::Cut { a, b });
-    let cut = told(alloc, &report(alloc, &board)?)?;
+    let cut = told_of_board(alloc, board)?;
     board.absorb_event(&Event::Link { a, b });
-    let linked = told(alloc, &report(alloc, &board)?)?;
+    let linked = told_of_board(alloc, board)?;
     Ok((cut, linked))
+}
+
+/// The same of a married pair.
+fn pair_cut_and_linked(alloc: Global) -> Result<(String, String), Fail> {
+    let mut board = married_pair(alloc)?;
+    cut_and_linked(alloc, &mut board)
 }
 
 #[test]
 fn cut_and_link(rt: HostRuntime) -> Result<(), Fail> {
-    let (cut, linked) = cut_and_linked(rt.alloc())?;
-    assert_eq!(rt; cut.as_str(), "1 false;; 0 1; 0 Update 1 Update;");
+    let (cut, linked) = pair_cut_and_linked(rt.alloc())?;
     assert_eq!(rt;
-        linked.as_str(),
-        "2 false;; 0 1; 0 Update 1 Update; 0-1 0 Update"
+        (cut.as_str(), linked.as_str()),
+        (
+            "1 false;; 0 1; 0 Update 1 Update;",
+            "2 false;; 0 1; 0 Update 1 Update; 0-1 0 Update"
+        )
     );
     Ok(())
 }
@@ -185,7 +201,19 @@ fn counts(report: &Report) -> (usize, usize, usize) {
     (free, privileged, report.open_links.as_slice().len())
 }
 
-/// Whether the report on a world has these counts, and each open link names this witness.
+/// Whether the report on a board has these counts, and each open link names this witness.
+fn is_told_of_board(
+    alloc: Global,
+    board: &Board,
+    wanted: (usize, usize, usize),
+    node: u64,
+    kind: Kind,
+) -> Result<bool, Fail> {
+    let report = report(alloc, board)?;
+    Ok(counts(&report) == wanted && each_names(&report, node, kind))
+}
+
+/// The same of a world.
 fn is_told(
     alloc: Global,
     document: &str,
@@ -194,8 +222,7 @@ fn is_told(
     kind: Kind,
 ) -> Result<bool, Fail> {
     let board = board_of(alloc, document)?;
-    let report = report(alloc, &board)?;
-    Ok(counts(&report) == wanted && each_names(&report, node, kind))
+    is_told_of_board(alloc, &board, wanted, node, kind)
 }
 
 /// Whether each link of a row is open and names the last node.
@@ -208,7 +235,9 @@ fn row_is_told(alloc: Global, count: u64) -> Result<bool, Fail> {
 
 #[test]
 fn every_link_of_a_row_names_the_last_node(rt: HostRuntime) -> Result<(), Fail> {
-    assert!(rt; row_is_told(rt.alloc(), 64)? && row_is_told(rt.alloc(), 256)?);
+    let short = row_is_told(rt.alloc(), 64)?;
+    let long = row_is_told(rt.alloc(), 256)?;
+    assert_eq!(rt; (short, long), (true, true));
     Ok(())
 }
 
@@ -226,9 +255,39 @@ fn star_is_told(alloc: Global, centre: u64, inward: bool, kind: Kind) -> Result<
 
 #[test]
 fn every_link_of_a_star_names_its_centre(rt: HostRuntime) -> Result<(), Fail> {
-    assert!(rt; star_is_told(rt.alloc(), 1, false, Kind::Seduction)?);
-    assert!(rt; star_is_told(rt.alloc(), 256, true, Kind::Marriage)?);
+    let outward = star_is_told(rt.alloc(), 1, false, Kind::Seduction)?;
+    let inward = star_is_told(rt.alloc(), 256, true, Kind::Marriage)?;
+    assert_eq!(rt; (outward, inward), (true, true));
     Ok(())
+}
+
+/// A board that is drawn by that seed.
+fn drawn_board(alloc: Global, seed: u64) -> Result<Board, Fail> {
+    let document = loose(alloc, 1 + seed % 40)?;
+    let mut board = board_of(alloc, document.as_str())?;
+    drawn::draw(&mut board, seed);
+    Ok(board)
+}
+
+/// Whether the report is what a plain search finds.
+fn is_found(alloc: Global, board: &Board, report: &Report) -> Result<bool, Fail> {
+    let told = told(alloc, report)?;
+    let searched = plain::searched(alloc, board)?;
+    Ok(told.as_str() == searched.as_str())
+}
+
+/// Whether a plain search finds the board's report, whether there is a pair, and an open link.
+fn found(alloc: Global, board: &Board) -> Result<(bool, bool, bool), Fail> {
+    let report = report(alloc, board)?;
+    let is_paired = !report.pairs.as_slice().is_empty();
+    let is_open = !report.open_links.as_slice().is_empty();
+    Ok((is_found(alloc, board, &report)?, is_paired, is_open))
+}
+
+/// The same of the board that is drawn by a seed.
+fn found_of(alloc: Global, seed: u64) -> Result<(bool, bool, bool), Fail> {
+    let board = drawn_board(alloc, seed)?;
+    found(alloc, &board)
 }
 
 /// How many of so many drawn worlds have the report that a plain search finds, how many have a pair,
@@ -236,14 +295,10 @@ fn every_link_of_a_star_names_its_centre(rt: HostRuntime) -> Result<(), Fail> {
 fn found_again(alloc: Global, worlds: u64) -> Result<(u64, u64, u64), Fail> {
     let (mut same, mut paired, mut open) = (0u64, 0u64, 0u64);
     for seed in 1..=worlds {
-        let document = loose(alloc, 1 + seed % 40)?;
-        let mut board = board_of(alloc, document.as_str())?;
-        drawn::draw(&mut board, seed);
-        let report = report(alloc, &board)?;
-        let (told, searched) = (told(alloc, &report)?, plain::searched(alloc, &board)?);
-        same = u64::saturating_add(same, u64::from(told.as_str() == searched.as_str()));
-        paired = u64::saturating_add(paired, u64::from(!report.pairs.as_slice().is_empty()));
-        open = u64::saturating_add(open, u64::from(!report.open_links.as_slice().is_empty()));
+        let (is_same, is_paired, is_open) = found_of(alloc, seed)?;
+        same = u64::saturating_add(same, u64::from(is_same));
+        paired = u64::saturating_add(paired, u64::from(is_paired));
+        open = u64::saturating_add(open, u64::from(is_open));
     }
     Ok((same, paired, open))
 }

@@ -35,19 +35,33 @@ fn is_copied(alloc: Global, board: &Board) -> Result<bool, Memory> {
     Ok(board.is_same(&copy))
 }
 
-/// Whether a board of the lab, its copy and that of a hall begin as the same world.
-fn begins(alloc: Global, lab: Lab) -> Result<bool, Memory> {
-    let board = Board::new(alloc, &lab)?;
-    let is_copied = is_copied(alloc, &board)?;
+/// Whether a hall of the lab begins as the same world.
+fn is_that_of_a_hall(alloc: Global, lab: Lab, board: &Board) -> Result<bool, Memory> {
     let hall = Hall::new(alloc, lab, NullSink::new())?;
-    let is_same = board.is_same(hall.board()) && hall.events().is_empty();
-    Ok(is_copied && is_same && is_opening(&board))
+    Ok(board.is_same(hall.board()) && hall.events().is_empty())
 }
 
-/// The sizes of the lab, and whether it begins so.
-fn beginning(alloc: Global) -> Result<([u64; 5], bool), Fail> {
+/// Whether a board, its copy and that of a hall of the lab begin as the same world.
+fn agree(alloc: Global, lab: Lab, board: &Board) -> Result<bool, Fail> {
+    let is_same = is_that_of_a_hall(alloc, lab, board)?;
+    let is_copied = is_copied(alloc, board)?;
+    Ok(is_copied && is_same && is_opening(board))
+}
+
+/// The same of a board of the lab.
+fn begins(alloc: Global, lab: Lab) -> Result<bool, Fail> {
+    let board = Board::new(alloc, &lab)?;
+    agree(alloc, lab, &board)
+}
+
+fn greatest_lab(alloc: Global) -> Result<Lab, Fail> {
     let document = greatest(alloc)?;
-    let lab = read_lab(alloc, document.as_bytes())?;
+    Ok(read_lab(alloc, document.as_bytes())?)
+}
+
+/// The sizes of the largest lab, and whether it begins so.
+fn beginning(alloc: Global) -> Result<([u64; 5], bool), Fail> {
+    let lab = greatest_lab(alloc)?;
     let sizes = sizes(&lab);
     Ok((sizes, begins(alloc, lab)?))
 }
@@ -67,18 +81,29 @@ fn is_end(hall: &Hall<MemorySink>, journal: &str) -> bool {
     ends == (256, 1, false) && hall.sink().bytes() == journal.as_bytes()
 }
 
+/// Whether a script leaves that journal and the world after it.
+fn ends(
+    alloc: Global,
+    lab: Lab,
+    reader: &mut FakeReader,
+    writer: &mut FakeWriter,
+    journal: &str,
+) -> Result<bool, Fail> {
+    let hall = run_script(alloc, lab, reader, writer, MemorySink::new(alloc, None))?;
+    Ok(is_end(&hall, journal))
+}
+
 /// Whether the script has its replies and its journal, by one read for each byte and one that finds
 /// the end, and at most one flush comes before each read.
 fn is_answered(alloc: Global, lab: Lab, story: &Story) -> Result<bool, Fail> {
     let mut reader = FakeReader::failing_after(usize::MAX, story.script.as_bytes());
     let mut writer = FakeWriter::patient(alloc);
-    let sink = MemorySink::new(alloc, None);
-    let hall = run_script(alloc, lab, &mut reader, &mut writer, sink)?;
+    let ends = ends(alloc, lab, &mut reader, &mut writer, story.journal.as_str())?;
     let is_read = reader.reads == story.script.len().saturating_add(1);
     let is_written = writer.taken.as_slice() == story.replies.as_bytes();
     let flushes = usize::MAX.saturating_sub(writer.good_flushes);
     let is_flushed = 0 < flushes && flushes <= reader.reads;
-    Ok(is_read && is_written && is_flushed && is_end(&hall, story.journal.as_str()))
+    Ok(is_read && is_written && is_flushed && ends)
 }
 
 /// Whether the journal passes an audit, up to the last event.
@@ -91,15 +116,19 @@ fn passes(alloc: Global, lab: &Lab, journal: &str) -> bool {
 
 /// Whether the story's journal passes, and its script is answered.
 fn served(alloc: Global, story: &Story) -> Result<(bool, bool), Fail> {
-    let document = greatest(alloc)?;
-    let lab = read_lab(alloc, document.as_bytes())?;
+    let lab = greatest_lab(alloc)?;
     let passes = passes(alloc, &lab, story.journal.as_str());
     Ok((passes, is_answered(alloc, lab, story)?))
 }
 
+/// The same of the story over the largest lab.
+fn told_and_served(alloc: Global) -> Result<(bool, bool), Fail> {
+    let story = tell(alloc)?;
+    served(alloc, &story)
+}
+
 #[test]
 fn the_largest_lab_is_served(rt: HostRuntime) -> Result<(), Fail> {
-    let story = tell(rt.alloc())?;
-    assert_eq!(rt; served(rt.alloc(), &story)?, (true, true));
+    assert_eq!(rt; told_and_served(rt.alloc())?, (true, true));
     Ok(())
 }
