@@ -12,7 +12,7 @@ use mml_hall::audit;
 use mml_journal::MemorySink;
 use mml_lab::{Lab, Who, read_lab};
 use mml_policy::Command;
-use mml_window::{Blank, Brand, Desk, House, Log, open_house};
+use mml_window::{Blank, Brand, Desk, House, Log, Window, open_house};
 use player::{Player, Told};
 use replay::{Replay, meets_all};
 use std::alloc::Global;
@@ -73,6 +73,50 @@ struct Run {
     log: Log<MemorySink>,
 }
 
+/// Plays the moves from a node on, and counts itself among those that have ended.
+fn play_moves<H: House, R: Wait>(
+    rt: &R,
+    alloc: Global,
+    desk: &Desk<MemorySink, H>,
+    window: Window<H>,
+    who: Who,
+    first: u64,
+    ended: &AtomicU64,
+) -> Player<H> {
+    let mut player = Player::new(alloc, window, who);
+    moves(rt, alloc, desk, &mut player, first);
+    ended.fetch_add(1, Ordering::SeqCst);
+    player
+}
+
+/// Lets three play at once: ana, ben and the teacher, each through a window.
+fn play_all<H: House + Send + Sync, R: Threads + Wait + Sync>(
+    rt: &R,
+    alloc: Global,
+    desk: &Desk<MemorySink, H>,
+    ana: Window<H>,
+    ben: Window<H>,
+    tess: Window<H>,
+) -> (Player<H>, (Player<H>, Player<H>)) {
+    let ended = AtomicU64::new(0);
+    let ended = &ended;
+    join(
+        rt,
+        move || -> Player<H> { play_moves(rt, alloc, desk, ana, student(0), 1, ended) },
+        move || -> (Player<H>, Player<H>) {
+            join(
+                rt,
+                move || -> Player<H> { play_moves(rt, alloc, desk, ben, student(1), 33, ended) },
+                move || -> Player<H> {
+                    let mut player = Player::new(alloc, tess, Who::Teacher);
+                    closes(rt, alloc, desk, &mut player, ended);
+                    player
+                },
+            )
+        },
+    )
+}
+
 fn run_in<H: House + Send + Sync, R: Threads + Wait + Sync>(
     rt: &R,
     alloc: Global,
@@ -85,33 +129,9 @@ fn run_in<H: House + Send + Sync, R: Threads + Wait + Sync>(
         let _ = desk.finish(rt, windows);
         return Err(Fail::from("fewer than three windows"));
     };
-    let ended = AtomicU64::new(0);
-    let (desk_lent, ended_lent) = (&desk, &ended);
-    let (ana, (ben, tess)) = join(
-        rt,
-        move || -> Player<H> {
-            let mut player = Player::new(alloc, ana, student(0));
-            moves(rt, alloc, desk_lent, &mut player, 1);
-            ended_lent.fetch_add(1, Ordering::SeqCst);
-            player
-        },
-        move || -> (Player<H>, Player<H>) {
-            join(
-                rt,
-                move || -> Player<H> {
-                    let mut player = Player::new(alloc, ben, student(1));
-                    moves(rt, alloc, desk_lent, &mut player, 33);
-                    ended_lent.fetch_add(1, Ordering::SeqCst);
-                    player
-                },
-                move || -> Player<H> {
-                    let mut player = Player::new(alloc, tess, Who::Teacher);
-                    closes(rt, alloc, desk_lent, &mut player, ended_lent);
-                    player
-                },
-            )
-        },
-    );
+    let (ana, (ben, mut tess)) = play_all(rt, alloc, &desk, ana, ben, tess);
+    // Where all closes came before the first move or none was in time, this one is granted.
+    tess.ask(rt, alloc, &desk, Command::Close);
     let (window, ana) = ana.into_parts();
     give_back(&mut windows, window);
     let (window, ben) = ben.into_parts();

@@ -3,8 +3,9 @@ ghost use Rattle.std.specs.Prelude.{◌≡◌};
 ghost use Rattle.mml_window.specs.Houses.{house_of};
 
 use crate::houses::{Ending, end_of, give_back};
-use crate::meeting::Meeting;
+use crate::meeting::Together;
 use mml_fakes::labs::PATH_OF_THREE;
+use mml_fakes::meeting::Meeting;
 use mml_fakes::scripts::{FIRST_LOOK, FIRST_LOOK_REPLIES};
 use mml_journal::MemorySink;
 use mml_lab::read_lab;
@@ -91,6 +92,22 @@ fn serve<H: House, R: Wait, G: Gate>(
     Served { window, out, end }
 }
 
+fn serve_both<H: House + Send + Sync, R: Threads + Wait + Sync>(
+    rt: &R,
+    alloc: Global,
+    desk: &Desk<MemorySink, H>,
+    one: Window<H>,
+    two: Window<H>,
+    scripts: Scripts<'_>,
+    gate: &Together,
+) -> (Served<H>, Served<H>) {
+    join(
+        rt,
+        move || -> Served<H> { serve(rt, alloc, desk, one, scripts.first, gate) },
+        move || -> Served<H> { serve(rt, alloc, desk, two, scripts.second, gate) },
+    )
+}
+
 fn race_in<H: House + Send + Sync, R: Threads + Wait + Sync>(
     rt: &R,
     alloc: Global,
@@ -105,13 +122,8 @@ fn race_in<H: House + Send + Sync, R: Threads + Wait + Sync>(
         return Err(Fail::from("fewer than two windows"));
     };
     let Served { window: one, .. } = serve(rt, alloc, &desk, one, scripts.before, &NoGate);
-    let gate = Meeting::new(2);
-    let (desk_lent, gate_lent) = (&desk, &gate);
-    let (first, second) = join(
-        rt,
-        move || -> Served<H> { serve(rt, alloc, desk_lent, one, scripts.first, gate_lent) },
-        move || -> Served<H> { serve(rt, alloc, desk_lent, two, scripts.second, gate_lent) },
-    );
+    let gate = Together(Meeting::of(2));
+    let (first, second) = serve_both(rt, alloc, &desk, one, two, scripts, &gate);
     let Served {
         window,
         out: first,
@@ -129,7 +141,7 @@ fn race_in<H: House + Send + Sync, R: Threads + Wait + Sync>(
     Ok(Race {
         first: String::from_utf8(first)?,
         second: String::from_utf8(second)?,
-        is_met: are_ended && gate.given_up() == 0,
+        is_met: are_ended && gate.0.was_held(),
         ending,
         journal,
     })
