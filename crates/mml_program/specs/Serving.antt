@@ -1,9 +1,9 @@
 -- Connections that were served as they came.
-use Rattle.std.specs.Prelude.{◌≡◌, ℕ, ◌+◌, List, [], ◌∷◌, length, map, ⊤, Option}
+use Rattle.std.specs.Prelude.{◌≡◌, ℕ, ◌+◌, List, [], ◌∷◌, ◌++◌, All, length, map, ⊤, Option}
 use Rattle.mml_lab.specs.Labs.{LabValue}
 use Rattle.mml_window.specs.declared.log.Log.{Log}
 use Rattle.mml_window.specs.Logs.{IsLog}
-use Rattle.mml_window.specs.Windows.{WindowValue}
+use Rattle.mml_window.specs.Windows.{WindowValue, window}
 use Rattle.mml_session.specs.declared.each.Connection.{Connection}
 use Rattle.mml_session.specs.declared.house.EndedSession.{EndedSession}
 use Rattle.mml_session.specs.Houses.{Each, IsServed}
@@ -28,10 +28,12 @@ pub record ServesAll {R W : Type 0} (lab : LabValue) (remaining : R → Option (
   pub numbered : Numbered 1 connections
   pub served : Each (IsServed lab remaining contents) connections sessions windows
 
--- and the house through whose windows they were served left the log: the lab's legal list of events, of which each window has seen
--- a beginning, and whose places are those that the windows were told, each once
+-- and the house through whose windows they were served left the log, beside windows that had seen nothing and served nobody: the
+-- lab's legal list of events, of which each window has seen a beginning, and whose places are those that all windows were told, each once
 pub record ServesHouse {S R W : Type 0} (lab : LabValue) (sink : S → Option (List ℕ)) (remaining : R → Option (List ℕ)) (contents : W → Option (List ℕ))
     (to_come : Option (List (R × W))) (count : ℕ) (sessions : List (EndedSession R W)) (log : Log S) : Type 0 where
   pub windows : List WindowValue
-  pub kept : IsLog lab sink windows log
+  pub unused : List WindowValue
+  pub idle : All (λ w. w ≡ window [] []) unused
+  pub kept : IsLog lab sink (windows ++ unused) log
   pub each : ServesAll lab remaining contents to_come count sessions windows

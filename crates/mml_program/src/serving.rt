@@ -1,10 +1,11 @@
 //! A server from the opening of its house to its last line.
-ghost use Rattle.std.specs.Prelude.{◌≡◌, ◌<◌, ◌≤◌, ◌-◌, ◌^◌, false, length, IfOk, OnOk};
+ghost use Rattle.std.specs.Prelude.{◌≡◌, ◌<◌, ◌≤◌, ◌+◌, ◌-◌, ◌^◌, ◌++◌, Err, false, length, IfOk, OnOk};
 ghost use Rattle.std.specs.Io.KnownBytes.{Appends};
 ghost use Rattle.mml_ids.specs.Pieces.{joined};
 ghost use Rattle.mml_journal.specs.Taken.{IsFresh};
 ghost use Rattle.mml_window.specs.Houses.{house_of};
 ghost use Rattle.mml_window.specs.Lists.{world_in};
+ghost use Rattle.mml_window.specs.Logs.{IsLog};
 ghost use Rattle.mml_program.specs.Closings.{Closes, done_line, listening_line};
 ghost use Rattle.mml_program.specs.Serving.{ServesHouse};
 
@@ -15,7 +16,7 @@ use mml_journal::Sink;
 use mml_lab::Lab;
 use mml_lines::put_all;
 use mml_session::{Gate, ServedHouse};
-use mml_window::{Blank, Brand, House, HouseFault, Log, open_house};
+use mml_window::{Blank, Brand, Desk, House, HouseFault, Log, Window, open_house};
 use std::alloc::Global;
 use std::io::{Read, Write};
 use std::net::TcpListener;
@@ -127,18 +128,53 @@ fn in_house<
     ensures { IfOk result (λ house. ServesHouse H.lab S.contents R.remaining W.contents
         (A.to_come arrivals) connections house.sessions.items house.log) }
 {
-    let Ok((desk, windows)) = blank.start::<H>(alloc) else {
+    let Ok((desk, mut windows)) = blank.start::<H>(alloc) else {
         return Err(ServeFault::Memory);
     };
+    let Ok(unused) = windows.split_off(usize::from(connections)) else {
+        return end_for(ServeFault::Memory, rt, alloc, desk);
+    };
     match serve_all(rt, alloc, &desk, windows, arrivals, connections, gate) {
-        Ok((windows, sessions)) => match desk.finish(rt, windows) {
+        Ok((windows, sessions)) => match end_house(rt, alloc, desk, windows, unused) {
             Ok(log) => Ok(ServedHouse { log, sessions }),
-            Err(_) => Err(ServeFault::Astray),
+            Err(fault) => Err(fault),
         },
-        Err(fault) => {
-            let _ = desk.finish(rt, Vec::new(alloc));
-            Err(fault)
-        }
+        Err(fault) => end_for(fault, rt, alloc, desk),
+    }
+}
+
+// Ends a house after a fault, of which nothing else is told.
+fn end_for<Rt: Wait, S: Sink + Drop, H: House, T>(
+    fault: ServeFault,
+    rt: &Rt,
+    alloc: Global,
+    desk: Desk<S, H>,
+) -> Result<T, ServeFault>
+    ensures { result ≡ Err fault }
+{
+    let _ = desk.finish(rt, Vec::new(alloc));
+    Err(fault)
+}
+
+// Ends a house with all its windows, those through which nobody was served last.
+fn end_house<Rt: Wait, S: Sink + Drop, H: House>(
+    rt: &Rt,
+    alloc: Global,
+    desk: Desk<S, H>,
+    windows: Vec<Window<H>>,
+    unused: Vec<Window<H>>,
+) -> Result<Log<S>, ServeFault>
+    requires few { length windows.items + length unused.items ≤ H.lab.sessions }
+    ensures { IfOk result (IsLog H.lab S.contents (windows.items ++ unused.items)) }
+{
+    let mut windows = windows;
+    let mut unused = unused;
+    if windows.append(&mut unused).is_err() {
+        return end_for(ServeFault::Memory, rt, alloc, desk);
+    }
+    match desk.finish(rt, windows) {
+        Ok(log) => Ok(log),
+        Err(_) => Err(ServeFault::Astray),
     }
 }
 

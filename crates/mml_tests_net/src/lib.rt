@@ -4,6 +4,8 @@
 #[cfg(test)]
 mod answering;
 #[cfg(test)]
+mod arriving;
+#[cfg(test)]
 mod faults;
 #[cfg(test)]
 mod files;

@@ -1,4 +1,4 @@
-use Rattle.std.proofs.Common.{◌≡◌, [], ◌∷◌, ◌∙◌, ap, length, arith, map}
+use Rattle.std.proofs.Common.{◌≡◌, ◌∙◌, ap, arith, map}
 use Rattle.std.proofs.lemmas.List.{length-map}
 use Rattle.mml_program.proofs.ServingLemmas.{numbered_so, came_so, all_came}
 use Rattle.mml_program.proofs.seating.fn.serve_all.scope.Goals as goal

@@ -1,4 +1,4 @@
-use Rattle.std.proofs.Common.{◌≡◌, ◌≤◌, ◌+◌, [], map, length, All, vec_len, vec_capacity}
+use Rattle.std.proofs.Common.{◌≡◌, ◌≤◌, ◌+◌, [], map, length, All, vec_capacity}
 use Rattle.mml_window.specs.Windows.{window}
 use Rattle.mml_program.specs.Arriving.{Takes}
 use Rattle.mml_program.specs.Serving.{Numbered, ends}

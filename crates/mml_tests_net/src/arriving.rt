@@ -1,0 +1,125 @@
+//! Connections whose ends are values, so that all that is left of them can be looked at.
+use mml_fakes::FakeWriter;
+use mml_journal::MemorySink;
+use mml_lab::read_lab;
+use mml_program::{Arrivals, BUILT_IN, HangUp, ServeFault, serve_arrivals};
+use mml_session::{NoGate, ServedHouse};
+use std::alloc::Global;
+use std::collections::VecDeque;
+use std::io;
+use std::io::{ErrorKind, Write};
+use std::sync::Wait;
+use std::test::Fail;
+use std::thread::Threads;
+
+/// A writer that keeps what it was given.
+#[derive(Drop)]
+struct Kept(FakeWriter);
+
+impl Write for Kept {
+    fn write(&mut self, bytes: &[u8]) -> io::Result<usize> {
+        self.0.write(bytes)
+    }
+
+    fn flush(&mut self) -> io::Result<()> {
+        self.0.flush()
+    }
+}
+
+impl HangUp for Kept {
+    fn hang_up(&self) {}
+}
+
+/// Connections that send these bytes, the last ones first.
+#[derive(Drop)]
+struct Texts {
+    alloc: Global,
+    left: Vec<VecDeque<u8>>,
+}
+
+impl Arrivals<VecDeque<u8>, Kept> for Texts {
+    fn accept_next(&mut self) -> io::Result<(VecDeque<u8>, Kept)> {
+        match self.left.pop() {
+            Some(text) => Ok((text, Kept(FakeWriter::patient(self.alloc)))),
+            None => Err(io::Error::from(ErrorKind::NotConnected)),
+        }
+    }
+}
+
+type Left = ServedHouse<MemorySink, VecDeque<u8>, Kept>;
+
+/// Serves so many of these texts, the last one first, over the built-in lab.
+fn serve_texts<R: Threads + Wait + Sync + AllocGlobal>(
+    rt: &R,
+    texts: &[&str],
+    connections: u8,
+    writer: &mut FakeWriter,
+) -> Result<Option<Result<Left, ServeFault>>, Fail> {
+    let alloc = rt.alloc();
+    let mut left = Vec::new(alloc);
+    for text in texts {
+        let mut bytes = VecDeque::new(alloc);
+        for byte in text.as_bytes() {
+            bytes.push_back(*byte)?;
+        }
+        left.push(bytes)?;
+    }
+    let lab = read_lab(alloc, BUILT_IN.as_bytes())?;
+    if connections > lab.sessions() {
+        return Ok(None);
+    }
+    let arrivals = Texts { alloc, left };
+    let sink = MemorySink::new(alloc, None);
+    Ok(Some(serve_arrivals(rt, alloc, lab, arrivals, connections, sink, &NoGate, writer)))
+}
+
+/// Whether a house is left in which each connection, by its number, was written what is wanted.
+fn are_answered_so(ended: &Option<Result<Left, ServeFault>>, wanted: &[(u8, &str)]) -> bool {
+    let Some(Ok(house)) = ended else {
+        return false;
+    };
+    let mut found = house.sessions.iter();
+    for (number, replies) in wanted {
+        let Some(session) = found.next() else {
+            return false;
+        };
+        let connection = &session.connection;
+        if connection.number != *number
+            || connection.writer.0.taken.as_slice() != replies.as_bytes()
+        {
+            return false;
+        }
+    }
+    found.next().is_none()
+}
+
+const MOVE: &str = "{\"do\":\"hello\",\"key\":\"a-key\",\"name\":\"ana\"}
+{\"at\":0,\"do\":\"move\",\"node\":1,\"rule\":\"seduction\"}
+";
+
+const GRANTED: &str = "{\"ok\":\"hello\",\"who\":\"ana\"}
+{\"at\":0,\"node\":1,\"ok\":\"move\",\"place\":1,\"rule\":\"seduction\"}
+";
+
+const BYE: &str = "{\"do\":\"bye\"}\n";
+
+const LEFT: &str = "{\"ok\":\"bye\"}\n";
+
+#[test]
+fn connections_are_left_in_the_order_in_which_they_came(rt: HostRuntime) -> Result<(), Fail> {
+    let mut writer = FakeWriter::patient(rt.alloc());
+    let ended = serve_texts(&rt, &["", BYE, MOVE], 2, &mut writer)?;
+    let are_so = are_answered_so(&ended, &[(1, GRANTED), (2, LEFT)]);
+    let done = "done: 1 events, configuration 0\n";
+    assert!(rt; (are_so, writer.taken.as_slice()) == (true, done.as_bytes()));
+    Ok(())
+}
+
+#[test]
+fn a_connection_that_does_not_come_is_a_fault(rt: HostRuntime) -> Result<(), Fail> {
+    let mut writer = FakeWriter::patient(rt.alloc());
+    let ended = serve_texts(&rt, &[MOVE], 2, &mut writer)?;
+    let is_refused = matches!(ended, Some(Err(ServeFault::Accept)));
+    assert!(rt; (is_refused, writer.taken.is_empty()) == (true, true));
+    Ok(())
+}
