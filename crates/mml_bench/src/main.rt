@@ -14,9 +14,10 @@ mod views;
 use crate::lines::Words;
 use crate::timing::{a_second, percent};
 use std::alloc::Global;
+use std::fs::File;
 use std::io::Print;
 use std::net::{Net, TcpListener, TcpStream};
-use std::rt::Clock;
+use std::rt::{Clock, Files};
 use std::sync::Wait;
 use std::thread::Threads;
 use std::{env, io};
@@ -34,7 +35,13 @@ fn main(rt: HostRuntime) -> io::Result<()> {
 
 /// Measures what a word says, and tells whether it is one.
 fn measure<
-    R: Clock + Print + Net<Listener = TcpListener, Stream = TcpStream> + Threads + Wait + Sync,
+    R: Clock
+        + Files<File = File>
+        + Print
+        + Net<Listener = TcpListener, Stream = TcpStream>
+        + Threads
+        + Wait
+        + Sync,
 >(rt: &R, alloc: Global, word: &str) -> io::Result<bool> {
     match word {
         "labs" => measure_labs(rt, alloc)?,
@@ -53,17 +60,22 @@ fn measure_labs<R: Clock + Print>(rt: &R, alloc: Global) -> io::Result<()> {
     println!(rt; "256 nodes, 32640 links: toml {toml} us, read_lab {lab} us, {ratio} %")
 }
 
-fn measure_views<R: Clock + Print + Threads + Wait + Sync>(
+fn measure_views<R: Clock + Files<File = File> + Print + Threads + Wait + Sync>(
     rt: &R,
     alloc: Global,
 ) -> io::Result<()> {
-    let times = views::times(rt, alloc)?;
-    let alone = a_second(views::VIEWS, times.alone);
-    let spinning = a_second(views::VIEWS, times.spinning);
-    let granting = a_second(views::VIEWS, times.granting);
-    let ratio = percent(granting, spinning);
-    println!(rt; "views of a window in a second: alone {alone}")?;
-    println!(rt; "of each of two: beside a spinner {spinning}, beside grants {granting}, {ratio} %")
+    let rates = views::medians(rt, alloc)?;
+    let spinning = rates[1];
+    for index in 0..views::COUNT {
+        let work = views::WORKS[index];
+        let (shown, grants) = (rates[index].views, rates[index].grants);
+        let ratio = percent(shown, spinning.views);
+        let cost = views::cost_of_grant(spinning, rates[index]);
+        println!(rt;
+            "{work:?}: views of a window in a second {shown}, {ratio} %, grants in a second {grants}, {cost} ns each"
+        )?;
+    }
+    Ok(())
 }
 
 fn measure_events<R: Clock + Print + Wait>(rt: &R, alloc: Global) -> io::Result<()> {

@@ -1,172 +1,163 @@
-//! What a view through a window takes, alone and beside another thread.
-ghost use Rattle.std.specs.Prelude.{◌≡◌};
+//! What a view through a window takes, alone and beside a thread that is at work.
+ghost use Rattle.std.specs.Prelude.{◌≡◌, ◌<◌, ◌-◌, ◌^◌};
+ghost use Rattle.mml_journal.specs.Taken.{IsFresh};
 ghost use Rattle.mml_window.specs.Houses.{house_of};
 
-use crate::timing::{ROUNDS, median, micros_since, otherwise};
-use crate::turns::{asker, command, lab_of};
-use mml_journal::NullSink;
-use mml_lab::Who;
-use mml_window::{Blank, Brand, Desk, House, Window, open_house};
-use std::alloc::Global;
-use std::rt::Clock;
-use std::sync::Wait;
-use std::sync::atomic::{AtomicU64, Ordering};
-use std::thread::{Threads, join};
-use std::time::Instant;
-use std::{hint, io};
+mod stretch;
+mod working;
 
-/// How many views each window shows.
-pub const VIEWS: u64 = 300_000;
+use crate::timing::{ROUNDS, a_second, median, otherwise};
+use crate::turns::lab_of;
+use mml_journal::{FileSink, NullSink, Sink};
+use mml_window::{Blank, Brand, House, open_house};
+use std::alloc::Global;
+use std::fs::File;
+use std::rt::{Clock, Files};
+use std::sync::Wait;
+use std::thread::Threads;
+use std::{fs, io};
+use stretch::{Stretch, alone, beside};
+
+/// Where the journal lies while it is measured.
+const JOURNAL: &str = "views.journal";
 
 /// What goes on beside the views.
-#[derive(Clone, Copy)]
-enum Beside {
-    Nothing,
+#[derive(Clone, Copy, Debug, PartialEq, Eq)]
+pub enum Work {
+    /// Nothing, and one window alone is looked through.
+    Alone,
+    /// A thread spins.
     Spinning,
-    Granting,
+    /// A thread asks for events, and waits for so many nanoseconds after each.
+    Asking(u64),
+    /// A thread serves a student's session and the teacher's in turn, whose lines lie in memory.
+    Sessions,
+    /// The same, and the journal is a file.
+    Journal,
 }
 
-/// The medians in microseconds: of one window alone, of two beside a thread that spins, and of two beside
-/// one that grants and closes.
+/// How many there are.
+pub const COUNT: usize = 9;
+
+/// All of them. What is beside the others is compared with the second.
+pub const WORKS: [Work; COUNT] = [
+    Work::Alone,
+    Work::Spinning,
+    Work::Asking(0),
+    Work::Asking(1_000),
+    Work::Asking(2_000),
+    Work::Asking(5_000),
+    Work::Asking(20_000),
+    Work::Sessions,
+    Work::Journal,
+];
+
+/// In a second: how many views each window showed, and how many events were granted beside them.
 #[derive(Clone, Copy, Debug)]
-pub struct Medians {
-    pub alone: u64,
-    pub spinning: u64,
-    pub granting: u64,
+pub struct Rates {
+    pub views: u64,
+    pub grants: u64,
 }
 
-/// What the views take in each of the three ways, in microseconds.
-pub fn times<R: Clock + Threads + Wait + Sync>(rt: &R, alloc: Global) -> io::Result<Medians> {
-    let mut alone = [0; ROUNDS];
-    let mut spinning = [0; ROUNDS];
-    let mut granting = [0; ROUNDS];
+/// The medians of the rounds, in the order of the works.
+pub fn medians<R: Clock + Files<File = File> + Threads + Wait + Sync>(
+    rt: &R,
+    alloc: Global,
+) -> io::Result<[Rates; COUNT]> {
+    let mut views = [[0; ROUNDS]; COUNT];
+    let mut grants = [[0; ROUNDS]; COUNT];
     for round in 0..ROUNDS {
-        alone[round] = time(rt, alloc, Beside::Nothing)?;
-        spinning[round] = time(rt, alloc, Beside::Spinning)?;
-        granting[round] = time(rt, alloc, Beside::Granting)?;
+        for index in 0..COUNT {
+            let rates = rates_beside(rt, alloc, WORKS[index])?;
+            views[index][round] = rates.views;
+            grants[index][round] = rates.grants;
+        }
     }
-    Ok(Medians {
-        alone: median(alone),
-        spinning: median(spinning),
-        granting: median(granting),
-    })
+    let mut all = [Rates {
+        views: 0,
+        grants: 0,
+    }; COUNT];
+    for index in 0..COUNT {
+        all[index] = Rates {
+            views: median(views[index]),
+            grants: median(grants[index]),
+        };
+    }
+    Ok(all)
 }
 
-fn time<R: Clock + Threads + Wait + Sync>(
-    rt: &R,
-    alloc: Global,
-    beside: Beside,
-) -> io::Result<u64> {
-    let blank = open_house(rt, alloc, lab_of(alloc, 64)?, NullSink::new());
-    time_in::<Brand, _>(rt, alloc, blank.map_err(|_| otherwise())?, beside)
+/// What a grant takes of the time of a thread that looks, in nanoseconds.
+pub fn cost_of_grant(spinning: Rates, beside: Rates) -> u64 {
+    let lost = spinning.views.saturating_sub(beside.views);
+    let share = lost.saturating_mul(1_000_000_000) / spinning.views.max(1);
+    share / beside.grants.max(1)
 }
 
-fn time_in<H: House + Send + Sync, R: Clock + Threads + Wait + Sync>(
+fn rates_beside<R: Clock + Files<File = File> + Threads + Wait + Sync>(
     rt: &R,
     alloc: Global,
-    blank: Blank<NullSink>,
-    beside: Beside,
-) -> io::Result<u64>
+    work: Work,
+) -> io::Result<Rates> {
+    if work != Work::Journal {
+        return rates_over(rt, alloc, work, NullSink::new());
+    }
+    let file = File::create(rt, JOURNAL)?;
+    let rates = rates_over(rt, alloc, work, FileSink::new(file));
+    fs::remove_file(rt, JOURNAL)?;
+    rates
+}
+
+fn rates_over<R: Clock + Threads + Wait + Sync, S: Sink + Send + Drop>(
+    rt: &R,
+    alloc: Global,
+    work: Work,
+    sink: S,
+) -> io::Result<Rates>
+    requires fresh { IsFresh (S.contents sink) }
+    requires countable { S.failures sink < 2 ^ 64 - 1 }
+{
+    let blank = open_house(rt, alloc, lab_of(alloc, 64)?, sink);
+    rates_in::<Brand, _, _>(rt, alloc, blank.map_err(|_| otherwise())?, work)
+}
+
+/// Lets a stretch go by in a house; all that was asked for has to be granted.
+fn rates_in<H: House + Send + Sync, R: Clock + Threads + Wait + Sync, S: Sink + Send + Drop>(
+    rt: &R,
+    alloc: Global,
+    blank: Blank<S>,
+    work: Work,
+) -> io::Result<Rates>
     requires { blank ≡ house_of H.name H.lab }
 {
     let (desk, mut windows) = blank.start::<H>(alloc).map_err(|_| otherwise())?;
-    let (Some(one), Some(two), Some(three)) = (windows.pop(), windows.pop(), windows.pop()) else {
+    let (Some(one), Some(two), Some(three), Some(four)) = (
+        windows.pop(),
+        windows.pop(),
+        windows.pop(),
+        windows.pop(),
+    ) else {
         let _ = desk.finish(rt, windows);
         return Err(otherwise());
     };
-    let time = match beside {
-        Beside::Nothing => time_alone(rt, one),
-        Beside::Spinning | Beside::Granting => {
-            time_beside(rt, alloc, &desk, one, two, three, beside)
-        }
+    let stretch = if work == Work::Alone {
+        alone(rt, one)
+    } else {
+        beside(rt, alloc, &desk, (one, two), (three, four), work)
     };
-    let _ = desk.finish(rt, windows);
-    time
-}
-
-/// How many microseconds the views of one window take.
-fn time_alone<H: House, R: Clock>(rt: &R, window: Window<H>) -> io::Result<u64> {
-    let start = Instant::now(rt)?;
-    let shown = view(window);
-    let spent = micros_since(start, rt)?;
-    if shown == VIEWS {
-        Ok(spent)
-    } else {
-        Err(otherwise())
+    let granted = match desk.finish(rt, windows) {
+        Ok(log) => log.events.as_slice().len() as u64,
+        Err(astray) => astray.found,
+    };
+    let Stretch {
+        micros,
+        shown,
+        asked,
+    } = stretch?;
+    if asked != granted {
+        return Err(otherwise());
     }
-}
-
-/// How many microseconds the views of two windows take, each in its thread, beside a third one.
-fn time_beside<H: House + Send + Sync, R: Clock + Threads + Wait + Sync>(
-    rt: &R,
-    alloc: Global,
-    desk: &Desk<NullSink, H>,
-    one: Window<H>,
-    two: Window<H>,
-    three: Window<H>,
-    beside: Beside,
-) -> io::Result<u64> {
-    let ended = AtomicU64::new(0);
-    let ended_lent = &ended;
-    let start = Instant::now(rt)?;
-    let ((), (first, second)) = join(
-        rt,
-        move || go_on(rt, alloc, desk, three, beside, ended_lent),
-        move || -> (u64, u64) {
-            join(
-                rt,
-                move || -> u64 { view_and_tell(one, ended_lent) },
-                move || -> u64 { view_and_tell(two, ended_lent) },
-            )
-        },
-    );
-    let spent = micros_since(start, rt)?;
-    if first == VIEWS && second == VIEWS {
-        Ok(spent)
-    } else {
-        Err(otherwise())
-    }
-}
-
-/// How many of the views of a window showed a node.
-fn view<H: House>(window: Window<H>) -> u64 {
-    let mut window = window;
-    let mut shown = 0u64;
-    for turn in 0..VIEWS {
-        let node = (turn % 64).saturating_add(1);
-        if window.see(Who::Teacher, node).is_ok() {
-            shown = shown.saturating_add(1);
-        }
-    }
-    shown
-}
-
-fn view_and_tell<H: House>(window: Window<H>, ended: &AtomicU64) -> u64 {
-    let shown = view(window);
-    ended.fetch_add(1, Ordering::SeqCst);
-    shown
-}
-
-/// Asks for the events of a run, or spins, until two have ended.
-fn go_on<H: House, R: Wait>(
-    rt: &R,
-    alloc: Global,
-    desk: &Desk<NullSink, H>,
-    window: Window<H>,
-    beside: Beside,
-    ended: &AtomicU64,
-) {
-    let mut window = window;
-    let mut place = 0u64;
-    for _ in rt.forever() {
-        if ended.load(Ordering::SeqCst) == 2 {
-            return;
-        }
-        if matches!(beside, Beside::Granting) {
-            desk.ask(rt, alloc, &mut window, asker(place), &command(place));
-            place = place.saturating_add(1);
-        } else {
-            hint::spin_loop();
-        }
-    }
+    Ok(Rates {
+        views: a_second(shown, micros),
+        grants: a_second(granted, micros),
+    })
 }
