@@ -2,7 +2,7 @@
 
     python3 crates/mml_bench/pipe.py [PROGRAM]
 
-The program is that of crates/mml_server/out, unless another is named. Each way is timed five times in
+The program is that of crates/mml_server/out, unless another is named. Each way is timed 41 times in
 turn, from the call to the program's end, and the medians are told. The replies have to be the same.
 """
 import pathlib
@@ -16,7 +16,7 @@ import time
 TOP = pathlib.Path(__file__).resolve().parents[2]
 BUILT_IN = TOP / "crates/mml_program/src/built_in.rt"
 LINES = 40_000
-ROUNDS = 5
+ROUNDS = 41
 
 
 def script():
