@@ -7,6 +7,7 @@ pub mod CanonicalLemmas
 pub mod SeparatedLemmas
 pub mod ReportLemmas
 pub mod AboutLemmas
+pub mod RulingsLemmas
 pub mod ReplyTextLemmas
 pub mod ReplyValuesLemmas
 pub mod GreetingsLemmas

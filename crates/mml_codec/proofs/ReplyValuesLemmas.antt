@@ -27,9 +27,9 @@ use Rattle.mml_codec.specs.declared.reply.Refused.{Refused}
 use Rattle.mml_codec.specs.declared.reply.Refused.TheVariants as refused
 use Rattle.mml_codec.specs.declared.reply.Reply.{Reply}
 use Rattle.mml_codec.specs.declared.reply.Reply.TheVariants as replies
-use Rattle.mml_codec.specs.Replies.{members, current_number, text, IsAbout}
+use Rattle.mml_codec.specs.Replies.{as_list, members, current_number, text, IsAbout}
 use Rattle.mml_codec.specs.Objects.{object_with}
-use Rattle.mml_codec.specs.ReplyValues.{node_value, pointer_value, kind_value, kind_or_null_value, near_keys, near_value, pair_value, privileged_value, open_link_value, number_key, told_keys, current_numbers, refused_value, reply_keys, reply_value, AreWritableCounts, has_rising_keys}
+use Rattle.mml_codec.specs.ReplyValues.{node_value, pointer_value, kind_value, kind_or_null_value, near_keys, near_value, pair_value, privileged_value, open_link_value, number_key, told_keys, refused_value, reply_keys, reply_value, AreWritableCounts, has_rising_keys}
 use Rattle.mml_codec.proofs.OneLineLemmas.{compact_text_line}
 use Rattle.mml_codec.proofs.ReplyTextLemmas.{name_bytes, reply_text}
 use Rattle.mml_codec.proofs.ReadBackLemmas.{IsReadable, AreReadable, IsKeyed, null_read, truth_read, count_read, word_read, items_read, array_read, object_read, read_value, items_rise}
@@ -110,7 +110,7 @@ module _ (ids : List ℕ) (table : IsTable ids) where
   open_link_read : (l : OpenLink) → IsOpenLinkOf (length ids) l → IsReadable 1 (open_link_value ids l)
   open_link_read l h = items_read 0 (node_value ids l.a ∷ node_value ids l.b ∷ node_value ids l.node ∷ kind_value l.kind ∷ []) (node_read 0 l.a h.0, (node_read 0 l.b h.1, (node_read 0 l.node h.2, (kind_read 0 l.kind, tt))))
 
-number_then : (n : ℕ) (o : Option ℕ) (ms : List (List ℕ × Data)) → AllByRecursion (λ k. k < 2 ^ 64) (current_numbers o) → AreReadable n ms → AreReadable n (number_key o ++ ms)
+number_then : (n : ℕ) (o : Option ℕ) (ms : List (List ℕ × Data)) → AllByRecursion (λ k. k < 2 ^ 64) (as_list o) → AreReadable n ms → AreReadable n (number_key o ++ ms)
 number_then n None ms h rest = rest
 number_then n (Some at) ms h rest = (count_read n at h.0, rest)
 
@@ -139,7 +139,7 @@ keyed ids r (replies.Report q) = record { rising = refl; ascii = refl }
 keyed ids r (replies.Deny d) = deny_keyed (current_number d) (clause_of d) (denials.name_of d) (text_of d)
 keyed ids r (replies.Refuse q) = record { rising = refl; ascii = refl }
 
-deny_read : (d : Denial) → AllByRecursion (λ k. k < 2 ^ 64) (current_numbers (current_number d)) → AreReadable 2 (number_key (current_number d) ++ told_keys (clause_of d) (denials.name_of d) (text_of d))
+deny_read : (d : Denial) → AllByRecursion (λ k. k < 2 ^ 64) (as_list (current_number d)) → AreReadable 2 (number_key (current_number d) ++ told_keys (clause_of d) (denials.name_of d) (text_of d))
 deny_read d h =
     let plain = and_parts (nat_lt (clause_of d) 128) (are_ascii (denials.name_of d) && are_ascii (text_of d)) (plain_words d) in
     let words = and_parts (are_ascii (denials.name_of d)) (are_ascii (text_of d)) plain.1 in

@@ -170,6 +170,27 @@ is_short (replies.Report r) = false
 is_short (replies.Deny d) = true
 is_short (replies.Refuse r) = true
 
+-- none or one, as a list
+abbrev pub as_list : Option ℕ → List ℕ
+as_list None = []
+as_list (Some n) = n ∷ []
+
+-- the place that a reply names, if it names one: that of a grant's event
+abbrev pub place_in : Reply → Option ℕ
+place_in (replies.Hello who) = None
+place_in replies.Bye = None
+place_in (replies.See s) = None
+place_in (replies.Look l) = None
+place_in (replies.Move at place node k) = Some place
+place_in (replies.Close at place moved) = Some place
+place_in (replies.Fault at place node dropped) = Some place
+place_in (replies.Link at place a b dropped) = Some place
+place_in (replies.Cut at place a b dropped) = Some place
+place_in (replies.Release at place node) = Some place
+place_in (replies.Report r) = None
+place_in (replies.Deny d) = None
+place_in (replies.Refuse r) = None
+
 -- the reply is about nodes and principals of the lab
 abbrev pub IsAbout : List ℕ → RosterValue → Reply → Type 0
 IsAbout ids roster (replies.Hello who) = IsPrincipal roster who

@@ -16,7 +16,7 @@ use Rattle.mml_codec.specs.declared.reply.Refused.TheVariants as refused
 use Rattle.mml_codec.specs.declared.reply.Reply.{Reply}
 use Rattle.mml_codec.specs.declared.reply.Reply.TheVariants as replies
 use Rattle.mml_codec.specs.Objects.{items_with, array_of, object_with}
-use Rattle.mml_codec.specs.Replies.{members, current_number}
+use Rattle.mml_codec.specs.Replies.{as_list, members, current_number}
 
 abbrev pub count : ℕ → Data
 count n = number (unsigned n)
@@ -73,10 +73,6 @@ number_key (Some at) = (codes "at", count at) ∷ []
 abbrev pub told_keys : ℕ → List ℕ → List ℕ → List (List ℕ × Data)
 told_keys clause name said = (codes "clause", count clause) ∷ (codes "deny", string name) ∷ (codes "text", string said) ∷ []
 
-abbrev pub current_numbers : Option ℕ → List ℕ
-current_numbers None = []
-current_numbers (Some at) = at ∷ []
-
 abbrev pub refused_value : Refused → Data
 refused_value refused.Malformed = string (codes "malformed")
 refused_value refused.Full = string (codes "full")
@@ -124,7 +120,7 @@ counts_of (replies.Link at place a b dropped) = at ∷ place ∷ dropped ∷ []
 counts_of (replies.Cut at place a b dropped) = at ∷ place ∷ dropped ∷ []
 counts_of (replies.Release at place node) = at ∷ place ∷ []
 counts_of (replies.Report r) = r.at ∷ []
-counts_of (replies.Deny d) = current_numbers (current_number d)
+counts_of (replies.Deny d) = as_list (current_number d)
 counts_of (replies.Refuse r) = []
 
 -- they fit 64 bits

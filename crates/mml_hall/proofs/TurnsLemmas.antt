@@ -22,7 +22,8 @@ use Rattle.mml_codec.specs.Greetings.{greeting, admitted}
 use Rattle.mml_codec.specs.Lines.{request_in}
 use Rattle.mml_codec.specs.Replies.{is_short}
 use Rattle.mml_codec.specs.Rulings.{reply_of_done}
-use Rattle.mml_hall.specs.Turns.{State, Outcome, Turn, IsRefusal, GrowsByGrant, place_in, is_grant, nothing, while_read, later, sink_failed, known_on, with_known, told, settled, answer_to, plain_turn, takes_memory, without_memory, is_grant, halting, IsKept}
+use Rattle.mml_codec.proofs.RulingsLemmas.{place_of_done}
+use Rattle.mml_hall.specs.Turns.{State, Outcome, Turn, IsRefusal, GrowsByGrant, is_grant, nothing, while_read, later, sink_failed, known_on, with_known, told, settled, answer_to, plain_turn, takes_memory, without_memory, is_grant, halting, IsKept}
 use Rattle.mml_hall.specs.Serving.{TellsFor}
 
 -- nothing changes where a connection stays known as it was
@@ -233,14 +234,6 @@ told_turn lab st k line out told (later, e) (inr want) = wanting_later lab st k 
 told_turn lab st k line out told (sink_failed, e) (inr want) = wanting_failing lab st k line out told (is_grant (plain_turn lab st k line).reply) e want.0 want.1
 
 -- ---- the events that turns make
-
-place_of_done : (at place : ℕ) (d : Done) → place_in (reply_of_done at place d) ≡ Some place
-place_of_done at place (done.Move node kind) = refl
-place_of_done at place (done.Close moved) = refl
-place_of_done at place (done.Fault node dropped) = refl
-place_of_done at place (done.Link a b dropped) = refl
-place_of_done at place (done.Cut a b dropped) = refl
-place_of_done at place (done.Release node) = refl
 
 growing_told : (st : State) (r : Ruling) → GrowsByGrant st (told st r)
 growing_told st (Denied d) = inl (refl, refl, refl)

@@ -17,7 +17,7 @@ use Rattle.mml_codec.specs.declared.reply.Refused.TheVariants as refused
 use Rattle.mml_codec.specs.declared.greeting.Greeting.{Greeting}
 use Rattle.mml_codec.specs.declared.greeting.Greeting.TheVariants.{Answered, LeftToJudge}
 use Rattle.mml_codec.specs.Greetings.{refusal_of, greeting}
-use Rattle.mml_codec.specs.Replies.{is_short}
+use Rattle.mml_codec.specs.Replies.{is_short, place_in}
 use Rattle.mml_codec.specs.Rulings.{reply_of}
 use Rattle.mml_hall.specs.declared.prevented.Prevented.{Prevented}
 use Rattle.mml_hall.specs.declared.prevented.Prevented.TheVariants as prevented
@@ -84,22 +84,6 @@ without_memory st = replied st (reply.Refuse refused.Memory)
 -- the line of the journal isn't taken: the event doesn't take place, and the journal is halted for good
 abbrev pub halting : State → Outcome
 halting st = record { reply = reply.Refuse refused.Journal; state = record st { halted = true } }
-
--- the reply to a grant names the place of its event
-abbrev pub place_in : Reply → Option ℕ
-place_in (reply.Hello who) = None
-place_in reply.Bye = None
-place_in (reply.See s) = None
-place_in (reply.Look l) = None
-place_in (reply.Move at place node kind) = Some place
-place_in (reply.Close at place moved) = Some place
-place_in (reply.Fault at place node dropped) = Some place
-place_in (reply.Link at place a b dropped) = Some place
-place_in (reply.Cut at place a b dropped) = Some place
-place_in (reply.Release at place node) = Some place
-place_in (reply.Report r) = None
-place_in (reply.Deny d) = None
-place_in (reply.Refuse r) = None
 
 -- the reply tells a grant
 abbrev pub is_grant : Reply → Bool

@@ -3,27 +3,19 @@ use Rattle.std.proofs.Common.{◌≡◌, ℕ, [], ◌∷◌, ◌++◌, refl, sym
 use Rattle.mml_lab.specs.declared.who.Who.{Who}
 use Rattle.mml_lab.specs.Labs.{LabValue}
 use Rattle.mml_board.specs.declared.done.Done.{Done}
-use Rattle.mml_board.specs.declared.done.Done.TheVariants as dones
 use Rattle.mml_board.specs.World.{World}
 use Rattle.mml_board.specs.Events.{after}
 use Rattle.mml_policy.specs.declared.command.Command.{Command}
 use Rattle.mml_policy.specs.declared.ruling.Ruling.{Ruling}
+use Rattle.mml_codec.specs.Replies.{as_list}
 use Rattle.mml_codec.specs.Rulings.{reply_of_done}
+use Rattle.mml_codec.proofs.RulingsLemmas.{place_of_done}
 use Rattle.mml_window.specs.declared.answer.Answer.TheVariants.{Granted}
 use Rattle.mml_window.specs.Answers.{Answers}
 use Rattle.mml_window.specs.Lists.{world_in}
 use Rattle.mml_window.specs.Windows.{WindowValue, window}
 use Rattle.mml_window.proofs.ListLemmas.{world-one_more}
-use Rattle.mml_session.specs.Turns.{Told, Plainly, places_in}
-
--- the reply to a grant names its place
-pub place_of_done : (number place : ℕ) (done : Done) → places_in (reply_of_done number place done) ≡ place ∷ []
-place_of_done number place (dones.Move node kind) = refl
-place_of_done number place (dones.Close moved) = refl
-place_of_done number place (dones.Fault node dropped) = refl
-place_of_done number place (dones.Link a b dropped) = refl
-place_of_done number place (dones.Cut a b dropped) = refl
-place_of_done number place (dones.Release node) = refl
+use Rattle.mml_session.specs.Turns.{Told, Plainly}
 
 pub granted_told : (lab : LabValue) (old new : WindowValue) (who : Who) (c : Command) (place number : ℕ) (done : Done)
     → Answers lab old who c (Granted place number done) new → Told lab old who c (reply_of_done number place done) new
@@ -40,6 +32,6 @@ granted_told lab old new who c place number done answers =
       says = inl (subst (λ (ruled : Ruling). Plainly lab l old.places ruled (reply_of_done number place done) new) (sym takes.ruled) (
         ap (λ n. reply_of_done n place done) (takes.numbered ∙ ap (λ (w : World). w.number) world)
             ∙ ap (λ p. reply_of_done next.number p done) (takes.placed ∙ ap (λ (w : World). w.place) world),
-        answers.3.2 ∙ ap (λ ps. window (l ++ e ∷ []) (old.places ++ ps)) (sym (place_of_done number place done)),
+        answers.3.2 ∙ ap (λ ps. window (l ++ e ∷ []) (old.places ++ ps)) (ap as_list (sym (place_of_done number place done))),
       ));
     }

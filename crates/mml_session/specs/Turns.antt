@@ -18,6 +18,7 @@ use Rattle.mml_codec.specs.declared.reply.Reply.{Reply}
 use Rattle.mml_codec.specs.declared.reply.Reply.TheVariants as reply
 use Rattle.mml_codec.specs.Greetings.{greeting, refusal_of}
 use Rattle.mml_codec.specs.Lines.{request_in}
+use Rattle.mml_codec.specs.Replies.{as_list, place_in}
 use Rattle.mml_codec.specs.Rulings.{reply_of}
 use Rattle.mml_window.specs.Lists.{is_legal_in, world_in, ruling_at}
 use Rattle.mml_window.specs.Windows.{WindowValue, window}
@@ -35,21 +36,9 @@ abbrev pub entered : List Event → Option Event → List Event
 entered l None = l
 entered l (Some e) = l ++ e ∷ []
 
--- the place that a reply names, if it names one: that of a grant's event
+-- the places that a reply names: one, if it tells a grant
 abbrev pub places_in : Reply → List ℕ
-places_in (reply.Hello who) = []
-places_in reply.Bye = []
-places_in (reply.See s) = []
-places_in (reply.Look l) = []
-places_in (reply.Move at place node kind) = place ∷ []
-places_in (reply.Close at place moved) = place ∷ []
-places_in (reply.Fault at place node dropped) = place ∷ []
-places_in (reply.Link at place a b dropped) = place ∷ []
-places_in (reply.Cut at place a b dropped) = place ∷ []
-places_in (reply.Release at place node) = place ∷ []
-places_in (reply.Report r) = []
-places_in (reply.Deny d) = []
-places_in (reply.Refuse r) = []
+places_in r = as_list (place_in r)
 
 -- which refusals may stand in the place of what was ruled: memory may be refused to what has a list, and to a grant, whose
 -- line the journal may not take either
