@@ -1,5 +1,5 @@
 -- The texts of replies.
-use Rattle.std.specs.Prelude.{ℕ, ◌<◌, List, [], ◌∷◌, ◌++◌, length, map, filter, flat_map, Bool, true, false, Option, None, Some, codes, decimal, slice_index, if◌then◌else◌}
+use Rattle.std.specs.Prelude.{◌≡◌, ◌⊎◌, ℕ, ◌<◌, List, [], ◌∷◌, ◌++◌, length, map, filter, flat_map, Bool, true, false, Option, None, Some, codes, decimal, slice_index, if◌then◌else◌}
 use Rattle.std.specs.List.{concat, range_with_len}
 use Rattle.std.specs.Ordering.{nat_cmp}
 use Rattle.std.specs.FinSet as set
@@ -169,6 +169,10 @@ is_short (replies.Release at place node) = true
 is_short (replies.Report r) = false
 is_short (replies.Deny d) = true
 is_short (replies.Refuse r) = true
+
+-- the reply that is told is the one that was given, or want of memory in the place of one that isn't short
+abbrev pub TellsFor : Reply → Reply → Type 0
+TellsFor reply told = (told ≡ reply) ⊎ ((is_short reply ≡ false) × (told ≡ replies.Refuse refused.Memory))
 
 -- none or one, as a list
 abbrev pub as_list : Option ℕ → List ℕ

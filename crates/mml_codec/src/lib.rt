@@ -16,7 +16,7 @@ mod writing;
 pub use greeting::{Greeting, greet};
 pub use reading::read_request;
 pub use reply::{FULL_LINE, JOURNAL_LINE, MALFORMED_LINE, MEMORY_LINE, REPLY_ROOM, Refused, Reply};
-pub use replying::write_reply;
+pub use replying::{tell_reply, write_reply};
 pub use request::{LineFault, Request};
 pub use ruling::{reply_of, reply_of_done};
 pub use writing::write_request;

@@ -2,7 +2,7 @@ ghost use Rattle.std.specs.Prelude.{◌≡◌, ◌≤◌, ◌<◌, ◌+◌, ◌^
 ghost use Rattle.mml_ids.specs.Pieces.{piece_text, piece_room};
 ghost use Rattle.mml_ids.specs.declared.piece.Piece.TheVariants.{Number};
 ghost use Rattle.mml_lab.specs.Rosters.{name_of, IsPrincipal};
-ghost use Rattle.mml_codec.specs.Replies.{truth_text, pointer_text, kind_text, kind_or_null, node_text, members, separated, hello_text, see_text, look_head, look_tail, look_text, move_text, close_text, fault_text, ends_text, release_text, current_number, number_first, deny_text, refuse_text, text, reply_line, is_short, IsAbout};
+ghost use Rattle.mml_codec.specs.Replies.{truth_text, pointer_text, kind_text, kind_or_null, node_text, members, separated, hello_text, see_text, look_head, look_tail, look_text, move_text, close_text, fault_text, ends_text, release_text, current_number, number_first, deny_text, refuse_text, text, reply_line, is_short, IsAbout, TellsFor};
 ghost use Rattle.mml_codec.specs.ReplyValues.{AreWritableCounts};
 ghost use Rattle.mml_codec.specs.declared.reply.Reply.TheVariants.{Deny};
 ghost use Rattle.mml_policy.specs.About.{IsSeen, IsLookedAt};
@@ -44,6 +44,43 @@ pub fn write_reply(
         out.clear();
     }
     written
+}
+
+/// Puts the line of a reply, or that of want of memory, in the place of what the vector holds, and gives
+/// the reply whose line it is.
+pub fn tell_reply(
+    alloc: Global,
+    ids: &IdTable,
+    roster: &Roster,
+    reply: Reply,
+    out: &mut Vec<u8>,
+) -> Reply
+    requires room { REPLY_ROOM ≤ vec_capacity out.old }
+    requires about { IsAbout ids.now roster.now reply }
+    ensures told { TellsFor reply result }
+    ensures room { REPLY_ROOM ≤ vec_capacity out.new }
+    ensures line { out.new.items ≡ reply_line ids.now roster.now result }
+{
+    match write_reply(alloc, ids, roster, &reply, out) {
+        Ok(()) => reply,
+        Err(_) => tell_want_of_memory(alloc, ids, roster, out),
+    }
+}
+
+fn tell_want_of_memory(
+    alloc: Global,
+    ids: &IdTable,
+    roster: &Roster,
+    out: &mut Vec<u8>,
+) -> Reply
+    requires room { REPLY_ROOM ≤ vec_capacity out.old }
+    ensures told { result ≡ Reply.Refuse Refused.Memory }
+    ensures room { REPLY_ROOM ≤ vec_capacity out.new }
+    ensures line { out.new.items ≡ reply_line ids.now roster.now result }
+{
+    let told = Reply::Refuse(Refused::Memory);
+    write_reply(alloc, ids, roster, &told, out).unwrap();
+    told
 }
 
 fn put_line(ids: &IdTable, roster: &Roster, reply: &Reply, out: &mut Vec<u8>) -> Result<(), Memory>

@@ -20,11 +20,10 @@ use Rattle.mml_codec.specs.declared.greeting.Greeting.{Greeting}
 use Rattle.mml_codec.specs.declared.greeting.Greeting.TheVariants.{Answered, LeftToJudge}
 use Rattle.mml_codec.specs.Greetings.{greeting, admitted}
 use Rattle.mml_codec.specs.Lines.{request_in}
-use Rattle.mml_codec.specs.Replies.{is_short}
+use Rattle.mml_codec.specs.Replies.{is_short, TellsFor}
 use Rattle.mml_codec.specs.Rulings.{reply_of_done}
 use Rattle.mml_codec.proofs.RulingsLemmas.{place_of_done}
 use Rattle.mml_hall.specs.Turns.{State, Outcome, Turn, IsRefusal, GrowsByGrant, is_grant, nothing, while_read, later, sink_failed, known_on, with_known, told, settled, answer_to, plain_turn, takes_memory, without_memory, is_grant, halting, IsKept}
-use Rattle.mml_hall.specs.Serving.{TellsFor}
 
 -- nothing changes where a connection stays known as it was
 with_known-known_on : (st : State) (k : ℕ) → with_known st k (known_on st k) ≡ st

@@ -1,5 +1,5 @@
 -- What comes of the next line of a script.
-use Rattle.std.specs.Prelude.{◌≡◌, ◌⊎◌, false, ℕ, ◌+◌, ◌-◌, ◌*◌, ◌<◌, List, [], ◌∷◌, ◌++◌, length, Option, Result, Ok, Err, ⊤}
+use Rattle.std.specs.Prelude.{◌≡◌, ℕ, ◌+◌, ◌-◌, ◌*◌, ◌<◌, List, [], ◌∷◌, ◌++◌, length, Option, Result, Ok, Err, ⊤}
 use Rattle.std.specs.Io.KnownBytes.{Consumes, IsAtEnd, prepend_known}
 use Rattle.mml_lab.specs.Labs.{LabValue}
 use Rattle.mml_lines.specs.LinesOf.{IsWithinLimit}
@@ -7,20 +7,12 @@ use Rattle.mml_lines.specs.Sending.{BreaksOff, Sends}
 use Rattle.mml_lines.specs.LinesState.{LinesState}
 use Rattle.mml_lines.specs.declared.lines.TheConstants.{MAX_READS, READ_SIZE}
 use Rattle.mml_lines.specs.declared.writing.WriteFault.{WriteFault}
-use Rattle.mml_codec.specs.declared.reply.Reply.{Reply}
-use Rattle.mml_codec.specs.declared.reply.Reply.TheVariants.{Refuse}
-use Rattle.mml_codec.specs.declared.reply.Refused.TheVariants as refused
-use Rattle.mml_codec.specs.Replies.{is_short}
 use Rattle.mml_hall.specs.declared.TheConstants.{MAX_SCRIPT_LINE}
 use Rattle.mml_hall.specs.declared.script.Next.{Next}
 use Rattle.mml_hall.specs.declared.script.Next.TheVariants as next
 use Rattle.mml_hall.specs.Turns.{State, RequestLine}
 use Rattle.mml_hall.specs.ScriptLines.{IsBad}
 use Rattle.mml_hall.specs.Scripts.{LineTurn, line_read, line_written}
-
--- the reply that is told is the one that was given, or want of memory in the place of one that isn't short
-abbrev pub TellsFor : Reply → Reply → Type 0
-TellsFor reply told = (told ≡ reply) ⊎ ((is_short reply ≡ false) × (told ≡ Refuse refused.Memory))
 
 -- the line had its turn; its output line comes after those that aren't written, of which the first are out
 abbrev pub ServesLine : Result ⊤ WriteFault → LabValue → State → State → RequestLine → List (List ℕ) → List (List ℕ) → Option (List ℕ) → Option (List ℕ) → Type 0

@@ -4,18 +4,17 @@ ghost use Rattle.mml_lines.specs.declared.lines.TheConstants.{READ_SIZE};
 ghost use Rattle.mml_lines.specs.LinesOf.{IsWithinLimit};
 ghost use Rattle.mml_lines.specs.LinesState.{fresh};
 ghost use Rattle.mml_lines.specs.Sending.{BreaksOff, Sends};
-ghost use Rattle.mml_codec.specs.Replies.{IsAbout, reply_line};
 ghost use Rattle.mml_hall.specs.Turns.{Halts, opening};
 ghost use Rattle.mml_journal.specs.Taken.{IsFresh};
 ghost use Rattle.mml_hall.specs.Journals.{TellsJournal, Journals};
 ghost use Rattle.mml_hall.specs.ScriptLines.{IsScriptLine, line_of};
 ghost use Rattle.mml_hall.specs.Scripts.{Finished, Stopped};
-ghost use Rattle.mml_hall.specs.Serving.{ServesLine, ServesNext, TellsFor, bytes_ahead};
+ghost use Rattle.mml_hall.specs.Serving.{ServesLine, ServesNext, bytes_ahead};
 
 use crate::MAX_SCRIPT_LINE;
 use crate::hall::Hall;
 use crate::script_line::{ScriptLine, read_script_line};
-use mml_codec::{REPLY_ROOM, Refused, Reply, write_reply};
+use mml_codec::{REPLY_ROOM, tell_reply};
 use mml_ids::Memory;
 use mml_journal::Sink;
 use mml_lab::Lab;
@@ -273,22 +272,7 @@ fn serve<W: Write, S: Sink>(
         (W.contents writer.old) (W.contents writer.new) }
 {
     let reply = hall.answer(alloc, line.connection, line.request);
-    let _told = put_reply(alloc, hall.lab(), reply, out);
+    let lab = hall.lab();
+    let _told = tell_reply(alloc, lab.ids(), lab.roster(), reply, out);
     outgoing.put(line.front, out, writer)
-}
-
-// Puts the line of a reply, or that of want of memory, and gives the reply whose line it is.
-fn put_reply(alloc: Global, lab: &Lab, reply: Reply, out: &mut Vec<u8>) -> Reply
-    requires room { REPLY_ROOM ≤ vec_capacity out.old }
-    requires about { IsAbout lab.now.ids lab.now.roster reply }
-    ensures told { TellsFor reply result }
-    ensures room { REPLY_ROOM ≤ vec_capacity out.new }
-    ensures line { out.new.items ≡ reply_line lab.now.ids lab.now.roster result }
-{
-    if write_reply(alloc, lab.ids(), lab.roster(), &reply, out).is_ok() {
-        return reply;
-    }
-    let told = Reply::Refuse(Refused::Memory);
-    write_reply(alloc, lab.ids(), lab.roster(), &told, out).unwrap();
-    told
 }

@@ -103,11 +103,7 @@ fn next_seat<H: House, R: Read + Drop, W: Write + Drop, A: Arrivals<R, W>>(
     ensures fresh { OnOk result (All (λ w. w ≡ window [] []) windows.new.items) }
     ensures left { OnOk result (length windows.old.items ≤ length windows.new.items + 1) }
 {
-    let (reader, writer) = match arrivals.accept_next() {
-        Ok(ends) => ends,
-        Err(error) if error.kind() == ErrorKind::OutOfMemory => return Err(ServeFault::Memory),
-        Err(_) => return Err(ServeFault::Accept),
-    };
+    let (reader, writer) = accept(arrivals)?;
     match windows.pop() {
         Some(window) => Ok(Seat {
             window,
@@ -118,6 +114,27 @@ fn next_seat<H: House, R: Read + Drop, W: Write + Drop, A: Arrivals<R, W>>(
             },
         }),
         None => unreachable!(),
+    }
+}
+
+// The two ends of the next connection.
+fn accept<R: Read + Drop, W: Write + Drop, A: Arrivals<R, W>>(
+    arrivals: &mut A,
+) -> Result<(R, W), ServeFault>
+    ensures { IfOk result (λ taken.
+        Takes (A.to_come arrivals.old) (A.to_come arrivals.new) (taken ∷ [])) }
+{
+    match arrivals.accept_next() {
+        Ok(ends) => Ok(ends),
+        Err(error) => Err(accept_fault(error.kind())),
+    }
+}
+
+fn accept_fault(kind: ErrorKind) -> ServeFault
+{
+    match kind {
+        ErrorKind::OutOfMemory => ServeFault::Memory,
+        _ => ServeFault::Accept,
     }
 }
 

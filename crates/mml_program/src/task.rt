@@ -11,6 +11,7 @@ use crate::words::{Task, read_words};
 use mml_journal::{NullSink, Sink};
 use mml_lab::{Lab, read_lab};
 use mml_session::NoGate;
+use std::alloc::Global;
 use std::fs::File;
 use std::net::{Ipv4Addr, Net, SocketAddr, TcpListener, TcpStream};
 use std::num::{NonZeroU8, NonZeroU16};
@@ -33,20 +34,27 @@ pub fn run<
         + AllocGlobal,
 >(rt: &R) -> Result<(), Fault> {
     let words = words_of(rt)?;
-    match read_words(rt.alloc(), words.as_slice())? {
+    do_task(rt, read_words(rt.alloc(), words.as_slice())?)
+}
+
+fn do_task<
+    R: Files<File = File>
+        + Net<Listener = TcpListener, Stream = TcpStream>
+        + Threads
+        + Wait
+        + Sync
+        + Input
+        + Print
+        + AllocGlobal,
+>(rt: &R, task: Task<'_>) -> Result<(), Fault> {
+    match task {
         Task::BuiltIn => answer_input(rt),
         Task::Check { lab } => write_size(&lab_of(rt, lab)?, &mut io::writer(rt)),
         Task::Script {
             lab,
             script,
             journal,
-        } => {
-            let lab = lab_of(rt, lab)?;
-            match journal {
-                Some(path) => answer_file(rt, lab, script, journal_at(rt, path)?),
-                None => answer_file(rt, lab, script, NullSink::new()),
-            }
-        }
+        } => script_file(rt, lab, script, journal),
         Task::Audit { lab, journal } => audit_file(rt, lab, journal),
         Task::Serve {
             lab,
@@ -60,7 +68,7 @@ pub fn run<
 // Answers the script on standard input over the built-in lab.
 fn answer_input<R: Input + Print + AllocGlobal>(rt: &R) -> Result<(), Fault> {
     let alloc = rt.alloc();
-    let lab = read_lab(alloc, BUILT_IN.as_bytes())?;
+    let lab = lab_in(alloc, BUILT_IN.as_bytes())?;
     answer_script(
         alloc,
         lab,
@@ -69,6 +77,20 @@ fn answer_input<R: Input + Print + AllocGlobal>(rt: &R) -> Result<(), Fault> {
         NullSink::new(),
     )?;
     Ok(())
+}
+
+// Answers the script of a file over the lab of a file.
+fn script_file<R: Files<File = File> + Print + AllocGlobal>(
+    rt: &R,
+    lab: &str,
+    script: &str,
+    journal: Option<&str>,
+) -> Result<(), Fault> {
+    let lab = lab_of(rt, lab)?;
+    match journal {
+        Some(path) => answer_file(rt, lab, script, journal_at(rt, path)?),
+        None => answer_file(rt, lab, script, NullSink::new()),
+    }
 }
 
 // Answers the script of a file over a lab. A journal that was halted is told at the end.
@@ -134,7 +156,7 @@ fn serve_file<
     }
 }
 
-// Listens on a port of this machine alone, says so, and serves the connections.
+// Serves the connections of a port of this machine alone.
 fn serve_port<
     R: Net<Listener = TcpListener, Stream = TcpStream>
         + Threads
@@ -149,35 +171,43 @@ fn serve_port<
     requires fresh { IsFresh (S.contents sink) }
     requires countable { S.failures sink < 2 ^ 64 - 1 }
 {
-    let alloc = rt.alloc();
-    let listener = TcpListener::bind(rt, SocketAddr::from((Ipv4Addr::LOCALHOST, port))).map_err(
-        |error| memory_or(&error, Fault::Listen),
-    )?;
-    let mut writer = io::writer(rt);
-    write_listening(alloc, port, &mut writer)?;
+    let listener = listen(rt, port)?;
     serve_on(
         rt,
-        alloc,
+        rt.alloc(),
         lab,
         listener,
         connections,
         sink,
         &NoGate,
-        &mut writer,
+        &mut io::writer(rt),
     )?;
     Ok(())
 }
 
+// Listens on a port of this machine alone, and says so.
+fn listen<R: Net<Listener = TcpListener, Stream = TcpStream> + Print + AllocGlobal>(
+    rt: &R,
+    port: u16,
+) -> Result<TcpListener, Fault> {
+    let listener = TcpListener::bind(rt, SocketAddr::from((Ipv4Addr::LOCALHOST, port))).map_err(
+        |error| memory_or(&error, Fault::Listen),
+    )?;
+    write_listening(rt.alloc(), port, &mut io::writer(rt))?;
+    Ok(listener)
+}
+
 // The words, the program's name first; one that isn't UTF-8 is not understood.
 fn words_of<R: Env + AllocGlobal>(rt: &R) -> Result<Vec<String>, Fault> {
-    let mut words = Vec::new(rt.alloc());
-    for word in env::args(rt).map_err(|error| memory_or(&error, Fault::CommandLine))? {
-        words.push(word).map_err(|_| Fault::Memory)?;
-    }
-    Ok(words)
+    let words = env::args(rt).map_err(|error| memory_or(&error, Fault::CommandLine))?;
+    Ok(words.collect(rt.alloc())?)
 }
 
 fn lab_of<R: Files + AllocGlobal>(rt: &R, path: &str) -> Result<Lab, Fault> {
     let bytes = read_file(rt, path, Fault::ReadLab)?;
-    Ok(read_lab(rt.alloc(), bytes.as_slice())?)
+    lab_in(rt.alloc(), bytes.as_slice())
+}
+
+fn lab_in(alloc: Global, bytes: &[u8]) -> Result<Lab, Fault> {
+    Ok(read_lab(alloc, bytes)?)
 }

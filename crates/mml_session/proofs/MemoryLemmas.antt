@@ -19,12 +19,11 @@ use Rattle.mml_codec.specs.declared.reply.Reply.{Reply}
 use Rattle.mml_codec.specs.declared.reply.Reply.TheVariants as replies
 use Rattle.mml_codec.specs.Greetings.{greeting, refusal_of}
 use Rattle.mml_codec.specs.Lines.{request_in}
-use Rattle.mml_codec.specs.Replies.{is_short}
+use Rattle.mml_codec.specs.Replies.{is_short, TellsFor}
 use Rattle.mml_codec.specs.Rulings.{reply_of, reply_of_done}
 use Rattle.mml_window.specs.Lists.{world_in, ruling_at}
 use Rattle.mml_window.specs.Windows.{WindowValue, window}
 use Rattle.mml_session.specs.Turns.{Standing, entered, places_in, MayRefuse, Plainly, Refuses, Told, Settles, Asked, Turn}
-use Rattle.mml_session.specs.Serving.{TellsFor}
 use Rattle.mml_session.proofs.GreetingLemmas.{IsPlain, plain_greeting}
 
 long_not_short : {P : Type 0} (r q : Reply) → is_short r ≡ false → r ≡ q → is_short q ≡ true → P

@@ -1,15 +1,12 @@
 -- What comes of the next line of a session.
-use Rattle.std.specs.Prelude.{◌≡◌, ◌⊎◌, ℕ, ◌+◌, ◌-◌, ◌*◌, ◌<◌, false, List, [], length, take, Option}
+use Rattle.std.specs.Prelude.{◌≡◌, ℕ, ◌+◌, ◌-◌, ◌*◌, ◌<◌, false, List, [], length, take, Option}
 use Rattle.std.specs.Io.KnownBytes.{Appends, Consumes, IsAtEnd, prepend_known}
 use Rattle.mml_lab.specs.Labs.{LabValue}
 use Rattle.mml_lines.specs.LinesOf.{IsWithinLimit, IsTooLong, ended}
 use Rattle.mml_lines.specs.LinesState.{LinesState}
 use Rattle.mml_lines.specs.declared.lines.TheConstants.{MAX_READS, READ_SIZE}
 use Rattle.mml_codec.specs.declared.TheConstants.{MAX_REQUEST}
-use Rattle.mml_codec.specs.declared.reply.Reply.{Reply}
 use Rattle.mml_codec.specs.declared.reply.Reply.TheVariants as reply
-use Rattle.mml_codec.specs.declared.reply.Refused.TheVariants as refused
-use Rattle.mml_codec.specs.Replies.{is_short}
 use Rattle.mml_session.specs.declared.session.SessionEnd.TheVariants as end
 use Rattle.mml_session.specs.declared.session.Next.{Next}
 use Rattle.mml_session.specs.declared.session.Next.TheVariants as next
@@ -18,10 +15,6 @@ use Rattle.mml_session.specs.declared.session.Said.TheVariants as said
 use Rattle.mml_session.specs.Turns.{Standing, is_bye}
 use Rattle.mml_session.specs.Talks.{LineTurn, line_read, line_written}
 use Rattle.mml_session.specs.Ends.{IsView}
-
--- the reply that is told is the one that was given, or want of memory in the place of one that isn't short
-abbrev pub TellsFor : Reply → Reply → Type 0
-TellsFor given told = (told ≡ given) ⊎ ((is_short given ≡ false) × (told ≡ reply.Refuse refused.Memory))
 
 -- the line had its turn; its reply's line is out, or the front of it
 abbrev pub ServesLine : Said → LabValue → Standing → Standing → List ℕ → Option (List ℕ) → Option (List ℕ) → Type 0

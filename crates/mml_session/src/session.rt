@@ -2,14 +2,13 @@ ghost use Rattle.std.specs.Prelude.{◌≡◌, ◌<◌, ◌≤◌, None, IfSome,
 ghost use Rattle.std.specs.Io.KnownBytes.{prepend_known};
 ghost use Rattle.mml_lines.specs.LinesOf.{IsWithinLimit};
 ghost use Rattle.mml_lab.specs.Rosters.{IsPrincipal};
-ghost use Rattle.mml_codec.specs.Replies.{IsAbout, reply_line};
 ghost use Rattle.mml_session.specs.Turns.{standing, is_bye};
 ghost use Rattle.mml_session.specs.Ends.{Ended};
-ghost use Rattle.mml_session.specs.Serving.{ServesLine, ServesNext, TellsFor, bytes_ahead, next_after};
+ghost use Rattle.mml_session.specs.Serving.{ServesLine, ServesNext, bytes_ahead, next_after};
 
 use crate::answering::answer;
 use crate::gate::{Gate, Point};
-use mml_codec::{MAX_REQUEST, REPLY_ROOM, Refused, Reply, write_reply};
+use mml_codec::{MAX_REQUEST, REPLY_ROOM, Reply, tell_reply};
 use mml_journal::Sink;
 use mml_lab::Who;
 use mml_lines::{Lines, Step, put_all};
@@ -175,7 +174,7 @@ fn serve_line<Rt: Wait, S: Sink + Drop, H: House, W: Write>(
     let Ok(reply) = answer(rt, alloc, desk, window, known, line) else {
         return Said::Closed;
     };
-    let told = put_reply(alloc, window, reply, out);
+    let told = tell_reply(alloc, window.ids(), window.roster(), reply, out);
     match put_all(writer, out) {
         Ok(()) => { if is_bye(&told) { Said::Bye } else { Said::Told } }
         Err(fault) => Said::Unwritten(fault.written),
@@ -186,20 +185,4 @@ fn is_bye(reply: &Reply) -> bool
     ensures { result ≡ is_bye reply.now }
 {
     matches!(reply, Reply::Bye)
-}
-
-// Puts the line of a reply, or that of want of memory, and gives the reply whose line it is.
-fn put_reply<H: House>(alloc: Global, window: &Window<H>, reply: Reply, out: &mut Vec<u8>) -> Reply
-    requires room { REPLY_ROOM ≤ vec_capacity out.old }
-    requires about { IsAbout H.lab.ids H.lab.roster reply }
-    ensures told { TellsFor reply result }
-    ensures room { REPLY_ROOM ≤ vec_capacity out.new }
-    ensures line { out.new.items ≡ reply_line H.lab.ids H.lab.roster result }
-{
-    if write_reply(alloc, window.ids(), window.roster(), &reply, out).is_ok() {
-        return reply;
-    }
-    let told = Reply::Refuse(Refused::Memory);
-    write_reply(alloc, window.ids(), window.roster(), &told, out).unwrap();
-    told
 }
