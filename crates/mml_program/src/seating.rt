@@ -130,8 +130,7 @@ fn accept<R: Read + Drop, W: Write + Drop, A: Arrivals<R, W>>(
     }
 }
 
-fn accept_fault(kind: ErrorKind) -> ServeFault
-{
+fn accept_fault(kind: ErrorKind) -> ServeFault {
     match kind {
         ErrorKind::OutOfMemory => ServeFault::Memory,
         _ => ServeFault::Accept,
