@@ -67,6 +67,7 @@ pub fn tell_reply(
     }
 }
 
+// Puts the line of want of memory, for which there is room.
 fn tell_want_of_memory(alloc: Global, ids: &IdTable, roster: &Roster, out: &mut Vec<u8>) -> Reply
     requires room { REPLY_ROOM ≤ vec_capacity out.old }
     ensures told { result ≡ Reply.Refuse Refused.Memory }

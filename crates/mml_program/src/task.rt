@@ -37,6 +37,7 @@ pub fn run<
     do_task(rt, read_words(rt.alloc(), words.as_slice())?)
 }
 
+// Does what the words asked for.
 fn do_task<
     R: Files<File = File>
         + Net<Listener = TcpListener, Stream = TcpStream>
@@ -203,11 +204,13 @@ fn words_of<R: Env + AllocGlobal>(rt: &R) -> Result<Vec<String>, Fault> {
     Ok(words.collect(rt.alloc())?)
 }
 
+// The lab of a file.
 fn lab_of<R: Files + AllocGlobal>(rt: &R, path: &str) -> Result<Lab, Fault> {
     let bytes = read_file(rt, path, Fault::ReadLab)?;
     lab_in(rt.alloc(), bytes.as_slice())
 }
 
+// The lab that the bytes spell.
 fn lab_in(alloc: Global, bytes: &[u8]) -> Result<Lab, Fault> {
     Ok(read_lab(alloc, bytes)?)
 }
