@@ -9,7 +9,7 @@ use crate::turns::lab_of;
 use asking::{Client, Part, Told, ask_all};
 use echo::echo_all;
 use mml_journal::NullSink;
-use mml_program::serve_on;
+use mml_serving::serve_on;
 use mml_session::NoGate;
 use std::alloc::Global;
 use std::io;

@@ -4,9 +4,9 @@ ghost use Rattle.std.specs.IoError.{error_kind};
 ghost use Rattle.mml_program.specs.declared.fault.Fault.TheVariants.{Memory};
 
 use crate::refusal::{AuditRefusal, LabRefusal};
-use crate::serving::ServeFault;
 use mml_hall::{AuditFault, ScriptFault};
 use mml_lab::LabFault;
+use mml_serving::ServeFault;
 use std::alloc::AllocError;
 use std::io::{Error as IoError, ErrorKind};
 use thiserror::Error;

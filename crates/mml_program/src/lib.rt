@@ -2,22 +2,17 @@
 #![tactic(auto)]
 
 mod answering;
-mod arriving;
 mod built_in;
 mod fault;
 mod files;
 mod refusal;
-mod seating;
-mod serving;
 mod task;
 mod words;
 
 pub use answering::{answer_script, write_audit, write_size};
-pub use arriving::{Arrivals, HangUp};
 pub use built_in::BUILT_IN;
 pub use fault::{Fault, memory_or};
 pub use files::{MAX_FILE, MAX_JOURNAL, journal_at, read_file, read_journal};
 pub use refusal::{AuditRefusal, LabRefusal};
-pub use serving::{ServeFault, serve_arrivals, serve_on, write_listening};
 pub use task::run;
 pub use words::{Task, read_words};

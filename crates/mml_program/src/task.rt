@@ -6,10 +6,10 @@ use crate::answering::{answer_script, write_audit, write_size};
 use crate::built_in::BUILT_IN;
 use crate::fault::{Fault, memory_or};
 use crate::files::{journal_at, read_file, read_journal};
-use crate::serving::{serve_on, write_listening};
 use crate::words::{Task, read_words};
 use mml_journal::{NullSink, Sink};
 use mml_lab::{Lab, read_lab};
+use mml_serving::{serve_on, write_listening};
 use mml_session::NoGate;
 use std::alloc::Global;
 use std::fs::File;
@@ -50,7 +50,7 @@ fn do_task<
 >(rt: &R, task: Task<'_>) -> Result<(), Fault> {
     match task {
         Task::BuiltIn => answer_input(rt),
-        Task::Check { lab } => write_size(&lab_of(rt, lab)?, &mut io::writer(rt)),
+        Task::Check { lab } => check_file(rt, lab),
         Task::Script {
             lab,
             script,
@@ -64,6 +64,12 @@ fn do_task<
             journal,
         } => serve_file(rt, lab, port, connections, journal),
     }
+}
+
+// Says how large the lab of a file is.
+fn check_file<R: Files + Print + AllocGlobal>(rt: &R, lab: &str) -> Result<(), Fault> {
+    let lab = lab_of(rt, lab)?;
+    write_size(&lab, &mut io::writer(rt))
 }
 
 // Answers the script on standard input over the built-in lab.

@@ -2,7 +2,8 @@
 use mml_fakes::FakeWriter;
 use mml_journal::MemorySink;
 use mml_lab::read_lab;
-use mml_program::{Arrivals, BUILT_IN, HangUp, ServeFault, serve_arrivals};
+use mml_program::BUILT_IN;
+use mml_serving::{Arrivals, HangUp, ServeFault, serve_arrivals};
 use mml_session::{NoGate, ServedHouse};
 use std::alloc::Global;
 use std::collections::VecDeque;

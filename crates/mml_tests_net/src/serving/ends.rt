@@ -4,7 +4,7 @@ use super::{
     serve, serve_clients,
 };
 use mml_fakes::FakeWriter;
-use mml_program::ServeFault;
+use mml_serving::ServeFault;
 use mml_session::NoGate;
 use std::net::{Net, TcpListener, TcpStream};
 use std::sync::Wait;

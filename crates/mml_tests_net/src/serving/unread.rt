@@ -6,7 +6,7 @@ use super::{
 use mml_fakes::FakeWriter;
 use mml_fakes::cycles::cycle;
 use mml_lab::{Lab, read_lab};
-use mml_program::ServeFault;
+use mml_serving::ServeFault;
 use mml_session::{Gate, Point};
 use std::alloc::{AllocError, Global};
 use std::net::{Net, TcpListener, TcpStream};

@@ -2,8 +2,8 @@ use Rattle.std.proofs.Common.{◌≡◌, [], All, List, arith, ap, length, drop,
 use Rattle.std.proofs.lemmas.List.Elements.{All-take, All-drop}
 use Rattle.mml_window.specs.Windows.{WindowValue, window}
 use Rattle.mml_session.specs.Houses.{IsServed}
-use Rattle.mml_program.proofs.ServingLemmas.{each_long}
-use Rattle.mml_program.proofs.serving.in_house.Goals as goal
+use Rattle.mml_serving.proofs.ServingLemmas.{each_long}
+use Rattle.mml_serving.proofs.serving.in_house.Goals as goal
 
 pub serve_all-requires-clause-fresh : goal.serve_all-requires-clause-fresh
 serve_all-requires-clause-fresh g c = λ _ _.

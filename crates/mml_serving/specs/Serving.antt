@@ -7,7 +7,7 @@ use Rattle.mml_window.specs.Windows.{WindowValue, window}
 use Rattle.mml_session.specs.declared.each.Connection.{Connection}
 use Rattle.mml_session.specs.declared.house.EndedSession.{EndedSession}
 use Rattle.mml_session.specs.Houses.{Each, IsServed}
-use Rattle.mml_program.specs.Arriving.{Takes}
+use Rattle.mml_serving.specs.Arriving.{Takes}
 
 -- a connection without its number
 abbrev pub ends : {R W : Type 0} → Connection R W → R × W

@@ -1,6 +1,6 @@
 -- Connections that were taken, one after another.
 use Rattle.std.proofs.Common.{◌++◌, List, [], Option, None, Some, refl, sym, ◌∙◌, ap, append_assoc}
-use Rattle.mml_program.specs.Arriving.{Takes}
+use Rattle.mml_serving.specs.Arriving.{Takes}
 
 pub Takes-nil : {C : Type 0} (known : Option (List C)) → Takes known known []
 Takes-nil None = tt

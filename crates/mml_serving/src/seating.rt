@@ -1,10 +1,10 @@
 //! Connections, each served in a thread of its own through a window of its own, as they come.
-ghost use Rattle.std.specs.Prelude.{◌≡◌, ◌<◌, ◌≤◌, ◌+◌, [], ◌∷◌, All, IfOk, OnOk, length, map};
+ghost use Rattle.std.specs.Prelude.{◌≡◌, ◌≢◌, ◌<◌, ◌≤◌, ◌+◌, [], ◌∷◌, All, IfOk, OnOk, length, map};
 ghost use Rattle.std.specs.Thread.{IsSync, IsSend};
 ghost use Rattle.mml_window.specs.Windows.{window};
 ghost use Rattle.mml_session.specs.Houses.{Each, IsServed};
-ghost use Rattle.mml_program.specs.Arriving.{Takes};
-ghost use Rattle.mml_program.specs.Serving.{ServesAll, ends};
+ghost use Rattle.mml_serving.specs.Arriving.{Takes};
+ghost use Rattle.mml_serving.specs.Serving.{ServesAll, ends};
 
 use crate::arriving::{Arrivals, HangUp};
 use crate::serving::ServeFault;
@@ -130,7 +130,11 @@ fn accept<R: Read + Drop, W: Write + Drop, A: Arrivals<R, W>>(
     }
 }
 
-fn accept_fault(kind: ErrorKind) -> ServeFault {
+// Want of memory where the kind says so.
+fn accept_fault(kind: ErrorKind) -> ServeFault
+    ensures memory { kind ≡ ErrorKind.OutOfMemory → result ≡ ServeFault.Memory }
+    ensures other { kind ≢ ErrorKind.OutOfMemory → result ≡ ServeFault.Accept }
+{
     match kind {
         ErrorKind::OutOfMemory => ServeFault::Memory,
         _ => ServeFault::Accept,

@@ -1,8 +1,8 @@
 use Rattle.std.proofs.Common.{◌≡◌, ◌≤◌, ◌+◌, [], map, length, All, vec_capacity}
 use Rattle.mml_window.specs.Windows.{window}
-use Rattle.mml_program.specs.Arriving.{Takes}
-use Rattle.mml_program.specs.Serving.{Numbered, ends}
-use Rattle.mml_program.proofs.seating.fn.serve_all.scope.Given as goal
+use Rattle.mml_serving.specs.Arriving.{Takes}
+use Rattle.mml_serving.specs.Serving.{Numbered, ends}
+use Rattle.mml_serving.proofs.seating.fn.serve_all.scope.Given as goal
 
 abbrev pub invariant-loop-index : goal.invariant-loop-index
 invariant-loop-index g l = record {

@@ -6,9 +6,9 @@ use Rattle.mml_window.specs.Windows.{WindowValue}
 use Rattle.mml_session.specs.declared.each.Connection.{Connection}
 use Rattle.mml_session.specs.declared.house.EndedSession.{EndedSession}
 use Rattle.mml_session.specs.Houses.{Each, IsServed}
-use Rattle.mml_program.specs.Arriving.{Takes}
-use Rattle.mml_program.specs.Serving.{Numbered, ServesAll, ends}
-use Rattle.mml_program.proofs.ArrivingLemmas.{Takes-trans}
+use Rattle.mml_serving.specs.Arriving.{Takes}
+use Rattle.mml_serving.specs.Serving.{Numbered, ServesAll, ends}
+use Rattle.mml_serving.proofs.ArrivingLemmas.{Takes-trans}
 
 numbered_more : {R W : Type 0} (n : ℕ) (cs : List (Connection R W)) (c : Connection R W) → Numbered n cs → c.number ≡ n + length cs → Numbered n (cs ++ c ∷ [])
 numbered_more n [] c so_far at = (omega (arith, at), tt)

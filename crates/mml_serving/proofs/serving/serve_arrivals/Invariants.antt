@@ -1,4 +1,4 @@
-use Rattle.mml_program.proofs.serving.serve_arrivals.Given as goal
+use Rattle.mml_serving.proofs.serving.serve_arrivals.Given as goal
 
 -- the house that was just opened
 abbrev pub ghosts-in_house : goal.ghosts-in_house

@@ -1,7 +1,7 @@
 use Rattle.std.proofs.Common.{◌≡◌, ◌∙◌, ap, arith, map}
 use Rattle.std.proofs.lemmas.List.{length-map}
-use Rattle.mml_program.proofs.ServingLemmas.{numbered_so, came_so, all_came}
-use Rattle.mml_program.proofs.seating.fn.serve_all.scope.Goals as goal
+use Rattle.mml_serving.proofs.ServingLemmas.{numbered_so, came_so, all_came}
+use Rattle.mml_serving.proofs.seating.fn.serve_all.scope.Goals as goal
 
 pub loop-index-preserved : goal.loop-index-preserved
 loop-index-preserved g c =

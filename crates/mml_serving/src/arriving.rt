@@ -1,6 +1,6 @@
 //! Where connections come from.
 ghost use Rattle.std.specs.Prelude.{List, [], ◌∷◌, None, Option, MatchResult};
-ghost use Rattle.mml_program.specs.Arriving.{Takes};
+ghost use Rattle.mml_serving.specs.Arriving.{Takes};
 
 use std::io;
 use std::io::{Read, Write};

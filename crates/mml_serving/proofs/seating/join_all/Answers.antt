@@ -1,8 +1,8 @@
 use Rattle.std.proofs.Common.{◌≡◌, [], ◌∷◌, ◌++◌, ◌∙◌, ap, sym, length, arith, append_assoc}
 use Rattle.std.specs.Vec.Iter.{into_iter_items}
 use Rattle.mml_session.specs.Houses.{IsServed}
-use Rattle.mml_program.proofs.ServingLemmas.{served_more}
-use Rattle.mml_program.proofs.seating.join_all.Goals as goal
+use Rattle.mml_serving.proofs.ServingLemmas.{served_more}
+use Rattle.mml_serving.proofs.seating.join_all.Goals as goal
 
 pub loop-handle-preserved : goal.loop-handle-preserved
 loop-handle-preserved g c =

@@ -6,8 +6,8 @@ ghost use Rattle.mml_journal.specs.Taken.{IsFresh};
 ghost use Rattle.mml_window.specs.Houses.{house_of};
 ghost use Rattle.mml_window.specs.Lists.{world_in};
 ghost use Rattle.mml_window.specs.Logs.{IsLog};
-ghost use Rattle.mml_program.specs.Closings.{Closes, done_line, listening_line};
-ghost use Rattle.mml_program.specs.Serving.{ServesHouse};
+ghost use Rattle.mml_serving.specs.Closings.{Closes, done_line, listening_line};
+ghost use Rattle.mml_serving.specs.Serving.{ServesHouse};
 
 use crate::arriving::{Arrivals, HangUp};
 use crate::seating::serve_all;

@@ -1,0 +1,3 @@
+pub mod Arriving
+pub mod Closings
+pub mod Serving

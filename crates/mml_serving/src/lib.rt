@@ -1,0 +1,10 @@
+//! Connections, each served in a thread of its own as it comes, from the opening of a house to its last
+//! line.
+#![tactic(auto)]
+
+mod arriving;
+mod seating;
+mod serving;
+
+pub use arriving::{Arrivals, HangUp};
+pub use serving::{ServeFault, serve_arrivals, serve_on, write_listening};
