@@ -7,8 +7,10 @@ The sum is what the system counted of the command and of all that it waited for.
 process `rattle --crate-name C`, with those that it started) what it had used when it was last looked
 at, twice a second, counts for its crate: as `edits` where it works in a folder of an edit, as `tests`
 under --test, else as `proof`. What is left is `the rest`: the tests and programs that ran, links, the
-rt command itself, and the last half second of each check.
+rt command itself, and the last half second of each check. A crate's edits are tried in the order of
+their names, so that each has its own seconds; the first one proves the crate too, and isn't told.
 """
+import glob
 import os
 import resource
 import subprocess
@@ -85,8 +87,21 @@ class Checks:
             sums[work] = sums.get(work, 0) + used / 60
         return sums
 
+    def seconds_of_edits(self):
+        """What each edit took, but for the first of its crate."""
+        spent = {}
+        for check in sorted(self.used, key=lambda it: int(it[1])):
+            crate, kind = self.works[check]
+            if kind == "edits":
+                spent.setdefault(crate, []).append(self.used[check])
+        named = {}
+        for crate, all_spent in spent.items():
+            edits = sorted(os.path.basename(it) for it in glob.glob(f"crates/{crate}/must-fail/*.edit"))
+            named.update({f"{crate}/{edit}": it for edit, it in list(zip(edits, all_spent))[1:]})
+        return named
 
-def figures(sums, whole):
+
+def figures(sums, edits, whole):
     """The table of the crates, and the lines that a reader compares with the budget."""
     crates = sorted({crate for crate, _ in sums})
     lines = [f"{'processor minutes':20}" + "".join(f"{kind:>8}" for kind in KINDS)]
@@ -98,6 +113,8 @@ def figures(sums, whole):
     dearest = sorted(sums.items(), key=lambda it: -it[1])[:3]
     lines.append(f"processor minutes in all: {whole:.1f}, of which the rest {rest:.1f}")
     lines.append("the dearest: " + ", ".join(f"{crate} {kind} {it:.1f}" for (crate, kind), it in dearest))
+    slowest = sorted(edits.items(), key=lambda it: -it[1])[:5]
+    lines.append("the dearest edits, in seconds: " + ", ".join(f"{edit} {it:.0f}" for edit, it in slowest))
     lines.append(f"the machine: mml_rules proof {sums.get(('mml_rules', 'proof'), 0):.2f}")
     return "".join(f"{it}\n" for it in lines)
 
@@ -118,7 +135,7 @@ def main():
     looking.join()
     used = resource.getrusage(resource.RUSAGE_CHILDREN)
     with open(to, "w", encoding="utf-8") as it:
-        it.write(figures(checks.minutes(), (used.ru_utime + used.ru_stime) / 60))
+        it.write(figures(checks.minutes(), checks.seconds_of_edits(), (used.ru_utime + used.ru_stime) / 60))
     return status if status >= 0 else 128 - status
 
 
