@@ -15,4 +15,4 @@ pub use fault::{Fault, memory_or};
 pub use files::{MAX_FILE, MAX_JOURNAL, journal_at, read_file, read_journal};
 pub use refusal::{AuditRefusal, LabRefusal};
 pub use task::run;
-pub use words::{Task, read_words};
+pub use words::{ScriptTask, ServeTask, Task, read_words};

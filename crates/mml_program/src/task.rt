@@ -6,7 +6,7 @@ use crate::answering::{answer_script, write_audit, write_size};
 use crate::built_in::BUILT_IN;
 use crate::fault::{Fault, memory_or};
 use crate::files::{journal_at, read_file, read_journal};
-use crate::words::{Task, read_words};
+use crate::words::{ScriptTask, ServeTask, Task, read_words};
 use mml_journal::{NullSink, Sink};
 use mml_lab::{Lab, read_lab};
 use mml_serving::{serve_on, write_listening};
@@ -14,7 +14,6 @@ use mml_session::NoGate;
 use std::alloc::Global;
 use std::fs::File;
 use std::net::{Ipv4Addr, Net, SocketAddr, TcpListener, TcpStream};
-use std::num::{NonZeroU8, NonZeroU16};
 use std::rt::{Env, Files};
 use std::sync::Wait;
 use std::thread::Threads;
@@ -51,18 +50,9 @@ fn do_task<
     match task {
         Task::BuiltIn => answer_input(rt),
         Task::Check { lab } => check_file(rt, lab),
-        Task::Script {
-            lab,
-            script,
-            journal,
-        } => script_file(rt, lab, script, journal),
+        Task::Script(task) => script_file(rt, task),
         Task::Audit { lab, journal } => audit_file(rt, lab, journal),
-        Task::Serve {
-            lab,
-            port,
-            connections,
-            journal,
-        } => serve_file(rt, lab, port, connections, journal),
+        Task::Serve(task) => serve_file(rt, task),
     }
 }
 
@@ -89,14 +79,12 @@ fn answer_input<R: Input + Print + AllocGlobal>(rt: &R) -> Result<(), Fault> {
 // Answers the script of a file over the lab of a file.
 fn script_file<R: Files<File = File> + Print + AllocGlobal>(
     rt: &R,
-    lab: &str,
-    script: &str,
-    journal: Option<&str>,
+    task: ScriptTask<'_>,
 ) -> Result<(), Fault> {
-    let lab = lab_of(rt, lab)?;
-    match journal {
-        Some(path) => answer_file(rt, lab, script, journal_at(rt, path)?),
-        None => answer_file(rt, lab, script, NullSink::new()),
+    let lab = lab_of(rt, task.lab)?;
+    match task.journal {
+        Some(path) => answer_file(rt, lab, task.script, journal_at(rt, path)?),
+        None => answer_file(rt, lab, task.script, NullSink::new()),
     }
 }
 
@@ -145,21 +133,16 @@ fn serve_file<
         + Sync
         + Print
         + AllocGlobal,
->(
-    rt: &R,
-    lab: &str,
-    port: NonZeroU16,
-    connections: NonZeroU8,
-    journal: Option<&str>,
-) -> Result<(), Fault> {
-    let lab = lab_of(rt, lab)?;
-    let connections = connections.get();
+>(rt: &R, task: ServeTask<'_>) -> Result<(), Fault> {
+    let lab = lab_of(rt, task.lab)?;
+    let port = task.port.get();
+    let connections = task.connections.get();
     if connections > lab.sessions() {
         return Err(Fault::TooManyConnections);
     }
-    match journal {
-        Some(path) => serve_port(rt, lab, port.get(), connections, journal_at(rt, path)?),
-        None => serve_port(rt, lab, port.get(), connections, NullSink::new()),
+    match task.journal {
+        Some(path) => serve_port(rt, lab, port, connections, journal_at(rt, path)?),
+        None => serve_port(rt, lab, port, connections, NullSink::new()),
     }
 }
 

@@ -16,29 +16,30 @@ pub enum Task<'a> {
     /// To answer the script on standard input over the built-in lab.
     BuiltIn,
     /// To say how large the lab of a file is.
-    Check {
-        lab: &'a str,
-    },
+    Check { lab: &'a str },
     /// To answer the script of a file over the lab of a file.
-    /// The lines of the granted events go to the journal, where one is named.
-    Script {
-        lab: &'a str,
-        script: &'a str,
-        journal: Option<&'a str>,
-    },
+    Script(ScriptTask<'a>),
     /// To say whether the text of a file is the journal of a legal run of the lab of a file.
-    Audit {
-        lab: &'a str,
-        journal: &'a str,
-    },
-    /// To serve so many connections on a port over the lab of a file.
-    /// The lines of the granted events go to the journal, where one is named.
-    Serve {
-        lab: &'a str,
-        port: NonZeroU16,
-        connections: NonZeroU8,
-        journal: Option<&'a str>,
-    },
+    Audit { lab: &'a str, journal: &'a str },
+    /// To serve connections over the lab of a file.
+    Serve(ServeTask<'a>),
+}
+
+/// The files of a script. The lines of the granted events go to the journal, where one is named.
+#[derive(Clone, Copy, Debug, PartialEq, Eq, Drop)]
+pub struct ScriptTask<'a> {
+    pub lab: &'a str,
+    pub script: &'a str,
+    pub journal: Option<&'a str>,
+}
+
+/// So many connections on a port. The lines of the granted events go to the journal, where one is named.
+#[derive(Clone, Copy, Debug, PartialEq, Eq, Drop)]
+pub struct ServeTask<'a> {
+    pub lab: &'a str,
+    pub port: NonZeroU16,
+    pub connections: NonZeroU8,
+    pub journal: Option<&'a str>,
 }
 
 /// Reads the words, of which the first is the program's name. A word that begins with `-` is refused
@@ -63,31 +64,29 @@ fn task_of<'a>(name: &str, values: &ArgMatches<'a>) -> Option<Task<'a>> {
     let lab = values.get_str("lab")?;
     match name {
         "check" => Some(Task::Check { lab }),
-        "script" => {
-            let script = values.get_str("script")?;
-            let journal = values.get_str("journal");
-            Some(Task::Script {
-                lab,
-                script,
-                journal,
-            })
-        }
+        "script" => Some(Task::Script(ScriptTask {
+            lab,
+            script: values.get_str("script")?,
+            journal: values.get_str("journal"),
+        })),
         "audit" => {
             let journal = values.get_str("journal")?;
             Some(Task::Audit { lab, journal })
         }
-        "serve" => {
-            let port = number_of(values.get_str("port")?, u64::from(u16::MAX))?;
-            let connections = number_of(values.get_str("connections")?, MAX_SESSIONS)?;
-            Some(Task::Serve {
-                lab,
-                port,
-                connections: NonZeroU8::new(u8::try_from(connections.get()).ok()?)?,
-                journal: values.get_str("journal"),
-            })
-        }
+        "serve" => Some(Task::Serve(ServeTask {
+            lab,
+            port: number_of(values.get_str("port")?, u64::from(u16::MAX))?,
+            connections: connections_of(values.get_str("connections")?)?,
+            journal: values.get_str("journal"),
+        })),
         _ => None,
     }
+}
+
+// How many connections are served: from 1 to the most sessions of a lab.
+fn connections_of(text: &str) -> Option<NonZeroU8> {
+    let number = number_of(text, MAX_SESSIONS)?;
+    NonZeroU8::new(u8::try_from(number.get()).ok()?)
 }
 
 // A number from 1 to the most, in decimal without sign or leading zero.
