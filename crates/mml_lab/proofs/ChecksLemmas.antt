@@ -25,7 +25,7 @@ use Rattle.mml_lab.specs.declared.fault.Key.TheVariants as key
 use Rattle.mml_lab.specs.declared.TheConstants.{MAX_EVENTS, MAX_SESSIONS}
 use Rattle.mml_lab.specs.Rosters.{name_twice}
 use Rattle.mml_lab.specs.Labs.{IsLab, number_of, file_ids, is_node, joins, is_linked, lacks_end, is_loop, is_link_again, points_astray, is_within, neighbours_of, both_fault, ids_fault, forms_fault, owners_fault, links_fault, pointers_fault, limits_fault, lab_fault, network_in, lab_in, lab_of}
-use Rattle.mml_lab.specs.inside.Checks.{Checked, rank_at, lacks_rank, are_near, rows_in, linked_in, points_past, past_fault, limits_in, checked, lab_from}
+use Rattle.mml_lab.specs.inside.Checks.{Checked, rank_at, lacks_rank, are_near, rows_in, linked_in, points_past, past_fault, limits_in, identified, enrolled, joined, checked, lab_from}
 use Rattle.mml_lab.proofs.LabFaultLemmas.{faultless}
 use Rattle.mml_ids.proofs.GivesLemmas.{both_none, map_none, if_none}
 use Rattle.mml_ids.proofs.MapLemmas.{list_any-map}
@@ -70,6 +70,11 @@ joins-ends a b link holds = elim (or_cases (int_eq link.0 a && int_eq link.1 b) 
 pub then : {A B E : Type 0} (a : Option E) (x : A) (f : A → Result B E) (b : Option E) (y : B) → (a ≡ None → f x ≡ unless_fault b y) → (unless_fault a x >>= f) ≡ unless_fault (first_fault a b) y
 then None x f b y rest = rest refl
 then (Some e) x f b y rest = refl
+
+-- the same, of the first check of a group
+then_in : {A B C E : Type 0} (a : Option E) (x : A) (g : A → Result C E) (f : C → Result B E) (b : Option E) (y : B) → (a ≡ None → (g x >>= f) ≡ unless_fault b y) → ((unless_fault a x >>= g) >>= f) ≡ unless_fault (first_fault a b) y
+then_in None x g f b y rest = rest refl
+then_in (Some e) x g f b y rest = refl
 
 -- the last check
 last : {A B E : Type 0} (a : Option E) (x : A) (f : A → B) → (unless_fault a x >>= λ y. Ok (f y)) ≡ unless_fault a (f x)
@@ -221,21 +226,21 @@ module _ (raw : RawSpec) where
   abbrev ended : List (FinSet nat_cmp) → Result Checked LabFault
   ended rows = limits_in raw.events raw.sessions (length raw.students) >>= λ e. Ok (made rows e)
 
-  abbrev near : List (FinSet nat_cmp) → Result Checked LabFault
-  near rows = unless_fault (past_fault file_table rows raw.nodes) (tt {0}) >>= λ _. ended rows
+  abbrev near : List (FinSet nat_cmp) → Result (List (FinSet nat_cmp)) LabFault
+  near rows = unless_fault (past_fault file_table rows raw.nodes) (tt {0}) >>= λ _. Ok rows
 
   pub checked-is : checked raw ≡ unless_fault (lab_fault raw) (checked_in raw)
-  unfolding checked lab_fault checked_in
+  unfolding identified enrolled joined checked lab_fault checked_in
   checked-is =
-      then (both_fault raw.nodes) (tt {0}) _ _ (checked_in raw) (λ _.
-      then (ids_fault raw.nodes) (in_order (file_ids raw.nodes)) _ _ (checked_in raw) (λ no_id.
-      then (forms_fault (raw.teacher ∷ raw.students)) (tt {0}) _ _ (checked_in raw) (λ _.
+      then_in (both_fault raw.nodes) (tt {0}) (λ _. unless_fault (ids_fault raw.nodes) file_table) _ _ (checked_in raw) (λ _.
+      then (ids_fault raw.nodes) file_table _ _ (checked_in raw) (λ no_id.
+      then_in (forms_fault (raw.teacher ∷ raw.students)) (tt {0}) (λ _. unless_fault (name_twice (raw.teacher ∷ raw.students)) raw.students) _ _ (checked_in raw) (λ _.
       then (name_twice (raw.teacher ∷ raw.students)) raw.students _ _ (checked_in raw) (λ _.
-      then (owners_fault raw.students raw.nodes) (tt {0}) _ _ (checked_in raw) (λ _.
-      ap (λ (r : Result (List (FinSet nat_cmp)) LabFault). r >>= near) (linked-is raw.nodes (sound_ids raw.nodes no_id) raw.links)
-      ∙ then (links_fault raw.nodes raw.links) rows near (first_fault (pointers_fault raw.links raw.nodes) limits) (checked_in raw) (λ no_link.
-      ap (λ (o : Option LabFault). unless_fault o (tt {0}) >>= λ _. ended rows) (past-is raw.nodes (sound_ids raw.nodes no_id) raw.links (sound_ends raw.nodes raw.links no_link))
-      ∙ then (pointers_fault raw.links raw.nodes) (tt {0}) (λ _. ended rows) limits (checked_in raw) (λ _.
+      then_in (owners_fault raw.students raw.nodes) (tt {0}) (λ _. linked_in file_table raw.links >>= near) ended _ (checked_in raw) (λ _.
+      ap (λ (r : Result (List (FinSet nat_cmp)) LabFault). (r >>= near) >>= ended) (linked-is raw.nodes (sound_ids raw.nodes no_id) raw.links)
+      ∙ then_in (links_fault raw.nodes raw.links) rows near ended (first_fault (pointers_fault raw.links raw.nodes) limits) (checked_in raw) (λ no_link.
+      ap (λ (o : Option LabFault). (unless_fault o (tt {0}) >>= λ _. Ok rows) >>= ended) (past-is raw.nodes (sound_ids raw.nodes no_id) raw.links (sound_ends raw.nodes raw.links no_link))
+      ∙ then_in (pointers_fault raw.links raw.nodes) (tt {0}) (λ _. Ok rows) ended limits (checked_in raw) (λ _.
       last limits (number_of raw.events, number_of raw.sessions) (made rows))))))))
 
 -- the lab of a file that was checked is the lab of the file

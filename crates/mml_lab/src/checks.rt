@@ -7,7 +7,7 @@ ghost use Rattle.mml_lab.specs.Shape.{is_memory};
 ghost use Rattle.mml_lab.specs.Raw.{account_view, node_view, entry_view, raw_view};
 ghost use Rattle.mml_lab.specs.Rosters.{has_name};
 ghost use Rattle.mml_lab.specs.Labs.{number_of, file_ids, lacks_owner, are_one_twice, is_within, both_fault, ids_fault, forms_fault, no_owner_fault, owner_twice_fault, owners_fault, limits_fault};
-ghost use Rattle.mml_lab.specs.inside.Checks.{limits_in, checked};
+ghost use Rattle.mml_lab.specs.inside.Checks.{limits_in, identified, enrolled, joined, checked};
 ghost use Rattle.mml_lab.specs.inside.ChecksView.{checked_view};
 
 use crate::accounts::first_malformed;
@@ -52,13 +52,9 @@ pub(crate) fn check(alloc: Global, raw: RawLab) -> Result<Checked, LabFault>
         nodes,
         links,
     } = raw;
-    unless(both_fault(&nodes))?;
-    let ids = id_table(alloc, &nodes)?;
-    unless(forms_fault(&teacher, &students))?;
-    let students = students_map(alloc, &teacher, students)?;
-    unless(owners_fault(&students, &nodes))?;
-    let neighbours = neighbours(alloc, &ids, &links)?;
-    unless(pointers_fault(&ids, &neighbours, &nodes))?;
+    let ids = identify(alloc, &nodes)?;
+    let students = enrol(alloc, &teacher, students)?;
+    let neighbours = join(alloc, &ids, &students, &nodes, &links)?;
     let (events, sessions) = limits(events, sessions, count(&students))?;
     Ok(Checked {
         ids,
@@ -69,6 +65,47 @@ pub(crate) fn check(alloc: Global, raw: RawLab) -> Result<Checked, LabFault>
         events,
         sessions,
     })
+}
+
+/// The table of the identifiers, if no node has both keys of its owners.
+#[tactic(auto, unfolding(crate::specs::inside::Checks::identified))]
+fn identify(alloc: Global, nodes: &[RawNode]) -> Result<IdTable, LabFault>
+    ensures { Gives is_memory (λ ids. ids) result (identified (map node_view nodes.now)) }
+{
+    unless(both_fault(nodes))?;
+    id_table(alloc, nodes)
+}
+
+/// The students, if all names and keys are of their forms and each name stands once.
+#[tactic(auto, unfolding(crate::specs::inside::Checks::enrolled))]
+fn enrol(
+    alloc: Global,
+    teacher: &Account,
+    students: Vec<Account>,
+) -> Result<IndexMap<String, String>, LabFault>
+    ensures { Gives is_memory (λ m. map entry_view m.entries) result
+        (enrolled (account_view teacher.now) (map account_view students.items)) }
+{
+    unless(forms_fault(teacher, &students))?;
+    students_map(alloc, teacher, students)
+}
+
+/// The rows of neighbours, if owners, links and pointers are right.
+#[tactic(auto, unfolding(crate::specs::inside::Checks::joined))]
+fn join(
+    alloc: Global,
+    ids: &IdTable,
+    students: &IndexMap<String, String>,
+    nodes: &[RawNode],
+    links: &[(i64, i64)],
+) -> Result<Vec<NodeSet>, LabFault>
+    ensures { Gives is_memory (λ rows. rows.items) result
+        (joined ids.now (map entry_view students.now.entries) (map node_view nodes.now) links.now) }
+{
+    unless(owners_fault(students, nodes))?;
+    let neighbours = neighbours(alloc, ids, links)?;
+    unless(pointers_fault(ids, &neighbours, nodes))?;
+    Ok(neighbours)
 }
 
 fn count(students: &IndexMap<String, String>) -> usize

@@ -59,15 +59,31 @@ pub record Checked : Type 0 where
   pub events : ℕ
   pub sessions : ℕ
 
+-- the table of the identifiers, if no node has both keys of its owners
+unfoldable pub identified : List NodeSpec → Result (List ℕ) LabFault
+identified nodes = do
+  single ← unless_fault (both_fault nodes) (tt {0})
+  unless_fault (ids_fault nodes) (in_order (file_ids nodes))
+
+-- the students, if all names and keys are of their forms and each name stands once
+unfoldable pub enrolled : Account → List Account → Result (List Account) LabFault
+enrolled teacher students = do
+  formed ← unless_fault (forms_fault (teacher ∷ students)) (tt {0})
+  unless_fault (name_twice (teacher ∷ students)) students
+
+-- the rows of neighbours, if owners, links and pointers are right
+unfoldable pub joined : List ℕ → List Account → List NodeSpec → List (ℤ × ℤ) → Result (List (FinSet nat_cmp)) LabFault
+joined ids students nodes links = do
+  owned ← unless_fault (owners_fault students nodes) (tt {0})
+  rows ← linked_in ids links
+  near ← unless_fault (past_fault ids rows nodes) (tt {0})
+  Ok rows
+
 unfoldable pub checked : RawSpec → Result Checked LabFault
 checked raw = do
-  single ← unless_fault (both_fault raw.nodes) (tt {0})
-  ids ← unless_fault (ids_fault raw.nodes) (in_order (file_ids raw.nodes))
-  formed ← unless_fault (forms_fault (raw.teacher ∷ raw.students)) (tt {0})
-  students ← unless_fault (name_twice (raw.teacher ∷ raw.students)) raw.students
-  owned ← unless_fault (owners_fault students raw.nodes) (tt {0})
-  neighbours ← linked_in ids raw.links
-  near ← unless_fault (past_fault ids neighbours raw.nodes) (tt {0})
+  ids ← identified raw.nodes
+  students ← enrolled raw.teacher raw.students
+  neighbours ← joined ids students raw.nodes raw.links
   limits ← limits_in raw.events raw.sessions (length students)
   Ok (record { ids = ids; teacher = raw.teacher; students = students; nodes = raw.nodes; neighbours = neighbours; events = limits.0; sessions = limits.1 })
 
