@@ -1,0 +1,22 @@
+-- What an answer says of what is held.
+use Rattle.std.proofs.Common.{◌≡◌, ℕ, ◌+◌, ◌-◌, ◌<◌, List, length, drop, arith, ◌∙◌, Option, Some, None, IfNone}
+use Rattle.std.specs.List.{slice_range}
+use Rattle.std.proofs.Math.Nat.{lt_of_not-le}
+use Rattle.std.proofs.lemmas.List.{length-take, get_or-take, length-drop}
+use Rattle.mml_lines.specs.declared.lines.Step.{Step}
+use Rattle.mml_lines.specs.declared.lines.TheConstants.{READ_SIZE}
+use Rattle.mml_lines.specs.Finding.{HasLine}
+use Rattle.mml_lines.specs.LinesOf.{IsWithinLimit}
+use Rattle.mml_lines.specs.LinesView.{IsReadNoFurther}
+
+-- of a line that is at the front, by places in what is held
+pub line_says : (ending : Option Step) (limit start len : ℕ) (held : List ℕ) → HasLine len limit (drop start held) → IsReadNoFurther limit (drop start held)
+    → IfNone ending (IsWithinLimit limit (slice_range held start (start + len)) × (length (drop (start + len + 1) held) < READ_SIZE))
+line_says (Some step) limit start len held line front = tt
+line_says None limit start len held line front =
+    let size : start + len - start ≡ len = omega arith in
+    rw size (
+      (line.3, omega (arith, length-take len (drop start held))),
+      lt_of_not-le (λ long. let before : len < length (drop start held) - READ_SIZE = omega (arith, length-drop start held, length-drop (start + len + 1) held) in
+          front.0 len (omega (arith, length-take (length (drop start held) - READ_SIZE) (drop start held))) (get_or-take (length (drop start held) - READ_SIZE) (drop start held) len 0 before ∙ line.2)),
+    )
