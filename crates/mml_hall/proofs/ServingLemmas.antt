@@ -1,21 +1,23 @@
 -- What comes of a line, from what its parts say.
-use Rattle.std.proofs.Common.{◌≡◌, ℕ, ◌+◌, ◌-◌, ◌*◌, ◌<◌, ◌≤◌, arith, List, [], ◌∷◌, ◌++◌, append_assoc, decimal, length, sym, ◌∙◌, ap, refl, Option, subst, OnOk, IfErr, Result, Ok, Err}
+use Rattle.std.proofs.Common.{◌≡◌, ℕ, ◌+◌, ◌-◌, ◌*◌, ◌<◌, ◌≤◌, arith, List, [], ◌∷◌, ◌++◌, append_assoc, decimal, length, ◌∙◌, ap, refl, Option, subst, OnOk, IfErr, Result, Ok, Err}
 use Rattle.std.specs.Prelude.{⊤}
 use Rattle.mml_lines.proofs.SendingLemmas.{nothing_sent}
 use Rattle.mml_lines.specs.Sending.{BreaksOff, Sends}
 use Rattle.mml_codec.specs.Replies.{reply_line}
 use Rattle.std.specs.Io.KnownBytes.{Consumes, prepend_known}
 use Rattle.mml_lab.specs.Labs.{LabValue}
-use Rattle.mml_lines.specs.LinesOf.{ended}
+use Rattle.mml_lines.specs.LinesOf.{IsWithinLimit, ended}
 use Rattle.mml_lines.specs.declared.lines.TheConstants.{READ_SIZE}
 use Rattle.mml_lines.specs.declared.writing.WriteFault.{WriteFault}
 use Rattle.mml_codec.specs.declared.reply.Reply.{Reply}
+use Rattle.mml_hall.specs.declared.TheConstants.{MAX_SCRIPT_LINE}
+use Rattle.mml_hall.specs.declared.script.Next.{Next}
 use Rattle.mml_hall.specs.declared.script.Next.TheVariants as next
 use Rattle.mml_hall.specs.Turns.{State, RequestLine, Turn}
 use Rattle.mml_hall.specs.ScriptLines.{IsScriptLine, script_line}
 use Rattle.mml_hall.specs.Transcripts.{output_line}
-use Rattle.mml_hall.specs.Serving.{ServesLine, ServesNext}
-use Rattle.mml_hall.proofs.ScriptLinesLemmas.{ComesBad}
+use Rattle.mml_hall.specs.Serving.{ServesLine, ServesNext, ServesText}
+use Rattle.mml_hall.proofs.ScriptLinesLemmas.{ComesBad, bad_line}
 
 -- the line goes out, its front as it was read
 pub serves_line : (r : Result ⊤ WriteFault) (lab : LabValue) (st after : State) (line : RequestLine) (reply : Reply) (front whole : List ℕ) (unsent unsent' : List (List ℕ)) (wrote wrote' : Option (List ℕ))
@@ -36,21 +38,19 @@ serves_line r lab st after line reply front whole unsent unsent' wrote wrote' va
     of_line (Ok done) ok err = (record { line = line; reply = reply; valid = valid; turn = turn }, refl, ok)
     of_line (Err fault) ok err = (record { line = line; reply = reply; valid = valid; turn = turn }, refl, err)
 
--- the line as it was read
-spelled_so : (a b : Option (List ℕ)) (line : List ℕ) (s s' : RequestLine) → Consumes a b (ended line) → line ≡ script_line s → s' ≡ s → Consumes a b (ended (script_line s'))
-spelled_so a b line s s' taken spelled same = subst (λ (t : List ℕ). Consumes a b (ended t)) (spelled ∙ ap script_line (sym same)) taken
+-- a line was taken, short enough, and no more than one read brought in is held after it
+module _ (lab : LabValue) (st after : State) (a left wrote wrote' : Option (List ℕ)) (held line : List ℕ) (unsent unsent' : List (List ℕ)) (taken : Consumes a (prepend_known held left) (ended line))
+    (short : IsWithinLimit MAX_SCRIPT_LINE line) (few : length held < READ_SIZE) where
+  taken_by : (s : RequestLine) → line ≡ script_line s → Consumes a (prepend_known held left) (ended (script_line s))
+  taken_by s spelled = subst (λ (t : List ℕ). Consumes a (prepend_known held left) (ended t)) spelled taken
 
-pub answered_next : (lab : LabValue) (st after : State) (a left wrote wrote' : Option (List ℕ)) (held line : List ℕ) (unsent unsent' : List (List ℕ)) (s : RequestLine) (done : ⊤)
-    → Consumes a (prepend_known held left) (ended line) → line ≡ script_line s → ServesLine (Ok done) lab st after s unsent unsent' wrote wrote'
-    → ServesNext next.Answered lab st after a held left unsent unsent' wrote wrote'
-answered_next lab st after a left wrote wrote' held line unsent unsent' s done taken spelled had =
-    (had.0, spelled_so a (prepend_known held left) line s had.0.line taken spelled had.1, had.2)
-
-pub unwritten_next : (lab : LabValue) (st after : State) (a left wrote wrote' : Option (List ℕ)) (held line : List ℕ) (unsent unsent' : List (List ℕ)) (s : RequestLine) (fault : WriteFault)
-    → Consumes a (prepend_known held left) (ended line) → line ≡ script_line s → length held < READ_SIZE → ServesLine (Err fault) lab st after s unsent unsent' wrote wrote'
-    → ServesNext (next.WriteFault fault) lab st after a held left unsent unsent' wrote wrote'
-unwritten_next lab st after a left wrote wrote' held line unsent unsent' s fault taken spelled few had =
-    (had.0, spelled_so a (prepend_known held left) line s had.0.line taken spelled had.1, few, had.2)
+  pub serves_next : (n : Next) → ServesText n lab st after line unsent unsent' wrote wrote' → ServesNext n lab st after a held left unsent unsent' wrote wrote'
+  serves_next next.Answered had = (had.0, taken_by had.0.line had.1, had.2)
+  serves_next next.End had = absurd had
+  serves_next next.BadLine had =
+      let comes = bad_line a left line held MAX_SCRIPT_LINE lab.sessions taken refl short few had.0 in (comes.0, comes.1, comes.2, had.1)
+  serves_next next.ReadFault had = absurd had
+  serves_next (next.WriteFault fault) had = (had.0, taken_by had.0.line had.1, few, had.2)
 
 pub bad_next : (lab : LabValue) (st after : State) (a left wrote : Option (List ℕ)) (held : List ℕ) (unsent : List (List ℕ)) → ComesBad lab.sessions a left
     → ServesNext next.BadLine lab st after a held left unsent unsent wrote wrote

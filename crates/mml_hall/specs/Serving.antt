@@ -1,5 +1,5 @@
 -- What comes of the next line of a script.
-use Rattle.std.specs.Prelude.{◌≡◌, ℕ, ◌+◌, ◌-◌, ◌*◌, ◌<◌, List, [], ◌∷◌, ◌++◌, length, Option, Result, Ok, Err, ⊤}
+use Rattle.std.specs.Prelude.{◌≡◌, ◌≢◌, ℕ, ◌+◌, ◌-◌, ◌*◌, ◌<◌, List, [], ◌∷◌, ◌++◌, length, Option, Result, Ok, Err, ⊤}
 use Rattle.std.specs.Io.KnownBytes.{Consumes, IsAtEnd, prepend_known}
 use Rattle.mml_lab.specs.Labs.{LabValue}
 use Rattle.mml_lines.specs.LinesOf.{IsWithinLimit}
@@ -11,7 +11,7 @@ use Rattle.mml_hall.specs.declared.TheConstants.{MAX_SCRIPT_LINE}
 use Rattle.mml_hall.specs.declared.script.Next.{Next}
 use Rattle.mml_hall.specs.declared.script.Next.TheVariants as next
 use Rattle.mml_hall.specs.Turns.{State, RequestLine}
-use Rattle.mml_hall.specs.ScriptLines.{IsBad}
+use Rattle.mml_hall.specs.ScriptLines.{IsScriptLine, IsBad, script_line}
 use Rattle.mml_hall.specs.Scripts.{LineTurn, line_read, line_written}
 
 -- the line had its turn; its output line comes after those that aren't written, of which the first are out
@@ -20,6 +20,17 @@ ServesLine (Ok done) lab st after line unsent unsent' wrote wrote' =
     (t : LineTurn lab st after) × (t.line ≡ line) × Sends wrote wrote' (unsent ++ line_written t ∷ []) unsent'
 ServesLine (Err fault) lab st after line unsent unsent' wrote wrote' =
     (t : LineTurn lab st after) × (t.line ≡ line) × BreaksOff fault wrote wrote' (unsent ++ line_written t ∷ [])
+
+-- what came of a line that was read, by what it is: a script line, which had its turn, or none
+abbrev pub ServesText : Next → LabValue → State → State → List ℕ → List (List ℕ) → List (List ℕ) → Option (List ℕ) → Option (List ℕ) → Type 0
+ServesText next.Answered lab st after line unsent unsent' wrote wrote' =
+    (t : LineTurn lab st after) × (line ≡ script_line t.line) × Sends wrote wrote' (unsent ++ line_written t ∷ []) unsent'
+ServesText next.End lab st after line unsent unsent' wrote wrote' = ⊥
+ServesText next.BadLine lab st after line unsent unsent' wrote wrote' =
+    ((s : RequestLine) → IsScriptLine lab.sessions s → line ≢ script_line s) × Sends wrote wrote' unsent unsent'
+ServesText next.ReadFault lab st after line unsent unsent' wrote wrote' = ⊥
+ServesText (next.WriteFault fault) lab st after line unsent unsent' wrote wrote' =
+    (t : LineTurn lab st after) × (line ≡ script_line t.line) × BreaksOff fault wrote wrote' (unsent ++ line_written t ∷ [])
 
 -- what came of the next line says of the states, of the bytes to come, of which those held are first, of the lines that aren't
 -- written and of the bytes that are

@@ -9,7 +9,7 @@ ghost use Rattle.mml_journal.specs.Taken.{IsFresh};
 ghost use Rattle.mml_hall.specs.Journals.{TellsJournal, Journals};
 ghost use Rattle.mml_hall.specs.ScriptLines.{IsScriptLine, line_of};
 ghost use Rattle.mml_hall.specs.Scripts.{Finished, Stopped};
-ghost use Rattle.mml_hall.specs.Serving.{ServesLine, ServesNext, bytes_ahead};
+ghost use Rattle.mml_hall.specs.Serving.{ServesLine, ServesNext, ServesText, bytes_ahead};
 
 use crate::MAX_SCRIPT_LINE;
 use crate::hall::Hall;
@@ -93,48 +93,80 @@ pub fn run_script<R: Read, W: Write, S: Sink + Drop>(
         (reader.new ≡ reader.old) × (writer.new ≡ writer.old) }
 {
     let mut hall = Hall::new(alloc, lab, sink)?;
-    let (mut lines, mut out, mut outgoing) = buffers(alloc)?;
-    match answer_lines(
-        alloc,
-        &mut hall,
-        &mut lines,
-        &mut out,
-        &mut outgoing,
-        reader,
-        writer,
-    ) {
+    match answer_all(alloc, &mut hall, reader, writer) {
         Ok(()) => Ok(hall),
-        Err(fault) => Err(fault),
+        Err(fault) => {
+            let_go(hall);
+            Err(fault)
+        }
     }
 }
 
+// The hall goes, and its sink with it.
+fn let_go<S: Sink + Drop>(_hall: Hall<S>) {}
+
 // What is reserved before anything is read: for lines, for one reply and for lines that go out together.
-fn buffers(alloc: Global) -> Result<(Lines, Vec<u8>, Outgoing), Memory>
-    ensures lines { IfOk result (λ b. b.0 ≡ fresh MAX_SCRIPT_LINE) }
-    ensures room { IfOk result (λ b. REPLY_ROOM ≤ vec_capacity b.1) }
-    ensures outgoing { IfOk result (λ b. b.2 ≡ []) }
-{
-    let lines = Lines::new(alloc, MAX_SCRIPT_LINE)?;
-    let out = Vec::with_capacity(alloc, REPLY_ROOM)?;
-    let outgoing = Outgoing::new(alloc)?;
-    Ok((lines, out, outgoing))
+#[derive(Drop)]
+struct Buffers {
+    lines: Lines,
+    reply: Vec<u8>,
+    outgoing: Outgoing,
+}
+
+impl Buffers {
+    fn new(alloc: Global) -> Result<Buffers, Memory>
+        ensures lines { IfOk result (λ b. b.lines ≡ fresh MAX_SCRIPT_LINE) }
+        ensures room { IfOk result (λ b. REPLY_ROOM ≤ vec_capacity b.reply) }
+        ensures outgoing { IfOk result (λ b. b.outgoing ≡ []) }
+    {
+        let lines = Lines::new(alloc, MAX_SCRIPT_LINE)?;
+        let reply = Vec::with_capacity(alloc, REPLY_ROOM)?;
+        let outgoing = Outgoing::new(alloc)?;
+        Ok(Buffers {
+            lines,
+            reply,
+            outgoing,
+        })
+    }
 }
 
 // Answers all lines of the input in a hall that was just opened.
-fn answer_lines<R: Read, W: Write, S: Sink>(
+fn answer_all<R: Read, W: Write, S: Sink>(
     alloc: Global,
     hall: &mut Hall<S>,
-    lines: &mut Lines,
-    out: &mut Vec<u8>,
-    outgoing: &mut Outgoing,
     reader: &mut R,
     writer: &mut W,
 ) -> Result<(), ScriptFault>
     requires fresh { IsFresh (S.contents hall.old.sink) }
     requires opening { hall.old.state ≡ opening hall.old.lab }
-    requires nothing_read { lines.old ≡ fresh MAX_SCRIPT_LINE }
-    requires room { REPLY_ROOM ≤ vec_capacity out.old }
-    requires nothing_held { outgoing.old ≡ [] }
+    ensures finished { OnOk result
+        (Finished (Journals S.contents S.failures hall.old.lab hall.old.sink)
+        hall.new hall.old.lab (R.remaining reader.old) (R.remaining reader.new)
+        (W.contents writer.old) (W.contents writer.new)) }
+    ensures stopped { IfErr result (λ fault.
+        Stopped (Journals S.contents S.failures hall.old.lab hall.old.sink)
+        fault hall.old.lab (R.remaining reader.old) (R.remaining reader.new)
+        (W.contents writer.old) (W.contents writer.new)) }
+    ensures untouched { result ≡ Err ScriptFault.Memory →
+        (reader.new ≡ reader.old) × (writer.new ≡ writer.old) }
+{
+    let mut buffers = Buffers::new(alloc)?;
+    answer_lines(alloc, hall, &mut buffers, reader, writer)
+}
+
+// Answers line after line, with all that is needed reserved.
+fn answer_lines<R: Read, W: Write, S: Sink>(
+    alloc: Global,
+    hall: &mut Hall<S>,
+    buffers: &mut Buffers,
+    reader: &mut R,
+    writer: &mut W,
+) -> Result<(), ScriptFault>
+    requires fresh { IsFresh (S.contents hall.old.sink) }
+    requires opening { hall.old.state ≡ opening hall.old.lab }
+    requires nothing_read { buffers.old.lines ≡ fresh MAX_SCRIPT_LINE }
+    requires room { REPLY_ROOM ≤ vec_capacity buffers.old.reply }
+    requires nothing_held { buffers.old.outgoing ≡ [] }
     ensures finished { OnOk result
         (Finished (Journals S.contents S.failures hall.old.lab hall.old.sink)
         hall.new hall.old.lab (R.remaining reader.old) (R.remaining reader.new)
@@ -147,12 +179,12 @@ fn answer_lines<R: Read, W: Write, S: Sink>(
 {
     let mut answered: u64 = 0;
     loop {
-        flush_before_read(lines, outgoing, writer)?;
-        match serve_next(alloc, hall, lines, out, outgoing, reader, writer) {
+        flush_before_read(&buffers.lines, &mut buffers.outgoing, writer)?;
+        match serve_next(alloc, hall, buffers, reader, writer) {
             Next::Answered => answered += 1,
             Next::End => return Ok(()),
             Next::BadLine => {
-                outgoing.flush(writer)?;
+                buffers.outgoing.flush(writer)?;
                 return Err(bad_line_after(answered));
             }
             Next::ReadFault => return Err(ScriptFault::Read),
@@ -209,44 +241,72 @@ fn flush_before_read<W: Write>(
 fn serve_next<R: Read, W: Write, S: Sink>(
     alloc: Global,
     hall: &mut Hall<S>,
-    lines: &mut Lines,
-    out: &mut Vec<u8>,
-    outgoing: &mut Outgoing,
+    buffers: &mut Buffers,
     reader: &mut R,
     writer: &mut W,
 ) -> Next
-    requires going { lines.old.ending ≡ None }
-    requires limit { lines.old.limit ≡ MAX_SCRIPT_LINE }
-    requires room { REPLY_ROOM ≤ vec_capacity out.old }
+    requires going { buffers.old.lines.ending ≡ None }
+    requires limit { buffers.old.lines.limit ≡ MAX_SCRIPT_LINE }
+    requires room { REPLY_ROOM ≤ vec_capacity buffers.old.reply }
     // Nothing is unwritten at a read.
-    requires written { IsWithinLimit lines.old.limit lines.old.unread → outgoing.old ≡ [] }
-    ensures going { result ≡ Next.Answered → lines.new.ending ≡ None }
-    ensures limit { lines.new.limit ≡ MAX_SCRIPT_LINE }
-    ensures few { result ≡ Next.Answered → length lines.new.unread < READ_SIZE }
-    ensures room { REPLY_ROOM ≤ vec_capacity out.new }
+    requires written { IsWithinLimit buffers.old.lines.limit buffers.old.lines.unread → buffers.old.outgoing ≡ [] }
+    ensures going { result ≡ Next.Answered → buffers.new.lines.ending ≡ None }
+    ensures limit { buffers.new.lines.limit ≡ MAX_SCRIPT_LINE }
+    ensures few { result ≡ Next.Answered → length buffers.new.lines.unread < READ_SIZE }
+    ensures room { REPLY_ROOM ≤ vec_capacity buffers.new.reply }
     ensures lab { hall.new.lab ≡ hall.old.lab }
     ensures halts { Halts hall.old.state.halted hall.new.state.halted
         (S.failures hall.old.sink) (S.failures hall.new.sink) }
     ensures journal { TellsJournal hall.new.lab hall.new.state (S.contents hall.new.sink) }
     // Each line brings the end nearer, since there is a most of reads.
-    ensures progress { result ≡ Next.Answered → bytes_ahead lines.new < bytes_ahead lines.old }
+    ensures progress { result ≡ Next.Answered → bytes_ahead buffers.new.lines < bytes_ahead buffers.old.lines }
     ensures serves { ServesNext result hall.old.lab hall.old.state hall.new.state
-        (prepend_known lines.old.unread (R.remaining reader.old))
-        lines.new.unread (R.remaining reader.new) outgoing.old outgoing.new
+        (prepend_known buffers.old.lines.unread (R.remaining reader.old))
+        buffers.new.lines.unread (R.remaining reader.new) buffers.old.outgoing buffers.new.outgoing
         (W.contents writer.old) (W.contents writer.new) }
 {
-    let sessions = hall.lab().sessions();
-    match lines.next(reader) {
-        Step::Line => match read_script_line(lines.bytes(), sessions) {
-            Some(line) => match serve(alloc, hall, line, out, outgoing, writer) {
-                Ok(()) => Next::Answered,
-                Err(fault) => Next::WriteFault(fault),
-            },
-            None => Next::BadLine,
-        },
+    // By what this getter ensures, the sink has the journal.
+    let _lab = hall.lab();
+    match buffers.lines.next(reader) {
+        Step::Line => serve_line(
+            alloc,
+            hall,
+            buffers.lines.bytes(),
+            &mut buffers.reply,
+            &mut buffers.outgoing,
+            writer,
+        ),
         Step::TooLong => Next::BadLine,
         Step::End => Next::End,
         Step::ReadFault => Next::ReadFault,
+    }
+}
+
+// Answers a line, where it is a script line.
+fn serve_line<W: Write, S: Sink>(
+    alloc: Global,
+    hall: &mut Hall<S>,
+    line: &[u8],
+    out: &mut Vec<u8>,
+    outgoing: &mut Outgoing,
+    writer: &mut W,
+) -> Next
+    requires line { IsWithinLimit MAX_SCRIPT_LINE line.now }
+    requires room { REPLY_ROOM ≤ vec_capacity out.old }
+    ensures room { REPLY_ROOM ≤ vec_capacity out.new }
+    ensures lab { hall.new.lab ≡ hall.old.lab }
+    ensures halts { Halts hall.old.state.halted hall.new.state.halted
+        (S.failures hall.old.sink) (S.failures hall.new.sink) }
+    ensures journal { TellsJournal hall.new.lab hall.new.state (S.contents hall.new.sink) }
+    ensures serves { ServesText result hall.old.lab hall.old.state hall.new.state line.now
+        outgoing.old outgoing.new (W.contents writer.old) (W.contents writer.new) }
+{
+    match read_script_line(line, hall.lab().sessions()) {
+        Some(line) => match serve(alloc, hall, line, out, outgoing, writer) {
+            Ok(()) => Next::Answered,
+            Err(fault) => Next::WriteFault(fault),
+        },
+        None => Next::BadLine,
     }
 }
 

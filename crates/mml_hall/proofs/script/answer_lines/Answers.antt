@@ -4,7 +4,7 @@ use Rattle.mml_hall.proofs.script.answer_lines.Goals as goal
 
 pub loop-hall-init : goal.loop-hall-init
 loop-hall-init g c = record {
-  so_far = nothing_yet g.S.Sink.contents g.S.Sink.failures c.args.hall.now.lab c.args.hall.now.sink c.args.hall.now (g.R.Read.remaining c.args.reader.now) (g.W.Write.contents c.args.writer.now) c.args.lines.now.unread c.args.outgoing.now
+  so_far = nothing_yet g.S.Sink.contents g.S.Sink.failures c.args.hall.now.lab c.args.hall.now.sink c.args.hall.now (g.R.Read.remaining c.args.reader.now) (g.W.Write.contents c.args.writer.now) c.args.buffers.now.lines.unread c.args.buffers.now.outgoing
       refl c.requires.opening refl c.requires.fresh (ap (λ x. x.unread) c.requires.nothing_read) c.requires.nothing_held;
   going = ap (λ x. x.ending) c.requires.nothing_read;
   limit = ap (λ x. x.limit) c.requires.nothing_read;
@@ -16,13 +16,13 @@ loop-hall-init g c = record {
 pub returns-in_err-flush_before_read-clause-stopped : goal.returns-in_err-flush_before_read-clause-stopped
 returns-in_err-flush_before_read-clause-stopped g c =
     write_told c.from_residual.result _ c.in_err-flush_before_read.field-0.0.written c.from_residual.ensures.1
-    (unflushed_so g.S.Sink.contents g.S.Sink.failures c.args.hall.now.lab c.args.hall.now.sink c.loop-hall.hall c.loop-hall.answered c.in_err-flush_before_read.field-0.0 _ _ _ _ _ c.loop-hall.lines.unread c.loop-hall.outgoing
+    (unflushed_so g.S.Sink.contents g.S.Sink.failures c.args.hall.now.lab c.args.hall.now.sink c.loop-hall.hall c.loop-hall.answered c.in_err-flush_before_read.field-0.0 _ _ _ _ _ c.loop-hall.buffers.lines.unread c.loop-hall.buffers.outgoing
     c.loop-hall.invariant.so_far c.loop-hall.invariant.few_held c.in_err-flush_before_read.ensures.err)
 
 pub loop-hall-preserved : goal.loop-hall-preserved
 loop-hall-preserved g c = record {
-  so_far = one_more g.S.Sink.contents g.S.Sink.failures c.args.hall.now.lab c.args.hall.now.sink c.loop-hall.hall c.serve_next.new.hall c.loop-hall.answered _ _ _ _ _ _ c.serve_next.new.lines.unread c.flush_before_read.new.outgoing c.serve_next.new.outgoing
-      (sent_on g.S.Sink.contents g.S.Sink.failures c.args.hall.now.lab c.args.hall.now.sink c.loop-hall.hall c.loop-hall.answered _ _ _ _ _ c.loop-hall.outgoing c.flush_before_read.new.outgoing c.loop-hall.invariant.so_far c.in_ok-flush_before_read.ensures.ok)
+  so_far = one_more g.S.Sink.contents g.S.Sink.failures c.args.hall.now.lab c.args.hall.now.sink c.loop-hall.hall c.serve_next.new.hall c.loop-hall.answered _ _ _ _ _ _ c.serve_next.new.buffers.lines.unread c.flush_before_read.new.outgoing c.serve_next.new.buffers.outgoing
+      (sent_on g.S.Sink.contents g.S.Sink.failures c.args.hall.now.lab c.args.hall.now.sink c.loop-hall.hall c.loop-hall.answered _ _ _ _ _ c.loop-hall.buffers.outgoing c.flush_before_read.new.outgoing c.loop-hall.invariant.so_far c.in_ok-flush_before_read.ensures.ok)
       c.in-Answered.ensures.lab c.in-Answered.ensures.journal c.in-Answered.ensures.halts c.in-Answered.ensures.serves;
   going = c.in-Answered.ensures.going refl;
   limit = c.in-Answered.ensures.limit;
@@ -33,31 +33,31 @@ loop-hall-preserved g c = record {
 
 pub returns-in-End-clause-finished : goal.returns-in-End-clause-finished
 returns-in-End-clause-finished g c =
-    finished_so g.S.Sink.contents g.S.Sink.failures c.args.hall.now.lab c.args.hall.now.sink c.loop-hall.hall c.serve_next.new.hall c.loop-hall.answered _ _ _ _ _ _ c.serve_next.new.lines.unread c.flush_before_read.new.outgoing c.serve_next.new.outgoing
-    (sent_on g.S.Sink.contents g.S.Sink.failures c.args.hall.now.lab c.args.hall.now.sink c.loop-hall.hall c.loop-hall.answered _ _ _ _ _ c.loop-hall.outgoing c.flush_before_read.new.outgoing c.loop-hall.invariant.so_far c.in_ok-flush_before_read.ensures.ok)
+    finished_so g.S.Sink.contents g.S.Sink.failures c.args.hall.now.lab c.args.hall.now.sink c.loop-hall.hall c.serve_next.new.hall c.loop-hall.answered _ _ _ _ _ _ c.serve_next.new.buffers.lines.unread c.flush_before_read.new.outgoing c.serve_next.new.buffers.outgoing
+    (sent_on g.S.Sink.contents g.S.Sink.failures c.args.hall.now.lab c.args.hall.now.sink c.loop-hall.hall c.loop-hall.answered _ _ _ _ _ c.loop-hall.buffers.outgoing c.flush_before_read.new.outgoing c.loop-hall.invariant.so_far c.in_ok-flush_before_read.ensures.ok)
     c.in-End.ensures.lab c.in-End.ensures.journal c.in-End.ensures.halts c.in-End.ensures.serves
 
 pub returns-in_err-flush-in-BadLine-clause-stopped : goal.returns-in_err-flush-in-BadLine-clause-stopped
 returns-in_err-flush-in-BadLine-clause-stopped g c =
     write_told c.from_residual-in_err-flush-in-BadLine.result _ c.in_err-flush-in-BadLine.field-0.0.written c.from_residual-in_err-flush-in-BadLine.ensures.1
-    (bad_unflushed_so g.S.Sink.contents g.S.Sink.failures c.args.hall.now.lab c.args.hall.now.sink c.loop-hall.hall c.loop-hall.answered c.in_err-flush-in-BadLine.field-0.0 _ _ _ _ _ _ _ c.serve_next.new.lines.unread c.serve_next.new.hall.state c.flush_before_read.new.outgoing c.serve_next.new.outgoing
-    (sent_on g.S.Sink.contents g.S.Sink.failures c.args.hall.now.lab c.args.hall.now.sink c.loop-hall.hall c.loop-hall.answered _ _ _ _ _ c.loop-hall.outgoing c.flush_before_read.new.outgoing c.loop-hall.invariant.so_far c.in_ok-flush_before_read.ensures.ok)
+    (bad_unflushed_so g.S.Sink.contents g.S.Sink.failures c.args.hall.now.lab c.args.hall.now.sink c.loop-hall.hall c.loop-hall.answered c.in_err-flush-in-BadLine.field-0.0 _ _ _ _ _ _ _ c.serve_next.new.buffers.lines.unread c.serve_next.new.hall.state c.flush_before_read.new.outgoing c.serve_next.new.buffers.outgoing
+    (sent_on g.S.Sink.contents g.S.Sink.failures c.args.hall.now.lab c.args.hall.now.sink c.loop-hall.hall c.loop-hall.answered _ _ _ _ _ c.loop-hall.buffers.outgoing c.flush_before_read.new.outgoing c.loop-hall.invariant.so_far c.in_ok-flush_before_read.ensures.ok)
     c.in-BadLine.ensures.serves c.in_err-flush-in-BadLine.ensures.err)
 
 pub returns-in-BadLine-clause-stopped : goal.returns-in-BadLine-clause-stopped
 returns-in-BadLine-clause-stopped g c =
-    rw c.bad_line_after.ensures (bad_so g.S.Sink.contents g.S.Sink.failures c.args.hall.now.lab c.args.hall.now.sink c.loop-hall.hall c.loop-hall.answered _ _ _ _ _ _ _ c.serve_next.new.lines.unread c.serve_next.new.hall.state c.flush_before_read.new.outgoing c.serve_next.new.outgoing
-    (sent_on g.S.Sink.contents g.S.Sink.failures c.args.hall.now.lab c.args.hall.now.sink c.loop-hall.hall c.loop-hall.answered _ _ _ _ _ c.loop-hall.outgoing c.flush_before_read.new.outgoing c.loop-hall.invariant.so_far c.in_ok-flush_before_read.ensures.ok)
+    rw c.bad_line_after.ensures (bad_so g.S.Sink.contents g.S.Sink.failures c.args.hall.now.lab c.args.hall.now.sink c.loop-hall.hall c.loop-hall.answered _ _ _ _ _ _ _ c.serve_next.new.buffers.lines.unread c.serve_next.new.hall.state c.flush_before_read.new.outgoing c.serve_next.new.buffers.outgoing
+    (sent_on g.S.Sink.contents g.S.Sink.failures c.args.hall.now.lab c.args.hall.now.sink c.loop-hall.hall c.loop-hall.answered _ _ _ _ _ c.loop-hall.buffers.outgoing c.flush_before_read.new.outgoing c.loop-hall.invariant.so_far c.in_ok-flush_before_read.ensures.ok)
     c.in-BadLine.ensures.serves c.in_ok-flush-in-BadLine.ensures.ok)
 
 pub returns-in-ReadFault-clause-stopped : goal.returns-in-ReadFault-clause-stopped
 returns-in-ReadFault-clause-stopped g c =
-    unread_so g.S.Sink.contents g.S.Sink.failures c.args.hall.now.lab c.args.hall.now.sink c.loop-hall.hall c.loop-hall.answered _ _ _ _ _ _ c.serve_next.new.lines.unread c.serve_next.new.hall.state c.flush_before_read.new.outgoing c.serve_next.new.outgoing
-    (sent_on g.S.Sink.contents g.S.Sink.failures c.args.hall.now.lab c.args.hall.now.sink c.loop-hall.hall c.loop-hall.answered _ _ _ _ _ c.loop-hall.outgoing c.flush_before_read.new.outgoing c.loop-hall.invariant.so_far c.in_ok-flush_before_read.ensures.ok)
+    unread_so g.S.Sink.contents g.S.Sink.failures c.args.hall.now.lab c.args.hall.now.sink c.loop-hall.hall c.loop-hall.answered _ _ _ _ _ _ c.serve_next.new.buffers.lines.unread c.serve_next.new.hall.state c.flush_before_read.new.outgoing c.serve_next.new.buffers.outgoing
+    (sent_on g.S.Sink.contents g.S.Sink.failures c.args.hall.now.lab c.args.hall.now.sink c.loop-hall.hall c.loop-hall.answered _ _ _ _ _ c.loop-hall.buffers.outgoing c.flush_before_read.new.outgoing c.loop-hall.invariant.so_far c.in_ok-flush_before_read.ensures.ok)
     c.in-ReadFault.ensures.serves
 
 pub returns-in-WriteFault-clause-stopped : goal.returns-in-WriteFault-clause-stopped
 returns-in-WriteFault-clause-stopped g c =
-    unwritten_so g.S.Sink.contents g.S.Sink.failures c.args.hall.now.lab c.args.hall.now.sink c.loop-hall.hall c.serve_next.new.hall c.loop-hall.answered c.in-WriteFault.fault _ _ _ _ _ _ c.serve_next.new.lines.unread c.flush_before_read.new.outgoing c.serve_next.new.outgoing
-    (sent_on g.S.Sink.contents g.S.Sink.failures c.args.hall.now.lab c.args.hall.now.sink c.loop-hall.hall c.loop-hall.answered _ _ _ _ _ c.loop-hall.outgoing c.flush_before_read.new.outgoing c.loop-hall.invariant.so_far c.in_ok-flush_before_read.ensures.ok)
+    unwritten_so g.S.Sink.contents g.S.Sink.failures c.args.hall.now.lab c.args.hall.now.sink c.loop-hall.hall c.serve_next.new.hall c.loop-hall.answered c.in-WriteFault.fault _ _ _ _ _ _ c.serve_next.new.buffers.lines.unread c.flush_before_read.new.outgoing c.serve_next.new.buffers.outgoing
+    (sent_on g.S.Sink.contents g.S.Sink.failures c.args.hall.now.lab c.args.hall.now.sink c.loop-hall.hall c.loop-hall.answered _ _ _ _ _ c.loop-hall.buffers.outgoing c.flush_before_read.new.outgoing c.loop-hall.invariant.so_far c.in_ok-flush_before_read.ensures.ok)
     c.in-WriteFault.ensures.lab c.in-WriteFault.ensures.journal c.in-WriteFault.ensures.halts c.in-WriteFault.ensures.serves
