@@ -1,5 +1,7 @@
 //! Identifiers, ranks, sets of ranks, and pieces of text.
-use mml_ids::{IdFault, IdTable, Items, MAX_NODES, NodeId, NodeSet, Piece, Rank, Word, put};
+use mml_ids::{
+    IdFault, IdTable, Items, MAX_NODES, Memory, NodeId, NodeSet, Piece, Rank, Word, put,
+};
 use std::alloc::{AllocError, Global};
 use std::test::Fail;
 
@@ -15,55 +17,79 @@ fn comes_back(table: &IdTable, id: u64) -> bool {
     }
 }
 
-#[test]
-fn ranks_of_identifiers(rt: HostRuntime) -> Result<(), Fail> {
-    let table = IdTable::new(rt.alloc(), &[9, 1, 7, 4])?;
-    assert_eq!(rt; table.len(), 4);
-    for (id, index) in [
-        (1, Some(0)),
-        (4, Some(1)),
-        (7, Some(2)),
-        (9, Some(3)),
-        (8, None),
-        (0, None),
-    ] {
-        let found = (index_of(&table, id), comes_back(&table, id));
-        assert_eq!(rt; found, (index, index.is_some()), "{id}");
+// An identifier, and its rank.
+const RANKS: [(u64, Option<u64>); 6] = [
+    (1, Some(0)),
+    (4, Some(1)),
+    (7, Some(2)),
+    (9, Some(3)),
+    (8, None),
+    (0, None),
+];
+
+/// The first identifier of these with another rank.
+fn first_other_rank(table: &IdTable) -> Option<u64> {
+    for (id, index) in RANKS {
+        if (index_of(table, id), comes_back(table, id)) != (index, index.is_some()) {
+            return Some(id);
+        }
     }
-    Ok(())
+    None
+}
+
+/// How many identifiers a table has, and the first with another rank.
+fn told_of_ranks(alloc: Global) -> Result<(u64, Option<u64>), IdFault> {
+    let table = IdTable::new(alloc, &[9, 1, 7, 4])?;
+    Ok((table.len(), first_other_rank(&table)))
+}
+
+#[test]
+fn ranks_of_identifiers(rt: HostRuntime) {
+    assert_eq!(rt; told_of_ranks(rt.alloc()), Ok((4, None)));
 }
 
 fn fault_of(alloc: Global, ids: &[u64]) -> Option<IdFault> {
     IdTable::new(alloc, ids).err()
 }
 
+// Identifiers, and their fault.
+const FAULTS: &[(&[u64], Option<IdFault>)] = &[
+    (&[], Some(IdFault::Empty)),
+    (&[5, 70000], Some(IdFault::OutOfRange(1))),
+    (&[5, 5], Some(IdFault::Twice(1))),
+    (&[5, 5, 0], Some(IdFault::OutOfRange(2))),
+    (&[65535, 1], None),
+    (&[65536, 1], Some(IdFault::OutOfRange(0))),
+];
+
+/// The first row of these with another fault.
+fn first_other_fault(alloc: Global) -> Option<usize> {
+    for (row, (ids, fault)) in FAULTS.iter().enumerate() {
+        if fault_of(alloc, ids) != *fault {
+            return Some(row);
+        }
+    }
+    None
+}
+
 #[test]
 fn faults_of_identifiers(rt: HostRuntime) {
-    let cases: [(&[u64], Option<IdFault>); 6] = [
-        (&[], Some(IdFault::Empty)),
-        (&[5, 70000], Some(IdFault::OutOfRange(1))),
-        (&[5, 5], Some(IdFault::Twice(1))),
-        (&[5, 5, 0], Some(IdFault::OutOfRange(2))),
-        (&[65535, 1], None),
-        (&[65536, 1], Some(IdFault::OutOfRange(0))),
-    ];
-    for (ids, fault) in cases {
-        assert_eq!(rt; fault_of(rt.alloc(), ids), fault);
-    }
+    assert_eq!(rt; first_other_fault(rt.alloc()), None);
+}
+
+/// The fault of the 256 greatest identifiers and these.
+fn fault_of_many(alloc: Global, more: &[u64]) -> Result<Option<IdFault>, AllocError> {
+    let mut ids: Vec<u64> = (65280..=65535u64).collect(alloc)?;
+    ids.extend_from_slice(more)?;
+    Ok(fault_of(alloc, ids.as_slice()))
 }
 
 #[test]
 fn too_many_identifiers(rt: HostRuntime) -> Result<(), Fail> {
-    let mut ids = Vec::new(rt.alloc());
-    for id in 65280..=65535u64 {
-        ids.push(id)?;
-    }
-    let all = fault_of(rt.alloc(), ids.as_slice());
-    ids.push(1)?;
-    let one_more = fault_of(rt.alloc(), ids.as_slice());
+    let all = fault_of_many(rt.alloc(), &[])?;
+    let one_more = fault_of_many(rt.alloc(), &[1])?;
     // Too many comes before out of range.
-    ids.push(0)?;
-    let with_zero = fault_of(rt.alloc(), ids.as_slice());
+    let with_zero = fault_of_many(rt.alloc(), &[1, 0])?;
     let too_many = Some(IdFault::TooMany);
     assert_eq!(rt;
         (MAX_NODES, all, one_more, with_zero),
@@ -72,16 +98,31 @@ fn too_many_identifiers(rt: HostRuntime) -> Result<(), Fail> {
     Ok(())
 }
 
+fn identifier(id: u64) -> Option<u64> {
+    Some(NodeId::new(id)?.get())
+}
+
+fn rank(index: u64) -> Option<u64> {
+    Some(Rank::new(index)?.index())
+}
+
 #[test]
 fn ranges(rt: HostRuntime) {
-    for (id, is_one) in [(0, false), (1, true), (65535, true), (65536, false)] {
-        let found = NodeId::new(id).map(NodeId::get);
-        assert_eq!(rt; found, is_one.then_some(id), "{id}");
-    }
-    for (index, is_one) in [(0, true), (64, true), (255, true), (256, false)] {
-        let found = Rank::new(index).map(Rank::index);
-        assert_eq!(rt; found, is_one.then_some(index), "{index}");
-    }
+    assert_eq!(rt;
+        (
+            [
+                identifier(0),
+                identifier(1),
+                identifier(65535),
+                identifier(65536)
+            ],
+            [rank(0), rank(64), rank(255), rank(256)]
+        ),
+        (
+            [None, Some(1), Some(65535), None],
+            [Some(0), Some(64), Some(255), None]
+        )
+    );
 }
 
 /// Whether these ranks are taken out of the set in this order, and then none.
@@ -111,8 +152,8 @@ fn has_only(set: NodeSet, ranks: &[u64]) -> bool {
         && gives_in_order(set, ranks)
 }
 
-#[test]
-fn sets_of_ranks(rt: HostRuntime) {
+/// The first row of sets with other ranks, and how many ranks are above 63.
+fn told_of_sets() -> (Option<usize>, u64) {
     let none = NodeSet::empty();
     let some = none
         .with(Rank::at(0))
@@ -130,10 +171,13 @@ fn sets_of_ranks(rt: HostRuntime) {
         (some.without(above), &[0, 63]),
         (NodeSet::above(Rank::at(255)), &[]),
     ];
-    for (set, ranks) in sets {
-        assert!(rt; has_only(set, ranks));
-    }
-    assert_eq!(rt; above.len(), 192);
+    let other = sets.iter().position(|(set, ranks)| !has_only(*set, ranks));
+    (other, above.len())
+}
+
+#[test]
+fn sets_of_ranks(rt: HostRuntime) {
+    assert_eq!(rt; told_of_sets(), (None, 192));
 }
 
 /// Whether a rank is in the set drawn by a seed: in some words many are, in others few.
@@ -165,44 +209,56 @@ fn is_list(set: NodeSet, list: &[bool]) -> bool {
         && set.greatest().map(Rank::index) == greatest.map(|index| index as u64)
 }
 
-fn sets_are_lists(alloc: Global, a: u64, b: u64, rank: Rank) -> Result<bool, AllocError> {
-    let mut first = Vec::new(alloc);
-    let mut both = Vec::new(alloc);
-    let mut without = Vec::new(alloc);
-    let mut above = Vec::new(alloc);
-    for index in 0..MAX_NODES {
-        let (in_a, in_b) = (is_drawn(a, index), is_drawn(b, index));
-        first.push(in_a)?;
-        both.push(in_a && in_b)?;
-        without.push(in_a && !in_b)?;
-        above.push(rank.index() < index)?;
+/// The first two sets, what both have, what only the first has, and the ranks above one are as in plain
+/// lists.
+fn sets_are_lists(a: u64, b: u64, rank: Rank) -> bool {
+    let mut first = [false; 256];
+    let mut both = [false; 256];
+    let mut without = [false; 256];
+    let mut above = [false; 256];
+    for index in 0..256usize {
+        let (in_a, in_b) = (is_drawn(a, index as u64), is_drawn(b, index as u64));
+        first[index] = in_a;
+        both[index] = in_a && in_b;
+        without[index] = in_a && !in_b;
+        above[index] = rank.index() < index as u64;
     }
     let (set_a, set_b) = (drawn_set(a), drawn_set(b));
-    Ok(
-        is_list(set_a, &first)
-            && is_list(set_a.both(set_b), &both)
-            && is_list(set_a.without(set_b), &without)
-            && is_list(NodeSet::above(rank), &above),
-    )
+    is_list(set_a, &first)
+        && is_list(set_a.both(set_b), &both)
+        && is_list(set_a.without(set_b), &without)
+        && is_list(NodeSet::above(rank), &above)
+}
+
+// Two seeds, and a rank.
+const SEEDS: [(u64, u64, u64); 8] = [
+    (0, 3, 0),
+    (5, 9, 62),
+    (6, 1, 63),
+    (11, 14, 64),
+    (12, 7, 127),
+    (13, 2, 191),
+    (14, 8, 254),
+    (15, 4, 255),
+];
+
+/// The first seeds of these whose sets aren't as plain lists.
+fn first_unlike_lists() -> Option<(u64, u64, u64)> {
+    for (a, b, index) in SEEDS {
+        let agree = match Rank::new(index) {
+            Some(rank) => sets_are_lists(a, b, rank),
+            None => false,
+        };
+        if !agree {
+            return Some((a, b, index));
+        }
+    }
+    None
 }
 
 #[test]
-fn sets_against_plain_lists(rt: HostRuntime) -> Result<(), Fail> {
-    for (a, b, index) in [
-        (0, 3, 0),
-        (5, 9, 62),
-        (6, 1, 63),
-        (11, 14, 64),
-        (12, 7, 127),
-        (13, 2, 191),
-        (14, 8, 254),
-        (15, 4, 255),
-    ] {
-        let rank = Rank::new(index).expect(&rt, "a rank");
-        let agree = sets_are_lists(rt.alloc(), a, b, rank)?;
-        assert!(rt; agree, "{a} {b} {index}");
-    }
-    Ok(())
+fn sets_against_plain_lists(rt: HostRuntime) {
+    assert_eq!(rt; first_unlike_lists(), None);
 }
 
 fn keeps_a_list(alloc: Global) -> Result<bool, AllocError> {
@@ -221,17 +277,21 @@ fn lists_and_words(rt: HostRuntime) -> Result<(), Fail> {
     Ok(())
 }
 
-#[test]
-fn pieces(rt: HostRuntime) -> Result<(), Fail> {
-    let mut out = Vec::new(rt.alloc());
-    let id = NodeId::new(65535).expect(&rt, "the greatest identifier");
+/// Whether pieces, the last of them an identifier, are put as their text.
+fn are_put(alloc: Global, id: NodeId) -> Result<bool, Memory> {
+    let mut out = Vec::new(alloc);
     let text = [
         Piece::Text("at "),
         Piece::Number(u64::MAX),
         Piece::Text(","),
         Piece::Id(id),
     ];
-    assert_eq!(rt; put(&mut out, &text), Ok(()));
-    assert_eq!(rt; out.as_slice(), b"at 18446744073709551615,65535".as_slice());
-    Ok(())
+    put(&mut out, &text)?;
+    Ok(out.as_slice() == b"at 18446744073709551615,65535".as_slice())
+}
+
+#[test]
+fn pieces(rt: HostRuntime) {
+    let id = NodeId::new(65535).expect(&rt, "the greatest identifier");
+    assert_eq!(rt; are_put(rt.alloc(), id), Ok(true));
 }

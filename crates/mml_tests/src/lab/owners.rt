@@ -1,6 +1,6 @@
 //! The owners of a node: one or two, under either key.
-use super::told;
-use std::test::Fail;
+use super::is_told;
+use std::alloc::{AllocError, Global};
 
 const HEAD: &[u8] = br#"
 events = 100
@@ -72,11 +72,17 @@ const OWNERS: &[(&[u8], &str)] = &[
     ),
 ];
 
-#[test]
-fn reads_owners(rt: HostRuntime) -> Result<(), Fail> {
-    for (owners, expected) in OWNERS {
-        let told = told(rt.alloc(), &[HEAD, owners])?;
-        assert_eq!(rt; told.as_str(), *expected, "{}", owners.escape_ascii());
+/// The first row of these that is read as something else.
+fn first_other(alloc: Global) -> Result<Option<usize>, AllocError> {
+    for (row, (owners, wanted)) in OWNERS.iter().enumerate() {
+        if !is_told(alloc, &[HEAD, *owners], wanted)? {
+            return Ok(Some(row));
+        }
     }
-    Ok(())
+    Ok(None)
+}
+
+#[test]
+fn reads_owners(rt: HostRuntime) {
+    assert_eq!(rt; first_other(rt.alloc()), Ok(None));
 }

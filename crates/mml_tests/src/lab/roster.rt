@@ -1,6 +1,7 @@
 //! Who takes part, by name and key.
 use mml_ids::Rank;
-use mml_lab::{Roster, Who, read_lab};
+use mml_lab::{LabFault, Roster, Who, read_lab};
+use std::alloc::Global;
 use std::test::Fail;
 
 const LAB: &[u8] = br#"
@@ -59,10 +60,18 @@ fn first_other(roster: &Roster) -> Option<(&'static str, &'static str)> {
     None
 }
 
+/// The same, and whether the teacher owns the node.
+fn told(roster: &Roster) -> (Option<(&'static str, &'static str)>, bool) {
+    (first_other(roster), roster.owns(Who::Teacher, Rank::at(0)))
+}
+
+fn told_of_lab(alloc: Global) -> Result<(Option<(&'static str, &'static str)>, bool), LabFault> {
+    let lab = read_lab(alloc, LAB)?;
+    Ok(told(lab.roster()))
+}
+
 #[test]
 fn knows_who_takes_part(rt: HostRuntime) -> Result<(), Fail> {
-    let lab = read_lab(rt.alloc(), LAB)?;
-    let owns = lab.roster().owns(Who::Teacher, Rank::at(0));
-    assert_eq!(rt; (first_other(lab.roster()), owns), (None, false));
+    assert_eq!(rt; told_of_lab(rt.alloc())?, (None, false));
     Ok(())
 }
