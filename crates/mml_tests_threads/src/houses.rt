@@ -1,5 +1,5 @@
 //! Houses over the path of three, what is asked of them, and how they end.
-ghost use Rattle.std.specs.Prelude.{◌≡◌, ◌+◌, ◌≤◌, length, true};
+ghost use Rattle.std.specs.Prelude.{◌≡◌, ◌+◌, ◌≤◌, length, true, IfSome};
 ghost use Rattle.mml_policy.specs.Acts.{is_act};
 
 use mml_fakes::labs::PATH_OF_THREE;
@@ -57,20 +57,33 @@ pub enum Ending {
     Astray(Astray),
 }
 
-/// How a house ended, and what its sink has taken.
-pub fn end_of(
-    alloc: Global,
-    end: Result<Log<MemorySink>, Astray>,
-) -> Result<(Ending, String), Fail> {
+/// How a house ended.
+pub fn ending_of(end: &Result<Log<MemorySink>, Astray>) -> Ending {
     match end {
-        Ok(log) => {
-            let ending = Ending::Log {
-                events: log.events.as_slice().len(),
-                number: log.board.number(),
-                halted: log.halted,
-            };
-            Ok((ending, String::from_utf8(log.sink.bytes().to_vec(alloc)?)?))
-        }
-        Err(astray) => Ok((Ending::Astray(astray), String::new(alloc))),
+        Ok(log) => Ending::Log {
+            events: log.events.as_slice().len(),
+            number: log.board.number(),
+            halted: log.halted,
+        },
+        Err(astray) => Ending::Astray(*astray),
     }
+}
+
+/// Whether a house ended with this journal.
+pub fn has_journal(end: &Result<Log<MemorySink>, Astray>, journal: &str) -> bool {
+    match end {
+        Ok(log) => log.sink.bytes() == journal.as_bytes(),
+        Err(_) => false,
+    }
+}
+
+/// Two windows, if there are as many.
+pub fn take_two<H: House>(windows: &mut Vec<Window<H>>) -> Option<(Window<H>, Window<H>)>
+    ensures fewer { length windows.new.items ≤ length windows.old.items }
+    ensures taken { IfSome result (λ _.
+        length windows.new.items + 2 ≤ length windows.old.items) }
+{
+    let one = windows.pop()?;
+    let two = windows.pop()?;
+    Some((one, two))
 }

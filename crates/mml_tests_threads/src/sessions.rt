@@ -1,14 +1,14 @@
 //! One session: how it ends, and what stands then.
 mod races;
 
-ghost use Rattle.std.specs.Prelude.{◌≡◌};
+ghost use Rattle.std.specs.Prelude.{◌≡◌, ◌≤◌, length};
 ghost use Rattle.mml_window.specs.Houses.{house_of};
 
-use crate::houses::{Ending, end_of, give_back, open_path};
+use crate::houses::{Ending, ending_of, give_back, open_path};
 use mml_fakes::{FakeReader, FakeWriter};
 use mml_journal::MemorySink;
 use mml_session::{NoGate, SessionEnd, serve_one};
-use mml_window::{Blank, Brand, House};
+use mml_window::{Blank, Brand, Desk, House, Window};
 use std::alloc::{AllocError, Global};
 use std::io::{Read, Write};
 use std::sync::Wait;
@@ -25,24 +25,36 @@ const REPLIES: &str = r#"{"ok":"hello","who":"ana"}
 {"at":0,"node":1,"ok":"move","place":1,"rule":"seduction"}
 "#;
 
-/// How a session ends, and then its house.
+/// How a session over the last of these windows ends.
+fn serve_last<H: House, R: Wait, In: Read, Out: Write>(
+    rt: &R,
+    alloc: Global,
+    desk: &Desk<MemorySink, H>,
+    windows: &mut Vec<Window<H>>,
+    reader: &mut In,
+    writer: &mut Out,
+) -> Option<SessionEnd>
+    ensures { length windows.new.items ≤ length windows.old.items }
+{
+    let mut window = windows.pop()?;
+    let end = serve_one(rt, alloc, desk, &mut window, reader, writer, &NoGate, 1);
+    give_back(windows, window);
+    Some(end)
+}
+
+/// How a session ends, if there is a window for it, and then its house.
 fn serve_in<H: House, R: Wait, In: Read, Out: Write>(
     rt: &R,
     alloc: Global,
     blank: Blank<MemorySink>,
     reader: &mut In,
     writer: &mut Out,
-) -> Result<(SessionEnd, Ending), Fail>
+) -> Result<(Option<SessionEnd>, Ending), Fail>
     requires { blank ≡ house_of H.name H.lab }
 {
     let (desk, mut windows) = blank.start::<H>(alloc)?;
-    let Some(mut window) = windows.pop() else {
-        let _ = desk.finish(rt, windows);
-        return Err(Fail::from("no window"));
-    };
-    let end = serve_one(rt, alloc, &desk, &mut window, reader, writer, &NoGate, 1);
-    give_back(&mut windows, window);
-    let (ending, _) = end_of(alloc, desk.finish(rt, windows))?;
+    let end = serve_last(rt, alloc, &desk, &mut windows, reader, writer);
+    let ending = ending_of(&desk.finish(rt, windows));
     Ok((end, ending))
 }
 
@@ -51,7 +63,7 @@ fn serve<R: Wait, In: Read, Out: Write>(
     alloc: Global,
     reader: &mut In,
     writer: &mut Out,
-) -> Result<(SessionEnd, Ending), Fail> {
+) -> Result<(Option<SessionEnd>, Ending), Fail> {
     let blank = open_path(rt, alloc, None)?;
     serve_in::<Brand, _, _, _>(rt, alloc, blank, reader, writer)
 }
@@ -75,39 +87,66 @@ fn bye(alloc: Global, spaces: usize, end: &[u8]) -> Result<Vec<u8>, AllocError> 
     Ok(line)
 }
 
-/// How a session over such a line ends, and what it writes.
-fn told_of_bye<R: Wait>(rt: &R, alloc: Global, spaces: usize, end: &[u8]) -> Result<String, Fail> {
+/// Whether a session over such a line ends so, and writes that.
+fn is_bye_told<R: Wait>(
+    rt: &R,
+    alloc: Global,
+    spaces: usize,
+    end: &[u8],
+    wanted: SessionEnd,
+    written: &str,
+) -> Result<bool, Fail> {
     let line = bye(alloc, spaces, end)?;
     let mut reader = line.as_slice();
     let mut writer = FakeWriter::patient(alloc);
     let (end, _) = serve(rt, alloc, &mut reader, &mut writer)?;
-    let mut told = String::from_utf8(writer.taken)?;
-    write!(told, "{end:?}")?;
-    Ok(told)
+    Ok(end == Some(wanted) && writer.taken.as_slice() == written.as_bytes())
+}
+
+const BYE: &str = "{\"ok\":\"bye\"}\n";
+
+// How many spaces are behind a bye, what ends its line, how the session ends, and what it writes.
+const BYES: &[(usize, &str, SessionEnd, &str)] = &[
+    (4084, "\n", SessionEnd::Bye, BYE),
+    (4085, "\n", SessionEnd::TooLong, ""),
+    (0, "", SessionEnd::End, ""),
+    (4084, "", SessionEnd::End, ""),
+];
+
+/// The first row of these that ends otherwise.
+fn first_bye_told_otherwise<R: Wait>(rt: &R, alloc: Global) -> Result<Option<usize>, Fail> {
+    for (row, (spaces, end, wanted, written)) in BYES.iter().enumerate() {
+        if !is_bye_told(rt, alloc, *spaces, end.as_bytes(), *wanted, written)? {
+            return Ok(Some(row));
+        }
+    }
+    Ok(None)
 }
 
 #[test]
 fn lines_have_limits(rt: HostRuntime) -> Result<(), Fail> {
-    let longest = told_of_bye(&rt, rt.alloc(), 4084, b"\n")?;
-    let longer = told_of_bye(&rt, rt.alloc(), 4085, b"\n")?;
-    let open = told_of_bye(&rt, rt.alloc(), 0, b"")?;
-    let open_and_longest = told_of_bye(&rt, rt.alloc(), 4084, b"")?;
-    assert_eq!(rt; longest.as_str(), "{\"ok\":\"bye\"}\nBye");
-    assert_eq!(rt; longer.as_str(), "TooLong");
-    assert_eq!(rt; open.as_str(), "End");
-    assert_eq!(rt; open_and_longest.as_str(), "End");
+    assert_eq!(rt; first_bye_told_otherwise(&rt, rt.alloc())?, None);
     Ok(())
+}
+
+/// How a session over two byes ends, how many reads it makes, how many bytes it leaves, and whether
+/// it answers the first alone.
+fn told_of_two_byes<R: Wait>(
+    rt: &R,
+    alloc: Global,
+) -> Result<(Option<SessionEnd>, usize, usize, bool), Fail> {
+    let script = b"{\"do\":\"bye\"}\n{\"do\":\"bye\"}\n".as_slice();
+    let mut reader = FakeReader::failing_after(100, script);
+    let mut writer = FakeWriter::patient(alloc);
+    let (end, _) = serve(rt, alloc, &mut reader, &mut writer)?;
+    let is_first = writer.taken.as_slice() == BYE.as_bytes();
+    Ok((end, reader.reads, reader.rest.len(), is_first))
 }
 
 #[test]
 fn nothing_is_read_after_a_bye(rt: HostRuntime) -> Result<(), Fail> {
-    let script = b"{\"do\":\"bye\"}\n{\"do\":\"bye\"}\n".as_slice();
-    let mut reader = FakeReader::failing_after(100, script);
-    let mut writer = FakeWriter::patient(rt.alloc());
-    let (end, _) = serve(&rt, rt.alloc(), &mut reader, &mut writer)?;
-    assert_eq!(rt; end, SessionEnd::Bye);
-    assert_eq!(rt; (reader.reads, reader.rest.len()), (13, 13));
-    assert_eq!(rt; writer.taken.as_slice(), b"{\"ok\":\"bye\"}\n".as_slice());
+    let wanted = (Some(SessionEnd::Bye), 13, 13, true);
+    assert_eq!(rt; told_of_two_byes(&rt, rt.alloc())?, wanted);
     Ok(())
 }
 
@@ -124,18 +163,22 @@ fn tells_a_write<R: Wait>(rt: &R, alloc: Global, good: usize) -> Result<bool, Fa
         SessionEnd::WriteFault
     };
     let events = if good < WELCOME.len() { 0 } else { 1 };
-    Ok(end == wanted && writer.taken.as_slice() == out && ending == after(events))
+    Ok(end == Some(wanted) && writer.taken.as_slice() == out && ending == after(events))
+}
+
+/// The first number of good writes after which something else is told.
+fn first_untold_write<R: Wait>(rt: &R, alloc: Global) -> Result<Option<usize>, Fail> {
+    for good in 0..=REPLIES.len() {
+        if !tells_a_write(rt, alloc, good)? {
+            return Ok(Some(good));
+        }
+    }
+    Ok(None)
 }
 
 #[test]
 fn failed_writes_are_told(rt: HostRuntime) -> Result<(), Fail> {
-    let mut good = 0usize;
-    for bytes in 0..=REPLIES.len() {
-        if tells_a_write(&rt, rt.alloc(), bytes)? {
-            good = good.saturating_add(1);
-        }
-    }
-    assert_eq!(rt; good, REPLIES.len().saturating_add(1));
+    assert_eq!(rt; first_untold_write(&rt, rt.alloc())?, None);
     Ok(())
 }
 
@@ -155,20 +198,24 @@ fn tells_a_read<R: Wait>(rt: &R, alloc: Global, good: usize) -> Result<bool, Fai
         ""
     };
     Ok(
-        end == SessionEnd::ReadFault
+        end == Some(SessionEnd::ReadFault)
             && writer.taken.as_slice() == wanted.as_bytes()
             && ending == after(if moved { 1 } else { 0 }),
     )
 }
 
-#[test]
-fn failed_reads_are_told(rt: HostRuntime) -> Result<(), Fail> {
-    let mut good = 0usize;
-    for bytes in 0..=SCRIPT.len() {
-        if tells_a_read(&rt, rt.alloc(), bytes)? {
-            good = good.saturating_add(1);
+/// The first number of good reads after which something else is told.
+fn first_untold_read<R: Wait>(rt: &R, alloc: Global) -> Result<Option<usize>, Fail> {
+    for good in 0..=SCRIPT.len() {
+        if !tells_a_read(rt, alloc, good)? {
+            return Ok(Some(good));
         }
     }
-    assert_eq!(rt; good, SCRIPT.len().saturating_add(1));
+    Ok(None)
+}
+
+#[test]
+fn failed_reads_are_told(rt: HostRuntime) -> Result<(), Fail> {
+    assert_eq!(rt; first_untold_read(&rt, rt.alloc())?, None);
     Ok(())
 }

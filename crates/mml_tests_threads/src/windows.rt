@@ -2,12 +2,14 @@
 mod failing_sink;
 mod seats;
 
-ghost use Rattle.std.specs.Prelude.{◌≡◌};
+ghost use Rattle.std.specs.Prelude.{◌≡◌, ◌≤◌, length};
 ghost use Rattle.mml_window.specs.Houses.{house_of};
 
-use crate::houses::{Ending, end_of, open_path, seduction, student};
+use crate::houses::{
+    Ending, ending_of, give_back, has_journal, open_path, seduction, student, take_two,
+};
 use mml_board::Done;
-use mml_ids::Rank;
+use mml_ids::{Memory, Rank};
 use mml_journal::MemorySink;
 use mml_lab::Who;
 use mml_policy::{Command, Denial};
@@ -82,49 +84,73 @@ fn meets_the_close<H: House, R: Wait>(
     number && matches!(answer, Answer::Denied(Denial::Stale(1)))
 }
 
-/// How a house of two windows ends, with both or without the student's.
+/// Whether all of this holds of two windows.
+fn holds<H: House, R: Wait>(
+    rt: &R,
+    alloc: Global,
+    desk: &Desk<MemorySink, H>,
+    teacher: &mut Window<H>,
+    ana: &mut Window<H>,
+) -> bool {
+    plays(rt, alloc, desk, teacher, ana)
+        && sees_the_close(alloc, teacher)
+        && meets_the_close(rt, alloc, desk, ana)
+}
+
+/// The same of two of these, of which both come back or not the student's.
+fn holds_in<H: House, R: Wait>(
+    rt: &R,
+    alloc: Global,
+    desk: &Desk<MemorySink, H>,
+    windows: &mut Vec<Window<H>>,
+    with_both: bool,
+) -> Option<bool>
+    ensures { length windows.new.items ≤ length windows.old.items }
+{
+    let (mut teacher, mut ana) = take_two(windows)?;
+    let holds = holds(rt, alloc, desk, &mut teacher, &mut ana);
+    let mut are_back = give_back(windows, teacher);
+    if with_both {
+        are_back = give_back(windows, ana) && are_back;
+    }
+    Some(holds && are_back)
+}
+
+const JOURNAL: &str = "1 0 grant ana 1 seduction\n2 0 close\n";
+
+/// The same of a house, how it ends, and whether it has its journal.
 fn in_house<H: House, R: Wait>(
     rt: &R,
     alloc: Global,
     blank: Blank<MemorySink>,
     with_both: bool,
-) -> Result<(bool, Ending, String), Fail>
+) -> Result<(Option<bool>, Ending, bool), Memory>
     requires { blank ≡ house_of H.name H.lab }
 {
     let (desk, mut windows) = blank.start::<H>(alloc)?;
-    let mut holds = false;
-    if let (Some(mut teacher), Some(mut ana)) = (windows.pop(), windows.pop()) {
-        holds = plays(rt, alloc, &desk, &mut teacher, &mut ana)
-            && sees_the_close(alloc, &mut teacher)
-            && meets_the_close(rt, alloc, &desk, &mut ana);
-        holds = windows.push(teacher).is_ok() && holds;
-        if with_both {
-            holds = windows.push(ana).is_ok() && holds;
-        }
-    }
-    let (ending, journal) = end_of(alloc, desk.finish(rt, windows))?;
-    Ok((holds, ending, journal))
+    let holds = holds_in(rt, alloc, &desk, &mut windows, with_both);
+    let end = desk.finish(rt, windows);
+    Ok((holds, ending_of(&end), has_journal(&end, JOURNAL)))
 }
 
 #[test]
 fn all_windows_end_a_house(rt: HostRuntime) -> Result<(), Fail> {
     let blank = open_path(&rt, rt.alloc(), None)?;
-    let (holds, ending, journal) = in_house::<Brand, _>(&rt, rt.alloc(), blank, true)?;
+    let found = in_house::<Brand, _>(&rt, rt.alloc(), blank, true)?;
     let wanted = Ending::Log {
         events: 2,
         number: 1,
         halted: false,
     };
-    assert_eq!(rt; (holds, ending), (true, wanted));
-    assert_eq!(rt; journal.as_str(), "1 0 grant ana 1 seduction\n2 0 close\n");
+    assert_eq!(rt; found, (Some(true), wanted, true));
     Ok(())
 }
 
 #[test]
 fn a_missing_window_is_told(rt: HostRuntime) -> Result<(), Fail> {
     let blank = open_path(&rt, rt.alloc(), None)?;
-    let (holds, ending, _) = in_house::<Brand, _>(&rt, rt.alloc(), blank, false)?;
+    let found = in_house::<Brand, _>(&rt, rt.alloc(), blank, false)?;
     let wanted = Ending::Astray(Astray { told: 1, found: 2 });
-    assert_eq!(rt; (holds, ending), (true, wanted));
+    assert_eq!(rt; found, (Some(true), wanted, false));
     Ok(())
 }

@@ -1,10 +1,11 @@
 //! As many windows as the lab has sessions, each with a reader's place from the start and until the house
 //! ends.
-ghost use Rattle.std.specs.Prelude.{◌≡◌};
+ghost use Rattle.std.specs.Prelude.{◌≡◌, ◌≤◌, length};
 ghost use Rattle.mml_window.specs.Houses.{house_of};
 
-use crate::houses::{Ending, end_of, open_path, seduction, student};
+use crate::houses::{Ending, ending_of, give_back, open_path, seduction, student, take_two};
 use mml_fakes::cycles::cycle;
+use mml_ids::Memory;
 use mml_journal::MemorySink;
 use mml_lab::{Who, read_lab};
 use mml_policy::Command;
@@ -38,41 +39,54 @@ fn grants_through_two<H: House, R: Wait>(
         && matches!(closed, Answer::Granted { place: 2, .. })
 }
 
-/// The numbers of four windows before two others grant, and after it.
+/// Whether two of these windows ask so, and come back.
+fn grants_in<H: House, R: Wait>(
+    rt: &R,
+    alloc: Global,
+    desk: &Desk<MemorySink, H>,
+    windows: &mut Vec<Window<H>>,
+) -> Option<bool>
+    ensures { length windows.new.items ≤ length windows.old.items }
+{
+    let (mut one, mut two) = take_two(windows)?;
+    let grants = grants_through_two(rt, alloc, desk, &mut one, &mut two);
+    let is_back = give_back(windows, one);
+    Some(give_back(windows, two) && is_back && grants)
+}
+
+/// The numbers of four windows before two others grant, whether these do, and the numbers after it.
 fn in_house<H: House, R: Wait>(
     rt: &R,
     alloc: Global,
     blank: Blank<MemorySink>,
-) -> Result<([Result<u64, Closed>; 4], [Result<u64, Closed>; 4], Ending), Fail>
+) -> Result<
+    (
+        [Result<u64, Closed>; 4],
+        Option<bool>,
+        [Result<u64, Closed>; 4],
+        Ending,
+    ),
+    Memory,
+>
     requires { blank ≡ house_of H.name H.lab }
 {
     let (desk, mut windows) = blank.start::<H>(alloc)?;
     let before = numbers(&mut windows);
-    let mut holds = false;
-    if let (Some(mut one), Some(mut two)) = (windows.pop(), windows.pop()) {
-        holds = grants_through_two(rt, alloc, &desk, &mut one, &mut two);
-        holds = windows.push(one).is_ok() && windows.push(two).is_ok() && holds;
-    }
+    let grants = grants_in(rt, alloc, &desk, &mut windows);
     let after = numbers(&mut windows);
-    let (ending, _) = end_of(alloc, desk.finish(rt, windows))?;
-    if holds {
-        Ok((before, after, ending))
-    } else {
-        Err(Fail::from("nothing was granted"))
-    }
+    Ok((before, grants, after, ending_of(&desk.finish(rt, windows))))
 }
 
 #[test]
 fn windows_that_only_view_meet_what_others_granted(rt: HostRuntime) -> Result<(), Fail> {
     let blank = open_path(&rt, rt.alloc(), None)?;
-    let (before, after, ending) = in_house::<Brand, _>(&rt, rt.alloc(), blank)?;
-    assert_eq!(rt; (before, after), ([Ok(0); 4], [Ok(1); 4]));
+    let found = in_house::<Brand, _>(&rt, rt.alloc(), blank)?;
     let wanted = Ending::Log {
         events: 2,
         number: 1,
         halted: false,
     };
-    assert_eq!(rt; ending, wanted);
+    assert_eq!(rt; found, ([Ok(0); 4], Some(true), [Ok(1); 4], wanted));
     Ok(())
 }
 
@@ -91,7 +105,7 @@ fn shown_at_start<H: House, R: Wait>(
     rt: &R,
     alloc: Global,
     blank: Blank<MemorySink>,
-) -> Result<usize, Fail>
+) -> Result<usize, Memory>
     requires { blank ≡ house_of H.name H.lab }
 {
     let (desk, mut windows) = blank.start::<H>(alloc)?;
@@ -105,7 +119,7 @@ fn shown_of<R: Wait>(rt: &R, alloc: Global, sessions: u64) -> Result<usize, Fail
     let file = cycle(alloc, 3, 100, sessions)?;
     let lab = read_lab(alloc, file.as_bytes())?;
     let blank = open_house(rt, alloc, lab, MemorySink::new(alloc, None))?;
-    shown_at_start::<Brand, _>(rt, alloc, blank)
+    Ok(shown_at_start::<Brand, _>(rt, alloc, blank)?)
 }
 
 #[test]
@@ -132,27 +146,25 @@ fn is_closed_after<H: House, R: Wait>(
     rt: &R,
     alloc: Global,
     blank: Blank<MemorySink>,
-) -> Result<(bool, Ending), Fail>
+) -> Result<(Option<bool>, Ending), Memory>
     requires { blank ≡ house_of H.name H.lab }
 {
     let (desk, mut windows) = blank.start::<H>(alloc)?;
-    let kept = windows.pop();
-    let (ending, _) = end_of(alloc, desk.finish(rt, windows))?;
-    match kept {
-        Some(mut window) => Ok((is_closed(alloc, &mut window), ending)),
-        None => Err(Fail::from("no window")),
-    }
+    let mut kept = windows.pop();
+    let ending = ending_of(&desk.finish(rt, windows));
+    let is_closed = kept.as_mut().map(|window| is_closed(alloc, window));
+    Ok((is_closed, ending))
 }
 
 #[test]
 fn a_window_that_outlives_its_house_is_closed(rt: HostRuntime) -> Result<(), Fail> {
     let blank = open_path(&rt, rt.alloc(), None)?;
-    let (is_closed, ending) = is_closed_after::<Brand, _>(&rt, rt.alloc(), blank)?;
+    let found = is_closed_after::<Brand, _>(&rt, rt.alloc(), blank)?;
     let wanted = Ending::Log {
         events: 0,
         number: 0,
         halted: false,
     };
-    assert_eq!(rt; (is_closed, ending), (true, wanted));
+    assert_eq!(rt; found, (Some(true), wanted));
     Ok(())
 }

@@ -1,4 +1,4 @@
-use Rattle.mml_tests_threads.proofs.crowd.round.Given as goal
+use Rattle.mml_tests_threads.proofs.crowd.run_over.Given as goal
 
 -- the house that was just opened
 abbrev pub ghosts-run_in : goal.ghosts-run_in
