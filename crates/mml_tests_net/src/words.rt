@@ -25,36 +25,36 @@ const FORMS: &[(&str, &str)] = &[
     ("check ", "Check { lab: \"\" }"),
     (
         "script a b",
-        "Script { lab: \"a\", script: \"b\", journal: None }",
+        "Script(ScriptTask { lab: \"a\", script: \"b\", journal: None })",
     ),
     (
         "script a a",
-        "Script { lab: \"a\", script: \"a\", journal: None }",
+        "Script(ScriptTask { lab: \"a\", script: \"a\", journal: None })",
     ),
     (
         "script a b c",
-        "Script { lab: \"a\", script: \"b\", journal: Some(\"c\") }",
+        "Script(ScriptTask { lab: \"a\", script: \"b\", journal: Some(\"c\") })",
     ),
     (
         "script a b ",
-        "Script { lab: \"a\", script: \"b\", journal: Some(\"\") }",
+        "Script(ScriptTask { lab: \"a\", script: \"b\", journal: Some(\"\") })",
     ),
     ("audit a b", "Audit { lab: \"a\", journal: \"b\" }"),
     (
         "script help version",
-        "Script { lab: \"help\", script: \"version\", journal: None }",
+        "Script(ScriptTask { lab: \"help\", script: \"version\", journal: None })",
     ),
     (
         "serve a 1 1",
-        "Serve { lab: \"a\", port: 1, connections: 1, journal: None }",
+        "Serve(ServeTask { lab: \"a\", port: 1, connections: 1, journal: None })",
     ),
     (
         "serve a 65535 16 b",
-        "Serve { lab: \"a\", port: 65535, connections: 16, journal: Some(\"b\") }",
+        "Serve(ServeTask { lab: \"a\", port: 65535, connections: 16, journal: Some(\"b\") })",
     ),
     (
         "serve 7000 7000 10 ",
-        "Serve { lab: \"7000\", port: 7000, connections: 10, journal: Some(\"\") }",
+        "Serve(ServeTask { lab: \"7000\", port: 7000, connections: 10, journal: Some(\"\") })",
     ),
 ];
 
