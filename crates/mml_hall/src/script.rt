@@ -96,14 +96,11 @@ pub fn run_script<R: Read, W: Write, S: Sink + Drop>(
     match answer_all(alloc, &mut hall, reader, writer) {
         Ok(()) => Ok(hall),
         Err(fault) => {
-            let_go(hall);
+            drop(hall);
             Err(fault)
         }
     }
 }
-
-// The hall goes, and its sink with it.
-fn let_go<S: Sink + Drop>(_hall: Hall<S>) {}
 
 // What is reserved before anything is read: for lines, for one reply and for lines that go out together.
 #[derive(Drop)]
