@@ -120,16 +120,28 @@ pub record RawSpec : Type 0 where
   pub nodes : List NodeSpec
   pub links : List (ℤ × ℤ)
 
+unfoldable pub teacher_of : Members → Result Account LabFault
+teacher_of members = do
+  table ← needed key.Teacher (codes "teacher") as_table members
+  account_in key.TeacherName key.TeacherKey table
+
+unfoldable pub students_of : Members → Result (List Account) LabFault
+students_of members = do
+  items ← needed key.Student (codes "student") as_array members
+  each student_of items
+
+unfoldable pub nodes_of : Members → Result (List NodeSpec) LabFault
+nodes_of members = do
+  items ← needed key.Node (codes "node") as_array members
+  each node_of items
+
 unfoldable pub raw_of : Members → Result RawSpec LabFault
 raw_of members = do
   events ← needed key.Events (codes "events") as_integer members
   sessions ← needed key.Sessions (codes "sessions") as_integer members
-  teacher_table ← needed key.Teacher (codes "teacher") as_table members
-  teacher ← account_in key.TeacherName key.TeacherKey teacher_table
-  student_items ← needed key.Student (codes "student") as_array members
-  students ← each student_of student_items
-  node_items ← needed key.Node (codes "node") as_array members
-  nodes ← each node_of node_items
+  teacher ← teacher_of members
+  students ← students_of members
+  nodes ← nodes_of members
   links ← links_of (get_member (codes "links") members)
   Ok (record { events = events; sessions = sessions; teacher = teacher; students = students; nodes = nodes; links = links })
 

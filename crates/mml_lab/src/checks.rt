@@ -28,7 +28,7 @@ pub(crate) fn number_of(number: i64) -> u64
 }
 
 /// What is known of a file without a fault: its nodes' identifiers, who takes part, and for each node its neighbours.
-#[derive(Debug, Drop)]
+#[derive(Drop)]
 pub struct Checked {
     pub ids: IdTable,
     pub teacher: Account,

@@ -2,7 +2,7 @@ ghost use Rattle.std.specs.Prelude.{◌≡◌, map, string_bytes, codes, Some, N
 ghost use Rattle.mml_ids.specs.Gives.{Gives};
 ghost use Rattle.toml.specs.Data.{as_str, as_integer, as_bool, as_table, as_array, get_member};
 ghost use Rattle.toml.specs.View.{view, table_view, array_view};
-ghost use Rattle.mml_lab.specs.Shape.{is_memory, need, needed, of_kind, optional_of, optional, names_of, owner_names, each, account_in, student_of, node_of, link_of, links_of, raw_of, two_of, spelled};
+ghost use Rattle.mml_lab.specs.Shape.{is_memory, need, needed, of_kind, optional_of, optional, names_of, owner_names, each, account_in, student_of, node_of, link_of, links_of, teacher_of, students_of, nodes_of, raw_of, two_of, spelled};
 ghost use Rattle.mml_lab.specs.Raw.{account_view, node_view, raw_view};
 
 use crate::MAX_OWNERS;
@@ -19,7 +19,7 @@ pub struct Account {
 }
 
 /// A node as the file spells it: its identifier, the names of its owners, and its registers.
-#[derive(Debug, Drop)]
+#[derive(Drop)]
 pub struct RawNode {
     pub id: i64,
     pub owners: Vec<String>,
@@ -30,7 +30,7 @@ pub struct RawNode {
 }
 
 /// What the file spells, before its values are compared with one another.
-#[derive(Debug, Drop)]
+#[derive(Drop)]
 pub struct RawLab {
     pub events: i64,
     pub sessions: i64,
@@ -325,6 +325,32 @@ fn links_at(alloc: Global, table: &Table) -> Result<Vec<(i64, i64)>, LabFault>
     }
 }
 
+#[tactic(auto, unfolding(crate::specs::Shape::teacher_of))]
+fn teacher_at(alloc: Global, table: &Table) -> Result<Account, LabFault>
+    ensures { Gives is_memory account_view result (teacher_of (table_view table.now)) }
+{
+    let teacher = table_at(table, "teacher", Key::Teacher)?;
+    account_at(alloc, teacher, Key::TeacherName, Key::TeacherKey)
+}
+
+#[tactic(auto, unfolding(crate::specs::Shape::students_of))]
+fn students_at(alloc: Global, table: &Table) -> Result<Vec<Account>, LabFault>
+    ensures { Gives is_memory (λ v. map account_view v.items) result
+        (students_of (table_view table.now)) }
+{
+    let list = array_at(table, "student", Key::Student)?;
+    students(alloc, list)
+}
+
+#[tactic(auto, unfolding(crate::specs::Shape::nodes_of))]
+fn nodes_at(alloc: Global, table: &Table) -> Result<Vec<RawNode>, LabFault>
+    ensures { Gives is_memory (λ v. map node_view v.items) result
+        (nodes_of (table_view table.now)) }
+{
+    let list = array_at(table, "node", Key::Node)?;
+    nodes(alloc, list)
+}
+
 /// What a document's table spells. The first key that is missing or of the wrong kind is the fault.
 #[tactic(auto, unfolding(crate::specs::Shape::raw_of))]
 pub fn read_raw(alloc: Global, table: &Table) -> Result<RawLab, LabFault>
@@ -332,10 +358,9 @@ pub fn read_raw(alloc: Global, table: &Table) -> Result<RawLab, LabFault>
 {
     let events = integer_at(table, "events", Key::Events)?;
     let sessions = integer_at(table, "sessions", Key::Sessions)?;
-    let teacher = table_at(table, "teacher", Key::Teacher)?;
-    let teacher = account_at(alloc, teacher, Key::TeacherName, Key::TeacherKey)?;
-    let students = students(alloc, array_at(table, "student", Key::Student)?)?;
-    let nodes = nodes(alloc, array_at(table, "node", Key::Node)?)?;
+    let teacher = teacher_at(alloc, table)?;
+    let students = students_at(alloc, table)?;
+    let nodes = nodes_at(alloc, table)?;
     let links = links_at(alloc, table)?;
     Ok(RawLab {
         events,
