@@ -10,7 +10,8 @@ use Rattle.mml_codec.specs.declared.reply.Reply.TheVariants as replies
 use Rattle.mml_session.specs.declared.session.Said.{Said}
 use Rattle.mml_session.specs.declared.session.Said.TheVariants as says
 use Rattle.mml_session.specs.Turns.{Standing, is_bye}
-use Rattle.mml_session.specs.Serving.{ServesLine, ServesNext, next_after}
+use Rattle.mml_session.specs.Talks.{LineTurn, line_written}
+use Rattle.mml_session.specs.Serving.{Sends, ServesLine, ServesNext, next_after}
 
 taken_by : (a b : Option (List ℕ)) (line line' : List ℕ) → Consumes a b (ended line) → line' ≡ line → Consumes a b (ended line')
 taken_by a b line line' taken same = subst (λ (t : List ℕ). Consumes a b (ended t)) (sym same) taken
@@ -38,6 +39,14 @@ bye_is (replies.Release at place node) is = absurd (true≢false (sym is))
 bye_is (replies.Report r) is = absurd (true≢false (sym is))
 bye_is (replies.Deny d) is = absurd (true≢false (sym is))
 bye_is (replies.Refuse r) is = absurd (true≢false (sym is))
+
+-- a line that had its turn, and whose reply's line went out so
+module _ (lab : LabValue) (st after : Standing) (t : LineTurn lab st after) (c d : Option (List ℕ)) where
+  pub serves_line : (said : Said) → Sends said t.reply (line_written t) c d → ServesLine said lab st after t.line c d
+  serves_line says.Told sent = (t, refl, sent.0, sent.1)
+  serves_line says.Bye sent = (t, refl, bye_is t.reply sent.0, sent.1)
+  serves_line (says.Unwritten n) sent = (t, refl, sent.0, sent.1)
+  serves_line says.Closed sent = absurd sent
 
 -- a line was taken, and fewer bytes may come
 pub nearer : (u u' r r' most taken : ℕ) → taken + u' ≤ u + READ_SIZE * (r' - r) → r ≤ r' → r' ≤ most → 0 < taken

@@ -1,11 +1,12 @@
 -- What comes of the next line of a session.
-use Rattle.std.specs.Prelude.{◌≡◌, ℕ, ◌+◌, ◌-◌, ◌*◌, ◌<◌, false, List, [], length, take, Option}
+use Rattle.std.specs.Prelude.{◌≡◌, ℕ, ◌+◌, ◌-◌, ◌*◌, ◌<◌, false, true, List, [], length, take, Option}
 use Rattle.std.specs.Io.KnownBytes.{Appends, Consumes, IsAtEnd, prepend_known}
 use Rattle.mml_lab.specs.Labs.{LabValue}
 use Rattle.mml_lines.specs.LinesOf.{IsWithinLimit, IsTooLong, ended}
 use Rattle.mml_lines.specs.LinesState.{LinesState}
 use Rattle.mml_lines.specs.declared.lines.TheConstants.{MAX_READS, READ_SIZE}
 use Rattle.mml_codec.specs.declared.TheConstants.{MAX_REQUEST}
+use Rattle.mml_codec.specs.declared.reply.Reply.{Reply}
 use Rattle.mml_codec.specs.declared.reply.Reply.TheVariants as reply
 use Rattle.mml_session.specs.declared.session.SessionEnd.TheVariants as end
 use Rattle.mml_session.specs.declared.session.Next.{Next}
@@ -15,6 +16,13 @@ use Rattle.mml_session.specs.declared.session.Said.TheVariants as said
 use Rattle.mml_session.specs.Turns.{Standing, is_bye}
 use Rattle.mml_session.specs.Talks.{LineTurn, line_read, line_written}
 use Rattle.mml_session.specs.Ends.{IsView}
+
+-- the line of a reply is out, or the front of it
+abbrev pub Sends : Said → Reply → List ℕ → Option (List ℕ) → Option (List ℕ) → Type 0
+Sends said.Told r whole wrote wrote' = (is_bye r ≡ false) × Appends wrote wrote' whole
+Sends said.Bye r whole wrote wrote' = (is_bye r ≡ true) × Appends wrote wrote' whole
+Sends (said.Unwritten n) r whole wrote wrote' = (n < length whole) × Appends wrote wrote' (take n whole)
+Sends said.Closed r whole wrote wrote' = ⊥
 
 -- the line had its turn; its reply's line is out, or the front of it
 abbrev pub ServesLine : Said → LabValue → Standing → Standing → List ℕ → Option (List ℕ) → Option (List ℕ) → Type 0

@@ -4,7 +4,7 @@ ghost use Rattle.mml_lines.specs.LinesOf.{IsWithinLimit};
 ghost use Rattle.mml_lab.specs.Rosters.{IsPrincipal};
 ghost use Rattle.mml_session.specs.Turns.{standing, is_bye};
 ghost use Rattle.mml_session.specs.Ends.{Ended};
-ghost use Rattle.mml_session.specs.Serving.{ServesLine, ServesNext, bytes_ahead, next_after};
+ghost use Rattle.mml_session.specs.Serving.{Sends, ServesLine, ServesNext, bytes_ahead, next_after};
 
 use crate::answering::answer;
 use crate::gate::{Gate, Point};
@@ -175,8 +175,15 @@ fn serve_line<Rt: Wait, S: Sink + Drop, H: House, W: Write>(
         return Said::Closed;
     };
     let told = tell_reply(alloc, window.ids(), window.roster(), reply, out);
-    match put_all(writer, out) {
-        Ok(()) => { if is_bye(&told) { Said::Bye } else { Said::Told } }
+    send(&told, out, writer)
+}
+
+// Writes the line of a reply.
+fn send<W: Write>(reply: &Reply, line: &[u8], writer: &mut W) -> Said
+    ensures { Sends result reply.now line.now (W.contents writer.old) (W.contents writer.new) }
+{
+    match put_all(writer, line) {
+        Ok(()) => { if is_bye(reply) { Said::Bye } else { Said::Told } }
         Err(fault) => Said::Unwritten(fault.written),
     }
 }
