@@ -4,23 +4,23 @@ mod replaced;
 use mml_board::Board;
 use mml_fakes::labs::PATH_OF_THREE;
 use mml_fakes::scripts::TEN_LINES;
-use mml_hall::audit;
+use mml_hall::{AuditFault, audit};
 use mml_lab::{Lab, read_lab};
 use std::alloc::{AllocError, Global};
 use std::test::Fail;
 
 /// Events, configuration and whether the board is stable.
-fn passed(alloc: Global, board: &Board) -> Result<String, Fail> {
+fn passed(alloc: Global, board: &Board) -> Result<String, AllocError> {
     let (events, number) = (board.place(), board.number());
     let is_stable = board.privileged_count() == 0;
-    Ok(format!(in alloc; "{events} events, configuration {number}, {is_stable}")?)
+    format!(in alloc; "{events} events, configuration {number}, {is_stable}")
 }
 
 /// What is told of the board that an audit leaves, or the fault.
-fn told(alloc: Global, lab: &Lab, text: &[u8]) -> Result<String, Fail> {
+fn told(alloc: Global, lab: &Lab, text: &[u8]) -> Result<String, AllocError> {
     match audit(alloc, lab, text) {
         Ok(board) => passed(alloc, &board),
-        Err(fault) => Ok(format!(in alloc; "{fault:?}")?),
+        Err(fault) => format!(in alloc; "{fault:?}"),
     }
 }
 
@@ -68,6 +68,10 @@ const TEXTS: &[(&str, &str)] = &[
     ),
 ];
 
+fn is_told(alloc: Global, lab: &Lab, text: &str, wanted: &str) -> Result<bool, AllocError> {
+    Ok(told(alloc, lab, text.as_bytes())?.as_str() == wanted)
+}
+
 /// The first of these texts of which something else is told.
 fn first_told_otherwise<'a>(
     alloc: Global,
@@ -75,50 +79,74 @@ fn first_told_otherwise<'a>(
     texts: &[(&'a str, &str)],
 ) -> Result<Option<&'a str>, Fail> {
     for (text, wanted) in texts {
-        if told(alloc, lab, text.as_bytes())?.as_str() != *wanted {
+        if !is_told(alloc, lab, text, wanted)? {
             return Ok(Some(*text));
         }
     }
     Ok(None)
 }
 
+/// The same over the lab that a document spells.
+fn first_told_otherwise_over<'a>(
+    alloc: Global,
+    document: &str,
+    texts: &[(&'a str, &str)],
+) -> Result<Option<&'a str>, Fail> {
+    let lab = read_lab(alloc, document.as_bytes())?;
+    first_told_otherwise(alloc, &lab, texts)
+}
+
 #[test]
 fn audits_name_the_first_bad_line(rt: HostRuntime) -> Result<(), Fail> {
-    let lab = read_lab(rt.alloc(), PATH_OF_THREE.as_bytes())?;
-    assert_eq!(rt; first_told_otherwise(rt.alloc(), &lab, TEXTS)?, None);
+    let other = first_told_otherwise_over(rt.alloc(), PATH_OF_THREE, TEXTS)?;
+    assert_eq!(rt; other, None);
     Ok(())
 }
 
-/// What is told of the first lines, one byte short.
-fn told_of_torn(alloc: Global, lab: &Lab, lines: usize) -> Result<String, Fail> {
+/// The first lines, so many.
+fn first_lines(alloc: Global, lines: usize) -> Result<String, AllocError> {
     let mut text = String::new(alloc);
     for line in TEN_LINES.lines().take(lines) {
         text.push_str(line)?;
         text.push('\n')?;
     }
-    let whole = text.as_bytes();
-    told(
-        alloc,
-        lab,
-        whole.get(..whole.len().saturating_sub(1)).unwrap_or(whole),
-    )
+    Ok(text)
+}
+
+/// The line that an audit tells to be torn.
+fn torn_line(alloc: Global, lab: &Lab, text: &str) -> Option<u64> {
+    match audit(alloc, lab, text.as_bytes()) {
+        Err(AuditFault::Torn(line)) => Some(line),
+        _ => None,
+    }
+}
+
+/// Whether it is told of the first lines, one byte short, that the last one is torn.
+fn is_tear_told(alloc: Global, lab: &Lab, lines: usize) -> Result<bool, AllocError> {
+    let text = first_lines(alloc, lines)?;
+    let torn = text.as_str().strip_suffix('\n').unwrap_or("");
+    Ok(torn_line(alloc, lab, torn) == Some(lines as u64))
 }
 
 /// The first number of lines of which it isn't told that the last one is torn.
-fn first_untold_tear(alloc: Global, lab: &Lab) -> Result<Option<usize>, Fail> {
+fn first_untold_tear(alloc: Global, lab: &Lab) -> Result<Option<usize>, AllocError> {
     for lines in 1..11usize {
-        let wanted = format!(in alloc; "Torn({lines})")?;
-        if told_of_torn(alloc, lab, lines)? != wanted {
+        if !is_tear_told(alloc, lab, lines)? {
             return Ok(Some(lines));
         }
     }
     Ok(None)
 }
 
+/// The same over the path of three.
+fn first_untold_tear_of_path(alloc: Global) -> Result<Option<usize>, Fail> {
+    let lab = read_lab(alloc, PATH_OF_THREE.as_bytes())?;
+    Ok(first_untold_tear(alloc, &lab)?)
+}
+
 #[test]
 fn a_torn_last_line_is_told(rt: HostRuntime) -> Result<(), Fail> {
-    let lab = read_lab(rt.alloc(), PATH_OF_THREE.as_bytes())?;
-    assert_eq!(rt; first_untold_tear(rt.alloc(), &lab)?, None);
+    assert_eq!(rt; first_untold_tear_of_path(rt.alloc())?, None);
     Ok(())
 }
 
@@ -156,7 +184,8 @@ const SHARED_TEXTS: &[(&str, &str)] = &[
 
 #[test]
 fn audits_know_both_owners_and_the_limit(rt: HostRuntime) -> Result<(), Fail> {
-    let lab = read_lab(rt.alloc(), shared(rt.alloc())?.as_bytes())?;
-    assert_eq!(rt; first_told_otherwise(rt.alloc(), &lab, SHARED_TEXTS)?, None);
+    let document = shared(rt.alloc())?;
+    let other = first_told_otherwise_over(rt.alloc(), document.as_str(), SHARED_TEXTS)?;
+    assert_eq!(rt; other, None);
     Ok(())
 }

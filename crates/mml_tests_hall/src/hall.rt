@@ -26,52 +26,57 @@ fn fault_of<R: Read, W: Write>(
     Ok(run_script(alloc, lab, reader, writer, NullSink::new()).err())
 }
 
-/// What was written in answer to a script, and then its fault.
-fn told(alloc: Global, script: &[u8]) -> Result<String, Fail> {
+/// Whether that is written in answer to a script, and then that is its fault.
+fn is_told(
+    alloc: Global,
+    script: &[u8],
+    written: &str,
+    wanted: Option<ScriptFault>,
+) -> Result<bool, Fail> {
     let mut reader = script;
     let mut writer = FakeWriter::patient(alloc);
     let fault = fault_of(alloc, &mut reader, &mut writer)?;
-    let mut text = String::from_utf8(writer.taken)?;
-    if let Some(fault) = fault {
-        write!(text, "{fault:?}")?;
-    }
-    Ok(text)
+    Ok(fault == wanted && writer.taken.as_slice() == written.as_bytes())
 }
 
 const MALFORMED: &str = "1 {\"refuse\":\"malformed\"}\n";
 
+const BAD_FIRST_LINE: Option<ScriptFault> = Some(ScriptFault::BadLine(1));
+
 // A script, what is written, and its fault.
-const SCRIPTS: &[(&str, &str)] = &[
-    ("", ""),
-    (GREETING, GREETING_REPLIES),
-    (FIRST_LOOK, FIRST_LOOK_REPLIES),
-    ("1 \n", MALFORMED),
-    ("1  {\"do\":\"dance\"}\n", MALFORMED),
-    ("4 {\"do\":\"bye\"}\n", "4 {\"ok\":\"bye\"}\n"),
+const SCRIPTS: &[(&str, &str, Option<ScriptFault>)] = &[
+    ("", "", None),
+    (GREETING, GREETING_REPLIES, None),
+    (FIRST_LOOK, FIRST_LOOK_REPLIES, None),
+    ("1 \n", MALFORMED, None),
+    ("1  {\"do\":\"dance\"}\n", MALFORMED, None),
+    ("4 {\"do\":\"bye\"}\n", "4 {\"ok\":\"bye\"}\n", None),
     // Bytes after the last byte 10 are no line.
     (
         "4 {\"do\":\"bye\"}\n4 {\"do\":\"bye\"}",
         "4 {\"ok\":\"bye\"}\n",
+        None,
     ),
-    ("0", ""),
-    ("0 {\"do\":\"bye\"}\n", "BadLine(1)"),
-    ("5 {\"do\":\"bye\"}\n", "BadLine(1)"),
-    ("01 {\"do\":\"bye\"}\n", "BadLine(1)"),
-    ("{\"do\":\"bye\"}\n", "BadLine(1)"),
-    (" 1 {\"do\":\"bye\"}\n", "BadLine(1)"),
-    ("1{\"do\":\"bye\"}\n", "BadLine(1)"),
-    ("1\n", "BadLine(1)"),
-    ("\n", "BadLine(1)"),
+    ("0", "", None),
+    ("0 {\"do\":\"bye\"}\n", "", BAD_FIRST_LINE),
+    ("5 {\"do\":\"bye\"}\n", "", BAD_FIRST_LINE),
+    ("01 {\"do\":\"bye\"}\n", "", BAD_FIRST_LINE),
+    ("{\"do\":\"bye\"}\n", "", BAD_FIRST_LINE),
+    (" 1 {\"do\":\"bye\"}\n", "", BAD_FIRST_LINE),
+    ("1{\"do\":\"bye\"}\n", "", BAD_FIRST_LINE),
+    ("1\n", "", BAD_FIRST_LINE),
+    ("\n", "", BAD_FIRST_LINE),
     (
         "2 {\"do\":\"bye\"}\n\n2 {\"do\":\"bye\"}\n",
-        "2 {\"ok\":\"bye\"}\nBadLine(2)",
+        "2 {\"ok\":\"bye\"}\n",
+        Some(ScriptFault::BadLine(2)),
     ),
 ];
 
 /// The first row of these of which something else is told.
 fn first_told_otherwise(alloc: Global) -> Result<Option<usize>, Fail> {
-    for (row, (script, wanted)) in SCRIPTS.iter().enumerate() {
-        if told(alloc, script.as_bytes())?.as_str() != *wanted {
+    for (row, (script, written, fault)) in SCRIPTS.iter().enumerate() {
+        if !is_told(alloc, script.as_bytes(), written, *fault)? {
             return Ok(Some(row));
         }
     }
@@ -94,25 +99,31 @@ fn long_bye(alloc: Global, len: usize, end: &[u8]) -> Result<Vec<u8>, AllocError
     Ok(script)
 }
 
-// How long a bye is, what ends its line, and what is told of it.
-const LONG_BYES: &[(usize, &str, &str)] = &[
-    (4096, "\n", "1 {\"ok\":\"bye\"}\n"),
-    (4097, "\n", "BadLine(1)"),
-    (4098, "\n", "BadLine(1)"),
+// How long a bye is, what ends its line, what is written, and the fault.
+const LONG_BYES: &[(usize, &str, &str, Option<ScriptFault>)] = &[
+    (4096, "\n", "1 {\"ok\":\"bye\"}\n", None),
+    (4097, "\n", "", BAD_FIRST_LINE),
+    (4098, "\n", "", BAD_FIRST_LINE),
     // 4099 bytes without byte 10 may stand at the end, and no more.
-    (4097, "", ""),
-    (4098, "", "BadLine(1)"),
+    (4097, "", "", None),
+    (4098, "", "", BAD_FIRST_LINE),
 ];
 
-fn told_of_long_bye(alloc: Global, len: usize, end: &str) -> Result<String, Fail> {
+fn is_long_bye_told(
+    alloc: Global,
+    len: usize,
+    end: &str,
+    written: &str,
+    fault: Option<ScriptFault>,
+) -> Result<bool, Fail> {
     let script = long_bye(alloc, len, end.as_bytes())?;
-    told(alloc, script.as_slice())
+    is_told(alloc, script.as_slice(), written, fault)
 }
 
 /// The first row of these of which something else is told.
 fn first_bye_told_otherwise(alloc: Global) -> Result<Option<usize>, Fail> {
-    for (row, (len, end, wanted)) in LONG_BYES.iter().enumerate() {
-        if told_of_long_bye(alloc, *len, end)?.as_str() != *wanted {
+    for (row, (len, end, written, fault)) in LONG_BYES.iter().enumerate() {
+        if !is_long_bye_told(alloc, *len, end, written, *fault)? {
             return Ok(Some(row));
         }
     }

@@ -71,26 +71,41 @@ impl Sink for Drip {
     }
 }
 
-/// The replies, then the journal, and what the hall says of itself.
-fn text_of(replies: Vec<u8>, hall: &Hall<MemorySink>) -> Result<String, Fail> {
-    let mut told = String::from_utf8(replies)?;
-    let journal = str::from_utf8(hall.sink().bytes())?;
-    let (events, place) = (hall.events().len(), hall.board().place());
-    let halted = hall.halted();
-    write!(
-        told,
-        "journal:\n{journal}{events} events, place {place}, halted: {halted}"
-    )?;
-    Ok(told)
+/// The hall that a script leaves over a sink in memory that may fail at a put.
+fn run(
+    alloc: Global,
+    script: &str,
+    fail_at: Option<u64>,
+    writer: &mut FakeWriter,
+) -> Result<Hall<MemorySink>, Fail> {
+    let lab = read_lab(alloc, PATH_OF_THREE.as_bytes())?;
+    let sink = MemorySink::new(alloc, fail_at);
+    Ok(run_script(alloc, lab, &mut script.as_bytes(), writer, sink)?)
 }
 
-/// What is told of a script over a sink in memory that may fail at a put.
+/// The replies, then the journal, and what the hall says of itself.
+fn text_of(alloc: Global, replies: &[u8], hall: &Hall<MemorySink>) -> Result<String, Fail> {
+    let (replies, journal) = (
+        str::from_utf8(replies)?,
+        str::from_utf8(hall.sink().bytes())?,
+    );
+    let (events, place) = (hall.events().len(), hall.board().place());
+    let halted = hall.halted();
+    Ok(format!(in alloc;
+        "{replies}journal:\n{journal}{events} events, place {place}, halted: {halted}"
+    )?)
+}
+
+/// What is told of a script, and of that hall.
 fn told(alloc: Global, script: &str, fail_at: Option<u64>) -> Result<String, Fail> {
-    let lab = read_lab(alloc, PATH_OF_THREE.as_bytes())?;
     let mut writer = FakeWriter::patient(alloc);
-    let sink = MemorySink::new(alloc, fail_at);
-    let hall = run_script(alloc, lab, &mut script.as_bytes(), &mut writer, sink)?;
-    text_of(writer.taken, &hall)
+    let hall = run(alloc, script, fail_at, &mut writer)?;
+    text_of(alloc, writer.taken.as_slice(), &hall)
+}
+
+/// Whether that is told of it.
+fn is_told(alloc: Global, script: &str, fail_at: Option<u64>, wanted: &str) -> Result<bool, Fail> {
+    Ok(told(alloc, script, fail_at)?.as_str() == wanted)
 }
 
 const AFTER_A_HALT: &str = r#"1 {"at":0,"do":"move","node":1,"rule":"seduction"}
@@ -124,12 +139,11 @@ const AFTER_A_HALT_REPLIES: &str = r#"1 {"at":0,"node":1,"ok":"move","place":1,"
 #[test]
 fn nothing_is_granted_after_a_failed_put(rt: HostRuntime) -> Result<(), Fail> {
     let script = format!(in rt.alloc(); "{GREETINGS}{AFTER_A_HALT}")?;
-    let told = told(rt.alloc(), script.as_str(), Some(2))?;
     let wanted = format!(in rt.alloc();
         "{WELCOMES}{AFTER_A_HALT_REPLIES}journal:\n{}\n1 events, place 1, halted: true",
         "1 0 grant ana 1 seduction",
     )?;
-    assert_eq!(rt; told, wanted);
+    assert!(rt; is_told(rt.alloc(), script.as_str(), Some(2), wanted.as_str())?);
     Ok(())
 }
 
@@ -165,11 +179,16 @@ fn between<'a>(alloc: Global, told: &'a str, granted: usize) -> Result<Option<&'
 /// later ones refused.
 fn stops_at(alloc: Global, script: &str, put: usize) -> Result<bool, Fail> {
     let told = told(alloc, script, Some(put as u64))?;
-    let Some(rest) = between(alloc, told.as_str(), put.saturating_sub(1))? else {
-        return Ok(false);
-    };
-    let first = rest.lines().next().unwrap_or("");
-    Ok(first.ends_with("{\"refuse\":\"journal\"}") && rest.lines().all(is_refused))
+    match between(alloc, told.as_str(), put.saturating_sub(1))? {
+        Some(rest) => Ok(are_refused(rest)),
+        None => Ok(false),
+    }
+}
+
+/// Whether the first line is refused by the journal, and each other by it or denied.
+fn are_refused(lines: &str) -> bool {
+    let first = lines.lines().next().unwrap_or("");
+    first.ends_with("{\"refuse\":\"journal\"}") && lines.lines().all(is_refused)
 }
 
 /// The first put that fails with something else left.
@@ -194,13 +213,12 @@ fn a_run_has_its_journal(rt: HostRuntime) -> Result<(), Fail> {
     let script = format!(in rt.alloc();
         "{GREETINGS}{TEN_ACTS}4 {{\"do\":\"report\"}}\n1 {{\"do\":\"report\"}}\n"
     )?;
-    let told = told(rt.alloc(), script.as_str(), Some(11))?;
     let wanted = format!(in rt.alloc();
         "{WELCOMES}{TEN_GRANTS}{}{}journal:\n{TEN_LINES}10 events, place 10, halted: false",
         "4 {\"at\":4,\"free\":[1],\"ok\":\"report\",\"open\":[],\"pairs\":[[2,3]],\"privileged\":[],\"stable\":true}\n",
         "1 {\"clause\":1,\"deny\":\"not-teacher\",\"text\":\"only the teacher may do this\"}\n",
     )?;
-    assert_eq!(rt; told, wanted);
+    assert!(rt; is_told(rt.alloc(), script.as_str(), Some(11), wanted.as_str())?);
     Ok(())
 }
 
@@ -213,16 +231,26 @@ fn has_dripped(hall: &Hall<Drip>, puts: usize) -> bool {
         && hall.sink().failures == u64::from(hall.halted())
 }
 
-/// Whether a sink that takes one byte a put and fails after so many has exactly these bytes.
-fn drips(alloc: Global, script: &str, puts: usize) -> Result<bool, Fail> {
+/// The hall that a script leaves over a sink that takes one byte a put and fails after so many.
+fn run_dripping(
+    alloc: Global,
+    script: &str,
+    puts: usize,
+    writer: &mut FakeWriter,
+) -> Result<Hall<Drip>, Fail> {
     let lab = read_lab(alloc, PATH_OF_THREE.as_bytes())?;
-    let mut writer = FakeWriter::patient(alloc);
     let sink = Drip {
         bytes: Vec::new(alloc),
         left: puts,
         failures: 0,
     };
-    let hall = run_script(alloc, lab, &mut script.as_bytes(), &mut writer, sink)?;
+    Ok(run_script(alloc, lab, &mut script.as_bytes(), writer, sink)?)
+}
+
+/// Whether such a sink has exactly these bytes.
+fn drips(alloc: Global, script: &str, puts: usize) -> Result<bool, Fail> {
+    let mut writer = FakeWriter::patient(alloc);
+    let hall = run_dripping(alloc, script, puts, &mut writer)?;
     Ok(has_dripped(&hall, puts))
 }
 

@@ -1,9 +1,8 @@
 //! Each reply is out before the next line is asked for.
-use mml_fakes::labs::PATH_OF_THREE;
+use super::fault_of;
 use mml_fakes::scripts::FIRST_LOOK;
-use mml_hall::run_script;
-use mml_journal::NullSink;
-use mml_lab::read_lab;
+use mml_hall::ScriptFault;
+use std::alloc::Global;
 use std::cell::Cell;
 use std::io;
 use std::io::{Read, Write};
@@ -47,18 +46,21 @@ impl<'a> Write for Counter<'a> {
     }
 }
 
-#[test]
-fn replies_go_out_before_the_next_read(rt: HostRuntime) -> Result<(), Fail> {
+/// What came of a script, and whether one reply more was out at each read.
+fn told(alloc: Global) -> Result<(Option<ScriptFault>, bool), Fail> {
     let replies = Cell::new(0);
     let mut asker = Asker {
         script: FIRST_LOOK,
         replies: &replies,
-        seen: Vec::new(rt.alloc()),
+        seen: Vec::new(alloc),
     };
     let mut counter = Counter { replies: &replies };
-    let lab = read_lab(rt.alloc(), PATH_OF_THREE.as_bytes())?;
-    let fault = run_script(rt.alloc(), lab, &mut asker, &mut counter, NullSink::new()).err();
-    let found = (fault, asker.seen.as_slice());
-    assert_eq!(rt; found, (None, [0, 1, 2, 3, 4].as_slice()));
+    let fault = fault_of(alloc, &mut asker, &mut counter)?;
+    Ok((fault, asker.seen.as_slice() == [0, 1, 2, 3, 4].as_slice()))
+}
+
+#[test]
+fn replies_go_out_before_the_next_read(rt: HostRuntime) -> Result<(), Fail> {
+    assert_eq!(rt; told(rt.alloc())?, (None, true));
     Ok(())
 }

@@ -5,7 +5,7 @@ use mml_fakes::{FakeReader, FakeWriter};
 use mml_hall::{ScriptFault, run_script};
 use mml_journal::NullSink;
 use mml_lab::read_lab;
-use std::alloc::Global;
+use std::alloc::{AllocError, Global};
 use std::test::Fail;
 
 /// What came of a script over a lab's text, and what was written.
@@ -50,60 +50,73 @@ fn each_read_is_made_once(rt: HostRuntime) -> Result<(), Fail> {
     Ok(())
 }
 
-#[test]
-fn nothing_is_read_after_a_bad_line(rt: HostRuntime) -> Result<(), Fail> {
+/// What came of a script with a bad second line, whether the first was answered, and whether the last
+/// is unread.
+fn told_of_bad_line(alloc: Global) -> Result<(Option<ScriptFault>, bool, bool), Fail> {
     let script = b"2 {\"do\":\"bye\"}\n\n2 {\"do\":\"bye\"}\n";
     let mut reader = FakeReader::failing_after(usize::MAX, script.as_slice());
-    let (fault, written) = run(rt.alloc(), PATH_OF_THREE, &mut reader)?;
-    let found = (fault, written.as_slice(), reader.rest);
-    let wanted = (
-        Some(ScriptFault::BadLine(2)),
-        b"2 {\"ok\":\"bye\"}\n".as_slice(),
-        b"2 {\"do\":\"bye\"}\n".as_slice(),
-    );
-    assert_eq!(rt; found, wanted);
+    let (fault, written) = run(alloc, PATH_OF_THREE, &mut reader)?;
+    let is_answered = written.as_slice() == b"2 {\"ok\":\"bye\"}\n".as_slice();
+    let is_left = reader.rest == b"2 {\"do\":\"bye\"}\n".as_slice();
+    Ok((fault, is_answered, is_left))
+}
+
+#[test]
+fn nothing_is_read_after_a_bad_line(rt: HostRuntime) -> Result<(), Fail> {
+    let wanted = (Some(ScriptFault::BadLine(2)), true, true);
+    assert_eq!(rt; told_of_bad_line(rt.alloc())?, wanted);
     Ok(())
 }
 
-/// A hello of the teacher on each connection up to a number, and the reply to each.
-fn hellos(alloc: Global, connections: u8) -> Result<(String, String), Fail> {
-    let mut script = String::new(alloc);
-    let mut replies = String::new(alloc);
+/// The text with each connection up to a number before it, on lines.
+fn on_each(alloc: Global, connections: u8, text: &str) -> Result<String, AllocError> {
+    let mut lines = String::new(alloc);
     for connection in 1..=connections {
-        write!(
-            script,
-            "{connection} {{\"do\":\"hello\",\"key\":\"chalk\",\"name\":\"tess\"}}\n"
-        )?;
-        write!(
-            replies,
-            "{connection} {{\"ok\":\"hello\",\"who\":\"tess\"}}\n"
-        )?;
+        write!(lines, "{connection} {text}\n")?;
     }
-    Ok((script, replies))
+    Ok(lines)
 }
 
-/// Whether the hellos on the connections up to a number have these replies, and then that fault.
+const HELLO: &str = "{\"do\":\"hello\",\"key\":\"chalk\",\"name\":\"tess\"}";
+
+const WELCOME: &str = "{\"ok\":\"hello\",\"who\":\"tess\"}";
+
+/// Whether a script over a lab has these replies, and then that fault.
 fn is_answered(
     alloc: Global,
     lab: &str,
-    connections: u8,
+    script: &str,
     replies: &str,
     fault: Option<ScriptFault>,
 ) -> Result<bool, Fail> {
-    let (script, _) = hellos(alloc, connections)?;
     let mut reader = FakeReader::failing_after(usize::MAX, script.as_bytes());
     let (found, written) = run(alloc, lab, &mut reader)?;
     Ok(found == fault && written.as_slice() == replies.as_bytes())
 }
 
+/// Whether a hello of the teacher on each connection up to a number is answered over a lab of 16 on the
+/// first 16, and then there is that fault.
+fn are_hellos_answered(
+    alloc: Global,
+    connections: u8,
+    fault: Option<ScriptFault>,
+) -> Result<bool, Fail> {
+    let lab = PATH_OF_THREE.replacen(alloc, "sessions = 4", "sessions = 16", 1)?;
+    let script = on_each(alloc, connections, HELLO)?;
+    let replies = on_each(alloc, 16, WELCOME)?;
+    is_answered(
+        alloc,
+        lab.as_str(),
+        script.as_str(),
+        replies.as_str(),
+        fault,
+    )
+}
+
 #[test]
 fn sixteen_connections_are_answered(rt: HostRuntime) -> Result<(), Fail> {
-    let alloc = rt.alloc();
-    let lab = PATH_OF_THREE.replacen(alloc, "sessions = 4", "sessions = 16", 1)?;
-    let (_, replies) = hellos(alloc, 16)?;
-    let all = is_answered(alloc, lab.as_str(), 16, replies.as_str(), None)?;
-    let one_more = Some(ScriptFault::BadLine(17));
-    let over = is_answered(alloc, lab.as_str(), 17, replies.as_str(), one_more)?;
+    let all = are_hellos_answered(rt.alloc(), 16, None)?;
+    let over = are_hellos_answered(rt.alloc(), 17, Some(ScriptFault::BadLine(17)))?;
     assert_eq!(rt; (all, over), (true, true));
     Ok(())
 }

@@ -136,11 +136,19 @@ fn told_of_turns(alloc: Global, hall: &mut Hall<NullSink>) -> (Option<usize>, u6
     (other, hall.board().number(), hall.board().place())
 }
 
+fn hall_of_pair(alloc: Global) -> Result<Hall<NullSink>, Fail> {
+    let lab = read_lab(alloc, PAIR.as_bytes())?;
+    Ok(Hall::new(alloc, lab, NullSink::new())?)
+}
+
+/// The same over a fresh hall of the pair.
+fn told_of_pair(alloc: Global) -> Result<(Option<usize>, u64, u64), Fail> {
+    let mut hall = hall_of_pair(alloc)?;
+    Ok(told_of_turns(alloc, &mut hall))
+}
+
 #[test]
 fn requests_are_answered(rt: HostRuntime) -> Result<(), Fail> {
-    let lab = read_lab(rt.alloc(), PAIR.as_bytes())?;
-    let mut hall = Hall::new(rt.alloc(), lab, NullSink::new())?;
-    let found = told_of_turns(rt.alloc(), &mut hall);
-    assert_eq!(rt; found, (None, 0, 0));
+    assert_eq!(rt; told_of_pair(rt.alloc())?, (None, 0, 0));
     Ok(())
 }
