@@ -2,7 +2,7 @@
 ghost use Rattle.std.specs.Prelude.{◌≡◌};
 ghost use Rattle.mml_window.specs.Houses.{house_of};
 
-use crate::timing::{ROUNDS, median, micros_since, otherwise};
+use crate::timing::{ROUNDS, meant_since, median, otherwise};
 use crate::turns::{asker, command, lab_of};
 use mml_journal::NullSink;
 use mml_window::{Answer, Blank, Brand, Desk, House, Window, open_house};
@@ -17,13 +17,19 @@ pub fn times<R: Clock + Wait>(rt: &R, alloc: Global) -> io::Result<(u64, u64)> {
     let mut early = [0; ROUNDS];
     let mut late = [0; ROUNDS];
     for round in 0..ROUNDS {
-        let blank = open_house(rt, alloc, lab_of(alloc, 64)?, NullSink::new());
-        let blank = blank.map_err(|_| otherwise())?;
-        let times = run_in::<Brand, _>(rt, alloc, blank)?;
+        let times = time_house(rt, alloc)?;
         early[round] = times.0;
         late[round] = times.1;
     }
     Ok((median(early), median(late)))
+}
+
+/// Both times in a house of its own.
+fn time_house<R: Clock + Wait>(rt: &R, alloc: Global) -> io::Result<(u64, u64)> {
+    match open_house(rt, alloc, lab_of(alloc, 64)?, NullSink::new()) {
+        Ok(blank) => run_in::<Brand, _>(rt, alloc, blank),
+        Err(_) => Err(otherwise()),
+    }
 }
 
 fn run_in<H: House, R: Clock + Wait>(
@@ -33,13 +39,36 @@ fn run_in<H: House, R: Clock + Wait>(
 ) -> io::Result<(u64, u64)>
     requires { blank ≡ house_of H.name H.lab }
 {
-    let (desk, mut windows) = blank.start::<H>(alloc).map_err(|_| otherwise())?;
-    let times = match windows.pop() {
-        Some(mut window) => run(rt, alloc, &desk, &mut window),
-        None => Err(otherwise()),
-    };
-    let _ = desk.finish(rt, windows);
+    match blank.start::<H>(alloc) {
+        Ok((desk, windows)) => run_all(rt, alloc, desk, windows),
+        Err(_) => Err(otherwise()),
+    }
+}
+
+/// A run in a house that was just started, and the end of the house.
+fn run_all<H: House, R: Clock + Wait>(
+    rt: &R,
+    alloc: Global,
+    desk: Desk<NullSink, H>,
+    windows: Vec<Window<H>>,
+) -> io::Result<(u64, u64)> {
+    let mut windows = windows;
+    let times = run_through_one(rt, alloc, &desk, &mut windows);
+    let _ = desk.finish(rt, Vec::new(alloc));
     times
+}
+
+/// A run through one of these windows.
+fn run_through_one<H: House, R: Clock + Wait>(
+    rt: &R,
+    alloc: Global,
+    desk: &Desk<NullSink, H>,
+    windows: &mut Vec<Window<H>>,
+) -> io::Result<(u64, u64)> {
+    match windows.pop() {
+        Some(mut window) => run(rt, alloc, desk, &mut window),
+        None => Err(otherwise()),
+    }
 }
 
 fn run<H: House, R: Clock + Wait>(
@@ -65,11 +94,35 @@ fn time<H: House, R: Clock + Wait>(
     to: u64,
 ) -> io::Result<u64> {
     let start = Instant::now(rt)?;
+    let is_granted = grants(rt, alloc, desk, window, from, to);
+    meant_since(start, rt, is_granted)
+}
+
+/// Whether the events at these places are granted.
+fn grants<H: House, R: Wait>(
+    rt: &R,
+    alloc: Global,
+    desk: &Desk<NullSink, H>,
+    window: &mut Window<H>,
+    from: u64,
+    to: u64,
+) -> bool {
     for place in from..to {
-        let answer = desk.ask(rt, alloc, window, asker(place), &command(place));
-        if !matches!(answer, Answer::Granted { .. }) {
-            return Err(otherwise());
+        if !is_granted(rt, alloc, desk, window, place) {
+            return false;
         }
     }
-    micros_since(start, rt)
+    true
+}
+
+/// Whether the event at that place is granted.
+fn is_granted<H: House, R: Wait>(
+    rt: &R,
+    alloc: Global,
+    desk: &Desk<NullSink, H>,
+    window: &mut Window<H>,
+    place: u64,
+) -> bool {
+    let answer = desk.ask(rt, alloc, window, asker(place), &command(place));
+    matches!(answer, Answer::Granted { .. })
 }

@@ -11,29 +11,71 @@ mod timing;
 mod turns;
 mod views;
 
-use crate::lines::Words;
+use crate::lines::{Spent, Words};
 use crate::timing::{a_second, percent};
+use crate::views::{Rates, Work};
 use std::alloc::Global;
 use std::fs::File;
 use std::io::Print;
 use std::net::{Net, TcpListener, TcpStream};
-use std::rt::{Clock, Files};
+use std::rt::{Clock, Env, Files};
 use std::sync::Wait;
 use std::thread::Threads;
 use std::{env, io};
 
-fn main(rt: HostRuntime) -> io::Result<()> {
-    let mut is_asked = false;
-    for word in env::args(&rt)? {
-        is_asked = measure(&rt, rt.alloc(), word.as_str())? || is_asked;
-    }
-    if !is_asked {
-        println!(rt; "say what is to be measured: labs, views, events, lines, sockets")?;
-    }
-    Ok(())
+/// What can be measured.
+#[derive(Clone, Copy)]
+enum Part {
+    Labs,
+    Views,
+    Events,
+    Lines,
+    Sockets,
 }
 
-/// Measures what a word says, and tells whether it is one.
+fn main(rt: HostRuntime) -> io::Result<()> {
+    measure_all(&rt)
+}
+
+/// Measures what the words of the command line say.
+fn measure_all<
+    R: Env
+        + Clock
+        + Files<File = File>
+        + Print
+        + Net<Listener = TcpListener, Stream = TcpStream>
+        + Threads
+        + Wait
+        + Sync
+        + AllocGlobal,
+>(rt: &R) -> io::Result<()> {
+    let mut is_asked = false;
+    for word in env::args(rt)? {
+        if let Some(part) = part_of(word) {
+            measure(rt, rt.alloc(), part)?;
+            is_asked = true;
+        }
+    }
+    if is_asked {
+        Ok(())
+    } else {
+        println!(rt; "say what is to be measured: labs, views, events, lines, sockets")
+    }
+}
+
+/// What a word says is to be measured.
+fn part_of(word: String) -> Option<Part> {
+    match word.as_str() {
+        "labs" => Some(Part::Labs),
+        "views" => Some(Part::Views),
+        "events" => Some(Part::Events),
+        "lines" => Some(Part::Lines),
+        "sockets" => Some(Part::Sockets),
+        _ => None,
+    }
+}
+
+/// Measures a part.
 fn measure<
     R: Clock
         + Files<File = File>
@@ -42,16 +84,14 @@ fn measure<
         + Threads
         + Wait
         + Sync,
->(rt: &R, alloc: Global, word: &str) -> io::Result<bool> {
-    match word {
-        "labs" => measure_labs(rt, alloc)?,
-        "views" => measure_views(rt, alloc)?,
-        "events" => measure_events(rt, alloc)?,
-        "lines" => measure_lines(rt, alloc)?,
-        "sockets" => measure_sockets(rt, alloc)?,
-        _ => return Ok(false),
+>(rt: &R, alloc: Global, part: Part) -> io::Result<()> {
+    match part {
+        Part::Labs => measure_labs(rt, alloc),
+        Part::Views => measure_views(rt, alloc),
+        Part::Events => measure_events(rt, alloc),
+        Part::Lines => measure_lines(rt, alloc),
+        Part::Sockets => measure_sockets(rt, alloc),
     }
-    Ok(true)
 }
 
 fn measure_labs<R: Clock + Print>(rt: &R, alloc: Global) -> io::Result<()> {
@@ -65,17 +105,20 @@ fn measure_views<R: Clock + Files<File = File> + Print + Threads + Wait + Sync>(
     alloc: Global,
 ) -> io::Result<()> {
     let rates = views::medians(rt, alloc)?;
-    let spinning = rates[1];
     for index in 0..views::COUNT {
-        let work = views::WORKS[index];
-        let (shown, grants) = (rates[index].views, rates[index].grants);
-        let ratio = percent(shown, spinning.views);
-        let cost = views::cost_of_grant(spinning, rates[index]);
-        println!(rt;
-            "{work:?}: views of a window in a second {shown}, {ratio} %, grants in a second {grants}, {cost} ns each"
-        )?;
+        print_rates(rt, views::WORKS[index], rates[index], rates[1])?;
     }
     Ok(())
+}
+
+/// Tells the rates beside a work, and those beside a spinner in comparison.
+fn print_rates<R: Print>(rt: &R, work: Work, rates: Rates, spinning: Rates) -> io::Result<()> {
+    let Rates { views, grants } = rates;
+    let ratio = percent(views, spinning.views);
+    let cost = views::cost_of_grant(spinning, rates);
+    println!(rt;
+        "{work:?}: views of a window in a second {views}, {ratio} %, grants in a second {grants}, {cost} ns each"
+    )
 }
 
 fn measure_events<R: Clock + Print + Wait>(rt: &R, alloc: Global) -> io::Result<()> {
@@ -93,23 +136,41 @@ fn measure_lines<R: Clock + Print>(rt: &R, alloc: Global) -> io::Result<()> {
         Words::MoveCloseFault,
         Words::CutLink,
     ] {
-        for nodes in [3, 64, 256] {
-            let times = lines::times(rt, alloc, words, nodes)?;
-            let (json, answer, script) = (times.json, times.answer, times.script);
-            let answer_ratio = percent(answer, json);
-            let script_ratio = percent(script, json);
-            println!(rt;
-                "{words:?}, {nodes} nodes: json {json} ns, answer {answer} ns, {answer_ratio} %, script {script} ns, {script_ratio} %"
-            )?;
-        }
+        measure_words(rt, alloc, words)?;
     }
     Ok(())
+}
+
+/// Measures words over each size of network.
+fn measure_words<R: Clock + Print>(rt: &R, alloc: Global, words: Words) -> io::Result<()> {
+    for nodes in [3, 64, 256] {
+        print_times(rt, words, nodes, lines::times(rt, alloc, words, nodes)?)?;
+    }
+    Ok(())
+}
+
+/// Tells what a line takes.
+fn print_times<R: Print>(rt: &R, words: Words, nodes: u64, times: Spent) -> io::Result<()> {
+    let Spent {
+        json,
+        answer,
+        script,
+    } = times;
+    let answer_ratio = percent(answer, json);
+    let script_ratio = percent(script, json);
+    println!(rt;
+        "{words:?}, {nodes} nodes: json {json} ns, answer {answer} ns, {answer_ratio} %, script {script} ns, {script_ratio} %"
+    )
 }
 
 fn measure_sockets<
     R: Clock + Print + Net<Listener = TcpListener, Stream = TcpStream> + Threads + Wait + Sync,
 >(rt: &R, alloc: Global) -> io::Result<()> {
-    let times = sockets::times(rt, alloc)?;
+    print_requests(rt, sockets::times(rt, alloc)?)
+}
+
+/// Tells how many requests there are in a second.
+fn print_requests<R: Print>(rt: &R, times: sockets::Spent) -> io::Result<()> {
     let count = sockets::REQUESTS.saturating_mul(u64::from(sockets::CONNECTIONS));
     let echo = a_second(count, times.echo);
     let views = a_second(count, times.views);

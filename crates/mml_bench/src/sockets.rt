@@ -6,9 +6,10 @@ mod ends;
 
 use crate::timing::{ROUNDS, median, otherwise};
 use crate::turns::lab_of;
-use asking::{Client, Part, Told, ask_all};
+use asking::{Client, Part, Told, ask_all, connect};
 use echo::echo_all;
 use mml_journal::NullSink;
+use mml_lab::Lab;
 use mml_serving::serve_on;
 use mml_session::NoGate;
 use std::alloc::Global;
@@ -43,36 +44,52 @@ impl Serving {
     }
 }
 
-/// The medians in microseconds, and how many of the mixed requests were denied in the last round.
+/// What the requests of each kind take, in microseconds, and how many of the mixed ones are denied.
 #[derive(Clone, Copy)]
-pub struct Medians {
+pub struct Spent {
     pub echo: u64,
     pub views: u64,
     pub mixed: u64,
     pub denied: u64,
 }
 
-/// What the requests of each kind take, in microseconds: the medians of the rounds.
+/// The medians of the rounds, and how many requests were denied in the last one.
 pub fn times<R: Clock + Net<Listener = TcpListener, Stream = TcpStream> + Threads + Wait + Sync>(
     rt: &R,
     alloc: Global,
-) -> io::Result<Medians> {
+) -> io::Result<Spent> {
     let mut echo = [0; ROUNDS];
     let mut views = [0; ROUNDS];
     let mut mixed = [0; ROUNDS];
     let mut denied = 0;
     for round in 0..ROUNDS {
-        echo[round] = time_shown(rt, alloc, Serving::Echo)?;
-        views[round] = time_shown(rt, alloc, Serving::Views)?;
-        let told = time(rt, alloc, Serving::Mixed)?;
-        mixed[round] = told.micros;
-        denied = told.denied;
+        let times = time_round(rt, alloc)?;
+        echo[round] = times.echo;
+        views[round] = times.views;
+        mixed[round] = times.mixed;
+        denied = times.denied;
     }
-    Ok(Medians {
+    Ok(Spent {
         echo: median(echo),
         views: median(views),
         mixed: median(mixed),
         denied,
+    })
+}
+
+/// What each kind takes, one after the other.
+fn time_round<R: Clock + Net<Listener = TcpListener, Stream = TcpStream> + Threads + Wait + Sync>(
+    rt: &R,
+    alloc: Global,
+) -> io::Result<Spent> {
+    let echo = time_shown(rt, alloc, Serving::Echo)?;
+    let views = time_shown(rt, alloc, Serving::Views)?;
+    let told = time(rt, alloc, Serving::Mixed)?;
+    Ok(Spent {
+        echo,
+        views,
+        mixed: told.micros,
+        denied: told.denied,
     })
 }
 
@@ -97,16 +114,43 @@ fn time<R: Clock + Net<Listener = TcpListener, Stream = TcpStream> + Threads + W
     serving: Serving,
 ) -> io::Result<Told> {
     let listener = TcpListener::bind(rt, SocketAddr::from((Ipv4Addr::LOCALHOST, 0)))?;
-    let address = listener.local_addr()?;
+    let clients = connect_all(rt, alloc, serving, &listener)?;
+    ask_served(rt, alloc, serving, listener, clients)
+}
+
+/// The clients, in the order of their numbers.
+fn connect_all<R: Net<Listener = TcpListener, Stream = TcpStream>>(
+    rt: &R,
+    alloc: Global,
+    serving: Serving,
+    listener: &TcpListener,
+) -> io::Result<Vec<Client>> {
     let mut clients = Vec::new(alloc);
+    push_clients(rt, serving, listener.local_addr()?, &mut clients)?;
+    Ok(clients)
+}
+
+/// Connects all clients.
+fn push_clients<R: Net<Listener = TcpListener, Stream = TcpStream>>(
+    rt: &R,
+    serving: Serving,
+    address: SocketAddr,
+    clients: &mut Vec<Client>,
+) -> io::Result<()> {
     for number in 0..CONNECTIONS {
-        let stream = TcpStream::connect(rt, address)?;
-        stream.set_nodelay(true)?;
-        clients.push(Client {
-            part: serving.part(number),
-            stream,
-        })?;
+        clients.push(connect(rt, serving.part(number), address)?)?;
     }
+    Ok(())
+}
+
+/// Lets the clients ask while they are served.
+fn ask_served<R: Clock + Threads + Wait + Sync>(
+    rt: &R,
+    alloc: Global,
+    serving: Serving,
+    listener: TcpListener,
+    clients: Vec<Client>,
+) -> io::Result<Told> {
     let (is_served, told) = join(
         rt,
         move || -> bool { serve(rt, alloc, serving, listener) },
@@ -122,16 +166,30 @@ fn serve<R: Threads + Wait + Sync>(
     serving: Serving,
     listener: TcpListener,
 ) -> bool {
-    if matches!(serving, Serving::Echo) {
-        return echo_all(rt, alloc, &listener).is_ok();
+    match serving {
+        Serving::Echo => echo_all(rt, alloc, &listener).is_ok(),
+        Serving::Views | Serving::Mixed => serve_program(rt, alloc, listener),
     }
-    let Ok(lab) = lab_of(alloc, 64) else {
-        return false;
-    };
+}
+
+/// Serves all connections by the program.
+fn serve_program<R: Threads + Wait + Sync>(rt: &R, alloc: Global, listener: TcpListener) -> bool {
+    match lab_of(alloc, 64) {
+        Ok(lab) => serve_lab(rt, alloc, lab, listener),
+        Err(_) => false,
+    }
+}
+
+/// Serves all connections over a lab that has sessions for them.
+fn serve_lab<R: Threads + Wait + Sync>(
+    rt: &R,
+    alloc: Global,
+    lab: Lab,
+    listener: TcpListener,
+) -> bool {
     if CONNECTIONS > lab.sessions() {
         return false;
     }
-    let sink = NullSink::new();
     let mut said = Vec::new(alloc);
     serve_on(
         rt,
@@ -139,7 +197,7 @@ fn serve<R: Threads + Wait + Sync>(
         lab,
         listener,
         CONNECTIONS,
-        sink,
+        NullSink::new(),
         &NoGate,
         &mut said,
     )

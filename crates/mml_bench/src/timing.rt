@@ -12,6 +12,16 @@ pub fn micros_since(start: Instant, clock: &impl Clock) -> io::Result<u64> {
     Ok(u64::try_from(spent.as_micros()).unwrap_or(u64::MAX).max(1))
 }
 
+/// How many microseconds have gone by, where what was measured is what was meant.
+pub fn meant_since(start: Instant, clock: &impl Clock, is_meant: bool) -> io::Result<u64> {
+    let spent = micros_since(start, clock)?;
+    if is_meant {
+        Ok(spent)
+    } else {
+        Err(otherwise())
+    }
+}
+
 /// The middle one of the rounds' times.
 pub fn median(mut times: [u64; ROUNDS]) -> u64 {
     times.sort_unstable();

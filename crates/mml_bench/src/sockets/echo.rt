@@ -16,26 +16,48 @@ pub fn echo_all<R: Threads + Sync>(
     alloc: Global,
     listener: &TcpListener,
 ) -> io::Result<()> {
-    let mut streams = Vec::new(alloc);
-    for _ in 0..CONNECTIONS {
-        let (stream, _) = listener.accept()?;
-        stream.set_nodelay(true)?;
-        streams.push(stream)?;
-    }
-    let ends = map_vec(rt, streams, &|stream| echo(stream).is_ok())?;
-    if ends.iter().all(|is_good| *is_good) {
-        Ok(())
-    } else {
+    let streams = accept_all(alloc, listener)?;
+    let ends = map_vec(rt, streams, &|stream| echo(stream))?;
+    if ends.as_slice().contains(&false) {
         Err(otherwise())
+    } else {
+        Ok(())
     }
 }
 
-/// Answers a greeting and all requests.
-fn echo(stream: TcpStream) -> io::Result<()> {
+/// Takes all connections.
+fn accept_all(alloc: Global, listener: &TcpListener) -> io::Result<Vec<TcpStream>> {
+    let mut streams = Vec::new(alloc);
+    push_streams(listener, &mut streams)?;
+    Ok(streams)
+}
+
+/// Takes them one after the other.
+fn push_streams(listener: &TcpListener, streams: &mut Vec<TcpStream>) -> io::Result<()> {
+    for _ in 0..CONNECTIONS {
+        streams.push(accept(listener)?)?;
+    }
+    Ok(())
+}
+
+/// The next connection, whose replies go out at once.
+fn accept(listener: &TcpListener) -> io::Result<TcpStream> {
+    let (stream, _) = listener.accept()?;
+    stream.set_nodelay(true)?;
+    Ok(stream)
+}
+
+/// Answers a greeting and all requests, and tells whether it came to a good end.
+fn echo(stream: TcpStream) -> bool {
+    echo_over(&stream).is_ok()
+}
+
+/// The same over a stream.
+fn echo_over(stream: &TcpStream) -> io::Result<()> {
     let mut held = [0; LINE_ROOM];
     for _ in 0..=REQUESTS {
-        read_line(&stream, &mut held)?;
-        write_line(&stream, REPLY)?;
+        read_line(stream, &mut held)?;
+        write_line(stream, REPLY)?;
     }
     Ok(())
 }

@@ -1,6 +1,6 @@
 //! A stretch of time in which windows are looked through.
 use super::Work;
-use super::working::{ask, serve, spin, write_texts};
+use super::working::{Texts, ask, serve, spin, write_texts};
 use crate::timing::micros_since;
 use mml_journal::Sink;
 use mml_lab::Who;
@@ -20,7 +20,7 @@ pub const STRETCH: u64 = 100_000;
 const CYCLES: u64 = 10;
 
 /// How many microseconds it had, how many views each window showed, and how many events were asked for.
-#[derive(Clone, Copy, Debug)]
+#[derive(Clone, Copy)]
 pub struct Stretch {
     pub micros: u64,
     pub shown: u64,
@@ -34,13 +34,27 @@ struct Marks {
     over: AtomicU64,
 }
 
+impl Marks {
+    fn new() -> Marks {
+        Marks {
+            there: AtomicU64::new(0),
+            over: AtomicU64::new(0),
+        }
+    }
+}
+
 /// Looks through one window, beside nothing.
 pub fn alone<H: House, R: Clock>(rt: &R, window: Window<H>) -> io::Result<Stretch> {
     let mut window = window;
+    look_alone(rt, &mut window)
+}
+
+/// The same through a window that is lent.
+fn look_alone<H: House, R: Clock>(rt: &R, window: &mut Window<H>) -> io::Result<Stretch> {
     let mut shown = 0u64;
     let start = Instant::now(rt)?;
     for _ in 0..u64::MAX {
-        shown = shown.saturating_add(show(&mut window));
+        shown = shown.saturating_add(show(window));
         if micros_since(start, rt)? >= STRETCH {
             break;
         }
@@ -62,41 +76,67 @@ pub fn beside<H: House + Send + Sync, R: Clock + Threads + Wait + Sync, S: Sink 
     working: (Window<H>, Window<H>),
     work: Work,
 ) -> io::Result<Stretch> {
-    let (one, two) = looking;
-    let (three, four) = working;
     let texts = write_texts(alloc)?;
-    let texts_lent = &texts;
-    let marks = Marks {
-        there: AtomicU64::new(0),
-        over: AtomicU64::new(0),
-    };
-    let marks_lent = &marks;
-    let (worked, (first, second)) = join(
+    let marks = Marks::new();
+    look_beside(rt, alloc, desk, looking, working, work, &texts, &marks)
+}
+
+/// The same with what the threads share.
+fn look_beside<H: House + Send + Sync, R: Clock + Threads + Wait + Sync, S: Sink + Send + Drop>(
+    rt: &R,
+    alloc: Global,
+    desk: &Desk<S, H>,
+    looking: (Window<H>, Window<H>),
+    working: (Window<H>, Window<H>),
+    work: Work,
+    texts: &Texts,
+    marks: &Marks,
+) -> io::Result<Stretch> {
+    let (worked, shown) = join(
         rt,
-        move || -> io::Result<(u64, u64)> {
-            arrive(rt, marks_lent);
-            let worked = match work {
-                Work::Alone | Work::Spinning => spin(rt),
-                Work::Asking(pause) => ask(rt, alloc, desk, three, pause),
-                Work::Sessions | Work::Journal => serve(rt, alloc, desk, three, four, texts_lent),
-            };
-            marks_lent.over.store(1, Ordering::SeqCst);
-            worked
-        },
-        move || -> (u64, u64) {
-            join(
-                rt,
-                move || -> u64 { show_on(rt, one, marks_lent) },
-                move || -> u64 { show_on(rt, two, marks_lent) },
-            )
-        },
+        move || -> io::Result<(u64, u64)> { work_on(rt, alloc, desk, working, work, texts, marks) },
+        move || -> u64 { show_on_both(rt, looking, marks) },
     );
     let (micros, asked) = worked?;
     Ok(Stretch {
         micros,
-        shown: first.saturating_add(second) / 2,
+        shown,
         asked,
     })
+}
+
+/// Works until the stretch is over, and tells so.
+fn work_on<H: House, R: Clock + Wait, S: Sink + Drop>(
+    rt: &R,
+    alloc: Global,
+    desk: &Desk<S, H>,
+    windows: (Window<H>, Window<H>),
+    work: Work,
+    texts: &Texts,
+    marks: &Marks,
+) -> io::Result<(u64, u64)> {
+    let (mut one, mut two) = windows;
+    arrive(rt, marks);
+    let worked = do_work(rt, alloc, desk, &mut one, &mut two, work, texts);
+    marks.over.store(1, Ordering::SeqCst);
+    worked
+}
+
+/// Does a work through as many of two windows as it takes.
+fn do_work<H: House, R: Clock + Wait, S: Sink + Drop>(
+    rt: &R,
+    alloc: Global,
+    desk: &Desk<S, H>,
+    one: &mut Window<H>,
+    two: &mut Window<H>,
+    work: Work,
+    texts: &Texts,
+) -> io::Result<(u64, u64)> {
+    match work {
+        Work::Alone | Work::Spinning => spin(rt),
+        Work::Asking(pause) => ask(rt, alloc, desk, one, pause),
+        Work::Sessions | Work::Journal => serve(rt, alloc, desk, one, two, texts),
+    }
 }
 
 /// Waits until all three threads are there.
@@ -109,16 +149,36 @@ fn arrive<R: Wait>(rt: &R, marks: &Marks) {
     }
 }
 
-/// Looks through a window until the stretch is over. Gives how many views showed a node.
+/// Looks through two windows, each in its thread. Gives how many views of each showed a node.
+fn show_on_both<H: House + Send + Sync, R: Threads + Wait + Sync>(
+    rt: &R,
+    windows: (Window<H>, Window<H>),
+    marks: &Marks,
+) -> u64 {
+    let (one, two) = windows;
+    let (first, second) = join(
+        rt,
+        move || -> u64 { show_on(rt, one, marks) },
+        move || -> u64 { show_on(rt, two, marks) },
+    );
+    first.saturating_add(second) / 2
+}
+
+/// Looks through a window, from when all threads are there.
 fn show_on<H: House, R: Wait>(rt: &R, window: Window<H>, marks: &Marks) -> u64 {
     let mut window = window;
-    let mut shown = 0u64;
     arrive(rt, marks);
+    show_until_over(rt, &mut window, marks)
+}
+
+/// Looks through a window until the stretch is over. Gives how many views showed a node.
+fn show_until_over<H: House, R: Wait>(rt: &R, window: &mut Window<H>, marks: &Marks) -> u64 {
+    let mut shown = 0u64;
     for _ in rt.forever() {
         if marks.over.load(Ordering::SeqCst) == 1 {
             return shown;
         }
-        shown = shown.saturating_add(show(&mut window));
+        shown = shown.saturating_add(show(window));
     }
     unreachable!()
 }

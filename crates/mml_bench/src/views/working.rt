@@ -41,18 +41,15 @@ pub fn ask<H: House, R: Clock + Wait, S: Sink + Drop>(
     rt: &R,
     alloc: Global,
     desk: &Desk<S, H>,
-    window: Window<H>,
+    window: &mut Window<H>,
     pause: u64,
 ) -> io::Result<(u64, u64)> {
-    let mut window = window;
     let mut asked = 0u64;
     let start = Instant::now(rt)?;
     for place in 0..EVENTS {
-        desk.ask(rt, alloc, &mut window, asker(place), &command(place));
+        desk.ask(rt, alloc, window, asker(place), &command(place));
         asked = asked.saturating_add(1);
-        if pause > 0 {
-            wait(rt, pause)?;
-        }
+        wait(rt, pause)?;
         if place % 8 == 0 && micros_since(start, rt)? >= STRETCH {
             break;
         }
@@ -60,7 +57,11 @@ pub fn ask<H: House, R: Clock + Wait, S: Sink + Drop>(
     Ok((micros_since(start, rt)?, asked))
 }
 
+/// Waits for so many nanoseconds; for none it doesn't look at the clock.
 fn wait<R: Clock>(rt: &R, nanos: u64) -> io::Result<()> {
+    if nanos == 0 {
+        return Ok(());
+    }
     let start = Instant::now(rt)?;
     for _ in 0..u64::MAX {
         if start.elapsed(rt)?.as_nanos() >= u128::from(nanos) {
@@ -81,38 +82,65 @@ pub struct Texts {
 
 /// What the sessions of a run send.
 pub fn write_texts(alloc: Global) -> Result<Texts, AllocError> {
+    Ok(Texts {
+        moves: write_moves(alloc)?,
+        faults: write_faults(alloc)?,
+    })
+}
+
+/// The student's texts.
+fn write_moves(alloc: Global) -> Result<Vec<String>, AllocError> {
     let mut moves = Vec::new(alloc);
+    push_steps(alloc, &mut moves)?;
+    Ok(moves)
+}
+
+/// The student's text of each step.
+fn push_steps(alloc: Global, moves: &mut Vec<String>) -> Result<(), AllocError> {
     for step in 0..EVENTS / STEP {
         moves.push(moves_of(alloc, step)?)?;
     }
-    let mut faults = String::from_str(
+    Ok(())
+}
+
+/// The teacher's text.
+fn write_faults(alloc: Global) -> Result<String, AllocError> {
+    let mut text = String::from_str(
         alloc,
         "{\"do\":\"hello\",\"key\":\"chalk\",\"name\":\"tess\"}\n{\"do\":\"close\"}\n",
     )?;
+    push_faults(&mut text)?;
+    Ok(text)
+}
+
+/// A fault of each node that moves.
+fn push_faults(text: &mut String) -> Result<(), AllocError> {
     for node in 1..=MOVED {
-        writeln!(
-            faults,
-            r#"{{"do":"fault","m":false,"node":{node},"p":null}}"#
-        )?;
+        writeln!(text, r#"{{"do":"fault","m":false,"node":{node},"p":null}}"#)?;
     }
-    Ok(Texts { moves, faults })
+    Ok(())
 }
 
 /// A greeting, and a move of each node that moves. Each step changes the configuration by its close and
 /// by each fault.
 fn moves_of(alloc: Global, step: u64) -> Result<String, AllocError> {
-    let at = step.saturating_mul(MOVED + 1);
     let mut text = String::from_str(
         alloc,
         "{\"do\":\"hello\",\"key\":\"a-key\",\"name\":\"ana\"}\n",
     )?;
+    push_moves(&mut text, step.saturating_mul(MOVED + 1))?;
+    Ok(text)
+}
+
+/// A move of each node that moves, over that configuration.
+fn push_moves(text: &mut String, at: u64) -> Result<(), AllocError> {
     for node in 1..=MOVED {
         writeln!(
             text,
             r#"{{"at":{at},"do":"move","node":{node},"rule":"seduction"}}"#
         )?;
     }
-    Ok(text)
+    Ok(())
 }
 
 /// Serves a student's session and the teacher's in turn, each for a step.
@@ -120,18 +148,30 @@ pub fn serve<H: House, R: Clock + Wait, S: Sink + Drop>(
     rt: &R,
     alloc: Global,
     desk: &Desk<S, H>,
-    student: Window<H>,
-    teacher: Window<H>,
+    student: &mut Window<H>,
+    teacher: &mut Window<H>,
     texts: &Texts,
 ) -> io::Result<(u64, u64)> {
-    let (mut student, mut teacher) = (student, teacher);
     let mut replies = Vec::new(alloc);
+    serve_steps(rt, alloc, desk, student, teacher, texts, &mut replies)
+}
+
+/// The same, with room for the replies of a step.
+fn serve_steps<H: House, R: Clock + Wait, S: Sink + Drop>(
+    rt: &R,
+    alloc: Global,
+    desk: &Desk<S, H>,
+    student: &mut Window<H>,
+    teacher: &mut Window<H>,
+    texts: &Texts,
+    replies: &mut Vec<u8>,
+) -> io::Result<(u64, u64)> {
     let mut asked = 0u64;
     let start = Instant::now(rt)?;
     for moves in texts.moves.as_slice() {
         replies.clear();
-        serve_text(rt, alloc, desk, &mut student, moves, &mut replies);
-        serve_text(rt, alloc, desk, &mut teacher, &texts.faults, &mut replies);
+        serve_text(rt, alloc, desk, student, moves, replies);
+        serve_text(rt, alloc, desk, teacher, &texts.faults, replies);
         asked = asked.saturating_add(STEP);
         if micros_since(start, rt)? >= STRETCH {
             break;

@@ -1,4 +1,4 @@
-use Rattle.mml_bench.proofs.events.times.Given as goal
+use Rattle.mml_bench.proofs.events.time_house.Given as goal
 
 -- the house that was just opened
 abbrev pub ghosts-run_in : goal.ghosts-run_in
