@@ -10,59 +10,99 @@ use mml_stable::{OpenLink, Report, report};
 use std::alloc::{AllocError, Global};
 use std::test::Fail;
 
+fn push_nodes(text: &mut String, nodes: &[(u64, &str)]) -> Result<(), AllocError> {
+    for (id, registers) in nodes {
+        write!(text, "[[node]]\nid = {id}\nowner = \"s\"\n{registers}\n")?;
+    }
+    Ok(())
+}
+
 /// A lab of these links and nodes, each with what a document says of it beside identifier and owner.
 fn lab_text(alloc: Global, links: &str, nodes: &[(u64, &str)]) -> Result<String, AllocError> {
     let mut text = format!(in alloc;
         "events = 100000\nsessions = 1\nlinks = [{links}]\n[teacher]\nname = \"t\"\nkey = \"t\"\n[[student]]\nname = \"s\"\nkey = \"s\"\n"
     )?;
-    for (id, registers) in nodes {
-        write!(text, "[[node]]\nid = {id}\nowner = \"s\"\n{registers}\n")?;
-    }
+    push_nodes(&mut text, nodes)?;
     Ok(text)
+}
+
+/// A node that points at another, or at none.
+fn push_node(text: &mut String, id: u64, pointer: Option<u64>) -> Result<(), AllocError> {
+    write!(text, "[[node]]\nid = {id}\nowner = \"s\"\n")?;
+    match pointer {
+        Some(other) => write!(text, "p = {other}\n"),
+        None => Ok(()),
+    }
 }
 
 /// Nodes 1 to `count`, without links.
 fn loose(alloc: Global, count: u64) -> Result<String, AllocError> {
     let mut text = lab_text(alloc, "", &[])?;
     for id in 1..=count {
-        write!(text, "[[node]]\nid = {id}\nowner = \"s\"\n")?;
+        push_node(&mut text, id, None)?;
     }
     Ok(text)
+}
+
+/// A lab of these links, and of nodes that a text spells.
+fn linked(alloc: Global, links: &str, nodes: &str) -> Result<String, AllocError> {
+    let mut text = lab_text(alloc, links, &[])?;
+    text.push_str(nodes)?;
+    Ok(text)
+}
+
+fn row_links(alloc: Global, count: u64) -> Result<String, AllocError> {
+    let mut links = String::new(alloc);
+    for id in 1..count {
+        write!(links, "[{id}, {}], ", id + 1)?;
+    }
+    Ok(links)
+}
+
+fn row_nodes(alloc: Global, count: u64) -> Result<String, AllocError> {
+    let mut nodes = String::new(alloc);
+    for id in 1..=count {
+        let next = if id < count { Some(id + 1) } else { None };
+        push_node(&mut nodes, id, next)?;
+    }
+    Ok(nodes)
 }
 
 /// Nodes 1 to `count` in a row, each of which points at the next.
 fn row(alloc: Global, count: u64) -> Result<String, AllocError> {
+    let links = row_links(alloc, count)?;
+    let nodes = row_nodes(alloc, count)?;
+    linked(alloc, links.as_str(), nodes.as_str())
+}
+
+fn star_links(alloc: Global, centre: u64, count: u64) -> Result<String, AllocError> {
     let mut links = String::new(alloc);
-    let mut nodes = String::new(alloc);
     for id in 1..=count {
-        write!(nodes, "[[node]]\nid = {id}\nowner = \"s\"\n")?;
-        if id < count {
-            let next = id + 1;
-            write!(links, "[{id}, {next}], ")?;
-            write!(nodes, "p = {next}\n")?;
+        if id != centre {
+            write!(links, "[{centre}, {id}], ")?;
         }
     }
-    let mut text = lab_text(alloc, links.as_str(), &[])?;
-    text.push_str(nodes.as_str())?;
-    Ok(text)
+    Ok(links)
+}
+
+fn star_nodes(alloc: Global, centre: u64, count: u64, inward: bool) -> Result<String, AllocError> {
+    let mut nodes = String::new(alloc);
+    for id in 1..=count {
+        let pointer = if inward && id != centre {
+            Some(centre)
+        } else {
+            None
+        };
+        push_node(&mut nodes, id, pointer)?;
+    }
+    Ok(nodes)
 }
 
 /// Nodes 1 to `count`, each linked to `centre`; all others point there, if that is wanted.
 fn star(alloc: Global, centre: u64, count: u64, inward: bool) -> Result<String, AllocError> {
-    let mut links = String::new(alloc);
-    let mut nodes = String::new(alloc);
-    for id in 1..=count {
-        write!(nodes, "[[node]]\nid = {id}\nowner = \"s\"\n")?;
-        if id != centre {
-            write!(links, "[{centre}, {id}], ")?;
-            if inward {
-                write!(nodes, "p = {centre}\n")?;
-            }
-        }
-    }
-    let mut text = lab_text(alloc, links.as_str(), &[])?;
-    text.push_str(nodes.as_str())?;
-    Ok(text)
+    let links = star_links(alloc, centre, count)?;
+    let nodes = star_nodes(alloc, centre, count, inward)?;
+    linked(alloc, links.as_str(), nodes.as_str())
 }
 
 fn board_of(alloc: Global, document: &str) -> Result<Board, Fail> {
@@ -73,6 +113,11 @@ fn board_of(alloc: Global, document: &str) -> Result<Board, Fail> {
 /// The lists of a report, by ranks.
 fn told(alloc: Global, report: &Report) -> Result<String, AllocError> {
     let mut text = format!(in alloc; "{} {};", report.at, report.stable)?;
+    push_lists(&mut text, report)?;
+    Ok(text)
+}
+
+fn push_lists(text: &mut String, report: &Report) -> Result<(), AllocError> {
     for (lower, greater) in report.pairs.as_slice() {
         write!(text, " {}={}", lower.index(), greater.index())?;
     }
@@ -86,9 +131,9 @@ fn told(alloc: Global, report: &Report) -> Result<String, AllocError> {
     }
     text.push_str(";")?;
     for link in report.open_links.as_slice() {
-        push_link(&mut text, link)?;
+        push_link(text, link)?;
     }
-    Ok(text)
+    Ok(())
 }
 
 fn push_link(text: &mut String, link: &OpenLink) -> Result<(), AllocError> {
@@ -133,12 +178,23 @@ const SMALL: &[(&str, &[(u64, &str)], &str)] = &[
     ),
 ];
 
+/// Whether a world of these links and nodes is told so.
+fn is_small_told(
+    alloc: Global,
+    links: &str,
+    nodes: &[(u64, &str)],
+    wanted: &str,
+) -> Result<bool, Fail> {
+    let document = lab_text(alloc, links, nodes)?;
+    let told = told_of(alloc, document.as_str())?;
+    Ok(told.as_str() == wanted)
+}
+
 /// How many of the small worlds are told as wanted.
 fn small_told(alloc: Global) -> Result<usize, Fail> {
     let mut right = 0usize;
     for (links, nodes, wanted) in SMALL {
-        let document = lab_text(alloc, links, nodes)?;
-        let is_right = told_of(alloc, document.as_str())?.as_str() == *wanted;
+        let is_right = is_small_told(alloc, links, nodes, wanted)?;
         right = usize::saturating_add(right, usize::from(is_right));
     }
     Ok(right)

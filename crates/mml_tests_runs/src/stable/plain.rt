@@ -10,22 +10,36 @@ use std::alloc::{AllocError, Global};
 pub fn searched(alloc: Global, board: &Board) -> Result<String, AllocError> {
     let is_stable = board.privileged_count() == 0;
     let mut text = format!(in alloc; "{} {is_stable};", board.number())?;
-    push_pairs(&mut text, board)?;
+    push_lists(&mut text, board)?;
+    Ok(text)
+}
+
+fn push_lists(text: &mut String, board: &Board) -> Result<(), AllocError> {
+    push_pairs(text, board)?;
     text.push_str(";")?;
+    push_free(text, board)?;
+    text.push_str(";")?;
+    push_privileged(text, board)?;
+    text.push_str(";")?;
+    push_links(text, board)
+}
+
+fn push_free(text: &mut String, board: &Board) -> Result<(), AllocError> {
     for index in 0..board.size() {
         if is_free(board, Rank::at(index)) {
             write!(text, " {index}")?;
         }
     }
-    text.push_str(";")?;
+    Ok(())
+}
+
+fn push_privileged(text: &mut String, board: &Board) -> Result<(), AllocError> {
     for index in 0..board.size() {
         if let Some(kind) = board.enabled(Rank::at(index)) {
             write!(text, " {index} {kind:?}")?;
         }
     }
-    text.push_str(";")?;
-    push_links(&mut text, board)?;
-    Ok(text)
+    Ok(())
 }
 
 fn is_pair(board: &Board, a: Rank, b: Rank) -> bool
