@@ -120,16 +120,19 @@ pub record RawSpec : Type 0 where
   pub nodes : List NodeSpec
   pub links : List (ℤ × ℤ)
 
+-- the name and key under `teacher`
 unfoldable pub teacher_of : Members → Result Account LabFault
 teacher_of members = do
   table ← needed key.Teacher (codes "teacher") as_table members
   account_in key.TeacherName key.TeacherKey table
 
+-- the names and keys under `student`, in order
 unfoldable pub students_of : Members → Result (List Account) LabFault
 students_of members = do
   items ← needed key.Student (codes "student") as_array members
   each student_of items
 
+-- the nodes under `node`, in order
 unfoldable pub nodes_of : Members → Result (List NodeSpec) LabFault
 nodes_of members = do
   items ← needed key.Node (codes "node") as_array members

@@ -325,6 +325,7 @@ fn links_at(alloc: Global, table: &Table) -> Result<Vec<(i64, i64)>, LabFault>
     }
 }
 
+/// The name and key under `teacher`.
 #[tactic(auto, unfolding(crate::specs::Shape::teacher_of))]
 fn teacher_at(alloc: Global, table: &Table) -> Result<Account, LabFault>
     ensures { Gives is_memory account_view result (teacher_of (table_view table.now)) }
@@ -333,6 +334,7 @@ fn teacher_at(alloc: Global, table: &Table) -> Result<Account, LabFault>
     account_at(alloc, teacher, Key::TeacherName, Key::TeacherKey)
 }
 
+/// The names and keys under `student`, in order.
 #[tactic(auto, unfolding(crate::specs::Shape::students_of))]
 fn students_at(alloc: Global, table: &Table) -> Result<Vec<Account>, LabFault>
     ensures { Gives is_memory (λ v. map account_view v.items) result
@@ -342,6 +344,7 @@ fn students_at(alloc: Global, table: &Table) -> Result<Vec<Account>, LabFault>
     students(alloc, list)
 }
 
+/// The nodes under `node`, in order.
 #[tactic(auto, unfolding(crate::specs::Shape::nodes_of))]
 fn nodes_at(alloc: Global, table: &Table) -> Result<Vec<RawNode>, LabFault>
     ensures { Gives is_memory (λ v. map node_view v.items) result
