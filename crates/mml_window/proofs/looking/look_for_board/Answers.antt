@@ -1,5 +1,4 @@
-use Rattle.std.proofs.Common.{◌≡◌, ap, ◌∙◌, sym}
-use Rattle.left_right.specs.Sides.{view}
+use Rattle.std.proofs.Common.{ap, ◌∙◌, sym}
 use Rattle.mml_window.proofs.PrefixLemmas.{prefix_trans}
 use Rattle.mml_window.proofs.RuleLemmas.{enters}
 use Rattle.mml_window.proofs.looking.look_for_board.Goals as goal
