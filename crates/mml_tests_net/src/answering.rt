@@ -39,17 +39,25 @@ fn size_to<W: Write>(alloc: Global, writer: &mut W) -> Result<Option<Fault>, Fai
     Ok(write_size(&lab, writer).err())
 }
 
+fn is_size_told(alloc: Global) -> Result<bool, Fail> {
+    let mut out = Vec::new(alloc);
+    let fault = size_to(alloc, &mut out)?;
+    let wanted = b"ok: 3 nodes, 2 links, 3 students\n".as_slice();
+    Ok(fault.is_none() && out.as_slice() == wanted)
+}
+
+// Whether a writer's fault is told that fails after so many writes.
+fn fails_at_write(alloc: Global, writes: usize) -> Result<bool, Fail> {
+    let mut writer = failing_after(alloc, writes, 1);
+    Ok(size_to(alloc, &mut writer)? == Some(Fault::Write))
+}
+
 #[test]
 fn the_size_of_a_lab_is_told(rt: HostRuntime) -> Result<(), Fail> {
-    let mut out = Vec::new(rt.alloc());
-    assert_eq!(rt; size_to(rt.alloc(), &mut out)?, None);
-    let wanted = b"ok: 3 nodes, 2 links, 3 students\n".as_slice();
-    assert_eq!(rt; out.as_slice(), wanted);
-    for writes in 0..2 {
-        let mut writer = failing_after(rt.alloc(), writes, 1);
-        let fault = size_to(rt.alloc(), &mut writer)?;
-        assert_eq!(rt; fault, Some(Fault::Write), "{writes} writes");
-    }
+    let is_told = is_size_told(rt.alloc())?;
+    let first = fails_at_write(rt.alloc(), 0)?;
+    let second = fails_at_write(rt.alloc(), 1)?;
+    assert_eq!(rt; (is_told, first, second), (true, true, true));
     Ok(())
 }
 
@@ -69,78 +77,98 @@ fn is_answered_so(
 #[test]
 fn replies_go_out_in_one_write(rt: HostRuntime) -> Result<(), Fail> {
     let alloc = rt.alloc();
-    assert!(rt; is_answered_so(alloc, "", "", None)?);
-    assert!(rt; is_answered_so(alloc, FIRST_LOOK, FIRST_LOOK_REPLIES, None)?);
+    let empty = is_answered_so(alloc, "", "", None)?;
+    let look = is_answered_so(alloc, FIRST_LOOK, FIRST_LOOK_REPLIES, None)?;
     let fault = Some(Fault::BadLine(2));
-    assert!(rt; is_answered_so(alloc, BAD_SECOND_LINE, "1 {\"ok\":\"bye\"}\n", fault)?);
+    let bad = is_answered_so(alloc, BAD_SECOND_LINE, "1 {\"ok\":\"bye\"}\n", fault)?;
+    assert_eq!(rt; (empty, look, bad), (true, true, true));
     Ok(())
 }
 
-// What is told where a writer fails, and whether it got anything.
-fn fault_at(
+// Whether it is told that a writer fails after so many writes or flushes, and the writer got anything
+// or nothing, as is wanted.
+fn is_failure_told(
     alloc: Global,
     script: &str,
-    mut writer: FakeWriter,
-) -> Result<(Option<Fault>, bool), Fail> {
+    writes: usize,
+    flushes: usize,
+    is_some: bool,
+) -> Result<bool, Fail> {
+    let mut writer = failing_after(alloc, writes, flushes);
     let fault = fault_of(alloc, script.as_bytes(), &mut writer)?;
-    Ok((fault, !writer.taken.is_empty()))
+    Ok(fault == Some(Fault::Write) && writer.taken.is_empty() != is_some)
+}
+
+// A script, after how many writes and flushes a writer fails, and whether it got anything.
+const FAILING: [(&str, usize, usize, bool); 4] = [
+    (FIRST_LOOK, 0, 2, false),
+    (FIRST_LOOK, 1, 0, false),
+    (FIRST_LOOK, 1, 1, true),
+    (BAD_SECOND_LINE, 1, 1, true),
+];
+
+// The first row of these of which something else is told.
+fn first_other(alloc: Global) -> Result<Option<usize>, Fail> {
+    for (row, (script, writes, flushes, is_some)) in FAILING.iter().enumerate() {
+        if !is_failure_told(alloc, script, *writes, *flushes, *is_some)? {
+            return Ok(Some(row));
+        }
+    }
+    Ok(None)
 }
 
 // A write or a flush that fails is told in the place of a good end and of the fault that would be told
 // after it.
 #[test]
 fn failures_of_a_writer_are_told(rt: HostRuntime) -> Result<(), Fail> {
-    let alloc = rt.alloc();
-    for (script, writes, flushes, is_some) in [
-        (FIRST_LOOK, 0, 2, false),
-        (FIRST_LOOK, 1, 0, false),
-        (FIRST_LOOK, 1, 1, true),
-        (BAD_SECOND_LINE, 1, 1, true),
-    ] {
-        let found = fault_at(alloc, script, failing_after(alloc, writes, flushes))?;
-        assert_eq!(rt; found, (Some(Fault::Write), is_some));
-    }
+    assert_eq!(rt; first_other(rt.alloc())?, None);
     Ok(())
 }
 
-// A thousand lines and their replies.
-fn long_script(alloc: Global) -> Result<(String, String), Fail> {
-    let mut script = String::new(alloc);
-    let mut replies = String::new(alloc);
-    for _ in 0..1000 {
-        script.push_str("1 {\"do\":\"bye\"}\n")?;
-        replies.push_str("1 {\"ok\":\"bye\"}\n")?;
-    }
-    Ok((script, replies))
+// Whether it is told that the second write of the replies to a thousand byes fails.
+fn is_second_write_told(alloc: Global) -> Result<bool, Fail> {
+    let script = "1 {\"do\":\"bye\"}\n".repeat(alloc, 1000)?;
+    is_failure_told(alloc, script.as_str(), 1, 100, true)
+}
+
+// Whether they are all answered where no write fails.
+fn are_byes_answered(alloc: Global) -> Result<bool, Fail> {
+    let script = "1 {\"do\":\"bye\"}\n".repeat(alloc, 1000)?;
+    let replies = "1 {\"ok\":\"bye\"}\n".repeat(alloc, 1000)?;
+    let mut writer = failing_after(alloc, 100, 100);
+    let fault = fault_of(alloc, script.as_bytes(), &mut writer)?;
+    Ok(fault.is_none() && writer.taken.as_slice() == replies.as_bytes())
 }
 
 // More replies than are held go out in several writes, of which the second may fail.
 #[test]
 fn a_failed_write_of_a_long_script_is_told(rt: HostRuntime) -> Result<(), Fail> {
-    let alloc = rt.alloc();
-    let (script, replies) = long_script(alloc)?;
-    let found = fault_at(alloc, script.as_str(), failing_after(alloc, 1, 100))?;
-    assert_eq!(rt; found, (Some(Fault::Write), true));
-    let mut writer = failing_after(alloc, 100, 100);
-    assert_eq!(rt; fault_of(alloc, script.as_bytes(), &mut writer)?, None);
-    assert_eq!(rt; writer.taken.as_slice(), replies.as_bytes());
+    let failed = is_second_write_told(rt.alloc())?;
+    let whole = are_byes_answered(rt.alloc())?;
+    assert_eq!(rt; (failed, whole), (true, true));
     Ok(())
+}
+
+fn size_fault_of_memory(alloc: Global) -> Result<Option<Fault>, Fail> {
+    let mut writer = FakeWriter::failing_with(ErrorKind::OutOfMemory, alloc);
+    size_to(alloc, &mut writer)
 }
 
 // Want of memory that an error carries is told as such, wherever it comes from.
 #[test]
 fn want_of_memory_is_told(rt: HostRuntime) -> Result<(), Fail> {
-    let alloc = rt.alloc();
-    let writer = || FakeWriter::failing_with(ErrorKind::OutOfMemory, alloc);
-    assert_eq!(rt; size_to(alloc, &mut writer())?, Some(Fault::Memory));
+    assert_eq!(rt; size_fault_of_memory(rt.alloc())?, Some(Fault::Memory));
     Ok(())
+}
+
+fn fault_of_read(alloc: Global) -> Result<Option<Fault>, Fail> {
+    let reader = FakeReader::failing_with(ErrorKind::Other);
+    let mut out = Vec::new(alloc);
+    fault_of(alloc, reader, &mut out)
 }
 
 #[test]
 fn a_failed_read_is_told(rt: HostRuntime) -> Result<(), Fail> {
-    let reader = FakeReader::failing_with(ErrorKind::Other);
-    let mut out = Vec::new(rt.alloc());
-    let fault = fault_of(rt.alloc(), reader, &mut out)?;
-    assert_eq!(rt; fault, Some(Fault::ReadScript));
+    assert_eq!(rt; fault_of_read(rt.alloc())?, Some(Fault::ReadScript));
     Ok(())
 }

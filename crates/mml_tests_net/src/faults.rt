@@ -55,13 +55,17 @@ const FAILED: &[Row] = &[
     (Fault::Memory, "5 out of memory"),
 ];
 
+fn is_told(alloc: Global, fault: &Fault, wanted: &str) -> Result<bool, AllocError> {
+    let status = fault.status();
+    let told = format!(in alloc; "{status} {fault}")?;
+    Ok(told.as_str() == wanted)
+}
+
 // The first fault with another status or line.
-fn first_other(alloc: Global, rows: &[Row]) -> Result<Option<String>, AllocError> {
+fn first_other(alloc: Global, rows: &[Row]) -> Result<Option<&'static str>, AllocError> {
     for (fault, wanted) in rows {
-        let status = fault.status();
-        let told = format!(in alloc; "{status} {fault}")?;
-        if told.as_str() != *wanted {
-            return Ok(Some(told));
+        if !is_told(alloc, fault, wanted)? {
+            return Ok(Some(*wanted));
         }
     }
     Ok(None)
@@ -69,8 +73,9 @@ fn first_other(alloc: Global, rows: &[Row]) -> Result<Option<String>, AllocError
 
 #[test]
 fn faults_have_lines_and_statuses(rt: HostRuntime) -> Result<(), Fail> {
-    assert_eq!(rt; first_other(rt.alloc(), REFUSED)?, None);
-    assert_eq!(rt; first_other(rt.alloc(), FAILED)?, None);
+    let refused = first_other(rt.alloc(), REFUSED)?;
+    let failed = first_other(rt.alloc(), FAILED)?;
+    assert_eq!(rt; (refused, failed), (None, None));
     Ok(())
 }
 

@@ -1,8 +1,7 @@
 //! What `check` says of lab files: the size of a lab, or the line of its first fault.
-use mml_lab::read_lab;
+use mml_lab::{Lab, read_lab};
 use mml_program::{BUILT_IN, Fault, write_size};
-use std::alloc::Global;
-use std::fmt::Write;
+use std::alloc::{AllocError, Global};
 use std::test::Fail;
 
 const SIZE: &str = "ok: 3 nodes, 2 links, 3 students";
@@ -14,33 +13,45 @@ const TEACHER: &str = "[teacher]\nname = \"tess\"\nkey = \"chalk\"\n";
 // A text of the built-in lab, the one in its place, and what is said then.
 type Row = (&'static str, &'static str, &'static str);
 
-// What is said of a file with these bytes.
-fn said_of(alloc: Global, bytes: &[u8]) -> Result<String, Fail> {
+fn is_size(alloc: Global, lab: &Lab, line: &str) -> Result<bool, Fail> {
     let mut out = Vec::new(alloc);
+    write_size(lab, &mut out)?;
+    Ok(out.strip_suffix(b"\n") == Some(line.as_bytes()))
+}
+
+fn is_refusal(alloc: Global, fault: &Fault, line: &str) -> Result<bool, AllocError> {
+    let told = fault.to_string(alloc)?;
+    Ok(fault.status() == 2 && told.as_str() == line)
+}
+
+// Whether that is said of a file with these bytes: its size, or a refusal with status 2.
+fn is_said(alloc: Global, bytes: &[u8], line: &str) -> Result<bool, Fail> {
     match read_lab(alloc, bytes) {
-        Ok(lab) => write_size(&lab, &mut out)?,
-        Err(fault) => {
-            let fault = Fault::from(fault);
-            if fault.status() != 2 {
-                return Err(Fail::from("a lab is refused with status 2"));
-            }
-            return Ok(fault.to_string(alloc)?);
-        }
+        Ok(lab) => is_size(alloc, &lab, line),
+        Err(fault) => Ok(is_refusal(alloc, &Fault::from(fault), line)?),
     }
-    let line = String::from_utf8(out).map_err(|_| "a text")?;
-    Ok(line.trim_end().to_string(alloc)?)
+}
+
+// Whether that is said of the built-in lab with a new text in the place of one that it has.
+fn is_said_with(alloc: Global, old: &str, new: &str, line: &str) -> Result<bool, Fail> {
+    let text = BUILT_IN.replacen(alloc, old, new, 1)?;
+    Ok(BUILT_IN.contains(old) && is_said(alloc, text.as_bytes(), line)?)
 }
 
 // The first new text of the built-in lab, in the place of one that it has, of which something else is
 // said.
 fn first_other(alloc: Global, rows: &[Row]) -> Result<Option<&'static str>, Fail> {
     for (old, new, line) in rows {
-        let text = BUILT_IN.replacen(alloc, *old, new, 1)?;
-        if !BUILT_IN.contains(*old) || said_of(alloc, text.as_bytes())?.as_str() != *line {
+        if !is_said_with(alloc, old, new, line)? {
             return Ok(Some(*new));
         }
     }
     Ok(None)
+}
+
+fn is_said_behind(alloc: Global, head: &str, rest: &str, line: &str) -> Result<bool, Fail> {
+    let text = format!(in alloc; "{head}{rest}\n")?;
+    is_said(alloc, text.as_bytes(), line)
 }
 
 // The first text, behind a head, of which something else is said.
@@ -50,8 +61,7 @@ fn first_text_other(
     rows: &[(&'static str, &str)],
 ) -> Result<Option<&'static str>, Fail> {
     for (rest, line) in rows {
-        let text = format!(in alloc; "{head}{rest}\n")?;
-        if said_of(alloc, text.as_bytes())?.as_str() != *line {
+        if !is_said_behind(alloc, head, rest, line)? {
             return Ok(Some(*rest));
         }
     }
@@ -502,37 +512,59 @@ const MENDS: [(&str, &str, &str); 14] = [
     ("lab: sessions is out of its limits", "17", "16"),
 ];
 
-// The first line of the mends in whose place another is told, or what is told when all are made.
-fn told_of_mends(alloc: Global) -> Result<String, Fail> {
-    let mut text = ALL_WRONG.to_string(alloc)?;
+const ALL_MENDED: &str = "ok: 3 nodes, 2 links, 1 students";
+
+// Whether that is said of a text, and what mends it stands there.
+fn is_due(alloc: Global, text: &str, line: &str, old: &str) -> Result<bool, Fail> {
+    Ok(text.contains(old) && is_said(alloc, text.as_bytes(), line)?)
+}
+
+// Makes the mends in turn, up to the first line in whose place another is told.
+fn first_other_mend(alloc: Global, text: &mut String) -> Result<Option<&'static str>, Fail> {
     for (line, old, new) in MENDS {
-        let said = said_of(alloc, text.as_bytes())?;
-        if said.as_str() != line || !text.contains(old) {
-            return Ok(said);
+        if !is_due(alloc, text.as_str(), line, old)? {
+            return Ok(Some(line));
         }
-        text = text.replacen(alloc, old, new, 1)?;
+        *text = text.replacen(alloc, old, new, 1)?;
     }
-    said_of(alloc, text.as_bytes())
+    Ok(None)
+}
+
+// That line, and whether the lab is told to be good when all mends are made.
+fn told_of_mends(alloc: Global) -> Result<(Option<&'static str>, bool), Fail> {
+    let mut text = ALL_WRONG.to_string(alloc)?;
+    let other = first_other_mend(alloc, &mut text)?;
+    Ok((other, is_said(alloc, text.as_bytes(), ALL_MENDED)?))
 }
 
 #[test]
 fn faults_are_told_in_their_order(rt: HostRuntime) -> Result<(), Fail> {
-    let told = told_of_mends(rt.alloc())?;
-    assert_eq!(rt; told.as_str(), "ok: 3 nodes, 2 links, 1 students");
+    assert_eq!(rt; told_of_mends(rt.alloc())?, (None, true));
     Ok(())
 }
 
-// A lab with that many students and nodes, all of them the first student's.
-fn of_size(alloc: Global, students: usize, nodes: usize) -> Result<String, Fail> {
-    let mut text = "events = 1\nsessions = 1\n[teacher]\nname = \"t\"\nkey = \"k\"\n".to_string(
-        alloc,
-    )?;
-    for student in 0..students {
+fn push_students(text: &mut String, count: usize) -> Result<(), AllocError> {
+    for student in 0..count {
         write!(text, "[[student]]\nname = \"s{student}\"\nkey = \"k\"\n")?;
     }
-    for node in 1..=nodes {
+    Ok(())
+}
+
+// Nodes of the first student.
+fn push_nodes(text: &mut String, count: usize) -> Result<(), AllocError> {
+    for node in 1..=count {
         write!(text, "[[node]]\nid = {node}\nowner = \"s0\"\n")?;
     }
+    Ok(())
+}
+
+const HEAD: &str = "events = 1\nsessions = 1\n[teacher]\nname = \"t\"\nkey = \"k\"\n";
+
+// A lab with that many students and nodes.
+fn of_size(alloc: Global, students: usize, nodes: usize) -> Result<String, AllocError> {
+    let mut text = HEAD.to_string(alloc)?;
+    push_students(&mut text, students)?;
+    push_nodes(&mut text, nodes)?;
     Ok(text)
 }
 
@@ -545,11 +577,15 @@ const SIZES: &[(usize, usize, &str)] = &[
     (0, 1, "lab: student is missing"),
 ];
 
+fn is_size_told(alloc: Global, students: usize, nodes: usize, line: &str) -> Result<bool, Fail> {
+    let text = of_size(alloc, students, nodes)?;
+    is_said(alloc, text.as_bytes(), line)
+}
+
 // The first number of students, and of nodes, of which something else is said.
 fn first_size_other(alloc: Global) -> Result<Option<(usize, usize)>, Fail> {
     for (students, nodes, line) in SIZES {
-        let text = of_size(alloc, *students, *nodes)?;
-        if said_of(alloc, text.as_bytes())?.as_str() != *line {
+        if !is_size_told(alloc, *students, *nodes, line)? {
             return Ok(Some((*students, *nodes)));
         }
     }

@@ -3,14 +3,24 @@ use mml_program::{Fault, Task, read_words};
 use std::alloc::Global;
 use std::test::Fail;
 
+fn push_word(alloc: Global, words: &mut Vec<String>, word: &str) -> Result<(), Fail> {
+    let word = word.to_string(alloc)?;
+    Ok(words.push(word)?)
+}
+
+fn push_words(alloc: Global, words: &mut Vec<String>, line: &str) -> Result<(), Fail> {
+    for word in line.split(' ') {
+        push_word(alloc, words, word)?;
+    }
+    Ok(())
+}
+
 // The words of a line, the program's name first; two spaces have an empty word between them.
 fn given(alloc: Global, line: &str) -> Result<Vec<String>, Fail> {
     let mut words = Vec::new(alloc);
-    words.push("mml_server".to_string(alloc)?)?;
+    push_word(alloc, &mut words, "mml_server")?;
     if !line.is_empty() {
-        for word in line.split(' ') {
-            words.push(word.to_string(alloc)?)?;
-        }
+        push_words(alloc, &mut words, line)?;
     }
     Ok(words)
 }
@@ -58,18 +68,23 @@ const FORMS: &[(&str, &str)] = &[
     ),
 ];
 
-// What a line asks for.
-fn asked(alloc: Global, line: &str) -> Result<String, Fail> {
-    let words = given(alloc, line)?;
-    let task = read_words(alloc, words.as_slice())?;
+// What words ask for.
+fn asked(alloc: Global, words: &[String]) -> Result<String, Fail> {
+    let task = read_words(alloc, words)?;
     Ok(format!(in alloc; "{task:?}")?)
+}
+
+// Whether that is what a line asks for.
+fn is_asked(alloc: Global, line: &str, wanted: &str) -> Result<bool, Fail> {
+    let words = given(alloc, line)?;
+    let found = asked(alloc, words.as_slice())?;
+    Ok(found.as_str() == wanted)
 }
 
 // The first line that asks for something else.
 fn first_other(alloc: Global, rows: &[(&'static str, &str)]) -> Result<Option<&'static str>, Fail> {
     for (line, wanted) in rows {
-        let found = asked(alloc, line)?;
-        if found.as_str() != *wanted {
+        if !is_asked(alloc, line, wanted)? {
             return Ok(Some(*line));
         }
     }
@@ -175,11 +190,15 @@ const NOT_UNDERSTOOD: &[&str] = &[
     "Serve a 1 1",
 ];
 
+fn is_refused(alloc: Global, line: &str) -> Result<bool, Fail> {
+    let words = given(alloc, line)?;
+    Ok(read_words(alloc, words.as_slice()) == Err(Fault::CommandLine))
+}
+
 // The first line that is understood.
 fn first_understood(alloc: Global) -> Result<Option<&'static str>, Fail> {
     for line in NOT_UNDERSTOOD {
-        let words = given(alloc, line)?;
-        if read_words(alloc, words.as_slice()) != Err(Fault::CommandLine) {
+        if !is_refused(alloc, line)? {
             return Ok(Some(*line));
         }
     }
