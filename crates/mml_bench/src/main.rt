@@ -51,7 +51,7 @@ fn measure_all<
 >(rt: &R) -> io::Result<()> {
     let mut is_asked = false;
     for word in env::args(rt)? {
-        if let Some(part) = part_of(word) {
+        if let Some(part) = part_of(word.as_str()) {
             measure(rt, rt.alloc(), part)?;
             is_asked = true;
         }
@@ -64,8 +64,8 @@ fn measure_all<
 }
 
 /// What a word says is to be measured.
-fn part_of(word: String) -> Option<Part> {
-    match word.as_str() {
+fn part_of(word: &str) -> Option<Part> {
+    match word {
         "labs" => Some(Part::Labs),
         "views" => Some(Part::Views),
         "events" => Some(Part::Events),

@@ -36,11 +36,19 @@ enum Serving {
 impl Serving {
     /// What the client of that number asks: of eight one moves, one closes, and the others look on.
     fn part(self, number: u8) -> Part {
-        match (self, number) {
-            (Serving::Mixed, 0) => Part::Mover,
-            (Serving::Mixed, 1) => Part::Closer,
-            _ => Part::Viewer,
+        match self {
+            Serving::Mixed => mixed_part(number),
+            Serving::Echo | Serving::Views => Part::Viewer,
         }
+    }
+}
+
+/// What the client of that number asks where the requests are mixed.
+fn mixed_part(number: u8) -> Part {
+    match number {
+        0 => Part::Mover,
+        1 => Part::Closer,
+        _ => Part::Viewer,
     }
 }
 

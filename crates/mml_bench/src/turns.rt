@@ -12,7 +12,10 @@ use std::io;
 /// A lab of a cycle of so many nodes, with the most events and sessions.
 pub fn lab_of(alloc: Global, nodes: u64) -> io::Result<Lab> {
     let file = cycle(alloc, nodes, 100_000, 16)?;
-    read_lab(alloc, file.as_bytes()).map_err(|_| otherwise())
+    match read_lab(alloc, file.as_bytes()) {
+        Ok(lab) => Ok(lab),
+        Err(_) => Err(otherwise()),
+    }
 }
 
 /// Who asks for the event at that place, counted from 0.
