@@ -8,7 +8,7 @@ use json::Writer;
 use std::alloc::{AllocError, Global};
 
 /// What a key of a flat object holds.
-#[derive(Clone, Copy, Debug)]
+#[derive(Clone, Copy)]
 pub(crate) enum Field<'a> {
     Number(u64),
     /// A word that the protocol fixes.

@@ -1,7 +1,8 @@
 ghost use Rattle.std.specs.Prelude.{ok_or};
 ghost use Rattle.mml_ids.specs.Gives.{Gives};
 ghost use Rattle.serde_json.specs.View.{view};
-ghost use Rattle.mml_codec.specs.Requests.{number_at, text_at, truth_at, register_at, asked_at, hello_of, move_of, fault_of, by_word, request};
+ghost use Rattle.mml_codec.specs.Requests.{number_at, text_at, truth_at, register_at, asked_at, node_of, ends_of, hello_of, move_of, fault_of, by_word, request};
+ghost use Rattle.mml_policy.specs.declared.command.Command.TheVariants as command;
 ghost use Rattle.mml_codec.specs.Lines.{is_memory, request_in};
 
 use crate::request::{LineFault, Request};
@@ -44,31 +45,14 @@ fn by_word(alloc: Global, word: &str, value: &Value) -> Result<Request, LineFaul
     match word {
         "hello" => hello_of(alloc, value),
         "bye" => Ok(Request::Bye),
-        "see" => {
-            let node = number_at(value, "node")?;
-            Ok(Request::Do(Command::See { node }))
-        }
-        "look" => {
-            let node = number_at(value, "node")?;
-            Ok(Request::Do(Command::Look { node }))
-        }
+        "see" => see_of(value),
+        "look" => look_of(value),
         "move" => move_of(value),
         "close" => Ok(Request::Do(Command::Close)),
         "fault" => fault_of(value),
-        "link" => {
-            let a = number_at(value, "a")?;
-            let b = number_at(value, "b")?;
-            Ok(Request::Do(Command::Link { a, b }))
-        }
-        "cut" => {
-            let a = number_at(value, "a")?;
-            let b = number_at(value, "b")?;
-            Ok(Request::Do(Command::Cut { a, b }))
-        }
-        "release" => {
-            let node = number_at(value, "node")?;
-            Ok(Request::Do(Command::Release { node }))
-        }
+        "link" => link_of(value),
+        "cut" => cut_of(value),
+        "release" => release_of(value),
         "report" => Ok(Request::Do(Command::Report)),
         _ => Err(LineFault::Malformed),
     }
@@ -82,6 +66,48 @@ fn hello_of(alloc: Global, value: &Value) -> Result<Request, LineFault>
     let name = word_at(alloc, value, "name")?;
     let key = word_at(alloc, value, "key")?;
     Ok(Request::Hello { name, key })
+}
+
+fn see_of(value: &Value) -> Result<Request, LineFault>
+    ensures { Gives is_memory (λ r. r) result
+        (ok_or (node_of command.See (view value.now)) LineFault.Malformed) }
+{
+    let node = number_at(value, "node")?;
+    Ok(Request::Do(Command::See { node }))
+}
+
+fn look_of(value: &Value) -> Result<Request, LineFault>
+    ensures { Gives is_memory (λ r. r) result
+        (ok_or (node_of command.Look (view value.now)) LineFault.Malformed) }
+{
+    let node = number_at(value, "node")?;
+    Ok(Request::Do(Command::Look { node }))
+}
+
+fn link_of(value: &Value) -> Result<Request, LineFault>
+    ensures { Gives is_memory (λ r. r) result
+        (ok_or (ends_of command.Link (view value.now)) LineFault.Malformed) }
+{
+    let a = number_at(value, "a")?;
+    let b = number_at(value, "b")?;
+    Ok(Request::Do(Command::Link { a, b }))
+}
+
+fn cut_of(value: &Value) -> Result<Request, LineFault>
+    ensures { Gives is_memory (λ r. r) result
+        (ok_or (ends_of command.Cut (view value.now)) LineFault.Malformed) }
+{
+    let a = number_at(value, "a")?;
+    let b = number_at(value, "b")?;
+    Ok(Request::Do(Command::Cut { a, b }))
+}
+
+fn release_of(value: &Value) -> Result<Request, LineFault>
+    ensures { Gives is_memory (λ r. r) result
+        (ok_or (node_of command.Release (view value.now)) LineFault.Malformed) }
+{
+    let node = number_at(value, "node")?;
+    Ok(Request::Do(Command::Release { node }))
 }
 
 #[tactic(auto, unfolding(crate::specs::Requests::move_of))]
