@@ -20,15 +20,17 @@ import threading
 KINDS = ("proof", "tests", "edits")
 PAUSE = 0.5
 TICKS = os.sysconf("SC_CLK_TCK")
+PAGE = os.sysconf("SC_PAGE_SIZE")
 
 
 def stat_of(pid):
-    """A process's name, parent and start, and the seconds used by it and by those it has waited for."""
+    """A process's name, parent and start, the seconds used by it and by those it has waited for, and the
+    bytes that it holds in memory."""
     with open(f"/proc/{pid}/stat", encoding="utf-8", errors="replace") as it:
         text = it.read()
     name = text[text.index("(") + 1 : text.rindex(")")]
     fields = text[text.rindex(")") + 2 :].split()
-    return name, int(fields[1]), fields[19], sum(int(it) for it in fields[11:15]) / TICKS
+    return name, int(fields[1]), fields[19], sum(int(it) for it in fields[11:15]) / TICKS, int(fields[21]) * PAGE
 
 
 def work_of(pid):
@@ -48,6 +50,7 @@ class Checks:
 
     def __init__(self, top):
         self.top, self.works, self.used = top, {}, {}
+        self.most_held, self.most_held_in_all = 0, 0
 
     def look(self):
         found = {}
@@ -56,11 +59,14 @@ class Checks:
                 found[int(pid)] = stat_of(pid)
             except (OSError, ValueError):
                 continue
-        sums = {}
-        for pid, (_, _, _, used) in found.items():
+        sums, held = {}, {}
+        for pid, (_, _, _, used, bytes_held) in found.items():
             check = self.check_above(pid, found)
             if check:
                 sums[check] = sums.get(check, 0) + used
+                held[check] = held.get(check, 0) + bytes_held
+        self.most_held = max([self.most_held, *held.values()])
+        self.most_held_in_all = max(self.most_held_in_all, sum(held.values()))
         for (pid, start), used in sums.items():
             try:
                 work = self.works.get((pid, start)) or work_of(pid)
@@ -74,7 +80,7 @@ class Checks:
         """The check that a process is or was started by, of those below the top."""
         check = None
         while pid in found and pid != self.top:
-            name, parent, start, _ = found[pid]
+            name, parent, start, _, _ = found[pid]
             if name == "rattle":
                 check = pid, start
             pid = parent
@@ -101,8 +107,9 @@ class Checks:
         return named
 
 
-def figures(sums, edits, whole):
+def figures(checks, whole):
     """The table of the crates, and the lines that a reader compares with the budget."""
+    sums, edits = checks.minutes(), checks.seconds_of_edits()
     crates = sorted({crate for crate, _ in sums})
     lines = [f"{'processor minutes':20}" + "".join(f"{kind:>8}" for kind in KINDS)]
     for crate in crates:
@@ -115,6 +122,8 @@ def figures(sums, edits, whole):
     lines.append("the dearest: " + ", ".join(f"{crate} {kind} {it:.1f}" for (crate, kind), it in dearest))
     slowest = sorted(edits.items(), key=lambda it: -it[1])[:5]
     lines.append("the dearest edits, in seconds: " + ", ".join(f"{edit} {it:.0f}" for edit, it in slowest))
+    held = checks.most_held / 1e9, checks.most_held_in_all / 1e9
+    lines.append(f"memory: at most {held[0]:.1f} GB in one check, {held[1]:.1f} GB in those side by side")
     lines.append(f"the machine: mml_rules proof {sums.get(('mml_rules', 'proof'), 0):.2f}")
     return "".join(f"{it}\n" for it in lines)
 
@@ -135,7 +144,7 @@ def main():
     looking.join()
     used = resource.getrusage(resource.RUSAGE_CHILDREN)
     with open(to, "w", encoding="utf-8") as it:
-        it.write(figures(checks.minutes(), checks.seconds_of_edits(), (used.ru_utime + used.ru_stime) / 60))
+        it.write(figures(checks, (used.ru_utime + used.ru_stime) / 60))
     return status if status >= 0 else 128 - status
 
 
