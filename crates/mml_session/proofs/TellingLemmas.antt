@@ -1,5 +1,5 @@
--- What the window's answer to an act says of the reply.
-use Rattle.std.proofs.Common.{ℕ, [], ◌∷◌, ◌++◌, sym, ap, ◌∙◌, subst, inl}
+-- What the window's answer to a command says of the reply.
+use Rattle.std.proofs.Common.{◌≡◌, ℕ, [], ◌∷◌, ◌++◌, refl, sym, ap, ◌∙◌, subst, inl, Option, Result, Ok, Err, IfOk}
 use Rattle.mml_lab.specs.declared.who.Who.{Who}
 use Rattle.mml_lab.specs.Labs.{LabValue}
 use Rattle.mml_board.specs.declared.done.Done.{Done}
@@ -7,15 +7,19 @@ use Rattle.mml_board.specs.World.{World}
 use Rattle.mml_board.specs.Events.{after}
 use Rattle.mml_policy.specs.declared.command.Command.{Command}
 use Rattle.mml_policy.specs.declared.ruling.Ruling.{Ruling}
+use Rattle.mml_codec.specs.declared.greeting.Greeting.{Greeting}
+use Rattle.mml_codec.specs.declared.greeting.Greeting.TheVariants.{LeftToJudge}
+use Rattle.mml_codec.specs.declared.reply.Reply.{Reply}
 use Rattle.mml_codec.specs.Replies.{as_list}
 use Rattle.mml_codec.specs.Rulings.{reply_of_done}
 use Rattle.mml_codec.proofs.RulingsLemmas.{place_of_done}
 use Rattle.mml_window.specs.declared.answer.Answer.TheVariants.{Granted}
+use Rattle.mml_window.specs.declared.sight.Closed.{Closed}
 use Rattle.mml_window.specs.Answers.{Answers}
 use Rattle.mml_window.specs.Lists.{world_in}
 use Rattle.mml_window.specs.Windows.{WindowValue, window}
 use Rattle.mml_window.proofs.ListLemmas.{world-one_more}
-use Rattle.mml_session.specs.Turns.{Told, Plainly}
+use Rattle.mml_session.specs.Turns.{Told, Plainly, Settles, standing}
 
 pub granted_told : (lab : LabValue) (old new : WindowValue) (who : Who) (c : Command) (place number : ℕ) (done : Done)
     → Answers lab old who c (Granted place number done) new → Told lab old who c (reply_of_done number place done) new
@@ -35,3 +39,9 @@ granted_told lab old new who c place number done answers =
         answers.3.2 ∙ ap (λ ps. window (l ++ e ∷ []) (old.places ++ ps)) (ap as_list (sym (place_of_done number place done))),
       ));
     }
+
+-- what the window tells settles a command that is left to judge
+pub settled_so : (lab : LabValue) (told : Result Reply Closed) (g : Greeting) (who : Who) (c : Command) (known : Option Who) (old new : WindowValue) → LeftToJudge who c ≡ g
+    → IfOk told (λ r. Told lab old who c r new) → IfOk told (λ r. Settles lab (standing known old) g r (standing known new))
+settled_so lab (Ok r) g who c known old new left h = subst (λ (x : Greeting). Settles lab (standing known old) x r (standing known new)) left (refl, h)
+settled_so lab (Err fault) g who c known old new left h = tt
