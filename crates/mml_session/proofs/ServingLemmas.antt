@@ -1,5 +1,5 @@
 -- What comes of a line, from what its parts say.
-use Rattle.std.proofs.Common.{◌≡◌, ℕ, ◌+◌, ◌-◌, ◌*◌, ◌<◌, ◌≤◌, arith, true, true≢false, List, length, sym, refl, Option, subst}
+use Rattle.std.proofs.Common.{◌≡◌, ℕ, ◌+◌, ◌-◌, ◌*◌, ◌<◌, ◌≤◌, arith, true, true≢false, List, length, sym, refl, Option, Result, Ok, Err, subst}
 use Rattle.std.specs.Io.KnownBytes.{Consumes, prepend_known}
 use Rattle.mml_lab.specs.Labs.{LabValue}
 use Rattle.mml_lines.specs.LinesOf.{IsWithinLimit, ended}
@@ -7,25 +7,16 @@ use Rattle.mml_lines.specs.declared.lines.TheConstants.{READ_SIZE}
 use Rattle.mml_codec.specs.declared.TheConstants.{MAX_REQUEST}
 use Rattle.mml_codec.specs.declared.reply.Reply.{Reply}
 use Rattle.mml_codec.specs.declared.reply.Reply.TheVariants as replies
+use Rattle.mml_window.specs.declared.sight.Closed.{Closed}
 use Rattle.mml_session.specs.declared.session.Said.{Said}
 use Rattle.mml_session.specs.declared.session.Said.TheVariants as says
 use Rattle.mml_session.specs.Turns.{Standing, is_bye}
-use Rattle.mml_session.specs.Talks.{LineTurn, line_written}
-use Rattle.mml_session.specs.Serving.{Sends, ServesLine, ServesNext, next_after}
+use Rattle.mml_session.specs.Serving.{ServesLine, ServesNext, next_after}
 
 taken_by : (a b : Option (List ℕ)) (line line' : List ℕ) → Consumes a b (ended line) → line' ≡ line → Consumes a b (ended line')
 taken_by a b line line' taken same = subst (λ (t : List ℕ). Consumes a b (ended t)) (sym same) taken
 
--- a line was taken, short enough, and no more than one read brought in is held after it
-module _ (lab : LabValue) (st after : Standing) (a left c d : Option (List ℕ)) (held line : List ℕ) (taken : Consumes a (prepend_known held left) (ended line))
-    (short : IsWithinLimit MAX_REQUEST line) (few : length held < READ_SIZE) where
-  pub serves_next : (said : Said) → ServesLine said lab st after line c d → ServesNext (next_after said) lab st after a held left c d
-  serves_next says.Told had = (had.0, had.2, taken_by a (prepend_known held left) line had.0.line taken had.1, had.3)
-  serves_next says.Bye had = (had.0, had.2, taken_by a (prepend_known held left) line had.0.line taken had.1, few, had.3)
-  serves_next (says.Unwritten n) had = (had.0, n, had.2, taken_by a (prepend_known held left) line had.0.line taken had.1, few, had.3)
-  serves_next says.Closed had = (had.0, line, short, had.1, taken, few, had.2)
-
-pub bye_is : (r : Reply) → is_bye r ≡ true → r ≡ replies.Bye
+bye_is : (r : Reply) → is_bye r ≡ true → r ≡ replies.Bye
 bye_is (replies.Hello who) is = absurd (true≢false (sym is))
 bye_is replies.Bye is = refl
 bye_is (replies.See s) is = absurd (true≢false (sym is))
@@ -40,13 +31,14 @@ bye_is (replies.Report r) is = absurd (true≢false (sym is))
 bye_is (replies.Deny d) is = absurd (true≢false (sym is))
 bye_is (replies.Refuse r) is = absurd (true≢false (sym is))
 
--- a line that had its turn, and whose reply's line went out so
-module _ (lab : LabValue) (st after : Standing) (t : LineTurn lab st after) (c d : Option (List ℕ)) where
-  pub serves_line : (said : Said) → Sends said t.reply (line_written t) c d → ServesLine said lab st after t.line c d
-  serves_line says.Told sent = (t, refl, sent.0, sent.1)
-  serves_line says.Bye sent = (t, refl, bye_is t.reply sent.0, sent.1)
-  serves_line (says.Unwritten n) sent = (t, refl, sent.0, sent.1)
-  serves_line says.Closed sent = absurd sent
+-- a line was taken, short enough, and no more than one read brought in is held after it
+module _ (lab : LabValue) (st after : Standing) (a left c d : Option (List ℕ)) (held line : List ℕ) (taken : Consumes a (prepend_known held left) (ended line))
+    (short : IsWithinLimit MAX_REQUEST line) (few : length held < READ_SIZE) where
+  pub serves_next : (came : Result Said Closed) → ServesLine came lab st after line c d → ServesNext (next_after came) lab st after a held left c d
+  serves_next (Ok says.Told) had = (had.0, had.2.0, taken_by a (prepend_known held left) line had.0.line taken had.1, had.2.1)
+  serves_next (Ok says.Bye) had = (had.0, bye_is had.0.reply had.2.0, taken_by a (prepend_known held left) line had.0.line taken had.1, few, had.2.1)
+  serves_next (Ok (says.Unwritten n)) had = (had.0, n, had.2.0, taken_by a (prepend_known held left) line had.0.line taken had.1, few, had.2.1)
+  serves_next (Err closed) had = (had.0, line, short, had.1, taken, few, had.2)
 
 -- a line was taken, and fewer bytes may come
 pub nearer : (u u' r r' most taken : ℕ) → taken + u' ≤ u + READ_SIZE * (r' - r) → r ≤ r' → r' ≤ most → 0 < taken

@@ -1,5 +1,5 @@
 -- What comes of the next line of a session.
-use Rattle.std.specs.Prelude.{◌≡◌, ℕ, ◌+◌, ◌-◌, ◌*◌, ◌<◌, false, true, List, [], length, take, Option}
+use Rattle.std.specs.Prelude.{◌≡◌, ℕ, ◌+◌, ◌-◌, ◌*◌, ◌<◌, false, true, List, [], length, take, Option, Result, Ok, Err}
 use Rattle.std.specs.Io.KnownBytes.{Appends, Consumes, IsAtEnd, prepend_known}
 use Rattle.mml_lab.specs.Labs.{LabValue}
 use Rattle.mml_lines.specs.LinesOf.{IsWithinLimit, IsTooLong, ended}
@@ -8,6 +8,7 @@ use Rattle.mml_lines.specs.declared.lines.TheConstants.{MAX_READS, READ_SIZE}
 use Rattle.mml_codec.specs.declared.TheConstants.{MAX_REQUEST}
 use Rattle.mml_codec.specs.declared.reply.Reply.{Reply}
 use Rattle.mml_codec.specs.declared.reply.Reply.TheVariants as reply
+use Rattle.mml_window.specs.declared.sight.Closed.{Closed}
 use Rattle.mml_session.specs.declared.session.SessionEnd.TheVariants as end
 use Rattle.mml_session.specs.declared.session.Next.{Next}
 use Rattle.mml_session.specs.declared.session.Next.TheVariants as next
@@ -18,28 +19,23 @@ use Rattle.mml_session.specs.Talks.{LineTurn, line_read, line_written}
 use Rattle.mml_session.specs.Ends.{IsView}
 
 -- the line of a reply is out, or the front of it
-abbrev pub Sends : Said → Reply → List ℕ → Option (List ℕ) → Option (List ℕ) → Type 0
-Sends said.Told r whole wrote wrote' = (is_bye r ≡ false) × Appends wrote wrote' whole
-Sends said.Bye r whole wrote wrote' = (is_bye r ≡ true) × Appends wrote wrote' whole
-Sends (said.Unwritten n) r whole wrote wrote' = (n < length whole) × Appends wrote wrote' (take n whole)
-Sends said.Closed r whole wrote wrote' = ⊥
+abbrev pub SendsReply : Said → Reply → List ℕ → Option (List ℕ) → Option (List ℕ) → Type 0
+SendsReply said.Told r whole wrote wrote' = (is_bye r ≡ false) × Appends wrote wrote' whole
+SendsReply said.Bye r whole wrote wrote' = (is_bye r ≡ true) × Appends wrote wrote' whole
+SendsReply (said.Unwritten n) r whole wrote wrote' = (n < length whole) × Appends wrote wrote' (take n whole)
 
--- the line had its turn; its reply's line is out, or the front of it
-abbrev pub ServesLine : Said → LabValue → Standing → Standing → List ℕ → Option (List ℕ) → Option (List ℕ) → Type 0
-ServesLine said.Told lab st after line wrote wrote' =
-    (t : LineTurn lab st after) × (t.line ≡ line) × (is_bye t.reply ≡ false) × Appends wrote wrote' (line_written t)
-ServesLine said.Bye lab st after line wrote wrote' =
-    (t : LineTurn lab st after) × (t.line ≡ line) × (t.reply ≡ reply.Bye) × Appends wrote wrote' (line_written t)
-ServesLine (said.Unwritten n) lab st after line wrote wrote' =
-    (t : LineTurn lab st after) × (t.line ≡ line) × (n < length (line_written t)) × Appends wrote wrote' (take n (line_written t))
-ServesLine said.Closed lab st after line wrote wrote' = (after ≡ st) × IsView st line × Appends wrote wrote' []
+-- the line had its turn, and its reply was sent, or it has no reply
+abbrev pub ServesLine : Result Said Closed → LabValue → Standing → Standing → List ℕ → Option (List ℕ) → Option (List ℕ) → Type 0
+ServesLine (Ok said) lab st after line wrote wrote' =
+    (t : LineTurn lab st after) × (t.line ≡ line) × SendsReply said t.reply (line_written t) wrote wrote'
+ServesLine (Err closed) lab st after line wrote wrote' = (after ≡ st) × IsView st line × Appends wrote wrote' []
 
 -- a session goes on where its reply is out and isn't that to a bye
-abbrev pub next_after : Said → Next
-next_after said.Told = next.Served
-next_after said.Bye = next.Ended end.Bye
-next_after (said.Unwritten n) = next.Ended end.WriteFault
-next_after said.Closed = next.Ended end.Closed
+abbrev pub next_after : Result Said Closed → Next
+next_after (Ok said.Told) = next.Served
+next_after (Ok said.Bye) = next.Ended end.Bye
+next_after (Ok (said.Unwritten n)) = next.Ended end.WriteFault
+next_after (Err closed) = next.Ended end.Closed
 
 -- what came of the next line says of where the session stands, of the bytes to come, of which those held are first, and of the
 -- bytes written

@@ -4,7 +4,7 @@ ghost use Rattle.mml_lines.specs.LinesOf.{IsWithinLimit};
 ghost use Rattle.mml_lab.specs.Rosters.{IsPrincipal};
 ghost use Rattle.mml_session.specs.Turns.{standing, is_bye};
 ghost use Rattle.mml_session.specs.Ends.{Ended};
-ghost use Rattle.mml_session.specs.Serving.{Sends, ServesLine, ServesNext, bytes_ahead, next_after};
+ghost use Rattle.mml_session.specs.Serving.{SendsReply, ServesLine, ServesNext, bytes_ahead, next_after};
 
 use crate::answering::answer;
 use crate::gate::{Gate, Point};
@@ -12,7 +12,7 @@ use mml_codec::{MAX_REQUEST, REPLY_ROOM, Reply, tell_reply};
 use mml_journal::Sink;
 use mml_lab::Who;
 use mml_lines::{Lines, Step, put_all};
-use mml_window::{Desk, House, Window};
+use mml_window::{Closed, Desk, House, Window};
 use std::alloc::Global;
 use std::io::{Read, Write};
 use std::sync::Wait;
@@ -122,37 +122,35 @@ fn serve_next<Rt: Wait, S: Sink + Drop, H: House, R: Read, W: Write, G: Gate>(
 }
 
 // Lets the session stand at its gate where its reply is out, and tells whether it goes on.
-fn go_on<G: Gate>(said: Said, gate: &G, connection: u8) -> Next
+fn go_on<G: Gate>(said: Result<Said, Closed>, gate: &G, connection: u8) -> Next
     ensures { result ≡ next_after said }
 {
     match said {
-        Said::Told => {
+        Ok(Said::Told) => {
             gate.pass(connection, Point::Told);
             Next::Served
         }
-        Said::Bye => {
+        Ok(Said::Bye) => {
             gate.pass(connection, Point::Told);
             Next::Ended(SessionEnd::Bye)
         }
-        Said::Unwritten(_) => Next::Ended(SessionEnd::WriteFault),
-        Said::Closed => Next::Ended(SessionEnd::Closed),
+        Ok(Said::Unwritten(_)) => Next::Ended(SessionEnd::WriteFault),
+        Err(Closed) => Next::Ended(SessionEnd::Closed),
     }
 }
 
-// What came of a line.
+// What came of a reply.
 #[derive(Clone, Copy)]
 enum Said {
-    // Its reply is out.
+    // Its line is out.
     Told,
-    // So is bye.
+    // So is that of a bye.
     Bye,
-    // So many bytes of its reply's line are out.
+    // So many bytes of its line are out.
     Unwritten(usize),
-    // It has no reply.
-    Closed,
 }
 
-// Answers a line and writes the reply.
+// Answers a line and writes the reply, if it has one.
 fn serve_line<Rt: Wait, S: Sink + Drop, H: House, W: Write>(
     rt: &Rt,
     alloc: Global,
@@ -162,7 +160,7 @@ fn serve_line<Rt: Wait, S: Sink + Drop, H: House, W: Write>(
     line: &[u8],
     out: &mut Vec<u8>,
     writer: &mut W,
-) -> Said
+) -> Result<Said, Closed>
     requires line { IsWithinLimit MAX_REQUEST line.now }
     requires room { REPLY_ROOM ≤ vec_capacity out.old }
     requires principal { IfSome known.old (IsPrincipal H.lab.roster) }
@@ -171,16 +169,15 @@ fn serve_line<Rt: Wait, S: Sink + Drop, H: House, W: Write>(
     ensures serves { ServesLine result H.lab (standing known.old window.old)
         (standing known.new window.new) line.now (W.contents writer.old) (W.contents writer.new) }
 {
-    let Ok(reply) = answer(rt, alloc, desk, window, known, line) else {
-        return Said::Closed;
-    };
+    let reply = answer(rt, alloc, desk, window, known, line)?;
     let told = tell_reply(alloc, window.ids(), window.roster(), reply, out);
-    send(&told, out, writer)
+    Ok(send(&told, out, writer))
 }
 
 // Writes the line of a reply.
 fn send<W: Write>(reply: &Reply, line: &[u8], writer: &mut W) -> Said
-    ensures { Sends result reply.now line.now (W.contents writer.old) (W.contents writer.new) }
+    ensures { SendsReply result reply.now line.now
+        (W.contents writer.old) (W.contents writer.new) }
 {
     match put_all(writer, line) {
         Ok(()) => { if is_bye(reply) { Said::Bye } else { Said::Told } }

@@ -1,12 +1,14 @@
+use Rattle.std.proofs.Common.{refl}
 use Rattle.mml_session.specs.Turns.{standing}
 use Rattle.mml_session.proofs.MemoryLemmas.{turn_told}
-use Rattle.mml_session.proofs.ServingLemmas.{serves_line}
 use Rattle.mml_session.proofs.session.serve_line.Goals as goal
 
 pub returns-clause-serves : goal.returns-clause-serves
 returns-clause-serves g c =
     let st = standing c.args.known.now c.args.window.now in
     let after = standing c.answer.new.known c.answer.new.window in
-    let turn = turn_told g.H.House.lab st after c.args.line.now c.in-Ok.reply c.tell_reply-told.result c.tell_reply-told.ensures.told c.in-Ok.ensures.turn in
-    serves_line g.H.House.lab st after (record { line = c.args.line.now; reply = c.tell_reply-told.result; short = c.requires.line; turn = turn }) (g.W.Write.contents c.args.writer.now) (g.W.Write.contents c.send.new.writer)
-    c.send.result (rw (c.deref.ensures.value, c.tell_reply-told.ensures.line, c.ids.ensures.ids, c.roster.ensures.roster) at c.send.ensures)
+    let turn = turn_told g.H.House.lab st after c.args.line.now c.in_ok-reply.reply c.tell_reply-told.result c.tell_reply-told.ensures.told c.in_ok-reply.ensures.turn in (
+      record { line = c.args.line.now; reply = c.tell_reply-told.result; short = c.requires.line; turn = turn },
+      refl,
+      rw (c.deref.ensures.value, c.tell_reply-told.ensures.line, c.ids.ensures.ids, c.roster.ensures.roster) at c.send.ensures,
+    )
