@@ -8,7 +8,7 @@ ghost use Rattle.mml_lab.specs.Raw.{account_view, node_view, entry_view, raw_vie
 ghost use Rattle.mml_lab.specs.Rosters.{has_name};
 ghost use Rattle.mml_lab.specs.Labs.{number_of, file_ids, lacks_owner, are_one_twice, is_within, both_fault, ids_fault, forms_fault, no_owner_fault, owner_twice_fault, owners_fault, limits_fault};
 ghost use Rattle.mml_lab.specs.inside.Checks.{limits_in, identified, enrolled, joined, checked};
-ghost use Rattle.mml_lab.specs.inside.ChecksView.{checked_view};
+ghost use Rattle.mml_lab.specs.inside.ChecksView.{checked_view, found_view};
 
 use crate::accounts::first_malformed;
 use crate::fault::{Key, LabFault};
@@ -40,7 +40,6 @@ pub struct Checked {
 }
 
 /// Goes through the faults in the order of `LabFault`.
-#[tactic(auto, unfolding(crate::specs::inside::Checks::checked))]
 pub(crate) fn check(alloc: Global, raw: RawLab) -> Result<Checked, LabFault>
     ensures { Gives is_memory checked_view result (checked (raw_view raw)) }
 {
@@ -52,15 +51,61 @@ pub(crate) fn check(alloc: Global, raw: RawLab) -> Result<Checked, LabFault>
         nodes,
         links,
     } = raw;
-    let ids = identify(alloc, &nodes)?;
-    let students = enrol(alloc, &teacher, students)?;
-    let neighbours = join(alloc, &ids, &students, &nodes, &links)?;
-    let (events, sessions) = limits(events, sessions, count(&students))?;
+    let Found {
+        ids,
+        students,
+        neighbours,
+        events,
+        sessions,
+    } = gather(alloc, &teacher, students, &nodes, &links, events, sessions)?;
     Ok(Checked {
         ids,
         teacher,
         students,
         nodes,
+        neighbours,
+        events,
+        sessions,
+    })
+}
+
+/// What a file without a fault has beside its teacher and its nodes.
+#[derive(Drop)]
+struct Found {
+    ids: IdTable,
+    students: IndexMap<String, String>,
+    neighbours: Vec<NodeSet>,
+    events: u64,
+    sessions: u8,
+}
+
+/// Goes through the faults with the parts of a file. Its teacher and its nodes stay with the caller.
+#[tactic(auto, unfolding(crate::specs::inside::Checks::checked))]
+fn gather(
+    alloc: Global,
+    teacher: &Account,
+    students: Vec<Account>,
+    nodes: &[RawNode],
+    links: &[(i64, i64)],
+    events: i64,
+    sessions: i64,
+) -> Result<Found, LabFault>
+    ensures { Gives is_memory (found_view teacher.now nodes.now) result (checked (record {
+      events = events;
+      sessions = sessions;
+      teacher = account_view teacher.now;
+      students = map account_view students.items;
+      nodes = map node_view nodes.now;
+      links = links.now;
+    })) }
+{
+    let ids = identify(alloc, nodes)?;
+    let students = enrol(alloc, teacher, students)?;
+    let neighbours = join(alloc, &ids, &students, nodes, links)?;
+    let (events, sessions) = limits(events, sessions, count(&students))?;
+    Ok(Found {
+        ids,
+        students,
         neighbours,
         events,
         sessions,

@@ -1,6 +1,9 @@
 -- What a file that was checked stands for.
-use Rattle.std.specs.Prelude.{map}
+use Rattle.std.specs.Prelude.{List, map}
+use Rattle.mml_lab.specs.declared.raw.Account.{Account}
+use Rattle.mml_lab.specs.declared.raw.RawNode.{RawNode}
 use Rattle.mml_lab.specs.declared.checks.Checked.{Checked as KeptChecked}
+use Rattle.mml_lab.specs.declared.checks.Found.{Found}
 use Rattle.mml_lab.specs.Raw.{account_view, entry_view, node_view}
 use Rattle.mml_lab.specs.inside.Checks.{Checked}
 
@@ -13,4 +16,16 @@ checked_view c = record {
   neighbours = c.neighbours.items;
   events = c.events;
   sessions = c.sessions;
+}
+
+-- the same of what was found out, with the teacher and the nodes of the file
+abbrev pub found_view : Account → List RawNode → Found → Checked
+found_view teacher nodes f = record {
+  ids = f.ids;
+  teacher = account_view teacher;
+  students = map entry_view f.students.entries;
+  nodes = map node_view nodes;
+  neighbours = f.neighbours.items;
+  events = f.events;
+  sessions = f.sessions;
 }
