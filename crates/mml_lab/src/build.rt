@@ -28,20 +28,34 @@ pub(crate) fn build(alloc: Global, checked: Checked) -> Result<Lab, LabFault>
     requires { IsLab (lab_from (checked_view checked)) }
     ensures { Gives is_memory (λ lab. lab) result (Ok (lab_from (checked_view checked))) }
 {
+    let (registers, owners) = parts(alloc, &checked)?;
     let Checked {
         ids,
         teacher,
         students,
-        nodes,
+        nodes: _,
         neighbours,
         events,
         sessions,
     } = checked;
-    let registers = registers(alloc, &ids, &nodes)?;
     let network = Network::of(neighbours, registers);
-    let owners = owners(alloc, &ids, &nodes, &students)?;
     let roster = Roster::new(teacher, students, owners);
     Ok(Lab::new(ids, roster, network, events, sessions))
+}
+
+/// Each node's registers and owners.
+fn parts(alloc: Global, checked: &Checked) -> Result<(Vec<Regs>, Vec<Vec<Student>>), LabFault>
+    requires { length checked.now.students.entries ≤ MAX_STUDENTS }
+    ensures registers { IfOk result (λ parts. parts.0.items ≡ map (registers_with
+        checked.now.ids (map node_view checked.now.nodes.items)) checked.now.ids) }
+    ensures owners { IfOk result (λ parts. map (λ v. v.items) parts.1.items ≡ map (owners_with
+        (map entry_view checked.now.students.entries) (map node_view checked.now.nodes.items))
+        checked.now.ids) }
+    ensures err { IfErr result (λ fault. fault ≡ Memory) }
+{
+    let registers = registers(alloc, &checked.ids, &checked.nodes)?;
+    let owners = owners(alloc, &checked.ids, &checked.nodes, &checked.students)?;
+    Ok((registers, owners))
 }
 
 /// Each node's registers.
