@@ -1,4 +1,4 @@
-ghost use Rattle.std.specs.Prelude.{◌≡◌, ◌<◌, ◌≤◌, ◌∷◌, length, map, position, slice_index_or, string_bytes, Some, None, IfSome, IsTrue, ◌&&◌, ◌||◌, is_some, bytes_eq};
+ghost use Rattle.std.specs.Prelude.{◌≡◌, ◌<◌, ◌≤◌, [], ◌∷◌, length, map, position, slice_index_or, string_bytes, Some, None, IfSome, IsTrue, ◌&&◌, ◌||◌, is_some, bytes_eq};
 ghost use Rattle.std.specs.Map.{lookup};
 ghost use Rattle.mml_ids.specs.Gives.{Gives, unless_fault};
 ghost use Rattle.mml_lab.specs.declared.who.Who.TheVariants.{Student as AStudent};
@@ -169,12 +169,27 @@ pub(crate) fn students_map(
         (map account_view students.items)) }
 {
     let mut found = IndexMap::new(alloc);
+    fill(&mut found, teacher, students)?;
+    Ok(found)
+}
+
+/// Puts the students' names and keys into an empty map, up to a name that stands twice.
+fn fill(
+    found: &mut IndexMap<String, String>,
+    teacher: &Account,
+    students: Vec<Account>,
+) -> Result<(), LabFault>
+    requires { found.old.entries ≡ [] }
+    ensures { Gives is_memory (λ _. map entry_view found.new.entries) result
+        (unless_fault (name_twice (account_view teacher.now ∷ map account_view students.items))
+        (map account_view students.items)) }
+{
     for student in students {
         let Account { name, key } = student;
-        if is_taken(&found, teacher.name.as_str(), name.as_str()) {
+        if is_taken(found, teacher.name.as_str(), name.as_str()) {
             return Err(LabFault::NameTwice(found.len() + 1));
         }
         found.insert(name, key)?;
     }
-    Ok(found)
+    Ok(())
 }

@@ -3,13 +3,13 @@ use Rattle.std.specs.Vec.Iter.{into_iter_items}
 use Rattle.std.specs.String.{string_eq}
 use Rattle.indexmap.proofs.CallerLemmas.{insert_entry-new}
 use Rattle.mml_lab.proofs.NameTwiceLemmas.{absent, at_start, at_fault, at_next, at_end}
-use Rattle.mml_lab.proofs.roster.students_map.Goals as goal
+use Rattle.mml_lab.proofs.roster.fill.Goals as goal
 
 pub loop-student-init : goal.loop-student-init
 loop-student-init c = record {
   left = c.into_iter-student-iterator.ensures.into_iter_gives.0;
   counted = search rules;
-  so_far = at_start c.args.teacher.now c.args.students.items c.new-found.result.entries c.new-found.ensures.empty;
+  so_far = at_start c.args.teacher.now c.args.students.items c.args.found.now.entries c.requires;
 }
 
 pub returns-then-is_taken : goal.returns-then-is_taken

@@ -1,7 +1,7 @@
 use Rattle.std.proofs.Common.{◌≡◌, ◌++◌, length}
 use Rattle.std.specs.Vec.Iter.{into_iter_items, into_iter_len}
 use Rattle.mml_lab.proofs.NameTwiceLemmas.{IsSoFar}
-use Rattle.mml_lab.proofs.roster.students_map.Given as goal
+use Rattle.mml_lab.proofs.roster.fill.Given as goal
 
 abbrev pub invariant-loop-student : goal.invariant-loop-student
 invariant-loop-student l = record {
