@@ -8,3 +8,4 @@ pub mod Scripts
 pub mod Serving
 pub mod Audit
 pub mod AuditMeaning
+pub mod inside
