@@ -9,7 +9,7 @@ mod twins;
 
 use mml_board::{Board, Event};
 use mml_ids::Rank;
-use mml_lab::{Student, read_lab};
+use mml_lab::{Lab, Student, read_lab};
 use mml_rules::{Rule, Scene};
 use std::alloc::{AllocError, Global};
 use std::test::Fail;
@@ -38,10 +38,14 @@ id = 3
 owner = "ana"
 "#;
 
+fn opening(alloc: Global, lab: &Lab) -> Result<Board, Fail> {
+    Ok(Board::new(alloc, lab)?)
+}
+
 /// The board at the beginning of a run of the lab that a document spells.
 pub fn board_of(alloc: Global, document: &[u8]) -> Result<Board, Fail> {
     let lab = read_lab(alloc, document)?;
-    Ok(Board::new(alloc, &lab)?)
+    opening(alloc, &lab)
 }
 
 /// The first student's request for a move.

@@ -12,21 +12,33 @@ use mml_rules::Scene;
 use std::alloc::{AllocError, Global};
 use std::test::Fail;
 
+/// Links of a node with the next one in a ring of so many, and with one further on.
+fn push_links(text: &mut String, id: u64, count: u64) -> Result<(), AllocError>
+    requires { 0 < count }
+{
+    let next = (id % count).wrapping_add(1);
+    let far = (id.wrapping_add(count / 3) % count).wrapping_add(1);
+    write!(text, "[{id}, {next}], [{id}, {far}], ")
+}
+
+/// So many nodes of one student.
+fn push_nodes(text: &mut String, count: u64) -> Result<(), AllocError> {
+    for id in 1..=count {
+        write!(text, "[[node]]\nid = {id}\nowner = \"s\"\n")?;
+    }
+    Ok(())
+}
+
 /// So many nodes in a ring, each linked with one further on too, all of one student.
 fn mesh(alloc: Global, count: u64) -> Result<String, AllocError> {
-    let mut text = format!(in alloc; "events = 2000\nsessions = 1\nlinks = [")?;
+    let mut text = String::from_str(alloc, "events = 2000\nsessions = 1\nlinks = [")?;
     for id in 1..=count {
-        let next = (id % count).wrapping_add(1);
-        write!(text, "[{id}, {next}], ")?;
-        let far = (id.wrapping_add(count / 3) % count).wrapping_add(1);
-        write!(text, "[{id}, {far}], ")?;
+        push_links(&mut text, id, count)?;
     }
     text.push_str(
         "]\n[teacher]\nname = \"t\"\nkey = \"t\"\n[[student]]\nname = \"s\"\nkey = \"s\"\n",
     )?;
-    for id in 1..=count {
-        write!(text, "[[node]]\nid = {id}\nowner = \"s\"\n")?;
-    }
+    push_nodes(&mut text, count)?;
     Ok(text)
 }
 
@@ -99,7 +111,7 @@ impl Twins {
 }
 
 /// Of 1,000 events over a lab, on how many the boards agree; and how many kinds of events there were.
-fn agreed_by(alloc: Global, lab: &Lab, twins: &mut Twins, every: u64) -> Result<(u64, u64), Memory>
+fn agreed_by(alloc: Global, lab: &Lab, twins: &mut Twins, every: u64) -> Result<(u64, u64), Fail>
     requires { 0 < every }
 {
     let mut numbers = Numbers {
@@ -122,7 +134,15 @@ fn agreed_over(alloc: Global, lab: &Lab, every: u64) -> Result<(u64, u64), Fail>
     requires { 0 < every }
 {
     let mut twins = Twins::new(alloc, lab)?;
-    Ok(agreed_by(alloc, lab, &mut twins, every)?)
+    agreed_by(alloc, lab, &mut twins, every)
+}
+
+/// The same over the lab that a document spells.
+fn agreed_in(alloc: Global, document: &str, every: u64) -> Result<(u64, u64), Fail>
+    requires { 0 < every }
+{
+    let lab = read_lab(alloc, document.as_bytes())?;
+    agreed_over(alloc, &lab, every)
 }
 
 /// The same over a mesh of so many nodes.
@@ -130,8 +150,7 @@ fn agreed(alloc: Global, count: u64, every: u64) -> Result<(u64, u64), Fail>
     requires { 0 < every }
 {
     let document = mesh(alloc, count)?;
-    let lab = read_lab(alloc, document.as_bytes())?;
-    agreed_over(alloc, &lab, every)
+    agreed_in(alloc, document.as_str(), every)
 }
 
 #[test]
