@@ -4,7 +4,7 @@ mod plain;
 
 use mml_board::{Board, Event};
 use mml_ids::Rank;
-use mml_lab::read_lab;
+use mml_lab::{Lab, read_lab};
 use mml_rules::Kind;
 use mml_stable::{OpenLink, Report, report};
 use std::alloc::{AllocError, Global};
@@ -105,9 +105,13 @@ fn star(alloc: Global, centre: u64, count: u64, inward: bool) -> Result<String, 
     linked(alloc, links.as_str(), nodes.as_str())
 }
 
+fn opening(alloc: Global, lab: &Lab) -> Result<Board, Fail> {
+    Ok(Board::new(alloc, lab)?)
+}
+
 fn board_of(alloc: Global, document: &str) -> Result<Board, Fail> {
     let lab = read_lab(alloc, document.as_bytes())?;
-    Ok(Board::new(alloc, &lab)?)
+    opening(alloc, &lab)
 }
 
 /// The lists of a report, by ranks.
@@ -118,22 +122,34 @@ fn told(alloc: Global, report: &Report) -> Result<String, AllocError> {
 }
 
 fn push_lists(text: &mut String, report: &Report) -> Result<(), AllocError> {
-    for (lower, greater) in report.pairs.as_slice() {
-        write!(text, " {}={}", lower.index(), greater.index())?;
-    }
-    text.push_str(";")?;
-    for node in report.free.as_slice() {
-        write!(text, " {}", node.index())?;
-    }
-    text.push_str(";")?;
-    for (node, kind) in report.privileged.as_slice() {
-        write!(text, " {} {kind:?}", node.index())?;
-    }
-    text.push_str(";")?;
+    push_pairs(text, report.pairs.as_slice())?;
+    push_free(text, report.free.as_slice())?;
+    push_privileged(text, report.privileged.as_slice())?;
     for link in report.open_links.as_slice() {
         push_link(text, link)?;
     }
     Ok(())
+}
+
+fn push_pairs(text: &mut String, pairs: &[(Rank, Rank)]) -> Result<(), AllocError> {
+    for (lower, greater) in pairs {
+        write!(text, " {}={}", lower.index(), greater.index())?;
+    }
+    text.push_str(";")
+}
+
+fn push_free(text: &mut String, nodes: &[Rank]) -> Result<(), AllocError> {
+    for node in nodes {
+        write!(text, " {}", node.index())?;
+    }
+    text.push_str(";")
+}
+
+fn push_privileged(text: &mut String, nodes: &[(Rank, Kind)]) -> Result<(), AllocError> {
+    for (node, kind) in nodes {
+        write!(text, " {} {kind:?}", node.index())?;
+    }
+    text.push_str(";")
 }
 
 fn push_link(text: &mut String, link: &OpenLink) -> Result<(), AllocError> {
