@@ -21,11 +21,10 @@ pub fn line_of(alloc: Global, lab: &Lab, reply: &Reply) -> Result<String, Fail>
 }
 
 /// The reply to a greeting.
-fn greeting(alloc: Global, name: &str, key: &str) -> Result<String, Fail> {
-    let lab = read_lab(alloc, FAR_APART.as_bytes())?;
+fn greeting(alloc: Global, lab: &Lab, name: &str, key: &str) -> Result<String, Fail> {
     match lab.roster().hello(name, key) {
-        Some(who) => line_of(alloc, &lab, &Reply::Hello(who)),
-        None => line_of(alloc, &lab, &Reply::Bye),
+        Some(who) => line_of(alloc, lab, &Reply::Hello(who)),
+        None => line_of(alloc, lab, &Reply::Bye),
     }
 }
 
@@ -42,38 +41,56 @@ const GREETINGS: &[(&str, &str, &str)] = &[
 ];
 
 /// The first row of these with another line.
-fn first_greeted_otherwise(alloc: Global) -> Result<Option<usize>, Fail> {
+fn first_greeted_otherwise(alloc: Global, lab: &Lab) -> Result<Option<usize>, Fail> {
     for (row, (name, key, wanted)) in GREETINGS.iter().enumerate() {
-        if greeting(alloc, name, key)?.as_str() != *wanted {
+        if greeting(alloc, lab, name, key)?.as_str() != *wanted {
             return Ok(Some(row));
         }
     }
     Ok(None)
 }
 
+/// The same over the two nodes.
+fn first_of_the_two_greeted_otherwise(alloc: Global) -> Result<Option<usize>, Fail> {
+    let lab = read_lab(alloc, FAR_APART.as_bytes())?;
+    first_greeted_otherwise(alloc, &lab)
+}
+
 #[test]
 fn greetings_are_told(rt: HostRuntime) -> Result<(), Fail> {
-    assert_eq!(rt; first_greeted_otherwise(rt.alloc())?, None);
+    assert_eq!(rt; first_of_the_two_greeted_otherwise(rt.alloc())?, None);
     Ok(())
 }
 
 /// What is shown of a node, its pointer at the node of another identifier, if any.
-fn sight(alloc: Global, at: u64, id: u64, pointer: u64, m: bool) -> Result<String, Fail> {
-    let lab = read_lab(alloc, FAR_APART.as_bytes())?;
+fn sight(
+    alloc: Global,
+    lab: &Lab,
+    at: u64,
+    id: u64,
+    pointer: u64,
+    m: bool,
+) -> Result<String, Fail> {
     let p = lab.ids().rank_of(pointer);
     match lab.ids().rank_of(id) {
         Some(node) => {
             let regs = Regs { p, m };
-            line_of(alloc, &lab, &Reply::See(See { at, node, regs }))
+            line_of(alloc, lab, &Reply::See(See { at, node, regs }))
         }
-        None => line_of(alloc, &lab, &Reply::Bye),
+        None => line_of(alloc, lab, &Reply::Bye),
     }
+}
+
+/// The same of one of the two nodes.
+fn sight_of(alloc: Global, at: u64, id: u64, pointer: u64, m: bool) -> Result<String, Fail> {
+    let lab = read_lab(alloc, FAR_APART.as_bytes())?;
+    sight(alloc, &lab, at, id, pointer, m)
 }
 
 #[test]
 fn registers_are_told(rt: HostRuntime) -> Result<(), Fail> {
-    let first = sight(rt.alloc(), 0, 7, 0, false)?;
-    let last = sight(rt.alloc(), u64::MAX, 65535, 7, true)?;
+    let first = sight_of(rt.alloc(), 0, 7, 0, false)?;
+    let last = sight_of(rt.alloc(), u64::MAX, 65535, 7, true)?;
     let wanted = (
         "{\"at\":0,\"m\":false,\"node\":7,\"ok\":\"see\",\"p\":null}\n",
         "{\"at\":18446744073709551615,\"m\":true,\"node\":65535,\"ok\":\"see\",\"p\":7}\n",
@@ -82,9 +99,8 @@ fn registers_are_told(rt: HostRuntime) -> Result<(), Fail> {
     Ok(())
 }
 
-fn denial_line(alloc: Global, denial: Denial) -> Result<String, Fail> {
-    let lab = read_lab(alloc, FAR_APART.as_bytes())?;
-    line_of(alloc, &lab, &Reply::Deny(denial))
+fn denial_line(alloc: Global, lab: &Lab, denial: Denial) -> Result<String, Fail> {
+    line_of(alloc, lab, &Reply::Deny(denial))
 }
 
 // Each denial with its line.
@@ -156,24 +172,29 @@ const DENIALS: &[(Denial, &str)] = &[
 ];
 
 /// How many denials have their line.
-fn denials_told(alloc: Global) -> Result<usize, Fail> {
+fn denials_told(alloc: Global, lab: &Lab) -> Result<usize, Fail> {
     let mut right = 0usize;
     for (denial, wanted) in DENIALS {
-        let is_right = denial_line(alloc, *denial)?.as_str() == *wanted;
+        let is_right = denial_line(alloc, lab, *denial)?.as_str() == *wanted;
         right = usize::saturating_add(right, usize::from(is_right));
     }
     Ok(right)
 }
 
+/// The same over the two nodes.
+fn denials_told_over_the_two(alloc: Global) -> Result<usize, Fail> {
+    let lab = read_lab(alloc, FAR_APART.as_bytes())?;
+    denials_told(alloc, &lab)
+}
+
 #[test]
 fn denials_are_told(rt: HostRuntime) -> Result<(), Fail> {
-    assert_eq!(rt; denials_told(rt.alloc())?, 16);
+    assert_eq!(rt; denials_told_over_the_two(rt.alloc())?, 16);
     Ok(())
 }
 
-fn refusal_line(alloc: Global, refused: Refused) -> Result<String, Fail> {
-    let lab = read_lab(alloc, FAR_APART.as_bytes())?;
-    line_of(alloc, &lab, &Reply::Refuse(refused))
+fn refusal_line(alloc: Global, lab: &Lab, refused: Refused) -> Result<String, Fail> {
+    line_of(alloc, lab, &Reply::Refuse(refused))
 }
 
 // Each refusal with its constant and its line.
@@ -189,18 +210,24 @@ const REFUSALS: &[(Refused, &str, &str)] = &[
 ];
 
 /// The first refusal with another line.
-fn first_refused_otherwise(alloc: Global) -> Result<Option<Refused>, Fail> {
+fn first_refused_otherwise(alloc: Global, lab: &Lab) -> Result<Option<Refused>, Fail> {
     for (refused, line, wanted) in REFUSALS {
-        if refusal_line(alloc, *refused)?.as_str() != *wanted || *line != *wanted {
+        if refusal_line(alloc, lab, *refused)?.as_str() != *wanted || *line != *wanted {
             return Ok(Some(*refused));
         }
     }
     Ok(None)
 }
 
+/// The same over the two nodes.
+fn first_of_the_two_refused_otherwise(alloc: Global) -> Result<Option<Refused>, Fail> {
+    let lab = read_lab(alloc, FAR_APART.as_bytes())?;
+    first_refused_otherwise(alloc, &lab)
+}
+
 #[test]
 fn refusals_are_told(rt: HostRuntime) -> Result<(), Fail> {
-    assert_eq!(rt; first_refused_otherwise(rt.alloc())?, None);
+    assert_eq!(rt; first_of_the_two_refused_otherwise(rt.alloc())?, None);
     Ok(())
 }
 
@@ -221,14 +248,19 @@ fn rooms(alloc: Global, lab: &Lab) -> Result<(usize, usize, usize), Fail> {
 }
 
 /// Whether two replies fit into one room: a vector with room doesn't grow, and isn't given back.
-fn stays_in_its_room(alloc: Global) -> Result<bool, Fail> {
-    let lab = read_lab(alloc, FAR_APART.as_bytes())?;
-    let (room, first, second) = rooms(alloc, &lab)?;
+fn stays_in_its_room(alloc: Global, lab: &Lab) -> Result<bool, Fail> {
+    let (room, first, second) = rooms(alloc, lab)?;
     Ok(first == room && second == room)
+}
+
+/// The same over the two nodes.
+fn stays_in_its_room_over_the_two(alloc: Global) -> Result<bool, Fail> {
+    let lab = read_lab(alloc, FAR_APART.as_bytes())?;
+    stays_in_its_room(alloc, &lab)
 }
 
 #[test]
 fn room_is_enough(rt: HostRuntime) -> Result<(), Fail> {
-    assert!(rt; stays_in_its_room(rt.alloc())?);
+    assert!(rt; stays_in_its_room_over_the_two(rt.alloc())?);
     Ok(())
 }

@@ -2,7 +2,7 @@
 use crate::codec::replies::line_of;
 use mml_board::Board;
 use mml_codec::Reply;
-use mml_lab::read_lab;
+use mml_lab::{Lab, read_lab};
 use mml_rules::Scene;
 use mml_stable::report;
 use std::alloc::Global;
@@ -19,16 +19,25 @@ fn document(alloc: Global, links: &str, nodes: &[(u64, &str)]) -> Result<String,
     Ok(text)
 }
 
-/// The line of the report on a lab's opening world.
-fn report_line(alloc: Global, document: &str) -> Result<String, Fail> {
-    let lab = read_lab(alloc, document.as_bytes())?;
-    let board = Board::new(alloc, &lab)?;
-    let told = report(alloc, &board)?;
-    if lab.ids().len() == board.size() {
-        line_of(alloc, &lab, &Reply::Report(told))
-    } else {
-        Ok(String::new(alloc))
+/// The line of the report on a board, or no text where it isn't of the lab's size.
+fn report_line(alloc: Global, lab: &Lab, board: &Board) -> Result<String, Fail> {
+    if lab.ids().len() != board.size() {
+        return Ok(String::new(alloc));
     }
+    let told = report(alloc, board)?;
+    line_of(alloc, lab, &Reply::Report(told))
+}
+
+/// The same of a lab's opening world.
+fn opening_line(alloc: Global, lab: &Lab) -> Result<String, Fail> {
+    let board = Board::new(alloc, lab)?;
+    report_line(alloc, lab, &board)
+}
+
+/// The same of the lab that a document spells.
+fn line_of_document(alloc: Global, document: &str) -> Result<String, Fail> {
+    let lab = read_lab(alloc, document.as_bytes())?;
+    opening_line(alloc, &lab)
 }
 
 // Links, nodes with their registers, and the line of the report.
@@ -67,7 +76,7 @@ fn worlds_told(alloc: Global) -> Result<usize, Fail> {
     let mut right = 0usize;
     for (links, nodes, wanted) in WORLDS {
         let document = document(alloc, links, nodes)?;
-        let is_right = report_line(alloc, document.as_str())?.as_str() == *wanted;
+        let is_right = line_of_document(alloc, document.as_str())?.as_str() == *wanted;
         right = usize::saturating_add(right, usize::from(is_right));
     }
     Ok(right)
