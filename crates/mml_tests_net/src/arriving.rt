@@ -1,11 +1,11 @@
 //! Connections whose ends are values, so that all that is left of them can be looked at.
 use mml_fakes::FakeWriter;
 use mml_journal::MemorySink;
-use mml_lab::read_lab;
+use mml_lab::{Lab, read_lab};
 use mml_program::BUILT_IN;
 use mml_serving::{Arrivals, HangUp, ServeFault, serve_arrivals};
 use mml_session::{NoGate, ServedHouse};
-use std::alloc::Global;
+use std::alloc::{AllocError, Global};
 use std::collections::VecDeque;
 use std::io;
 use std::io::{ErrorKind, Write};
@@ -49,6 +49,38 @@ impl Arrivals<VecDeque<u8>, Kept> for Texts {
 
 type Left = ServedHouse<MemorySink, VecDeque<u8>, Kept>;
 
+fn bytes_of(alloc: Global, text: &str) -> Result<VecDeque<u8>, AllocError> {
+    let mut bytes = VecDeque::new(alloc);
+    for byte in text.as_bytes() {
+        bytes.push_back(*byte)?;
+    }
+    Ok(bytes)
+}
+
+fn arrivals_of(alloc: Global, texts: &[&str]) -> Result<Texts, AllocError> {
+    let mut left = Vec::new(alloc);
+    for text in texts {
+        left.push(bytes_of(alloc, text)?)?;
+    }
+    Ok(Texts { alloc, left })
+}
+
+/// Serves so many connections over a lab, if it has so many sessions.
+fn serve_over<R: Threads + Wait + Sync + AllocGlobal>(
+    rt: &R,
+    lab: Lab,
+    arrivals: Texts,
+    connections: u8,
+    writer: &mut FakeWriter,
+) -> Option<Result<Left, ServeFault>> {
+    if connections > lab.sessions() {
+        return None;
+    }
+    let alloc = rt.alloc();
+    let sink = MemorySink::new(alloc, None);
+    Some(serve_arrivals(rt, alloc, lab, arrivals, connections, sink, &NoGate, writer))
+}
+
 /// Serves so many of these texts, the last one first, over the built-in lab.
 fn serve_texts<R: Threads + Wait + Sync + AllocGlobal>(
     rt: &R,
@@ -56,22 +88,9 @@ fn serve_texts<R: Threads + Wait + Sync + AllocGlobal>(
     connections: u8,
     writer: &mut FakeWriter,
 ) -> Result<Option<Result<Left, ServeFault>>, Fail> {
-    let alloc = rt.alloc();
-    let mut left = Vec::new(alloc);
-    for text in texts {
-        let mut bytes = VecDeque::new(alloc);
-        for byte in text.as_bytes() {
-            bytes.push_back(*byte)?;
-        }
-        left.push(bytes)?;
-    }
-    let lab = read_lab(alloc, BUILT_IN.as_bytes())?;
-    if connections > lab.sessions() {
-        return Ok(None);
-    }
-    let arrivals = Texts { alloc, left };
-    let sink = MemorySink::new(alloc, None);
-    Ok(Some(serve_arrivals(rt, alloc, lab, arrivals, connections, sink, &NoGate, writer)))
+    let arrivals = arrivals_of(rt.alloc(), texts)?;
+    let lab = read_lab(rt.alloc(), BUILT_IN.as_bytes())?;
+    Ok(serve_over(rt, lab, arrivals, connections, writer))
 }
 
 /// Whether a house is left in which each connection, by its number, was written what is wanted.
@@ -106,21 +125,37 @@ const BYE: &str = "{\"do\":\"bye\"}\n";
 
 const LEFT: &str = "{\"ok\":\"bye\"}\n";
 
+/// Whether the last two of three texts are answered in their order, as a server writes to this writer.
+fn are_two_answered<R: Threads + Wait + Sync + AllocGlobal>(
+    rt: &R,
+    writer: &mut FakeWriter,
+) -> Result<bool, Fail> {
+    let ended = serve_texts(rt, &["", BYE, MOVE], 2, writer)?;
+    Ok(are_answered_so(&ended, &[(1, GRANTED), (2, LEFT)]))
+}
+
 #[test]
 fn connections_are_left_in_the_order_in_which_they_came(rt: HostRuntime) -> Result<(), Fail> {
     let mut writer = FakeWriter::patient(rt.alloc());
-    let ended = serve_texts(&rt, &["", BYE, MOVE], 2, &mut writer)?;
-    let are_so = are_answered_so(&ended, &[(1, GRANTED), (2, LEFT)]);
+    let are_so = are_two_answered(&rt, &mut writer)?;
     let done = "done: 1 events, configuration 0\n";
     assert!(rt; (are_so, writer.taken.as_slice()) == (true, done.as_bytes()));
     Ok(())
 }
 
+/// Whether it is a fault that of two connections one comes.
+fn is_one_refused<R: Threads + Wait + Sync + AllocGlobal>(
+    rt: &R,
+    writer: &mut FakeWriter,
+) -> Result<bool, Fail> {
+    let ended = serve_texts(rt, &[MOVE], 2, writer)?;
+    Ok(matches!(ended, Some(Err(ServeFault::Accept))))
+}
+
 #[test]
 fn a_connection_that_does_not_come_is_a_fault(rt: HostRuntime) -> Result<(), Fail> {
     let mut writer = FakeWriter::patient(rt.alloc());
-    let ended = serve_texts(&rt, &[MOVE], 2, &mut writer)?;
-    let is_refused = matches!(ended, Some(Err(ServeFault::Accept)));
+    let is_refused = is_one_refused(&rt, &mut writer)?;
     assert!(rt; (is_refused, writer.taken.is_empty()) == (true, true));
     Ok(())
 }

@@ -81,6 +81,7 @@ fn faults_have_lines_and_statuses(rt: HostRuntime) -> Result<(), Fail> {
 
 #[test]
 fn want_of_memory_refuses_no_lab(rt: HostRuntime) {
-    assert_eq!(rt; Fault::from(LabFault::Memory), Fault::Memory);
-    assert_eq!(rt; Fault::from(LabFault::Id(IdFault::Memory)), Fault::Memory);
+    let lab = Fault::from(LabFault::Memory);
+    let id = Fault::from(LabFault::Id(IdFault::Memory));
+    assert_eq!(rt; (lab, id), (Fault::Memory, Fault::Memory));
 }

@@ -1,5 +1,5 @@
 //! What `check` says of lab files: the size of a lab, or the line of its first fault.
-use mml_lab::{Lab, read_lab};
+use mml_lab::{Lab, LabFault, read_lab};
 use mml_program::{BUILT_IN, Fault, write_size};
 use std::alloc::{AllocError, Global};
 use std::test::Fail;
@@ -19,16 +19,21 @@ fn is_size(alloc: Global, lab: &Lab, line: &str) -> Result<bool, Fail> {
     Ok(out.strip_suffix(b"\n") == Some(line.as_bytes()))
 }
 
-fn is_refusal(alloc: Global, fault: &Fault, line: &str) -> Result<bool, AllocError> {
+fn is_refusal(alloc: Global, fault: &Fault, line: &str) -> Result<bool, Fail> {
     let told = fault.to_string(alloc)?;
     Ok(fault.status() == 2 && told.as_str() == line)
+}
+
+fn is_refused_so(alloc: Global, fault: LabFault, line: &str) -> Result<bool, Fail> {
+    let fault = Fault::from(fault);
+    is_refusal(alloc, &fault, line)
 }
 
 // Whether that is said of a file with these bytes: its size, or a refusal with status 2.
 fn is_said(alloc: Global, bytes: &[u8], line: &str) -> Result<bool, Fail> {
     match read_lab(alloc, bytes) {
         Ok(lab) => is_size(alloc, &lab, line),
-        Err(fault) => Ok(is_refusal(alloc, &Fault::from(fault), line)?),
+        Err(fault) => is_refused_so(alloc, fault, line),
     }
 }
 

@@ -114,22 +114,47 @@ fn serve_lab<R: Threads + Wait + Sync, G: Gate + Sync, W: Write>(
     Some(serve_on(rt, alloc, lab, listener, connections, sink, gate, writer))
 }
 
+/// Serves so many connections of a listener over a lab, these clients among them, with a journal that
+/// fails at a put and a writer that takes so many writes.
+fn serve_streams<R: Threads + Wait + Sync + AllocGlobal, G: Gate + Sync>(
+    rt: &R,
+    lab: &str,
+    listener: TcpListener,
+    streams: &[TcpStream],
+    connections: u8,
+    fail_at: Option<u64>,
+    writes: usize,
+    gate: &G,
+) -> Result<Served, Fail> {
+    let mut writer = FakeWriter::failing_after(writes, rt.alloc());
+    let ended = serve(rt, lab, listener, connections, fail_at, gate, &mut writer)?;
+    let replies = replies_to(rt.alloc(), streams)?;
+    Ok(Served {
+        ended,
+        written: writer.taken,
+        replies,
+    })
+}
+
 /// Serves a client for each text over a lab.
 fn serve_clients<
     R: Net<Listener = TcpListener, Stream = TcpStream> + Threads + Wait + Sync + AllocGlobal,
     G: Gate + Sync,
 >(rt: &R, lab: &str, texts: &[&str], gate: &G) -> Result<Served, Fail> {
-    let alloc = rt.alloc();
+    let connections = u8::try_from(texts.len()).map_err(|_| "too many texts")?;
     let listener = listener(rt)?;
     let streams = clients(rt, &listener, texts)?;
-    let connections = u8::try_from(texts.len()).map_err(|_| "too many texts")?;
-    let mut writer = FakeWriter::patient(alloc);
-    let ended = serve(rt, lab, listener, connections, None, gate, &mut writer)?;
-    Ok(Served {
-        ended,
-        written: writer.taken,
-        replies: replies_to(alloc, streams.as_slice())?,
-    })
+    let all = usize::MAX;
+    serve_streams(
+        rt,
+        lab,
+        listener,
+        streams.as_slice(),
+        connections,
+        None,
+        all,
+        gate,
+    )
 }
 
 /// Whether all connections were served, the last line is so, and each client got what is wanted.
@@ -138,6 +163,15 @@ fn is_served_so(served: &Served, done: &str, replies: &[&str]) -> bool {
     served.ended == Some(Ok(()))
         && served.written.as_slice() == done.as_bytes()
         && found.eq(replies.iter().copied())
+}
+
+/// Serves a client for each text over a lab, and tells whether it ended so.
+fn are_served_so<
+    R: Net<Listener = TcpListener, Stream = TcpStream> + Threads + Wait + Sync + AllocGlobal,
+    G: Gate + Sync,
+>(rt: &R, lab: &str, texts: &[&str], gate: &G, done: &str, replies: &[&str]) -> Result<bool, Fail> {
+    let served = serve_clients(rt, lab, texts, gate)?;
+    Ok(is_served_so(&served, done, replies))
 }
 
 /// The lines of a script whose lines all come on connection 1, or of its replies, without the number.
@@ -163,28 +197,51 @@ impl Gate for Together {
     }
 }
 
-#[test]
-fn two_clients_are_served_at_once(rt: HostRuntime) -> Result<(), Fail> {
+/// Whether two clients are served that both say what `FIRST_LOOK` says.
+fn are_two_looks_served<
+    R: Net<Listener = TcpListener, Stream = TcpStream> + Threads + Wait + Sync + AllocGlobal,
+>(rt: &R, gate: &Together) -> Result<bool, Fail> {
     let text = without_numbers(rt.alloc(), FIRST_LOOK)?;
     let replies = without_numbers(rt.alloc(), FIRST_LOOK_REPLIES)?;
-    let gate = Together(Meeting::of(2));
-    let served = serve_clients(&rt, BUILT_IN, &[text.as_str(), text.as_str()], &gate)?;
+    let texts = [text.as_str(), text.as_str()];
     let wanted = [replies.as_str(), replies.as_str()];
-    assert!(rt; is_served_so(&served, "done: 0 events, configuration 0\n", &wanted));
-    assert!(rt; gate.0.was_held());
+    are_served_so(rt, BUILT_IN, &texts, gate, NOTHING_DONE, &wanted)
+}
+
+#[test]
+fn two_clients_are_served_at_once(rt: HostRuntime) -> Result<(), Fail> {
+    let gate = Together(Meeting::of(2));
+    let are_served = are_two_looks_served(&rt, &gate)?;
+    assert_eq!(rt; (are_served, gate.0.was_held()), (true, true));
     Ok(())
 }
 
+/// The last line of a server over a lab in which nothing happened.
+const NOTHING_DONE: &str = "done: 0 events, configuration 0\n";
+
 const HELLO_TEACHER: &str = "{\"do\":\"hello\",\"key\":\"chalk\",\"name\":\"tess\"}\n";
+
+/// Whether sixteen clients are served that all greet.
+fn are_sixteen_greeted<
+    R: Net<Listener = TcpListener, Stream = TcpStream> + Threads + Wait + Sync + AllocGlobal,
+>(rt: &R, gate: &Together) -> Result<bool, Fail> {
+    let lab = BUILT_IN.replacen(rt.alloc(), "sessions = 4", "sessions = 16", 1)?;
+    let wanted = ["{\"ok\":\"hello\",\"who\":\"tess\"}\n"; 16];
+    are_served_so(
+        rt,
+        lab.as_str(),
+        &[HELLO_TEACHER; 16],
+        gate,
+        NOTHING_DONE,
+        &wanted,
+    )
+}
 
 #[test]
 fn sixteen_clients_are_served_at_once(rt: HostRuntime) -> Result<(), Fail> {
-    let lab = BUILT_IN.replacen(rt.alloc(), "sessions = 4", "sessions = 16", 1)?;
     let gate = Together(Meeting::of(16));
-    let served = serve_clients(&rt, lab.as_str(), &[HELLO_TEACHER; 16], &gate)?;
-    let wanted = ["{\"ok\":\"hello\",\"who\":\"tess\"}\n"; 16];
-    assert!(rt; is_served_so(&served, "done: 0 events, configuration 0\n", &wanted));
-    assert!(rt; gate.0.was_held());
+    let are_served = are_sixteen_greeted(&rt, &gate)?;
+    assert_eq!(rt; (are_served, gate.0.was_held()), (true, true));
     Ok(())
 }
 
@@ -200,15 +257,22 @@ const CHOSEN: &str = "{\"ok\":\"hello\",\"who\":\"ana\"}
 {\"clause\":3,\"deny\":\"chosen\",\"text\":\"this node is already chosen\"}
 ";
 
-#[test]
-fn one_of_two_raced_moves_is_granted(rt: HostRuntime) -> Result<(), Fail> {
-    let gate = Together(Meeting::of(2));
-    let served = serve_clients(&rt, BUILT_IN, &[MOVE, MOVE], &gate)?;
+/// Whether of two moves of one node either is granted, and the other denied.
+fn is_one_move_granted<
+    R: Net<Listener = TcpListener, Stream = TcpStream> + Threads + Wait + Sync + AllocGlobal,
+>(rt: &R, gate: &Together) -> Result<bool, Fail> {
+    let served = serve_clients(rt, BUILT_IN, &[MOVE, MOVE], gate)?;
     let done = "done: 1 events, configuration 0\n";
     let first = is_served_so(&served, done, &[GRANTED, CHOSEN]);
     let second = is_served_so(&served, done, &[CHOSEN, GRANTED]);
-    assert!(rt; first || second);
-    assert!(rt; gate.0.was_held());
+    Ok(first || second)
+}
+
+#[test]
+fn one_of_two_raced_moves_is_granted(rt: HostRuntime) -> Result<(), Fail> {
+    let gate = Together(Meeting::of(2));
+    let is_granted = is_one_move_granted(&rt, &gate)?;
+    assert_eq!(rt; (is_granted, gate.0.was_held()), (true, true));
     Ok(())
 }
 
@@ -244,8 +308,9 @@ fn connections_are_numbered_as_they_come(rt: HostRuntime) -> Result<(), Fail> {
         replies: AtomicU64::new(0),
         wanted: 2,
     };
-    let served = serve_clients(&rt, BUILT_IN, &[MOVE, STEP], &gate)?;
     let done = "done: 2 events, configuration 1\n";
-    assert!(rt; is_served_so(&served, done, &[GRANTED, STEP_REPLIES]));
+    let wanted = [GRANTED, STEP_REPLIES];
+    let are_served = are_served_so(&rt, BUILT_IN, &[MOVE, STEP], &gate, done, &wanted)?;
+    assert!(rt; are_served);
     Ok(())
 }

@@ -1,15 +1,18 @@
 //! Clients that go away, and servers that end with a fault.
 use super::{
-    BUILT_IN, GRANTED, HELLO_TEACHER, MOVE, Served, clients, is_served_so, listener, replies_to,
-    serve, serve_clients,
+    BUILT_IN, GRANTED, HELLO_TEACHER, MOVE, Served, are_served_so, clients, is_served_so, listener,
+    serve_streams,
 };
-use mml_fakes::FakeWriter;
 use mml_serving::ServeFault;
 use mml_session::NoGate;
+use std::io;
 use std::net::{Net, TcpListener, TcpStream};
 use std::sync::Wait;
 use std::test::Fail;
 use std::thread::Threads;
+
+/// The last line of a server over a lab in which a move was chosen.
+const ONE_DONE: &str = "done: 1 events, configuration 0\n";
 
 #[test]
 fn unended_lines_are_not_answered(rt: HostRuntime) -> Result<(), Fail> {
@@ -19,67 +22,82 @@ fn unended_lines_are_not_answered(rt: HostRuntime) -> Result<(), Fail> {
         "",
         "{\"do\":\"bye\"}\n{\"do\":\"bye\"}",
     ];
-    let served = serve_clients(&rt, BUILT_IN, &texts, &NoGate)?;
     let replies = ["", GRANTED, "", "{\"ok\":\"bye\"}\n"];
-    assert!(rt; is_served_so(&served, "done: 1 events, configuration 0\n", &replies));
+    let are_served = are_served_so(&rt, BUILT_IN, &texts, &NoGate, ONE_DONE, &replies)?;
+    assert!(rt; are_served);
     Ok(())
+}
+
+// Connects a client that sends a move and goes away.
+fn come_and_go<R: Net<Listener = TcpListener, Stream = TcpStream> + AllocGlobal>(
+    rt: &R,
+    listener: &TcpListener,
+) -> io::Result<()> {
+    let gone = clients(rt, listener, &[MOVE])?;
+    drop(gone);
+    Ok(())
+}
+
+// What came of that client and of one that stays and greets.
+fn served_after_one_gone<
+    R: Net<Listener = TcpListener, Stream = TcpStream> + Threads + Wait + Sync + AllocGlobal,
+>(rt: &R) -> Result<Served, Fail> {
+    let listener = listener(rt)?;
+    come_and_go(rt, &listener)?;
+    let streams = clients(rt, &listener, &[HELLO_TEACHER])?;
+    let all = usize::MAX;
+    serve_streams(
+        rt,
+        BUILT_IN,
+        listener,
+        streams.as_slice(),
+        2,
+        None,
+        all,
+        &NoGate,
+    )
 }
 
 // A client that is gone before it is answered leaves its event, and another to be served to its end.
 #[test]
 fn a_client_may_be_gone_before_its_reply(rt: HostRuntime) -> Result<(), Fail> {
-    let listener = listener(&rt)?;
-    let gone = clients(&rt, &listener, &[MOVE])?;
-    drop(gone);
-    let streams = clients(&rt, &listener, &[HELLO_TEACHER])?;
-    let mut writer = FakeWriter::patient(rt.alloc());
-    let ended = serve(&rt, BUILT_IN, listener, 2, None, &NoGate, &mut writer)?;
-    let served = Served {
-        ended,
-        written: writer.taken,
-        replies: replies_to(rt.alloc(), streams.as_slice())?,
-    };
+    let served = served_after_one_gone(&rt)?;
     let wanted = ["{\"ok\":\"hello\",\"who\":\"tess\"}\n"];
-    assert!(rt; is_served_so(&served, "done: 1 events, configuration 0\n", &wanted));
+    assert!(rt; is_served_so(&served, ONE_DONE, &wanted));
     Ok(())
 }
 
-// What a server with one client ends with, what it wrote, and what the client got: over a listener that
-// doesn't wait, so that more connections than clients can't be accepted, and a writer that takes so
-// many writes.
+// What came of a server with one client: over a listener that doesn't wait, so that more connections
+// than clients can't be accepted, and a writer that takes nothing.
 fn ended_with<
     R: Net<Listener = TcpListener, Stream = TcpStream> + Threads + Wait + Sync + AllocGlobal,
->(
-    rt: &R,
-    connections: u8,
-    fail_at: Option<u64>,
-    writes: usize,
-) -> Result<(Option<Result<(), ServeFault>>, Vec<u8>, Vec<String>), Fail> {
+>(rt: &R, connections: u8, fail_at: Option<u64>) -> Result<Served, Fail> {
     let listener = listener(rt)?;
     listener.set_nonblocking(true)?;
     let streams = clients(rt, &listener, &[MOVE])?;
-    let mut writer = FakeWriter::failing_after(writes, rt.alloc());
-    let ended = serve(
+    serve_streams(
         rt,
         BUILT_IN,
         listener,
+        streams.as_slice(),
         connections,
         fail_at,
+        0,
         &NoGate,
-        &mut writer,
-    )?;
-    Ok((
-        ended,
-        writer.taken,
-        replies_to(rt.alloc(), streams.as_slice())?,
-    ))
+    )
 }
 
 const REFUSED: &str = "{\"ok\":\"hello\",\"who\":\"ana\"}
 {\"refuse\":\"journal\"}
 ";
 
-// Whether a server ends with that fault and without its last line, and its client is served to its end.
+// Whether a server ended with that fault and without its last line, and its client was served to its
+// end.
+fn is_ended_so(served: &Served, fault: ServeFault, reply: &str) -> bool {
+    let replied = served.replies.iter().any(|found| found.as_str() == reply);
+    served.ended == Some(Err(fault)) && served.written.is_empty() && replied
+}
+
 fn ends_so<
     R: Net<Listener = TcpListener, Stream = TcpStream> + Threads + Wait + Sync + AllocGlobal,
 >(
@@ -89,16 +107,16 @@ fn ends_so<
     fault: ServeFault,
     reply: &str,
 ) -> Result<bool, Fail> {
-    let (ended, written, replies) = ended_with(rt, connections, fail_at, 0)?;
-    let replied = replies.iter().any(|found| found.as_str() == reply);
-    Ok(ended == Some(Err(fault)) && written.is_empty() && replied)
+    let served = ended_with(rt, connections, fail_at)?;
+    Ok(is_ended_so(&served, fault, reply))
 }
 
 #[test]
 fn faults_come_after_the_sessions(rt: HostRuntime) -> Result<(), Fail> {
-    assert!(rt; ends_so(&rt, 1, None, ServeFault::Write, GRANTED)?);
-    assert!(rt; ends_so(&rt, 1, Some(1), ServeFault::Halted, REFUSED)?);
-    assert!(rt; ends_so(&rt, 2, None, ServeFault::Accept, GRANTED)?);
-    assert!(rt; ends_so(&rt, 4, Some(1), ServeFault::Accept, REFUSED)?);
+    let write = ends_so(&rt, 1, None, ServeFault::Write, GRANTED)?;
+    let halted = ends_so(&rt, 1, Some(1), ServeFault::Halted, REFUSED)?;
+    let accept = ends_so(&rt, 2, None, ServeFault::Accept, GRANTED)?;
+    let halted_accept = ends_so(&rt, 4, Some(1), ServeFault::Accept, REFUSED)?;
+    assert_eq!(rt; [write, halted, accept, halted_accept], [true; 4]);
     Ok(())
 }

@@ -114,6 +114,21 @@ fn connect_beside<R: Net<Listener = TcpListener, Stream = TcpStream> + AllocGlob
     Ok((unread, connect(rt, listener, 2)?))
 }
 
+/// A lab whose network is a cycle of 256 nodes.
+fn largest_cycle(alloc: Global) -> Result<Lab, Fail> {
+    let file = cycle(alloc, 256, 100, 3)?;
+    Ok(read_lab(alloc, file.as_bytes())?)
+}
+
+fn served_of(ended: Ended, replies: io::Result<Vec<String>>) -> Result<Served, Fail> {
+    let (ended, written) = ended;
+    Ok(Served {
+        ended,
+        written,
+        replies: replies?,
+    })
+}
+
 fn serve_unread<
     R: Clock
         + Net<Listener = TcpListener, Stream = TcpStream>
@@ -122,17 +137,25 @@ fn serve_unread<
         + Sync
         + AllocGlobal,
 >(rt: &R, gate: &Counting) -> Result<Served, Fail> {
-    let alloc = rt.alloc();
     let listener = listener(rt)?;
     let (unread, others) = connect_beside(rt, &listener)?;
-    let file = cycle(alloc, 256, 100, 3)?;
-    let lab = read_lab(alloc, file.as_bytes())?;
-    let ((ended, written), replies) = serve_beside(rt, alloc, lab, listener, unread, others, gate);
-    Ok(Served {
-        ended,
-        written,
-        replies: replies?,
-    })
+    let lab = largest_cycle(rt.alloc())?;
+    let (ended, replies) = serve_beside(rt, rt.alloc(), lab, listener, unread, others, gate);
+    served_of(ended, replies)
+}
+
+/// Whether the two others are served to their ends.
+fn are_others_served<
+    R: Clock
+        + Net<Listener = TcpListener, Stream = TcpStream>
+        + Threads
+        + Wait
+        + Sync
+        + AllocGlobal,
+>(rt: &R, gate: &Counting) -> Result<bool, Fail> {
+    let served = serve_unread(rt, gate)?;
+    let done = "done: 2 events, configuration 1\n";
+    Ok(is_served_so(&served, done, &[GRANTED, STEP_REPLIES]))
 }
 
 // The session whose replies stand unread is held in a write: that holds up no other, and ends when the
@@ -142,10 +165,11 @@ fn a_client_may_never_read(rt: HostRuntime) -> Result<(), Fail> {
     let gate = Counting {
         replies: AtomicU64::new(0),
     };
-    let served = serve_unread(&rt, &gate)?;
-    let done = "done: 2 events, configuration 1\n";
-    assert!(rt; is_served_so(&served, done, &[GRANTED, STEP_REPLIES]));
+    let are_served = are_others_served(&rt, &gate)?;
     let replies = gate.replies.load(Ordering::SeqCst);
-    assert!(rt; replies > 0 && replies < REPORTS, "{replies}");
+    assert_eq!(rt;
+        (are_served, replies > 0, replies < REPORTS),
+        (true, true, true)
+    );
     Ok(())
 }
