@@ -1,12 +1,9 @@
 //! The words of the command line.
-ghost use Rattle.std.specs.Prelude.{◌≡◌, ◌≤◌, decimal, IfSome};
-ghost use Rattle.std.specs.Int.NonZero.{non_zero_u16_get};
 
 use crate::fault::Fault;
 use clap::error::ErrorKind;
 use clap::{Arg, ArgAction, ArgMatches, Command};
-use itoa::Buffer;
-use mml_lab::MAX_SESSIONS;
+use mml_serving::{read_connections, read_port};
 use std::alloc::{AllocError, Global};
 use std::num::{NonZeroU8, NonZeroU16};
 
@@ -75,31 +72,11 @@ fn task_of<'a>(name: &str, values: &ArgMatches<'a>) -> Option<Task<'a>> {
         }
         "serve" => Some(Task::Serve(ServeTask {
             lab,
-            port: number_of(values.get_str("port")?, u64::from(u16::MAX))?,
-            connections: connections_of(values.get_str("connections")?)?,
+            port: read_port(values.get_str("port")?)?,
+            connections: read_connections(values.get_str("connections")?)?,
             journal: values.get_str("journal"),
         })),
         _ => None,
-    }
-}
-
-// How many connections are served: from 1 to the most sessions of a lab.
-fn connections_of(text: &str) -> Option<NonZeroU8> {
-    let number = number_of(text, MAX_SESSIONS)?;
-    NonZeroU8::new(u8::try_from(number.get()).ok()?)
-}
-
-// A number from 1 to the most, in decimal without sign or leading zero.
-fn number_of(text: &str, most: u64) -> Option<NonZeroU16>
-    ensures spelled { IfSome result (λ n. text.now ≡ decimal (non_zero_u16_get n)) }
-    ensures most { IfSome result (λ n. non_zero_u16_get n ≤ most) }
-{
-    let number = text.parse::<NonZeroU16>().ok()?;
-    let mut digits = Buffer::new();
-    if u64::from(number.get()) <= most && digits.format(number.get()) == text {
-        Some(number)
-    } else {
-        None
     }
 }
 

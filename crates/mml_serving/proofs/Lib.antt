@@ -1,2 +1,3 @@
+pub mod NumbersLemmas
 mod ArrivingLemmas
 mod ServingLemmas

@@ -1,3 +1,4 @@
 pub mod Arriving
 pub mod Closings
+pub mod Numbers
 pub mod Serving

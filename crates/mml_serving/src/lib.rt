@@ -3,8 +3,10 @@
 #![tactic(auto)]
 
 mod arriving;
+mod numbers;
 mod seating;
 mod serving;
 
 pub use arriving::{Arrivals, HangUp};
+pub use numbers::{read_connections, read_port};
 pub use serving::{ServeFault, serve_arrivals, serve_on, write_listening};

@@ -1,0 +1,39 @@
+//! The numbers by which a server is asked for: its port, and how many connections it serves.
+ghost use Rattle.std.specs.Prelude.{◌^◌, ◌-◌};
+ghost use Rattle.std.specs.Int.NonZero.{non_zero_u8_get, non_zero_u16_get};
+ghost use Rattle.mml_lab.specs.declared.TheConstants.{MAX_SESSIONS};
+ghost use Rattle.mml_serving.specs.Numbers.{Reads};
+
+use itoa::Buffer;
+use mml_lab::MAX_SESSIONS;
+use std::num::{NonZeroU8, NonZeroU16};
+
+/// The port that a text names: a number in decimal, without sign or leading zero.
+pub fn read_port(text: &str) -> Option<NonZeroU16>
+    ensures { Reads non_zero_u16_get (2 ^ 16 - 1) text.now result }
+{
+    let number = number_of(text, u64::from(u16::MAX))?;
+    NonZeroU16::new(number as u16)
+}
+
+/// How many connections a text asks for, at most as many as a lab may have sessions: a number in
+/// decimal, without sign or leading zero.
+pub fn read_connections(text: &str) -> Option<NonZeroU8>
+    ensures { Reads non_zero_u8_get MAX_SESSIONS text.now result }
+{
+    let number = number_of(text, MAX_SESSIONS)?;
+    NonZeroU8::new(number as u8)
+}
+
+// The number that a text spells.
+fn number_of(text: &str, most: u64) -> Option<u64>
+    ensures { Reads (λ n. n) most text.now result }
+{
+    let number = text.parse::<u64>().ok()?;
+    let mut digits = Buffer::new();
+    if 0 < number && number <= most && digits.format(number) == text {
+        Some(number)
+    } else {
+        None
+    }
+}
