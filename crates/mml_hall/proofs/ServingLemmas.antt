@@ -1,5 +1,5 @@
 -- What comes of a line, from what its parts say.
-use Rattle.std.proofs.Common.{◌≡◌, ℕ, ◌+◌, ◌-◌, ◌*◌, ◌<◌, ◌≤◌, arith, List, [], ◌∷◌, ◌++◌, append_assoc, decimal, length, ◌∙◌, ap, refl, Option, subst, OnOk, IfErr, Result, Ok, Err}
+use Rattle.std.proofs.Common.{◌≡◌, ℕ, ◌+◌, ◌-◌, ◌*◌, ◌<◌, ◌≤◌, arith, List, [], ◌∷◌, ◌++◌, append_assoc, decimal, length, ◌∙◌, ap, refl, sym, Option, subst, OnOk, IfErr, Result, Ok, Err}
 use Rattle.std.specs.Prelude.{⊤}
 use Rattle.mml_lines.proofs.SendingLemmas.{nothing_sent}
 use Rattle.mml_lines.specs.Sending.{BreaksOff, Sends}
@@ -15,6 +15,7 @@ use Rattle.mml_hall.specs.declared.script.Next.{Next}
 use Rattle.mml_hall.specs.declared.script.Next.TheVariants as next
 use Rattle.mml_hall.specs.Turns.{State, RequestLine, Turn}
 use Rattle.mml_hall.specs.ScriptLines.{IsScriptLine, script_line}
+use Rattle.mml_hall.specs.Scripts.{LineTurn, line_read}
 use Rattle.mml_hall.specs.Transcripts.{output_line}
 use Rattle.mml_hall.specs.Serving.{ServesLine, ServesNext, ServesText}
 use Rattle.mml_hall.proofs.ScriptLinesLemmas.{ComesBad, bad_line}
@@ -41,16 +42,16 @@ serves_line r lab st after line reply front whole unsent unsent' wrote wrote' va
 -- a line was taken, short enough, and no more than one read brought in is held after it
 module _ (lab : LabValue) (st after : State) (a left wrote wrote' : Option (List ℕ)) (held line : List ℕ) (unsent unsent' : List (List ℕ)) (taken : Consumes a (prepend_known held left) (ended line))
     (short : IsWithinLimit MAX_SCRIPT_LINE line) (few : length held < READ_SIZE) where
-  taken_by : (s : RequestLine) → line ≡ script_line s → Consumes a (prepend_known held left) (ended (script_line s))
-  taken_by s spelled = subst (λ (t : List ℕ). Consumes a (prepend_known held left) (ended t)) spelled taken
+  taken_by : (s : RequestLine) (t : LineTurn lab st after) → line ≡ script_line s → t.line ≡ s → Consumes a (prepend_known held left) (line_read t)
+  taken_by s t spelled same = subst (λ (bytes : List ℕ). Consumes a (prepend_known held left) (ended bytes)) (spelled ∙ ap script_line (sym same)) taken
 
   pub serves_next : (n : Next) → ServesText n lab st after line unsent unsent' wrote wrote' → ServesNext n lab st after a held left unsent unsent' wrote wrote'
-  serves_next next.Answered had = (had.0, taken_by had.0.line had.1, had.2)
+  serves_next next.Answered had = (had.2.0, taken_by had.0 had.2.0 had.1 had.2.1, had.2.2)
   serves_next next.End had = absurd had
   serves_next next.BadLine had =
       let comes = bad_line a left line held MAX_SCRIPT_LINE lab.sessions taken refl short few had.0 in (comes.0, comes.1, comes.2, had.1)
   serves_next next.ReadFault had = absurd had
-  serves_next (next.WriteFault fault) had = (had.0, taken_by had.0.line had.1, few, had.2)
+  serves_next (next.WriteFault fault) had = (had.2.0, taken_by had.0 had.2.0 had.1 had.2.1, few, had.2.2)
 
 pub bad_next : (lab : LabValue) (st after : State) (a left wrote : Option (List ℕ)) (held : List ℕ) (unsent : List (List ℕ)) → ComesBad lab.sessions a left
     → ServesNext next.BadLine lab st after a held left unsent unsent wrote wrote

@@ -24,13 +24,13 @@ ServesLine (Err fault) lab st after line unsent unsent' wrote wrote' =
 -- what came of a line that was read, by what it is: a script line, which had its turn, or none
 abbrev pub ServesText : Next → LabValue → State → State → List ℕ → List (List ℕ) → List (List ℕ) → Option (List ℕ) → Option (List ℕ) → Type 0
 ServesText next.Answered lab st after line unsent unsent' wrote wrote' =
-    (t : LineTurn lab st after) × (line ≡ script_line t.line) × Sends wrote wrote' (unsent ++ line_written t ∷ []) unsent'
+    (s : RequestLine) × (line ≡ script_line s) × ServesLine (Ok tt) lab st after s unsent unsent' wrote wrote'
 ServesText next.End lab st after line unsent unsent' wrote wrote' = ⊥
 ServesText next.BadLine lab st after line unsent unsent' wrote wrote' =
     ((s : RequestLine) → IsScriptLine lab.sessions s → line ≢ script_line s) × Sends wrote wrote' unsent unsent'
 ServesText next.ReadFault lab st after line unsent unsent' wrote wrote' = ⊥
 ServesText (next.WriteFault fault) lab st after line unsent unsent' wrote wrote' =
-    (t : LineTurn lab st after) × (line ≡ script_line t.line) × BreaksOff fault wrote wrote' (unsent ++ line_written t ∷ [])
+    (s : RequestLine) × (line ≡ script_line s) × ServesLine (Err fault) lab st after s unsent unsent' wrote wrote'
 
 -- what came of the next line says of the states, of the bytes to come, of which those held are first, of the lines that aren't
 -- written and of the bytes that are
