@@ -1,8 +1,8 @@
--- The reply to a grant names its place.
-use Rattle.std.proofs.Common.{◌≡◌, ℕ, Some, refl}
+-- The reply to a grant names its place, and is short.
+use Rattle.std.proofs.Common.{◌≡◌, ℕ, true, Some, refl}
 use Rattle.mml_board.specs.declared.done.Done.{Done}
 use Rattle.mml_board.specs.declared.done.Done.TheVariants as done
-use Rattle.mml_codec.specs.Replies.{place_in}
+use Rattle.mml_codec.specs.Replies.{place_in, is_short}
 use Rattle.mml_codec.specs.Rulings.{reply_of_done}
 
 pub place_of_done : (at place : ℕ) (d : Done) → place_in (reply_of_done at place d) ≡ Some place
@@ -12,3 +12,11 @@ place_of_done at place (done.Fault node dropped) = refl
 place_of_done at place (done.Link a b dropped) = refl
 place_of_done at place (done.Cut a b dropped) = refl
 place_of_done at place (done.Release node) = refl
+
+pub short_done : (at place : ℕ) (d : Done) → is_short (reply_of_done at place d) ≡ true
+short_done at place (done.Move node kind) = refl
+short_done at place (done.Close moved) = refl
+short_done at place (done.Fault node dropped) = refl
+short_done at place (done.Link a b dropped) = refl
+short_done at place (done.Cut a b dropped) = refl
+short_done at place (done.Release node) = refl

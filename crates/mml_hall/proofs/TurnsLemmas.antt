@@ -22,7 +22,7 @@ use Rattle.mml_codec.specs.Greetings.{greeting, admitted}
 use Rattle.mml_codec.specs.Lines.{request_in}
 use Rattle.mml_codec.specs.Replies.{is_short, TellsFor}
 use Rattle.mml_codec.specs.Rulings.{reply_of_done}
-use Rattle.mml_codec.proofs.RulingsLemmas.{place_of_done}
+use Rattle.mml_codec.proofs.RulingsLemmas.{place_of_done, short_done}
 use Rattle.mml_hall.specs.Turns.{State, Outcome, Turn, IsRefusal, GrowsByGrant, is_grant, nothing, while_read, later, sink_failed, known_on, with_known, told, settled, answer_to, plain_turn, takes_memory, without_memory, is_grant, halting, IsKept}
 
 -- nothing changes where a connection stays known as it was
@@ -150,14 +150,6 @@ others_turn lab st k j line out (sink_failed, e) some some' differ =
 never : true ≡ false → ⊥
 never h = cc
 
-granted_is_short : (at place : ℕ) (d : Done) → is_short (reply_of_done at place d) ≡ false → ⊥
-granted_is_short at place (done.Move node kind) h = never h
-granted_is_short at place (done.Close moved) h = never h
-granted_is_short at place (done.Fault node dropped) h = never h
-granted_is_short at place (done.Link a b dropped) h = never h
-granted_is_short at place (done.Cut a b dropped) h = never h
-granted_is_short at place (done.Release node) h = never h
-
 long_told : (st : State) (r : Ruling) → is_short (told st r).reply ≡ false → (told st r).state ≡ st
 long_told st (Denied d) h = refl
 long_told st (Seen s) h = refl
@@ -165,7 +157,7 @@ long_told st (Looked l) h = refl
 long_told st Reported h = refl
 long_told st Full h = refl
 long_told st Journal h = refl
-long_told st (Granted e d) h = absurd (granted_is_short _ _ d h)
+long_told st (Granted e d) h = absurd (never (sym (short_done _ _ d) ∙ h))
 
 long_admission : (lab : LabValue) (st : State) (k : ℕ) (found : Option Who) → is_short (settled lab st k (admitted found)).reply ≡ false → ⊥
 long_admission lab st k None h = never h

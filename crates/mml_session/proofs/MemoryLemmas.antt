@@ -3,8 +3,6 @@ use Rattle.std.proofs.Common.{◌≡◌, ◌⊎◌, ℕ, true, false, true≢fal
 use Rattle.mml_lab.specs.declared.who.Who.{Who}
 use Rattle.mml_lab.specs.Labs.{LabValue}
 use Rattle.mml_board.specs.declared.event.Event.{Event}
-use Rattle.mml_board.specs.declared.done.Done.{Done}
-use Rattle.mml_board.specs.declared.done.Done.TheVariants as dones
 use Rattle.mml_board.specs.World.{World}
 use Rattle.mml_policy.specs.declared.command.Command.{Command}
 use Rattle.mml_policy.specs.declared.ruling.Ruling.{Ruling}
@@ -21,6 +19,7 @@ use Rattle.mml_codec.specs.Greetings.{greeting, refusal_of}
 use Rattle.mml_codec.specs.Lines.{request_in}
 use Rattle.mml_codec.specs.Replies.{is_short, TellsFor}
 use Rattle.mml_codec.specs.Rulings.{reply_of, reply_of_done}
+use Rattle.mml_codec.proofs.RulingsLemmas.{short_done}
 use Rattle.mml_window.specs.Lists.{world_in, ruling_at}
 use Rattle.mml_window.specs.Windows.{WindowValue, window}
 use Rattle.mml_session.specs.Turns.{Standing, entered, places_in, MayRefuse, Plainly, Refuses, Told, Settles, Asked, Turn}
@@ -28,14 +27,6 @@ use Rattle.mml_session.proofs.GreetingLemmas.{IsPlain, plain_greeting}
 
 long_not_short : {P : Type 0} (r q : Reply) → is_short r ≡ false → r ≡ q → is_short q ≡ true → P
 long_not_short r q long same short = absurd (true≢false (sym short ∙ (ap is_short (sym same) ∙ long)))
-
-short_done : (number place : ℕ) (done : Done) → is_short (reply_of_done number place done) ≡ true
-short_done number place (dones.Move node kind) = refl
-short_done number place (dones.Close moved) = refl
-short_done number place (dones.Fault node dropped) = refl
-short_done number place (dones.Link a b dropped) = refl
-short_done number place (dones.Cut a b dropped) = refl
-short_done number place (dones.Release node) = refl
 
 -- what isn't short shows a list, and names no place
 stays : (l : List Event) (ps : List ℕ) (r q : Reply) (new : WindowValue) → new ≡ window l (ps ++ places_in r) → r ≡ q → places_in q ≡ [] → new ≡ window l ps
