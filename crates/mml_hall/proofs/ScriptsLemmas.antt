@@ -1,5 +1,6 @@
 -- What has been answered so far, and how it ends.
-use Rattle.std.proofs.Common.{◌≡◌, ℕ, ◌+◌, List, [], ◌∷◌, ◌++◌, length, map, flat_map, refl, sym, ◌∙◌, ap, append_assoc, append-nil, Option, Some, None, subst, inl, inr, Result, Ok, Err, IfErr, IsErrAnd, ◌<◌, length-append, arith}
+use Rattle.std.proofs.Common.{◌≡◌, ℕ, ◌+◌, List, [], ◌∷◌, ◌++◌, length, map, flat_map, refl, sym, ◌∙◌, ap, append_assoc, append-nil, Option, Some, None, subst, inl, inr, Result, Ok, Err, IsErrAnd, ◌<◌, length-append, arith}
+use Rattle.std.specs.Prelude.{⊤}
 use Rattle.std.specs.List.{AllByRecursion}
 use Rattle.std.proofs.lemmas.Grind.{common_steps}
 use Rattle.std.proofs.KnownBytes.{Consumes-trans}
@@ -24,6 +25,7 @@ use Rattle.mml_hall.specs.ScriptLines.{IsScriptLine, IsBad, script_line}
 use Rattle.mml_hall.specs.Transcripts.{Transcript, output_line, output_lines, bytes_read, lines_written}
 use Rattle.mml_hall.specs.Scripts.{LineTurn, AllAnswered, Finished, Stopped, line_read, line_written}
 use Rattle.mml_hall.specs.Serving.{ServesNext}
+use Rattle.mml_hall.specs.inside.Ending.{EndsScript}
 
 longer_run : (lab : LabValue) (st mid : State) (ss : List RequestLine) (rs : List Reply) (s : RequestLine) (out : Outcome)
     → Run lab st ss rs mid → Turn lab mid s.connection s.request out → Run lab st (ss ++ s ∷ []) (rs ++ out.reply ∷ []) out.state
@@ -253,6 +255,9 @@ module _ {S : Type 0} (contents : S → Option (List ℕ)) (failures : S → ℕ
   )
 
 -- a fault that a failed write is turned into
-pub write_told : {A : Type 0} (r : Result A ScriptFault) (P : ScriptFault → Type 0) (n : ℕ) → IsErrAnd r (λ e. e ≡ fault.Write n) → P (fault.Write n) → IfErr r P
-write_told (Ok x) P n h p = tt
-write_told (Err e) P n h p = subst P (sym h) p
+pub write_told : {S : Type 0} (contents : S → Option (List ℕ)) (failures : S → ℕ) (r : Result ⊤ ScriptFault) (opened hall : HallValue S) (input left wrote wrote' : Option (List ℕ)) (n : ℕ)
+    → IsErrAnd r (λ e. e ≡ fault.Write n) → Stopped (Journals contents failures opened.lab opened.sink) (fault.Write n) opened.lab input left wrote wrote'
+    → EndsScript contents failures r opened hall input left wrote wrote'
+write_told contents failures (Ok done) opened hall input left wrote wrote' n h stopped = absurd h
+write_told contents failures (Err e) opened hall input left wrote wrote' n h stopped =
+    subst (λ (f : ScriptFault). Stopped (Journals contents failures opened.lab opened.sink) f opened.lab input left wrote wrote') (sym h) stopped

@@ -9,6 +9,7 @@ ghost use Rattle.mml_journal.specs.Taken.{IsFresh};
 ghost use Rattle.mml_hall.specs.Journals.{TellsJournal, Journals};
 ghost use Rattle.mml_hall.specs.ScriptLines.{IsScriptLine, line_of};
 ghost use Rattle.mml_hall.specs.Scripts.{Finished, Stopped};
+ghost use Rattle.mml_hall.specs.inside.Ending.{EndsScript};
 ghost use Rattle.mml_hall.specs.Serving.{ServesLine, ServesNext, ServesText, bytes_ahead};
 
 use crate::MAX_SCRIPT_LINE;
@@ -136,14 +137,9 @@ fn answer_all<R: Read, W: Write, S: Sink>(
 ) -> Result<(), ScriptFault>
     requires fresh { IsFresh (S.contents hall.old.sink) }
     requires opening { hall.old.state ≡ opening hall.old.lab }
-    ensures finished { OnOk result
-        (Finished (Journals S.contents S.failures hall.old.lab hall.old.sink)
-        hall.new hall.old.lab (R.remaining reader.old) (R.remaining reader.new)
-        (W.contents writer.old) (W.contents writer.new)) }
-    ensures stopped { IfErr result (λ fault.
-        Stopped (Journals S.contents S.failures hall.old.lab hall.old.sink)
-        fault hall.old.lab (R.remaining reader.old) (R.remaining reader.new)
-        (W.contents writer.old) (W.contents writer.new)) }
+    ensures ends { EndsScript S.contents S.failures result hall.old hall.new
+        (R.remaining reader.old) (R.remaining reader.new)
+        (W.contents writer.old) (W.contents writer.new) }
     ensures untouched { result ≡ Err ScriptFault.Memory →
         (reader.new ≡ reader.old) × (writer.new ≡ writer.old) }
 {
@@ -164,14 +160,9 @@ fn answer_lines<R: Read, W: Write, S: Sink>(
     requires nothing_read { buffers.old.lines ≡ fresh MAX_SCRIPT_LINE }
     requires room { REPLY_ROOM ≤ vec_capacity buffers.old.reply }
     requires nothing_held { buffers.old.outgoing ≡ [] }
-    ensures finished { OnOk result
-        (Finished (Journals S.contents S.failures hall.old.lab hall.old.sink)
-        hall.new hall.old.lab (R.remaining reader.old) (R.remaining reader.new)
-        (W.contents writer.old) (W.contents writer.new)) }
-    ensures stopped { IfErr result (λ fault.
-        Stopped (Journals S.contents S.failures hall.old.lab hall.old.sink)
-        fault hall.old.lab (R.remaining reader.old) (R.remaining reader.new)
-        (W.contents writer.old) (W.contents writer.new)) }
+    ensures ends { EndsScript S.contents S.failures result hall.old hall.new
+        (R.remaining reader.old) (R.remaining reader.new)
+        (W.contents writer.old) (W.contents writer.new) }
     ensures begun { result ≢ Err ScriptFault.Memory }
 {
     let mut answered: u64 = 0;

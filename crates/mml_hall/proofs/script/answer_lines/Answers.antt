@@ -13,9 +13,9 @@ loop-hall-init g c = record {
   room = c.requires.room;
 }
 
-pub returns-in_err-flush_before_read-clause-stopped : goal.returns-in_err-flush_before_read-clause-stopped
-returns-in_err-flush_before_read-clause-stopped g c =
-    write_told c.from_residual.result _ c.in_err-flush_before_read.field-0.0.written c.from_residual.ensures.1
+pub returns-in_err-flush_before_read-clause-ends : goal.returns-in_err-flush_before_read-clause-ends
+returns-in_err-flush_before_read-clause-ends g c =
+    write_told g.S.Sink.contents g.S.Sink.failures c.from_residual.result c.args.hall.now c.loop-hall.hall _ _ _ _ c.in_err-flush_before_read.field-0.0.written c.from_residual.ensures.1
     (unflushed_so g.S.Sink.contents g.S.Sink.failures c.args.hall.now.lab c.args.hall.now.sink c.loop-hall.hall c.loop-hall.answered c.in_err-flush_before_read.field-0.0 _ _ _ _ _ c.loop-hall.buffers.lines.unread c.loop-hall.buffers.outgoing
     c.loop-hall.invariant.so_far c.loop-hall.invariant.few_held c.in_err-flush_before_read.ensures.err)
 
@@ -31,33 +31,33 @@ loop-hall-preserved g c = record {
   room = c.in-Answered.ensures.room;
 }
 
-pub returns-in-End-clause-finished : goal.returns-in-End-clause-finished
-returns-in-End-clause-finished g c =
+pub returns-in-End-clause-ends : goal.returns-in-End-clause-ends
+returns-in-End-clause-ends g c =
     finished_so g.S.Sink.contents g.S.Sink.failures c.args.hall.now.lab c.args.hall.now.sink c.loop-hall.hall c.serve_next.new.hall c.loop-hall.answered _ _ _ _ _ _ c.serve_next.new.buffers.lines.unread c.flush_before_read.new.outgoing c.serve_next.new.buffers.outgoing
     (sent_on g.S.Sink.contents g.S.Sink.failures c.args.hall.now.lab c.args.hall.now.sink c.loop-hall.hall c.loop-hall.answered _ _ _ _ _ c.loop-hall.buffers.outgoing c.flush_before_read.new.outgoing c.loop-hall.invariant.so_far c.in_ok-flush_before_read.ensures.ok)
     c.in-End.ensures.lab c.in-End.ensures.journal c.in-End.ensures.halts c.in-End.ensures.serves
 
-pub returns-in_err-flush-in-BadLine-clause-stopped : goal.returns-in_err-flush-in-BadLine-clause-stopped
-returns-in_err-flush-in-BadLine-clause-stopped g c =
-    write_told c.from_residual-in_err-flush-in-BadLine.result _ c.in_err-flush-in-BadLine.field-0.0.written c.from_residual-in_err-flush-in-BadLine.ensures.1
+pub returns-in_err-flush-in-BadLine-clause-ends : goal.returns-in_err-flush-in-BadLine-clause-ends
+returns-in_err-flush-in-BadLine-clause-ends g c =
+    write_told g.S.Sink.contents g.S.Sink.failures c.from_residual-in_err-flush-in-BadLine.result c.args.hall.now c.serve_next.new.hall _ _ _ _ c.in_err-flush-in-BadLine.field-0.0.written c.from_residual-in_err-flush-in-BadLine.ensures.1
     (bad_unflushed_so g.S.Sink.contents g.S.Sink.failures c.args.hall.now.lab c.args.hall.now.sink c.loop-hall.hall c.loop-hall.answered c.in_err-flush-in-BadLine.field-0.0 _ _ _ _ _ _ _ c.serve_next.new.buffers.lines.unread c.serve_next.new.hall.state c.flush_before_read.new.outgoing c.serve_next.new.buffers.outgoing
     (sent_on g.S.Sink.contents g.S.Sink.failures c.args.hall.now.lab c.args.hall.now.sink c.loop-hall.hall c.loop-hall.answered _ _ _ _ _ c.loop-hall.buffers.outgoing c.flush_before_read.new.outgoing c.loop-hall.invariant.so_far c.in_ok-flush_before_read.ensures.ok)
     c.in-BadLine.ensures.serves c.in_err-flush-in-BadLine.ensures.err)
 
-pub returns-in-BadLine-clause-stopped : goal.returns-in-BadLine-clause-stopped
-returns-in-BadLine-clause-stopped g c =
+pub returns-in-BadLine-clause-ends : goal.returns-in-BadLine-clause-ends
+returns-in-BadLine-clause-ends g c =
     rw c.bad_line_after.ensures (bad_so g.S.Sink.contents g.S.Sink.failures c.args.hall.now.lab c.args.hall.now.sink c.loop-hall.hall c.loop-hall.answered _ _ _ _ _ _ _ c.serve_next.new.buffers.lines.unread c.serve_next.new.hall.state c.flush_before_read.new.outgoing c.serve_next.new.buffers.outgoing
     (sent_on g.S.Sink.contents g.S.Sink.failures c.args.hall.now.lab c.args.hall.now.sink c.loop-hall.hall c.loop-hall.answered _ _ _ _ _ c.loop-hall.buffers.outgoing c.flush_before_read.new.outgoing c.loop-hall.invariant.so_far c.in_ok-flush_before_read.ensures.ok)
     c.in-BadLine.ensures.serves c.in_ok-flush-in-BadLine.ensures.ok)
 
-pub returns-in-ReadFault-clause-stopped : goal.returns-in-ReadFault-clause-stopped
-returns-in-ReadFault-clause-stopped g c =
+pub returns-in-ReadFault-clause-ends : goal.returns-in-ReadFault-clause-ends
+returns-in-ReadFault-clause-ends g c =
     unread_so g.S.Sink.contents g.S.Sink.failures c.args.hall.now.lab c.args.hall.now.sink c.loop-hall.hall c.loop-hall.answered _ _ _ _ _ _ c.serve_next.new.buffers.lines.unread c.serve_next.new.hall.state c.flush_before_read.new.outgoing c.serve_next.new.buffers.outgoing
     (sent_on g.S.Sink.contents g.S.Sink.failures c.args.hall.now.lab c.args.hall.now.sink c.loop-hall.hall c.loop-hall.answered _ _ _ _ _ c.loop-hall.buffers.outgoing c.flush_before_read.new.outgoing c.loop-hall.invariant.so_far c.in_ok-flush_before_read.ensures.ok)
     c.in-ReadFault.ensures.serves
 
-pub returns-in-WriteFault-clause-stopped : goal.returns-in-WriteFault-clause-stopped
-returns-in-WriteFault-clause-stopped g c =
+pub returns-in-WriteFault-clause-ends : goal.returns-in-WriteFault-clause-ends
+returns-in-WriteFault-clause-ends g c =
     unwritten_so g.S.Sink.contents g.S.Sink.failures c.args.hall.now.lab c.args.hall.now.sink c.loop-hall.hall c.serve_next.new.hall c.loop-hall.answered c.in-WriteFault.fault _ _ _ _ _ _ c.serve_next.new.buffers.lines.unread c.flush_before_read.new.outgoing c.serve_next.new.buffers.outgoing
     (sent_on g.S.Sink.contents g.S.Sink.failures c.args.hall.now.lab c.args.hall.now.sink c.loop-hall.hall c.loop-hall.answered _ _ _ _ _ c.loop-hall.buffers.outgoing c.flush_before_read.new.outgoing c.loop-hall.invariant.so_far c.in_ok-flush_before_read.ensures.ok)
     c.in-WriteFault.ensures.lab c.in-WriteFault.ensures.journal c.in-WriteFault.ensures.halts c.in-WriteFault.ensures.serves

@@ -1,0 +1,13 @@
+-- How the functions below `run_script` end a script, in a hall that was just opened.
+use Rattle.std.specs.Prelude.{ℕ, List, Option, Result, Ok, Err, ⊤}
+use Rattle.mml_hall.specs.declared.script.ScriptFault.{ScriptFault}
+use Rattle.mml_hall.specs.Halls.{HallValue}
+use Rattle.mml_hall.specs.Journals.{Journals}
+use Rattle.mml_hall.specs.Scripts.{Finished, Stopped}
+
+-- all lines were answered, or a fault came
+abbrev pub EndsScript : {S : Type 0} → (S → Option (List ℕ)) → (S → ℕ) → Result ⊤ ScriptFault → HallValue S → HallValue S → Option (List ℕ) → Option (List ℕ) → Option (List ℕ) → Option (List ℕ) → Type 0
+EndsScript contents failures (Ok done) opened hall input left wrote wrote' =
+    Finished (Journals contents failures opened.lab opened.sink) hall opened.lab input left wrote wrote'
+EndsScript contents failures (Err fault) opened hall input left wrote wrote' =
+    Stopped (Journals contents failures opened.lab opened.sink) fault opened.lab input left wrote wrote'
