@@ -14,3 +14,4 @@ pub mod LabOfLemmas
 pub mod LinksBelowLemmas
 pub mod LinkCountLemmas
 pub mod LinksFaultLemmas
+pub mod OwnersLemmas

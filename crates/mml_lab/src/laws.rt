@@ -1,5 +1,5 @@
 //! Laws of the lab. Each is the clause of a function that does nothing.
-ghost use Rattle.std.specs.Prelude.{◌≡◌, ◌≢◌, ◌↔◌, ℕ, ℤ, pos, ◌<◌, List, length, true, false, All, Contains, Some, None, Ok, slice_get};
+ghost use Rattle.std.specs.Prelude.{◌≡◌, ◌≢◌, ◌↔◌, ℕ, ℤ, pos, ◌<◌, ◌≤◌, List, length, true, false, All, Contains, Some, None, Ok, slice_get, slice_index};
 ghost use Rattle.mml_ids.specs.Ids.{IsTable};
 ghost use Rattle.mml_ids.specs.declared.id_table.IdFault.TheVariants as id;
 ghost use Rattle.mml_rules.specs.Network.{configuration_of};
@@ -114,6 +114,16 @@ pub fn owners_are_those_of_the_file()
         IsNodeOf raw (lab_in raw) i node → s < length raw.students →
         (owns (lab_in raw).roster (Who.Student s) i ≡ true)
         ↔ Contains node.owners (name_of (lab_in raw).roster (Who.Student s)) }
+{}
+
+/// Each node of a lab that bytes spell has one or two owners, which differ.
+pub fn labs_have_owners()
+    ensures one_or_two { (bytes : List ℕ) (lab : LabValue) (i : ℕ) → lab_of bytes ≡ Ok lab →
+        i < length lab.ids →
+        (0 < length (owners_of lab.roster i)) × (length (owners_of lab.roster i) ≤ 2) }
+    ensures differ { (bytes : List ℕ) (lab : LabValue) (i j k : ℕ) → lab_of bytes ≡ Ok lab →
+        i < length lab.ids → j < k → k < length (owners_of lab.roster i) →
+        slice_index (owners_of lab.roster i) j ≢ slice_index (owners_of lab.roster i) k }
 {}
 
 /// Names have 1 to 32 bytes, keys 1 to 64; a lab has 1 to 100000 events, 1 to 16 sessions and at most

@@ -11,3 +11,4 @@ pub mod LookLemmas
 pub mod AboutLemmas
 pub mod SeenLemmas
 pub mod IdentifiersLemmas
+pub mod PrivilegedLemmas

@@ -1,12 +1,13 @@
 //! Laws of the policy. Each is the clause of a function that does nothing.
-ghost use Rattle.std.specs.Prelude.{◌≡◌, ◌<◌, ◌↔◌, ◌⊎◌, ℕ, Bool, List, Option, Some, true, false, length, slice_index};
+ghost use Rattle.std.specs.Prelude.{◌≡◌, ◌<◌, ◌↔◌, ◌⊎◌, ℕ, Bool, List, Option, None, Some, true, false, length, slice_index};
 ghost use Rattle.mml_rules.specs.declared.rule.Rule.{Rule};
 ghost use Rattle.mml_rules.specs.Configuration.{Configuration, IsLawful};
+ghost use Rattle.mml_rules.specs.Rules.{kind_of, enabled_kind, is_privileged};
 ghost use Rattle.mml_lab.specs.declared.who.Who.{Who};
 ghost use Rattle.mml_lab.specs.Rosters.{RosterValue, owns};
 ghost use Rattle.mml_board.specs.declared.event.Event.{Event};
 ghost use Rattle.mml_board.specs.declared.event.Event.TheVariants as event;
-ghost use Rattle.mml_board.specs.World.{World, size, configuration};
+ghost use Rattle.mml_board.specs.World.{World, size, configuration, chosen_at};
 ghost use Rattle.mml_board.specs.Events.{is_legal};
 ghost use Rattle.mml_policy.specs.declared.command.Asked.{Asked};
 ghost use Rattle.mml_policy.specs.declared.command.Command.{Command};
@@ -26,7 +27,7 @@ ghost use Rattle.mml_policy.specs.declared.see.See.{See};
 ghost use Rattle.mml_lab.specs.declared.who.Who.TheVariants as who;
 ghost use Rattle.mml_policy.specs.About.{IsRuled};
 ghost use Rattle.mml_policy.specs.Rulings.{ruling, event_of, after_ruling};
-ghost use Rattle.mml_policy.specs.Asking.{asker, command_of};
+ghost use Rattle.mml_policy.specs.Asking.{asker, command_of, id_of, asked_of};
 ghost use Rattle.mml_policy.specs.Alike.{Alike, IsWorldOf};
 ghost use Rattle.mml_policy.specs.Meaning.{MayMove, DeniesMove, MaySee, MayLook, MayClose, MayFault, MayLink, MayCut, MayRelease, ShowsWhatIsVisible};
 ghost use Rattle.mml_policy.specs.Shown.{see_of, look_of};
@@ -134,6 +135,19 @@ pub fn legal_events_are_granted()
     ensures { (ids : List ℕ) (r : RosterValue) (w : World) (e : Event) →
         IsTable ids → IsWorldOf ids w → (is_legal r w e ≡ true) ↔
         (verdict ids r w (asker e) (command_of ids w e) ≡ verdicts.Grant e) }
+{}
+
+/// A privileged node without a chosen move has a rule, of the kind that is shown to its owners, which is
+/// granted to each of them who asks for it at the current number.
+pub fn privileged_nodes_are_granted()
+    ensures { (ids : List ℕ) (r : RosterValue) (w : World) (i : ℕ) → IsTable ids →
+        IsWorldOf ids w → i < size w → is_privileged (configuration w) i ≡ true →
+        chosen_at w.chosen i ≡ None →
+        (rule : Rule) × (enabled_kind (configuration w) i ≡ Some (kind_of rule)) ×
+        ((s : ℕ) → owns r (Who.Student s) i ≡ true →
+        verdict ids r w (Who.Student s)
+        (command.Move (id_of ids i) (asked_of ids rule) w.number)
+        ≡ verdicts.Grant (event.Grant s i rule)) }
 {}
 
 /// What a student is answered depends on nothing that is hidden from the student: in worlds that are

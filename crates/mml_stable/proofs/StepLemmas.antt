@@ -11,7 +11,7 @@ use Rattle.mml_rules.proofs.ConfigurationLemmas.{holds-from}
 use Rattle.mml_rules.proofs.RulesLemmas.{married-partner, married-from, none-null}
 use Rattle.mml_rules.proofs.StepLemmas.{step-lawful}
 
-beq-false : (a b : Bool) → beq a b ≡ false → a ≡ not b
+pub beq-false : (a b : Bool) → beq a b ≡ false → a ≡ not b
 beq-false true true h = absurd (false≢true (sym h))
 beq-false false false h = absurd (false≢true (sym h))
 beq-false true false h = refl
@@ -61,7 +61,7 @@ weighed false true false y h e = elim e [ inl a ↦ absurd (false≢true (sym a)
 weighed true false false y h e = omega arith
 weighed true false true y h e = elim e [ inl a ↦ absurd (false≢true a) | inr a ↦ absurd (false≢true a.0) ]
 
-moved-m : (c : Configuration) (i : ℕ) (o : Option Rule) → ((r : Rule) → o ≡ Some r → guard c i r ≡ true) → ((moved c i o).m ≡ c.m i) ⊎ (((moved c i o).m ≡ is_married c i) × (c.m i ≡ not (is_married c i)))
+pub moved-m : (c : Configuration) (i : ℕ) (o : Option Rule) → ((r : Rule) → o ≡ Some r → guard c i r ≡ true) → ((moved c i o).m ≡ c.m i) ⊎ (((moved c i o).m ≡ is_married c i) × (c.m i ≡ not (is_married c i)))
 moved-m c i None h = inl refl
 moved-m c i (Some Rule.Update) h = inr (refl, beq-false (c.m i) (is_married c i) (not-true _ (h Rule.Update refl)))
 moved-m c i (Some (Rule.Marriage j)) h = inl refl

@@ -1,3 +1,8 @@
 pub mod Walk
 pub mod Reports
 pub mod Runs
+pub mod Potential
+pub mod Moves
+pub mod Rest
+pub mod Examples
+pub mod Rounds

@@ -1,6 +1,8 @@
 //! The stability report: over worlds that are easy to tell, and against a plain search.
 mod drawn;
+mod ends;
 mod plain;
+mod runs;
 
 use mml_board::{Board, Event};
 use mml_ids::Rank;

@@ -1,0 +1,36 @@
+-- When a run is over, and events that lead there.
+use Rattle.std.specs.Prelude.{◌≡◌, ℕ, ◌<◌, ◌≤◌, Bool, true, false, List, length}
+use Rattle.std.specs.List.{list_all}
+use Rattle.mml_rules.specs.declared.rule.Rule.{Rule}
+use Rattle.mml_rules.specs.Matching.{IsStable}
+use Rattle.mml_lab.specs.Rosters.{RosterValue, owners_of}
+use Rattle.mml_board.specs.declared.event.Event.{Event}
+use Rattle.mml_board.specs.declared.event.Event.TheVariants as event
+use Rattle.mml_board.specs.World.{World, configuration}
+use Rattle.mml_board.specs.Events.{is_legal}
+use Rattle.mml_board.specs.Runs.{is_legal_list, world_of}
+
+-- each node below n has an owner
+abbrev pub EachHasOwner : RosterValue → ℕ → Type 0
+EachHasOwner r n = (i : ℕ) → i < n → 0 < length (owners_of r i)
+
+-- nothing more can be granted, and no step closed
+pub record IsOver (r : RosterValue) (w : World) : Type 0 where
+  pub no_grant : (s i : ℕ) (rule : Rule) → is_legal r w (event.Grant s i rule) ≡ false
+  pub no_close : is_legal r w event.Close ≡ false
+
+-- a grant or a close
+abbrev pub is_grant_or_close : Event → Bool
+is_grant_or_close (event.Grant s i rule) = true
+is_grant_or_close (event.Release i) = false
+is_grant_or_close event.Close = true
+is_grant_or_close (event.Fault i registers) = false
+is_grant_or_close (event.Link a b) = false
+is_grant_or_close (event.Cut a b) = false
+
+-- a legal list of grants and closes, n at the most, after which no node is privileged
+pub record LeadsToRest (r : RosterValue) (w : World) (n : ℕ) (es : List Event) : Type 0 where
+  pub legal : is_legal_list r w es ≡ true
+  pub forward : list_all is_grant_or_close es ≡ true
+  pub stable : IsStable (configuration (world_of w es))
+  pub few : length es ≤ n
