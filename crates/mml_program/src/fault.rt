@@ -4,6 +4,7 @@ ghost use Rattle.std.specs.IoError.{error_kind};
 ghost use Rattle.mml_program.specs.declared.fault.Fault.TheVariants.{Memory};
 
 use crate::refusal::{AuditRefusal, LabRefusal};
+use mml_files::JournalFileFault;
 use mml_hall::{AuditFault, ScriptFault};
 use mml_lab::LabFault;
 use mml_serving::ServeFault;
@@ -50,7 +51,7 @@ pub enum Fault {
     /// There was no reader's place for a window.
     #[error("serve: no place for a window")]
     Place,
-    /// The journal's file can't be made, or a line of the journal wasn't taken whole.
+    /// The journal's file can't be made, locked or kept, or a line of the journal wasn't taken whole.
     #[error("journal fault")]
     Journal,
     /// Standard output took less than all.
@@ -101,6 +102,19 @@ impl From<AllocError> for Fault {
 
     fn from(_error: AllocError) -> Fault {
         Fault::Memory
+    }
+}
+
+impl From<JournalFileFault> for Fault {
+    ghost use Rattle.mml_program.specs.Faults.{of_journal_file};
+
+    ghost from_gives = { λ fault e. e ≡ of_journal_file fault };
+
+    fn from(fault: JournalFileFault) -> Fault {
+        match fault {
+            JournalFileFault::Refused => Fault::Journal,
+            JournalFileFault::Memory => Fault::Memory,
+        }
     }
 }
 

@@ -12,7 +12,7 @@ mod words;
 pub use answering::{answer_script, write_audit, write_size};
 pub use built_in::BUILT_IN;
 pub use fault::{Fault, memory_or};
-pub use files::{MAX_FILE, MAX_JOURNAL, journal_at, read_file, read_journal};
+pub use files::{MAX_FILE, MAX_JOURNAL, begin_journal, read_file, read_journal};
 pub use refusal::{AuditRefusal, LabRefusal};
 pub use task::run;
 pub use words::{ScriptTask, ServeTask, Task, read_words};

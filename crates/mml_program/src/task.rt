@@ -1,13 +1,14 @@
 //! From the words to the work.
-ghost use Rattle.std.specs.Prelude.{◌<◌, ◌≤◌, ◌-◌, ◌^◌};
+ghost use Rattle.std.specs.Prelude.{◌≡◌, ◌<◌, ◌≤◌, ◌-◌, ◌^◌, IfOk};
 ghost use Rattle.mml_journal.specs.Taken.{IsFresh};
 
 use crate::answering::{answer_script, write_audit, write_size};
 use crate::built_in::BUILT_IN;
 use crate::fault::{Fault, memory_or};
-use crate::files::{journal_at, read_file, read_journal};
+use crate::files::{begin_journal, read_file, read_journal};
 use crate::words::{ScriptTask, ServeTask, Task, read_words};
-use mml_journal::{NullSink, Sink};
+use mml_files::OpenJournal;
+use mml_journal::{FileSink, NullSink, Sink};
 use mml_lab::{Lab, read_lab};
 use mml_serving::{serve_on, write_listening};
 use mml_session::NoGate;
@@ -19,8 +20,9 @@ use std::sync::Wait;
 use std::thread::Threads;
 use std::{env, io};
 
-/// Does what the words of the command line ask for. The lab is read first, then the journal is made or
-/// emptied, and the script is opened or the port taken last.
+/// Does what the words of the command line ask for. The lab is read first, then the journal's file is
+/// opened, the script is read or the port taken, and only then the journal is begun: what stood in its
+/// file is kept under another name, and where an earlier step fails the file is as it was.
 pub fn run<
     R: Env
         + Files<File = File>
@@ -83,30 +85,57 @@ fn script_file<R: Files<File = File> + Print + AllocGlobal>(
 ) -> Result<(), Fault> {
     let lab = lab_of(rt, task.lab)?;
     match task.journal {
-        Some(path) => answer_file(rt, lab, task.script, journal_at(rt, path)?),
-        None => answer_file(rt, lab, task.script, NullSink::new()),
+        Some(path) => {
+            let ScriptFiles { script, sink } = script_files(rt, task, path)?;
+            answer_lines(rt, lab, script.as_slice(), sink)
+        }
+        None => {
+            let script = read_file(rt, task.script, Fault::ReadScript)?;
+            answer_lines(rt, lab, script.as_slice(), NullSink::new())
+        }
     }
 }
 
-// Answers the script of a file over a lab. A journal that was halted is told at the end.
-fn answer_file<R: Files + Print + AllocGlobal, S: Sink + Drop>(
+// A script that was read, and the journal that was begun for it.
+#[derive(Drop)]
+struct ScriptFiles {
+    script: Vec<u8>,
+    sink: FileSink,
+}
+
+// Reads the script and begins the journal, which is left as it was where the script can't be read.
+fn script_files<R: Files<File = File> + AllocGlobal>(
+    rt: &R,
+    task: ScriptTask<'_>,
+    journal: &str,
+) -> Result<ScriptFiles, Fault>
+    ensures unfailed { IfOk result (λ files. files.sink ≡ 0) }
+{
+    let journal = OpenJournal::open(rt, journal, &[task.lab, task.script])?;
+    match read_file(rt, task.script, Fault::ReadScript) {
+        Ok(script) => {
+            let sink = begin_journal(rt, journal)?;
+            Ok(ScriptFiles { script, sink })
+        }
+        Err(fault) => {
+            journal.let_go(rt);
+            Err(fault)
+        }
+    }
+}
+
+// Answers the lines of a script over a lab. A journal that was halted is told at the end.
+fn answer_lines<R: Print + AllocGlobal, S: Sink + Drop>(
     rt: &R,
     lab: Lab,
-    script: &str,
+    script: &[u8],
     sink: S,
 ) -> Result<(), Fault>
     requires fresh { IsFresh (S.contents sink) }
     requires countable { S.failures sink < 2 ^ 64 - 1 }
 {
-    let alloc = rt.alloc();
-    let script = read_file(rt, script, Fault::ReadScript)?;
-    let hall = answer_script(
-        alloc,
-        lab,
-        &mut script.as_slice(),
-        &mut io::writer(rt),
-        sink,
-    )?;
+    let mut script = script;
+    let hall = answer_script(rt.alloc(), lab, &mut script, &mut io::writer(rt), sink)?;
     if hall.halted() {
         return Err(Fault::Journal);
     }
@@ -141,13 +170,49 @@ fn serve_file<
         return Err(Fault::TooManyConnections);
     }
     match task.journal {
-        Some(path) => serve_port(rt, lab, port, connections, journal_at(rt, path)?),
-        None => serve_port(rt, lab, port, connections, NullSink::new()),
+        Some(path) => {
+            let ServeFiles { listener, sink } = serve_files(rt, task, path)?;
+            serve_listener(rt, lab, listener, port, connections, sink)
+        }
+        None => serve_listener(
+            rt,
+            lab,
+            listen(rt, port)?,
+            port,
+            connections,
+            NullSink::new(),
+        ),
     }
 }
 
-// Serves the connections of a port of this machine alone.
-fn serve_port<
+// A port that was taken, and the journal that was begun for its connections.
+#[derive(Drop)]
+struct ServeFiles {
+    listener: TcpListener,
+    sink: FileSink,
+}
+
+// Takes the port and begins the journal, which is left as it was where the port can't be had.
+fn serve_files<
+    R: Files<File = File> + Net<Listener = TcpListener, Stream = TcpStream> + AllocGlobal,
+>(rt: &R, task: ServeTask<'_>, journal: &str) -> Result<ServeFiles, Fault>
+    ensures unfailed { IfOk result (λ files. files.sink ≡ 0) }
+{
+    let journal = OpenJournal::open(rt, journal, &[task.lab])?;
+    match listen(rt, task.port.get()) {
+        Ok(listener) => {
+            let sink = begin_journal(rt, journal)?;
+            Ok(ServeFiles { listener, sink })
+        }
+        Err(fault) => {
+            journal.let_go(rt);
+            Err(fault)
+        }
+    }
+}
+
+// Says on which port it listens, and serves so many of the connections that come.
+fn serve_listener<
     R: Net<Listener = TcpListener, Stream = TcpStream>
         + Threads
         + Wait
@@ -155,16 +220,17 @@ fn serve_port<
         + Print
         + AllocGlobal,
     S: Sink + Send + Drop,
->(rt: &R, lab: Lab, port: u16, connections: u8, sink: S) -> Result<(), Fault>
+>(rt: &R, lab: Lab, listener: TcpListener, port: u16, connections: u8, sink: S) -> Result<(), Fault>
     requires some { 0 < connections }
     requires sessions { connections ≤ lab.sessions }
     requires fresh { IsFresh (S.contents sink) }
     requires countable { S.failures sink < 2 ^ 64 - 1 }
 {
-    let listener = listen(rt, port)?;
+    let alloc = rt.alloc();
+    write_listening(alloc, port, &mut io::writer(rt))?;
     serve_on(
         rt,
-        rt.alloc(),
+        alloc,
         lab,
         listener,
         connections,
@@ -175,16 +241,15 @@ fn serve_port<
     Ok(())
 }
 
-// Listens on a port of this machine alone, and says so.
-fn listen<R: Net<Listener = TcpListener, Stream = TcpStream> + Print + AllocGlobal>(
+// Listens on a port of this machine alone.
+fn listen<R: Net<Listener = TcpListener, Stream = TcpStream>>(
     rt: &R,
     port: u16,
 ) -> Result<TcpListener, Fault> {
-    let listener = TcpListener::bind(rt, SocketAddr::from((Ipv4Addr::LOCALHOST, port))).map_err(
-        |error| memory_or(&error, Fault::Listen),
-    )?;
-    write_listening(rt.alloc(), port, &mut io::writer(rt))?;
-    Ok(listener)
+    match TcpListener::bind(rt, SocketAddr::from((Ipv4Addr::LOCALHOST, port))) {
+        Ok(listener) => Ok(listener),
+        Err(error) => Err(memory_or(&error, Fault::Listen)),
+    }
 }
 
 // The words, the program's name first; one that isn't UTF-8 is not understood.

@@ -72,6 +72,8 @@ pub(crate) fn serve_all<
                     Err(_) => return Err(ServeFault::Memory),
                 }
             }
+            // Who comes after the last one is turned away at once.
+            drop(arrivals);
             join_all(rt, alloc, handles)
         },
     )
