@@ -1,0 +1,104 @@
+/* Preloaded before a program: one call of a kind fails, or does only a part of what it was asked for.
+
+   FAIL=read is about read and recv, FAIL=write about write and send, FAIL=accept about accept4, FAIL=thread
+   about pthread_create. FAIL_AT=N is the Nth call of that kind in the process. FAIL_WITH=E is the number of
+   the error that it answers; with 0 it answers 0, and did nothing. FAIL_SHORT=1 lets a read or a write do one
+   byte at most instead. FAIL_COUNTS=FILE keeps two numbers of eight bytes in FILE: how many calls of the kind
+   were made, and how many failed or were cut short. */
+
+typedef unsigned long size_t;
+typedef unsigned long word;
+
+extern void *dlsym(void *, const char *);
+extern char *getenv(const char *);
+extern int open(const char *, int, ...);
+extern int close(int);
+extern void *mmap(void *, size_t, int, int, int, long);
+extern void abort(void);
+extern int *__errno_location(void);
+
+#define NEXT ((void *)-1l)
+#define READ_WRITE 2
+#define READ_AND_WRITE 3
+#define SHARED 1
+
+enum how { AS_ASKED, SHORT, FAILED };
+
+static struct { word made, failed; } own, *counts = &own;
+static word at, with, is_short;
+static char kind;
+
+/* What becomes of this call, if it is of the kind. */
+static enum how meets(char of) {
+    if (of != kind) return AS_ASKED;
+    if (__atomic_add_fetch(&counts->made, 1, __ATOMIC_SEQ_CST) != at) return AS_ASKED;
+    __atomic_add_fetch(&counts->failed, 1, __ATOMIC_SEQ_CST);
+    return is_short ? SHORT : FAILED;
+}
+
+static long failed(void) {
+    if (with == 0) return 0;
+    *__errno_location() = (int)with;
+    return -1;
+}
+
+static size_t cut(size_t bytes) { return bytes < 1 ? bytes : 1; }
+
+long read(int file, void *to, size_t bytes) {
+    long (*next)(int, void *, size_t) = dlsym(NEXT, "read");
+    enum how how = meets('r');
+    return how == FAILED ? failed() : next(file, to, how == SHORT ? cut(bytes) : bytes);
+}
+
+long recv(int file, void *to, size_t bytes, int flags) {
+    long (*next)(int, void *, size_t, int) = dlsym(NEXT, "recv");
+    enum how how = meets('r');
+    return how == FAILED ? failed() : next(file, to, how == SHORT ? cut(bytes) : bytes, flags);
+}
+
+long write(int file, const void *from, size_t bytes) {
+    long (*next)(int, const void *, size_t) = dlsym(NEXT, "write");
+    enum how how = meets('w');
+    return how == FAILED ? failed() : next(file, from, how == SHORT ? cut(bytes) : bytes);
+}
+
+long __write(int file, const void *from, size_t bytes) { return write(file, from, bytes); }
+
+long send(int file, const void *from, size_t bytes, int flags) {
+    long (*next)(int, const void *, size_t, int) = dlsym(NEXT, "send");
+    enum how how = meets('w');
+    return how == FAILED ? failed() : next(file, from, how == SHORT ? cut(bytes) : bytes, flags);
+}
+
+int accept4(int file, void *who, void *bytes, int flags) {
+    int (*next)(int, void *, void *, int) = dlsym(NEXT, "accept4");
+    return meets('a') == FAILED ? (int)failed() : next(file, who, bytes, flags);
+}
+
+/* A thread that can't be made is told by the answer, not by errno. */
+int pthread_create(void *thread, const void *attributes, void *(*body)(void *), void *given) {
+    int (*next)(void *, const void *, void *(*)(void *), void *) = dlsym(NEXT, "pthread_create");
+    return meets('t') == FAILED ? (int)with : next(thread, attributes, body, given);
+}
+
+static word number(const char *name) {
+    const char *text = getenv(name);
+    word value = 0;
+    for (; text && *text >= '0' && *text <= '9'; text++) value = 10 * value + (word)(*text - '0');
+    return value;
+}
+
+__attribute__((constructor)) static void begin(void) {
+    const char *file = getenv("FAIL_COUNTS"), *of = getenv("FAIL");
+    if (file) {
+        int opened = open(file, READ_WRITE);
+        void *shared = mmap(0, sizeof own, READ_AND_WRITE, SHARED, opened, 0);
+        if (opened < 0 || shared == (void *)-1) abort();
+        close(opened);
+        counts = shared;
+    }
+    at = number("FAIL_AT");
+    with = number("FAIL_WITH");
+    is_short = number("FAIL_SHORT");
+    kind = of ? *of : 0;
+}

@@ -1,0 +1,259 @@
+"""Plays two honest clients of a server beside fourteen hostile ones.
+
+    python3 .ci/hostile.py [SECONDS]
+
+The replies to the honest ones are those of a script of the same lines, run alone. The server's memory at
+the end is that after their first hundred lines, and the thread of each connection that was closed has ended.
+"""
+import math
+import random
+import socket
+import statistics
+import struct
+import sys
+import time
+from collections.abc import Callable
+from concurrent.futures import Future, ProcessPoolExecutor
+from pathlib import Path
+
+from preload import Client, Ended, Server, Story, built_in, fail, in_room
+
+SECONDS = 20.0
+MOST_LINES = 18_000
+PAUSE = 0.001
+SEE = b'{"do":"see","node":1}\n'
+NOT_GREETED = b'{"clause":0,"deny":"not-greeted","text":"say hello first"}\n'
+MALFORMED = b'{"refuse":"malformed"}\n'
+# A hostile client: a port, the time to end at, and what it draws from. It answers what is wrong with its replies.
+Hostile = Callable[[int, float, random.Random], str]
+
+
+def opened(port: int) -> socket.socket:
+    """A connection that sends each piece at once."""
+    it = socket.create_connection(("127.0.0.1", port), timeout=60)
+    it.setsockopt(socket.IPPROTO_TCP, socket.TCP_NODELAY, 1)
+    return it
+
+
+def begin(it: socket.socket, until: float, draw: random.Random) -> None:
+    """Is answered once, so that the thread of its session holds what it holds, and waits for a part of the time."""
+    it.sendall(SEE)
+    with it.makefile("rb") as replies:
+        replies.readline()
+    time.sleep(max(0.0, until - time.monotonic()) * draw.uniform(0.1, 0.5))
+
+
+def noise(port: int, until: float, draw: random.Random) -> str:
+    """Lines of any bytes, 255 in a string among them: each is answered, and none is a request."""
+    with opened(port) as it, it.makefile("rb") as replies:
+        while time.monotonic() < until:
+            lines = [draw.randbytes(draw.randrange(1, 300)).replace(b"\n", b" ") for _ in range(20)]
+            lines.append(b'{"do":"hello","name":"\xff","key":"chalk"}')
+            it.sendall(b"".join(line + b"\n" for line in lines))
+            if any(replies.readline() != MALFORMED for _ in lines):
+                return "noise was answered as something else"
+            time.sleep(0.02)
+    return ""
+
+
+def long_line(port: int, until: float, draw: random.Random) -> str:
+    """One byte more than a line may have: the connection is ended without a reply."""
+    with opened(port) as it:
+        begin(it, until, draw)
+        it.sendall(b" " * (4097 - len(SEE) + 1) + SEE)
+        try:
+            return "a line that is too long was answered" if it.recv(1) else ""
+        except ConnectionError:
+            return ""
+
+
+def half_line(port: int, until: float, draw: random.Random) -> str:
+    """Half a line, and the rest at the end: silence doesn't end a connection."""
+    middle = draw.randrange(1, len(SEE) - 1)
+    with opened(port) as it, it.makefile("rb") as replies:
+        it.sendall(SEE[:middle])
+        time.sleep(max(0.0, until - time.monotonic()))
+        it.sendall(SEE[middle:])
+        return "" if replies.readline() == NOT_GREETED else "a line in two halves wasn't answered"
+
+
+def byte_by_byte(port: int, until: float, draw: random.Random) -> str:
+    """Requests, one byte at a time."""
+    with opened(port) as it, it.makefile("rb") as replies:
+        while time.monotonic() < until:
+            for at in range(len(SEE)):
+                it.sendall(SEE[at:at + 1])
+                time.sleep(draw.uniform(0, 0.002))
+            if replies.readline() != NOT_GREETED:
+                return "a line of single bytes was answered otherwise"
+    return ""
+
+
+def reset(port: int, until: float, draw: random.Random) -> str:
+    """Requests whose replies nobody reads, and a reset."""
+    with opened(port) as it:
+        begin(it, until, draw)
+        it.sendall(SEE * draw.randrange(1, 200))
+        it.setsockopt(socket.SOL_SOCKET, socket.SO_LINGER, struct.pack("ii", 1, 0))
+    return ""
+
+
+def flood(port: int, until: float, draw: random.Random) -> str:
+    """Requests without end, whose replies nobody reads."""
+    with opened(port) as it:
+        it.setblocking(False)
+        sent = 0
+        while time.monotonic() < until:
+            try:
+                sent += it.send(SEE * draw.randrange(1, 100))
+            except BlockingIOError:
+                time.sleep(0.01)
+            except ConnectionError:
+                return "a connection that doesn't read was ended"
+    return "" if sent > 100_000 else "nothing was taken of a flood"
+
+
+def gone(port: int, until: float, draw: random.Random) -> str:
+    """No line at all."""
+    with opened(port):
+        time.sleep(max(0.0, until - time.monotonic()) * draw.uniform(0.0, 0.5))
+    return ""
+
+
+ALL: list[Hostile] = [noise, long_line, half_line, byte_by_byte, reset, flood, gone] * 2
+
+
+def honest_lines() -> bytes:
+    """What two honest clients ask in turn: views and denials, and now and then a move and its close."""
+    lines = ['1 {"do":"hello","key":"a-key","name":"ana"}', '2 {"do":"hello","key":"chalk","name":"tess"}']
+    number = 0
+    while len(lines) < MOST_LINES:
+        lines += ['1 {"do":"look","node":1}', '2 {"do":"report"}', '1 {"do":"report"}', '2 {"do":"close"}'] * 50
+        lines += [
+            '1 {"at":%d,"do":"move","node":1,"rule":"seduction"}' % number,
+            '2 {"do":"close"}',
+            '2 {"do":"fault","m":false,"node":1,"p":null}',
+        ]
+        number += 2
+    return "".join(line + "\n" for line in lines).encode()
+
+
+def kilobytes(server: Server) -> int:
+    """What the server holds of memory."""
+    status = Path(f"/proc/{server.process.pid}/status").read_text(encoding="ascii")
+    return int(status.split("VmRSS:", 1)[1].split()[0])
+
+
+def threads(server: Server) -> int:
+    """How many threads the server has."""
+    return len(list(Path(f"/proc/{server.process.pid}/task").iterdir()))
+
+
+class Honest:
+    """Two clients, who ask one line after the other."""
+
+    def __init__(self, story: Story, server: Server) -> None:
+        self.lines = [line.split(b" ", 1) for line in story.lines]
+        self.wanted, _ = story.plain(frozenset())
+        self.clients = {b"1": Client(server.port), b"2": Client(server.port)}
+        self.at = 0
+
+    def ask(self) -> float:
+        """Asks one line, which has to be answered as in a quiet run, and tells what time that took."""
+        number, line = self.lines[self.at]
+        begun = time.monotonic()
+        reply = self.clients[number].ask(line)
+        taken = time.monotonic() - begun
+        if number + b" " + reply != self.wanted[self.at]:
+            fail(f"hostile: another reply to line {self.at + 1}: {reply!r}, not {self.wanted[self.at]!r}")
+        self.at += 1
+        return taken
+
+    def play(self, most: int, pause: float, until: float = math.inf) -> list[float]:
+        """Asks so many lines, or as many as until that time, with a pause after each."""
+        times: list[float] = []
+        while self.at < len(self.lines) and len(times) < most and time.monotonic() < until:
+            times.append(self.ask())
+            time.sleep(pause)
+        return times
+
+    def end(self, server: Server) -> Ended:
+        """Closes both, and waits for the server."""
+        for client in self.clients.values():
+            client.close()
+        return server.end()
+
+
+def served(story: Story, connections: int) -> tuple[Server, Honest]:
+    """A server with its honest clients."""
+    server = Server(lambda port: ["serve", str(story.lab), str(port), str(connections)], {})
+    if not server.listens:
+        fail(f"hostile: the server doesn't listen: {server.end()}")
+    return server, Honest(story, server)
+
+
+def ended(honest: Honest, server: Server) -> None:
+    """Wants that the server ends with the events of the honest ones alone."""
+    events = sum(b'"place":' in reply for reply in honest.wanted[:honest.at])
+    end = honest.end(server)
+    if end.status != 0 or end.error or not end.out.startswith(b"done: %d events, " % events):
+        fail(f"hostile: the server ended otherwise: {end}")
+
+
+def answered(futures: list[Future[str]]) -> None:
+    """Wants that nothing is wrong with what the hostile ones met."""
+    for future in futures:
+        if future.result():
+            fail(f"hostile: {future.result()}")
+
+
+def wait_for_threads(server: Server, wanted: int, when: str) -> None:
+    """Wants one thread for each connection that is open, and one more."""
+    for _ in range(600):
+        if threads(server) == wanted:
+            return
+        time.sleep(0.05)
+    fail(f"hostile: {threads(server)} threads, not {wanted}, {when}")
+
+
+def work(room: Path) -> str:
+    """A quiet run, and one beside the hostile clients."""
+    seconds = float(sys.argv[1]) if len(sys.argv) > 1 else SECONDS
+    lab = room / "hostile.toml"
+    text = built_in(room).read_text(encoding="utf-8")
+    limits = text.replace("sessions = 4\n", "sessions = 16\n").replace("events = 100\n", "events = 100000\n")
+    lab.write_text(limits, encoding="utf-8")
+    story = Story(lab, honest_lines(), room)
+
+    server, honest = served(story, 2)
+    quiet = statistics.median(honest.play(500, PAUSE))
+    ended(honest, server)
+
+    server, honest = served(story, 2 + len(ALL))
+    until = time.monotonic() + seconds
+    with ProcessPoolExecutor(len(ALL)) as pool:
+        futures = [
+            pool.submit(client, server.port, until, random.Random(seed)) for seed, client in enumerate(ALL)
+        ]
+        wait_for_threads(server, 3 + len(ALL), "once all are there")
+        times = honest.play(100, 10 * PAUSE)
+        held = kilobytes(server)
+        times += honest.play(MOST_LINES, PAUSE, until)
+        answered(futures)
+    wait_for_threads(server, 3, "once the hostile clients have gone")
+    if abs(kilobytes(server) - held) * 10 > held:
+        fail(f"hostile: the server holds {kilobytes(server)} kB, not {held} kB as after a hundred lines")
+    holds = kilobytes(server)
+    ended(honest, server)
+    beside = statistics.median(times)
+    # A wait for a hostile client is of seconds; what their share of the processors makes of it is less.
+    if beside > 20 * quiet + 0.02:
+        fail(f"hostile: a reply takes {beside * 1e6:.0f} microseconds, alone {quiet * 1e6:.0f}")
+    return (
+        f"beside {len(ALL)} hostile clients: {len(times)} lines as in a quiet run, "
+        f"{beside * 1e6:.0f} microseconds each (alone {quiet * 1e6:.0f}), {holds} kB ({held} after 100 lines)"
+    )
+
+
+if __name__ == "__main__":
+    in_room(work)

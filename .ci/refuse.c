@@ -1,0 +1,92 @@
+/* Preloaded before a program: refuses requests for memory, and counts them.
+
+   REFUSE=N refuses the Nth request of the process, REFUSE_FROM=N each from the Nth on. REFUSE_COUNTS=FILE
+   keeps two numbers of eight bytes in FILE: how many requests were made, and how many were refused.
+
+   A test arms it from inside, by requests of more bytes than there are. Of those that follow,
+   ARM + N refuses the Nth, FROM + N each from the Nth on, and ARM + 0 none: all three are refused
+   themselves and begin the counts anew. MADE + N is granted exactly where N requests were made since,
+   and MET + N where N were refused. None of these five is counted. */
+
+typedef unsigned long size_t;
+typedef unsigned long word;
+
+extern void *__libc_malloc(size_t);
+extern void *__libc_calloc(size_t, size_t);
+extern void *__libc_realloc(void *, size_t);
+extern char *getenv(const char *);
+extern int open(const char *, int, ...);
+extern int close(int);
+extern void *mmap(void *, size_t, int, int, int, long);
+extern void abort(void);
+extern int *__errno_location(void);
+
+#define READ_WRITE 2
+#define READ_AND_WRITE 3
+#define SHARED 1
+#define NO_MEMORY 12
+#define KIND(bytes) ((bytes) >> 56)
+#define NUMBER(bytes) ((bytes) & 0xffffffff)
+
+enum { ARM = 0x11, FROM = 0x12, MADE = 0x13, MET = 0x14 };
+
+struct counts { word made, refused; };
+static struct counts own, *counts = &own;
+static word at, from;
+
+static word count(word *of) { return __atomic_add_fetch(of, 1, __ATOMIC_SEQ_CST); }
+static word read_of(word *of) { return __atomic_load_n(of, __ATOMIC_SEQ_CST); }
+static void set(word *of, word to) { __atomic_store_n(of, to, __ATOMIC_SEQ_CST); }
+
+static void arm(word nth, word since) {
+    set(&at, 0);
+    set(&from, 0);
+    set(&counts->made, 0);
+    set(&counts->refused, 0);
+    set(&at, nth);
+    set(&from, since);
+}
+
+/* Whether this request is refused, which it is counted for. */
+static int refuses(size_t bytes) {
+    word made, since;
+    switch (KIND(bytes)) {
+    case ARM: arm(NUMBER(bytes), 0); return 1;
+    case FROM: arm(0, NUMBER(bytes)); return 1;
+    }
+    made = count(&counts->made);
+    since = read_of(&from);
+    if (made != read_of(&at) && (since == 0 || made < since)) return 0;
+    count(&counts->refused);
+    *__errno_location() = NO_MEMORY;
+    return 1;
+}
+
+void *malloc(size_t bytes) {
+    if (KIND(bytes) == MADE) return NUMBER(bytes) == read_of(&counts->made) ? __libc_malloc(1) : 0;
+    if (KIND(bytes) == MET) return NUMBER(bytes) == read_of(&counts->refused) ? __libc_malloc(1) : 0;
+    return refuses(bytes) ? 0 : __libc_malloc(bytes);
+}
+
+void *calloc(size_t many, size_t bytes) { return refuses(1) ? 0 : __libc_calloc(many, bytes); }
+
+void *realloc(void *old, size_t bytes) { return refuses(bytes) ? 0 : __libc_realloc(old, bytes); }
+
+static word number(const char *name) {
+    const char *text = getenv(name);
+    word value = 0;
+    for (; text && *text >= '0' && *text <= '9'; text++) value = 10 * value + (word)(*text - '0');
+    return value;
+}
+
+__attribute__((constructor)) static void begin(void) {
+    const char *file = getenv("REFUSE_COUNTS");
+    if (file) {
+        int opened = open(file, READ_WRITE);
+        void *shared = mmap(0, sizeof own, READ_AND_WRITE, SHARED, opened, 0);
+        if (opened < 0 || shared == (void *)-1) abort();
+        close(opened);
+        counts = shared;
+    }
+    arm(number("REFUSE"), number("REFUSE_FROM"));
+}

@@ -1,0 +1,77 @@
+//! A gate that knows each session's steps: its first line, its first reply, its second line, and so on.
+use mml_fakes::meeting::wait_for;
+use mml_session::{Gate, Point};
+use std::alloc::{AllocError, Global};
+use std::sync::atomic::{AtomicU64, Ordering};
+
+/// A connection, one of its steps from 0 on, and the connection that it waits for there until that one
+/// has come to so many steps.
+pub type Hold = (u8, u64, u8, u64);
+
+/// Holds sessions where they are told to wait, and counts what each passes.
+#[derive(Drop)]
+pub struct Steps<'a> {
+    holds: &'a [Hold],
+    come: Vec<AtomicU64>,
+    given_up: AtomicU64,
+    misled: AtomicU64,
+}
+
+impl<'a> Steps<'a> {
+    /// For so many connections.
+    pub fn new(alloc: Global, connections: u8, holds: &'a [Hold]) -> Result<Steps<'a>, AllocError> {
+        let mut come = Vec::new(alloc);
+        for _ in 0..connections {
+            come.push(AtomicU64::new(0))?;
+        }
+        Ok(Steps {
+            holds,
+            come,
+            given_up: AtomicU64::new(0),
+            misled: AtomicU64::new(0),
+        })
+    }
+
+    fn come_of(&self, connection: u8) -> Option<&AtomicU64> {
+        self.come.get(usize::from(connection.saturating_sub(1)))
+    }
+
+    fn has_come(&self, connection: u8, wanted: u64) -> bool {
+        match self.come_of(connection) {
+            Some(come) => wait_for(come, wanted),
+            None => false,
+        }
+    }
+
+    fn hold(&self, connection: u8, step: u64) {
+        for (held, at, other, wanted) in self.holds.iter() {
+            if *held == connection && *at == step && !self.has_come(*other, *wanted) {
+                self.given_up.fetch_add(1, Ordering::SeqCst);
+            }
+        }
+    }
+
+    /// Whether each connection passed so many steps, lines and replies in turn, and nobody gave up.
+    pub fn were_kept(&self, steps: u64) -> bool {
+        self.given_up.load(Ordering::SeqCst) == 0
+            && self.misled.load(Ordering::SeqCst) == 0
+            && self
+                .come
+                .iter()
+                .all(|come| come.load(Ordering::SeqCst) == steps)
+    }
+}
+
+impl<'a> Gate for Steps<'a> {
+    fn pass(&self, connection: u8, point: Point) {
+        let step = match self.come_of(connection) {
+            Some(come) => come.fetch_add(1, Ordering::SeqCst),
+            None => u64::MAX,
+        };
+        let is_line = matches!(point, Point::Line);
+        if is_line != (step % 2 == 0) {
+            self.misled.fetch_add(1, Ordering::SeqCst);
+        }
+        self.hold(connection, step);
+    }
+}

@@ -1,0 +1,126 @@
+//! The acts of a stored run, asked for through a window, each with each of its requests refused in turn.
+ghost use Rattle.std.specs.Prelude.{◌≡◌, ◌≤◌, length};
+ghost use Rattle.mml_window.specs.Houses.{house_of};
+
+use super::MOST;
+use super::library::{is_there, refuse, was_none_refused};
+use crate::houses::{ACTS, Ending, act, asker, ending_of, give_back, number_before};
+use mml_fakes::labs::PATH_OF_THREE;
+use mml_journal::NullSink;
+use mml_lab::read_lab;
+use mml_window::{Answer, Blank, Brand, Desk, House, Refusal, Window, open_house};
+use std::alloc::Global;
+use std::sync::Wait;
+use std::test::Fail;
+
+/// Whether an answer is a grant at this place.
+fn is_granted(answer: &Answer, place: u64) -> bool {
+    match answer {
+        Answer::Granted { place: granted, .. } => *granted == place,
+        _ => false,
+    }
+}
+
+/// Whether an answer is want of memory.
+fn is_memory(answer: &Answer) -> bool {
+    match answer {
+        Answer::Refused(refusal) => *refusal == Refusal::Memory,
+        _ => false,
+    }
+}
+
+/// How often an act was refused until it was granted, each time for want of memory that was met and with
+/// the number as before; or nothing, where it was answered otherwise.
+fn refusals_of<H: House, R: Wait>(
+    rt: &R,
+    alloc: Global,
+    desk: &Desk<NullSink, H>,
+    window: &mut Window<H>,
+    place: u64,
+    is_there: bool,
+) -> Option<usize> {
+    for nth in 1..MOST {
+        refuse(alloc, nth);
+        let answer = desk.ask(rt, alloc, window, asker(place), &act(place));
+        let is_last = was_none_refused(alloc, is_there);
+        if is_granted(&answer, place) {
+            return Some(nth - 1);
+        }
+        let is_kept = window.number() == Ok(number_before(place));
+        if is_last || !is_kept || !is_memory(&answer) {
+            return None;
+        }
+    }
+    None
+}
+
+/// How often all acts were refused, each until it was granted.
+fn refusals_of_all<H: House, R: Wait>(
+    rt: &R,
+    alloc: Global,
+    desk: &Desk<NullSink, H>,
+    window: &mut Window<H>,
+    is_there: bool,
+) -> Option<usize> {
+    let mut refused = 0usize;
+    for place in 1..=ACTS {
+        let more = refusals_of(rt, alloc, desk, window, place, is_there)?;
+        refused = refused.saturating_add(more);
+    }
+    Some(refused)
+}
+
+fn refusals_in<H: House, R: Wait>(
+    rt: &R,
+    alloc: Global,
+    desk: &Desk<NullSink, H>,
+    windows: &mut Vec<Window<H>>,
+    is_there: bool,
+) -> Option<usize>
+    ensures { length windows.new.items ≤ length windows.old.items }
+{
+    let mut window = windows.pop()?;
+    let refused = refusals_of_all(rt, alloc, desk, &mut window, is_there);
+    give_back(windows, window);
+    refused
+}
+
+fn in_house<H: House, R: Wait>(
+    rt: &R,
+    alloc: Global,
+    blank: Blank<NullSink>,
+    is_there: bool,
+) -> Result<(Option<usize>, Ending), Fail>
+    requires { blank ≡ house_of H.name H.lab }
+{
+    let (desk, mut windows) = blank.start::<H>(alloc)?;
+    let refused = refusals_in(rt, alloc, &desk, &mut windows, is_there);
+    Ok((refused, ending_of(&desk.finish(rt, windows))))
+}
+
+/// How often the acts were refused over the path of three, and how the house ended.
+fn told_of_acts<R: Wait>(
+    rt: &R,
+    alloc: Global,
+    is_there: bool,
+) -> Result<(Option<usize>, Ending), Fail> {
+    let lab = read_lab(alloc, PATH_OF_THREE.as_bytes())?;
+    let blank = open_house(rt, alloc, lab, NullSink::new())?;
+    in_house::<Brand, _>(rt, alloc, blank, is_there)
+}
+
+#[test]
+fn refusals_of_an_act_lose_nothing(rt: HostRuntime) -> Result<(), Fail> {
+    let is_there = is_there(rt.alloc());
+    let (refused, ending) = told_of_acts(&rt, rt.alloc(), is_there)?;
+    let wanted = Ending::Log {
+        events: 10,
+        number: 4,
+        halted: false,
+    };
+    assert_eq!(rt;
+        (refused.map(|count| count > 0), ending),
+        (Some(is_there), wanted)
+    );
+    Ok(())
+}

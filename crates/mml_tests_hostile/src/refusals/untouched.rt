@@ -1,0 +1,123 @@
+//! Calls that take no memory: a view of a node, the number, and acts that are denied, over the limit of
+//! events, or asked for once the journal is halted.
+ghost use Rattle.std.specs.Prelude.{◌≡◌, ◌≤◌, length};
+ghost use Rattle.mml_window.specs.Houses.{house_of};
+
+use super::library::{is_there, refuse, was_none_made};
+use crate::houses::{act, asker, give_back};
+use mml_fakes::labs::PATH_OF_THREE;
+use mml_journal::MemorySink;
+use mml_lab::{Who, read_lab};
+use mml_window::{Answer, Blank, Brand, Desk, House, Refusal, Window, open_house};
+use std::alloc::Global;
+use std::sync::Wait;
+use std::test::Fail;
+
+/// Whether an act is answered by this refusal, or denied where none is wanted, and no memory is taken
+/// for it or, if the library isn't there, this isn't known.
+fn takes_none<H: House, R: Wait>(
+    rt: &R,
+    alloc: Global,
+    desk: &Desk<MemorySink, H>,
+    window: &mut Window<H>,
+    place: u64,
+    wanted: Option<Refusal>,
+    is_there: bool,
+) -> bool {
+    refuse(alloc, 0);
+    let answer = desk.ask(rt, alloc, window, asker(place), &act(place));
+    let is_none = was_none_made(alloc) == is_there;
+    match answer {
+        Answer::Granted { .. } => false,
+        Answer::Denied(_) => is_none && wanted.is_none(),
+        Answer::Refused(refusal) => is_none && wanted == Some(refusal),
+    }
+}
+
+/// Whether a view of a node and the number take none.
+fn views_take_none<H: House>(alloc: Global, window: &mut Window<H>, is_there: bool) -> bool {
+    refuse(alloc, 0);
+    let number = window.number();
+    let see = window.see(Who::Teacher, 2);
+    was_none_made(alloc) == is_there && number == Ok(0) && see.is_ok()
+}
+
+/// Whether, once the first act was granted, the same again and the second take none.
+fn acts_take_none<H: House, R: Wait>(
+    rt: &R,
+    alloc: Global,
+    desk: &Desk<MemorySink, H>,
+    window: &mut Window<H>,
+    wanted: Refusal,
+    is_there: bool,
+) -> bool {
+    let first = desk.ask(rt, alloc, window, asker(1), &act(1));
+    // The put that fails isn't one of those that are asked for later.
+    let second = desk.ask(rt, alloc, window, asker(2), &act(2));
+    matches!(first, Answer::Granted { .. })
+        && matches!(second, Answer::Refused(_))
+        && takes_none(rt, alloc, desk, window, 1, None, is_there)
+        && takes_none(rt, alloc, desk, window, 2, Some(wanted), is_there)
+        && views_take_none(alloc, window, is_there)
+}
+
+fn hold_in<H: House, R: Wait>(
+    rt: &R,
+    alloc: Global,
+    desk: &Desk<MemorySink, H>,
+    windows: &mut Vec<Window<H>>,
+    wanted: Refusal,
+    is_there: bool,
+) -> Option<bool>
+    ensures { length windows.new.items ≤ length windows.old.items }
+{
+    let mut window = windows.pop()?;
+    let hold = acts_take_none(rt, alloc, desk, &mut window, wanted, is_there);
+    Some(give_back(windows, window) && hold)
+}
+
+fn in_house<H: House, R: Wait>(
+    rt: &R,
+    alloc: Global,
+    blank: Blank<MemorySink>,
+    wanted: Refusal,
+    is_there: bool,
+) -> Result<Option<bool>, Fail>
+    requires { blank ≡ house_of H.name H.lab }
+{
+    let (desk, mut windows) = blank.start::<H>(alloc)?;
+    let hold = hold_in(rt, alloc, &desk, &mut windows, wanted, is_there);
+    let _ = desk.finish(rt, windows);
+    Ok(hold)
+}
+
+/// The same of a house over the path of three with so many events, whose sink fails at that put.
+fn told_of<R: Wait>(
+    rt: &R,
+    alloc: Global,
+    events: &str,
+    fail_at: Option<u64>,
+    wanted: Refusal,
+    is_there: bool,
+) -> Result<Option<bool>, Fail> {
+    let file = PATH_OF_THREE.replacen(alloc, "events = 100", events, 1)?;
+    let lab = read_lab(alloc, file.as_bytes())?;
+    let blank = open_house(rt, alloc, lab, MemorySink::new(alloc, fail_at))?;
+    in_house::<Brand, _>(rt, alloc, blank, wanted, is_there)
+}
+
+#[test]
+fn refusals_that_take_no_memory(rt: HostRuntime) -> Result<(), Fail> {
+    let is_there = is_there(rt.alloc());
+    let full = told_of(&rt, rt.alloc(), "events = 1", None, Refusal::Full, is_there)?;
+    let halted = told_of(
+        &rt,
+        rt.alloc(),
+        "events = 100",
+        Some(2),
+        Refusal::Journal,
+        is_there,
+    )?;
+    assert_eq!(rt; (full, halted), (Some(true), Some(true)));
+    Ok(())
+}

@@ -1,0 +1,113 @@
+//! A sink that takes one byte a put, over a house, and the audit of what it has.
+ghost use Rattle.std.specs.Prelude.{◌≡◌};
+ghost use Rattle.mml_window.specs.Houses.{house_of};
+
+use super::{ending_at, plays_in};
+use crate::houses::{Ending, ending_of};
+use mml_fakes::labs::PATH_OF_THREE;
+use mml_fakes::scripts::TEN_LINES;
+use mml_hall::{AuditFault, audit};
+use mml_journal::{Sink, SinkFault};
+use mml_lab::{Lab, read_lab};
+use mml_window::{Astray, Blank, Brand, House, Log, open_house};
+use std::alloc::Global;
+use std::sync::Wait;
+use std::test::Fail;
+
+/// Takes one byte a put, and after so many fails for good.
+#[derive(Drop)]
+struct Drip {
+    bytes: Vec<u8>,
+    left: usize,
+    failures: u64,
+}
+
+impl Sink for Drip {
+    ghost use Rattle.std.specs.Prelude.{None};
+
+    ghost contents = { λ _. None };
+
+    ghost failures = { λ s. s.failures };
+
+    fn put(&mut self, bytes: &[u8]) -> Result<usize, SinkFault> {
+        if self.left == 0 || self.bytes.push(bytes[0]).is_err() {
+            self.failures += 1;
+            return Err(SinkFault);
+        }
+        self.left -= 1;
+        Ok(1)
+    }
+}
+
+/// Whether a house ended with these bytes, and asked its sink for nothing after one failed put.
+fn has_dripped(end: &Result<Log<Drip>, Astray>, wanted: &[u8]) -> bool {
+    match end {
+        Ok(log) => {
+            log.sink.bytes.as_slice() == wanted && log.sink.failures == u64::from(log.halted)
+        }
+        Err(_) => false,
+    }
+}
+
+fn in_house<H: House, R: Wait>(
+    rt: &R,
+    alloc: Global,
+    blank: Blank<Drip>,
+    last: u64,
+    wanted: &[u8],
+) -> Result<(Option<bool>, Ending, bool), Fail>
+    requires { blank ≡ house_of H.name H.lab }
+{
+    let (desk, mut windows) = blank.start::<H>(alloc)?;
+    let plays = plays_in(rt, alloc, &desk, &mut windows, last);
+    let end = desk.finish(rt, windows);
+    Ok((plays, ending_of(&end), has_dripped(&end, wanted)))
+}
+
+/// How many lines begin with these bytes of a journal or before them.
+fn ended_lines(bytes: &[u8]) -> u64 {
+    bytes.iter().filter(|byte| **byte == b'\n').count() as u64
+}
+
+/// Whether an audit passes exactly what ends with a line's end, and names the torn line.
+fn is_audited(alloc: Global, lab: &Lab, bytes: &[u8]) -> bool {
+    let is_whole = bytes.is_empty() || bytes.ends_with(b"\n");
+    match audit(alloc, lab, bytes) {
+        Ok(board) => is_whole && board.place() == ended_lines(bytes),
+        Err(AuditFault::Torn(line)) => !is_whole && line == ended_lines(bytes).saturating_add(1),
+        Err(_) => false,
+    }
+}
+
+/// Whether a house over a sink that takes so many bytes ends with these, its events those of the whole
+/// lines.
+fn drips<R: Wait>(rt: &R, alloc: Global, puts: usize) -> Result<bool, Fail> {
+    let lab = read_lab(alloc, PATH_OF_THREE.as_bytes())?;
+    let (wanted, _) = TEN_LINES.as_bytes().split_at(puts.min(TEN_LINES.len()));
+    let is_audited = is_audited(alloc, &lab, wanted);
+    let sink = Drip {
+        bytes: Vec::new(alloc),
+        left: puts,
+        failures: 0,
+    };
+    let blank = open_house(rt, alloc, lab, sink)?;
+    let last = ended_lines(wanted).saturating_add(1);
+    let found = in_house::<Brand, _>(rt, alloc, blank, last, wanted)?;
+    Ok(is_audited && found == (Some(true), ending_at(last), true))
+}
+
+/// The first number of bytes after which something else is left.
+fn first_byte_told_otherwise<R: Wait>(rt: &R, alloc: Global) -> Result<Option<usize>, Fail> {
+    for puts in 0..=TEN_LINES.len() {
+        if !drips(rt, alloc, puts)? {
+            return Ok(Some(puts));
+        }
+    }
+    Ok(None)
+}
+
+#[test]
+fn each_byte_of_a_house_may_be_the_last(rt: HostRuntime) -> Result<(), Fail> {
+    assert_eq!(rt; first_byte_told_otherwise(&rt, rt.alloc())?, None);
+    Ok(())
+}
