@@ -1,0 +1,6 @@
+pub mod ToldLemmas
+pub mod TwinsLemmas
+pub mod ScriptedLemmas
+pub mod SightLemmas
+pub mod GrantsLemmas
+pub mod MishapsLemmas

@@ -1,0 +1,214 @@
+-- Scripts in two labs between which a student can't tell.
+use Rattle.std.proofs.Common.{◌≡◌, ◌≢◌, ℕ, ◌-◌, ◌==◌, Bool, true, false, cond, List, [], ◌∷◌, ◌++◌, length, Option, None, Some, Result, Ok, Err, All, refl, sym, ap, ◌∙◌, subst, inl, inr}
+use Rattle.std.specs.List.{concat}
+use Rattle.std.specs.Prelude.{slice_index_or, replicate, decimal}
+use Rattle.std.proofs.lemmas.Bool.{eqb-true}
+use Rattle.std.proofs.lemmas.List.Elements.{All-set, All-replicate, All-get_or}
+use Rattle.std.proofs.lemmas.Bool.{cases_lt}
+use Rattle.std.proofs.lemmas.List.{get_or_past}
+use Rattle.mml_lab.specs.declared.who.Who.{Who}
+use Rattle.mml_lab.specs.Labs.{LabValue, IsLab}
+use Rattle.mml_lab.specs.Rosters.{principal}
+use Rattle.mml_board.specs.World.{opening_of}
+use Rattle.mml_policy.specs.declared.ruling.Ruling.{Ruling}
+use Rattle.mml_policy.specs.Rulings.{ruling}
+use Rattle.mml_policy.specs.Alike.{Alike, IsWorldOf}
+use Rattle.mml_codec.specs.declared.request.LineFault.{LineFault}
+use Rattle.mml_codec.specs.declared.request.Request.{Request}
+use Rattle.mml_codec.specs.declared.request.Request.TheVariants as requests
+use Rattle.mml_codec.specs.declared.reply.Reply.{Reply}
+use Rattle.mml_codec.specs.declared.reply.Reply.TheVariants.{Refuse}
+use Rattle.mml_codec.specs.declared.reply.Refused.TheVariants as refused
+use Rattle.mml_codec.specs.Greetings.{greeting, admitted}
+use Rattle.mml_codec.specs.Lines.{request_in}
+use Rattle.mml_codec.specs.Replies.{reply_line}
+use Rattle.mml_hall.specs.Turns.{State, Outcome, Turn, Run, RequestLine, Mishap, nothing, while_read, later, sink_failed, turn, plain_turn, known_on, with_known, settled, answer_to, told, opening, takes_memory, is_grant, without_memory, halting}
+use Rattle.mml_hall.specs.Transcripts.{Transcript, output_line, output_lines, bytes_written}
+use Rattle.mml_hall.proofs.AuditMeaningLemmas.{reached_first}
+use Rattle.mml_hidden.specs.Twins.{AreTwins, StatesAlike, is_hers}
+use Rattle.mml_hidden.specs.Scripted.{turn_of, replies_to, end_of, written_to, StayAlike, written_on, IsHersThroughout, OnlySheGreets, OnlySheIsKnown, AreUnhindered}
+use Rattle.mml_hidden.proofs.TwinsLemmas.{TurnsAlike, same_known, twin_turn, twin_line, twin_others, told_greeted}
+
+pub if_same : (b : Bool) (x y : List (List ℕ)) → (b ≡ true → x ≡ y) → cond b x [] ≡ cond b y []
+if_same true x y h = h refl
+if_same false x y h = refl
+
+module _ (lab other : LabValue) (t : AreTwins lab other) (s : ℕ) where
+  same_hers : (st su : State) → StatesAlike lab s st su → (k : ℕ) → is_hers s (known_on st k) ≡ is_hers s (known_on su k)
+  same_hers st su a k = ap (is_hers s) (same_known lab s st su a k)
+
+  same_output : (st su : State) → StatesAlike lab s st su → (line : RequestLine) → is_hers s (known_on st line.connection) ≡ true
+      → output_line lab line.connection (turn_of lab st line).reply ≡ output_line other line.connection (turn_of other su line).reply
+  same_output st su a line h = ap (λ (bytes : List ℕ). decimal line.connection ++ 32 ∷ bytes) (twin_line lab other t s st su a nothing line.connection line.request h)
+
+  next_alike : (st su : State) → StatesAlike lab s st su → (line : RequestLine)
+      → (is_hers s (known_on st line.connection) ≡ false → Alike lab.roster s (turn_of lab st line).state.world (turn_of other su line).state.world)
+      → StatesAlike lab s (turn_of lab st line).state (turn_of other su line).state
+  next_alike st su a line worlds = go (is_hers s (known_on st line.connection)) refl
+    where
+      go : (b : Bool) → is_hers s (known_on st line.connection) ≡ b → StatesAlike lab s (turn_of lab st line).state (turn_of other su line).state
+      go true h = (twin_turn lab other t s st su a nothing line.connection line.request h).states
+      go false h = twin_others lab other t s st su a line.connection line.request (worlds h)
+
+  pub same_written : (st su : State) (lines : List RequestLine) → StatesAlike lab s st su → StayAlike lab other s st su lines → written_to lab s st lines ≡ written_to other s su lines
+  same_written st su [] a stay = refl
+  same_written st su (line ∷ lines) a stay =
+      let first : cond (is_hers s (known_on st line.connection)) (output_line lab line.connection (turn_of lab st line).reply ∷ []) []
+      ≡ cond (is_hers s (known_on su line.connection)) (output_line other line.connection (turn_of other su line).reply ∷ []) [] =
+      if_same (is_hers s (known_on st line.connection)) _ _ (λ h. ap (λ (x : List ℕ). x ∷ []) (same_output st su a line h))
+      ∙ ap (λ (b : Bool). cond b (output_line other line.connection (turn_of other su line).reply ∷ []) []) (same_hers st su a line.connection) in
+      let rest = same_written (turn_of lab st line).state (turn_of other su line).state lines (next_alike st su a line stay.0) stay.1 in
+      λ z. first z ++ rest z
+
+  pub same_end : (st su : State) (lines : List RequestLine) → StatesAlike lab s st su → StayAlike lab other s st su lines → StatesAlike lab s (end_of lab st lines) (end_of other su lines)
+  same_end st su [] a stay = a
+  same_end st su (line ∷ lines) a stay = same_end (turn_of lab st line).state (turn_of other su line).state lines (next_alike st su a line stay.0) stay.1
+
+  pub same_written_on : (st su : State) (k : ℕ) (lines : List RequestLine) → StatesAlike lab s st su → StayAlike lab other s st su lines → IsHersThroughout lab s k st lines
+      → written_on lab k lines (replies_to lab st lines) ≡ written_on other k lines (replies_to other su lines)
+  same_written_on st su k [] a stay hers = refl
+  same_written_on st su k (line ∷ lines) a stay hers =
+      let first = if_same (line.connection == k) (output_line lab k (turn_of lab st line).reply ∷ []) (output_line other k (turn_of other su line).reply ∷ [])
+      (λ h. ap (λ (x : List ℕ). x ∷ []) (on_hers st su a k line (eqb-true line.connection k h) (hers.0 h))) in
+      let rest = same_written_on (turn_of lab st line).state (turn_of other su line).state k lines (next_alike st su a line stay.0) stay.1 hers.1 in
+      λ z. first z ++ rest z
+    where
+      on_hers : (x y : State) → StatesAlike lab s x y → (k : ℕ) (line : RequestLine) → line.connection ≡ k → is_hers s (known_on x k) ≡ true
+          → output_line lab k (turn_of lab x line).reply ≡ output_line other k (turn_of other y line).reply
+      on_hers x y b k line e h =
+          subst (λ (n : ℕ). output_line lab n (turn_of lab x line).reply ≡ output_line other n (turn_of other y line).reply) e
+          (same_output x y b line (subst (λ (n : ℕ). is_hers s (known_on x n) ≡ true) (sym e) h))
+
+-- ---- where she alone is known
+
+none_known : (xs : List (Option Who)) (s i : ℕ) → All (λ known. is_hers s known ≡ true) xs → is_hers s (slice_index_or xs i None) ≡ true
+none_known xs s i all = elim (cases_lt i (length xs)) [
+  | inl lt ↦ All-get_or (λ (known : Option Who). is_hers s known ≡ true) xs i None lt all
+  | inr ge ↦ ap (is_hers s) (get_or_past xs i None ge)
+]
+
+module _ (lab : LabValue) (s : ℕ) where
+  hers_known : (st : State) (k : ℕ) → OnlySheIsKnown s st → is_hers s (known_on st k) ≡ true
+  hers_known st k all = none_known st.greeted s (k - 1) all
+
+  hers_with : (st : State) (k : ℕ) (x : Option Who) → OnlySheIsKnown s st → is_hers s x ≡ true → OnlySheIsKnown s (with_known st k x)
+  hers_with st k x all h = All-set (λ (known : Option Who). is_hers s known ≡ true) st.greeted (k - 1) x h all
+
+  hers_admitted : (st : State) (k : ℕ) (found : Option Who) → OnlySheIsKnown s st → is_hers s found ≡ true → OnlySheIsKnown s (settled lab st k (admitted found)).state
+  hers_admitted st k None all h = hers_with st k None all refl
+  hers_admitted st k (Some x) all h = hers_with st k (Some x) all h
+
+  hers_told : (st : State) (g : Ruling) → OnlySheIsKnown s st → OnlySheIsKnown s (told st g).state
+  hers_told st g all = subst (λ (xs : List (Option Who)). All (λ known. is_hers s known ≡ true) xs) (sym (told_greeted st g)) all
+
+  hers_greeted : (st : State) (k : ℕ) (known : Option Who) (q : Request) → OnlySheIsKnown s st → is_hers s known ≡ true
+      → ((name key : List ℕ) → q ≡ requests.Hello name key → is_hers s (principal lab.roster name key) ≡ true)
+      → OnlySheIsKnown s (settled lab st k (greeting lab.roster known q)).state
+  hers_greeted st k None (requests.Hello name key) all h greets = hers_admitted st k (principal lab.roster name key) all (greets name key refl)
+  hers_greeted st k (Some x) (requests.Hello name key) all h greets = hers_with st k (Some x) all h
+  hers_greeted st k None requests.Bye all h greets = hers_with st k None all refl
+  hers_greeted st k (Some x) requests.Bye all h greets = hers_with st k None all refl
+  hers_greeted st k None (requests.Do c) all h greets = hers_with st k None all refl
+  hers_greeted st k (Some x) (requests.Do c) all h greets = hers_told st (ruling lab.ids lab.roster lab.events st.halted st.world x c) all
+
+  hers_answer : (st : State) (k : ℕ) (asked : Result Request LineFault) → OnlySheIsKnown s st
+      → ((name key : List ℕ) → asked ≡ Ok (requests.Hello name key) → is_hers s (principal lab.roster name key) ≡ true)
+      → OnlySheIsKnown s (answer_to lab st k asked).state
+  hers_answer st k (Err fault) all greets = all
+  hers_answer st k (Ok q) all greets = hers_greeted st k (known_on st k) q all (hers_known st k all) (λ name key e. greets name key (ap Ok e))
+
+  pub hers_plain : (st : State) (k : ℕ) (line : List ℕ) → OnlySheIsKnown s st
+      → ((name key : List ℕ) → request_in line ≡ Ok (requests.Hello name key) → is_hers s (principal lab.roster name key) ≡ true)
+      → OnlySheIsKnown s (plain_turn lab st k line).state
+  unfolding plain_turn
+  hers_plain st k line all greets = hers_answer st k (request_in line) all greets
+
+module _ (lab other : LabValue) (t : AreTwins lab other) (s : ℕ) where
+  pub same_replies : (st su : State) (lines : List RequestLine) → StatesAlike lab s st su → OnlySheIsKnown s st → OnlySheGreets lab s lines
+      → replies_to lab st lines ≡ replies_to other su lines
+  same_replies st su [] a all greets = refl
+  same_replies st su (line ∷ lines) a all greets =
+      let both : TurnsAlike lab s (turn_of lab st line) (turn_of other su line) =
+      twin_turn lab other t s st su a nothing line.connection line.request (hers_known lab s st line.connection all) in
+      let rest = same_replies (turn_of lab st line).state (turn_of other su line).state lines both.states (hers_plain lab s st line.connection line.request all greets.0) greets.1 in
+      λ z. both.reply z ∷ rest z
+
+  same_outputs : (lines : List RequestLine) (rs : List Reply) → output_lines lab lines rs ≡ output_lines other lines rs
+  same_outputs [] rs = refl
+  same_outputs (line ∷ lines) [] = refl
+  same_outputs (line ∷ lines) (r ∷ rs) =
+      let rest = same_outputs lines rs in
+      λ z. (decimal line.connection ++ 32 ∷ reply_line (t.ids z) (t.roster z) r) ∷ rest z
+
+  pub same_bytes : (st su : State) (lines : List RequestLine) → StatesAlike lab s st su → OnlySheIsKnown s st → OnlySheGreets lab s lines
+      → concat (output_lines lab lines (replies_to lab st lines)) ≡ concat (output_lines other lines (replies_to other su lines))
+  same_bytes st su lines a all greets =
+      ap (λ (rs : List Reply). concat (output_lines lab lines rs)) (same_replies st su lines a all greets)
+      ∙ ap concat (same_outputs lines (replies_to other su lines))
+
+-- ---- at the beginning
+
+pub openings_alike : (lab other : LabValue) (s : ℕ) → AreTwins lab other → IsLab lab → IsLab other → Alike lab.roster s (opening_of lab.network) (opening_of other.network)
+    → StatesAlike lab s (opening lab) (opening other)
+openings_alike lab other s t is other_is a = record {
+  first = (reached_first lab is).world;
+  second = subst (λ (ids : List ℕ). IsWorldOf ids (opening_of other.network)) (sym t.ids) (reached_first other other_is).world;
+  worlds = a;
+  greeted = ap (λ (n : ℕ). replicate n None) t.sessions;
+  halted = refl;
+}
+
+pub opening_hers : (lab : LabValue) (s : ℕ) → OnlySheIsKnown s (opening lab)
+opening_hers lab s = All-replicate (λ (known : Option Who). is_hers s known ≡ true) lab.sessions None refl
+
+-- ---- runs that no mishap hinders are plain
+
+unless_memory : (st : State) (plain : Outcome) (b : Bool) → (cond b (without_memory st) plain).reply ≢ Refuse refused.Memory → cond b (without_memory st) plain ≡ plain
+unless_memory st plain true h = absurd (h refl)
+unless_memory st plain false h = refl
+
+unless_journal : (st : State) (plain : Outcome) (b : Bool) → (cond b (halting st) plain).reply ≢ Refuse refused.Journal → cond b (halting st) plain ≡ plain
+unless_journal st plain true h = absurd (h refl)
+unless_journal st plain false h = refl
+
+plain_mishap : (lab : LabValue) (st : State) (k : ℕ) (line : List ℕ) (m : Mishap) → (turn m lab st k line).reply ≢ Refuse refused.Memory → (turn m lab st k line).reply ≢ Refuse refused.Journal
+    → turn m lab st k line ≡ plain_turn lab st k line
+plain_mishap lab st k line nothing memory journal = refl
+plain_mishap lab st k line while_read memory journal = absurd (memory refl)
+plain_mishap lab st k line later memory journal = unless_memory st (plain_turn lab st k line) (takes_memory (plain_turn lab st k line).reply) memory
+plain_mishap lab st k line sink_failed memory journal = unless_journal st (plain_turn lab st k line) (is_grant (plain_turn lab st k line).reply) journal
+
+plain_there : (lab : LabValue) (st : State) (k : ℕ) (line : List ℕ) (out : Outcome) → Turn lab st k line out → out.reply ≢ Refuse refused.Memory → out.reply ≢ Refuse refused.Journal
+    → out ≡ plain_turn lab st k line
+plain_there lab st k line out (m, e) memory journal =
+    e ∙ plain_mishap lab st k line m (λ h. memory (ap (λ (o : Outcome). o.reply) e ∙ h)) (λ h. journal (ap (λ (o : Outcome). o.reply) e ∙ h))
+
+pub plain_run : (lab : LabValue) (st : State) (lines : List RequestLine) (rs : List Reply) (end : State) → Run lab st lines rs end → AreUnhindered rs
+    → (rs ≡ replies_to lab st lines) × (end ≡ end_of lab st lines)
+plain_run lab st [] [] end run free = (refl, run)
+plain_run lab st [] (r ∷ rs) end run free = absurd run
+plain_run lab st (line ∷ lines) [] end run free = absurd run
+plain_run lab st (line ∷ lines) (r ∷ rs) end (next, here, run) (now, free) =
+    let plain : record { reply = r; state = next } ≡ turn_of lab st line = plain_there lab st line.connection line.request (record { reply = r; state = next }) here now.0 now.1 in
+    let state : next ≡ (turn_of lab st line).state = ap (λ (o : Outcome). o.state) plain in
+    let rest = plain_run lab next lines rs end run free in
+    ((λ z. (plain z).reply ∷ (rest.0 ∙ ap (λ (x : State). replies_to lab x lines) state) z), rest.1 ∙ ap (λ (x : State). end_of lab x lines) state)
+
+pub same_transcripts : (lab other : LabValue) (s : ℕ) (t : Transcript lab) (u : Transcript other) → AreTwins lab other → IsLab lab → IsLab other
+    → Alike lab.roster s (opening_of lab.network) (opening_of other.network) → u.lines ≡ t.lines → OnlySheGreets lab s t.lines → AreUnhindered t.replies → AreUnhindered u.replies
+    → bytes_written t ≡ bytes_written u
+same_transcripts lab other s t u twins is other_is a lines greets free other_free =
+    ap (λ (rs : List Reply). concat (output_lines lab t.lines rs)) (plain_run lab (opening lab) t.lines t.replies t.end t.run free).0
+    ∙ same_bytes lab other twins s (opening lab) (opening other) t.lines (openings_alike lab other s twins is other_is a) (opening_hers lab s) greets
+    ∙ ap (λ (ls : List RequestLine). concat (output_lines other ls (replies_to other (opening other) ls))) (sym lines)
+    ∙ ap (λ (rs : List Reply). concat (output_lines other u.lines rs)) (sym (plain_run other (opening other) u.lines u.replies u.end u.run other_free).0)
+
+pub same_on_connection : (lab other : LabValue) (s k : ℕ) (t : Transcript lab) (u : Transcript other) → AreTwins lab other → IsLab lab → IsLab other
+    → Alike lab.roster s (opening_of lab.network) (opening_of other.network) → u.lines ≡ t.lines → StayAlike lab other s (opening lab) (opening other) t.lines
+    → IsHersThroughout lab s k (opening lab) t.lines → AreUnhindered t.replies → AreUnhindered u.replies
+    → written_on lab k t.lines t.replies ≡ written_on other k u.lines u.replies
+same_on_connection lab other s k t u twins is other_is a lines stay hers free other_free =
+    ap (λ (rs : List Reply). written_on lab k t.lines rs) (plain_run lab (opening lab) t.lines t.replies t.end t.run free).0
+    ∙ same_written_on lab other twins s (opening lab) (opening other) k t.lines (openings_alike lab other s twins is other_is a) stay hers
+    ∙ ap (λ (ls : List RequestLine). written_on other k ls (replies_to other (opening other) ls)) (sym lines)
+    ∙ ap (λ (rs : List Reply). written_on other k u.lines rs) (sym (plain_run other (opening other) u.lines u.replies u.end u.run other_free).0)

@@ -1,0 +1,105 @@
+-- A student is told the same in worlds that are alike.
+use Rattle.std.proofs.Common.{◌≡◌, ℕ, Bool, true, false, cond, nat_le, is_none, ◌==◌, List, Result, Ok, Err, refl, sym, ap, ◌∙◌}
+use Rattle.std.proofs.lemmas.Bool.{false≢true}
+use Rattle.std.specs.Result.{IfOk}
+use Rattle.mml_ids.proofs.GivesLemmas.{bind-if, need-if}
+use Rattle.mml_rules.specs.Rules.{guard}
+use Rattle.mml_lab.specs.declared.who.Who.TheVariants as who
+use Rattle.mml_lab.specs.Rosters.{RosterValue, owns}
+use Rattle.mml_board.specs.declared.event.Event.{Event}
+use Rattle.mml_board.specs.World.{World, configuration, chosen_at}
+use Rattle.mml_board.specs.declared.done.Done.{Done}
+use Rattle.mml_board.specs.Events.{done_by}
+use Rattle.mml_policy.specs.declared.command.Command.{Command}
+use Rattle.mml_policy.specs.declared.command.Command.TheVariants as command
+use Rattle.mml_policy.specs.declared.denial.Denial.{Denial}
+use Rattle.mml_policy.specs.declared.denial.Denial.TheVariants.{Hidden, NotOwner, Guard}
+use Rattle.mml_policy.specs.declared.ruling.Ruling.{Ruling}
+use Rattle.mml_policy.specs.declared.ruling.Ruling.TheVariants.{Denied, Seen, Looked, Reported, Full, Journal, Granted}
+use Rattle.mml_policy.specs.declared.verdict.Leave.{Leave}
+use Rattle.mml_policy.specs.declared.verdict.Leave.TheVariants.{See, Look, Report, Grant}
+use Rattle.mml_policy.specs.Visible.{is_visible}
+use Rattle.mml_policy.specs.Clauses.{node, rule_of}
+use Rattle.mml_policy.specs.Verdicts.{clauses}
+use Rattle.mml_policy.specs.Rulings.{ruled, ruling}
+use Rattle.mml_policy.specs.Alike.{Alike, IsWorldOf}
+use Rattle.mml_policy.proofs.AlikeLemmas.{same_ruling, alike_afterwards}
+use Rattle.mml_codec.specs.declared.reply.Reply.{Reply}
+use Rattle.mml_codec.specs.Replies.{reply_line}
+use Rattle.mml_codec.specs.Rulings.{reply_of, reply_of_done}
+use Rattle.mml_hidden.specs.CommandReplies.{world_after, reply_to, line_to}
+
+-- ---- a student is told no report
+
+abbrev NoReport : Leave → Type 0
+NoReport (See i) = Unit {0}
+NoReport (Look i) = Unit {0}
+NoReport Report = ⊥
+NoReport (Grant e) = Unit {0}
+
+no_report : (ids : List ℕ) (r : RosterValue) (w : World) (s : ℕ) (k : Command) → IfOk (clauses ids r w (who.Student s) k) NoReport
+no_report ids r w s (command.See id) =
+    bind-if NoReport (node ids id Hidden) _ (λ i _.
+    need-if NoReport (is_visible r (configuration w) (who.Student s) i) _ _ (λ _. tt))
+no_report ids r w s (command.Look id) =
+    bind-if NoReport (node ids id NotOwner) _ (λ i _.
+    need-if NoReport (owns r (who.Student s) i) _ _ (λ _. tt))
+no_report ids r w s (command.Move id q at) =
+    bind-if NoReport (node ids id NotOwner) _ (λ i _.
+    need-if NoReport (owns r (who.Student s) i) _ _ (λ _.
+    need-if NoReport (at == w.number) _ _ (λ _.
+    need-if NoReport (is_none (chosen_at w.chosen i)) _ _ (λ _.
+    bind-if NoReport (rule_of ids q Guard) _ (λ rule _.
+    need-if NoReport (guard (configuration w) i rule) _ _ (λ _. tt))))))
+no_report ids r w s command.Close = tt
+no_report ids r w s (command.Fault id p m) = tt
+no_report ids r w s (command.Link first second) = tt
+no_report ids r w s (command.Cut first second) = tt
+no_report ids r w s (command.Release id) = tt
+no_report ids r w s command.Report = tt
+
+abbrev is_report : Ruling → Bool
+is_report (Denied d) = false
+is_report (Seen s) = false
+is_report (Looked l) = false
+is_report Reported = true
+is_report Full = false
+is_report Journal = false
+is_report (Granted e d) = false
+
+unless_full : (b h : Bool) (e : Event) (d : Done) → is_report (cond b Full (cond h Journal (Granted e d))) ≡ false
+unless_full true h e d = refl
+unless_full false true e d = refl
+unless_full false false e d = refl
+
+unreported : (limit : ℕ) (h : Bool) (w : World) (p : Result Leave Denial) → IfOk p NoReport → is_report (ruled limit h w p) ≡ false
+unreported limit h w (Ok (See i)) n = refl
+unreported limit h w (Ok (Look i)) n = refl
+unreported limit h w (Ok Report) n = absurd n
+unreported limit h w (Ok (Grant e)) n = unless_full (nat_le limit w.place) h e (done_by w e)
+unreported limit h w (Err d) n = refl
+
+pub student_unreported : (ids : List ℕ) (r : RosterValue) (limit : ℕ) (h : Bool) (w : World) (s : ℕ) (k : Command) → is_report (ruling ids r limit h w (who.Student s) k) ≡ false
+student_unreported ids r limit h w s k = unreported limit h w (clauses ids r w (who.Student s) k) (no_report ids r w s k)
+
+-- ---- the reply to any other ruling is made of the ruling, the number and the place
+
+pub same_reply_of : (w v : World) (g : Ruling) → is_report g ≡ false → w.number ≡ v.number → w.place ≡ v.place → reply_of w g ≡ reply_of v g
+same_reply_of w v (Denied d) h number place = refl
+same_reply_of w v (Seen s) h number place = refl
+same_reply_of w v (Looked l) h number place = refl
+same_reply_of w v Reported h number place = absurd (false≢true (sym h))
+same_reply_of w v Full h number place = refl
+same_reply_of w v Journal h number place = refl
+same_reply_of w v (Granted e d) h number place = λ k. reply_of_done (number k) (place k) d
+
+pub same_reply_to : (ids : List ℕ) (r : RosterValue) (limit : ℕ) (h : Bool) (w v : World) (s : ℕ) (k : Command) → IsWorldOf ids w → IsWorldOf ids v → Alike r s w v
+    → reply_to ids r limit h w (who.Student s) k ≡ reply_to ids r limit h v (who.Student s) k
+same_reply_to ids r limit h w v s k in_w in_v a =
+    let after : Alike r s (world_after ids r limit h w (who.Student s) k) (world_after ids r limit h v (who.Student s) k) = alike_afterwards ids r limit h w v s k in_w in_v a in
+    same_reply_of (world_after ids r limit h w (who.Student s) k) (world_after ids r limit h v (who.Student s) k) (ruling ids r limit h w (who.Student s) k) (student_unreported ids r limit h w s k) after.number after.place
+    ∙ ap (λ (g : Ruling). reply_of (world_after ids r limit h v (who.Student s) k) g) (same_ruling ids r limit h w v s k in_w in_v a)
+
+pub same_line_to : (ids : List ℕ) (r : RosterValue) (limit : ℕ) (h : Bool) (w v : World) (s : ℕ) (k : Command) → IsWorldOf ids w → IsWorldOf ids v → Alike r s w v
+    → line_to ids r limit h w (who.Student s) k ≡ line_to ids r limit h v (who.Student s) k
+same_line_to ids r limit h w v s k in_w in_v a = ap (λ (q : Reply). reply_line ids r q) (same_reply_to ids r limit h w v s k in_w in_v a)

@@ -1,0 +1,5 @@
+pub mod CommandReplies
+pub mod Twins
+pub mod Scripted
+pub mod Sight
+pub mod Mishaps

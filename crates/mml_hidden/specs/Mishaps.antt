@@ -1,0 +1,63 @@
+-- Turns of the lines of a script, whatever befell them, and what of them goes to connections of one student.
+use Rattle.std.specs.Prelude.{◌≡◌, ℕ, Bool, true, false, List, [], ◌∷◌, ◌++◌, map, if◌then◌else◌}
+use Rattle.mml_lab.specs.Labs.{LabValue}
+use Rattle.mml_policy.specs.Alike.{Alike}
+use Rattle.mml_codec.specs.declared.reply.Reply.{Reply}
+use Rattle.mml_hall.specs.Turns.{State, Outcome, Mishap, RequestLine, turn, known_on, opening}
+use Rattle.mml_hall.specs.Transcripts.{Transcript, output_line}
+use Rattle.mml_hidden.specs.Twins.{is_hers}
+
+-- a line of a script, and what befell its turn
+pub record BefallenLine : Type 0 where
+  pub line : RequestLine
+  pub mishap : Mishap
+
+-- its turn
+abbrev pub turn_with : LabValue → State → BefallenLine → Outcome
+turn_with lab st b = turn b.mishap lab st b.line.connection b.line.request
+
+-- the lines alone
+abbrev pub lines_in : List BefallenLine → List RequestLine
+lines_in bs = map (λ b. b.line) bs
+
+-- the replies of the turns
+abbrev pub replies_with : LabValue → State → List BefallenLine → List Reply
+replies_with lab st [] = []
+replies_with lab st (b ∷ bs) = (turn_with lab st b).reply ∷ replies_with lab (turn_with lab st b).state bs
+
+-- the state that they lead to
+abbrev pub end_with : LabValue → State → List BefallenLine → State
+end_with lab st [] = st
+end_with lab st (b ∷ bs) = end_with lab (turn_with lab st b).state bs
+
+-- after each line of another the worlds of the two runs are alike for student s, and halted the same
+abbrev pub StayAlikeWith : LabValue → LabValue → ℕ → State → State → List BefallenLine → Type 0
+StayAlikeWith lab other s st su [] = Unit {0}
+StayAlikeWith lab other s st su (b ∷ bs) =
+    (is_hers s (known_on st b.line.connection) ≡ false
+    → Alike lab.roster s (turn_with lab st b).state.world (turn_with other su b).state.world × ((turn_with lab st b).state.halted ≡ (turn_with other su b).state.halted))
+    × StayAlikeWith lab other s (turn_with lab st b).state (turn_with other su b).state bs
+
+-- of lines and the replies to them, the output lines on some of the connections
+abbrev pub written_on_any : LabValue → (ℕ → Bool) → List RequestLine → List Reply → List (List ℕ)
+written_on_any lab some [] rs = []
+written_on_any lab some (line ∷ lines) [] = []
+written_on_any lab some (line ∷ lines) (r ∷ rs) = (if some line.connection then output_line lab line.connection r ∷ [] else []) ++ written_on_any lab some lines rs
+
+-- whenever a line comes on one of these connections, it is known as student s, or as nobody yet
+abbrev pub AreHersThroughout : LabValue → ℕ → (ℕ → Bool) → State → List BefallenLine → Type 0
+AreHersThroughout lab s some st [] = Unit {0}
+AreHersThroughout lab s some st (b ∷ bs) =
+    (some b.line.connection ≡ true → is_hers s (known_on st b.line.connection) ≡ true) × AreHersThroughout lab s some (turn_with lab st b).state bs
+
+-- something befell each line, so that the turns have these replies and lead to that end
+pub record Befalls (lab : LabValue) (st : State) (lines : List RequestLine) (rs : List Reply) (end : State) : Type 0 where
+  pub befallen : List BefallenLine
+  pub lines_are : lines_in befallen ≡ lines
+  pub replies_are : rs ≡ replies_with lab st befallen
+  pub end_is : end ≡ end_with lab st befallen
+
+-- the transcript's lines and replies are those of turns that this befell
+pub record Befell (lab : LabValue) (t : Transcript lab) (bs : List BefallenLine) : Type 0 where
+  pub lines_are : lines_in bs ≡ t.lines
+  pub replies_are : t.replies ≡ replies_with lab (opening lab) bs

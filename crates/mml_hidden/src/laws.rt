@@ -1,0 +1,205 @@
+//! Laws of what a student can't tell. Each is the clause of a function that does nothing.
+ghost use Rattle.std.specs.Prelude.{◌≡◌, ◌↔◌, ◌<◌, ℕ, Bool, List, true, false, length};
+ghost use Rattle.mml_rules.specs.declared.registers.Regs.{Regs};
+ghost use Rattle.mml_rules.specs.Network.{Network, IsNetwork, configuration_of, with_registers, with_link};
+ghost use Rattle.std.specs.List.{concat};
+ghost use Rattle.mml_lab.specs.declared.who.Who.TheVariants as who;
+ghost use Rattle.mml_lab.specs.Labs.{LabValue, IsLab};
+ghost use Rattle.mml_lab.specs.Rosters.{RosterValue, owns};
+ghost use Rattle.mml_board.specs.World.{World, IsWorld, opening_of};
+ghost use Rattle.mml_board.specs.declared.event.Event.{Event};
+ghost use Rattle.mml_board.specs.declared.event.Event.TheVariants as event;
+ghost use Rattle.mml_board.specs.Events.{after, is_possible};
+ghost use Rattle.mml_board.specs.Meaning.{makes_configuration};
+ghost use Rattle.mml_policy.specs.declared.command.Command.{Command};
+ghost use Rattle.mml_policy.specs.Visible.{IsVisible};
+ghost use Rattle.mml_policy.specs.Alike.{Alike, IsWorldOf};
+ghost use Rattle.mml_codec.specs.Replies.{reply_line};
+ghost use Rattle.mml_codec.specs.declared.reply.Reply.{Reply};
+ghost use Rattle.mml_hall.specs.Turns.{State, Outcome, Mishap, RequestLine, Run, Turn, opening, turn, plain_turn, known_on, is_grant};
+ghost use Rattle.mml_hall.specs.Transcripts.{Transcript, output_lines, bytes_written};
+ghost use Rattle.mml_hidden.specs.Scripted.{replies_to, end_of, written_to, written_on, StayAlike, IsHersThroughout, OnlySheGreets, OnlySheIsKnown, AreUnhindered};
+ghost use Rattle.mml_hidden.specs.CommandReplies.{world_after, reply_to, line_to};
+ghost use Rattle.mml_hidden.specs.Mishaps.{BefallenLine, Befalls, Befell, lines_in, replies_with, end_with, StayAlikeWith, written_on_any, AreHersThroughout};
+ghost use Rattle.mml_hidden.specs.Sight.{ShowsTheSame, MoveAlike, IsUntouched, IsOutOfSight};
+ghost use Rattle.mml_hidden.specs.Twins.{AreTwins, StatesAlike, is_hers};
+
+/// In worlds that are alike for a student each command of hers has the same reply, so the same bytes,
+/// and the worlds afterwards are alike again.
+pub fn hidden_values_change_no_reply_line()
+    ensures reply { (ids : List ℕ) (r : RosterValue) (limit : ℕ) (is_halted : Bool) (w v : World)
+        (s : ℕ) (c : Command) → IsWorldOf ids w → IsWorldOf ids v → Alike r s w v →
+        reply_to ids r limit is_halted w (who.Student s) c
+        ≡ reply_to ids r limit is_halted v (who.Student s) c }
+    ensures line { (ids : List ℕ) (r : RosterValue) (limit : ℕ) (is_halted : Bool) (w v : World)
+        (s : ℕ) (c : Command) → IsWorldOf ids w → IsWorldOf ids v → Alike r s w v →
+        line_to ids r limit is_halted w (who.Student s) c
+        ≡ line_to ids r limit is_halted v (who.Student s) c }
+    ensures afterwards { (ids : List ℕ) (r : RosterValue) (limit : ℕ) (is_halted : Bool)
+        (w v : World) (s : ℕ) (c : Command) → IsWorldOf ids w → IsWorldOf ids v →
+        Alike r s w v → Alike r s (world_after ids r limit is_halted w (who.Student s) c)
+        (world_after ids r limit is_halted v (who.Student s) c) }
+{}
+
+/// The turn of a line on a connection that is known as the student, or as nobody yet, has the same
+/// reply line in both states, and they are alike afterwards, whatever befell both turns.
+pub fn hidden_values_change_no_turn()
+    ensures line { (lab other : LabValue) (s : ℕ) (st su : State) (mishap : Mishap) (k : ℕ)
+        (line : List ℕ) → AreTwins lab other → StatesAlike lab s st su →
+        is_hers s (known_on st k) ≡ true →
+        reply_line lab.ids lab.roster (turn mishap lab st k line).reply
+        ≡ reply_line other.ids other.roster (turn mishap other su k line).reply }
+    ensures afterwards { (lab other : LabValue) (s : ℕ) (st su : State) (mishap : Mishap) (k : ℕ)
+        (line : List ℕ) → AreTwins lab other → StatesAlike lab s st su →
+        is_hers s (known_on st k) ≡ true →
+        StatesAlike lab s (turn mishap lab st k line).state (turn mishap other su k line).state }
+{}
+
+/// After the plain turns of a line on any connection the states are alike, where the worlds are.
+pub fn lines_of_others_keep_states_alike()
+    ensures { (lab other : LabValue) (s : ℕ) (st su : State) (k : ℕ) (line : List ℕ) →
+        AreTwins lab other → StatesAlike lab s st su →
+        Alike lab.roster s (plain_turn lab st k line).state.world
+        (plain_turn other su k line).state.world →
+        StatesAlike lab s (plain_turn lab st k line).state (plain_turn other su k line).state }
+{}
+
+/// The turns of a line in two worlds that are alike for a student leave them alike where neither makes
+/// an event, and only where both make one or neither does.
+pub fn turns_that_keep_worlds_alike_grant_alike()
+    ensures neither { (lab other : LabValue) (s : ℕ) (st su : State) (k : ℕ) (line : List ℕ)
+        (one two : Outcome) → Turn lab st k line one → Turn other su k line two →
+        Alike lab.roster s st.world su.world → is_grant one.reply ≡ false →
+        is_grant two.reply ≡ false → Alike lab.roster s one.state.world two.state.world }
+    ensures only { (lab other : LabValue) (s : ℕ) (st su : State) (k : ℕ) (line : List ℕ)
+        (one two : Outcome) → Turn lab st k line one → Turn other su k line two →
+        Alike lab.roster s st.world su.world →
+        Alike lab.roster s one.state.world two.state.world →
+        is_grant one.reply ≡ is_grant two.reply }
+{}
+
+/// Two runs of one script, whose worlds stay alike for a student at each line of another's: what is
+/// written on connections while they are hers, or nobody's, is the same, and so is all that is written
+/// on a connection that is hers throughout; and the states at the end are alike.
+pub fn hidden_values_change_no_script()
+    ensures written { (lab other : LabValue) (s : ℕ) (st su : State) (lines : List RequestLine) →
+        AreTwins lab other → StatesAlike lab s st su → StayAlike lab other s st su lines →
+        written_to lab s st lines ≡ written_to other s su lines }
+    ensures connection { (lab other : LabValue) (s : ℕ) (st su : State) (k : ℕ)
+        (lines : List RequestLine) → AreTwins lab other → StatesAlike lab s st su →
+        StayAlike lab other s st su lines → IsHersThroughout lab s k st lines →
+        written_on lab k lines (replies_to lab st lines)
+        ≡ written_on other k lines (replies_to other su lines) }
+    ensures transcripts { (lab other : LabValue) (s k : ℕ) (t : Transcript lab)
+        (u : Transcript other) → AreTwins lab other → IsLab lab → IsLab other →
+        Alike lab.roster s (opening_of lab.network) (opening_of other.network) →
+        u.lines ≡ t.lines → StayAlike lab other s (opening lab) (opening other) t.lines →
+        IsHersThroughout lab s k (opening lab) t.lines → AreUnhindered t.replies →
+        AreUnhindered u.replies →
+        written_on lab k t.lines t.replies ≡ written_on other k u.lines u.replies }
+    ensures end { (lab other : LabValue) (s : ℕ) (st su : State) (lines : List RequestLine) →
+        AreTwins lab other → StatesAlike lab s st su → StayAlike lab other s st su lines →
+        StatesAlike lab s (end_of lab st lines) (end_of other su lines) }
+{}
+
+/// The same where turns meet mishaps, the same in both runs, and are halted the same after each line of
+/// another's, for any number of connections that are hers throughout.
+pub fn hidden_values_change_no_script_with_mishaps()
+    ensures connections { (lab other : LabValue) (s : ℕ) (st su : State) (some : ℕ → Bool)
+        (bs : List BefallenLine) → AreTwins lab other → StatesAlike lab s st su →
+        StayAlikeWith lab other s st su bs → AreHersThroughout lab s some st bs →
+        written_on_any lab some (lines_in bs) (replies_with lab st bs)
+        ≡ written_on_any other some (lines_in bs) (replies_with other su bs) }
+    ensures transcripts { (lab other : LabValue) (s : ℕ) (some : ℕ → Bool) (t : Transcript lab)
+        (u : Transcript other) (bs : List BefallenLine) → AreTwins lab other → IsLab lab →
+        IsLab other → Alike lab.roster s (opening_of lab.network) (opening_of other.network) →
+        Befell lab t bs → Befell other u bs →
+        StayAlikeWith lab other s (opening lab) (opening other) bs →
+        AreHersThroughout lab s some (opening lab) bs →
+        written_on_any lab some t.lines t.replies ≡ written_on_any other some u.lines u.replies }
+    ensures end { (lab other : LabValue) (s : ℕ) (st su : State) (bs : List BefallenLine) →
+        AreTwins lab other → StatesAlike lab s st su → StayAlikeWith lab other s st su bs →
+        StatesAlike lab s (end_with lab st bs) (end_with other su bs) }
+{}
+
+/// In each run something, or nothing, befell each line.
+pub fn something_befell_each_line()
+    ensures { (lab : LabValue) (st : State) (lines : List RequestLine) (rs : List Reply)
+        (end : State) → Run lab st lines rs end → Befalls lab st lines rs end }
+{}
+
+/// Where nobody but the student is known, and each hello that is granted is hers, the worlds need not
+/// be looked at: all replies are the same, and so are all bytes.
+pub fn one_who_is_alone_can_not_tell()
+    ensures replies { (lab other : LabValue) (s : ℕ) (st su : State) (lines : List RequestLine) →
+        AreTwins lab other → StatesAlike lab s st su → OnlySheIsKnown s st →
+        OnlySheGreets lab s lines → replies_to lab st lines ≡ replies_to other su lines }
+    ensures bytes { (lab other : LabValue) (s : ℕ) (st su : State) (lines : List RequestLine) →
+        AreTwins lab other → StatesAlike lab s st su → OnlySheIsKnown s st →
+        OnlySheGreets lab s lines → concat (output_lines lab lines (replies_to lab st lines))
+        ≡ concat (output_lines other lines (replies_to other su lines)) }
+    ensures transcripts { (lab other : LabValue) (s : ℕ) (t : Transcript lab)
+        (u : Transcript other) → AreTwins lab other → IsLab lab → IsLab other →
+        Alike lab.roster s (opening_of lab.network) (opening_of other.network) →
+        u.lines ≡ t.lines → OnlySheGreets lab s t.lines → AreUnhindered t.replies →
+        AreUnhindered u.replies → bytes_written t ≡ bytes_written u }
+{}
+
+/// At the beginning the states are alike where the labs' networks are, and nobody is known.
+pub fn runs_begin_alike()
+    ensures states { (lab other : LabValue) (s : ℕ) → AreTwins lab other → IsLab lab →
+        IsLab other → Alike lab.roster s (opening_of lab.network) (opening_of other.network) →
+        StatesAlike lab s (opening lab) (opening other) }
+    ensures known { (lab : LabValue) (s : ℕ) → OnlySheIsKnown s (opening lab) }
+{}
+
+/// A run in which no reply tells want of memory or a failed journal is that of the plain turns.
+pub fn unhindered_runs_are_plain()
+    ensures { (lab : LabValue) (st : State) (lines : List RequestLine) (rs : List Reply)
+        (end : State) → Run lab st lines rs end → AreUnhindered rs →
+        (rs ≡ replies_to lab st lines) × (end ≡ end_of lab st lines) }
+{}
+
+/// An event in one of two alike worlds alone is told by the place, and two events of which one makes a
+/// configuration, and the other none, are told by the number: after them the worlds aren't alike.
+pub fn events_are_told_by_place_and_number()
+    ensures first { (r : RosterValue) (s : ℕ) (w v : World) (e : Event) → Alike r s w v →
+        ¬ Alike r s (after w e) v }
+    ensures second { (r : RosterValue) (s : ℕ) (w v : World) (e : Event) → Alike r s w v →
+        ¬ Alike r s w (after v e) }
+    ensures kinds { (r : RosterValue) (s : ℕ) (w v : World) (e f : Event) → Alike r s w v →
+        Alike r s (after w e) (after v f) → makes_configuration e ≡ makes_configuration f }
+{}
+
+/// One event that takes place in two alike worlds keeps them alike exactly where it shows the student
+/// the same: always, but for a link to a node of hers, and a close.
+pub fn one_event_keeps_worlds_alike()
+    ensures event { (ids : List ℕ) (r : RosterValue) (s : ℕ) (w v : World) (e : Event) →
+        IsWorldOf ids w → IsWorldOf ids v → Alike r s w v → is_possible w e ≡ true →
+        (Alike r s (after w e) (after v e)) ↔ ShowsTheSame r s w v e }
+    ensures close { (ids : List ℕ) (r : RosterValue) (s : ℕ) (w v : World) →
+        IsWorldOf ids w → IsWorldOf ids v → Alike r s w v → MoveAlike r s w v →
+        ShowsTheSame r s w v event.Close }
+{}
+
+/// Two events, one in each of two alike worlds, that change nothing of what the student may read keep
+/// the worlds alike, where both make a configuration or neither does. So do events out of her sight.
+pub fn events_out_of_sight_keep_worlds_alike()
+    ensures untouched { (r : RosterValue) (s : ℕ) (w v : World) (e f : Event) → Alike r s w v →
+        IsUntouched r s w e → IsUntouched r s v f →
+        makes_configuration e ≡ makes_configuration f → Alike r s (after w e) (after v f) }
+    ensures sight { (r : RosterValue) (s : ℕ) (w : World) (e : Event) → IsWorld w →
+        is_possible w e ≡ true → IsOutOfSight r s w e → IsUntouched r s w e }
+{}
+
+/// Two labs are alike at the beginning for a student where they differ in the registers of a node that
+/// isn't visible to her, or in a link between two nodes of others.
+pub fn labs_may_differ_out_of_sight()
+    ensures registers { (n : Network) (r : RosterValue) (s i : ℕ) (regs : Regs) → IsNetwork n →
+        ¬ IsVisible r (configuration_of n) (who.Student s) i →
+        Alike r s (opening_of n) (opening_of (with_registers n i regs)) }
+    ensures link { (n : Network) (r : RosterValue) (s a b : ℕ) → IsNetwork n →
+        a < length n.registers → b < length n.registers →
+        owns r (who.Student s) a ≡ false → owns r (who.Student s) b ≡ false →
+        Alike r s (opening_of n) (opening_of (with_link n a b)) }
+{}
