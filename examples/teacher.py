@@ -1,36 +1,34 @@
 #!/usr/bin/env python3
-"""Closes a step every half second, until no node is privileged: teacher.py PORT NAME KEY"""
-import json
-import socket
+"""Closes a step every half second until no node is privileged, and says whom it waits for:
+teacher.py PORT NAME KEY [LAB]. With the lab's file it names the owners."""
 import sys
 import time
+import tomllib
+from pathlib import Path
+
+sys.path.append(str(Path(__file__).resolve().parent.parent / "classroom"))
+from client import Client, Denied
 
 PAUSE = 0.5  # seconds for the students before each close
-port, name, key = sys.argv[1:]
-connection = socket.create_connection(("127.0.0.1", int(port)))
-lines = connection.makefile("rw", encoding="utf-8", newline="\n")
+port, name, key, *lab = sys.argv[1:]
+owners: dict[int, list[str]] = {}
+for node in tomllib.loads(Path(lab[0]).read_text(encoding="utf-8-sig"))["node"] if lab else []:
+    owners[node["id"]] = [node["owner"]] if "owner" in node else node["owners"]
 
-
-def ask(**request):
-    """Sends a request as one line, and waits for the line that answers it."""
-    print(json.dumps(request), file=lines, flush=True)
-    reply = lines.readline()
-    if not reply:
-        sys.exit(f"{name}: the server has closed the connection")
-    return json.loads(reply)
-
-
-hello = ask(do="hello", name=name, key=key)
-if "ok" not in hello:
-    sys.exit(f"{name}: hello is answered {hello}")
-report = ask(do="report")
-while not report["stable"]:
-    time.sleep(PAUSE)
-    close = ask(do="close")
-    if "ok" in close:
-        print(f"{name}: configuration {close['at']}: moved {close['moved']}", flush=True)
-    elif close.get("deny") != "empty":
-        sys.exit(f"{name}: close is answered {close}")
-    report = ask(do="report")
-print(f"{name}: configuration {report['at']} is stable, pairs {report['pairs']}, free {report['free']}", flush=True)
-ask(do="bye")
+with Client(int(port), name, key) as me:
+    report, told = me.report(), ""
+    while not report.stable:
+        time.sleep(PAUSE)
+        waits = [(node, rule) for node, rule in report.privileged if me.look(node).chosen is None]
+        said = ", ".join(f"{node} ({' and '.join(owners.get(node, ['?']))}): {rule}" for node, rule in waits)
+        if said and said != told:
+            print(f"{name}: waiting for {said}", flush=True)
+        told = said
+        try:
+            close = me.close()
+            print(f"{name}: configuration {close.at}: moved {list(close.moved)}", flush=True)
+        except Denied as denied:
+            if denied.name != "empty":
+                raise
+        report = me.report()
+    print(f"{name}: configuration {report.at} is stable, pairs {list(report.pairs)}, free {list(report.free)}", flush=True)

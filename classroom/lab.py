@@ -1,0 +1,112 @@
+"""A lab's file: read for what a teacher wants to know, and written."""
+from __future__ import annotations
+
+import json
+import os
+import tomllib
+from dataclasses import dataclass, field
+from pathlib import Path
+from typing import Any
+
+from classroom.program import Fault, call
+
+MOST_EVENTS = 100_000
+MOST_SESSIONS = 16
+
+
+@dataclass
+class Node:
+    """A node with its owners, and its registers at the beginning."""
+
+    id: int
+    owners: list[str]
+    p: int | None = None
+    m: bool = False
+
+
+@dataclass
+class Lab:
+    """What a lab's file says."""
+
+    events: int
+    sessions: int
+    teacher: tuple[str, str]
+    students: dict[str, str]
+    nodes: list[Node]
+    links: list[tuple[int, int]] = field(default_factory=list)
+
+    def most_moves(self) -> int:
+        """How many moves suffice from any start: 3n + 2L (docs/TEACHER.md)."""
+        return 3 * len(self.nodes) + 2 * len(self.links)
+
+    def most_events(self) -> int:
+        """The same with as many closes."""
+        return 2 * self.most_moves()
+
+    def owners(self, node: int) -> list[str]:
+        """Who owns the node with that identifier."""
+        return next((each.owners for each in self.nodes if each.id == node), [])
+
+    def nodes_of(self, name: str) -> list[int]:
+        """The identifiers of a student's nodes."""
+        return [node.id for node in self.nodes if name in node.owners]
+
+
+def document(path: Path) -> dict[str, Any]:
+    """The file's document. Python's reader knows TOML 1.0 alone."""
+    try:
+        return tomllib.loads(path.read_text(encoding="utf-8-sig"))
+    except OSError as error:
+        raise Fault(f"{path}: {error.strerror}", 4) from None
+    except UnicodeDecodeError:
+        raise Fault(f"{path}: the bytes aren't UTF-8", 2) from None
+    except tomllib.TOMLDecodeError as error:
+        raise Fault(f"{path}: Python's TOML reader doesn't read it: {error}", 2) from None
+
+
+def read(path: Path) -> Lab:
+    """A lab that the program has taken."""
+    answer = call("check", path)
+    if answer.status != 0:
+        raise Fault(f"{path}: {answer.error}; `./class check {path}` says more", answer.status)
+    it = document(path)
+    nodes = [
+        Node(each["id"], [each["owner"]] if "owner" in each else each["owners"], each.get("p"), each.get("m", False))
+        for each in it["node"]
+    ]
+    students = {each["name"]: each["key"] for each in it["student"]}
+    links = [(a, b) for a, b in it.get("links", [])]
+    return Lab(it["events"], it["sessions"], (it["teacher"]["name"], it["teacher"]["key"]), students, nodes, links)
+
+
+def quoted(word: str) -> str:
+    """A string as TOML and JSON both have it."""
+    return json.dumps(word)
+
+
+def text(lab: Lab) -> str:
+    """The lab as a file."""
+    quote = quoted
+    lines = [f"events = {lab.events}", f"sessions = {lab.sessions}"]
+    lines += ["links = [", *(f"  [{a}, {b}]," for a, b in lab.links), "]"] if lab.links else ["links = []"]
+    lines += ["", "[teacher]", f"name = {quote(lab.teacher[0])}", f"key = {quote(lab.teacher[1])}"]
+    for name, key in lab.students.items():
+        lines += ["", "[[student]]", f"name = {quote(name)}", f"key = {quote(key)}"]
+    for node in lab.nodes:
+        lines += ["", "[[node]]", f"id = {node.id}"]
+        owners = ", ".join(map(quote, node.owners))
+        lines.append(f"owner = {owners}" if len(node.owners) == 1 else f"owners = [{owners}]")
+        lines += [f"p = {node.p}"] if node.p is not None else []
+        lines += ["m = true"] if node.m else []
+    return "\n".join(lines) + "\n"
+
+
+def write_new(path: Path, content: str) -> None:
+    """Writes a file that nobody else reads, and never over another one."""
+    try:
+        with os.fdopen(os.open(path, os.O_WRONLY | os.O_CREAT | os.O_EXCL, 0o600), "w", encoding="utf-8") as it:
+            it.write(content)
+    except FileExistsError:
+        raise Fault(f"{path} is there already, and isn't overwritten") from None
+    except OSError as error:
+        raise Fault(f"{path}: {error.strerror}", 4) from None

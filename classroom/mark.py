@@ -1,0 +1,141 @@
+"""`./class mark`: what the journals of runs tell of each student."""
+from __future__ import annotations
+
+import argparse
+import csv
+import json
+import re
+import sys
+from dataclasses import dataclass
+from pathlib import Path
+from typing import Any
+
+from classroom import lab as labs
+from classroom import replay
+from classroom.journal import RULES, Book, Tally, events
+from classroom.program import Fault, call
+
+UNTOLD = (
+    "Not in a journal: what was asked for and denied, when a line was written, and who used a name.",
+    "A granted move is applied by the next close; a release takes it back, and a fault, link or cut drops it.",
+)
+
+
+@dataclass(frozen=True)
+class Run:
+    """A journal that the audit passed, with what it tells."""
+
+    journal: Path
+    lab: labs.Lab
+    events: int
+    configuration: int
+    stable: bool
+    pairs: list[list[int]]
+    tally: Tally
+
+    def table(self) -> dict[str, Any]:
+        """The run as `--json` has it."""
+        students = {
+            name: {
+                "granted": {rule: marks.granted[rule] for rule in RULES},
+                "applied": {rule: marks.applied[rule] for rule in RULES},
+                "steps": marks.steps, "first": marks.first, "last": marks.last, "shared": marks.shared,
+            }
+            for name, marks in self.tally.students.items()
+        }
+        return {
+            "journal": str(self.journal), "events": self.events, "configuration": self.configuration,
+            "stable": self.stable, "pairs": self.pairs, "closes": self.tally.closes, "faults": self.tally.faults,
+            "links": self.tally.links, "cuts": self.tally.cuts, "students": students,
+        }
+
+
+def marked(lab_file: Path, journal: Path) -> Run:
+    """Audits a journal and counts its events."""
+    answer = call("audit", lab_file, journal)
+    if answer.status != 0:
+        raise Fault(refusal(journal, answer.error), answer.status)
+    said = re.fullmatch(r"ok: (\d+) events, configuration (\d+), (not )?stable\n", answer.output)
+    if said is None:
+        raise Fault(f"{journal}: mml audit says {answer.output!r}", 4)
+    lab = labs.read(lab_file)
+    found = events(journal.read_text(encoding="ascii"))
+    if len(found) != int(said[1]):
+        raise Fault(f"{journal}: it grows: its run is still going on", 4)
+    book = Book(list(lab.students), {node.id for node in lab.nodes if len(node.owners) == 2})
+    for event in found:
+        book.add(event)
+    report = replay.report(lab, found)
+    if report["stable"] != (said[3] is None):
+        raise Fault(f"{journal}: audit and report disagree", 4)
+    return Run(journal, lab, len(found), int(said[2]), report["stable"], report["pairs"], book.tally)
+
+
+def refusal(journal: Path, error: str) -> str:
+    """The audit's fault line, with the text of the line that it names."""
+    line = re.match(r"audit: line (\d+)", error)
+    if line is None:
+        return f"{journal}: {error}"
+    lines = journal.read_bytes().split(b"\n")
+    return f"{journal}: {error}: {lines[int(line[1]) - 1].decode(errors='replace')}"
+
+
+def given(words: list[str]) -> list[tuple[Path, Path]]:
+    """Lab and journal of each run: folders of runs, or a lab and its journals."""
+    first = Path(words[0])
+    if first.is_dir():
+        folders = [Path(word) for word in words]
+        for folder in folders:
+            if not (folder / "lab.toml").is_file() or not (folder / "journal").is_file():
+                raise Fault(f"{folder}: no folder of a run: it has lab.toml and journal")
+        return [(folder / "lab.toml", folder / "journal") for folder in folders]
+    if len(words) == 1:
+        raise Fault(f"{first} is no folder of a run; of a lab its journals are named too")
+    return [(first, Path(word)) for word in words[1:]]
+
+
+def rows(runs: list[Run]) -> list[list[str]]:
+    """A line for each student and run, below a line of heads."""
+    table = [["journal", "student", "granted", "applied", *RULES, "steps", "first", "last", "shared"]]
+    for run in runs:
+        for name, marks in run.tally.students.items():
+            numbers = [marks.granted.total(), marks.applied.total(), *(marks.applied[rule] for rule in RULES), marks.steps,
+                       marks.first, marks.last, marks.shared]
+            table.append([str(run.journal), name, *("-" if number is None else str(number) for number in numbers)])
+    return table
+
+
+def sentence(run: Run) -> str:
+    """The run in a line."""
+    tally = run.tally
+    pairs = " ".join(f"{a}-{b}" for a, b in run.pairs) or "none"
+    return (f"{run.journal}: {run.events} events, configuration {run.configuration}, "
+            f"{'stable' if run.stable else 'not stable'}; {tally.closes} closes, {tally.faults} faults, {tally.links} links, "
+            f"{tally.cuts} cuts; pairs: {pairs}")
+
+
+def text(runs: list[Run]) -> str:
+    """The table for people; the rules' columns are of applied moves."""
+    lines = []
+    for run in runs:
+        table = [row[1:] for row in rows([run])]
+        widths = [max(len(row[column]) for row in table) for column in range(len(table[0]))]
+        lines += [sentence(run), *("  " + "  ".join(map(str.rjust, row, widths)) for row in table), ""]
+    return "\n".join([*lines, *UNTOLD]) + "\n"
+
+
+def as_json(runs: list[Run]) -> str:
+    """All runs as one JSON document."""
+    return json.dumps({"runs": [run.table() for run in runs]}, indent=1) + "\n"
+
+
+def mark(words: argparse.Namespace) -> int:
+    """Prints the marks of all journals, or refuses the first that the audit refuses."""
+    runs = [marked(lab, journal) for lab, journal in given(words.runs)]
+    if words.json:
+        print(as_json(runs), end="")
+    elif words.csv:
+        csv.writer(sys.stdout, lineterminator="\n").writerows(rows(runs))
+    else:
+        print(text(runs), end="")
+    return 0

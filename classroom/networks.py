@@ -1,0 +1,83 @@
+"""Families of networks, and networks from a file, as lists of links."""
+from __future__ import annotations
+
+import itertools
+import random
+import re
+from pathlib import Path
+
+from classroom.program import Fault
+
+Links = list[tuple[int, int]]
+MOST_NODES = 256
+
+
+def random_links(count: int, links: int, chance: random.Random) -> Links:
+    """A network in one part: a random tree, and more links until there are enough."""
+    every = count * (count - 1) // 2
+    if not count - 1 <= links <= every:
+        raise Fault(f"random:{count}: between {count - 1} and {every} links")
+    tree = [(chance.randint(1, node - 1), node) for node in range(2, count + 1)]
+    rest = sorted(set(itertools.combinations(range(1, count + 1), 2)) - set(tree))
+    return sorted(tree + chance.sample(rest, links - len(tree)))
+
+
+def family(word: str, count: int | None, students: int, chance: random.Random) -> tuple[int, Links]:
+    """How many nodes a family's network has, from 1 on, and its links."""
+    sized = re.fullmatch(r"grid:(\d{1,3})x(\d{1,3})|random:(\d{1,3}):(\d{1,5})", word)
+    if sized and sized[1]:
+        width, height = int(sized[1]), int(sized[2])
+        nodes, links = width * height, []
+        for node in range(1, nodes + 1):
+            links += [(node, node + 1)] if node % width else []
+            links += [(node, node + width)] if node + width <= nodes else []
+    elif sized:
+        nodes = within(int(sized[3]))
+        links = random_links(nodes, int(sized[4]), chance)
+    else:
+        nodes = within(count if count is not None else students)
+        links = plain(word, nodes)
+    if sized and count not in (None, nodes):
+        raise Fault(f"{word} has {nodes} nodes, and --nodes says {count}")
+    return within(nodes), links
+
+
+def within(nodes: int) -> int:
+    """A number of nodes that a lab may have."""
+    if not 1 <= nodes <= MOST_NODES:
+        raise Fault(f"a lab has 1 to {MOST_NODES} nodes, not {nodes}")
+    return nodes
+
+
+def plain(word: str, nodes: int) -> Links:
+    """The links of a family that has a size alone."""
+    row = [(node, node + 1) for node in range(1, nodes)]
+    if word == "path":
+        return row
+    if word == "cycle":
+        if nodes < 3:
+            raise Fault("a cycle has three nodes at least: --nodes N")
+        return [*row, (nodes, 1)]
+    if word == "star":
+        return [(1, node) for node in range(2, nodes + 1)]
+    if word == "complete":
+        return list(itertools.combinations(range(1, nodes + 1), 2))
+    if word == "tree":
+        return [(node // 2, node) for node in range(2, nodes + 1)]
+    raise Fault(f"no family {word}: path, cycle, star, complete, tree, grid:WxH, random:N:LINKS")
+
+
+def from_file(path: Path, count: int | None) -> tuple[list[int], Links]:
+    """The identifiers and links of a file with a link a line: `1 2`; with a count also 1 to that."""
+    links: Links = []
+    try:
+        lines = path.read_text(encoding="utf-8-sig").splitlines()
+    except (OSError, UnicodeDecodeError) as error:
+        raise Fault(f"{path}: {error}", 4) from None
+    for number, line in enumerate(lines, 1):
+        words = line.partition("#")[0].replace(",", " ").replace("-", " ").split()
+        if words and (len(words) != 2 or not all(word.isascii() and word.isdecimal() for word in words)):
+            raise Fault(f"{path}: line {number}: not two numbers: {line.strip()}")
+        links += [(int(words[0]), int(words[1]))] if words else []
+    named = {end for link in links for end in link}
+    return sorted(named | set(range(1, (count or 0) + 1))), links

@@ -1,0 +1,51 @@
+"""The proved program: where it is, and what it answers."""
+from __future__ import annotations
+
+import os
+import subprocess
+from dataclasses import dataclass
+from pathlib import Path
+
+TOP = Path(__file__).resolve().parent.parent
+
+
+class Fault(Exception):
+    """What ends a word: a line for people, and the exit status."""
+
+    def __init__(self, text: str, status: int = 1) -> None:
+        super().__init__(text)
+        self.status = status
+
+
+@dataclass(frozen=True)
+class Answer:
+    """What a call of the program printed, and its exit status."""
+
+    status: int
+    output: str
+    error: str
+
+
+def program() -> Path:
+    """The built program; another one where the environment's MML_PROGRAM names it."""
+    path = Path(os.environ.get("MML_PROGRAM") or TOP / "crates/mml_server/out/mml_server")
+    if not os.access(path, os.X_OK) or path.is_dir():
+        raise Fault("mml isn't built: `./mml check examples/path.toml` builds it (with the toolchain's rt on the path)")
+    return path
+
+
+def host() -> Path | None:
+    """The built host; another one where the environment's MML_HOST names it. None where it isn't built."""
+    path = Path(os.environ.get("MML_HOST") or TOP / "crates/mml_host/out/mml_host")
+    return path if os.access(path, os.X_OK) and not path.is_dir() else None
+
+
+def call(*words: str | Path) -> Answer:
+    """Calls the program to its end."""
+    done = subprocess.run([program(), *map(plain, words)], stdin=subprocess.DEVNULL, capture_output=True, check=False)
+    return Answer(done.returncode, done.stdout.decode(errors="replace"), done.stderr.decode(errors="replace").strip())
+
+
+def plain(word: str | Path) -> str:
+    """A file's name as the program takes it: none begins with `-`."""
+    return f"./{word}" if str(word).startswith("-") else str(word)

@@ -1,0 +1,1 @@
+"""Tests of the words of `./class`, against the built program."""

@@ -1,0 +1,96 @@
+"""What the tests share: calls of `./class`, labs, and clients of runs that are going on."""
+from __future__ import annotations
+
+import os
+import random
+import re
+import signal
+import subprocess
+import sys
+import tempfile
+import unittest
+from pathlib import Path
+
+from classroom.program import TOP
+
+EXAMPLES = TOP / "examples"
+
+
+def words(*given: str | Path, typed: str | None = None, **more: str) -> subprocess.CompletedProcess[str]:
+    """Calls `./class` to its end."""
+    return subprocess.run(
+        [sys.executable, TOP / "class", *given], input=typed or "", capture_output=True, text=True, check=False,
+        env={**os.environ, **more}, timeout=60,
+    )
+
+
+class InRoom(unittest.TestCase):
+    """A test with a folder of its own."""
+
+    def setUp(self) -> None:
+        room = tempfile.TemporaryDirectory()
+        self.addCleanup(room.cleanup)
+        self.room = Path(room.name)
+
+    def file(self, name: str, text: str) -> Path:
+        """A new file."""
+        path = self.room / name
+        path.write_text(text, encoding="utf-8")
+        return path
+
+
+class Going:
+    """A run that is going on; its lines are read one by one."""
+
+    def __init__(self, test: InRoom, lab: Path, *more: str, **environment: str) -> None:
+        self.lines: list[str] = []
+        self.process = subprocess.Popen(
+            [sys.executable, TOP / "class", "run", lab, "--into", test.room / "runs", "--port",
+             str(random.randint(20000, 50000)), "--typed", *more],
+            stdin=subprocess.PIPE, stdout=subprocess.PIPE, stderr=subprocess.STDOUT, text=True,
+            env={**os.environ, **environment},
+        )
+        test.addCleanup(self.close)
+        told = re.search(r"^port (\d+), for .*; folder (.*)$", self.until("^port .*folder"))
+        assert told is not None
+        self.port, self.folder = int(told[1]), Path(told[2])
+        self.until("^words: ")
+
+    def until(self, pattern: str) -> str:
+        """Reads lines until one has the pattern."""
+        assert self.process.stdout is not None
+        for line in self.process.stdout:
+            self.lines.append(line.rstrip("\n"))
+            if re.search(pattern, line):
+                return self.lines[-1]
+        raise AssertionError(f"no {pattern} in {self.lines}")
+
+    def type(self, line: str) -> None:
+        """Types a line."""
+        assert self.process.stdin is not None
+        self.process.stdin.write(line + "\n")
+        self.process.stdin.flush()
+
+    def ends(self) -> int:
+        """Reads to the end, and gives the status."""
+        assert self.process.stdout is not None
+        self.lines += [line.rstrip("\n") for line in self.process.stdout]
+        return self.process.wait(60)
+
+    def server(self) -> int:
+        """The process of the server."""
+        children = Path(f"/proc/{self.process.pid}/task/{self.process.pid}/children").read_text(encoding="ascii").split()
+        assert len(children) == 1
+        return int(children[0])
+
+    def close(self) -> None:
+        """Ends what is left of it."""
+        if self.process.poll() is None:
+            self.process.send_signal(signal.SIGTERM)
+            self.process.communicate(timeout=60)
+        for pipe in (self.process.stdin, self.process.stdout):
+            if pipe is not None and not pipe.closed:
+                try:
+                    pipe.close()
+                except OSError:
+                    pass

@@ -1,0 +1,73 @@
+"""Labs and journals that the tests show."""
+from __future__ import annotations
+
+import os
+import subprocess
+from pathlib import Path
+
+TOP = Path(__file__).resolve().parents[2]
+PROGRAM = Path(os.environ.get("MML_PROGRAM", TOP / "crates" / "mml_server" / "out" / "mml_server"))
+EXAMPLES = TOP / "examples"
+STUDENTS = (("ana", "a-key"), ("ben", "b-key"))
+
+
+def journal_of(lab: Path, script: Path, journal: Path) -> Path:
+    """The journal that a script makes over a lab."""
+    subprocess.run([PROGRAM, "script", lab, script, journal], stdout=subprocess.DEVNULL, check=True)
+    return journal
+
+
+def built_in(room: Path) -> Path:
+    """The lab that docs/LAB.md shows, which is built into the program."""
+    lab = room / "built-in.toml"
+    lab.write_text((TOP / "docs" / "LAB.md").read_text().split("```toml\n")[1].split("```")[0])
+    return lab
+
+
+def examples(room: Path) -> list[tuple[Path, Path]]:
+    """Each lab of examples/ that has a run, with the run's journal, and the built-in one with its own."""
+    runs = [(lab, lab.with_name(f"{lab.stem}-run.script")) for lab in sorted(EXAMPLES.glob("*.toml"))]
+    made = [(lab, journal_of(lab, script, room / f"{lab.stem}.journal")) for lab, script in runs if script.exists()]
+    return [*made, (built_in(room), EXAMPLES / "whole-run.journal")]
+
+
+def lab_text(nodes: int, links: list[tuple[int, int]], events: int) -> str:
+    """A lab whose nodes ana and ben own together, but for those with an odd identifier, which are ana's."""
+    rows = [f"events = {events}", "sessions = 2", f"links = {[list(link) for link in links]}"]
+    rows += ["[teacher]", 'name = "tess"', 'key = "chalk"']
+    for name, key in STUDENTS:
+        rows += ["[[student]]", f'name = "{name}"', f'key = "{key}"']
+    for node in range(1, nodes + 1):
+        rows += ["[[node]]", f"id = {node}", 'owner = "ana"' if node % 2 else 'owners = ["ana", "ben"]']
+    return "\n".join(rows) + "\n"
+
+
+def edited_run(room: Path) -> tuple[Path, Path]:
+    """A run with every kind of event: moves, a release, closes, faults, a link and a cut."""
+    lab, script = room / "edited.toml", room / "edited.script"
+    lab.write_text(lab_text(5, [(1, 2), (2, 3), (3, 4), (4, 5)], 100))
+    ana, tess = '1 {"do":"hello","name":"ana","key":"a-key"}', '2 {"do":"hello","name":"tess","key":"chalk"}'
+    move = '1 {{"do":"move","node":{},"rule":"{}","at":{}}}'
+    lines = [
+        ana, tess, move.format(1, "seduction", 0), '2 {"do":"release","node":1}', move.format(1, "seduction", 0),
+        move.format(3, "seduction", 0), '2 {"do":"close"}', '2 {"do":"link","a":5,"b":1}',
+        '2 {"do":"fault","node":4,"p":5,"m":true}', move.format(4, "update", 3), '2 {"do":"cut","a":4,"b":3}',
+        move.format(4, "update", 4), '2 {"do":"close"}', '2 {"do":"fault","node":2,"p":1,"m":false}',
+    ]
+    script.write_text("\n".join(lines) + "\n")
+    return lab, journal_of(lab, script, room / "edited.journal")
+
+
+def largest_run(room: Path) -> tuple[Path, Path]:
+    """1,000 events over 256 nodes of which each two are linked."""
+    lab, script = room / "largest.toml", room / "largest.script"
+    lab.write_text(lab_text(256, [(a, b) for a in range(1, 257) for b in range(a + 1, 257)], 1000))
+    lines = ['1 {"do":"hello","name":"ana","key":"a-key"}', '2 {"do":"hello","name":"tess","key":"chalk"}']
+    move = '1 {{"do":"move","node":{},"rule":"seduction","at":{}}}'
+    for number in range(20):
+        for node in range(1, 25):
+            lines += [move.format(node, number), f'2 {{"do":"release","node":{node}}}']
+        lines += [move.format(100 + number, number)]
+        lines += ['2 {"do":"close"}' if number == 10 else f'2 {{"do":"fault","node":{200 + number},"p":null,"m":true}}']
+    script.write_text("\n".join(lines) + "\n")
+    return lab, journal_of(lab, script, room / "largest.journal")

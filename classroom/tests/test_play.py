@@ -1,0 +1,203 @@
+"""The page of a run, in a real browser."""
+from __future__ import annotations
+
+import subprocess
+import sys
+import tempfile
+import time
+import unittest
+import xml.etree.ElementTree as ElementTree
+from pathlib import Path
+from typing import Any
+
+from selenium import webdriver
+from selenium.webdriver.chrome.options import Options
+from selenium.webdriver.chrome.service import Service
+from selenium.webdriver.common.action_chains import ActionChains
+from selenium.webdriver.common.keys import Keys
+
+from classroom.frames import Frame, State, frames_of
+from classroom.tests.runs import TOP, built_in, edited_run, examples, largest_run
+
+ATTRIBUTES = """
+const nodes = [...document.querySelectorAll('#drawing .node')].map((node) => ({...node.dataset}));
+return [{...document.getElementById('drawing').dataset}, nodes, document.getElementById('event').textContent];
+"""
+
+
+def browser() -> webdriver.Chrome:
+    options = Options()
+    options.binary_location = "/usr/bin/chromium"
+    for word in ("--headless=new", "--no-sandbox", "--disable-dev-shm-usage", "--window-size=1300,900"):
+        options.add_argument(word)
+    return webdriver.Chrome(options=options, service=Service("/usr/bin/chromedriver"))
+
+
+def told(state: State, frame: Frame) -> tuple[dict[str, str], list[dict[str, str]], str]:
+    """What the page has to show of a state."""
+    root = {
+        "place": str(state.place), "number": str(state.number), "privileged": str(len(state.privileged)),
+        "pairs": str(len(state.pairs)),
+    }
+    married = {node for pair in state.pairs for node in pair}
+    nodes = [
+        {
+            "node": str(node), "p": "" if pointer is None else str(pointer), "m": str(state.ms[node]).lower(),
+            "married": str(node in married).lower(), "rule": state.privileged.get(node, ""),
+            "chosen": state.chosen.get(node, ""),
+        }
+        for node, pointer in state.pointers.items()
+    ]
+    line = "the beginning" if frame.event is None else f"{state.place}: {' '.join(frame.event.words)}"
+    return root, sorted(nodes, key=lambda node: int(node["node"])), line
+
+
+class Played(unittest.TestCase):
+    driver: webdriver.Chrome
+
+    @classmethod
+    def setUpClass(cls) -> None:
+        cls.driver = browser()
+        cls.addClassCleanup(cls.driver.quit)
+
+    def setUp(self) -> None:
+        room = tempfile.TemporaryDirectory()
+        self.addCleanup(room.cleanup)
+        self.room = Path(room.name)
+
+    def call(self, *words: str | Path) -> subprocess.CompletedProcess[str]:
+        return subprocess.run([sys.executable, TOP / "class", *words], capture_output=True, text=True, check=False)
+
+    def page(self, lab: Path, journal: Path) -> Path:
+        output = self.room / f"{journal.stem}.html"
+        done = self.call("play", lab, journal, "-o", output)
+        self.assertEqual((done.returncode, done.stderr), (0, ""))
+        return output
+
+    def open(self, page: Path, place: str = "") -> float:
+        """Opens a page, and answers the seconds until it shows something."""
+        start = time.monotonic()
+        self.driver.get("about:blank")
+        self.driver.get(page.as_uri() + place)
+        while self.driver.execute_script("return document.body.dataset.ready") != "true":
+            self.assertLess(time.monotonic() - start, 60)
+        return time.monotonic() - start
+
+    def press(self, key: str) -> None:
+        ActionChains(self.driver).send_keys(key).perform()
+
+    def shown(self) -> tuple[dict[str, str], list[dict[str, str]], str]:
+        root, nodes, line = self.driver.execute_script(ATTRIBUTES)
+        return root, sorted(nodes, key=lambda node: int(node["node"])), line
+
+    def test_each_configuration_by_keys(self) -> None:
+        for lab, journal in (edited_run(self.room), *examples(self.room)):
+            _, frames = frames_of(lab, journal)
+            run = [told(frame.state, frame) for frame in frames]
+            self.open(self.page(lab, journal))
+            with self.subTest(lab=lab.name):
+                for place in range(len(run)):
+                    self.assertEqual(self.shown(), run[place])
+                    self.press(Keys.ARROW_RIGHT)
+                self.press(Keys.HOME)
+                self.assertEqual(self.shown(), run[0])
+                numbers = [root["number"] for root, _, _ in run]
+                firsts = [at for at, number in enumerate(numbers) if at == 0 or number != numbers[at - 1]]
+                for at in firsts[1:]:
+                    self.press(Keys.ARROW_DOWN)
+                    self.assertEqual(self.shown(), run[at])
+                self.press(Keys.ARROW_UP)
+                self.assertEqual(self.shown(), run[firsts[-2]])
+                self.press(Keys.END)
+                self.press(Keys.ARROW_LEFT)
+                self.assertEqual(self.shown(), run[-2])
+
+    def test_a_link_to_a_place(self) -> None:
+        lab, journal = edited_run(self.room)
+        page = self.page(lab, journal)
+        self.open(page, "#p=7")
+        self.assertEqual(self.shown()[0]["place"], "7")
+        self.driver.execute_script("location.hash = '#p=2'")
+        self.driver.execute_script("window.dispatchEvent(new HashChangeEvent('hashchange'))")
+        self.assertEqual(self.shown()[0]["place"], "2")
+        self.open(page, "#p=99999")
+        self.assertEqual(self.shown()[0]["place"], str(len(journal.read_text().splitlines())))
+
+    def test_it_plays_to_the_end_by_itself(self) -> None:
+        lab, journal = edited_run(self.room)
+        self.open(self.page(lab, journal))
+        self.driver.execute_script("document.getElementById('speed').value = '20'")
+        self.press(" ")
+        last = str(len(journal.read_text().splitlines()))
+        end = time.monotonic() + 30
+        while self.shown()[0]["place"] != last:
+            self.assertLess(time.monotonic(), end)
+        while self.driver.find_element("id", "play").text != "Play":
+            self.assertLess(time.monotonic(), end)
+
+    def test_the_largest_lab_opens_and_steps_in_time(self) -> None:
+        lab, journal = largest_run(self.room)
+        self.assertEqual(len(journal.read_text().splitlines()), 1000)
+        page = self.page(lab, journal)
+        opened = min(self.open(page) for _ in range(2))
+        self.assertLess(opened, 2)
+        # The best of three passes over each place: what else the machine does at one moment isn't the page's time.
+        passes: list[list[float]] = [
+            self.driver.execute_script(
+                "const times = []; for (let at = 1; at <= 1000; at += 1) { const start = performance.now();"
+                " player.goTo(at); times.push(performance.now() - start); } return times;"
+            )
+            for _ in range(3)
+        ]
+        times = [min(of) for of in zip(*passes)]
+        self.assertEqual(self.shown()[0]["place"], "1000")
+        self.assertLess(sorted(times)[990], 50)
+
+    def test_names_of_files_end_nothing(self) -> None:
+        lab, journal = edited_run(self.room)
+        odd = self.room / "</title><script>window.broken=1</script>'\".toml"
+        try:
+            odd.write_text(lab.read_text())
+        except OSError:
+            odd = self.room / "<b>'\".toml"
+            odd.write_text(lab.read_text())
+        self.open(self.page(odd, journal))
+        self.assertIsNone(self.driver.execute_script("return window.broken || null"))
+        self.assertIn("<", self.driver.title)
+
+    def test_it_asks_for_nothing_else(self) -> None:
+        text = self.page(built_in(self.room), TOP / "examples" / "whole-run.journal").read_text()
+        for word in ("http://", "https://", "src=", "@import", "url("):
+            found = text.replace('xmlns="http://www.w3.org/2000/svg"', "").replace('"http://www.w3.org/2000/svg"', "")
+            self.assertNotIn(word, found.replace("url(#arrow)", ""))
+        for key in ("a-key", "b-key", "c-key", "chalk"):
+            self.assertNotIn(key, text)
+
+    def test_a_picture_of_one_place(self) -> None:
+        lab, journal = edited_run(self.room)
+        _, frames = frames_of(lab, journal)
+        for place, frame in enumerate(frames):
+            output = self.room / f"{place}.svg"
+            done = self.call("play", lab, journal, "--svg", str(place), "-o", output)
+            self.assertEqual((done.returncode, done.stderr), (0, ""))
+            self.assertEqual(attributes(output), told(frame.state, frame)[:2])
+        self.assertEqual(self.call("play", lab, journal, "--svg", "99", "-o", output).returncode, 3)
+
+    def test_words_that_are_wrong(self) -> None:
+        lab, journal = edited_run(self.room)
+        self.assertEqual(self.call("play").returncode, 2)
+        self.assertEqual(self.call("play", self.room / "none", journal).returncode, 4)
+        self.assertEqual(self.call("play", lab, journal, "-o", self.room / "none" / "run.html").returncode, 4)
+
+
+def attributes(picture: Path) -> tuple[dict[str, str], list[dict[str, str]]]:
+    """What stands in an SVG file as data."""
+    root = ElementTree.parse(picture).getroot()
+    groups: list[Any] = [group for group in root.iter() if group.get("class") == "node"]
+    nodes = [{name[5:]: value for name, value in group.items() if name.startswith("data-")} for group in groups]
+    data = {name[5:]: value for name, value in root.items() if name.startswith("data-")}
+    return data, sorted(nodes, key=lambda node: int(node["node"]))
+
+
+if __name__ == "__main__":
+    unittest.main()
