@@ -4,6 +4,7 @@ pub mod WalkLemmas
 pub mod ReportsLemmas
 pub mod RunsLemmas
 pub mod NamedLemmas
+pub mod ListedLemmas
 pub mod PartsLemmas
 pub mod SumsLemmas
 pub mod MovesLemmas

@@ -13,11 +13,11 @@ use Rattle.mml_stable.specs.declared.stability.Report.{Report}
 use Rattle.mml_stable.specs.Reports.{each_below, listed_if, pair_at, is_free, privileged_at, is_open, open_link, open_links_at, report_of, IsPairOf, IsOpenLinkOf, NamesNodes}
 use Rattle.mml_stable.proofs.WalkLemmas.{certified}
 
-all_listed : {X : Type 0} (P : X → Type 0) (b : Bool) (x : X) → (b ≡ true → P x) → All P (listed_if b x)
+pub all_listed : {X : Type 0} (P : X → Type 0) (b : Bool) (x : X) → (b ≡ true → P x) → All P (listed_if b x)
 all_listed P true x h = All-cons P x [] (h refl) (All-nil P)
 all_listed P false x h = All-nil P
 
-all_below : {X : Type 0} (P : X → Type 0) (n : ℕ) (f : ℕ → List X) → ((i : ℕ) → i < n → All P (f i)) → All P (each_below n f)
+pub all_below : {X : Type 0} (P : X → Type 0) (n : ℕ) (f : ℕ → List X) → ((i : ℕ) → i < n → All P (f i)) → All P (each_below n f)
 all_below P zero f h = All-nil P
 all_below P (suc n) f h = All-append P (each_below n f) (f n) (all_below P n f (λ i l. h i (omega (arith, l)))) (h n (omega arith))
 

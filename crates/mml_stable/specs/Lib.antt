@@ -1,5 +1,6 @@
 pub mod Walk
 pub mod Reports
+pub mod Listed
 pub mod Runs
 pub mod Potential
 pub mod Moves

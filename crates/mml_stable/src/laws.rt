@@ -1,8 +1,9 @@
 //! Laws of steps, of the report and of self-stabilisation: how many moves and rounds a run has, and where
 //! it ends. Each is the clause of a function that does nothing.
-ghost use Rattle.std.specs.Prelude.{◌≡◌, ◌↔◌, ◌⊎◌, ℕ, ◌+◌, ◌*◌, ◌<◌, ◌≤◌, true, false, Option, None, Some, List, length};
+ghost use Rattle.std.specs.Prelude.{◌≡◌, ◌↔◌, ◌⊎◌, ℕ, ◌+◌, ◌*◌, ◌<◌, ◌≤◌, true, false, Option, None, Some, List, length, Contains};
 ghost use Rattle.std.specs.List.{list_all};
 ghost use Rattle.mml_ids.specs.Search.{count_below};
+ghost use Rattle.mml_rules.specs.declared.rule.Kind.{Kind};
 ghost use Rattle.mml_rules.specs.declared.rule.Rule.{Rule};
 ghost use Rattle.mml_rules.specs.Configuration.{Configuration, IsLawful};
 ghost use Rattle.mml_rules.specs.Network.{Network, IsNetwork, configuration_of};
@@ -16,7 +17,9 @@ ghost use Rattle.mml_board.specs.declared.event.Event.{Event};
 ghost use Rattle.mml_board.specs.World.{World, IsWorld, size, configuration, chosen_at};
 ghost use Rattle.mml_board.specs.Events.{is_legal};
 ghost use Rattle.mml_board.specs.Runs.{is_legal_list, world_of};
-ghost use Rattle.mml_stable.specs.Reports.{NamesNodes, is_stable, report_of};
+ghost use Rattle.mml_stable.specs.declared.open_link.OpenLink.{OpenLink};
+ghost use Rattle.mml_stable.specs.Reports.{NamesNodes, pairs, free_nodes, privileged_nodes, open_links, is_stable, report_of};
+ghost use Rattle.mml_stable.specs.Listed.{IsPairInOrder, IsFreeNode, IsPrivilegedBy, IsOpenLink, Rises, IsLinkBefore, IsMaximalMatching};
 ghost use Rattle.mml_stable.specs.Runs.{is_of_step, changes_of_m};
 ghost use Rattle.mml_stable.specs.Walk.{top, LeadsTo};
 ghost use Rattle.mml_stable.specs.Potential.{potential, whole_potential};
@@ -60,6 +63,35 @@ pub fn walk_rises()
 /// Each node that a report names is a node of its world.
 pub fn reports_name_nodes()
     ensures { (w : World) → IsWorld w → NamesNodes (size w) (report_of w) }
+{}
+
+/// A report lists exactly these: the nodes that point at each other, the lower one first; the nodes in no
+/// pair; the nodes at which some rule may be applied, each with the kind of that rule; and the links between
+/// two nodes in no pair, the lower one first, each with its witness.
+pub fn lists_are_exact()
+    ensures pairs { (c : Configuration) (p : ℕ × ℕ) → IsLawful c →
+        Contains (pairs c) p ↔ IsPairInOrder c p }
+    ensures free { (c : Configuration) (i : ℕ) → IsLawful c →
+        Contains (free_nodes c) i ↔ IsFreeNode c i }
+    ensures privileged { (c : Configuration) (p : ℕ × Kind) → IsLawful c →
+        Contains (privileged_nodes c) p ↔ IsPrivilegedBy c p }
+    ensures open_links { (c : Configuration) (l : OpenLink) → IsLawful c →
+        Contains (open_links c) l ↔ IsOpenLink c l }
+{}
+
+/// Each of these lists rises: pairs and privileged nodes by the first node, open links by the first and then
+/// by the second. So nothing stands in one twice.
+pub fn lists_rise()
+    ensures pairs { (c : Configuration) → Rises (λ p q. p.0 < q.0) (pairs c) }
+    ensures free { (c : Configuration) → Rises (λ i j. i < j) (free_nodes c) }
+    ensures privileged { (c : Configuration) → Rises (λ p q. p.0 < q.0) (privileged_nodes c) }
+    ensures open_links { (c : Configuration) → Rises IsLinkBefore (open_links c) }
+{}
+
+/// Where a report says `stable`, the pairs that it lists are a maximal matching.
+pub fn stable_reports_list_a_maximal_matching()
+    ensures { (w : World) → IsWorld w → (report_of w).stable ≡ true →
+        IsMaximalMatching (configuration w) (report_of w).pairs }
 {}
 
 /// In a step of moves whose guards hold, all potentials together fall by at least the number of nodes that

@@ -1,0 +1,240 @@
+-- What stands in the lists of a report, and in which order.
+use Rattle.std.proofs.Common.{◌≡◌, ◌↔◌, ℕ, zero, suc, ◌<◌, Bool, true, false, ◌&&◌, ltb, List, [], ◌∷◌, ◌++◌, Option, None, Some, inl, inr, arith, refl, sym, ap, ◌∙◌, subst}
+use Rattle.std.specs.List.{All, Contains}
+use Rattle.std.proofs.lemmas.Bool.{and_parts, and_from, ltb-true, lt-ltb, not-true, not_from_false, false_from_ne_true, both_ways, cases_eq, cases_order}
+use Rattle.std.proofs.lemmas.List.Elements.{All-nil, All-cons, All-append, All-head, All-tail, All-weaker, All-contains, Contains-append_left, Contains-append_right, Contains-append_cases, Contains-push}
+use Rattle.mml_rules.specs.declared.rule.Kind.{Kind}
+use Rattle.mml_rules.specs.Configuration.{Configuration, IsLawful, holds}
+use Rattle.mml_rules.specs.Rules.{is_married, enabled_kind}
+use Rattle.mml_rules.specs.Matching.{IsPair}
+use Rattle.mml_rules.specs.Meaning.{IsMarried}
+use Rattle.mml_rules.proofs.ConfigurationLemmas.{holds-true, holds-from}
+use Rattle.mml_rules.proofs.RulesLemmas.{pointee_in}
+use Rattle.mml_rules.proofs.EnabledKindLemmas.{guard-kind, kind-guard}
+use Rattle.mml_rules.proofs.MeaningLemmas.{married-means, guard-means}
+use Rattle.mml_stable.specs.declared.open_link.OpenLink.{OpenLink}
+use Rattle.mml_stable.specs.Walk.{certificate}
+use Rattle.mml_stable.specs.Reports.{each_below, listed_if, pair_at, pairs, is_free, free_nodes, privileged_at, privileged_nodes, is_open, open_link, open_links_at, open_links, is_stable}
+use Rattle.mml_stable.specs.Listed.{IsPairInOrder, IsFreeNode, IsPrivilegedBy, IsOpenLink, Rises, IsLinkBefore, HasEnd, IsMatched, IsMaximalMatching}
+use Rattle.mml_stable.proofs.MatchingLemmas.{maximal, stable-means}
+use Rattle.mml_stable.proofs.NamedLemmas.{all_listed, all_below}
+
+-- ---- what a list has
+
+in_nothing : {X : Type 0} (x : X) → Contains [] x → ⊥
+in_nothing x h = absurd (omega (arith, h.1))
+
+in_one : {X : Type 0} (x y : X) → Contains (x ∷ []) y → x ≡ y
+in_one x y h = All-contains (λ z. x ≡ z) (x ∷ []) y (All-cons (λ z. x ≡ z) x [] refl (All-nil (λ z. x ≡ z))) h
+
+if_listed : {X : Type 0} (b : Bool) (x y : X) → Contains (listed_if b x) y → (b ≡ true) × (x ≡ y)
+if_listed true x y h = (refl, in_one x y h)
+if_listed false x y h = absurd (in_nothing y h)
+
+listed : {X : Type 0} (b : Bool) (x : X) → b ≡ true → Contains (listed_if b x) x
+listed true x e = Contains-push [] x
+listed false x e = cc
+
+below : {X : Type 0} (n : ℕ) (f : ℕ → List X) (x : X) → Contains (each_below n f) x → (i : ℕ) × (i < n) × Contains (f i) x
+below zero f x h = absurd (in_nothing x h)
+below (suc n) f x h = elim (Contains-append_cases (each_below n f) (f n) x h) [
+  | inl a ↦ let r = below n f x a in (r.0, omega (arith, r.1), r.2)
+  | inr b ↦ (n, omega arith, b)
+]
+
+at_below : {X : Type 0} (n : ℕ) (f : ℕ → List X) (x : X) (i : ℕ) → i < n → Contains (f i) x → Contains (each_below n f) x
+at_below zero f x i l h = absurd (omega arith)
+at_below (suc n) f x i l h = elim (cases_eq i n) [
+  | inl e ↦ Contains-append_right (each_below n f) (f n) x (subst (λ j. Contains (f j) x) e h)
+  | inr ne ↦ Contains-append_left (each_below n f) (f n) x (at_below n f x i (omega (arith, ne)) h)
+]
+
+-- ---- that a list rises
+
+rises_append : {X : Type 0} (R : X → X → Type 0) (xs ys : List X) → Rises R xs → Rises R ys → All (λ x. All (R x) ys) xs → Rises R (xs ++ ys)
+rises_append R [] ys hx hy between = hy
+rises_append R (x ∷ xs) ys hx hy between =
+    (All-append (R x) xs ys hx.0 (All-head (λ x. All (R x) ys) x xs between), rises_append R xs ys hx.1 hy (All-tail (λ x. All (R x) ys) x xs between))
+
+rises_one : {X : Type 0} (R : X → X → Type 0) (b : Bool) (x : X) → Rises R (listed_if b x)
+rises_one R true x = (All-nil (R x), tt)
+rises_one R false x = tt
+
+-- where what is listed for a number has it as its key, and a lower key comes first
+module _ {X : Type 0} (R : X → X → Type 0) (key : X → ℕ) (f : ℕ → List X) (keyed : (i : ℕ) → All (λ x. key x ≡ i) (f i)) (lower : (x y : X) → key x < key y → R x y) (each : (i : ℕ) → Rises R (f i)) where
+  rises_below : (n : ℕ) → Rises R (each_below n f)
+  rises_below zero = tt
+  rises_below (suc n) = rises_append R (each_below n f) (f n) (rises_below n) (each n)
+      (All-weaker (λ x. key x < n) (λ x. All (R x) (f n)) (λ x l. All-weaker (λ y. key y ≡ n) (R x) (λ y e. lower x y (omega arith)) (f n) (keyed n)) (each_below n f)
+      (all_below (λ x. key x < n) n f (λ i l. All-weaker (λ x. key x ≡ i) (λ x. key x < n) (λ x e. omega arith) (f i) (keyed i))))
+
+-- ---- the pairs
+
+module _ (c : Configuration) (l : IsLawful c) where
+  pair_from : (i : ℕ) (o : Option ℕ) (p : ℕ × ℕ) → c.p i ≡ o → Contains (pair_at c i o) p → IsPairInOrder c p
+  pair_from i None p e h = absurd (in_nothing p h)
+  pair_from i (Some j) p e h =
+      let r = if_listed (ltb i j && holds (c.p j) i) (i, j) p h in
+      let t = and_parts (ltb i j) (holds (c.p j) i) r.0 in
+      subst (IsPairInOrder c) r.1 (ltb-true i j t.0, (e, holds-true (c.p j) i t.1))
+
+  pair_listed : (i j : ℕ) (o : Option ℕ) → o ≡ Some j → i < j → c.p j ≡ Some i → Contains (pair_at c i o) (i, j)
+  pair_listed i j None e lt back = cc
+  pair_listed i j (Some k) e lt back =
+      let same : k ≡ j = cc in
+      subst (λ k. Contains (pair_at c i (Some k)) (i, j)) (sym same) (listed (ltb i j && holds (c.p j) i) (i, j) (and_from _ _ (lt-ltb i j lt) (holds-from (c.p j) i back)))
+
+  pub pairs_listed : (p : ℕ × ℕ) → Contains (pairs c) p ↔ IsPairInOrder c p
+  pairs_listed p = (
+    (λ h. let r = below c.size (λ i. pair_at c i (c.p i)) p h in pair_from r.0 (c.p r.0) p refl r.2),
+    (λ h. at_below c.size (λ i. pair_at c i (c.p i)) p p.0 (pointee_in c p.1 p.0 l h.1.1) (pair_listed p.0 p.1 (c.p p.0) h.1.0 h.0 h.1.1)),
+  )
+
+  pub free_listed : (i : ℕ) → Contains (free_nodes c) i ↔ IsFreeNode c i
+  free_listed i = (to, from)
+    where
+      to : Contains (free_nodes c) i → IsFreeNode c i
+      to h =
+          let r = below c.size (λ i. listed_if (is_free c i) i) i h in
+          let t = if_listed (is_free c r.0) r.0 i r.2 in
+          subst (IsFreeNode c) t.1 (r.1, λ m. both_ways (is_married c r.0) (not-true (is_married c r.0) t.0) ((married-means c r.0 l).1 m))
+
+      from : IsFreeNode c i → Contains (free_nodes c) i
+      from h = at_below c.size (λ i. listed_if (is_free c i) i) i i h.0
+          (listed (is_free c i) i (not_from_false (is_married c i) (false_from_ne_true (is_married c i) (λ m. h.1 ((married-means c i l).0 m)))))
+
+  privileged_from : (i : ℕ) (o : Option Kind) (p : ℕ × Kind) → i < c.size → enabled_kind c i ≡ o → Contains (privileged_at i o) p → IsPrivilegedBy c p
+  privileged_from i None p lt e h = absurd (in_nothing p h)
+  privileged_from i (Some k) p lt e h =
+      let r = kind-guard c i k e in
+      subst (IsPrivilegedBy c) (in_one (i, k) p h) (lt, (r.0, r.1, (guard-means c i r.0 l).0 r.2))
+
+  privileged_here : (i : ℕ) (k : Kind) (o : Option Kind) → o ≡ Some k → Contains (privileged_at i o) (i, k)
+  privileged_here i k None e = cc
+  privileged_here i k (Some j) e = let same : j ≡ k = cc in subst (λ j. Contains (privileged_at i (Some j)) (i, k)) (sym same) (Contains-push [] (i, k))
+
+  pub privileged_listed : (p : ℕ × Kind) → Contains (privileged_nodes c) p ↔ IsPrivilegedBy c p
+  privileged_listed p = (
+    (λ h. let r = below c.size (λ i. privileged_at i (enabled_kind c i)) p h in privileged_from r.0 (enabled_kind c r.0) p r.1 refl r.2),
+    (λ h. at_below c.size (λ i. privileged_at i (enabled_kind c i)) p p.0 h.0
+        (privileged_here p.0 p.1 (enabled_kind c p.0) (guard-kind c p.0 h.1.0 l ((guard-means c p.0 h.1.0 l).1 h.1.2) ∙ ap Some h.1.1))),
+  )
+
+  free_means : (i : ℕ) → is_free c i ≡ true → ¬ IsMarried c i
+  free_means i h m = both_ways (is_married c i) (not-true (is_married c i) h) ((married-means c i l).1 m)
+
+  free_from : (i : ℕ) → ¬ IsMarried c i → is_free c i ≡ true
+  free_from i h = not_from_false (is_married c i) (false_from_ne_true (is_married c i) (λ m. h ((married-means c i l).0 m)))
+
+  open_from : (a b : ℕ) → is_open c a b ≡ true → IsOpenLink c (open_link c a b)
+  open_from a b h =
+      let linked = and_parts (c.linked a b) (ltb a b && (is_free c a && is_free c b)) h in
+      let lower = and_parts (ltb a b) (is_free c a && is_free c b) linked.1 in
+      let free = and_parts (is_free c a) (is_free c b) lower.1 in
+      record { linked = linked.0; lower = ltb-true a b lower.0; free_a = free_means a free.0; free_b = free_means b free.1; witness = refl }
+
+  is_open_at : (k : OpenLink) → IsOpenLink c k → is_open c k.a k.b ≡ true
+  is_open_at k o = and_from _ _ o.linked (and_from _ _ (lt-ltb k.a k.b o.lower) (and_from _ _ (free_from k.a o.free_a) (free_from k.b o.free_b)))
+
+  -- ends and witness are all that a listed link has
+  is_that_link : (k : OpenLink) (w : ℕ × Kind) → (k.node, k.kind) ≡ w → record { a = k.a; b = k.b; node = w.0; kind = w.1 } ≡ k
+  is_that_link k w e = λ z. record { a = k.a; b = k.b; node = (sym e z).0; kind = (sym e z).1 }
+
+  pub open_listed : (k : OpenLink) → Contains (open_links c) k ↔ IsOpenLink c k
+  open_listed k = (to, from)
+    where
+      to : Contains (open_links c) k → IsOpenLink c k
+      to h =
+          let a = below c.size (open_links_at c) k h in
+          let b = below c.size (λ b. listed_if (is_open c a.0 b) (open_link c a.0 b)) k a.2 in
+          let t = if_listed (is_open c a.0 b.0) (open_link c a.0 b.0) k b.2 in
+          subst (IsOpenLink c) t.1 (open_from a.0 b.0 t.0)
+
+      from : IsOpenLink c k → Contains (open_links c) k
+      from o =
+          let ends = l.in_range k.a k.b o.linked in
+          at_below c.size (open_links_at c) k k.a ends.0 (at_below c.size (λ b. listed_if (is_open c k.a b) (open_link c k.a b)) k k.b ends.1
+          (subst (Contains (listed_if (is_open c k.a k.b) (open_link c k.a k.b))) (is_that_link k (certificate c k.a k.b) o.witness)
+          (listed (is_open c k.a k.b) (open_link c k.a k.b) (is_open_at k o))))
+
+  -- ---- the pairs of a stable configuration
+
+  pub listed_matching : is_stable c ≡ true → IsMaximalMatching c (pairs c)
+  listed_matching s = record {
+    linked = λ p h. l.to_linked p.0 p.1 ((pairs_listed p).0 h).1.0;
+    apart = λ p q i hp hq ep eq. one p q i ((pairs_listed p).0 hp) ((pairs_listed q).0 hq) ep eq;
+    maximal = λ a b linked. elim (maximal c l ((stable-means c).0 s) a b linked) [
+      | inl j ↦ inl (matched a j.0 j.1)
+      | inr j ↦ inr (matched b j.0 j.1)
+    ];
+  }
+    where
+      matched : (i j : ℕ) → IsPair c i j → IsMatched (pairs c) i
+      matched i j p = elim (cases_order i j) [
+        | inl e ↦ absurd (both_ways (c.linked i i) (l.no_loop i) (subst (λ x. c.linked i x ≡ true) (sym e) (l.to_linked i j p.0)))
+        | inr o ↦ elim o [
+          | inl lt ↦ ((i, j), (pairs_listed (i, j)).1 (lt, p), inl refl)
+          | inr gt ↦ ((j, i), (pairs_listed (j, i)).1 (gt, (p.1, p.0)), inr refl)
+        ]
+      ]
+
+      same : (x y i : ℕ) → c.p i ≡ Some x → c.p i ≡ Some y → x ≡ y
+      same x y i e f = cc
+
+      one : (p q : ℕ × ℕ) (i : ℕ) → IsPairInOrder c p → IsPairInOrder c q → HasEnd i p → HasEnd i q → p ≡ q
+      one p q i hp hq ep eq = elim ep [
+        | inl a ↦ elim eq [
+          | inl b ↦ both p q i a b (same p.1 q.1 i (subst (λ x. c.p x ≡ Some p.1) a hp.1.0) (subst (λ x. c.p x ≡ Some q.1) b hq.1.0))
+          | inr b ↦ let e : p.1 ≡ q.0 = same p.1 q.0 i (subst (λ x. c.p x ≡ Some p.1) a hp.1.0) (subst (λ x. c.p x ≡ Some q.0) b hq.1.1) in absurd (omega (arith, hp.0, hq.0))
+        ]
+        | inr a ↦ elim eq [
+          | inl b ↦ let e : p.0 ≡ q.1 = same p.0 q.1 i (subst (λ x. c.p x ≡ Some p.0) a hp.1.1) (subst (λ x. c.p x ≡ Some q.1) b hq.1.0) in absurd (omega (arith, hp.0, hq.0))
+          | inr b ↦ λ z. (same p.0 q.0 i (subst (λ x. c.p x ≡ Some p.0) a hp.1.1) (subst (λ x. c.p x ≡ Some q.0) b hq.1.1) z, (a ∙ sym b) z)
+        ]
+      ]
+        where
+          both : (p q : ℕ × ℕ) (i : ℕ) → p.0 ≡ i → q.0 ≡ i → p.1 ≡ q.1 → p ≡ q
+          both p q i a b e = λ z. ((a ∙ sym b) z, e z)
+
+-- ---- each list rises
+
+module _ (c : Configuration) where
+  pub pairs_rise : Rises (λ p q. p.0 < q.0) (pairs c)
+  pairs_rise = rises_below (λ p q. p.0 < q.0) (λ p. p.0) (λ i. pair_at c i (c.p i)) (λ i. keyed i (c.p i)) (λ x y l. l) (λ i. each i (c.p i)) c.size
+    where
+      keyed : (i : ℕ) (o : Option ℕ) → All (λ p. p.0 ≡ i) (pair_at c i o)
+      keyed i None = All-nil (λ p. p.0 ≡ i)
+      keyed i (Some j) = all_listed (λ p. p.0 ≡ i) (ltb i j && holds (c.p j) i) (i, j) (λ _. refl)
+
+      each : (i : ℕ) (o : Option ℕ) → Rises (λ p q. p.0 < q.0) (pair_at c i o)
+      each i None = tt
+      each i (Some j) = rises_one (λ p q. p.0 < q.0) (ltb i j && holds (c.p j) i) (i, j)
+
+  pub free_rise : Rises (λ i j. i < j) (free_nodes c)
+  free_rise = rises_below (λ i j. i < j) (λ i. i) (λ i. listed_if (is_free c i) i) (λ i. all_listed (λ j. j ≡ i) (is_free c i) i (λ _. refl)) (λ x y l. l) (λ i. rises_one (λ i j. i < j) (is_free c i) i) c.size
+
+  pub privileged_rise : Rises (λ p q. p.0 < q.0) (privileged_nodes c)
+  privileged_rise = rises_below (λ p q. p.0 < q.0) (λ p. p.0) (λ i. privileged_at i (enabled_kind c i)) (λ i. keyed i (enabled_kind c i)) (λ x y l. l) (λ i. each i (enabled_kind c i)) c.size
+    where
+      keyed : (i : ℕ) (o : Option Kind) → All (λ p. p.0 ≡ i) (privileged_at i o)
+      keyed i None = All-nil (λ p. p.0 ≡ i)
+      keyed i (Some k) = All-cons (λ p. p.0 ≡ i) (i, k) [] refl (All-nil (λ p. p.0 ≡ i))
+
+      each : (i : ℕ) (o : Option Kind) → Rises (λ p q. p.0 < q.0) (privileged_at i o)
+      each i None = tt
+      each i (Some k) = (All-nil (λ q. i < q.0), tt)
+
+  -- the links of a
+  links_have_a : (a : ℕ) → All (λ k. k.a ≡ a) (open_links_at c a)
+  links_have_a a = all_below (λ k. k.a ≡ a) c.size (λ b. listed_if (is_open c a b) (open_link c a b)) (λ b l. all_listed (λ k. k.a ≡ a) (is_open c a b) (open_link c a b) (λ _. refl))
+
+  strengthen : (a : ℕ) (ks : List OpenLink) → All (λ k. k.a ≡ a) ks → Rises (λ k l. k.b < l.b) ks → Rises IsLinkBefore ks
+  strengthen a [] h r = tt
+  strengthen a (k ∷ ks) h r =
+      let here = All-head (λ k. k.a ≡ a) k ks h in
+      let rest = All-tail (λ k. k.a ≡ a) k ks h in
+      ((λ i d lt. inr (here ∙ sym (rest i d lt), r.0 i d lt)), strengthen a ks rest r.1)
+
+  pub open_rise : Rises IsLinkBefore (open_links c)
+  open_rise = rises_below IsLinkBefore (λ k. k.a) (open_links_at c) links_have_a (λ x y l. inl l) (λ a. strengthen a (open_links_at c a) (links_have_a a)
+      (rises_below (λ k l. k.b < l.b) (λ k. k.b) (λ b. listed_if (is_open c a b) (open_link c a b)) (λ b. all_listed (λ k. k.b ≡ b) (is_open c a b) (open_link c a b) (λ _. refl)) (λ x y l. l) (λ b. rises_one (λ k l. k.b < l.b) (is_open c a b) (open_link c a b)) c.size)) c.size
