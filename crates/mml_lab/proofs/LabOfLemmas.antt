@@ -32,20 +32,20 @@ of_file bytes lab = (λ is. there (spelled bytes) refl is, λ file. back file.0 
     back raw file = rw (file.spells, file.faultless, file.built) refl
 
 -- the fault is not want of memory
-abbrev Tells : IdFault → Type 0
+abbrev pub Tells : IdFault → Type 0
 Tells id.Empty = Unit {0}
 Tells id.TooMany = Unit {0}
 Tells (id.OutOfRange k) = Unit {0}
 Tells (id.Twice k) = Unit {0}
 Tells id.Memory = ⊥
 
-abbrev TellsOfFile : LabFault → Type 0
+abbrev pub TellsOfFile : LabFault → Type 0
 TellsOfFile fault.Memory = ⊥
 TellsOfFile (fault.Id f) = Tells f
 TellsOfFile _ = Unit {0}
 
 -- if there is a fault, the fact holds of it
-abbrev OfFault : {E : Type 0} → (E → Type 0) → Option E → Type 0
+abbrev pub OfFault : {E : Type 0} → (E → Type 0) → Option E → Type 0
 OfFault P None = Unit {0}
 OfFault P (Some f) = P f
 
@@ -72,7 +72,7 @@ id_fault-tells ns =
     (of_first Tells (option_map id.OutOfRange (position (λ n. not (is_id n)) ns)) _ (of_index Tells id.OutOfRange (λ k. tt) _)
     (of_index Tells id.Twice (λ k. tt) (first_below (is_again_at ns) (length ns)))))
 
-lab_fault-tells : (raw : RawSpec) → OfFault TellsOfFile (lab_fault raw)
+pub lab_fault-tells : (raw : RawSpec) → OfFault TellsOfFile (lab_fault raw)
 unfolding lab_fault both_fault ids_fault forms_fault no_owner_fault owner_twice_fault owners_fault links_fault pointers_fault limits_fault
 lab_fault-tells raw =
     of_first TellsOfFile (both_fault raw.nodes) _ (of_index TellsOfFile fault.BothOwners (λ k. tt) _)

@@ -11,6 +11,7 @@ pub mod LabInLemmas
 pub mod ChecksLemmas
 pub mod LabMeaningLemmas
 pub mod LabOfLemmas
+pub mod NoMemoryLemmas
 pub mod LinksBelowLemmas
 pub mod LinkCountLemmas
 pub mod LinksFaultLemmas

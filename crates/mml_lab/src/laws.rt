@@ -1,5 +1,5 @@
 //! Laws of the lab. Each is the clause of a function that does nothing.
-ghost use Rattle.std.specs.Prelude.{◌≡◌, ◌≢◌, ◌↔◌, ℕ, ℤ, pos, ◌<◌, ◌≤◌, List, length, true, false, All, Contains, Some, None, Ok, slice_get, slice_index};
+ghost use Rattle.std.specs.Prelude.{◌≡◌, ◌≢◌, ◌↔◌, ℕ, ℤ, pos, ◌<◌, ◌≤◌, List, length, true, false, All, Contains, Some, None, Ok, Err, slice_get, slice_index};
 ghost use Rattle.mml_ids.specs.Ids.{IsTable};
 ghost use Rattle.mml_ids.specs.declared.id_table.IdFault.TheVariants as id;
 ghost use Rattle.mml_rules.specs.Network.{configuration_of};
@@ -148,8 +148,10 @@ pub fn labs_are_those_of_files()
         (lab_of bytes ≡ Ok lab) ↔ ((raw : RawSpec) × IsLabOfFile bytes raw lab) }
 {}
 
-/// No fault of a file is want of memory, told as such or of its identifiers.
+/// No bytes spell want of memory, told as such or of identifiers, and it is no fault of a file.
 pub fn want_of_memory_is_no_fault()
     ensures identifiers { (raw : RawSpec) → lab_fault raw ≢ Some (fault.Id id.Memory) }
     ensures file { (raw : RawSpec) → lab_fault raw ≢ Some fault.Memory }
+    ensures bytes { (bytes : List ℕ) → lab_of bytes ≢ Err fault.Memory }
+    ensures bytes_of_identifiers { (bytes : List ℕ) → lab_of bytes ≢ Err (fault.Id id.Memory) }
 {}
