@@ -13,7 +13,7 @@ use Rattle.mml_rules.proofs.RulesLemmas.{pointee_in}
 use Rattle.mml_rules.proofs.EnabledKindLemmas.{choose}
 
 module _ (f : ℕ → ℕ) (c d : Configuration) (l : IsLawful c) (r : IsRenamed f c d) where
-  apart : (i j : ℕ) → i < c.size → j < c.size → f i ≡ f j → i ≡ j
+  pub apart : (i j : ℕ) → i < c.size → j < c.size → f i ≡ f j → i ≡ j
   apart i j a b e = elim (cases_order i j) [
     | inl s ↦ s
     | inr o ↦ elim o [
@@ -88,7 +88,7 @@ module _ (f : ℕ → ℕ) (c d : Configuration) (l : IsLawful c) (r : IsRenamed
           ] in
           both_ways (t n.0) (greatest_above c.size j n.0 t e up n.1) (sym (same n.0 n.1) ∙ ap u n.2 ∙ w)))
 
-  married_named : (i : ℕ) → i < c.size → is_married d (f i) ≡ is_married c i
+  pub married_named : (i : ℕ) → i < c.size → is_married d (f i) ≡ is_married c i
   unfolding is_married
   married_named i a = search_named _ _ (f i)
       (λ k b. λ z. r.links i k a b z && (points_named i k a b z && points_named k i b a z))
