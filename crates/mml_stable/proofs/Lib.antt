@@ -5,6 +5,7 @@ pub mod ReportsLemmas
 pub mod RunsLemmas
 pub mod NamedLemmas
 pub mod ListedLemmas
+pub mod WitnessNamesLemmas
 pub mod PartsLemmas
 pub mod SumsLemmas
 pub mod MovesLemmas

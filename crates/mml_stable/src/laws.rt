@@ -7,6 +7,7 @@ ghost use Rattle.mml_rules.specs.declared.rule.Kind.{Kind};
 ghost use Rattle.mml_rules.specs.declared.rule.Rule.{Rule};
 ghost use Rattle.mml_rules.specs.Configuration.{Configuration, IsLawful};
 ghost use Rattle.mml_rules.specs.Network.{Network, IsNetwork, configuration_of};
+ghost use Rattle.mml_rules.specs.Naming.{IsRenamed};
 ghost use Rattle.mml_rules.specs.Rules.{is_married, is_privileged, step, AllHold};
 ghost use Rattle.mml_rules.specs.Matching.{IsPair, IsMatching, IsMaximal, IsStable};
 ghost use Rattle.mml_rules.specs.Meaning.{IsMarried};
@@ -18,10 +19,10 @@ ghost use Rattle.mml_board.specs.World.{World, IsWorld, size, configuration, cho
 ghost use Rattle.mml_board.specs.Events.{is_legal};
 ghost use Rattle.mml_board.specs.Runs.{is_legal_list, world_of};
 ghost use Rattle.mml_stable.specs.declared.open_link.OpenLink.{OpenLink};
-ghost use Rattle.mml_stable.specs.Reports.{NamesNodes, pairs, free_nodes, privileged_nodes, open_links, is_stable, report_of};
+ghost use Rattle.mml_stable.specs.Reports.{NamesNodes, pairs, free_nodes, privileged_nodes, is_open, open_links, is_stable, report_of};
 ghost use Rattle.mml_stable.specs.Listed.{IsPairInOrder, IsFreeNode, IsPrivilegedBy, IsOpenLink, Rises, IsLinkBefore, IsMaximalMatching};
 ghost use Rattle.mml_stable.specs.Runs.{is_of_step, changes_of_m};
-ghost use Rattle.mml_stable.specs.Walk.{top, LeadsTo};
+ghost use Rattle.mml_stable.specs.Walk.{top, certificate, LeadsTo};
 ghost use Rattle.mml_stable.specs.Potential.{potential, whole_potential};
 ghost use Rattle.mml_stable.specs.Moves.{moves, applied_over, count_closes};
 ghost use Rattle.mml_stable.specs.Rest.{EachHasOwner, IsOver, LeadsToRest};
@@ -92,6 +93,13 @@ pub fn lists_rise()
 pub fn stable_reports_list_a_maximal_matching()
     ensures { (w : World) → IsWorld w → (report_of w).stable ≡ true →
         IsMaximalMatching (configuration w) (report_of w).pairs }
+{}
+
+/// The witness of an open link is the same node, with the same kind, under names that keep the order.
+pub fn witnesses_keep_under_names()
+    ensures { (f : ℕ → ℕ) (c d : Configuration) (a b : ℕ) → IsLawful c → IsRenamed f c d →
+        is_open c a b ≡ true →
+        certificate d (f a) (f b) ≡ (f (certificate c a b).0, (certificate c a b).1) }
 {}
 
 /// In a step of moves whose guards hold, all potentials together fall by at least the number of nodes that

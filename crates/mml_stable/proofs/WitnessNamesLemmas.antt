@@ -1,0 +1,85 @@
+-- The witness of an open link is the same node under names that keep the order.
+use Rattle.std.proofs.Common.{◌≡◌, ◌⊎◌, ℕ, zero, suc, ◌<◌, ◌≤◌, Bool, true, false, ◌&&◌, ltb, Option, None, Some, unwrap_or, is_some, sym, refl, ap, ◌∙◌, subst, arith, inl, inr}
+use Rattle.std.proofs.lemmas.Bool.{and_parts, not-true}
+use Rattle.mml_rules.specs.declared.rule.Kind.{Kind}
+use Rattle.mml_rules.specs.Configuration.{Configuration, IsLawful}
+use Rattle.mml_rules.specs.Rules.{is_married, enabled_kind, is_privileged}
+use Rattle.mml_rules.specs.Naming.{renamed, IsRenamed}
+use Rattle.mml_rules.proofs.RulesLemmas.{pointee_in}
+use Rattle.mml_rules.proofs.NamingLemmas.{kind_named}
+use Rattle.mml_stable.specs.Walk.{climb, top, unless_seduction, walk, certificate, LeadsTo}
+use Rattle.mml_stable.specs.Walk.LeadsTo.{privileged, null, onward}
+use Rattle.mml_stable.specs.Reports.{is_free, is_open}
+use Rattle.mml_stable.proofs.WalkLemmas.{top-ends, climb_stops, climb_null, climb_onward}
+
+module _ (f : ℕ → ℕ) (c d : Configuration) (l : IsLawful c) (r : IsRenamed f c d) where
+  privileged_at : (i : ℕ) → i < c.size → is_privileged d (f i) ≡ is_privileged c i
+  privileged_at i a = ap is_some (kind_named f c d l r i a)
+
+  -- there are at least as many names as nodes
+  rank_first : (i : ℕ) → i < c.size → i ≤ f i
+  rank_first zero a = omega arith
+  rank_first (suc i) a = let below = rank_first i (omega arith) in let up = r.rising i (suc i) (omega arith) a in omega arith
+
+  as_many : (n : ℕ) → c.size ≡ n → c.size ≤ d.size
+  as_many zero e = omega arith
+  as_many (suc n) e = let at = rank_first n (omega arith) in let in_d = r.within n (omega arith) in omega arith
+
+  -- a walk that comes to its end takes the same way under the names
+  climbed : (n m i : ℕ) → n ≤ m → i < c.size → (is_privileged c (climb c n i) ≡ true) ⊎ (c.p (climb c n i) ≡ None) → climb d m (f i) ≡ f (climb c n i)
+  climbed n m i room i_in end = at n m i room i_in end (is_privileged c i) refl (c.p i) refl
+    where
+      at : (n m i : ℕ) → n ≤ m → i < c.size → (is_privileged c (climb c n i) ≡ true) ⊎ (c.p (climb c n i) ≡ None) → (b : Bool) → is_privileged c i ≡ b → (o : Option ℕ) → c.p i ≡ o → climb d m (f i) ≡ f (climb c n i)
+      at n m i room i_in end true e o p = climb_stops d m (f i) (privileged_at i i_in ∙ e) ∙ ap f (sym (climb_stops c n i e))
+      at n m i room i_in end false e None p = climb_null d m (f i) (privileged_at i i_in ∙ e) (r.p i i_in ∙ ap (renamed f) p) ∙ ap f (sym (climb_null c n i e p))
+      at zero m i room i_in end false e (Some j) p = absurd (elim end [ inl t ↦ cc | inr none ↦ cc ])
+      at (suc n) zero i room i_in end false e (Some j) p = absurd (omega arith)
+      at (suc n) (suc m) i room i_in end false e (Some j) p =
+          let here : climb c (suc n) i ≡ climb c n j = climb_onward c n (suc n) i j (omega arith) e p in
+          climb_onward d m (suc m) (f i) (f j) (omega arith) (privileged_at i i_in ∙ e) (r.p i i_in ∙ ap (renamed f) p)
+          ∙ at n m j (omega arith) (pointee_in c i j l p) (subst (λ x. (is_privileged c x ≡ true) ⊎ (c.p x ≡ None)) here end) (is_privileged c j) refl (c.p j) refl
+          ∙ ap f (sym here)
+
+  ends_there : (i x : ℕ) → LeadsTo c i x → (is_privileged c x ≡ true) ⊎ (c.p x ≡ None)
+  ends_there i x (privileged h) = inl h
+  ends_there i x (null h p) = inr p
+  ends_there i x (onward h p further) = ends_there _ x further
+
+  top_named : (i : ℕ) → i < c.size → (is_married c i ≡ false) ⊎ (c.m i ≡ false) → top d (f i) ≡ f (top c i)
+  unfolding top
+  top_named i i_in free = climbed c.size d.size i (as_many c.size refl) i_in (ends_there i (top c i) (top-ends c l i i_in free).leads)
+
+  -- what a walk found, under the names
+  abbrev found : Option (ℕ × Kind) → Option (ℕ × Kind)
+  found None = None
+  found (Some e) = Some (f e.0, e.1)
+
+  unless_named : (x : ℕ) (k : Option Kind) → unless_seduction (f x) k ≡ found (unless_seduction x k)
+  unless_named x None = refl
+  unless_named x (Some Kind.Update) = refl
+  unless_named x (Some Kind.Marriage) = refl
+  unless_named x (Some Kind.Seduction) = refl
+  unless_named x (Some Kind.Abandonment) = refl
+
+  walk_named : (i : ℕ) → i < c.size → is_married c i ≡ false → walk d (f i) ≡ found (walk c i)
+  walk_named i i_in free =
+      let x_in = (top-ends c l i i_in (inl free)).in_range in
+      ap (λ x. unless_seduction x (enabled_kind d x)) (top_named i i_in (inl free))
+      ∙ ap (unless_seduction (f (top c i))) (kind_named f c d l r (top c i) x_in)
+      ∙ unless_named (top c i) (enabled_kind c (top c i))
+
+  either : (x y : Option (ℕ × Kind)) (a : ℕ) → unwrap_or (found x) (unwrap_or (found y) (f a, Kind.Seduction)) ≡ (f (unwrap_or x (unwrap_or y (a, Kind.Seduction))).0, (unwrap_or x (unwrap_or y (a, Kind.Seduction))).1)
+  either (Some e) y a = refl
+  either None (Some e) a = refl
+  either None None a = refl
+
+  pub witness_named : (a b : ℕ) → is_open c a b ≡ true → certificate d (f a) (f b) ≡ (f (certificate c a b).0, (certificate c a b).1)
+  unfolding certificate
+  witness_named a b h =
+      let linked = and_parts (c.linked a b) (ltb a b && (is_free c a && is_free c b)) h in
+      let lower = and_parts (ltb a b) (is_free c a && is_free c b) linked.1 in
+      let free = and_parts (is_free c a) (is_free c b) lower.1 in
+      let ends = l.in_range a b linked.0 in
+      let first = walk_named a ends.0 (not-true (is_married c a) free.0) in
+      let second = walk_named b ends.1 (not-true (is_married c b) free.1) in
+      (λ z. unwrap_or (first z) (unwrap_or (second z) (f a, Kind.Seduction))) ∙ either (walk c a) (walk c b) a
