@@ -28,18 +28,18 @@ use Rattle.mml_policy.proofs.ClausesLemmas.{node-ok}
 use Rattle.mml_policy.proofs.VerdictLemmas.{settled-grant}
 use Rattle.mml_policy.proofs.VisibleLemmas.{teacher_is, visible_means}
 
-some-value : {A : Type 0} (o : Option A) → is_some o ≡ true → (x : A) × (o ≡ Some x)
+pub some-value : {A : Type 0} (o : Option A) → is_some o ≡ true → (x : A) × (o ≡ Some x)
 some-value None h = absurd (grind arith)
 some-value (Some x) h = (x, refl)
 
-chosen-some : (chosen : List (Option Rule)) → list_any is_some chosen ≡ true → (i : ℕ) × (q : Rule) × (chosen_at chosen i ≡ Some q)
+pub chosen-some : (chosen : List (Option Rule)) → list_any is_some chosen ≡ true → (i : ℕ) × (q : Rule) × (chosen_at chosen i ≡ Some q)
 chosen-some [] h = absurd (grind arith)
 chosen-some (o ∷ os) h = elim (or_cases (is_some o) (list_any is_some os) h) [
   | inl here ↦ let found = some-value o here in (0, found.0, found.1)
   | inr later ↦ let found = chosen-some os later in (suc found.0, found.1, found.2)
 ]
 
-some-chosen : (chosen : List (Option Rule)) (i : ℕ) (q : Rule) → chosen_at chosen i ≡ Some q → list_any is_some chosen ≡ true
+pub some-chosen : (chosen : List (Option Rule)) (i : ℕ) (q : Rule) → chosen_at chosen i ≡ Some q → list_any is_some chosen ≡ true
 some-chosen [] i q h = absurd (grind arith)
 some-chosen (o ∷ os) zero q h = or_left (is_some o) (list_any is_some os) (ap is_some h)
 some-chosen (o ∷ os) (suc i) q h = or_right (is_some o) (list_any is_some os) (some-chosen os i q h)
@@ -51,21 +51,21 @@ settled-show (Err d) h = absurd (grind arith)
 event-same : (f e : Event) → (let s : Result Leave Denial = Ok (Grant f) in s ≡ Ok (Grant e)) → e ≡ f
 event-same f e h = grind arith
 
-named-is : (ids : List ℕ) (p q : Option ℕ) → pointer ids p BadRegister ≡ Ok q → IsNamed ids p q
+pub named-is : (ids : List ℕ) (p q : Option ℕ) → pointer ids p BadRegister ≡ Ok q → IsNamed ids p q
 named-is ids None q h = grind arith
 named-is ids (Some id) q h =
     let b = bind-ok (node ids id BadRegister) _ q h in
     (b.0, node-ok ids id BadRegister b.0 b.1, let e : (let s : Result (Option ℕ) Denial = Ok (Some b.0) in s ≡ Ok q) = b.2 in grind arith)
 
-named-from : (ids : List ℕ) (p q : Option ℕ) → IsNamed ids p q → pointer ids p BadRegister ≡ Ok q
+pub named-from : (ids : List ℕ) (p q : Option ℕ) → IsNamed ids p q → pointer ids p BadRegister ≡ Ok q
 named-from ids None q h = ap Ok (sym h)
 named-from ids (Some id) q h = bind-from (node ids id BadRegister) _ (Ok q) h.0 (ap (λ o. ok_or o BadRegister) h.1) (ap Ok (sym h.2))
 
-register-is : (w : World) (i : ℕ) (q : Option ℕ) → may_point (configuration w) i q ≡ true → IsRegister w i q
+pub register-is : (w : World) (i : ℕ) (q : Option ℕ) → may_point (configuration w) i q ≡ true → IsRegister w i q
 register-is w i None h = tt
 register-is w i (Some j) h = h
 
-register-from : (w : World) (i : ℕ) (q : Option ℕ) → IsRegister w i q → may_point (configuration w) i q ≡ true
+pub register-from : (w : World) (i : ℕ) (q : Option ℕ) → IsRegister w i q → may_point (configuration w) i q ≡ true
 register-from w i None h = refl
 register-from w i (Some j) h = h
 

@@ -3,6 +3,9 @@ pub mod ClausesLemmas
 pub mod VerdictLemmas
 pub mod MeaningLemmas
 pub mod CommandMeaningLemmas
+pub mod DeniedLemmas
+pub mod MoveDeniedLemmas
+pub mod ActsLemmas
 pub mod NearLemmas
 pub mod AlikeLemmas
 pub mod AskingLemmas

@@ -46,7 +46,7 @@ some-is : {A : Type 0} (o : Option A) → is_none o ≡ false → (x : A) × (o 
 some-is None h = absurd (grind arith)
 some-is (Some x) h = (x, refl)
 
-asked_is : (ids : List ℕ) (a : Asked) (d : Denial) (q : Rule) → rule_of ids a d ≡ Ok q → IsAsked ids a q
+pub asked_is : (ids : List ℕ) (a : Asked) (d : Denial) (q : Rule) → rule_of ids a d ≡ Ok q → IsAsked ids a q
 asked_is ids asked.Update d q h = grind arith
 asked_is ids (asked.Marriage id) d q h =
     let b = bind-ok (node ids id d) _ q h in
@@ -66,7 +66,7 @@ ok-same p q e = grind arith
 asked_once : (ids : List ℕ) (a : Asked) (p q : Rule) → rule_of ids a Guard ≡ Ok p → IsAsked ids a q → p ≡ q
 asked_once ids a p q h k = ok-same p q (sym h ∙ asked_from ids a Guard q k)
 
-no_rule : (ids : List ℕ) (a : Asked) (d : Denial) → rule_of ids a Guard ≡ Err d → (d ≡ Guard) × ((q : Rule) → ¬ IsAsked ids a q)
+pub no_rule : (ids : List ℕ) (a : Asked) (d : Denial) → rule_of ids a Guard ≡ Err d → (d ≡ Guard) × ((q : Rule) → ¬ IsAsked ids a q)
 no_rule ids asked.Update d h = absurd (grind arith)
 no_rule ids (asked.Marriage id) d h = go (rank_in ids id) refl h
   where

@@ -7,6 +7,7 @@ pub mod Shown
 pub mod Rulings
 pub mod About
 pub mod Meaning
+pub mod Denied
 pub mod Asking
 pub mod Alike
 pub mod Identifiers

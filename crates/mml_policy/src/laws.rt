@@ -1,5 +1,5 @@
 //! Laws of the policy. Each is the clause of a function that does nothing.
-ghost use Rattle.std.specs.Prelude.{◌≡◌, ◌<◌, ◌↔◌, ◌⊎◌, ℕ, Bool, List, Option, None, Some, true, false, length, slice_index};
+ghost use Rattle.std.specs.Prelude.{◌≡◌, ◌≢◌, ◌<◌, ◌↔◌, ◌⊎◌, ℕ, Bool, List, Option, None, Some, true, false, length, slice_index};
 ghost use Rattle.mml_rules.specs.declared.rule.Rule.{Rule};
 ghost use Rattle.mml_rules.specs.Configuration.{Configuration, IsLawful};
 ghost use Rattle.mml_rules.specs.Rules.{kind_of, enabled_kind, is_privileged};
@@ -30,6 +30,8 @@ ghost use Rattle.mml_policy.specs.Rulings.{ruling, event_of, after_ruling};
 ghost use Rattle.mml_policy.specs.Asking.{asker, command_of, id_of, asked_of};
 ghost use Rattle.mml_policy.specs.Alike.{Alike, IsWorldOf};
 ghost use Rattle.mml_policy.specs.Meaning.{MayMove, DeniesMove, MaySee, MayLook, MayClose, MayFault, MayLink, MayCut, MayRelease, ShowsWhatIsVisible};
+ghost use Rattle.mml_policy.specs.Denied.{DeniesClose, DeniesFault, DeniesLink, DeniesCut, DeniesRelease, DeniesReport};
+ghost use Rattle.mml_policy.specs.Acts.{is_act};
 ghost use Rattle.mml_policy.specs.Shown.{see_of, look_of};
 
 /// A node is visible to the teacher, to its owners and to the owners of its neighbours, and to no one
@@ -50,7 +52,7 @@ pub fn a_move_takes_four_facts()
         × MayMove ids r w x id asked at s i q) }
     ensures denied { (ids : List ℕ) (r : RosterValue) (w : World) (x : Who) (id : ℕ)
         (asked : Asked) (at : ℕ) (d : Denial) → IsLawful (configuration w) →
-        verdict ids r w x (command.Move id asked at) ≡ verdicts.Deny d →
+        (verdict ids r w x (command.Move id asked at) ≡ verdicts.Deny d) ↔
         DeniesMove ids r w x id asked at d }
 {}
 
@@ -88,39 +90,61 @@ pub fn a_look_shows_what_is_visible()
         (x ≡ who.Teacher) ⊎ (owns r x i ≡ true) → ShowsWhatIsVisible r w x (look_of w i) }
 {}
 
-/// A step is closed exactly by the teacher, where some move is chosen.
+/// A step is closed exactly by the teacher, where some move is chosen; else it is denied by the first of these
+/// that doesn't hold. So it is of the commands below.
 pub fn a_close_takes_a_chosen_node()
-    ensures { (ids : List ℕ) (r : RosterValue) (w : World) (x : Who) (e : Event) →
+    ensures granted { (ids : List ℕ) (r : RosterValue) (w : World) (x : Who) (e : Event) →
         (verdict ids r w x command.Close ≡ verdicts.Grant e) ↔
         ((x ≡ who.Teacher) × MayClose w e) }
+    ensures denied { (ids : List ℕ) (r : RosterValue) (w : World) (x : Who) (d : Denial) →
+        (verdict ids r w x command.Close ≡ verdicts.Deny d) ↔ DeniesClose w x d }
 {}
 
 /// The registers of a node are set exactly by the teacher, to a pointer that is null or a neighbour.
 pub fn a_fault_takes_a_neighbour()
-    ensures { (ids : List ℕ) (r : RosterValue) (w : World) (x : Who) (id : ℕ) (p : Option ℕ)
+    ensures granted { (ids : List ℕ) (r : RosterValue) (w : World) (x : Who) (id : ℕ) (p : Option ℕ)
         (m : Bool) (e : Event) → (verdict ids r w x (command.Fault id p m) ≡ verdicts.Grant e) ↔
         ((x ≡ who.Teacher) × MayFault ids w id p m e) }
+    ensures denied { (ids : List ℕ) (r : RosterValue) (w : World) (x : Who) (id : ℕ) (p : Option ℕ)
+        (m : Bool) (d : Denial) → (verdict ids r w x (command.Fault id p m) ≡ verdicts.Deny d) ↔
+        DeniesFault ids w x id p d }
 {}
 
 /// A link is made exactly by the teacher, between two different nodes that aren't linked.
 pub fn a_link_takes_two_unlinked_nodes()
-    ensures { (ids : List ℕ) (r : RosterValue) (w : World) (x : Who) (first second : ℕ)
+    ensures granted { (ids : List ℕ) (r : RosterValue) (w : World) (x : Who) (first second : ℕ)
         (e : Event) → (verdict ids r w x (command.Link first second) ≡ verdicts.Grant e) ↔
         ((x ≡ who.Teacher) × MayLink ids w first second e) }
+    ensures denied { (ids : List ℕ) (r : RosterValue) (w : World) (x : Who) (first second : ℕ)
+        (d : Denial) → (verdict ids r w x (command.Link first second) ≡ verdicts.Deny d) ↔
+        DeniesLink ids w x first second d }
 {}
 
 /// A link is removed exactly by the teacher, between two nodes that are linked.
 pub fn a_cut_takes_two_linked_nodes()
-    ensures { (ids : List ℕ) (r : RosterValue) (w : World) (x : Who) (first second : ℕ)
+    ensures granted { (ids : List ℕ) (r : RosterValue) (w : World) (x : Who) (first second : ℕ)
         (e : Event) → (verdict ids r w x (command.Cut first second) ≡ verdicts.Grant e) ↔
         ((x ≡ who.Teacher) × MayCut ids w first second e) }
+    ensures denied { (ids : List ℕ) (r : RosterValue) (w : World) (x : Who) (first second : ℕ)
+        (d : Denial) → (verdict ids r w x (command.Cut first second) ≡ verdicts.Deny d) ↔
+        DeniesCut ids w x first second d }
 {}
 
 /// A chosen move is dropped exactly by the teacher.
 pub fn a_release_takes_a_chosen_node()
-    ensures { (ids : List ℕ) (r : RosterValue) (w : World) (x : Who) (id : ℕ) (e : Event) →
+    ensures granted { (ids : List ℕ) (r : RosterValue) (w : World) (x : Who) (id : ℕ) (e : Event) →
         (verdict ids r w x (command.Release id) ≡ verdicts.Grant e) ↔
         ((x ≡ who.Teacher) × MayRelease ids w id e) }
+    ensures denied { (ids : List ℕ) (r : RosterValue) (w : World) (x : Who) (id : ℕ) (d : Denial) →
+        (verdict ids r w x (command.Release id) ≡ verdicts.Deny d) ↔ DeniesRelease ids w x id d }
+{}
+
+/// What asks for an event is never shown anything, and what asks to be shown something is granted no event.
+pub fn acts_are_granted_and_views_are_shown()
+    ensures acts { (ids : List ℕ) (r : RosterValue) (w : World) (x : Who) (c : Command) →
+        is_act c ≡ true → verdict ids r w x c ≢ verdicts.Show }
+    ensures views { (ids : List ℕ) (r : RosterValue) (w : World) (x : Who) (c : Command) (e : Event) →
+        is_act c ≡ false → verdict ids r w x c ≢ verdicts.Grant e }
 {}
 
 /// An event that a verdict grants is legal.
@@ -166,8 +190,10 @@ pub fn hidden_values_change_no_ruling()
 
 /// A report is told exactly to the teacher.
 pub fn a_report_takes_the_teacher()
-    ensures { (ids : List ℕ) (r : RosterValue) (w : World) (x : Who) →
+    ensures shown { (ids : List ℕ) (r : RosterValue) (w : World) (x : Who) →
         (verdict ids r w x command.Report ≡ verdicts.Show) ↔ (x ≡ who.Teacher) }
+    ensures denied { (ids : List ℕ) (r : RosterValue) (w : World) (x : Who) (d : Denial) →
+        (verdict ids r w x command.Report ≡ verdicts.Deny d) ↔ DeniesReport x d }
 {}
 
 /// An event takes place only where it is legal, the limit of events isn't reached and the journal

@@ -1,5 +1,9 @@
 use Rattle.mml_policy.proofs.CommandMeaningLemmas.{report_means}
+use Rattle.mml_policy.proofs.DeniedLemmas.{report_denied}
 use Rattle.mml_policy.proofs.laws.a_report_takes_the_teacher.Goals as goal
 
-pub returns : goal.returns
-returns c = report_means
+pub returns-clause-shown : goal.returns-clause-shown
+returns-clause-shown c = report_means
+
+pub returns-clause-denied : goal.returns-clause-denied
+returns-clause-denied c = report_denied

@@ -1,0 +1,81 @@
+-- Why a move is denied, both ways.
+use Rattle.std.proofs.Common.{◌≡◌, ◌↔◌, ℕ, ◌==◌, List, Option, None, Some, is_none, Result, Ok, Err, refl, sym, ap, ◌∙◌}
+use Rattle.std.specs.Option.{ok_or}
+use Rattle.std.proofs.lemmas.Bool.{false_from_ne_true, eq-eqb, ne_eqb}
+use Rattle.mml_ids.specs.Ids.{rank_in}
+use Rattle.mml_ids.specs.Gives.{◌>>=◌, ◌>>◌, need}
+use Rattle.mml_ids.proofs.GivesLemmas.{bind-from, need-from}
+use Rattle.mml_rules.specs.declared.rule.Rule.{Rule}
+use Rattle.mml_rules.specs.Configuration.{IsLawful}
+use Rattle.mml_rules.specs.Rules.{guard}
+use Rattle.mml_rules.proofs.MeaningLemmas.{guard-means}
+use Rattle.mml_lab.specs.declared.who.Who.{Who}
+use Rattle.mml_lab.specs.declared.who.Who.TheVariants as who
+use Rattle.mml_lab.specs.Rosters.{RosterValue, owns}
+use Rattle.mml_board.specs.declared.event.Event.TheVariants as event
+use Rattle.mml_board.specs.World.{World, configuration, chosen_at}
+use Rattle.mml_policy.specs.declared.command.Asked.{Asked}
+use Rattle.mml_policy.specs.declared.command.Command.TheVariants as command
+use Rattle.mml_policy.specs.declared.denial.Denial.{Denial}
+use Rattle.mml_policy.specs.declared.denial.Denial.TheVariants.{NotOwner, Stale, Chosen, Guard}
+use Rattle.mml_policy.specs.declared.verdict.Verdict.TheVariants as verdicts
+use Rattle.mml_policy.specs.declared.verdict.Leave.{Leave}
+use Rattle.mml_policy.specs.declared.verdict.Leave.TheVariants.{Grant}
+use Rattle.mml_policy.specs.Clauses.{node, student, rule_of}
+use Rattle.mml_policy.specs.Verdicts.{clauses, settled, verdict}
+use Rattle.mml_policy.specs.Meaning.{IsOwner, IsGuarded, DeniesMove}
+use Rattle.mml_policy.proofs.DeniedLemmas.{need-fails, bind-fails}
+use Rattle.mml_policy.proofs.MeaningLemmas.{asked_is, no_rule, move_denied}
+use Rattle.mml_policy.proofs.VerdictLemmas.{owner_is}
+
+module _ (ids : List ℕ) (r : RosterValue) (w : World) (x : Who) (id : ℕ) (a : Asked) (at : ℕ) (l : IsLawful (configuration w)) where
+  abbrev why : Denial → Type 0
+  why = DeniesMove ids r w x id a at
+
+  abbrev with_rule : ℕ → ℕ → Rule → Result Leave Denial
+  with_rule s i q = need (guard (configuration w) i q) Guard >> Ok (Grant (event.Grant s i q))
+
+  -- the clauses after the first
+  abbrev owned : ℕ → ℕ → Result Leave Denial
+  owned s i = need (at == w.number) (Stale w.number) >> (need (is_none (chosen_at w.chosen i)) Chosen >> (rule_of ids a Guard >>= with_rule s i))
+
+  past_owner : (s i : ℕ) (v : Result Leave Denial) → IsOwner ids r x id s i → owned s i ≡ v → clauses ids r w x (command.Move id a at) ≡ v
+  past_owner s i v own e =
+      bind-from (student x NotOwner) _ _ s (ap (λ y. student y NotOwner) own.student) (
+      bind-from (node ids id NotOwner) _ _ i (ap (λ o. ok_or o NotOwner) own.node) (
+      need-from (owns r x i) _ _ _ (ap (λ y. owns r y i) own.student ∙ own.owner) e))
+
+  no_owner : ((s i : ℕ) → ¬ IsOwner ids r x id s i) → clauses ids r w x (command.Move id a at) ≡ Err NotOwner
+  no_owner h = go x refl
+    where
+      go : (y : Who) → x ≡ y → clauses ids r w x (command.Move id a at) ≡ Err NotOwner
+      go who.Teacher e = bind-fails (student x NotOwner) _ _ (ap (λ y. student y NotOwner) e)
+      go (who.Student s) e = bind-from (student x NotOwner) _ _ s (ap (λ y. student y NotOwner) e) (on (rank_in ids id) refl)
+        where
+          on : (o : Option ℕ) → rank_in ids id ≡ o → (node ids id NotOwner >>= (λ i. need (owns r x i) NotOwner >> owned s i)) ≡ Err NotOwner
+          on None n = bind-fails (node ids id NotOwner) _ _ (ap (λ o. ok_or o NotOwner) n)
+          on (Some i) n = bind-from (node ids id NotOwner) _ _ i (ap (λ o. ok_or o NotOwner) n) (need-fails (owns r x i) _ _
+              (false_from_ne_true (owns r x i) (λ own. h s i (record { student = e; node = n; owner = owner_is r x s i e own }))))
+
+  no_guard : (s i : ℕ) → ((q : Rule) → ¬ IsGuarded ids w i a q) → (rule_of ids a Guard >>= with_rule s i) ≡ Err Guard
+  no_guard s i none = go (rule_of ids a Guard) refl
+    where
+      go : (t : Result Rule Denial) → rule_of ids a Guard ≡ t → (rule_of ids a Guard >>= with_rule s i) ≡ Err Guard
+      go (Ok q) e = bind-from (rule_of ids a Guard) (with_rule s i) _ q e (need-fails (guard (configuration w) i q) _ _
+          (false_from_ne_true (guard (configuration w) i q) (λ g. none q (asked_is ids a Guard q e, (guard-means (configuration w) i q l).0 g))))
+      go (Err d) e = bind-fails (rule_of ids a Guard) (with_rule s i) Guard (e ∙ ap Err (no_rule ids a d e).0)
+
+  from_why : (d : Denial) → why d → verdict ids r w x (command.Move id a at) ≡ verdicts.Deny d
+  from_why NotOwner h = ap settled (no_owner h)
+  from_why (Stale n) h = ap settled (past_owner h.0 h.1 _ h.2 (need-fails (at == w.number) (Stale w.number) _ (ne_eqb at w.number h.3))) ∙ ap (λ n. verdicts.Deny (Stale n)) (sym h.4)
+  from_why Chosen h = ap settled (past_owner h.0 h.1 _ h.2 (
+      need-from (at == w.number) _ _ _ (eq-eqb at w.number h.3) (
+      need-fails (is_none (chosen_at w.chosen h.1)) _ _ (ap is_none h.4.1))))
+  from_why Guard h = ap settled (past_owner h.0 h.1 _ h.2 (
+      need-from (at == w.number) _ _ _ (eq-eqb at w.number h.3) (
+      need-from (is_none (chosen_at w.chosen h.1)) _ _ _ (ap is_none h.4) (
+      no_guard h.0 h.1 h.5))))
+  from_why d h = absurd h
+
+  pub move_denied_exactly : (d : Denial) → (verdict ids r w x (command.Move id a at) ≡ verdicts.Deny d) ↔ DeniesMove ids r w x id a at d
+  move_denied_exactly d = (move_denied ids r w x id a at l d, from_why d)

@@ -1,0 +1,66 @@
+-- Why a command is denied, stated as facts: the clauses before hold, and this one doesn't.
+use Rattle.std.specs.Prelude.{◌≡◌, ◌≢◌, ◌⊎◌, ℕ, true, false, List, Option, None, Some}
+use Rattle.mml_ids.specs.Ids.{rank_in}
+use Rattle.mml_lab.specs.declared.who.Who.{Who}
+use Rattle.mml_lab.specs.declared.who.Who.TheVariants as who
+use Rattle.mml_board.specs.World.{World, configuration, chosen_at}
+use Rattle.mml_policy.specs.declared.denial.Denial.{Denial}
+use Rattle.mml_policy.specs.declared.denial.Denial.TheVariants as denial
+use Rattle.mml_policy.specs.Meaning.{IsNamed, IsRegister}
+
+-- the teacher asks, and i is the node with this identifier
+pub record IsAskedOf (ids : List ℕ) (x : Who) (id i : ℕ) : Type 0 where
+  pub teacher : x ≡ who.Teacher
+  pub node : rank_in ids id ≡ Some i
+
+-- the teacher asks, and a and b are the nodes with these identifiers
+pub record IsAskedOfBoth (ids : List ℕ) (x : Who) (first second a b : ℕ) : Type 0 where
+  pub teacher : x ≡ who.Teacher
+  pub node_a : rank_in ids first ≡ Some a
+  pub node_b : rank_in ids second ≡ Some b
+
+-- no step is closed: by no student, and not where no move is chosen
+abbrev pub DeniesClose : World → Who → Denial → Type 0
+DeniesClose w x denial.NotTeacher = x ≢ who.Teacher
+DeniesClose w x denial.Empty = (x ≡ who.Teacher) × ((i : ℕ) → chosen_at w.chosen i ≡ None)
+DeniesClose w x _ = ⊥
+
+-- registers aren't set: by no student, of no node that isn't there, and not to what is neither null nor a neighbour
+abbrev pub DeniesFault : List ℕ → World → Who → ℕ → Option ℕ → Denial → Type 0
+DeniesFault ids w x id p denial.NotTeacher = x ≢ who.Teacher
+DeniesFault ids w x id p denial.NoNode = (x ≡ who.Teacher) × (rank_in ids id ≡ None)
+DeniesFault ids w x id p denial.BadRegister = (i : ℕ) × IsAskedOf ids x id i × ((q : Option ℕ) → IsNamed ids p q → ¬ IsRegister w i q)
+DeniesFault ids w x id p _ = ⊥
+
+-- an end isn't there
+abbrev pub LacksAnEnd : List ℕ → Who → ℕ → ℕ → Type 0
+LacksAnEnd ids x first second = (x ≡ who.Teacher) × ((rank_in ids first ≡ None) ⊎ (rank_in ids second ≡ None))
+
+-- no link is made: by no student, with no end that isn't there, from no node to itself, and not where there is one
+abbrev pub DeniesLink : List ℕ → World → Who → ℕ → ℕ → Denial → Type 0
+DeniesLink ids w x first second denial.NotTeacher = x ≢ who.Teacher
+DeniesLink ids w x first second denial.NoNode = LacksAnEnd ids x first second
+DeniesLink ids w x first second denial.Loop = (i : ℕ) × IsAskedOfBoth ids x first second i i
+DeniesLink ids w x first second denial.Linked =
+    (a : ℕ) × (b : ℕ) × IsAskedOfBoth ids x first second a b × (a ≢ b) × ((configuration w).linked a b ≡ true)
+DeniesLink ids w x first second _ = ⊥
+
+-- no link is removed: by no student, with no end that isn't there, and not where there is none
+abbrev pub DeniesCut : List ℕ → World → Who → ℕ → ℕ → Denial → Type 0
+DeniesCut ids w x first second denial.NotTeacher = x ≢ who.Teacher
+DeniesCut ids w x first second denial.NoNode = LacksAnEnd ids x first second
+DeniesCut ids w x first second denial.NotLinked =
+    (a : ℕ) × (b : ℕ) × IsAskedOfBoth ids x first second a b × ((configuration w).linked a b ≡ false)
+DeniesCut ids w x first second _ = ⊥
+
+-- no move is dropped: by no student, of no node that isn't there, and not where none is chosen
+abbrev pub DeniesRelease : List ℕ → World → Who → ℕ → Denial → Type 0
+DeniesRelease ids w x id denial.NotTeacher = x ≢ who.Teacher
+DeniesRelease ids w x id denial.NoNode = (x ≡ who.Teacher) × (rank_in ids id ≡ None)
+DeniesRelease ids w x id denial.NotChosen = (i : ℕ) × IsAskedOf ids x id i × (chosen_at w.chosen i ≡ None)
+DeniesRelease ids w x id _ = ⊥
+
+-- nothing is reported to a student
+abbrev pub DeniesReport : Who → Denial → Type 0
+DeniesReport x denial.NotTeacher = x ≢ who.Teacher
+DeniesReport x _ = ⊥
