@@ -116,15 +116,15 @@ module _ (ids : List ℕ) (r : RosterValue) (w : World) (x : Who) where
       let one = need-ok (is_teacher x) _ _ _ (settled-grant (clauses ids r w x command.Close) e h) in
       let two = need-ok (is_any_chosen w) _ _ _ one.1 in
       let found = chosen-some w.chosen two.0 in
-      (teacher_is x one.0, (found.0, found.1, found.2, event-same event.Close e two.1))
+      (teacher_is x one.0, record { i = found.0; move = found.1; chosen = found.2; granted = event-same event.Close e two.1 })
 
   from_close : (e : Event) → (x ≡ who.Teacher) × MayClose w e → verdict ids r w x command.Close ≡ verdicts.Grant e
   from_close e f =
       let may = f.1 in
       ap settled (
       need-from (is_teacher x) _ _ _ (ap is_teacher f.0) (
-      need-from (is_any_chosen w) _ _ _ (some-chosen w.chosen may.0 may.1 may.2) (
-      ap (λ e. Ok (Grant e)) (sym may.3))))
+      need-from (is_any_chosen w) _ _ _ (some-chosen w.chosen may.i may.move may.chosen) (
+      ap (λ e. Ok (Grant e)) (sym may.granted))))
 
   pub close_means : (e : Event) → (verdict ids r w x command.Close ≡ verdicts.Grant e) ↔ ((x ≡ who.Teacher) × MayClose w e)
   close_means e = (to_close e, from_close e)
@@ -135,17 +135,17 @@ module _ (ids : List ℕ) (r : RosterValue) (w : World) (x : Who) where
       let two = bind-ok (node ids id NoNode) _ _ one.1 in
       let three = bind-ok (pointer ids p BadRegister) _ _ two.2 in
       let four = need-ok (may_point (configuration w) two.0 three.0) _ _ _ three.2 in
-      (teacher_is x one.0, (two.0, three.0, node-ok ids id NoNode two.0 two.1, event-same _ e four.1, named-is ids p three.0 three.1, register-is w two.0 three.0 four.0))
+      (teacher_is x one.0, record { i = two.0; q = three.0; node = node-ok ids id NoNode two.0 two.1; named = named-is ids p three.0 three.1; register = register-is w two.0 three.0 four.0; granted = event-same _ e four.1 })
 
   from_fault : (id : ℕ) (p : Option ℕ) (m : Bool) (e : Event) → (x ≡ who.Teacher) × MayFault ids w id p m e → verdict ids r w x (command.Fault id p m) ≡ verdicts.Grant e
   from_fault id p m e f =
       let may = f.1 in
       ap settled (
       need-from (is_teacher x) _ _ _ (ap is_teacher f.0) (
-      bind-from (node ids id NoNode) _ _ may.0 (ap (λ o. ok_or o NoNode) may.2) (
-      bind-from (pointer ids p BadRegister) _ _ may.1 (named-from ids p may.1 may.4) (
-      need-from (may_point (configuration w) may.0 may.1) _ _ _ (register-from w may.0 may.1 may.5) (
-      ap (λ e. Ok (Grant e)) (sym may.3))))))
+      bind-from (node ids id NoNode) _ _ may.i (ap (λ o. ok_or o NoNode) may.node) (
+      bind-from (pointer ids p BadRegister) _ _ may.q (named-from ids p may.q may.named) (
+      need-from (may_point (configuration w) may.i may.q) _ _ _ (register-from w may.i may.q may.register) (
+      ap (λ e. Ok (Grant e)) (sym may.granted))))))
 
   pub fault_means : (id : ℕ) (p : Option ℕ) (m : Bool) (e : Event) → (verdict ids r w x (command.Fault id p m) ≡ verdicts.Grant e) ↔ ((x ≡ who.Teacher) × MayFault ids w id p m e)
   fault_means id p m e = (to_fault id p m e, from_fault id p m e)
@@ -158,15 +158,15 @@ module _ (ids : List ℕ) (r : RosterValue) (w : World) (x : Who) where
       let four = need-ok (not (two.0 == three.0)) _ _ _ three.2 in
       let five = need-ok (not ((configuration w).linked two.0 three.0)) _ _ _ four.1 in (
         teacher_is x one.0,
-        (
-          two.0,
-          three.0,
-          node-ok ids first NoNode two.0 two.1,
-          node-ok ids second NoNode three.0 three.1,
-          event-same _ e five.1,
-          eqb-false two.0 three.0 (not-true _ four.0),
-          not-true _ five.0,
-        ),
+        record {
+          a = two.0;
+          b = three.0;
+          node_a = node-ok ids first NoNode two.0 two.1;
+          node_b = node-ok ids second NoNode three.0 three.1;
+          different = eqb-false two.0 three.0 (not-true _ four.0);
+          apart = not-true _ five.0;
+          granted = event-same _ e five.1;
+        },
       )
 
   from_link : (first second : ℕ) (e : Event) → (x ≡ who.Teacher) × MayLink ids w first second e → verdict ids r w x (command.Link first second) ≡ verdicts.Grant e
@@ -174,11 +174,11 @@ module _ (ids : List ℕ) (r : RosterValue) (w : World) (x : Who) where
       let may = f.1 in
       ap settled (
       need-from (is_teacher x) _ _ _ (ap is_teacher f.0) (
-      bind-from (node ids first NoNode) _ _ may.0 (ap (λ o. ok_or o NoNode) may.2) (
-      bind-from (node ids second NoNode) _ _ may.1 (ap (λ o. ok_or o NoNode) may.3) (
-      need-from (not (may.0 == may.1)) _ _ _ (not_from_false _ (ne_eqb may.0 may.1 may.5)) (
-      need-from (not ((configuration w).linked may.0 may.1)) _ _ _ (not_from_false _ may.6) (
-      ap (λ e. Ok (Grant e)) (sym may.4)))))))
+      bind-from (node ids first NoNode) _ _ may.a (ap (λ o. ok_or o NoNode) may.node_a) (
+      bind-from (node ids second NoNode) _ _ may.b (ap (λ o. ok_or o NoNode) may.node_b) (
+      need-from (not (may.a == may.b)) _ _ _ (not_from_false _ (ne_eqb may.a may.b may.different)) (
+      need-from (not ((configuration w).linked may.a may.b)) _ _ _ (not_from_false _ may.apart) (
+      ap (λ e. Ok (Grant e)) (sym may.granted)))))))
 
   pub link_means : (first second : ℕ) (e : Event) → (verdict ids r w x (command.Link first second) ≡ verdicts.Grant e) ↔ ((x ≡ who.Teacher) × MayLink ids w first second e)
   link_means first second e = (to_link first second e, from_link first second e)
@@ -189,17 +189,17 @@ module _ (ids : List ℕ) (r : RosterValue) (w : World) (x : Who) where
       let two = bind-ok (node ids first NoNode) _ _ one.1 in
       let three = bind-ok (node ids second NoNode) _ _ two.2 in
       let four = need-ok ((configuration w).linked two.0 three.0) _ _ _ three.2 in
-      (teacher_is x one.0, (two.0, three.0, node-ok ids first NoNode two.0 two.1, node-ok ids second NoNode three.0 three.1, event-same _ e four.1, four.0))
+      (teacher_is x one.0, record { a = two.0; b = three.0; node_a = node-ok ids first NoNode two.0 two.1; node_b = node-ok ids second NoNode three.0 three.1; linked = four.0; granted = event-same _ e four.1 })
 
   from_cut : (first second : ℕ) (e : Event) → (x ≡ who.Teacher) × MayCut ids w first second e → verdict ids r w x (command.Cut first second) ≡ verdicts.Grant e
   from_cut first second e f =
       let may = f.1 in
       ap settled (
       need-from (is_teacher x) _ _ _ (ap is_teacher f.0) (
-      bind-from (node ids first NoNode) _ _ may.0 (ap (λ o. ok_or o NoNode) may.2) (
-      bind-from (node ids second NoNode) _ _ may.1 (ap (λ o. ok_or o NoNode) may.3) (
-      need-from ((configuration w).linked may.0 may.1) _ _ _ may.5 (
-      ap (λ e. Ok (Grant e)) (sym may.4))))))
+      bind-from (node ids first NoNode) _ _ may.a (ap (λ o. ok_or o NoNode) may.node_a) (
+      bind-from (node ids second NoNode) _ _ may.b (ap (λ o. ok_or o NoNode) may.node_b) (
+      need-from ((configuration w).linked may.a may.b) _ _ _ may.linked (
+      ap (λ e. Ok (Grant e)) (sym may.granted))))))
 
   pub cut_means : (first second : ℕ) (e : Event) → (verdict ids r w x (command.Cut first second) ≡ verdicts.Grant e) ↔ ((x ≡ who.Teacher) × MayCut ids w first second e)
   cut_means first second e = (to_cut first second e, from_cut first second e)
@@ -210,16 +210,16 @@ module _ (ids : List ℕ) (r : RosterValue) (w : World) (x : Who) where
       let two = bind-ok (node ids id NoNode) _ _ one.1 in
       let three = need-ok (is_some (chosen_at w.chosen two.0)) _ _ _ two.2 in
       let found = some-value (chosen_at w.chosen two.0) three.0 in
-      (teacher_is x one.0, (two.0, found.0, node-ok ids id NoNode two.0 two.1, event-same _ e three.1, found.1))
+      (teacher_is x one.0, record { i = two.0; move = found.0; node = node-ok ids id NoNode two.0 two.1; chosen = found.1; granted = event-same _ e three.1 })
 
   from_release : (id : ℕ) (e : Event) → (x ≡ who.Teacher) × MayRelease ids w id e → verdict ids r w x (command.Release id) ≡ verdicts.Grant e
   from_release id e f =
       let may = f.1 in
       ap settled (
       need-from (is_teacher x) _ _ _ (ap is_teacher f.0) (
-      bind-from (node ids id NoNode) _ _ may.0 (ap (λ o. ok_or o NoNode) may.2) (
-      need-from (is_some (chosen_at w.chosen may.0)) _ _ _ (ap is_some may.4) (
-      ap (λ e. Ok (Grant e)) (sym may.3)))))
+      bind-from (node ids id NoNode) _ _ may.i (ap (λ o. ok_or o NoNode) may.node) (
+      need-from (is_some (chosen_at w.chosen may.i)) _ _ _ (ap is_some may.chosen) (
+      ap (λ e. Ok (Grant e)) (sym may.granted)))))
 
   pub release_means : (id : ℕ) (e : Event) → (verdict ids r w x (command.Release id) ≡ verdicts.Grant e) ↔ ((x ≡ who.Teacher) × MayRelease ids w id e)
   release_means id e = (to_release id e, from_release id e)

@@ -6,6 +6,7 @@ use Rattle.mml_ids.specs.Ids.{IsTable, rank_in}
 use Rattle.mml_ids.proofs.IdsLemmas.{rank_of_id, id_of_rank}
 use Rattle.mml_rules.specs.Configuration.{Configuration}
 use Rattle.mml_rules.specs.Naming.{IsRenamed}
+use Rattle.mml_rules.specs.UnderNames.{IsNoName, IsEmptyElsewhere}
 use Rattle.mml_policy.specs.Identifiers.{are_linked, with_identifiers}
 
 module _ (ids : List ℕ) (c : Configuration) (table : IsTable ids) (nodes : c.size ≡ length ids) where
@@ -25,4 +26,18 @@ module _ (ids : List ℕ) (c : Configuration) (table : IsTable ids) (nodes : c.s
     named = λ x y h. named x y (rank_in ids x) (rank_in ids y) refl h;
     p = λ i l. rw (rank_of i l) refl;
     m = λ i l. rw (rank_of i l) refl;
+  }
+
+  no_rank : (x : ℕ) → IsNoName (slice_index ids) c.size x → rank_in ids x ≡ None
+  no_rank x none = go (rank_in ids x) refl
+    where
+      go : (o : Option ℕ) → rank_in ids x ≡ o → o ≡ None
+      go None e = refl
+      go (Some j) e = absurd (none j (let there = (position-Some (λ n. n == x) ids j 0 e).0 in omega (arith, there, nodes)) (id_of_rank ids x j e))
+
+  pub empty_elsewhere : IsEmptyElsewhere (slice_index ids) c (with_identifiers ids c)
+  empty_elsewhere = record {
+    links = λ x y none. rw (no_rank x none) refl;
+    p = λ x none. rw (no_rank x none) refl;
+    m = λ x none. rw (no_rank x none) refl;
   }

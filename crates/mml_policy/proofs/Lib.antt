@@ -14,4 +14,5 @@ pub mod LookLemmas
 pub mod AboutLemmas
 pub mod SeenLemmas
 pub mod IdentifiersLemmas
+pub mod VisibleNamesLemmas
 pub mod PrivilegedLemmas

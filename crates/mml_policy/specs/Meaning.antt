@@ -92,23 +92,44 @@ IsRegister w i None = Unit {0}
 IsRegister w i (Some j) = (configuration w).linked i j ≡ true
 
 -- some node has a chosen move, and the chosen moves are applied
-abbrev pub MayClose : World → Event → Type 0
-MayClose w e = (i : ℕ) × (q : Rule) × (chosen_at w.chosen i ≡ Some q) × (e ≡ event.Close)
+pub record MayClose (w : World) (e : Event) : Type 0 where
+  pub i : ℕ
+  pub move : Rule
+  pub chosen : chosen_at w.chosen i ≡ Some move
+  pub granted : e ≡ event.Close
 
 -- the register is null or a neighbour, and the node's registers are set
-abbrev pub MayFault : List ℕ → World → ℕ → Option ℕ → Bool → Event → Type 0
-MayFault ids w id p m e = (i : ℕ) × (q : Option ℕ) × (rank_in ids id ≡ Some i) × (e ≡ event.Fault i (record { p = q; m = m })) × IsNamed ids p q × IsRegister w i q
+pub record MayFault (ids : List ℕ) (w : World) (id : ℕ) (p : Option ℕ) (m : Bool) (e : Event) : Type 0 where
+  pub i : ℕ
+  pub q : Option ℕ
+  pub node : rank_in ids id ≡ Some i
+  pub named : IsNamed ids p q
+  pub register : IsRegister w i q
+  pub granted : e ≡ event.Fault i (record { p = q; m = m })
 
 -- two different nodes that aren't linked are linked
-abbrev pub MayLink : List ℕ → World → ℕ → ℕ → Event → Type 0
-MayLink ids w first second e =
-    (a : ℕ) × (b : ℕ) × (rank_in ids first ≡ Some a) × (rank_in ids second ≡ Some b) × (e ≡ event.Link a b) × (a ≢ b) × ((configuration w).linked a b ≡ false)
+pub record MayLink (ids : List ℕ) (w : World) (first second : ℕ) (e : Event) : Type 0 where
+  pub a : ℕ
+  pub b : ℕ
+  pub node_a : rank_in ids first ≡ Some a
+  pub node_b : rank_in ids second ≡ Some b
+  pub different : a ≢ b
+  pub apart : (configuration w).linked a b ≡ false
+  pub granted : e ≡ event.Link a b
 
 -- two nodes that are linked are linked no longer
-abbrev pub MayCut : List ℕ → World → ℕ → ℕ → Event → Type 0
-MayCut ids w first second e =
-    (a : ℕ) × (b : ℕ) × (rank_in ids first ≡ Some a) × (rank_in ids second ≡ Some b) × (e ≡ event.Cut a b) × ((configuration w).linked a b ≡ true)
+pub record MayCut (ids : List ℕ) (w : World) (first second : ℕ) (e : Event) : Type 0 where
+  pub a : ℕ
+  pub b : ℕ
+  pub node_a : rank_in ids first ≡ Some a
+  pub node_b : rank_in ids second ≡ Some b
+  pub linked : (configuration w).linked a b ≡ true
+  pub granted : e ≡ event.Cut a b
 
 -- the chosen move of a node is dropped
-abbrev pub MayRelease : List ℕ → World → ℕ → Event → Type 0
-MayRelease ids w id e = (i : ℕ) × (q : Rule) × (rank_in ids id ≡ Some i) × (e ≡ event.Release i) × (chosen_at w.chosen i ≡ Some q)
+pub record MayRelease (ids : List ℕ) (w : World) (id : ℕ) (e : Event) : Type 0 where
+  pub i : ℕ
+  pub move : Rule
+  pub node : rank_in ids id ≡ Some i
+  pub chosen : chosen_at w.chosen i ≡ Some move
+  pub granted : e ≡ event.Release i

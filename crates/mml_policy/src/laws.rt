@@ -4,7 +4,7 @@ ghost use Rattle.mml_rules.specs.declared.rule.Rule.{Rule};
 ghost use Rattle.mml_rules.specs.Configuration.{Configuration, IsLawful};
 ghost use Rattle.mml_rules.specs.Rules.{kind_of, enabled_kind, is_privileged};
 ghost use Rattle.mml_lab.specs.declared.who.Who.{Who};
-ghost use Rattle.mml_lab.specs.Rosters.{RosterValue, owns};
+ghost use Rattle.mml_lab.specs.Rosters.{RosterValue, owners_of, owns};
 ghost use Rattle.mml_board.specs.declared.event.Event.{Event};
 ghost use Rattle.mml_board.specs.declared.event.Event.TheVariants as event;
 ghost use Rattle.mml_board.specs.World.{World, size, configuration, chosen_at};
@@ -18,6 +18,7 @@ ghost use Rattle.mml_policy.specs.Visible.{is_visible, IsVisible};
 ghost use Rattle.mml_policy.specs.Verdicts.{verdict};
 ghost use Rattle.mml_ids.specs.Ids.{IsTable, rank_in};
 ghost use Rattle.mml_rules.specs.Naming.{IsRenamed};
+ghost use Rattle.mml_rules.specs.UnderNames.{IsEmptyElsewhere};
 ghost use Rattle.mml_rules.specs.Network.{configuration_of};
 ghost use Rattle.mml_lab.specs.Labs.{LabValue, IsLab};
 ghost use Rattle.mml_policy.specs.Identifiers.{with_identifiers};
@@ -211,11 +212,24 @@ pub fn rulings_name_nodes()
 {}
 
 /// The identifiers of a lab are names of its nodes that come in the order of their ranks: so what the
-/// rules say of ranks holds of identifiers, in the lab's network and in each world of its nodes.
+/// rules say of ranks holds of identifiers, in the lab's network and in each world of its nodes. A number that
+/// is no identifier has no link and no pointer, and its m is false.
 pub fn identifiers_are_names()
     ensures lab { (lab : LabValue) → IsLab lab →
         IsRenamed (slice_index lab.ids) (configuration_of lab.network)
         (with_identifiers lab.ids (configuration_of lab.network)) }
     ensures world { (ids : List ℕ) (w : World) → IsTable ids → IsWorldOf ids w →
         IsRenamed (slice_index ids) (configuration w) (with_identifiers ids (configuration w)) }
+    ensures lab_elsewhere { (lab : LabValue) → IsLab lab →
+        IsEmptyElsewhere (slice_index lab.ids) (configuration_of lab.network)
+        (with_identifiers lab.ids (configuration_of lab.network)) }
+    ensures world_elsewhere { (ids : List ℕ) (w : World) → IsTable ids → IsWorldOf ids w →
+        IsEmptyElsewhere (slice_index ids) (configuration w) (with_identifiers ids (configuration w)) }
+{}
+
+/// To whom a node is visible is the same under names that keep the order, where each name has its node's owners.
+pub fn visible_keeps_under_names()
+    ensures { (f : ℕ → ℕ) (c d : Configuration) (r s : RosterValue) (x : Who) (i : ℕ) →
+        IsRenamed f c d → ((j : ℕ) → j < c.size → owners_of s (f j) ≡ owners_of r j) →
+        i < c.size → is_visible s d x (f i) ≡ is_visible r c x i }
 {}
