@@ -4,3 +4,4 @@ pub mod ScriptedLemmas
 pub mod SightLemmas
 pub mod GrantsLemmas
 pub mod MishapsLemmas
+pub mod SessionsLemmas

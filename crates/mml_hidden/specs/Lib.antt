@@ -3,3 +3,4 @@ pub mod Twins
 pub mod Scripted
 pub mod Sight
 pub mod Mishaps
+pub mod Sessions

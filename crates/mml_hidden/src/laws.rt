@@ -1,5 +1,5 @@
 //! Laws of what a student can't tell. Each is the clause of a function that does nothing.
-ghost use Rattle.std.specs.Prelude.{◌≡◌, ◌↔◌, ◌<◌, ℕ, Bool, List, true, false, length};
+ghost use Rattle.std.specs.Prelude.{◌≡◌, ◌↔◌, ◌<◌, ℕ, Bool, List, true, false, length, map};
 ghost use Rattle.mml_rules.specs.declared.registers.Regs.{Regs};
 ghost use Rattle.mml_rules.specs.Network.{Network, IsNetwork, configuration_of, with_registers, with_link};
 ghost use Rattle.std.specs.List.{concat};
@@ -21,6 +21,8 @@ ghost use Rattle.mml_hall.specs.Transcripts.{Transcript, output_lines, bytes_wri
 ghost use Rattle.mml_hidden.specs.Scripted.{replies_to, end_of, written_to, written_on, StayAlike, IsHersThroughout, OnlySheGreets, OnlySheIsKnown, AreUnhindered};
 ghost use Rattle.mml_hidden.specs.CommandReplies.{world_after, reply_to, line_to};
 ghost use Rattle.mml_hidden.specs.Mishaps.{BefallenLine, Befalls, Befell, lines_in, replies_with, end_with, StayAlikeWith, written_on_any, AreHersThroughout};
+ghost use Rattle.mml_session.specs.Turns.{Standing, Run as SessionRun};
+ghost use Rattle.mml_hidden.specs.Sessions.{AreToldAlike};
 ghost use Rattle.mml_hidden.specs.Sight.{ShowsTheSame, MoveAlike, IsUntouched, IsOutOfSight};
 ghost use Rattle.mml_hidden.specs.Twins.{AreTwins, StatesAlike, is_hers};
 
@@ -202,4 +204,20 @@ pub fn labs_may_differ_out_of_sight()
         a < length n.registers → b < length n.registers →
         owns r (who.Student s) a ≡ false → owns r (who.Student s) b ≡ false →
         Alike r s (opening_of n) (opening_of (with_link n a b)) }
+{}
+
+/// Two sessions of a student's, through windows of two houses: where the lists that she has seen, cut to those
+/// at which the replies were given, leave worlds that are alike for her, and nothing hindered a reply, the same
+/// lines have the same replies, and the same bytes.
+pub fn hidden_values_change_no_session()
+    ensures replies { (lab other : LabValue) (s : ℕ) (st su : Standing) (lines : List (List ℕ))
+        (rs qs : List Reply) (end fin : Standing) (one : SessionRun lab st lines rs end)
+        (two : SessionRun other su lines qs fin) → IsLab lab → IsLab other → AreTwins lab other →
+        st.known ≡ su.known → AreToldAlike lab other s st su lines rs qs end fin one two →
+        (rs ≡ qs) × (end.known ≡ fin.known) }
+    ensures bytes { (lab other : LabValue) (s : ℕ) (st su : Standing) (lines : List (List ℕ))
+        (rs qs : List Reply) (end fin : Standing) (one : SessionRun lab st lines rs end)
+        (two : SessionRun other su lines qs fin) → IsLab lab → IsLab other → AreTwins lab other →
+        st.known ≡ su.known → AreToldAlike lab other s st su lines rs qs end fin one two →
+        map (reply_line lab.ids lab.roster) rs ≡ map (reply_line other.ids other.roster) qs }
 {}

@@ -1,0 +1,171 @@
+-- Two sessions of one student, in which the same lines have the same replies.
+use Rattle.std.proofs.Common.{◌≡◌, ℕ, ◌-◌, true, false, List, [], ◌∷◌, ◌++◌, length, take, map, Option, None, Some, Result, Ok, Err, refl, sym, ap, ◌∙◌, subst, arith, length-append, inl, inr}
+use Rattle.std.proofs.Math.Seq.{take-length, take-append_seam}
+use Rattle.std.proofs.lemmas.Bool.{false≢true, eqb-true}
+use Rattle.mml_lab.specs.declared.who.Who.{Who}
+use Rattle.mml_lab.specs.declared.who.Who.TheVariants as who
+use Rattle.mml_lab.specs.Labs.{LabValue, IsLab}
+use Rattle.mml_lab.specs.Rosters.{RosterValue, principal}
+use Rattle.mml_board.specs.declared.done.Done.TheVariants as done
+use Rattle.mml_board.specs.declared.event.Event.{Event}
+use Rattle.mml_board.specs.World.{World}
+use Rattle.mml_policy.specs.declared.command.Command.{Command}
+use Rattle.mml_policy.specs.declared.ruling.Ruling.{Ruling}
+use Rattle.mml_policy.specs.declared.ruling.Ruling.TheVariants.{Denied, Seen, Looked, Reported, Full, Journal, Granted}
+use Rattle.mml_policy.specs.Rulings.{event_of, after_ruling}
+use Rattle.mml_policy.specs.Alike.{Alike, IsWorldOf}
+use Rattle.mml_codec.specs.declared.request.LineFault.{LineFault}
+use Rattle.mml_codec.specs.declared.request.Request.{Request}
+use Rattle.mml_codec.specs.declared.request.Request.TheVariants as requests
+use Rattle.mml_codec.specs.declared.reply.Refused.{Refused}
+use Rattle.mml_codec.specs.declared.reply.Refused.TheVariants as refused
+use Rattle.mml_codec.specs.declared.reply.Reply.{Reply}
+use Rattle.mml_codec.specs.declared.reply.Reply.TheVariants as reply
+use Rattle.mml_codec.specs.Greetings.{greeting, admitted}
+use Rattle.mml_codec.specs.Lines.{request_in}
+use Rattle.mml_codec.specs.Replies.{reply_line}
+use Rattle.mml_codec.specs.Rulings.{reply_of}
+use Rattle.mml_window.specs.Lists.{is_legal_in, world_in, ruling_at}
+use Rattle.mml_window.specs.Windows.{WindowValue}
+use Rattle.mml_window.proofs.ListLemmas.{nodes_in}
+use Rattle.mml_window.proofs.AboutLemmas.{world_is}
+use Rattle.mml_session.specs.Turns.{Standing, standing, entered, places_in, MayRefuse, Plainly, Told, Settles, Asked, Turn, Run}
+use Rattle.mml_hidden.specs.CommandReplies.{reply_to}
+use Rattle.mml_hidden.specs.Twins.{AreTwins, is_hers}
+use Rattle.mml_hidden.specs.Sessions.{seen_at, IsUnhindered, IsToldAlike, AreToldAlike}
+use Rattle.mml_hidden.proofs.ToldLemmas.{same_reply_to}
+
+-- ---- the list at which a reply was given
+
+all_of : (l : List Event) (n : ℕ) → n ≡ length l → take n l ≡ l
+all_of l n e = ap (λ k. take k l) e ∙ take-length l
+
+but_last : (l : List Event) (e : Event) → take (length (l ++ e ∷ []) - 1) (l ++ e ∷ []) ≡ l
+but_last l e =
+    let n : length (l ++ e ∷ []) - 1 ≡ length l = omega (arith, length-append l (e ∷ [])) in
+    ap (λ k. take k (l ++ e ∷ [])) n ∙ take-append_seam l (e ∷ [])
+
+seen_plainly : (w : World) (l : List Event) (g : Ruling) → take (length (entered l (event_of g)) - length (places_in (reply_of w g))) (entered l (event_of g)) ≡ l
+seen_plainly w l (Denied d) = all_of l (length l - 0) (omega arith)
+seen_plainly w l (Seen s) = all_of l (length l - 0) (omega arith)
+seen_plainly w l (Looked k) = all_of l (length l - 0) (omega arith)
+seen_plainly w l Reported = all_of l (length l - 0) (omega arith)
+seen_plainly w l Full = all_of l (length l - 0) (omega arith)
+seen_plainly w l Journal = all_of l (length l - 0) (omega arith)
+seen_plainly w l (Granted e (done.Move node kind)) = but_last l e
+seen_plainly w l (Granted e (done.Close moved)) = but_last l e
+seen_plainly w l (Granted e (done.Fault node dropped)) = but_last l e
+seen_plainly w l (Granted e (done.Link a b dropped)) = but_last l e
+seen_plainly w l (Granted e (done.Cut a b dropped)) = but_last l e
+seen_plainly w l (Granted e (done.Release node)) = but_last l e
+
+-- a refusal in the place of a ruling tells what hindered it
+hindered : (g : Ruling) (why : Refused) → MayRefuse g why → IsUnhindered (reply.Refuse why) → ⊥
+hindered (Looked l) refused.Memory may free = free.0 refl
+hindered Reported refused.Memory may free = free.0 refl
+hindered (Granted e d) refused.Memory may free = free.0 refl
+hindered (Granted e d) refused.Journal may free = free.1 refl
+hindered g why may free = absurd may
+
+-- the reply is that of the ruling, at the list
+record IsPlain (lab : LabValue) (x : Who) (c : Command) (r : Reply) (new : WindowValue) : Type 0 where
+  legal : is_legal_in lab (seen_at r new) ≡ true
+  says : r ≡ reply_to lab.ids lab.roster lab.events false (world_in lab (seen_at r new)) x c
+
+plain_from : (lab : LabValue) (ps : List ℕ) (l : List Event) (x : Who) (c : Command) (r : Reply) (new : WindowValue) → is_legal_in lab l ≡ true → Plainly lab l ps (ruling_at lab (world_in lab l) x c) r new → IsPlain lab x c r new
+plain_from lab ps l x c r new legal h =
+    let g = ruling_at lab (world_in lab l) x c in
+    let there : seen_at r new ≡ l =
+    (λ z. seen_at (h.0 z) (h.1 z)) ∙ seen_plainly_at g in
+    record {
+      legal = ap (is_legal_in lab) there ∙ legal;
+      says = h.0 ∙ ap (λ l. reply_to lab.ids lab.roster lab.events false (world_in lab l) x c) (sym there);
+    }
+  where
+    seen_plainly_at : (g : Ruling) → take (length (entered l (event_of g)) - length (places_in (reply_of (after_ruling (world_in lab l) g) g))) (entered l (event_of g)) ≡ l
+    seen_plainly_at g = seen_plainly (after_ruling (world_in lab l) g) l g
+
+plain_told : (lab : LabValue) (old new : WindowValue) (x : Who) (c : Command) (r : Reply) → IsUnhindered r → Told lab old x c r new → IsPlain lab x c r new
+plain_told lab old new x c r free t = elim t.says [
+  | inl plain ↦ plain_from lab old.places t.list x c r new t.legal plain
+  | inr why ↦ absurd (hindered (ruling_at lab (world_in lab t.list) x c) why.0 why.2 (subst IsUnhindered why.1 free))
+]
+
+-- ---- one line in both
+
+module _ (lab other : LabValue) (is : IsLab lab) (too : IsLab other) (t : AreTwins lab other) (s : ℕ) where
+  same_told : (x : Who) (c : Command) (r q : Reply) (one two : WindowValue) → x ≡ who.Student s → IsPlain lab x c r one → IsPlain other x c q two
+      → Alike lab.roster s (world_in lab (seen_at r one)) (world_in other (seen_at q two)) → r ≡ q
+  same_told x c r q one two e p k a =
+      let w = world_in lab (seen_at r one) in
+      let v = world_in other (seen_at q two) in
+      let in_w : IsWorldOf lab.ids w = record { world = world_is lab is (seen_at r one) p.legal; nodes = nodes_in lab (seen_at r one) is } in
+      let in_v : IsWorldOf lab.ids v = record { world = world_is other too (seen_at q two) k.legal; nodes = ap length t.ids ∙ nodes_in other (seen_at q two) too } in
+      p.says
+      ∙ ap (λ x. reply_to lab.ids lab.roster lab.events false w x c) e
+      ∙ same_reply_to lab.ids lab.roster lab.events false w v s c in_w in_v a
+      ∙ ap (λ x. reply_to lab.ids lab.roster lab.events false v x c) (sym e)
+      ∙ (λ z. reply_to (t.ids z) (t.roster z) (t.events z) false v x c)
+      ∙ sym k.says
+
+  she_is : (x : Who) → is_hers s (Some x) ≡ true → x ≡ who.Student s
+  she_is who.Teacher h = absurd (false≢true h)
+  she_is (who.Student j) h = ap who.Student (eqb-true j s h)
+
+  -- the same reply, and the same one is known
+  abbrev IsSame : Reply → Reply → Standing → Standing → Type 0
+  IsSame r q next last = (r ≡ q) × (next.known ≡ last.known)
+
+  module _ (st su : Standing) (r q : Reply) (next last : Standing) where
+    answered : (a : Reply) (x : Option Who) → (r ≡ a) × (next ≡ standing x st.window) → (q ≡ a) × (last ≡ standing x su.window) → IsSame r q next last
+    answered a x h k = (h.0 ∙ sym k.0, ap (λ n. n.known) h.1 ∙ sym (ap (λ n. n.known) k.1))
+
+    admitted_both : (found : Option Who) → Settles lab st (admitted found) r next → Settles other su (admitted found) q last → IsSame r q next last
+    admitted_both None h k = answered _ None h k
+    admitted_both (Some x) h k = answered _ (Some x) h k
+
+    settled_both : (known : Option Who) (asked : Request) → st.known ≡ known → su.known ≡ known → IsToldAlike lab other s known r q next.window last.window
+        → Settles lab st (greeting lab.roster known asked) r next → Settles other su (greeting lab.roster known asked) q last → IsSame r q next last
+    settled_both None (requests.Hello name key) e f a h k = admitted_both (principal lab.roster name key) h k
+    settled_both (Some x) (requests.Hello name key) e f a h k = answered _ (Some x) h k
+    settled_both None requests.Bye e f a h k = answered _ None h k
+    settled_both (Some x) requests.Bye e f a h k = answered _ None h k
+    settled_both None (requests.Do c) e f a h k = answered _ None h k
+    settled_both (Some x) (requests.Do c) e f a h k = (
+      same_told x c r q next.window last.window (she_is x a.hers) (plain_told lab st.window next.window x c r a.first h.1) (plain_told other su.window last.window x c q a.second k.1) a.worlds,
+      h.0 ∙ e ∙ sym f ∙ sym k.0,
+    )
+
+    asked_both : (known : Option Who) (asked : Result Request LineFault) → st.known ≡ known → su.known ≡ known → IsToldAlike lab other s known r q next.window last.window
+        → Asked lab st asked r next → Asked other su asked q last → IsSame r q next last
+    asked_both known (Err fault) e f a h k = (h.0 ∙ sym k.0, ap (λ n. n.known) h.1 ∙ e ∙ sym f ∙ sym (ap (λ n. n.known) k.1))
+    asked_both known (Ok asked) e f a h k = settled_both known asked e f a
+        (subst (λ x. Settles lab st (greeting lab.roster x asked) r next) e h)
+        (subst (λ x. Settles other su (greeting lab.roster x asked) q last) f
+        (subst (λ (x : RosterValue). Settles other su (greeting x su.known asked) q last) (sym t.roster) k))
+
+    turn_both : (line : List ℕ) → st.known ≡ su.known → IsToldAlike lab other s st.known r q next.window last.window → Turn lab st line r next → Turn other su line q last → IsSame r q next last
+    turn_both line e a h k = elim h [
+      | inr unread ↦ absurd (a.first.0 unread.0)
+      | inl one ↦ elim k [
+        | inr unread ↦ absurd (a.second.0 unread.0)
+        | inl two ↦ asked_both st.known (request_in line) refl (sym e) a one two
+      ]
+    ]
+
+  -- ---- all lines
+
+  pub session_both : (st su : Standing) (lines : List (List ℕ)) (rs qs : List Reply) (end fin : Standing) (one : Run lab st lines rs end) (two : Run other su lines qs fin) → st.known ≡ su.known
+      → AreToldAlike lab other s st su lines rs qs end fin one two → (rs ≡ qs) × (end.known ≡ fin.known)
+  session_both st su [] [] [] end fin one two e a = (refl, ap (λ n. n.known) one ∙ e ∙ sym (ap (λ n. n.known) two))
+  session_both st su [] [] (q ∷ qs) end fin one two e a = absurd two
+  session_both st su [] (r ∷ rs) qs end fin one two e a = absurd one
+  session_both st su (line ∷ lines) [] qs end fin one two e a = absurd one
+  session_both st su (line ∷ lines) (r ∷ rs) [] end fin one two e a = absurd two
+  session_both st su (line ∷ lines) (r ∷ rs) (q ∷ qs) end fin one two e a =
+      let here = turn_both st su r q one.0 two.0 line e a.0 one.1 two.1 in
+      let rest = session_both one.0 two.0 lines rs qs end fin one.2 two.2 here.1 a.1 in
+      ((λ z. here.0 z ∷ rest.0 z), rest.1)
+
+  pub session_bytes : (rs qs : List Reply) → rs ≡ qs → map (reply_line lab.ids lab.roster) rs ≡ map (reply_line other.ids other.roster) qs
+  session_bytes rs qs e = λ z. map (reply_line (t.ids z) (t.roster z)) (e z)

@@ -1,0 +1,36 @@
+-- Two sessions of one student, each through a window of a house, between which the student can't tell.
+use Rattle.std.specs.Prelude.{◌≢◌, ℕ, ◌-◌, true, ◌≡◌, List, [], ◌∷◌, length, take, Option}
+use Rattle.mml_lab.specs.declared.who.Who.{Who}
+use Rattle.mml_lab.specs.Labs.{LabValue}
+use Rattle.mml_board.specs.declared.event.Event.{Event}
+use Rattle.mml_policy.specs.Alike.{Alike}
+use Rattle.mml_codec.specs.declared.reply.Refused.TheVariants as refused
+use Rattle.mml_codec.specs.declared.reply.Reply.{Reply}
+use Rattle.mml_codec.specs.declared.reply.Reply.TheVariants.{Refuse}
+use Rattle.mml_window.specs.Lists.{world_in}
+use Rattle.mml_window.specs.Windows.{WindowValue}
+use Rattle.mml_session.specs.Turns.{Standing, places_in, Run}
+use Rattle.mml_hidden.specs.Twins.{is_hers}
+
+-- the list at which a reply was given: all that the window has seen then, but for the event that the reply tells
+abbrev pub seen_at : Reply → WindowValue → List Event
+seen_at r w = take (length w.seen - length (places_in r)) w.seen
+
+-- the reply tells no want of memory and no journal that failed
+abbrev pub IsUnhindered : Reply → Type 0
+IsUnhindered r = (r ≢ Refuse refused.Memory) × (r ≢ Refuse refused.Journal)
+
+-- a line of hers, or of nobody yet: where its replies were given the worlds are alike for student s, and nothing hindered them
+pub record IsToldAlike (lab other : LabValue) (s : ℕ) (known : Option Who) (r q : Reply) (one two : WindowValue) : Type 0 where
+  pub hers : is_hers s known ≡ true
+  pub worlds : Alike lab.roster s (world_in lab (seen_at r one)) (world_in other (seen_at q two))
+  pub first : IsUnhindered r
+  pub second : IsUnhindered q
+
+-- so it is at each of the lines
+abbrev pub AreToldAlike : (lab other : LabValue) → ℕ → (st su : Standing) (lines : List (List ℕ)) (rs qs : List Reply) (end fin : Standing) → Run lab st lines rs end → Run other su lines qs fin → Type 0
+AreToldAlike lab other s st su [] rs qs end fin t u = Unit {0}
+AreToldAlike lab other s st su (line ∷ lines) [] qs end fin t u = Unit {0}
+AreToldAlike lab other s st su (line ∷ lines) (r ∷ rs) [] end fin t u = Unit {0}
+AreToldAlike lab other s st su (line ∷ lines) (r ∷ rs) (q ∷ qs) end fin t u =
+    IsToldAlike lab other s st.known r q t.0.window u.0.window × AreToldAlike lab other s t.0 u.0 lines rs qs end fin t.2 u.2
