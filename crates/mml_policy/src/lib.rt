@@ -18,5 +18,5 @@ pub use look::{Look, look_of};
 pub use refusal::Refusal;
 pub use ruling::{Ruling, rule_on};
 pub use see::{See, see_of};
-pub use verdict::{Leave, Verdict, clauses, judge};
+pub use verdict::{Leave, Verdict, clauses, judge, may_look, may_report, may_see};
 pub use visibility::visible;
