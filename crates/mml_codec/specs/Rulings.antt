@@ -4,8 +4,11 @@ use Rattle.mml_board.specs.declared.done.Done.{Done}
 use Rattle.mml_board.specs.declared.done.Done.TheVariants as done
 use Rattle.mml_board.specs.World.{World}
 use Rattle.mml_stable.specs.Reports.{report_of}
+use Rattle.mml_policy.specs.declared.refusal.Refusal.{Refusal}
+use Rattle.mml_policy.specs.declared.refusal.Refusal.TheVariants as refusal
 use Rattle.mml_policy.specs.declared.ruling.Ruling.{Ruling}
 use Rattle.mml_policy.specs.declared.ruling.Ruling.TheVariants as ruling
+use Rattle.mml_codec.specs.declared.reply.Refused.{Refused}
 use Rattle.mml_codec.specs.declared.reply.Refused.TheVariants as refused
 use Rattle.mml_codec.specs.declared.reply.Reply.{Reply}
 use Rattle.mml_codec.specs.declared.reply.Reply.TheVariants as replies
@@ -18,6 +21,12 @@ reply_of_done at place (done.Fault node dropped) = replies.Fault at place node d
 reply_of_done at place (done.Link a b dropped) = replies.Link at place a b dropped
 reply_of_done at place (done.Cut a b dropped) = replies.Cut at place a b dropped
 reply_of_done at place (done.Release node) = replies.Release at place node
+
+-- how it is told that an act which all clauses allow doesn't take place, or that what was ruled can't be told
+abbrev pub refusal_for : Refusal → Refused
+refusal_for refusal.Full = refused.Full
+refusal_for refusal.Journal = refused.Journal
+refusal_for refusal.Memory = refused.Memory
 
 -- what came of a command, with the world after it
 abbrev pub reply_of : World → Ruling → Reply

@@ -1,6 +1,6 @@
 use mml_ids::{NodeSet, Rank};
 use mml_lab::Who;
-use mml_policy::{Denial, Look, See};
+use mml_policy::{Denial, Look, Refusal, See};
 use mml_rules::Kind;
 use mml_stable::Report;
 
@@ -30,6 +30,21 @@ pub enum Refused {
     Journal,
     /// A growth was refused.
     Memory,
+}
+
+impl From<Refusal> for Refused {
+    ghost use Rattle.std.specs.Prelude.{◌≡◌};
+    ghost use Rattle.mml_codec.specs.Rulings.{refusal_for};
+
+    ghost from_gives = { λ refusal refused. refused ≡ refusal_for refusal };
+
+    fn from(refusal: Refusal) -> Refused {
+        match refusal {
+            Refusal::Full => Refused::Full,
+            Refusal::Journal => Refused::Journal,
+            Refusal::Memory => Refused::Memory,
+        }
+    }
 }
 
 /// What a line is answered.

@@ -5,6 +5,8 @@ use Rattle.mml_lab.specs.Labs.{LabValue}
 use Rattle.mml_board.specs.declared.event.Event.{Event}
 use Rattle.mml_board.specs.World.{World, opening_of}
 use Rattle.mml_board.specs.Events.{after}
+use Rattle.mml_policy.specs.declared.refusal.Refusal.{Refusal}
+use Rattle.mml_policy.specs.declared.refusal.Refusal.TheVariants as refusal
 use Rattle.mml_policy.specs.declared.ruling.Ruling.{Ruling}
 use Rattle.mml_policy.specs.Rulings.{ruling, event_of}
 use Rattle.mml_codec.specs.declared.request.LineFault.{LineFault}
@@ -12,15 +14,12 @@ use Rattle.mml_codec.specs.declared.request.Request.{Request}
 use Rattle.mml_codec.specs.Lines.{request_in}
 use Rattle.mml_codec.specs.declared.reply.Reply.{Reply}
 use Rattle.mml_codec.specs.declared.reply.Reply.TheVariants as reply
-use Rattle.mml_codec.specs.declared.reply.Refused.{Refused}
 use Rattle.mml_codec.specs.declared.reply.Refused.TheVariants as refused
 use Rattle.mml_codec.specs.declared.greeting.Greeting.{Greeting}
 use Rattle.mml_codec.specs.declared.greeting.Greeting.TheVariants.{Answered, LeftToJudge}
 use Rattle.mml_codec.specs.Greetings.{refusal_of, greeting}
 use Rattle.mml_codec.specs.Replies.{is_short, place_in}
 use Rattle.mml_codec.specs.Rulings.{reply_of}
-use Rattle.mml_hall.specs.declared.prevented.Prevented.{Prevented}
-use Rattle.mml_hall.specs.declared.prevented.Prevented.TheVariants as prevented
 
 pub record State : Type 0 where
   pub world : World
@@ -118,16 +117,12 @@ turn while_read lab st k line = without_memory st
 turn later lab st k line = unless_refused st (plain_turn lab st k line)
 turn sink_failed lab st k line = unless_failed st (plain_turn lab st k line)
 
--- the refusal that tells what was prevented
-abbrev pub refusal_for : Prevented → Refused
-refusal_for prevented.Memory = refused.Memory
-refusal_for prevented.Journal = refused.Journal
-
 -- what keeps a plain outcome from coming, and the state that it leaves: it takes memory that was refused, or it is a grant
 -- whose line wasn't taken
-abbrev pub Prevents : Prevented → State → Outcome → State → Type 0
-Prevents prevented.Memory st plain after = (takes_memory plain.reply ≡ true) × (after ≡ st)
-Prevents prevented.Journal st plain after = (is_grant plain.reply ≡ true) × (after ≡ (halting st).state)
+abbrev pub Prevents : Refusal → State → Outcome → State → Type 0
+Prevents refusal.Full st plain after = ⊥
+Prevents refusal.Journal st plain after = (is_grant plain.reply ≡ true) × (after ≡ (halting st).state)
+Prevents refusal.Memory st plain after = (takes_memory plain.reply ≡ true) × (after ≡ st)
 
 -- the plain outcome, or that it was prevented
 abbrev pub Comes : State → Outcome → Outcome → Type 0

@@ -4,7 +4,6 @@
 mod auditing;
 mod hall;
 pub mod laws;
-mod prevented;
 mod script;
 mod script_line;
 

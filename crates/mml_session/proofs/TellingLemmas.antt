@@ -1,25 +1,29 @@
 -- What the window's answer to a command says of the reply.
-use Rattle.std.proofs.Common.{◌≡◌, ℕ, [], ◌∷◌, ◌++◌, refl, sym, ap, ◌∙◌, subst, inl, Option, Result, Ok, Err, IfOk}
+use Rattle.std.proofs.Common.{◌≡◌, ℕ, [], ◌∷◌, ◌++◌, refl, sym, ap, ◌∙◌, subst, inl, inr, append-nil, Option, Result, Ok, Err, IfOk}
 use Rattle.mml_lab.specs.declared.who.Who.{Who}
 use Rattle.mml_lab.specs.Labs.{LabValue}
 use Rattle.mml_board.specs.declared.done.Done.{Done}
 use Rattle.mml_board.specs.World.{World}
 use Rattle.mml_board.specs.Events.{after}
 use Rattle.mml_policy.specs.declared.command.Command.{Command}
+use Rattle.mml_policy.specs.declared.refusal.Refusal.{Refusal}
+use Rattle.mml_policy.specs.declared.refusal.Refusal.TheVariants.{Full, Journal, Memory}
 use Rattle.mml_policy.specs.declared.ruling.Ruling.{Ruling}
 use Rattle.mml_codec.specs.declared.greeting.Greeting.{Greeting}
 use Rattle.mml_codec.specs.declared.greeting.Greeting.TheVariants.{LeftToJudge}
+use Rattle.mml_codec.specs.declared.reply.Refused.TheVariants as refused
 use Rattle.mml_codec.specs.declared.reply.Reply.{Reply}
+use Rattle.mml_codec.specs.declared.reply.Reply.TheVariants as replies
 use Rattle.mml_codec.specs.Replies.{as_list}
-use Rattle.mml_codec.specs.Rulings.{reply_of_done}
+use Rattle.mml_codec.specs.Rulings.{reply_of_done, refusal_for}
 use Rattle.mml_codec.proofs.RulingsLemmas.{place_of_done}
-use Rattle.mml_window.specs.declared.answer.Answer.TheVariants.{Granted}
+use Rattle.mml_window.specs.declared.answer.Answer.TheVariants.{Granted, Refused}
 use Rattle.mml_window.specs.declared.sight.Closed.{Closed}
 use Rattle.mml_window.specs.Answers.{Answers}
 use Rattle.mml_window.specs.Lists.{world_in}
 use Rattle.mml_window.specs.Windows.{WindowValue, window}
 use Rattle.mml_window.proofs.ListLemmas.{world-one_more}
-use Rattle.mml_session.specs.Turns.{Told, Plainly, Settles, standing}
+use Rattle.mml_session.specs.Turns.{Told, Plainly, Refuses, Settles, standing}
 
 pub granted_told : (lab : LabValue) (old new : WindowValue) (who : Who) (c : Command) (place number : ℕ) (done : Done)
     → Answers lab old who c (Granted place number done) new → Told lab old who c (reply_of_done number place done) new
@@ -38,6 +42,36 @@ granted_told lab old new who c place number done answers =
             ∙ ap (λ p. reply_of_done next.number p done) (takes.placed ∙ ap (λ (w : World). w.place) world),
         answers.3.2 ∙ ap (λ ps. window (l ++ e ∷ []) (old.places ++ ps)) (ap as_list (sym (place_of_done number place done))),
       ));
+    }
+
+pub refused_told : (lab : LabValue) (old new : WindowValue) (who : Who) (c : Command) (why : Refusal)
+    → Answers lab old who c (Refused why) new → Told lab old who c (replies.Refuse (refusal_for why)) new
+refused_told lab old new who c Full answers =
+    let l = answers.0 in
+    let r = replies.Refuse refused.Full in
+    record {
+      list = l;
+      later = answers.1;
+      legal = answers.2;
+      says = inl (subst (λ (ruled : Ruling). Plainly lab l old.places ruled r new) (sym answers.3.0) (refl, answers.3.2 ∙ ap (λ ps. window l ps) (sym (append-nil old.places))));
+    }
+refused_told lab old new who c Journal answers =
+    let l = answers.0 in
+    let r = replies.Refuse refused.Journal in
+    record {
+      list = l;
+      later = answers.1;
+      legal = answers.2;
+      says = inr (subst (λ (ruled : Ruling). Refuses l old.places ruled r new) (sym answers.3.0.2) (refused.Journal, refl, tt, answers.3.1));
+    }
+refused_told lab old new who c Memory answers =
+    let l = answers.0 in
+    let r = replies.Refuse refused.Memory in
+    record {
+      list = l;
+      later = answers.1;
+      legal = answers.2;
+      says = inr (subst (λ (ruled : Ruling). Refuses l old.places ruled r new) (sym answers.3.0.2) (refused.Memory, refl, tt, answers.3.1));
     }
 
 -- what the window tells settles a command that is left to judge

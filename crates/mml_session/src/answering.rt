@@ -13,7 +13,7 @@ use mml_codec::{Greeting, Refused, Reply, Request, greet, read_request, reply_of
 use mml_journal::Sink;
 use mml_lab::Who;
 use mml_policy::Command;
-use mml_window::{Answer, Closed, Desk, House, Refusal, SightFault, Window};
+use mml_window::{Answer, Closed, Desk, House, SightFault, Window};
 use std::alloc::Global;
 use std::sync::Wait;
 
@@ -161,8 +161,6 @@ fn ask<Rt: Wait, S: Sink + Drop, H: House>(
             done,
         } => reply_of_done(number, place, done),
         Answer::Denied(denial) => Reply::Deny(denial),
-        Answer::Refused(Refusal::Full) => Reply::Refuse(Refused::Full),
-        Answer::Refused(Refusal::Journal) => Reply::Refuse(Refused::Journal),
-        Answer::Refused(Refusal::Memory) => Reply::Refuse(Refused::Memory),
+        Answer::Refused(refusal) => Reply::Refuse(Refused::from(refusal)),
     }
 }

@@ -1,5 +1,5 @@
 -- What comes of each command.
-use Rattle.std.proofs.Common.{◌≡◌, ℕ, ◌==◌, ◌||◌, true, not, is_some, is_none, List, true≢false, sym}
+use Rattle.std.proofs.Common.{◌≡◌, ℕ, ◌==◌, true, not, is_some, is_none, List, true≢false, sym}
 use Rattle.std.specs.Result.{IfOk}
 use Rattle.mml_ids.proofs.GivesLemmas.{bind-if, need-if}
 use Rattle.mml_rules.specs.Rules.{guard}
@@ -9,20 +9,14 @@ use Rattle.mml_board.specs.World.{World, configuration, chosen_at}
 use Rattle.mml_board.specs.Events.{is_any_chosen, may_point}
 use Rattle.mml_policy.specs.declared.command.Command.{Command}
 use Rattle.mml_policy.specs.declared.command.Command.TheVariants as command
-use Rattle.mml_policy.specs.declared.denial.Denial.TheVariants.{Hidden, NotOwner, Guard, NoNode, BadRegister}
+use Rattle.mml_policy.specs.declared.denial.Denial.TheVariants.{NotOwner, Guard, NoNode, BadRegister}
 use Rattle.mml_policy.specs.Acts.{is_act}
-use Rattle.mml_policy.specs.Visible.{is_teacher, is_visible}
+use Rattle.mml_policy.specs.Visible.{is_teacher}
 use Rattle.mml_policy.specs.Clauses.{node, student, rule_of, pointer}
 use Rattle.mml_policy.specs.Verdicts.{clauses}
-use Rattle.mml_window.specs.inside.Leaves.{IsSee, IsLook, IsGrant}
+use Rattle.mml_window.specs.inside.Leaves.{IsGrant}
 
 module _ (ids : List ℕ) (r : RosterValue) (w : World) (x : Who) where
-  pub sees : (id : ℕ) → IfOk (clauses ids r w x (command.See id)) IsSee
-  sees id = bind-if IsSee (node ids id Hidden) _ (λ i _. need-if IsSee (is_visible r (configuration w) x i) _ _ (λ _. tt))
-
-  pub looks : (id : ℕ) → IfOk (clauses ids r w x (command.Look id)) IsLook
-  looks id = bind-if IsLook (node ids id NotOwner) _ (λ i _. need-if IsLook (is_teacher x || owns r x i) _ _ (λ _. tt))
-
   -- an act is denied or granted
   pub grants : (c : Command) → is_act c ≡ true → IfOk (clauses ids r w x c) IsGrant
   grants (command.See id) act = absurd (true≢false (sym act))

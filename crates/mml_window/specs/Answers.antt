@@ -10,7 +10,7 @@ use Rattle.mml_policy.specs.declared.ruling.Ruling.TheVariants as ruling
 use Rattle.mml_policy.specs.About.{IsDone}
 use Rattle.mml_window.specs.declared.answer.Answer.{Answer}
 use Rattle.mml_window.specs.declared.answer.Answer.TheVariants.{Granted, Denied, Refused}
-use Rattle.mml_window.specs.declared.answer.Refusal.TheVariants.{Full, Journal, Memory}
+use Rattle.mml_policy.specs.declared.refusal.Refusal.TheVariants.{Full, Journal, Memory}
 use Rattle.mml_window.specs.Lists.{is_legal_in, world_in, ruling_at}
 use Rattle.mml_window.specs.Windows.{WindowValue, window}
 use Rattle.mml_window.specs.Books.{BookValue, Grows, Halts}

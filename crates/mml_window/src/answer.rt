@@ -1,16 +1,5 @@
 use mml_board::Done;
-use mml_policy::Denial;
-
-/// Why an act that all clauses allow doesn't take place.
-#[derive(Clone, Copy, Debug, PartialEq, Eq)]
-pub enum Refusal {
-    /// As many events as the lab allows were granted.
-    Full,
-    /// The journal is halted, or its sink failed just now.
-    Journal,
-    /// Memory was refused.
-    Memory,
-}
+use mml_policy::{Denial, Refusal};
 
 /// What comes of an act.
 #[derive(Clone, Copy, Debug)]

@@ -16,11 +16,12 @@ mod sight;
 mod tally;
 mod window;
 
-pub use answer::{Answer, Refusal};
+pub use answer::Answer;
 pub use blank::{Blank, HouseFault, open_house};
 pub use book::Book;
 pub use desk::Desk;
 pub use house::{Brand, House};
 pub use log::{Astray, Log};
+pub use mml_policy::Refusal;
 pub use sight::{Closed, SightFault};
 pub use window::Window;

@@ -2,18 +2,15 @@
 ghost use Rattle.std.specs.Prelude.{◌≡◌, ◌≢◌, length, IfOk, IfErr};
 ghost use Rattle.mml_policy.specs.declared.command.Command.TheVariants as command;
 ghost use Rattle.mml_policy.specs.declared.ruling.Ruling.TheVariants as rulings;
-ghost use Rattle.mml_policy.specs.declared.verdict.Leave.TheVariants as leaves;
 ghost use Rattle.mml_stable.specs.Reports.{report_of};
 ghost use Rattle.mml_window.specs.declared.sight.SightFault.TheVariants as faults;
 ghost use Rattle.mml_window.specs.Lists.{ruling_at};
 ghost use Rattle.mml_window.specs.Views.{Shows};
-ghost use Rattle.mml_window.specs.inside.Leaves.{IsSee, IsLook, IsReport};
 
 use crate::sight::SightFault;
 use mml_board::Board;
-use mml_ids::Rank;
 use mml_lab::{Lab, Who};
-use mml_policy::{Command, Leave, Look, See, clauses, look_of, see_of};
+use mml_policy::{Look, See, look_of, may_look, may_report, may_see, see_of};
 use mml_stable::{Report, report};
 use std::alloc::Global;
 
@@ -23,8 +20,8 @@ pub(crate) fn see_at(board: &Board, lab: &Lab, who: Who, node: u64) -> Result<Se
     ensures shows { Shows rulings.Seen (ruling_at lab.now board.now who (command.See node)) result }
     ensures memory { IfErr result (λ fault. fault ≢ faults.Memory) }
 {
-    match clauses(board, lab.ids(), lab.roster(), who, &Command::See { node }) {
-        Ok(leave) => Ok(see_of(board, node_to_see(leave))),
+    match may_see(board, lab.ids(), lab.roster(), who, node) {
+        Ok(rank) => Ok(see_of(board, rank)),
         Err(denial) => Err(SightFault::Denied(denial)),
     }
 }
@@ -40,8 +37,8 @@ pub(crate) fn look_at(
     requires { length lab.now.ids ≡ length board.now.network.registers }
     ensures { Shows rulings.Looked (ruling_at lab.now board.now who (command.Look node)) result }
 {
-    match clauses(board, lab.ids(), lab.roster(), who, &Command::Look { node }) {
-        Ok(leave) => match look_of(alloc, board, node_to_look_at(leave)) {
+    match may_look(board, lab.ids(), lab.roster(), who, node) {
+        Ok(rank) => match look_of(alloc, board, rank) {
             Ok(look) => Ok(look),
             Err(_) => Err(SightFault::Memory),
         },
@@ -61,44 +58,11 @@ pub(crate) fn report_at(
         result }
     ensures report { IfOk result (λ r. r ≡ report_of board.now) }
 {
-    match clauses(board, lab.ids(), lab.roster(), who, &Command::Report) {
-        Ok(leave) => {
-            prove_report(leave);
-            match report(alloc, board) {
-                Ok(report) => Ok(report),
-                Err(_) => Err(SightFault::Memory),
-            }
-        }
+    match may_report(board, lab.ids(), lab.roster(), who) {
+        Ok(()) => match report(alloc, board) {
+            Ok(report) => Ok(report),
+            Err(_) => Err(SightFault::Memory),
+        },
         Err(denial) => Err(SightFault::Denied(denial)),
-    }
-}
-
-fn prove_report(leave: Leave)
-    requires { IsReport leave }
-    ensures { leave ≡ leaves.Report }
-{
-    match leave {
-        Leave::Report => {}
-        Leave::See(_) | Leave::Look(_) | Leave::Grant(_) => unreachable!(),
-    }
-}
-
-fn node_to_see(leave: Leave) -> Rank
-    requires { IsSee leave }
-    ensures { leave ≡ leaves.See result }
-{
-    match leave {
-        Leave::See(rank) => rank,
-        Leave::Look(_) | Leave::Report | Leave::Grant(_) => unreachable!(),
-    }
-}
-
-fn node_to_look_at(leave: Leave) -> Rank
-    requires { IsLook leave }
-    ensures { leave ≡ leaves.Look result }
-{
-    match leave {
-        Leave::Look(rank) => rank,
-        Leave::See(_) | Leave::Report | Leave::Grant(_) => unreachable!(),
     }
 }

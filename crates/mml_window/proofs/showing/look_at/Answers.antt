@@ -10,6 +10,6 @@ pub returns-in-Err-look_of : goal.returns-in-Err-look_of
 returns-in-Err-look_of c =
     let lab = c.args.lab.now in
     let w = c.args.board.now in
-    let i = c.node_to_look_at.result in
+    let i = c.in-Ok.rank in
     let leave : clauses lab.ids lab.roster w c.args.who (command.Look c.args.node) ≡ Ok (leaves.Look i) = search rules in
     (look_of w i, ap (ruled lab.events false w) leave)

@@ -1,0 +1,23 @@
+use mml_ids::Memory;
+
+/// Why an act that all clauses allow doesn't take place, or what is ruled isn't told.
+#[derive(Clone, Copy, Debug, PartialEq, Eq)]
+pub enum Refusal {
+    /// As many events as the lab allows were granted.
+    Full,
+    /// The journal is halted, or its sink failed just now.
+    Journal,
+    /// Memory was refused.
+    Memory,
+}
+
+impl From<Memory> for Refusal {
+    ghost use Rattle.std.specs.Prelude.{◌≡◌};
+    ghost use Rattle.mml_policy.specs.declared.refusal.Refusal.TheVariants as refusal;
+
+    ghost from_gives = { λ _ e. e ≡ refusal.Memory };
+
+    fn from(_memory: Memory) -> Refusal {
+        Refusal::Memory
+    }
+}
