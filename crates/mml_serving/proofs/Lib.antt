@@ -1,3 +1,3 @@
 pub mod NumbersLemmas
-mod ArrivingLemmas
+pub mod ArrivingLemmas
 mod ServingLemmas

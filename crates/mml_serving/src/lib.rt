@@ -9,4 +9,4 @@ mod serving;
 
 pub use arriving::{Arrivals, HangUp};
 pub use numbers::{read_connections, read_port};
-pub use serving::{ServeFault, serve_arrivals, serve_on, write_listening};
+pub use serving::{ServeFault, serve_arrivals, serve_on, write_last, write_listening};

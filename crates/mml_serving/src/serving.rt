@@ -191,8 +191,8 @@ pub fn write_listening<W: Write>(alloc: Global, port: u16, writer: &mut W) -> Re
     write_pieces(alloc, &pieces, writer)
 }
 
-// Writes the last line, unless the journal was halted.
-fn write_last<S, W: Write>(alloc: Global, log: &Log<S>, writer: &mut W) -> Result<(), ServeFault>
+/// Writes the last line, unless the journal was halted.
+pub fn write_last<S, W: Write>(alloc: Global, log: &Log<S>, writer: &mut W) -> Result<(), ServeFault>
     ensures unhalted { OnOk result (log.now.halted ≡ false) }
     ensures told { OnOk result (Appends (W.contents writer.old) (W.contents writer.new)
         (done_line (length log.now.events) log.now.board.number)) }

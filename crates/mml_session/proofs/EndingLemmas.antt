@@ -11,7 +11,7 @@ use Rattle.mml_session.specs.declared.session.Next.{Next}
 use Rattle.mml_session.specs.declared.session.Next.TheVariants as next
 use Rattle.mml_session.specs.Turns.{Standing}
 use Rattle.mml_session.specs.Talks.{Talk, newcomer, bytes_read, bytes_written, line_read, line_written}
-use Rattle.mml_session.specs.Ends.{AllAnswered, Ended, IsView}
+use Rattle.mml_session.specs.Ends.{AllAnswered, EndedKnown, IsView}
 use Rattle.mml_session.specs.Serving.{ServesNext}
 use Rattle.mml_session.proofs.LongerLemmas.{longer, read_longer, written_longer, empty, end_longer}
 
@@ -67,57 +67,70 @@ module _ (lab : LabValue) (old : WindowValue) where
     appended = still wrote c d (bytes_written so.talk) so.appended none;
   }
 
+  -- who was known there
+  knew : (st : Standing) {input left wrote wrote' : Option (List ℕ)} (so : AnsweredSoFar st input left wrote wrote') → so.talk.end.known ≡ st.known
+  knew st so = ap (λ (t : Standing). t.known) so.stands
+
   pub ended_so : (st after : Standing) (end : SessionEnd) (input a left wrote c d : Option (List ℕ)) (held : List ℕ)
-      → AnsweredSoFar st input a wrote c → ServesNext (next.Ended end) lab st after a held left c d → Ended end lab old after.window input left wrote d
+      → AnsweredSoFar st input a wrote c → ServesNext (next.Ended end) lab st after a held left c d → EndedKnown end st.known lab old after.window input left wrote d
   ended_so st after ends.End input a left wrote c d held so serves =
-      (held, all_so st after input a (prepend_known held left) wrote c d so serves.0 serves.1 serves.4, serves.2, serves.3)
+      ((held, all_so st after input a (prepend_known held left) wrote c d so serves.0 serves.1 serves.4, serves.2, serves.3), knew st so)
   ended_so st after ends.TooLong input a left wrote c d held so serves =
-      (held, all_so st after input a (prepend_known held left) wrote c d so serves.0 serves.1 serves.3, serves.2)
+      ((held, all_so st after input a (prepend_known held left) wrote c d so serves.0 serves.1 serves.3, serves.2), knew st so)
   ended_so st after ends.ReadFault input a left wrote c d held so serves =
-      (held, all_so st after input a (prepend_known held left) wrote c d so serves.0 serves.1 serves.3, serves.2)
+      ((held, all_so st after input a (prepend_known held left) wrote c d so serves.0 serves.1 serves.3, serves.2), knew st so)
   ended_so st after ends.Memory input a left wrote c d held so serves = absurd serves
   ended_so st after ends.Closed input a left wrote c d held so serves = (
-    held,
-    record {
-      talk = so.talk;
-      line = serves.1;
-      short = serves.2;
-      view = subst (λ (t : Standing). IsView t serves.1) (sym so.stands) serves.3;
-      stands = ap (λ (t : Standing). t.window) (so.stands ∙ sym serves.0);
-      consumed = Consumes-trans input a (prepend_known held left) (bytes_read so.talk) (ended serves.1) so.consumed serves.4;
-      appended = still wrote c d (bytes_written so.talk) so.appended serves.6;
-    },
-    serves.5,
+    (
+      held,
+      record {
+        talk = so.talk;
+        line = serves.1;
+        short = serves.2;
+        view = subst (λ (t : Standing). IsView t serves.1) (sym so.stands) serves.3;
+        stands = ap (λ (t : Standing). t.window) (so.stands ∙ sym serves.0);
+        consumed = Consumes-trans input a (prepend_known held left) (bytes_read so.talk) (ended serves.1) so.consumed serves.4;
+        appended = still wrote c d (bytes_written so.talk) so.appended serves.6;
+      },
+      serves.5,
+    ),
+    knew st so,
   )
   ended_so st after ends.Bye input a left wrote c d held so serves =
       let one = from_end st so.talk.end after (next.Ended ends.Bye) a left c d held so.stands serves in (
-        held,
-        record {
-          talk = so.talk;
-          after = after;
-          last = one.0;
-          stands = refl;
-          consumed = Consumes-trans input a (prepend_known held left) (bytes_read so.talk) (line_read one.0) so.consumed one.2;
-          appended = Appends-trans wrote c d (bytes_written so.talk) (line_written one.0) so.appended one.4;
-        },
-        one.1,
-        one.3,
+        (
+          held,
+          record {
+            talk = so.talk;
+            after = after;
+            last = one.0;
+            stands = refl;
+            consumed = Consumes-trans input a (prepend_known held left) (bytes_read so.talk) (line_read one.0) so.consumed one.2;
+            appended = Appends-trans wrote c d (bytes_written so.talk) (line_written one.0) so.appended one.4;
+          },
+          one.1,
+          one.3,
+        ),
+        knew st so,
       )
   ended_so st after ends.WriteFault input a left wrote c d held so serves =
       let one = from_end st so.talk.end after (next.Ended ends.WriteFault) a left c d held so.stands serves in (
-        held,
-        one.1,
-        record {
-          talk = so.talk;
-          after = after;
-          last = one.0;
-          stands = refl;
-          consumed = Consumes-trans input a (prepend_known held left) (bytes_read so.talk) (line_read one.0) so.consumed one.3;
-          appended = Appends-trans wrote c d (bytes_written so.talk) (take one.1 (line_written one.0)) so.appended one.5;
-        },
-        one.2,
-        one.4,
+        (
+          held,
+          one.1,
+          record {
+            talk = so.talk;
+            after = after;
+            last = one.0;
+            stands = refl;
+            consumed = Consumes-trans input a (prepend_known held left) (bytes_read so.talk) (line_read one.0) so.consumed one.3;
+            appended = Appends-trans wrote c d (bytes_written so.talk) (take one.1 (line_written one.0)) so.appended one.5;
+          },
+          one.2,
+          one.4,
+        ),
+        knew st so,
       )
 
-pub nothing_done : (lab : LabValue) (old : WindowValue) (input wrote : Option (List ℕ)) → Ended ends.Memory lab old old input input wrote wrote
-nothing_done lab old input wrote = (refl, Consumes-nil input, Appends-nil wrote)
+pub nothing_done : (lab : LabValue) (old : WindowValue) (input wrote : Option (List ℕ)) → EndedKnown ends.Memory None lab old old input input wrote wrote
+nothing_done lab old input wrote = ((refl, Consumes-nil input, Appends-nil wrote), refl)

@@ -1,5 +1,5 @@
 -- What the end of a session tells of its input, of what was written and of its window.
-use Rattle.std.specs.Prelude.{◌≡◌, ℕ, ◌<◌, false, List, [], ◌++◌, length, take, Option, Some, Ok}
+use Rattle.std.specs.Prelude.{◌≡◌, ℕ, ◌<◌, false, List, [], ◌++◌, length, take, Option, None, Some, Ok}
 use Rattle.std.specs.Io.KnownBytes.{Appends, Consumes, IsAtEnd, prepend_known}
 use Rattle.mml_lab.specs.declared.who.Who.{Who}
 use Rattle.mml_lab.specs.Labs.{LabValue}
@@ -70,3 +70,17 @@ Ended end.TooLong lab old new input left wrote wrote' =
 Ended end.Closed lab old new input left wrote wrote' =
     (held : List ℕ) × LastUnanswered lab old new input (prepend_known held left) wrote wrote' × (length held < READ_SIZE)
 Ended end.Memory lab old new input left wrote wrote' = (new ≡ old) × Consumes input left [] × Appends wrote wrote' []
+
+-- who was known when that was answered: before its last line, where it ended by one
+abbrev pub Knew : (end : SessionEnd) (who : Option Who) (lab : LabValue) (old new : WindowValue) (input left wrote wrote' : Option (List ℕ)) → Ended end lab old new input left wrote wrote' → Type 0
+Knew end.Bye who lab old new input left wrote wrote' e = e.1.talk.end.known ≡ who
+Knew end.End who lab old new input left wrote wrote' e = e.1.talk.end.known ≡ who
+Knew end.ReadFault who lab old new input left wrote wrote' e = e.1.talk.end.known ≡ who
+Knew end.WriteFault who lab old new input left wrote wrote' e = e.2.talk.end.known ≡ who
+Knew end.TooLong who lab old new input left wrote wrote' e = e.1.talk.end.known ≡ who
+Knew end.Closed who lab old new input left wrote wrote' e = e.1.talk.end.known ≡ who
+Knew end.Memory who lab old new input left wrote wrote' e = who ≡ None
+
+-- the same, and who was known
+abbrev pub EndedKnown : SessionEnd → Option Who → LabValue → WindowValue → WindowValue → Option (List ℕ) → Option (List ℕ) → Option (List ℕ) → Option (List ℕ) → Type 0
+EndedKnown end who lab old new input left wrote wrote' = (e : Ended end lab old new input left wrote wrote') × Knew end who lab old new input left wrote wrote' e

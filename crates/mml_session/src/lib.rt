@@ -11,4 +11,4 @@ mod session;
 pub use each::{Connection, Seat, Served, serve_each, serve_seat};
 pub use gate::{Gate, NoGate, Point};
 pub use house::{EndedSession, ServedFault, ServedHouse, serve_house};
-pub use session::{SessionEnd, serve_one};
+pub use session::{Ending, SessionEnd, serve_known, serve_one};

@@ -3,7 +3,7 @@ ghost use Rattle.std.specs.Io.KnownBytes.{prepend_known};
 ghost use Rattle.mml_lines.specs.LinesOf.{IsWithinLimit};
 ghost use Rattle.mml_lab.specs.Rosters.{IsPrincipal};
 ghost use Rattle.mml_session.specs.Turns.{standing, is_bye};
-ghost use Rattle.mml_session.specs.Ends.{Ended};
+ghost use Rattle.mml_session.specs.Ends.{Ended, EndedKnown};
 ghost use Rattle.mml_session.specs.Serving.{SendsReply, ServesLine, ServesNext, bytes_ahead, next_after};
 
 use crate::answering::answer;
@@ -36,6 +36,13 @@ pub enum SessionEnd {
     Memory,
 }
 
+/// How a session ended, and who was known then: before the bye, where it ended by one.
+#[derive(Clone, Copy, Debug, PartialEq, Eq)]
+pub struct Ending {
+    pub end: SessionEnd,
+    pub who: Option<Who>,
+}
+
 /// Answers the lines of a reader one by one, each reply written before the next line is judged. A
 /// granted event stands though its reply couldn't be written.
 pub fn serve_one<Rt: Wait, S: Sink + Drop, H: House, R: Read, W: Write, G: Gate>(
@@ -54,21 +61,52 @@ pub fn serve_one<Rt: Wait, S: Sink + Drop, H: House, R: Read, W: Write, G: Gate>
     ensures untouched { result ≡ SessionEnd.Memory →
         (reader.new ≡ reader.old) × (writer.new ≡ writer.old) }
 {
+    serve_known(rt, alloc, desk, window, reader, writer, gate, connection).end
+}
+
+/// The same, and tells who was known at the end.
+pub fn serve_known<Rt: Wait, S: Sink + Drop, H: House, R: Read, W: Write, G: Gate>(
+    rt: &Rt,
+    alloc: Global,
+    desk: &Desk<S, H>,
+    window: &mut Window<H>,
+    reader: &mut R,
+    writer: &mut W,
+    gate: &G,
+    connection: u8,
+) -> Ending
+    ensures ended { EndedKnown result.end result.who H.lab window.old window.new
+        (R.remaining reader.old) (R.remaining reader.new)
+        (W.contents writer.old) (W.contents writer.new) }
+    ensures untouched { result.end ≡ SessionEnd.Memory →
+        (reader.new ≡ reader.old) × (writer.new ≡ writer.old) }
+{
     let Ok(mut lines) = Lines::new(alloc, MAX_REQUEST) else {
-        return SessionEnd::Memory;
+        return unserved();
     };
     let Ok(mut out) = Vec::with_capacity(alloc, REPLY_ROOM) else {
-        return SessionEnd::Memory;
+        return unserved();
     };
     let mut known = None;
     loop {
+        let who = known;
         match serve_next(
             rt, alloc, desk, window, &mut known, &mut lines, &mut out, reader, writer, gate,
             connection,
         ) {
             Next::Served => (),
-            Next::Ended(end) => return end,
+            Next::Ended(end) => return Ending { end, who },
         }
+    }
+}
+
+// How a session ends before anything is read.
+fn unserved() -> Ending
+    ensures { (result.end ≡ SessionEnd.Memory) × (result.who ≡ None) }
+{
+    Ending {
+        end: SessionEnd::Memory,
+        who: None,
     }
 }
 

@@ -8,7 +8,7 @@ use Rattle.mml_codec.specs.declared.reply.TheConstants.{REPLY_ROOM}
 use Rattle.mml_session.specs.Turns.{standing}
 use Rattle.mml_session.specs.Serving.{bytes_ahead}
 use Rattle.mml_session.proofs.EndingLemmas.{AnsweredSoFar}
-use Rattle.mml_session.proofs.session.serve_one.Given as goal
+use Rattle.mml_session.proofs.session.serve_known.Given as goal
 
 abbrev pub invariant-loop-end : goal.invariant-loop-end
 invariant-loop-end g l = record {

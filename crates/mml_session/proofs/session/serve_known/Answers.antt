@@ -1,6 +1,6 @@
 use Rattle.std.proofs.Common.{ap, refl, arith}
 use Rattle.mml_session.proofs.EndingLemmas.{nothing_yet, one_more, ended_so}
-use Rattle.mml_session.proofs.session.serve_one.Goals as goal
+use Rattle.mml_session.proofs.session.serve_known.Goals as goal
 
 pub loop-end-init : goal.loop-end-init
 loop-end-init g c = record {

@@ -1,0 +1,46 @@
+-- Sessions one after another.
+use Rattle.std.proofs.Common.{rules, ◌≡◌, ◌∙◌, ap, ℕ, Bool, true, false, ◌&&◌, List, [], ◌∷◌, ◌++◌, map, sym, subst, refl, All, Option}
+use Rattle.std.proofs.lemmas.List.{map-append}
+use Rattle.std.proofs.lemmas.List.Elements.{All-push}
+use Rattle.mml_lab.specs.Labs.{LabValue}
+use Rattle.mml_window.specs.Windows.{WindowValue}
+use Rattle.mml_session.specs.Ends.{EndedKnown}
+use Rattle.mml_hosting.specs.declared.place.ServedSession.{ServedSession}
+use Rattle.mml_hosting.specs.Places.{Chain, IsServed, IsDismissed, AreGoingOn, is_teachers_bye}
+
+-- one more at the end
+chain_more : {S A : Type 0} (P : S → A → A → Type 0) (a mid last : A) (ss : List S) (s : S) → Chain P a ss mid → P s mid last → Chain P a (ss ++ s ∷ []) last
+chain_more {S} {A} P a mid last [] s so_far one = (last, subst (λ (x : A). P s x last) so_far one, refl)
+chain_more P a mid last (t ∷ ss) s so_far one = (so_far.0, so_far.1, chain_more P so_far.0 mid last ss s so_far.2 one)
+
+pub chain_so : {S A X : Type 0} (P : S → A → A → Type 0) (f : X → S) (a mid last : A) (xs xs' : List X) (x : X) → xs' ≡ xs ++ x ∷ []
+    → Chain P a (map f xs) mid → P (f x) mid last → Chain P a (map f xs') last
+chain_so P f a mid last xs xs' x one so_far it = rw (one, map-append f xs (x ∷ [])) (chain_more P a mid last (map f xs) (f x) so_far it)
+
+both : (a b : Bool) → (a && b) ≡ true → (a ≡ true) × (b ≡ true)
+both true true e = (refl, refl)
+both true false e = absurd (search (rules, e))
+both false b e = absurd (search (rules, e))
+
+second : (a b : Bool) → a ≡ true → (a && b) ≡ false → b ≡ false
+second true b so e = e
+second false b so e = absurd (search (rules, so))
+
+-- a session more, and whether it is noted that the teacher's bye ended it
+module _ {R W X : Type 0} (f : X → ServedSession R W) (xs xs' : List X) (x : X) (one : xs' ≡ xs ++ x ∷ []) (desk now : Bool)
+    (noted : now ≡ (desk && is_teachers_bye (f x).ending)) (so_far : desk ≡ true → AreGoingOn (map f xs)) where
+  pub dismissed_so : now ≡ true → IsDismissed (map f xs')
+  dismissed_so so =
+      let parts = both desk (is_teachers_bye (f x).ending) (sym noted ∙ so) in
+      (map f xs, f x, ap (λ t. map f t) one ∙ map-append f xs (x ∷ []), parts.1, so_far parts.0)
+
+  pub going_on_so : desk ≡ true → now ≡ false → AreGoingOn (map f xs')
+  going_on_so at so =
+      rw (one, map-append f xs (x ∷ []))
+      (All-push (λ s. is_teachers_bye s.ending ≡ false) (map f xs) (f x) (so_far at) (second desk (is_teachers_bye (f x).ending) at (sym noted ∙ so)))
+
+-- what is known of a session by its connection as it came
+pub served_so : {R W : Type 0} (lab : LabValue) (remaining : R → Option (List ℕ)) (contents : W → Option (List ℕ)) (s t : ServedSession R W) (ends : R × W) (w w' : WindowValue)
+    → s ≡ t → t.came.value ≡ ends → EndedKnown t.ending.end t.ending.who lab w w' (remaining ends.0) (remaining t.reader) (contents ends.1) (contents t.writer)
+    → IsServed lab remaining contents s w w'
+served_so lab remaining contents s t ends w w' same came h = rw (same, came) h

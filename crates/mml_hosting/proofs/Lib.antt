@@ -1,0 +1,4 @@
+pub mod ChainLemmas
+pub mod PlaceLemmas
+pub mod PortLemmas
+pub mod HouseLemmas

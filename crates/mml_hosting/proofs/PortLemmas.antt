@@ -1,0 +1,77 @@
+-- What came to a port so far, and where it is.
+use Rattle.std.proofs.Common.{◌≡◌, ◌∙◌, ap, ℕ, ◌+◌, List, [], ◌∷◌, ◌++◌, flat_map, sym, refl, arith, Option}
+use Rattle.std.specs.List.{sum_by}
+use Rattle.std.proofs.lemmas.List.Sums.{sum_by-append, sum_by-cons, sum_by_push}
+use Rattle.std.proofs.lemmas.List.Concat.{flat_map-cons}
+use Rattle.mml_serving.specs.Arriving.{Takes}
+use Rattle.mml_hosting.specs.Places.{came_to}
+use Rattle.mml_hosting.specs.Ports.{Attends}
+use Rattle.mml_hosting.specs.Counting.{count_free, count_busy}
+use Rattle.mml_hosting.specs.declared.place.ServedSession.{ServedSession}
+use Rattle.mml_hosting.specs.declared.place.Place.{Place}
+use Rattle.mml_hosting.specs.declared.port.Busy.{Busy}
+use Rattle.mml_serving.proofs.ArrivingLemmas.{Takes-nil, Takes-trans}
+
+-- the connections that came are those that the places have beyond their first ones, or will have, and those turned away
+pub record History {H K R W U : Type 0} (shows : K → ServedSession R W) (known now : Option (List (R × W))) (first free : List (Place H K)) (busy : List (Busy H K R W U)) : Type 0 where
+  pub connections : List (R × W)
+  pub turned : List (R × W)
+  pub came : Takes known now connections
+  pub each : (h : R × W → ℕ) → count_free shows h first + sum_by h connections ≡ (count_free shows h free + count_busy shows h busy) + sum_by h turned
+
+module _ {H K R W U : Type 0} (shows : K → ServedSession R W) (known : Option (List (R × W))) (first : List (Place H K)) where
+  pub nothing_yet : (busy : List (Busy H K R W U)) → busy ≡ [] → History shows known known first first busy
+  nothing_yet busy none = record {
+    connections = [];
+    turned = [];
+    came = Takes-nil known;
+    each = λ h. rw none (omega arith);
+  }
+
+  module _ (now next : Option (List (R × W))) (free free' : List (Place H K)) (busy busy' : List (Busy H K R W U)) (so_far : History shows known now first free busy) where
+    pub nobody_came : Takes now next [] → ((h : R × W → ℕ) → count_free shows h free' + count_busy shows h busy' ≡ count_free shows h free + count_busy shows h busy) → History shows known next first free' busy'
+    nobody_came came same = record {
+      connections = so_far.connections ++ [];
+      turned = so_far.turned;
+      came = Takes-trans known now next so_far.connections [] so_far.came came;
+      each = λ h. omega (arith, so_far.each h, same h, sum_by-append h so_far.connections []);
+    }
+
+    module _ (ends : R × W) (came : Takes now next (ends ∷ [])) where
+      pub one_served : ((h : R × W → ℕ) → count_free shows h free' + count_busy shows h busy' ≡ (count_free shows h free + count_busy shows h busy) + h ends) → History shows known next first free' busy'
+      one_served more = record {
+        connections = so_far.connections ++ ends ∷ [];
+        turned = so_far.turned;
+        came = Takes-trans known now next so_far.connections (ends ∷ []) so_far.came came;
+        each = λ h. omega (arith, so_far.each h, more h, sum_by_push h so_far.connections ends);
+      }
+
+      pub one_turned : ((h : R × W → ℕ) → count_free shows h free' + count_busy shows h busy' ≡ count_free shows h free + count_busy shows h busy) → History shows known next first free' busy'
+      one_turned same = record {
+        connections = so_far.connections ++ ends ∷ [];
+        turned = so_far.turned ++ ends ∷ [];
+        came = Takes-trans known now next so_far.connections (ends ∷ []) so_far.came came;
+        each = λ h. omega (arith, so_far.each h, same h, sum_by_push h so_far.connections ends, sum_by_push h so_far.turned ends);
+      }
+
+sum_flat : {A B : Type 0} (f : A → List B) (h : B → ℕ) (xs : List A) → sum_by h (flat_map f xs) ≡ sum_by (λ x. sum_by h (f x)) xs
+sum_flat f h [] = refl
+sum_flat f h (x ∷ xs) =
+    ap (λ l. sum_by h l) (flat_map-cons f x xs) ∙ sum_by-append h (f x) (flat_map f xs) ∙ ap (λ n. sum_by h (f x) + n) (sum_flat f h xs) ∙ sym (sum_by-cons (λ y. sum_by h (f y)) x xs)
+
+pub all_attended : {H K R W U : Type 0} (shows : K → ServedSession R W) (known now : Option (List (R × W))) (first free last : List (Place H K)) (busy : List (Busy H K R W U)) → History shows known now first free busy
+    → ((h : R × W → ℕ) → count_free shows h last ≡ count_free shows h free + count_busy shows h busy) → Attends known (flat_map (came_to shows) first) (flat_map (came_to shows) last)
+all_attended {H} {K} shows known now first free last busy so_far joined =
+    let came = λ (p : Place H K). came_to shows p in
+    record {
+      connections = so_far.connections;
+      turned = so_far.turned;
+      left = now;
+      came = so_far.came;
+      each = λ h.
+          let a = sum_by-append h (flat_map came first) so_far.connections in
+          let b = sum_by-append h (flat_map came last) so_far.turned in
+          let c = sum_flat came h first in
+          let d = sum_flat came h last in
+          omega (arith, so_far.each h, joined h, a, b, c, d);
+    }

@@ -1,0 +1,5 @@
+pub mod Places
+pub mod Ports
+pub mod Counting
+pub mod Bringing
+pub mod Hosting

@@ -1,0 +1,53 @@
+-- Windows through which one connection after another is served.
+use Rattle.std.specs.Prelude.{◌≡◌, ℕ, Bool, true, false, List, [], ◌∷◌, ◌++◌, map, All, Option, Some}
+use Rattle.mml_lab.specs.Labs.{LabValue}
+use Rattle.mml_window.specs.Windows.{WindowValue, window}
+use Rattle.mml_lab.specs.declared.who.Who.{Who}
+use Rattle.mml_lab.specs.declared.who.Who.TheVariants as who
+use Rattle.mml_session.specs.declared.session.Ending.{Ending}
+use Rattle.mml_session.specs.declared.session.SessionEnd.{SessionEnd}
+use Rattle.mml_session.specs.declared.session.SessionEnd.TheVariants as end
+use Rattle.mml_session.specs.Ends.{EndedKnown}
+use Rattle.mml_hosting.specs.declared.place.ServedSession.{ServedSession}
+use Rattle.mml_hosting.specs.declared.place.Place.{Place}
+
+-- one step after another, each from where the one before led
+abbrev pub Chain : {S A : Type 0} → (S → A → A → Type 0) → A → List S → A → Type 0
+Chain P a [] last = last ≡ a
+Chain {S} {A} P a (s ∷ ss) last = (next : A) × P s a next × Chain P next ss last
+
+-- the connection was served to such an end, through a window that it led from the one value to the other
+abbrev pub IsServed : {R W : Type 0} → LabValue → (R → Option (List ℕ)) → (W → Option (List ℕ)) → ServedSession R W → WindowValue → WindowValue → Type 0
+IsServed lab remaining contents s w w' =
+    EndedKnown s.ending.end s.ending.who lab w w' (remaining s.came.value.0) (remaining s.reader) (contents s.came.value.1) (contents s.writer)
+
+-- the sessions that were served in a place, in order, by what is kept of each
+abbrev pub sessions_of : {H K R W : Type 0} → (K → ServedSession R W) → Place H K → List (ServedSession R W)
+sessions_of shows p = map shows p.sessions.items
+
+-- the connections that came to it, in order
+abbrev pub came_to : {H K R W : Type 0} → (K → ServedSession R W) → Place H K → List (R × W)
+came_to shows p = map (λ s. s.came.value) (sessions_of shows p)
+
+-- a bye of one who is known as the teacher
+abbrev bye_of : SessionEnd → Option Who → Bool
+bye_of end.Bye (Some who.Teacher) = true
+bye_of _ _ = false
+
+abbrev pub is_teachers_bye : Ending → Bool
+is_teachers_bye ending = bye_of ending.end ending.who
+
+-- the sessions that the teacher's bye didn't end
+abbrev pub AreGoingOn : {R W : Type 0} → List (ServedSession R W) → Type 0
+AreGoingOn ss = All (λ s. is_teachers_bye s.ending ≡ false) ss
+
+-- the last session, and no earlier one, was ended by the teacher's bye
+abbrev pub IsDismissed : {R W : Type 0} → List (ServedSession R W) → Type 0
+IsDismissed {R} {W} ss =
+    (before : List (ServedSession R W)) × (s : ServedSession R W) × (ss ≡ before ++ s ∷ []) × (is_teachers_bye s.ending ≡ true) × AreGoingOn before
+
+-- its sessions led its window from having seen nothing to where it is, and at the desk it is noted whether the teacher's bye came
+pub record IsPlace {H K R W : Type 0} (lab : LabValue) (remaining : R → Option (List ℕ)) (contents : W → Option (List ℕ)) (shows : K → ServedSession R W) (p : Place H K) : Type 0 where
+  pub each : Chain (IsServed lab remaining contents) (window [] []) (sessions_of shows p) p.window
+  pub dismissed : p.is_dismissed ≡ true → IsDismissed (sessions_of shows p)
+  pub going_on : p.is_desk ≡ true → p.is_dismissed ≡ false → AreGoingOn (sessions_of shows p)

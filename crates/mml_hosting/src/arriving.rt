@@ -1,0 +1,33 @@
+//! Where connections come from, and how they go.
+ghost use Rattle.std.specs.Prelude.{List, None, Option};
+ghost use Rattle.mml_hosting.specs.Bringing.{Brings};
+
+use mml_serving::HangUp;
+use std::io::{Read, Write};
+
+/// What an accept brought.
+#[derive(Drop)]
+pub enum Next<R: Drop, W: Drop, U: Drop> {
+    /// A connection: its two ends, and what hangs it up from elsewhere.
+    Came((R, W), U),
+    /// Nobody. Those that have ended are to be let go of before the next accept.
+    Nobody,
+    /// No more are to be served.
+    Over,
+}
+
+/// What gives connections as they come.
+pub trait Arrivals<R: Read + Drop, W: Write + Drop, U: HangUp + Drop> {
+    // The connections that are still to come, where they are known.
+    ghost to_come: { Self → Option (List (R × W)) } = { λ _. None };
+
+    /// The next connection, for which it may wait.
+    fn accept_next(&mut self) -> Next<R, W, U>
+        ensures { Brings (to_come self.old) (to_come self.new) result };
+}
+
+/// What is rung where a session has ended.
+pub trait Bell {
+    /// A session has ended: by the teacher's bye at the desk, so that the house is to end, or otherwise.
+    fn ring(&self, is_dismissed: bool);
+}

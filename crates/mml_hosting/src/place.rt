@@ -1,0 +1,148 @@
+//! A window through which one connection after another is served.
+ghost use Rattle.std.specs.Prelude.{◌≡◌, ◌<◌, ◌++◌, ◌&&◌, false, [], ◌∷◌, vec_len, vec_capacity};
+ghost use Rattle.mml_hosting.specs.Places.{IsPlace, came_to, is_teachers_bye};
+
+use mml_journal::Sink;
+use mml_lab::Who;
+use mml_serving::HangUp;
+use mml_session::{Ending, Gate, SessionEnd, serve_known};
+use mml_window::{Desk, House, Window};
+use std::alloc::Global;
+use std::io::{Read, Write};
+use std::snapshot::Snapshot;
+use std::sync::Wait;
+use std::sync::atomic::{AtomicU64, Ordering};
+
+/// A session that has ended: its connection as it came, how it ended, and what is left of the
+/// connection.
+#[derive(Drop)]
+pub struct ServedSession<R: Drop, W: Drop> {
+    pub came: Snapshot<(R, W)>,
+    pub ending: Ending,
+    pub reader: R,
+    pub writer: W,
+}
+
+/// What is kept of a session that has ended.
+pub trait Keep<R: Drop, W: Drop>: Sized {
+    ghost use Rattle.mml_hosting.specs.declared.place.ServedSession.{ServedSession};
+
+    // The session.
+    ghost shows: { Self → ServedSession R W };
+
+    fn keep(session: ServedSession<R, W>) -> Self
+        ensures { shows result ≡ session };
+}
+
+/// All of it.
+impl<R: Drop, W: Drop> Keep<R, W> for ServedSession<R, W> {
+    ghost shows = { λ s. s };
+
+    fn keep(session: ServedSession<R, W>) -> ServedSession<R, W>
+        ensures { result ≡ session }
+    {
+        session
+    }
+}
+
+/// Nothing but what a contract says of it, so that any number can be kept.
+impl<R: Drop, W: Drop> Keep<R, W> for Snapshot<ServedSession<R, W>> {
+    ghost shows = { λ s. s.value };
+
+    fn keep(session: ServedSession<R, W>) -> Snapshot<ServedSession<R, W>>
+        ensures { result.value ≡ session }
+    {
+        Snapshot::of(&session)
+    }
+}
+
+/// A window, with the number by which a gate knows it, and what is kept of the sessions that were
+/// served through it.
+#[derive(Drop)]
+pub struct Place<H: House, K: Drop> {
+    pub number: u8,
+    /// Whether the teacher's bye ends its service.
+    pub is_desk: bool,
+    pub window: Window<H>,
+    pub sessions: Vec<K>,
+    /// Whether the last session at the desk was ended by the teacher's bye.
+    pub is_dismissed: bool,
+}
+
+/// Serves a connection in a place, marks the place as free, and hangs up.
+pub fn serve_in<
+    Rt: Wait,
+    S: Sink + Drop,
+    H: House,
+    K: Keep<R, W> + Drop,
+    R: Read + Drop,
+    W: Write + HangUp + Drop,
+    G: Gate,
+>(
+    rt: &Rt,
+    alloc: Global,
+    desk: &Desk<S, H>,
+    place: Place<H, K>,
+    ends: (R, W),
+    gate: &G,
+    marks: &[AtomicU64],
+) -> Place<H, K>
+    requires place { IsPlace H.lab R.remaining W.contents K.shows place }
+    requires open { place.is_dismissed ≡ false }
+    requires room { vec_len place.sessions < vec_capacity place.sessions }
+    ensures place { IsPlace H.lab R.remaining W.contents K.shows result }
+    ensures came { came_to K.shows result ≡ came_to K.shows place ++ ends ∷ [] }
+    ensures number { result.number ≡ place.number }
+{
+    let came = Snapshot::of(&ends);
+    let Place {
+        number,
+        is_desk,
+        mut window,
+        mut sessions,
+        is_dismissed: _,
+    } = place;
+    let (mut reader, mut writer) = ends;
+    let ending = serve_known(
+        rt,
+        alloc,
+        desk,
+        &mut window,
+        &mut reader,
+        &mut writer,
+        gate,
+        number,
+    );
+    // The place is known to be free before the other side sees the end, and may come again.
+    set_mark(marks, number, 1);
+    writer.hang_up();
+    let is_dismissed = is_dismissed_by(&ending, is_desk);
+    let session = ServedSession {
+        came,
+        ending,
+        reader,
+        writer,
+    };
+    sessions.push_reserved(K::keep(session));
+    Place {
+        number,
+        is_desk,
+        window,
+        sessions,
+        is_dismissed,
+    }
+}
+
+// Whether the place is that of the desk, and the session was ended by the teacher's bye.
+fn is_dismissed_by(ending: &Ending, is_desk: bool) -> bool
+    ensures { result ≡ (is_desk && is_teachers_bye ending.now) }
+{
+    is_desk && matches!(ending.end, SessionEnd::Bye) && matches!(ending.who, Some(Who::Teacher))
+}
+
+// Sets the mark of a number.
+pub(crate) fn set_mark(marks: &[AtomicU64], number: u8, value: u64) {
+    if let Some(mark) = marks.get(usize::from(number)) {
+        mark.store(value, Ordering::SeqCst);
+    }
+}
