@@ -119,7 +119,7 @@ def page_of(title: str, lab: Lab, frames: Iterable[Frame]) -> str:
         "DRAWING": picture,
         "STUDENTS": "".join(legend_row(drawing, student) for student in lab.students),
         "DATA": data_element(json.dumps(data, separators=(",", ":"))),
-        "PROGRAM": (FOLDER / "player.js").read_text("utf-8"),
+        "PROGRAM": "".join((FOLDER / name).read_text("utf-8") for name in ("picture.js", "player.js")),
     }
     text = (FOLDER / "player.html").read_text("utf-8")
     head, *rest = text.split("{{")
