@@ -105,7 +105,7 @@ class Played(unittest.TestCase):
         self.driver.get("about:blank")
         self.driver.get(page.as_uri() + place)
         while self.driver.execute_script("return document.body.dataset.ready") != "true":
-            self.assertLess(time.monotonic() - start, 60)
+            self.assertLess(time.monotonic() - start, 300)
         return time.monotonic() - start
 
     def press(self, key: str) -> None:
@@ -149,7 +149,7 @@ class Played(unittest.TestCase):
         self.assertEqual(self.shown()[0]["place"], str(len(journal.read_text().splitlines())))
         self.press(Keys.HOME)
         self.press(Keys.ARROW_RIGHT)
-        WebDriverWait(self.driver, 60).until(lambda driver: driver.execute_script("return location.hash") == "#p=1")
+        WebDriverWait(self.driver, 300).until(lambda driver: driver.execute_script("return location.hash") == "#p=1")
         self.driver.find_element("css selector", "#events li:not([hidden]) + li + li + li a").click()
         self.assertEqual(self.shown()[0]["place"], "3")
 
@@ -159,7 +159,7 @@ class Played(unittest.TestCase):
         self.driver.execute_script("document.getElementById('speed').value = '20'")
         self.press(" ")
         last = str(len(journal.read_text().splitlines()))
-        end = time.monotonic() + 30
+        end = time.monotonic() + 300
         while self.shown()[0]["place"] != last:
             self.assertLess(time.monotonic(), end)
         while self.driver.find_element("id", "play").text != "Play":
