@@ -86,6 +86,14 @@ class Drawing {
     this.drawn = new Int32Array(links).fill(NEVER);
   }
 
+  // Forgets all links, to be told of them anew.
+  empty() {
+    for (const rows of Object.values(this.rows)) for (const row of rows) row.setAttribute("d", "");
+    this.segments = [];
+    this.lower = this.data.nodes.map(() => []);
+    this.forget();
+  }
+
   // Takes in the links that the data have got.
   grow() {
     const { links } = this.data, known = this.segments.length;
