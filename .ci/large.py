@@ -8,7 +8,7 @@ import socket
 from collections.abc import Iterable
 from pathlib import Path
 
-from preload import Server, Story, fail, good, in_room
+from preload import LIMIT, Server, Story, fail, good, in_room
 
 NODES = 256
 EVENTS = 70_000
@@ -74,7 +74,7 @@ def events(room: Path) -> None:
     file = lab(room, [f'{{ id = {node}, owner = "ana" }}' for node in (1, 2)], "[1, 2]", EVENTS)
     journal = room / "large.journal"
     server = Server(lambda port: ["serve", str(file), str(port), "1", str(journal)], {})
-    with socket.create_connection(("127.0.0.1", server.port), timeout=60) as it:
+    with socket.create_connection(("127.0.0.1", server.port), timeout=LIMIT) as it:
         exchange(it, [HELLO], [WELCOME])
         for first in range(1, EVENTS + 1, PART):
             places = range(first, first + PART)

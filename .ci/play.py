@@ -16,7 +16,7 @@ def main():
     connections = {}
     # They are opened in the order of their numbers, which the server gives as it accepts.
     for number in sorted({int(number) for number, _ in lines}):
-        opened = socket.create_connection(("127.0.0.1", port), timeout=60)
+        opened = socket.create_connection(("127.0.0.1", port), timeout=300)
         connections[number] = opened, opened.makefile("r", encoding="utf-8")
     for number, request in lines:
         opened, replies = connections[int(number)]

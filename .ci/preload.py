@@ -17,7 +17,7 @@ from typing import NoReturn, Optional
 HERE = Path(__file__).resolve().parent
 TOP = HERE.parent
 PROGRAM = TOP / "crates/mml_server/out/mml_server"
-LIMIT = 60.0
+LIMIT = 300.0
 # Replies that change nothing, whatever was asked.
 REFUSED = (b'{"refuse":"memory"}\n', b'{"refuse":"journal"}\n')
 

@@ -106,22 +106,38 @@ def page_of(title: str, lab: Lab, frames: Iterable[Frame]) -> str:
             picture = drawing.svg(frame.state, None)
         rows.add(frame, len(frame.state.links))
     assert drawing is not None
-    data = {
-        "nodes": [{"id": node.id, "owners": node.owners} for node in lab.nodes],
-        "points": drawing.layout.points,
-        "radius": drawing.layout.radius,
+    data = what_stays(drawing) | {
         "links": [[rows.order[a], rows.order[b]] for a, b in rows.links],
         "frames": rows.rows,
     }
+    return filled("player", title, drawing, picture, data)
+
+
+def live_page(title: str, drawing: Drawing, state: State) -> str:
+    """The page of a run that is going on: its program asks for what to draw."""
+    return filled("live", title, drawing, drawing.svg(state, None), what_stays(drawing) | {"links": []})
+
+
+def what_stays(drawing: Drawing) -> dict[str, Any]:
+    """What of a page's data stays from place to place."""
+    return {
+        "nodes": [{"id": node.id, "owners": node.owners} for node in drawing.lab.nodes],
+        "points": drawing.layout.points,
+        "radius": drawing.layout.radius,
+    }
+
+
+def filled(name: str, title: str, drawing: Drawing, picture: str, data: dict[str, Any]) -> str:
+    """A page by its form, with its style and its program inside."""
     parts = {
         "TITLE": escape(title),
         "STYLE": (FOLDER / "drawing.css").read_text("utf-8") + (FOLDER / "player.css").read_text("utf-8"),
         "DRAWING": picture,
-        "STUDENTS": "".join(legend_row(drawing, student) for student in lab.students),
+        "STUDENTS": "".join(legend_row(drawing, student) for student in drawing.lab.students),
         "DATA": data_element(json.dumps(data, separators=(",", ":"))),
-        "PROGRAM": (FOLDER / "player.js").read_text("utf-8"),
+        "PROGRAM": "".join((FOLDER / file).read_text("utf-8") for file in ("picture.js", f"{name}.js")),
     }
-    text = (FOLDER / "player.html").read_text("utf-8")
+    text = (FOLDER / f"{name}.html").read_text("utf-8")
     head, *rest = text.split("{{")
     return head + "".join(parts[piece.split("}}", 1)[0]] + piece.split("}}", 1)[1] for piece in rest)
 

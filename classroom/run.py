@@ -15,13 +15,15 @@ from datetime import datetime
 from pathlib import Path
 
 from classroom import lab as labs
-from classroom import mark, play, server
+from classroom import mark, play, projector, server
 from classroom.client import Client, Closed, Denied, Refused, Report
 from classroom.journal import Book, events
 from classroom.program import TOP, Fault, call
+from classroom.watch import Watch
 
 TICK = 0.1
-HELP = "close, fault N P M, link A B, cut A B, release N, report, wait, end"
+HELP = ("close, fault N P M, link A B, cut A B, release N, report, wait, every SECONDS, when-idle SECONDS, by-hand, "
+        "end")
 
 
 class Teller:
@@ -29,8 +31,11 @@ class Teller:
 
     def __init__(self, folder: Path) -> None:
         self.path = folder / "run.txt"
+        self.also: list[Callable[[str], None]] = []
 
     def __call__(self, line: str) -> None:
+        for hear in self.also:
+            hear(line)
         for put in (lambda: print(line, flush=True), lambda: self.keep(line)):
             try:
                 put()
@@ -43,12 +48,28 @@ class Teller:
             it.write(line + "\n")
 
 
-def mode(word: str) -> tuple[str, float]:
+Closing = tuple[str, float]
+
+
+def closing(word: str) -> Closing:
     """`every:SECONDS`, `when-idle:SECONDS` or `by-hand`."""
     found = re.fullmatch(r"(every|when-idle):(\d+(?:\.\d+)?)|by-hand", word)
     if not found:
-        raise argparse.ArgumentTypeError(f"{word} is none of every:SECONDS, when-idle:SECONDS, by-hand")
+        raise ValueError(f"{word} is none of every:SECONDS, when-idle:SECONDS, by-hand")
     return (found[1], float(found[2])) if found[1] else ("by-hand", 0.0)
+
+
+def mode(word: str) -> Closing:
+    """The same as a word of the command line."""
+    try:
+        return closing(word)
+    except ValueError as error:
+        raise argparse.ArgumentTypeError(str(error)) from None
+
+
+def spelled(how: Closing) -> str:
+    """How steps are closed, as a word."""
+    return how[0] if how[0] == "by-hand" else f"{how[0]}:{how[1]:g}"
 
 
 def new_folder(into: Path, lab: Path) -> Path:
@@ -69,14 +90,15 @@ def new_folder(into: Path, lab: Path) -> Path:
 class Desk:
     """The teacher's connection, and what the journal tells as it grows."""
 
-    def __init__(self, lab: labs.Lab, journal: Path, client: Client, tell: Callable[[str], None]) -> None:
-        self.lab, self.client, self.tell = lab, client, tell
+    def __init__(self, lab: labs.Lab, journal: Path, client: Client, how: Closing, tell: Callable[[str], None]) -> None:
+        self.lab, self.client, self.tell, self.closing = lab, client, tell, how
         self.journal = journal.open("rb")
         self.book = Book(list(lab.students), set())
         self.rest = b""
         self.news = time.monotonic()
         self.told_waiting = ""
         self.report: Report = client.report()
+        self.watch: Watch | None = None
 
     def read(self) -> None:
         """Reads what the journal has got, and tells each step as a line."""
@@ -91,6 +113,15 @@ class Desk:
                 self.step(event.at + 1, ", ".join(f"{node} ({name}) {rule}" for node, name, rule in moved))
             elif word != "grant":
                 self.step(event.at + (word != "release"), " ".join(event.words))
+            if self.watch:
+                self.watch.note(event)
+        if self.watch:
+            self.watch.turn(self.report, self.book.tally)
+
+    def watched(self) -> Watch:
+        """What pages are shown, which is looked at from now on."""
+        self.watch = Watch(self.lab, self.client, self.report, spelled(self.closing))
+        return self.watch
 
     def step(self, at: int, what: str) -> None:
         """The line of a step: configuration, who moved, how many are privileged, moves beside the bound."""
@@ -138,6 +169,8 @@ class Desk:
             elif word == "wait":
                 self.told_waiting = ""
                 self.tell_waiting()
+            elif word in ("every", "when-idle", "by-hand"):
+                self.close_by(":".join([word, *rest]))
             else:
                 self.edit(word, rest)
         except (Denied, Refused) as no:
@@ -145,6 +178,13 @@ class Desk:
         except (ValueError, IndexError):
             self.tell(f"not understood; words: {HELP}")
         return True
+
+    def close_by(self, word: str) -> None:
+        """Closes steps in another way from now on."""
+        self.closing = closing(word)
+        self.tell(f"steps are closed {spelled(self.closing)}")
+        if self.watch:
+            self.watch.present.put(closing=spelled(self.closing))
 
     def edit(self, word: str, rest: list[str]) -> None:
         """A fault, a link, a cut or a release."""
@@ -158,11 +198,15 @@ class Desk:
             raise ValueError(word)
 
 
-def attend(desk: Desk, it: server.Server, closing: tuple[str, float], until_stable: bool, typed: queue.SimpleQueue[str]) -> str:
+def attend(desk: Desk, it: server.Server, until_stable: bool, typed: queue.SimpleQueue[str]) -> str:
     """Closes steps and does what is typed, until the run ends; says by what."""
-    kind, seconds = closing
-    due = time.monotonic() + seconds
+    how = desk.closing
+    due = time.monotonic() + how[1]
     while True:
+        if how != desk.closing:
+            how = desk.closing
+            due = time.monotonic() + how[1]
+        kind, seconds = how
         if it.ended():
             return "died"
         desk.read()
@@ -230,24 +274,33 @@ def open_desk(it: server.Server, lab: labs.Lab, folder: Path, words: argparse.Na
     tell(f"port {it.port}, for {places}; folder {folder}")
     if it.hosted:
         tell(f"desk {it.desk}")
-    return Desk(lab, folder / "journal", Client(it.desk, *lab.teacher), tell)
+    return Desk(lab, folder / "journal", Client(it.desk, *lab.teacher), words.close, tell)
 
 
-def hold(folder: Path, lab: labs.Lab, words: argparse.Namespace, tell: Callable[[str], None],
-         beside: Callable[[int], None]) -> int:
+def show(pages: projector.Pages, desk: Desk, tell: Teller) -> None:
+    """Opens the page, and tells it what is told from now on."""
+    watch = desk.watched()
+    tell(f"page {pages.address}")
+    tell.also.append(lambda line: watch.present.put(line=line))
+    pages.show(watch.present)
+
+
+def hold(folder: Path, lab: labs.Lab, words: argparse.Namespace, tell: Teller, beside: Callable[[int], None],
+         typed: queue.SimpleQueue[str], pages: projector.Pages | None) -> int:
     """Starts the server, holds the desk to the end of the run, and gives the status."""
-    typed: queue.SimpleQueue[str] = queue.SimpleQueue()
     for number in SIGNALS:
         signal.signal(number, lambda *_: typed.put("end"))
     it = server.start(folder, folder / "lab.toml", words.port, lab.sessions, folder / "journal")
     why = "died"
     try:
         desk = open_desk(it, lab, folder, words, tell)
+        if pages is not None:
+            show(pages, desk, tell)
         beside(it.port)
         if words.typed or sys.stdin is not None and sys.stdin.isatty():
             threading.Thread(target=read_typed, args=[typed], daemon=True).start()
             tell(f"words: {HELP}")
-        why = attend(desk, it, words.close, words.until == "stable", typed)
+        why = attend(desk, it, words.until == "stable", typed)
         if why != "died":
             desk.client.bye()
     except (Closed, Refused, Denied) as error:
@@ -276,23 +329,28 @@ def one(lab_file: Path, words: argparse.Namespace, beside: Callable[[int], None]
     slips = lab_file.with_name(f"{lab_file.stem}-slips.txt")
     if slips.exists():
         tell(f"slips: {slips}")
+    typed: queue.SimpleQueue[str] = queue.SimpleQueue()
+    pages: projector.Pages | None = None
     try:
-        status = hold(folder, lab, words, tell, beside)
+        if words.page is not None:
+            pages = projector.open_pages(words.page, lab_file.stem, lab, typed)
+        status = hold(folder, lab, words, tell, beside, typed, pages)
+        marked = finish(folder, tell)
     except Fault as fault:
         tell(f"class: {fault}")
         return fault.status
-    marked = finish(folder, tell)
+    finally:
+        if pages is not None:
+            pages.stop()
     return status or marked
 
 
 def prefixed(lab: str, words: argparse.Namespace, port: int) -> subprocess.Popen[str]:
     """A run of its own, in a process of its own."""
-    kind, seconds = words.close
-    closing = kind if kind == "by-hand" else f"{kind}:{seconds}"
     more = ["--until", words.until] if words.until else []
     more += ["--into", words.into] if words.into else []
     return subprocess.Popen(
-        [sys.executable, TOP / "class", "run", lab, "--port", str(port), "--close", closing, *more],
+        [sys.executable, TOP / "class", "run", lab, "--port", str(port), "--close", spelled(words.close), *more],
         stdin=subprocess.DEVNULL, stdout=subprocess.PIPE, stderr=subprocess.STDOUT, text=True, start_new_session=True,
     )
 
@@ -305,6 +363,8 @@ def follow(lab: str, child: subprocess.Popen[str]) -> None:
 
 def side_by_side(words: argparse.Namespace) -> int:
     """Runs several labs at once; what ends this ends them all. Steps can't be closed by hand."""
+    if words.page is not None:
+        raise Fault("--page is for one lab")
     if words.close[0] == "by-hand":
         raise Fault("several labs are closed by time: --close every:SECONDS or when-idle:SECONDS")
     children = [prefixed(lab, words, words.port + index) for index, lab in enumerate(words.labs)]

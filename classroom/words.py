@@ -48,6 +48,8 @@ def add_run(words: argparse.ArgumentParser) -> None:
                        help="every:SECONDS, when-idle:SECONDS or by-hand (when-idle:2)")
     words.add_argument("--into", help="where the run's folder is made (runs)")
     words.add_argument("--until", choices=["stable"], help="end the run where no node is privileged")
+    words.add_argument("--page", type=positive, nargs="?", const=4780, metavar="PORT",
+                       help="serve a page of the run, for the projector, at that port or the next free one (4780)")
     words.add_argument("--typed", action="store_true", help="take words on standard input where it is no terminal too")
     words.set_defaults(work=run.run)
 

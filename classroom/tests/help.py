@@ -14,13 +14,14 @@ from pathlib import Path
 from classroom.program import TOP
 
 EXAMPLES = TOP / "examples"
+LIMIT = 300  # seconds after which something hangs; a slow machine needs a small part of it
 
 
 def words(*given: str | Path, typed: str | None = None, **more: str) -> subprocess.CompletedProcess[str]:
     """Calls `./class` to its end."""
     return subprocess.run(
         [sys.executable, TOP / "class", *given], input=typed or "", capture_output=True, text=True, check=False,
-        env={**os.environ, **more}, timeout=60,
+        env={**os.environ, **more}, timeout=LIMIT,
     )
 
 
@@ -75,7 +76,7 @@ class Going:
         """Reads to the end, and gives the status."""
         assert self.process.stdout is not None
         self.lines += [line.rstrip("\n") for line in self.process.stdout]
-        return self.process.wait(60)
+        return self.process.wait(LIMIT)
 
     def server(self) -> int:
         """The process of the server."""
@@ -87,7 +88,7 @@ class Going:
         """Ends what is left of it."""
         if self.process.poll() is None:
             self.process.send_signal(signal.SIGTERM)
-            self.process.communicate(timeout=60)
+            self.process.communicate(timeout=LIMIT)
         for pipe in (self.process.stdin, self.process.stdout):
             if pipe is not None and not pipe.closed:
                 try:

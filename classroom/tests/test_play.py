@@ -15,6 +15,7 @@ from selenium.webdriver.chrome.options import Options
 from selenium.webdriver.chrome.service import Service
 from selenium.webdriver.common.action_chains import ActionChains
 from selenium.webdriver.common.keys import Keys
+from selenium.webdriver.support.ui import WebDriverWait
 
 from classroom.frames import Frame, State, frames_of
 from classroom.tests.runs import TOP, built_in, edited_run, examples, largest_run
@@ -22,6 +23,30 @@ from classroom.tests.runs import TOP, built_in, edited_run, examples, largest_ru
 ATTRIBUTES = """
 const nodes = [...document.querySelectorAll('#drawing .node')].map((node) => ({...node.dataset}));
 return [{...document.getElementById('drawing').dataset}, nodes, document.getElementById('event').textContent];
+"""
+
+# The milliseconds of each step, those of some in which nothing was known of what is shown, and how many changes of
+# the drawing each step makes.
+TIMES = """
+const times = [];
+for (let at = 1; at <= 1000; at += 1) {
+  const start = performance.now();
+  player.goTo(at);
+  times.push(performance.now() - start);
+}
+return times;
+"""
+ANEW = TIMES.replace("at <= 1000", "at <= 20").replace("const start", "player.drawing.forget(); const start")
+TOUCHED = """
+const counts = [], observer = new MutationObserver(() => {});
+observer.observe(document.querySelector('.stage'), {attributes: true, characterData: true, childList: true, subtree: true});
+player.goTo(0);
+for (let at = 1; at <= 1000; at += 1) {
+  observer.takeRecords();
+  player.goTo(at);
+  counts.push(observer.takeRecords().length);
+}
+return counts;
 """
 
 
@@ -80,7 +105,7 @@ class Played(unittest.TestCase):
         self.driver.get("about:blank")
         self.driver.get(page.as_uri() + place)
         while self.driver.execute_script("return document.body.dataset.ready") != "true":
-            self.assertLess(time.monotonic() - start, 60)
+            self.assertLess(time.monotonic() - start, 300)
         return time.monotonic() - start
 
     def press(self, key: str) -> None:
@@ -122,6 +147,11 @@ class Played(unittest.TestCase):
         self.assertEqual(self.shown()[0]["place"], "2")
         self.open(page, "#p=99999")
         self.assertEqual(self.shown()[0]["place"], str(len(journal.read_text().splitlines())))
+        self.press(Keys.HOME)
+        self.press(Keys.ARROW_RIGHT)
+        WebDriverWait(self.driver, 300).until(lambda driver: driver.execute_script("return location.hash") == "#p=1")
+        self.driver.find_element("css selector", "#events li:not([hidden]) + li + li + li a").click()
+        self.assertEqual(self.shown()[0]["place"], "3")
 
     def test_it_plays_to_the_end_by_itself(self) -> None:
         lab, journal = edited_run(self.room)
@@ -129,7 +159,7 @@ class Played(unittest.TestCase):
         self.driver.execute_script("document.getElementById('speed').value = '20'")
         self.press(" ")
         last = str(len(journal.read_text().splitlines()))
-        end = time.monotonic() + 30
+        end = time.monotonic() + 300
         while self.shown()[0]["place"] != last:
             self.assertLess(time.monotonic(), end)
         while self.driver.find_element("id", "play").text != "Play":
@@ -137,21 +167,23 @@ class Played(unittest.TestCase):
 
     def test_the_largest_lab_opens_and_steps_in_time(self) -> None:
         lab, journal = largest_run(self.room)
-        self.assertEqual(len(journal.read_text().splitlines()), 1000)
+        kinds = [line.split(" ")[2] for line in journal.read_text().splitlines()]
+        self.assertEqual(len(kinds), 1000)
         page = self.page(lab, journal)
-        opened = min(self.open(page) for _ in range(2))
-        self.assertLess(opened, 2)
-        # The best of three passes over each place: what else the machine does at one moment isn't the page's time.
-        passes: list[list[float]] = [
-            self.driver.execute_script(
-                "const times = []; for (let at = 1; at <= 1000; at += 1) { const start = performance.now();"
-                " player.goTo(at); times.push(performance.now() - start); } return times;"
-            )
-            for _ in range(3)
-        ]
-        times = [min(of) for of in zip(*passes)]
+        # Each limit leaves a slow machine several times what it needs: the best of three passes counts, and a
+        # step is held against drawing everything anew in the same browser.
+        opened = min(self.open(page) for _ in range(3))
+        self.assertLess(opened, 8)
+        passes: list[list[float]] = [self.driver.execute_script(TIMES) for _ in range(3)]
+        steps = sorted(min(of) for of in zip(*passes))
+        anew: float = min(self.driver.execute_script(ANEW))
+        self.assertLess(steps[990], 50)
+        self.assertLess(steps[500], anew / 2)
+        touched: list[int] = self.driver.execute_script(TOUCHED)
         self.assertEqual(self.shown()[0]["place"], "1000")
-        self.assertLess(sorted(times)[990], 50)
+        for place in range(2, 1001):
+            if kinds[place - 1] in ("grant", "release") and kinds[place - 2] in ("grant", "release"):
+                self.assertLess(touched[place - 1], 10, place)
 
     def test_names_of_files_end_nothing(self) -> None:
         lab, journal = edited_run(self.room)

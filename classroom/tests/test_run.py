@@ -14,7 +14,7 @@ from pathlib import Path
 from classroom.client import Client, Closed, Denied, Refused
 from classroom.lab import read
 from classroom.program import call
-from classroom.tests.help import EXAMPLES, Going, InRoom, words
+from classroom.tests.help import EXAMPLES, LIMIT, Going, InRoom, words
 
 CYCLE = EXAMPLES / "cycle.toml"
 KEYS = {"gus": "heron-31", "hana": "swift-86", "ines": "finch-05", "jonas": "plover-48"}
@@ -157,7 +157,7 @@ class Run(InRoom):
                 waiting |= {line.partition(":")[0]} if ": port " in line and "in all" in line or ": desk" in line else set()
                 if len(waiting) == 2:
                     process.send_signal(signal.SIGINT)
-        self.assertEqual(process.wait(60), 0)
+        self.assertEqual(process.wait(LIMIT), 0)
         self.assertEqual(words("mark", *sorted((self.room / "runs").iterdir())).returncode, 0)
 
 
