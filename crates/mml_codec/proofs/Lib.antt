@@ -1,4 +1,5 @@
 pub mod LinesLemmas
+pub mod RequestsLemmas
 pub mod CompactTextLemmas
 pub mod OneLineLemmas
 pub mod ReadBackLemmas

@@ -1,11 +1,12 @@
 -- The request that a line is.
-use Rattle.std.specs.Prelude.{List, ℕ, Bool, true, false, Option, None, Result, ok_or, option_and_then, if◌then◌else◌}
+use Rattle.std.specs.Prelude.{List, ℕ, Bool, true, false, Option, None, Result, Ok, Err, ok_or, option_and_then, if◌then◌else◌}
 use Rattle.std.specs.Str.{is_utf8}
 use Rattle.serde_json.specs.Data.{Data}
 use Rattle.serde_json.specs.Read.{read}
 use Rattle.mml_codec.specs.declared.request.LineFault.{LineFault}
 use Rattle.mml_codec.specs.declared.request.LineFault.TheVariants as fault
 use Rattle.mml_codec.specs.declared.request.Request.{Request}
+use Rattle.mml_codec.specs.declared.request.Request.TheVariants as requests
 use Rattle.mml_codec.specs.Requests.{request}
 
 -- the fault says nothing of the line: memory ran out
@@ -20,3 +21,10 @@ value_in line = if is_utf8 line then read line else None
 -- the request that a line is, if it is one
 unfoldable pub request_in : List ℕ → Result Request LineFault
 request_in line = ok_or (option_and_then request (value_in line)) fault.Malformed
+
+-- a hello, whose name and key are kept
+abbrev pub is_hello : Result Request LineFault → Bool
+is_hello (Ok (requests.Hello name key)) = true
+is_hello (Ok requests.Bye) = false
+is_hello (Ok (requests.Do c)) = false
+is_hello (Err fault) = false

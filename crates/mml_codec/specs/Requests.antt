@@ -1,43 +1,13 @@
 -- What a JSON value asks.
-use Rattle.std.specs.Prelude.{codes, List, ℕ, Bool, Option, Some, None, option_and_then, option_map, bytes_eq, if◌then◌else◌}
-use Rattle.serde_json.specs.Data.{Data, null, boolean, number, string, array, object}
-use Rattle.serde_json.specs.Find.{get, as_str, as_bool, as_number, as_u64}
+use Rattle.std.specs.Prelude.{codes, List, ℕ, Option, Some, None, option_map, bytes_eq, if◌then◌else◌}
+use Rattle.serde_json.specs.Data.{Data}
+pub use Rattle.mml_plain.specs.LookUps.{◌>>=◌, text_at, number_at, truth_at, register_at}
 use Rattle.mml_policy.specs.declared.command.Asked.{Asked}
 use Rattle.mml_policy.specs.declared.command.Asked.TheVariants as asked
 use Rattle.mml_policy.specs.declared.command.Command.{Command}
 use Rattle.mml_policy.specs.declared.command.Command.TheVariants as command
 use Rattle.mml_codec.specs.declared.request.Request.{Request}
 use Rattle.mml_codec.specs.declared.request.Request.TheVariants as requests
-
--- one step after another, as long as there is something
-infixl 10 ◌>>=◌
-abbrev pub ◌>>=◌ : {A B : Type 0} → Option A → (A → Option B) → Option B
-o >>= f = option_and_then f o
-
--- the string that a key names
-abbrev pub text_at : List ℕ → Data → Option (List ℕ)
-text_at key d = get key d >>= as_str
-
--- the number that a key names: an integer from 0 to 2 ^ 64 - 1, without point and exponent
-abbrev pub number_at : List ℕ → Data → Option ℕ
-number_at key d = get key d >>= λ v. as_number v >>= as_u64
-
--- the truth value that a key names
-abbrev pub truth_at : List ℕ → Data → Option Bool
-truth_at key d = get key d >>= as_bool
-
--- a number, or null
-abbrev pub as_register : Data → Option (Option ℕ)
-as_register null = Some None
-as_register (boolean b) = None
-as_register (number n) = option_map Some (as_u64 n)
-as_register (string s) = None
-as_register (array ds) = None
-as_register (object ms) = None
-
--- the number or null that a key names: a key that isn't there names no null
-abbrev pub register_at : List ℕ → Data → Option (Option ℕ)
-register_at key d = get key d >>= as_register
 
 -- a rule by its word, and for a marriage the partner
 unfoldable pub asked_at : Data → Option Asked

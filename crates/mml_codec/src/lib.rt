@@ -14,7 +14,8 @@ mod ruling;
 mod writing;
 
 pub use greeting::{Greeting, greet};
-pub use reading::read_request;
+pub use mml_plain::LineScratch;
+pub use reading::{read_request, read_request_with};
 pub use reply::{FULL_LINE, JOURNAL_LINE, MALFORMED_LINE, MEMORY_LINE, REPLY_ROOM, Refused, Reply};
 pub use replying::{tell_reply, write_reply};
 pub use request::{LineFault, Request};

@@ -1,23 +1,55 @@
-ghost use Rattle.std.specs.Prelude.{ok_or};
+ghost use Rattle.std.specs.Prelude.{◌≡◌, ◌≢◌, ◌<◌, ◌⊎◌, length, codes, true, false, Err, ok_or};
 ghost use Rattle.mml_ids.specs.Gives.{Gives};
-ghost use Rattle.serde_json.specs.View.{view};
-ghost use Rattle.mml_codec.specs.Requests.{number_at, text_at, truth_at, register_at, asked_at, node_of, ends_of, hello_of, move_of, fault_of, by_word, request};
+ghost use Rattle.serde_json.specs.Data.{Data};
+ghost use Rattle.mml_plain.specs.Holds.{Holds};
+ghost use Rattle.mml_plain.specs.PlainLines.{is_plain};
+ghost use Rattle.mml_codec.specs.Requests.{asked_at, node_of, ends_of, hello_of, move_of, fault_of, by_word, request};
 ghost use Rattle.mml_policy.specs.declared.command.Command.TheVariants as command;
-ghost use Rattle.mml_codec.specs.Lines.{is_memory, request_in};
+ghost use Rattle.mml_codec.specs.Lines.{is_memory, is_hello, request_in};
 
 use crate::request::{LineFault, Request};
 use mml_ids::Word;
+use mml_plain::{Fields, LineScratch, read_plain};
 use mml_policy::{Asked, Command};
 use serde_json::Value;
 use std::alloc::Global;
 
 /// The request that a line is. The line comes without its byte 10.
-#[tactic(auto, unfolding(crate::specs::Lines::request_in))]
 pub fn read_request(alloc: Global, line: &[u8]) -> Result<Request, LineFault>
     ensures { Gives is_memory (λ r. r) result (request_in line.now) }
 {
+    let mut scratch = LineScratch::new(alloc, line.len())?;
+    read_request_with(alloc, line, &mut scratch)
+}
+
+/// The same with memory that is kept from line to line: a plain object for which it has room takes
+/// none beside it, but for the words of a hello.
+#[tactic(auto, unfolding(crate::specs::Lines::request_in))]
+pub fn read_request_with(
+    alloc: Global,
+    line: &[u8],
+    scratch: &mut LineScratch,
+) -> Result<Request, LineFault>
+    ensures request { Gives is_memory (λ r. r) result (request_in line.now) }
+    ensures memory { result ≡ Err LineFault.Memory → (scratch.old < length line.now)
+        ⊎ ((is_plain line.now ≡ false) ⊎ (is_hello (request_in line.now) ≡ true)) }
+{
+    let mut fields = Fields::empty();
+    if read_plain(line, scratch, &mut fields)? {
+        request(alloc, &fields)
+    } else {
+        read_value(alloc, line)
+    }
+}
+
+/// The request of a line as `serde_json` reads it, for whatever isn't plain.
+#[inline(never)]
+#[tactic(auto, unfolding(crate::specs::Lines::request_in))]
+fn read_value(alloc: Global, line: &[u8]) -> Result<Request, LineFault>
+    ensures { Gives is_memory (λ r. r) result (request_in line.now) }
+{
     match Value::from_slice(alloc, line) {
-        Ok(value) => request(alloc, &value),
+        Ok(value) => request(alloc, &Fields::of(&value)),
         Err(error) => {
             if error.is_memory() {
                 Err(LineFault::Memory)
@@ -29,175 +61,141 @@ pub fn read_request(alloc: Global, line: &[u8]) -> Result<Request, LineFault>
 }
 
 #[tactic(auto, unfolding(crate::specs::Requests::request))]
-fn request(alloc: Global, value: &Value) -> Result<Request, LineFault>
-    ensures { Gives is_memory (λ r. r) result
-        (ok_or (request (view value.now)) LineFault.Malformed) }
+fn request(alloc: Global, fields: &Fields<'_>) -> Result<Request, LineFault>
+    ensures request { (d : Data) → Holds fields.now d
+        → Gives is_memory (λ r. r) result (ok_or (request d) LineFault.Malformed) }
+    ensures memory { result ≡ Err LineFault.Memory → (d : Data) → Holds fields.now d
+        → is_hello (ok_or (request d) LineFault.Malformed) ≡ true }
 {
-    let word = text_at(value, "do")?;
-    by_word(alloc, word, value)
+    let word = fields.word.ok_or(LineFault::Malformed)?;
+    by_word(alloc, word, fields)
 }
 
 #[tactic(auto, unfolding(crate::specs::Requests::by_word))]
-fn by_word(alloc: Global, word: &str, value: &Value) -> Result<Request, LineFault>
-    ensures { Gives is_memory (λ r. r) result
-        (ok_or (by_word word.now (view value.now)) LineFault.Malformed) }
+fn by_word(alloc: Global, word: &str, fields: &Fields<'_>) -> Result<Request, LineFault>
+    ensures request { (d : Data) → Holds fields.now d
+        → Gives is_memory (λ r. r) result (ok_or (by_word word.now d) LineFault.Malformed) }
+    ensures memory { result ≡ Err LineFault.Memory → (d : Data) → Holds fields.now d
+        → is_hello (ok_or (by_word word.now d) LineFault.Malformed) ≡ true }
 {
     match word {
-        "hello" => hello_of(alloc, value),
-        "bye" => Ok(Request::Bye),
-        "see" => see_of(value),
-        "look" => look_of(value),
-        "move" => move_of(value),
-        "close" => Ok(Request::Do(Command::Close)),
-        "fault" => fault_of(value),
-        "link" => link_of(value),
-        "cut" => cut_of(value),
-        "release" => release_of(value),
-        "report" => Ok(Request::Do(Command::Report)),
-        _ => Err(LineFault::Malformed),
+        "hello" => hello_of(alloc, fields),
+        _ => well_formed(by_other_word(word, fields)),
+    }
+}
+
+fn well_formed(request: Option<Request>) -> Result<Request, LineFault>
+    ensures request { result ≡ ok_or request LineFault.Malformed }
+    ensures memory { result ≢ Err LineFault.Memory }
+{
+    match request {
+        Some(request) => Ok(request),
+        None => Err(LineFault::Malformed),
     }
 }
 
 #[tactic(auto, unfolding(crate::specs::Requests::hello_of))]
-fn hello_of(alloc: Global, value: &Value) -> Result<Request, LineFault>
-    ensures { Gives is_memory (λ r. r) result
-        (ok_or (hello_of (view value.now)) LineFault.Malformed) }
+fn hello_of(alloc: Global, fields: &Fields<'_>) -> Result<Request, LineFault>
+    ensures request { (d : Data) → Holds fields.now d
+        → Gives is_memory (λ r. r) result (ok_or (hello_of d) LineFault.Malformed) }
+    ensures memory { result ≡ Err LineFault.Memory → (d : Data) → Holds fields.now d
+        → is_hello (ok_or (hello_of d) LineFault.Malformed) ≡ true }
 {
-    let name = word_at(alloc, value, "name")?;
-    let key = word_at(alloc, value, "key")?;
-    Ok(Request::Hello { name, key })
+    let name = fields.name.ok_or(LineFault::Malformed)?;
+    let key = fields.key.ok_or(LineFault::Malformed)?;
+    Ok(Request::Hello {
+        name: Word::of(String::from_str(alloc, name)?),
+        key: Word::of(String::from_str(alloc, key)?),
+    })
 }
 
-fn see_of(value: &Value) -> Result<Request, LineFault>
-    ensures { Gives is_memory (λ r. r) result
-        (ok_or (node_of command.See (view value.now)) LineFault.Malformed) }
+// What a word asks that takes no memory.
+#[tactic(auto, unfolding(crate::specs::Requests::by_word))]
+fn by_other_word(word: &str, fields: &Fields<'_>) -> Option<Request>
+    requires { word.now ≢ codes "hello" }
+    ensures { (d : Data) → Holds fields.now d → result ≡ by_word word.now d }
 {
-    let node = number_at(value, "node")?;
-    Ok(Request::Do(Command::See { node }))
+    match word {
+        "bye" => Some(Request::Bye),
+        "see" => see_of(fields),
+        "look" => look_of(fields),
+        "move" => move_of(fields),
+        "close" => Some(Request::Do(Command::Close)),
+        "fault" => fault_of(fields),
+        "link" => link_of(fields),
+        "cut" => cut_of(fields),
+        "release" => release_of(fields),
+        "report" => Some(Request::Do(Command::Report)),
+        _ => None,
+    }
 }
 
-fn look_of(value: &Value) -> Result<Request, LineFault>
-    ensures { Gives is_memory (λ r. r) result
-        (ok_or (node_of command.Look (view value.now)) LineFault.Malformed) }
+fn see_of(fields: &Fields<'_>) -> Option<Request>
+    ensures { (d : Data) → Holds fields.now d → result ≡ node_of command.See d }
 {
-    let node = number_at(value, "node")?;
-    Ok(Request::Do(Command::Look { node }))
+    let node = fields.node?;
+    Some(Request::Do(Command::See { node }))
 }
 
-fn link_of(value: &Value) -> Result<Request, LineFault>
-    ensures { Gives is_memory (λ r. r) result
-        (ok_or (ends_of command.Link (view value.now)) LineFault.Malformed) }
+fn look_of(fields: &Fields<'_>) -> Option<Request>
+    ensures { (d : Data) → Holds fields.now d → result ≡ node_of command.Look d }
 {
-    let a = number_at(value, "a")?;
-    let b = number_at(value, "b")?;
-    Ok(Request::Do(Command::Link { a, b }))
+    let node = fields.node?;
+    Some(Request::Do(Command::Look { node }))
 }
 
-fn cut_of(value: &Value) -> Result<Request, LineFault>
-    ensures { Gives is_memory (λ r. r) result
-        (ok_or (ends_of command.Cut (view value.now)) LineFault.Malformed) }
+fn link_of(fields: &Fields<'_>) -> Option<Request>
+    ensures { (d : Data) → Holds fields.now d → result ≡ ends_of command.Link d }
 {
-    let a = number_at(value, "a")?;
-    let b = number_at(value, "b")?;
-    Ok(Request::Do(Command::Cut { a, b }))
+    let a = fields.a?;
+    let b = fields.b?;
+    Some(Request::Do(Command::Link { a, b }))
 }
 
-fn release_of(value: &Value) -> Result<Request, LineFault>
-    ensures { Gives is_memory (λ r. r) result
-        (ok_or (node_of command.Release (view value.now)) LineFault.Malformed) }
+fn cut_of(fields: &Fields<'_>) -> Option<Request>
+    ensures { (d : Data) → Holds fields.now d → result ≡ ends_of command.Cut d }
 {
-    let node = number_at(value, "node")?;
-    Ok(Request::Do(Command::Release { node }))
+    let a = fields.a?;
+    let b = fields.b?;
+    Some(Request::Do(Command::Cut { a, b }))
+}
+
+fn release_of(fields: &Fields<'_>) -> Option<Request>
+    ensures { (d : Data) → Holds fields.now d → result ≡ node_of command.Release d }
+{
+    let node = fields.node?;
+    Some(Request::Do(Command::Release { node }))
 }
 
 #[tactic(auto, unfolding(crate::specs::Requests::move_of))]
-fn move_of(value: &Value) -> Result<Request, LineFault>
-    ensures { Gives is_memory (λ r. r) result
-        (ok_or (move_of (view value.now)) LineFault.Malformed) }
+fn move_of(fields: &Fields<'_>) -> Option<Request>
+    ensures { (d : Data) → Holds fields.now d → result ≡ move_of d }
 {
-    let node = number_at(value, "node")?;
-    let at = number_at(value, "at")?;
-    let rule = asked_at(value)?;
-    Ok(Request::Do(Command::Move { node, rule, at }))
+    let node = fields.node?;
+    let at = fields.at?;
+    let rule = asked_at(fields)?;
+    Some(Request::Do(Command::Move { node, rule, at }))
 }
 
 #[tactic(auto, unfolding(crate::specs::Requests::asked_at))]
-fn asked_at(value: &Value) -> Result<Asked, LineFault>
-    ensures { Gives is_memory (λ a. a) result
-        (ok_or (asked_at (view value.now)) LineFault.Malformed) }
+fn asked_at(fields: &Fields<'_>) -> Option<Asked>
+    ensures { (d : Data) → Holds fields.now d → result ≡ asked_at d }
 {
-    match text_at(value, "rule")? {
-        "update" => Ok(Asked::Update),
-        "marriage" => Ok(Asked::Marriage(number_at(value, "with")?)),
-        "seduction" => Ok(Asked::Seduction),
-        "abandonment" => Ok(Asked::Abandonment),
-        _ => Err(LineFault::Malformed),
+    match fields.rule? {
+        "update" => Some(Asked::Update),
+        "marriage" => Some(Asked::Marriage(fields.with?)),
+        "seduction" => Some(Asked::Seduction),
+        "abandonment" => Some(Asked::Abandonment),
+        _ => None,
     }
 }
 
 #[tactic(auto, unfolding(crate::specs::Requests::fault_of))]
-fn fault_of(value: &Value) -> Result<Request, LineFault>
-    ensures { Gives is_memory (λ r. r) result
-        (ok_or (fault_of (view value.now)) LineFault.Malformed) }
+fn fault_of(fields: &Fields<'_>) -> Option<Request>
+    ensures { (d : Data) → Holds fields.now d → result ≡ fault_of d }
 {
-    let node = number_at(value, "node")?;
-    let p = register_at(value, "p")?;
-    let m = truth_at(value, "m")?;
-    Ok(Request::Do(Command::Fault { node, p, m }))
-}
-
-fn word_at(alloc: Global, value: &Value, key: &str) -> Result<Word, LineFault>
-    ensures { Gives is_memory (λ w. w) result
-        (ok_or (text_at key.now (view value.now)) LineFault.Malformed) }
-{
-    let text = text_at(value, key)?;
-    Ok(Word::of(String::from_str(alloc, text)?))
-}
-
-fn text_at<'a>(value: &'a Value, key: &str) -> Result<&'a str, LineFault>
-    ensures { Gives is_memory (λ s. s.now) result
-        (ok_or (text_at key.now (view value.now)) LineFault.Malformed) }
-{
-    value
-        .get(key)
-        .and_then(Value::as_str)
-        .ok_or(LineFault::Malformed)
-}
-
-fn number_at(value: &Value, key: &str) -> Result<u64, LineFault>
-    ensures { Gives is_memory (λ n. n) result
-        (ok_or (number_at key.now (view value.now)) LineFault.Malformed) }
-{
-    value
-        .get(key)
-        .and_then(Value::as_u64)
-        .ok_or(LineFault::Malformed)
-}
-
-fn truth_at(value: &Value, key: &str) -> Result<bool, LineFault>
-    ensures { Gives is_memory (λ b. b) result
-        (ok_or (truth_at key.now (view value.now)) LineFault.Malformed) }
-{
-    value
-        .get(key)
-        .and_then(Value::as_bool)
-        .ok_or(LineFault::Malformed)
-}
-
-fn register_at(value: &Value, key: &str) -> Result<Option<u64>, LineFault>
-    ensures { Gives is_memory (λ p. p) result
-        (ok_or (register_at key.now (view value.now)) LineFault.Malformed) }
-{
-    match value.get(key) {
-        Some(found) => {
-            if found.is_null() {
-                return Ok(None);
-            }
-            match found.as_u64() {
-                Some(number) => Ok(Some(number)),
-                None => Err(LineFault::Malformed),
-            }
-        }
-        None => Err(LineFault::Malformed),
-    }
+    let node = fields.node?;
+    let p = fields.p?;
+    let m = fields.m?;
+    Some(Request::Do(Command::Fault { node, p, m }))
 }

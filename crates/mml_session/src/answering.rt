@@ -9,7 +9,9 @@ ghost use Rattle.mml_session.specs.Turns.{Told, Settles, Turn, standing};
 ghost use Rattle.mml_session.specs.Ends.{IsView};
 ghost use Rattle.mml_session.specs.Asking.{AsksToSee};
 
-use mml_codec::{Greeting, Refused, Reply, Request, greet, read_request, reply_of_done};
+use mml_codec::{
+    Greeting, LineScratch, Refused, Reply, Request, greet, read_request_with, reply_of_done,
+};
 use mml_journal::Sink;
 use mml_lab::Who;
 use mml_policy::Command;
@@ -25,6 +27,7 @@ pub(crate) fn answer<Rt: Wait, S: Sink + Drop, H: House>(
     window: &mut Window<H>,
     known: &mut Option<Who>,
     line: &[u8],
+    scratch: &mut LineScratch,
 ) -> Result<Reply, Closed>
     requires principal { IfSome known.old (IsPrincipal H.lab.roster) }
     ensures principal { IfSome known.new (IsPrincipal H.lab.roster) }
@@ -34,7 +37,7 @@ pub(crate) fn answer<Rt: Wait, S: Sink + Drop, H: House>(
     ensures closed { IfErr result (λ _. (known.new ≡ known.old) × (window.new ≡ window.old)
         × IsView (standing known.old window.old) line.now) }
 {
-    match read_request(alloc, line) {
+    match read_request_with(alloc, line, scratch) {
         Ok(request) => settle(rt, alloc, desk, window, known, request),
         Err(fault) => Ok(Reply::Refuse(fault.refusal())),
     }

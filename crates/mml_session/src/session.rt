@@ -8,7 +8,7 @@ ghost use Rattle.mml_session.specs.Serving.{SendsReply, ServesLine, ServesNext, 
 
 use crate::answering::answer;
 use crate::gate::{Gate, Point};
-use mml_codec::{MAX_REQUEST, REPLY_ROOM, Reply, tell_reply};
+use mml_codec::{LineScratch, MAX_REQUEST, REPLY_ROOM, Reply, tell_reply};
 use mml_journal::Sink;
 use mml_lab::Who;
 use mml_lines::{Lines, Step, put_all};
@@ -87,11 +87,24 @@ pub fn serve_known<Rt: Wait, S: Sink + Drop, H: House, R: Read, W: Write, G: Gat
     let Ok(mut out) = Vec::with_capacity(alloc, REPLY_ROOM) else {
         return unserved();
     };
+    let Ok(mut scratch) = LineScratch::new(alloc, MAX_REQUEST) else {
+        return SessionEnd::Memory;
+    };
     let mut known = None;
     loop {
         let who = known;
         match serve_next(
-            rt, alloc, desk, window, &mut known, &mut lines, &mut out, reader, writer, gate,
+            rt,
+            alloc,
+            desk,
+            window,
+            &mut known,
+            &mut lines,
+            &mut scratch,
+            &mut out,
+            reader,
+            writer,
+            gate,
             connection,
         ) {
             Next::Served => (),
@@ -125,6 +138,7 @@ fn serve_next<Rt: Wait, S: Sink + Drop, H: House, R: Read, W: Write, G: Gate>(
     window: &mut Window<H>,
     known: &mut Option<Who>,
     lines: &mut Lines,
+    scratch: &mut LineScratch,
     out: &mut Vec<u8>,
     reader: &mut R,
     writer: &mut W,
@@ -150,7 +164,17 @@ fn serve_next<Rt: Wait, S: Sink + Drop, H: House, R: Read, W: Write, G: Gate>(
     match lines.next(reader) {
         Step::Line => {
             gate.pass(connection, Point::Line);
-            let said = serve_line(rt, alloc, desk, window, known, lines.bytes(), out, writer);
+            let said = serve_line(
+                rt,
+                alloc,
+                desk,
+                window,
+                known,
+                lines.bytes(),
+                scratch,
+                out,
+                writer,
+            );
             go_on(said, gate, connection)
         }
         Step::TooLong => Next::Ended(SessionEnd::TooLong),
@@ -196,6 +220,7 @@ fn serve_line<Rt: Wait, S: Sink + Drop, H: House, W: Write>(
     window: &mut Window<H>,
     known: &mut Option<Who>,
     line: &[u8],
+    scratch: &mut LineScratch,
     out: &mut Vec<u8>,
     writer: &mut W,
 ) -> Result<Said, Closed>
@@ -207,7 +232,7 @@ fn serve_line<Rt: Wait, S: Sink + Drop, H: House, W: Write>(
     ensures serves { ServesLine result H.lab (standing known.old window.old)
         (standing known.new window.new) line.now (W.contents writer.old) (W.contents writer.new) }
 {
-    let reply = answer(rt, alloc, desk, window, known, line)?;
+    let reply = answer(rt, alloc, desk, window, known, line, scratch)?;
     let told = tell_reply(alloc, window.ids(), window.roster(), reply, out);
     Ok(send(&told, out, writer))
 }

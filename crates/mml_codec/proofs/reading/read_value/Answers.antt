@@ -1,9 +1,10 @@
 use Rattle.std.proofs.Common.{sym, ◌∙◌, true≢false}
+use Rattle.serde_json.specs.View.{view}
 use Rattle.mml_codec.proofs.LinesLemmas.{value_in-some, value_in-none, request_in-some, request_in-none}
-use Rattle.mml_codec.proofs.reading.read_request.Goals as goal
+use Rattle.mml_codec.proofs.reading.read_value.Goals as goal
 
 pub returns-in-Ok : goal.returns-in-Ok
-returns-in-Ok c = rw (request_in-some _ _ (value_in-some _ _ c.in-Ok.ensures.ok.0 c.in-Ok.ensures.ok.1)) c.request.ensures
+returns-in-Ok c = rw (request_in-some _ _ (value_in-some _ _ c.in-Ok.ensures.ok.0 c.in-Ok.ensures.ok.1)) (c.request.ensures.request (view c.in-Ok.value) c.of.ensures)
 
 pub returns-else-is_memory : goal.returns-else-is_memory
 returns-else-is_memory c =

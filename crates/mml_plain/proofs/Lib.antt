@@ -1,0 +1,4 @@
+pub mod NumbersLemmas
+pub mod FieldsLemmas
+pub mod TokensLemmas
+pub mod PlainLinesLemmas

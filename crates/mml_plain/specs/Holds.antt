@@ -1,0 +1,19 @@
+-- What the fields say of a value.
+use Rattle.std.specs.Prelude.{◌≡◌, codes, option_map}
+use Rattle.serde_json.specs.Data.{Data}
+use Rattle.mml_plain.specs.LookUps.{text_at, number_at, truth_at, register_at}
+use Rattle.mml_plain.specs.declared.fields.Fields.{Fields}
+
+-- each field is what its key names in the value
+pub record Holds (f : Fields) (d : Data) : Type 0 where
+  pub word : option_map (λ s. s.now) f.word ≡ text_at (codes "do") d
+  pub name : option_map (λ s. s.now) f.name ≡ text_at (codes "name") d
+  pub key : option_map (λ s. s.now) f.key ≡ text_at (codes "key") d
+  pub node : f.node ≡ number_at (codes "node") d
+  pub rule : option_map (λ s. s.now) f.rule ≡ text_at (codes "rule") d
+  pub partner : f.with ≡ number_at (codes "with") d
+  pub at : f.at ≡ number_at (codes "at") d
+  pub p : f.p ≡ register_at (codes "p") d
+  pub m : f.m ≡ truth_at (codes "m") d
+  pub a : f.a ≡ number_at (codes "a") d
+  pub b : f.b ≡ number_at (codes "b") d

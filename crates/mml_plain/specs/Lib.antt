@@ -1,0 +1,5 @@
+pub mod LookUps
+pub mod Holds
+pub mod PlainLines
+pub mod Tokens
+pub mod Fields

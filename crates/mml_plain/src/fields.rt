@@ -1,0 +1,101 @@
+ghost use Rattle.std.specs.Prelude.{◌≡◌};
+ghost use Rattle.serde_json.specs.Data.{object, no_members};
+ghost use Rattle.serde_json.specs.Find.{get};
+ghost use Rattle.serde_json.specs.View.{view};
+ghost use Rattle.mml_plain.specs.Holds.{Holds};
+ghost use Rattle.mml_plain.specs.Fields.{with};
+ghost use Rattle.mml_plain.specs.LookUps.{register_at};
+
+use crate::value::PlainValue;
+use serde_json::Value;
+
+/// What the keys of a request name in an object. A key that isn't there, or that names another kind
+/// of value, names nothing.
+#[derive(Clone, Copy, Debug, Drop)]
+pub struct Fields<'a> {
+    pub word: Option<&'a str>,
+    pub name: Option<&'a str>,
+    pub key: Option<&'a str>,
+    pub node: Option<u64>,
+    pub rule: Option<&'a str>,
+    pub with: Option<u64>,
+    pub at: Option<u64>,
+    pub p: Option<Option<u64>>,
+    pub m: Option<bool>,
+    pub a: Option<u64>,
+    pub b: Option<u64>,
+}
+
+impl<'a> Fields<'a> {
+    /// What the keys name in a value.
+    pub fn of(value: &'a Value) -> Fields<'a>
+        ensures { Holds result (view value.now) }
+    {
+        Fields {
+            word: value.get("do").and_then(Value::as_str),
+            name: value.get("name").and_then(Value::as_str),
+            key: value.get("key").and_then(Value::as_str),
+            node: value.get("node").and_then(Value::as_u64),
+            rule: value.get("rule").and_then(Value::as_str),
+            with: value.get("with").and_then(Value::as_u64),
+            at: value.get("at").and_then(Value::as_u64),
+            p: register_at(value, "p"),
+            m: value.get("m").and_then(Value::as_bool),
+            a: value.get("a").and_then(Value::as_u64),
+            b: value.get("b").and_then(Value::as_u64),
+        }
+    }
+
+    /// What the keys name in an object with no members.
+    pub fn empty() -> Fields<'a>
+        ensures { Holds result (object no_members) }
+    {
+        Fields {
+            word: None,
+            name: None,
+            key: None,
+            node: None,
+            rule: None,
+            with: None,
+            at: None,
+            p: None,
+            m: None,
+            a: None,
+            b: None,
+        }
+    }
+
+    /// One member more. A key that was there names what comes last.
+    #[inline(never)]
+    pub(crate) fn put(&mut self, key: &str, value: &PlainValue<'a>)
+        ensures { self.new ≡ with key.now value.now self.old }
+    {
+        match key {
+            "do" => self.word = value.text(),
+            "name" => self.name = value.text(),
+            "key" => self.key = value.text(),
+            "node" => self.node = value.number(),
+            "rule" => self.rule = value.text(),
+            "with" => self.with = value.number(),
+            "at" => self.at = value.number(),
+            "p" => self.p = value.register(),
+            "m" => self.m = value.truth(),
+            "a" => self.a = value.number(),
+            "b" => self.b = value.number(),
+            _ => {}
+        }
+    }
+}
+
+fn register_at(value: &Value, key: &str) -> Option<Option<u64>>
+    ensures { result ≡ register_at key.now (view value.now) }
+{
+    let found = value.get(key)?;
+    if found.is_null() {
+        return Some(None);
+    }
+    match found.as_u64() {
+        Some(number) => Some(Some(number)),
+        None => None,
+    }
+}

@@ -1,0 +1,50 @@
+ghost use Rattle.std.specs.Prelude.{◌≡◌, ◌≤◌, IfOk};
+ghost use Rattle.json.specs.Scratch.{room};
+
+use json::Scratch;
+use std::alloc::{AllocError, Global};
+use std::fmt::{self, Debug, Formatter, Write};
+use std::marker::Model;
+
+/// The memory that reading lines needs, kept from line to line. Contracts see how long a line it has
+/// room for.
+#[derive(Drop)]
+pub struct LineScratch {
+    // On the heap: it holds 16 KB.
+    inner: Box<Scratch>,
+}
+
+impl Model for LineScratch {
+    ghost use Rattle.std.specs.Prelude.{ℕ};
+    ghost use Rattle.json.specs.Scratch.{room};
+
+    ghost Value = { ℕ };
+
+    ghost view = { λ a. room a.inner.value };
+}
+
+impl LineScratch {
+    /// With room for lines of so many bytes.
+    pub fn new(alloc: Global, limit: usize) -> Result<LineScratch, AllocError>
+        ensures { IfOk result (λ scratch. limit ≤ scratch) }
+    {
+        let mut inner = Box::new(alloc, Scratch::new(alloc))?;
+        inner.reserve(limit)?;
+        Ok(LineScratch { inner })
+    }
+
+    /// What a reader of one line works in.
+    #[inline(always)]
+    pub(crate) fn for_line(&mut self) -> &mut Scratch
+        ensures { room result.now ≡ self.old }
+    {
+        &mut self.inner
+    }
+}
+
+// What stands in it is of no line in particular.
+impl Debug for LineScratch {
+    fn fmt<W: Write>(&self, f: &mut Formatter<W>) -> fmt::Result {
+        f.write_str("LineScratch")
+    }
+}
