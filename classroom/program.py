@@ -26,9 +26,15 @@ class Answer:
     error: str
 
 
+def built(crate: str) -> Path:
+    """Where a crate's program stands: as it is built here, or in a release."""
+    here = TOP / "crates" / crate
+    return here / "out" / crate if here.is_dir() else TOP / "bin" / crate.replace("mml_server", "mml")
+
+
 def program() -> Path:
     """The built program; another one where the environment's MML_PROGRAM names it."""
-    path = Path(os.environ.get("MML_PROGRAM") or TOP / "crates/mml_server/out/mml_server")
+    path = Path(os.environ.get("MML_PROGRAM") or built("mml_server"))
     if not os.access(path, os.X_OK) or path.is_dir():
         raise Fault("mml isn't built: `./mml check examples/path.toml` builds it (with the toolchain's rt on the path)")
     return path
@@ -36,7 +42,7 @@ def program() -> Path:
 
 def host() -> Path | None:
     """The built host; another one where the environment's MML_HOST names it. None where it isn't built."""
-    path = Path(os.environ.get("MML_HOST") or TOP / "crates/mml_host/out/mml_host")
+    path = Path(os.environ.get("MML_HOST") or built("mml_host"))
     return path if os.access(path, os.X_OK) and not path.is_dir() else None
 
 
