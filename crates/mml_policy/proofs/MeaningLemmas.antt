@@ -148,13 +148,13 @@ module _ (ids : List ℕ) (r : RosterValue) (w : World) (x : Who) (id : ℕ) (a 
         node = node-ok ids id NotOwner i there;
         owner = owner_is r x s i (student-ok x NotOwner s is) owner;
       } in
-      need-deny why (at == w.number) _ _ (λ late. (s, i, own, eqb-false at w.number late, refl)) (λ now.
+      need-deny why (at == w.number) _ _ (λ late. record { s = s; i = i; own = own; late = eqb-false at w.number late; told = refl }) (λ now.
       let current : at ≡ w.number = eqb-true at w.number now in
-      need-deny why (is_none (chosen_at w.chosen i)) _ _ (λ taken. (s, i, own, current, some-is _ taken)) (λ free.
+      need-deny why (is_none (chosen_at w.chosen i)) _ _ (λ taken. record { s = s; i = i; own = own; current = current; chosen = some-is _ taken }) (λ free.
       bind-deny why (rule_of ids a Guard) _ (λ d h.
       let e = no_rule ids a d h in
-      subst why (sym e.0) (s, i, own, current, none-is _ free, λ q k. e.1 q k.0)) (λ q rule.
-      need-deny why (guard (configuration w) i q) _ _ (λ fails. (s, i, own, current, none-is _ free, no_guard i q rule fails)) (λ _. tt)))))))
+      subst why (sym e.0) (record { s = s; i = i; own = own; current = current; free = none-is _ free; unfit = λ q k. e.1 q k.0 })) (λ q rule.
+      need-deny why (guard (configuration w) i q) _ _ (λ fails. record { s = s; i = i; own = own; current = current; free = none-is _ free; unfit = no_guard i q rule fails }) (λ _. tt)))))))
 
   pub move_denied : (d : Denial) → verdict ids r w x (command.Move id a at) ≡ verdicts.Deny d → why d
   move_denied d h = IfErr-at_err why (settled-deny (clauses ids r w x (command.Move id a at)) d h) reasons

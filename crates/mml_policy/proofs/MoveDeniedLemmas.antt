@@ -67,14 +67,14 @@ module _ (ids : List ℕ) (r : RosterValue) (w : World) (x : Who) (id : ℕ) (a 
 
   from_why : (d : Denial) → why d → verdict ids r w x (command.Move id a at) ≡ verdicts.Deny d
   from_why NotOwner h = ap settled (no_owner h)
-  from_why (Stale n) h = ap settled (past_owner h.0 h.1 _ h.2 (need-fails (at == w.number) (Stale w.number) _ (ne_eqb at w.number h.3))) ∙ ap (λ n. verdicts.Deny (Stale n)) (sym h.4)
-  from_why Chosen h = ap settled (past_owner h.0 h.1 _ h.2 (
-      need-from (at == w.number) _ _ _ (eq-eqb at w.number h.3) (
-      need-fails (is_none (chosen_at w.chosen h.1)) _ _ (ap is_none h.4.1))))
-  from_why Guard h = ap settled (past_owner h.0 h.1 _ h.2 (
-      need-from (at == w.number) _ _ _ (eq-eqb at w.number h.3) (
-      need-from (is_none (chosen_at w.chosen h.1)) _ _ _ (ap is_none h.4) (
-      no_guard h.0 h.1 h.5))))
+  from_why (Stale n) h = ap settled (past_owner h.s h.i _ h.own (need-fails (at == w.number) (Stale w.number) _ (ne_eqb at w.number h.late))) ∙ ap (λ n. verdicts.Deny (Stale n)) (sym h.told)
+  from_why Chosen h = ap settled (past_owner h.s h.i _ h.own (
+      need-from (at == w.number) _ _ _ (eq-eqb at w.number h.current) (
+      need-fails (is_none (chosen_at w.chosen h.i)) _ _ (ap is_none h.chosen.1))))
+  from_why Guard h = ap settled (past_owner h.s h.i _ h.own (
+      need-from (at == w.number) _ _ _ (eq-eqb at w.number h.current) (
+      need-from (is_none (chosen_at w.chosen h.i)) _ _ _ (ap is_none h.free) (
+      no_guard h.s h.i h.unfit))))
   from_why d h = absurd h
 
   pub move_denied_exactly : (d : Denial) → (verdict ids r w x (command.Move id a at) ≡ verdicts.Deny d) ↔ DeniesMove ids r w x id a at d

@@ -46,13 +46,37 @@ pub record MayMove (ids : List ℕ) (r : RosterValue) (w : World) (x : Who) (id 
 abbrev pub IsChosen : World → ℕ → Type 0
 IsChosen w i = (q : Rule) × (chosen_at w.chosen i ≡ Some q)
 
+-- student s owns i, but another number is named than the current one, n
+pub record IsLate (ids : List ℕ) (r : RosterValue) (w : World) (x : Who) (id at n : ℕ) : Type 0 where
+  pub s : ℕ
+  pub i : ℕ
+  pub own : IsOwner ids r x id s i
+  pub late : at ≢ w.number
+  pub told : n ≡ w.number
+
+-- student s owns i and names the current number, but some move has been chosen for i
+pub record IsTaken (ids : List ℕ) (r : RosterValue) (w : World) (x : Who) (id at : ℕ) : Type 0 where
+  pub s : ℕ
+  pub i : ℕ
+  pub own : IsOwner ids r x id s i
+  pub current : at ≡ w.number
+  pub chosen : IsChosen w i
+
+-- student s owns i and names the current number, and no move is chosen for i, but none that is asked for may be applied there
+pub record IsUnguarded (ids : List ℕ) (r : RosterValue) (w : World) (x : Who) (id : ℕ) (asked : Asked) (at : ℕ) : Type 0 where
+  pub s : ℕ
+  pub i : ℕ
+  pub own : IsOwner ids r x id s i
+  pub current : at ≡ w.number
+  pub free : chosen_at w.chosen i ≡ None
+  pub unfit : (q : Rule) → ¬ IsGuarded ids w i asked q
+
 -- why a move is denied: the clauses before hold, and this one doesn't
 abbrev pub DeniesMove : List ℕ → RosterValue → World → Who → ℕ → Asked → ℕ → Denial → Type 0
 DeniesMove ids r w x id asked at denial.NotOwner = (s i : ℕ) → ¬ IsOwner ids r x id s i
-DeniesMove ids r w x id asked at (denial.Stale n) = (s : ℕ) × (i : ℕ) × IsOwner ids r x id s i × (at ≢ w.number) × (n ≡ w.number)
-DeniesMove ids r w x id asked at denial.Chosen = (s : ℕ) × (i : ℕ) × IsOwner ids r x id s i × (at ≡ w.number) × IsChosen w i
-DeniesMove ids r w x id asked at denial.Guard =
-    (s : ℕ) × (i : ℕ) × IsOwner ids r x id s i × (at ≡ w.number) × (chosen_at w.chosen i ≡ None) × ((q : Rule) → ¬ IsGuarded ids w i asked q)
+DeniesMove ids r w x id asked at (denial.Stale n) = IsLate ids r w x id at n
+DeniesMove ids r w x id asked at denial.Chosen = IsTaken ids r w x id at
+DeniesMove ids r w x id asked at denial.Guard = IsUnguarded ids r w x id asked at
 DeniesMove ids r w x id asked at denial.NotGreeted = ⊥
 DeniesMove ids r w x id asked at denial.Greeted = ⊥
 DeniesMove ids r w x id asked at denial.Unknown = ⊥

@@ -1,26 +1,37 @@
 //! What the subcommands do, over readers and writers.
-ghost use Rattle.std.specs.Prelude.{◌<◌, ◌-◌, ◌^◌};
+ghost use Rattle.std.specs.Prelude.{◌<◌, ◌-◌, ◌^◌, ◌∷◌, [], codes, decimal, OnOk};
+ghost use Rattle.std.specs.List.{concat};
+ghost use Rattle.std.specs.Io.KnownBytes.{Appends};
+ghost use Rattle.mml_ids.specs.Pieces.{joined};
 ghost use Rattle.mml_journal.specs.Taken.{IsFresh};
 ghost use Rattle.mml_hall.specs.Journals.{Journals};
 ghost use Rattle.mml_program.specs.Answering.{AnswersScript};
+ghost use Rattle.mml_program.specs.Printing.{lab_line, world_line, TellsAudited};
 
 use crate::fault::{Fault, memory_or};
+use mml_board::Board;
 use mml_hall::{Hall, audit, run_script};
+use mml_ids::{Piece, put};
 use mml_journal::Sink;
 use mml_lab::Lab;
 use std::alloc::Global;
 use std::io::{Read, Write};
 
 /// Writes how many nodes, links and students a lab has.
-pub fn write_size<W: Write>(lab: &Lab, writer: &mut W) -> Result<(), Fault> {
-    let nodes = lab.node_count();
-    let links = lab.link_count();
-    let students = lab.student_count();
-    writeln!(
-        writer,
-        "ok: {nodes} nodes, {links} links, {students} students"
-    )
-    .map_err(|error| memory_or(&error, Fault::Write))
+pub fn write_size<W: Write>(alloc: Global, lab: &Lab, writer: &mut W) -> Result<(), Fault>
+    ensures { OnOk result
+        (Appends (W.contents writer.old) (W.contents writer.new) (lab_line lab.now)) }
+{
+    let pieces = [
+        Piece::Text("ok: "),
+        Piece::Number(lab.node_count()),
+        Piece::Text(" nodes, "),
+        Piece::Number(lab.link_count()),
+        Piece::Text(" links, "),
+        Piece::Number(lab.student_count()),
+        Piece::Text(" students\n"),
+    ];
+    write_pieces(alloc, &pieces, writer)
 }
 
 /// Writes how many events a journal has, and where they lead.
@@ -29,20 +40,60 @@ pub fn write_audit<W: Write>(
     lab: &Lab,
     text: &[u8],
     writer: &mut W,
-) -> Result<(), Fault> {
+) -> Result<(), Fault>
+    ensures { OnOk result
+        (TellsAudited lab.now text.now (W.contents writer.old) (W.contents writer.new)) }
+{
     let board = audit(alloc, lab, text)?;
-    let events = board.place();
-    let number = board.number();
-    let standing = if board.privileged_count() == 0 {
-        "stable"
+    write_world(alloc, &board, writer)
+}
+
+// Writes the place and the number of a world, and whether it is stable.
+fn write_world<W: Write>(alloc: Global, board: &Board, writer: &mut W) -> Result<(), Fault>
+    ensures { OnOk result
+        (Appends (W.contents writer.old) (W.contents writer.new) (world_line board.now)) }
+{
+    if board.privileged_count() == 0 {
+        write_ended(alloc, board, ", stable\n", writer)
     } else {
-        "not stable"
-    };
-    writeln!(
-        writer,
-        "ok: {events} events, configuration {number}, {standing}"
-    )
-    .map_err(|error| memory_or(&error, Fault::Write))
+        write_ended(alloc, board, ", not stable\n", writer)
+    }
+}
+
+// Writes the place and the number of a world, and this end of the line.
+fn write_ended<W: Write>(
+    alloc: Global,
+    board: &Board,
+    end: &str,
+    writer: &mut W,
+) -> Result<(), Fault>
+    ensures { OnOk result (Appends (W.contents writer.old) (W.contents writer.new)
+        (concat (codes "ok: " ∷ decimal board.now.place ∷ codes " events, configuration "
+        ∷ decimal board.now.number ∷ end.now ∷ []))) }
+{
+    let pieces = [
+        Piece::Text("ok: "),
+        Piece::Number(board.place()),
+        Piece::Text(" events, configuration "),
+        Piece::Number(board.number()),
+        Piece::Text(end),
+    ];
+    write_pieces(alloc, &pieces, writer)
+}
+
+// Writes a text in one go.
+fn write_pieces<W: Write>(alloc: Global, pieces: &[Piece], writer: &mut W) -> Result<(), Fault>
+    ensures { OnOk result
+        (Appends (W.contents writer.old) (W.contents writer.new) (joined pieces.now)) }
+{
+    let mut text = Vec::new(alloc);
+    if put(&mut text, pieces).is_err() {
+        return Err(Fault::Memory);
+    }
+    match writer.write_all(&text) {
+        Ok(()) => Ok(()),
+        Err(error) => Err(memory_or(&error, Fault::Write)),
+    }
 }
 
 /// Answers the lines of a script. Replies go out together, and all of them before each read. The lines

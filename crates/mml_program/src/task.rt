@@ -61,7 +61,7 @@ fn do_task<
 // Says how large the lab of a file is.
 fn check_file<R: Files + Print + AllocGlobal>(rt: &R, lab: &str) -> Result<(), Fault> {
     let lab = lab_of(rt, lab)?;
-    write_size(&lab, &mut io::writer(rt))
+    write_size(rt.alloc(), &lab, &mut io::writer(rt))
 }
 
 // Answers the script on standard input over the built-in lab.

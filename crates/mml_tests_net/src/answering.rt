@@ -36,7 +36,7 @@ fn fault_of<R: Read + Drop, W: Write>(
 // What `check` says of the built-in lab to a writer.
 fn size_to<W: Write>(alloc: Global, writer: &mut W) -> Result<Option<Fault>, Fail> {
     let lab = read_lab(alloc, BUILT_IN.as_bytes())?;
-    Ok(write_size(&lab, writer).err())
+    Ok(write_size(alloc, &lab, writer).err())
 }
 
 fn is_size_told(alloc: Global) -> Result<bool, Fail> {

@@ -15,7 +15,7 @@ type Row = (&'static str, &'static str, &'static str);
 
 fn is_size(alloc: Global, lab: &Lab, line: &str) -> Result<bool, Fail> {
     let mut out = Vec::new(alloc);
-    write_size(lab, &mut out)?;
+    write_size(alloc, lab, &mut out)?;
     Ok(out.strip_suffix(b"\n") == Some(line.as_bytes()))
 }
 

@@ -1,0 +1,31 @@
+-- What the program prints of a lab and of a journal that passes.
+use Rattle.std.specs.Prelude.{◌≡◌, ℕ, ◌==◌, Bool, true, false, List, [], ◌∷◌, length, codes, decimal, Option, Ok}
+use Rattle.std.specs.List.{concat}
+use Rattle.std.specs.Io.KnownBytes.{Appends}
+use Rattle.mml_lab.specs.Labs.{LabValue, link_count}
+use Rattle.mml_board.specs.World.{World, configuration, privileged_count}
+use Rattle.mml_hall.specs.Audit.{audited}
+
+-- how many nodes, links and students there are
+abbrev pub size_line : ℕ → ℕ → ℕ → List ℕ
+size_line nodes links students =
+    concat (codes "ok: " ∷ decimal nodes ∷ codes " nodes, " ∷ decimal links ∷ codes " links, " ∷ decimal students ∷ codes " students\n" ∷ [])
+
+abbrev pub lab_line : LabValue → List ℕ
+lab_line lab = size_line (length lab.ids) (link_count lab.network) (length lab.roster.students)
+
+-- whether no node is privileged
+abbrev pub standing : Bool → List ℕ
+standing true = codes ", stable\n"
+standing false = codes ", not stable\n"
+
+-- how many events there were, the number of the configuration, and whether it is stable
+abbrev pub world_line : World → List ℕ
+world_line w =
+    concat (codes "ok: " ∷ decimal w.place ∷ codes " events, configuration " ∷ decimal w.number ∷ standing (privileged_count (configuration w) == 0) ∷ [])
+
+-- the bytes pass the audit, and what was printed tells the world that they lead to
+pub record TellsAudited (lab : LabValue) (bytes : List ℕ) (wrote wrote' : Option (List ℕ)) : Type 0 where
+  pub world : World
+  pub passes : audited lab bytes ≡ Ok world
+  pub told : Appends wrote wrote' (world_line world)
