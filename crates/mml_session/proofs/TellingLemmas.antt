@@ -1,7 +1,8 @@
 -- What the window's answer to a command says of the reply.
-use Rattle.std.proofs.Common.{◌≡◌, ℕ, [], ◌∷◌, ◌++◌, refl, sym, ap, ◌∙◌, subst, inl, inr, append-nil, Option, Result, Ok, Err, IfOk}
+use Rattle.std.proofs.Common.{◌≡◌, ◌⊎◌, ℕ, List, [], ◌∷◌, ◌++◌, refl, sym, ap, ◌∙◌, subst, inl, inr, append-nil, Option, Result, Ok, Err, IfOk}
 use Rattle.mml_lab.specs.declared.who.Who.{Who}
 use Rattle.mml_lab.specs.Labs.{LabValue}
+use Rattle.mml_board.specs.declared.event.Event.{Event}
 use Rattle.mml_board.specs.declared.done.Done.{Done}
 use Rattle.mml_board.specs.World.{World}
 use Rattle.mml_board.specs.Events.{after}
@@ -19,8 +20,8 @@ use Rattle.mml_codec.specs.Rulings.{reply_of_done, refusal_for}
 use Rattle.mml_codec.proofs.RulingsLemmas.{place_of_done}
 use Rattle.mml_window.specs.declared.answer.Answer.TheVariants.{Granted, Refused}
 use Rattle.mml_window.specs.declared.sight.Closed.{Closed}
-use Rattle.mml_window.specs.Answers.{Answers}
-use Rattle.mml_window.specs.Lists.{world_in}
+use Rattle.mml_window.specs.Answers.{Answers, Says}
+use Rattle.mml_window.specs.Lists.{world_in, ruling_at}
 use Rattle.mml_window.specs.Windows.{WindowValue, window}
 use Rattle.mml_window.proofs.ListLemmas.{world-one_more}
 use Rattle.mml_session.specs.Turns.{Told, Plainly, Refuses, Settles, standing}
@@ -44,35 +45,21 @@ granted_told lab old new who c place number done answers =
       ));
     }
 
+-- an act that is refused is told as the ruling itself, or as the refusal in its place
+refused_says : (lab : LabValue) (l : List Event) (ps : List ℕ) (who : Who) (c : Command) (why : Refusal) (new : WindowValue) → Says lab l ps who c (Refused why) new
+    → Plainly lab l ps (ruling_at lab (world_in lab l) who c) (replies.Refuse (refusal_for why)) new ⊎ Refuses l ps (ruling_at lab (world_in lab l) who c) (replies.Refuse (refusal_for why)) new
+refused_says lab l ps who c Full new h = inl (subst (λ (ruled : Ruling). Plainly lab l ps ruled (replies.Refuse refused.Full) new) (sym h.0) (refl, h.2 ∙ ap (λ qs. window l qs) (sym (append-nil ps))))
+refused_says lab l ps who c Journal new h = inr (subst (λ (ruled : Ruling). Refuses l ps ruled (replies.Refuse refused.Journal) new) (sym h.0.2) (refused.Journal, refl, tt, h.1))
+refused_says lab l ps who c Memory new h = inr (subst (λ (ruled : Ruling). Refuses l ps ruled (replies.Refuse refused.Memory) new) (sym h.0.2) (refused.Memory, refl, tt, h.1))
+
 pub refused_told : (lab : LabValue) (old new : WindowValue) (who : Who) (c : Command) (why : Refusal)
     → Answers lab old who c (Refused why) new → Told lab old who c (replies.Refuse (refusal_for why)) new
-refused_told lab old new who c Full answers =
-    let l = answers.0 in
-    let r = replies.Refuse refused.Full in
-    record {
-      list = l;
-      later = answers.1;
-      legal = answers.2;
-      says = inl (subst (λ (ruled : Ruling). Plainly lab l old.places ruled r new) (sym answers.3.0) (refl, answers.3.2 ∙ ap (λ ps. window l ps) (sym (append-nil old.places))));
-    }
-refused_told lab old new who c Journal answers =
-    let l = answers.0 in
-    let r = replies.Refuse refused.Journal in
-    record {
-      list = l;
-      later = answers.1;
-      legal = answers.2;
-      says = inr (subst (λ (ruled : Ruling). Refuses l old.places ruled r new) (sym answers.3.0.2) (refused.Journal, refl, tt, answers.3.1));
-    }
-refused_told lab old new who c Memory answers =
-    let l = answers.0 in
-    let r = replies.Refuse refused.Memory in
-    record {
-      list = l;
-      later = answers.1;
-      legal = answers.2;
-      says = inr (subst (λ (ruled : Ruling). Refuses l old.places ruled r new) (sym answers.3.0.2) (refused.Memory, refl, tt, answers.3.1));
-    }
+refused_told lab old new who c why answers = record {
+  list = answers.0;
+  later = answers.1;
+  legal = answers.2;
+  says = refused_says lab answers.0 old.places who c why new answers.3;
+}
 
 -- what the window tells settles a command that is left to judge
 pub settled_so : (lab : LabValue) (told : Result Reply Closed) (g : Greeting) (who : Who) (c : Command) (known : Option Who) (old new : WindowValue) → LeftToJudge who c ≡ g
