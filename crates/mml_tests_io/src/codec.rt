@@ -1,4 +1,5 @@
 //! Requests and replies as lines.
+mod either;
 mod replies;
 mod reports;
 
