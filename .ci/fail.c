@@ -1,7 +1,7 @@
 /* Preloaded before a program: one call of a kind fails, or does only a part of what it was asked for.
 
-   FAIL=read is about read and recv, FAIL=write about write and send, FAIL=accept about accept4, FAIL=thread
-   about pthread_create. FAIL_AT=N is the Nth call of that kind in the process. FAIL_WITH=E is the number of
+   FAIL=read is about read and recv, FAIL=write about write and send, FAIL=open about open, FAIL=accept about
+   accept4, FAIL=thread about pthread_create. FAIL_AT=N is the Nth call of that kind in the process. FAIL_WITH=E is the number of
    the error that it answers; with 0 it answers 0, and did nothing. FAIL_SHORT=1 lets a read or a write do one
    byte at most instead. FAIL_COUNTS=FILE keeps two numbers of eight bytes in FILE: how many calls of the kind
    were made, and how many failed or were cut short. */
@@ -11,7 +11,6 @@ typedef unsigned long word;
 
 extern void *dlsym(void *, const char *);
 extern char *getenv(const char *);
-extern int open(const char *, int, ...);
 extern int close(int);
 extern void *mmap(void *, size_t, int, int, int, long);
 extern void abort(void);
@@ -21,6 +20,7 @@ extern int *__errno_location(void);
 #define READ_WRITE 2
 #define READ_AND_WRITE 3
 #define SHARED 1
+#define CREATE 0x40
 
 enum how { AS_ASKED, SHORT, FAILED };
 
@@ -68,6 +68,19 @@ long send(int file, const void *from, size_t bytes, int flags) {
     long (*next)(int, const void *, size_t, int) = dlsym(NEXT, "send");
     enum how how = meets('w');
     return how == FAILED ? failed() : next(file, from, how == SHORT ? cut(bytes) : bytes, flags);
+}
+
+/* A mode is given where the file may be made. */
+int open(const char *path, int flags, ...) {
+    int (*next)(const char *, int, ...) = dlsym(NEXT, "open");
+    unsigned mode = 0;
+    if (flags & CREATE) {
+        __builtin_va_list rest;
+        __builtin_va_start(rest, flags);
+        mode = __builtin_va_arg(rest, unsigned);
+        __builtin_va_end(rest);
+    }
+    return meets('o') == FAILED ? (int)failed() : next(path, flags, mode);
 }
 
 int accept4(int file, void *who, void *bytes, int flags) {

@@ -1,11 +1,12 @@
-"""Fails the program's reads, writes, accepts and threads, each call in turn.
+"""Fails the program's reads, writes, openings, accepts and threads, each call in turn.
 
     python3 .ci/faults.py
 
-Of each use, runs are made in which the first, the second, .. call of a kind fails, takes nothing or does
-only one byte, until a run has no such call. What the program writes, its status and its fault line are
-those of `docs/LAB.md`; the replies before are a plain run's, and so is the journal, whose whole lines
-pass the audit. A server that a signal ends leaves the same.
+Of each use, runs are made in which the first, the second, .. call of a kind fails, is interrupted by a
+signal, takes nothing or does only one byte, until a run has no such call. What the program writes, its
+status and its fault line are those of `docs/LAB.md`: an interrupted call changes nothing, and one that
+fails for want of memory is told as that, but for a line of the journal. The replies before are a plain
+run's, and so is the journal, whose whole lines pass the audit. A server that a signal ends leaves the same.
 """
 import signal
 from collections.abc import Callable
@@ -15,7 +16,7 @@ from pathlib import Path
 from preload import TOP, Ended, Preloaded, Server, Story, built_in, fail, good, in_room, play, run
 
 MOST = 1000
-EIO, ENOSPC, EAGAIN, ENOMEM, EMFILE = 5, 28, 11, 12, 24
+EINTR, EIO, EAGAIN, ENOMEM, EACCES, EMFILE, ENOSPC = 4, 5, 11, 12, 13, 24, 28
 
 
 @dataclass(frozen=True)
@@ -31,13 +32,23 @@ class Kind:
         told = {"FAIL": self.of, "FAIL_AT": str(nth), "FAIL_WITH": str(self.error)}
         return {**told, "FAIL_SHORT": "1"} if self.is_short else told
 
+    @property
+    def is_harmless(self) -> bool:
+        """Whether a run goes on as a plain one."""
+        return self.is_short or self.error == EINTR
+
+    def fault(self, line: str, out: bytes = b"") -> Ended:
+        """An end at this fault, which has that line where it isn't want of memory."""
+        return told("out of memory", 5, out) if self.error == ENOMEM else told(line, 4, out)
+
     def __str__(self) -> str:
         how = "cut short" if self.is_short else f"failed with {self.error}" if self.error else "took nothing"
         return f"{self.of} {how}"
 
 
-READS = [Kind("read", EIO), Kind("read", is_short=True)]
-WRITES = [Kind("write", EIO), Kind("write", ENOSPC), Kind("write"), Kind("write", is_short=True)]
+READS = [Kind("read", EIO), Kind("read", ENOMEM), Kind("read", EINTR), Kind("read", is_short=True)]
+WRITES = [Kind("write", error) for error in (EIO, ENOSPC, ENOMEM, EINTR, 0)] + [Kind("write", is_short=True)]
+OPENS = [Kind("open", ENOMEM)]
 ACCEPTS = [Kind("accept", EMFILE), Kind("accept", ENOMEM)]
 THREADS = [Kind("thread", EAGAIN)]
 
@@ -55,11 +66,11 @@ def wrong(ended: Ended, wanted: Ended) -> str:
     return "" if ended == wanted else f"{ended}, not {wanted}"
 
 
-def unwritten(ended: Ended, out: bytes) -> str:
+def unwritten(kind: Kind, ended: Ended, out: bytes) -> str:
     """What is wrong with an end at which not all of this output could be written, if anything."""
     if ended.out == out or not out.startswith(ended.out):
         return f"no front of what is written plainly: {ended.out!r}"
-    return wrong(ended, told("write fault", out=ended.out))
+    return wrong(ended, kind.fault("write fault", ended.out))
 
 
 class Reads:
@@ -80,11 +91,13 @@ def shown(words: list[str], then: str, reads: Reads) -> Use:
 
     def use(kind: Kind, nth: int, variables: dict[str, str]) -> str:
         ended = run(words, b"", variables)
-        if kind.is_short:
+        if kind.is_harmless:
             return wrong(ended, Ended(0, out, b""))
+        if kind.of == "open":
+            return wrong(ended, kind.fault("write fault" if nth <= 3 else f"read fault: {then}"))
         if kind.of == "read":
-            return wrong(ended, told(reads.fault(nth, then)))
-        return unwritten(ended, out)
+            return wrong(ended, kind.fault(reads.fault(nth, then)))
+        return unwritten(kind, ended, out)
 
     return use
 
@@ -102,15 +115,20 @@ def journal_fault(story: Story, ended: Ended, journal: bytes, nth: int) -> str:
     )
 
 
-def cut_off(story: Story, ended: Ended, journal: bytes, line: str) -> str:
-    """What is wrong with a script of which only the first lines were read, if anything."""
+def answered(story: Story, ended: Ended) -> tuple[list[bytes], frozenset[int]]:
+    """The replies to the first lines of a script, an empty one to each other line, and which these are."""
     replies = ended.out.splitlines(keepends=True)
     unread = frozenset(range(len(replies), len(story.lines)))
-    padded = replies + [b""] * len(unread)
+    return replies + [b""] * len(unread), unread
+
+
+def cut_off(story: Story, ended: Ended, journal: bytes, wanted: Ended) -> str:
+    """What is wrong with a script of which only the first lines were read, if anything."""
+    replies, unread = answered(story, ended)
     return (
-        wrong(Ended(ended.status, b"", ended.error), told(line))
-        or story.expects(padded, unread)
-        or ("" if journal == story.journal_of(padded, unread) else "another journal")
+        wrong(Ended(ended.status, b"", ended.error), wanted)
+        or story.expects(replies, unread)
+        or ("" if journal == story.journal_of(replies, unread) else "another journal")
     )
 
 
@@ -128,15 +146,33 @@ def scripted(story: Story, room: Path, reads: Reads) -> Use:
         ended = run(words, b"", variables)
         found = journal.read_bytes() if journal.exists() else b""
         story.audit(found)
-        if kind.is_short:
+        if kind.is_harmless:
             return wrong(ended, Ended(0, out, b"")) or ("" if found == kept else "another journal")
+        if kind.of == "open":
+            return wrong(ended, kind.fault("")) or ("an event" if found else "")
         if kind.of == "read" and nth <= reads.of_lab:
-            return wrong(ended, told("read fault: lab"))
+            return wrong(ended, kind.fault("read fault: lab"))
         if kind.of == "read":
-            return cut_off(story, ended, found, "read fault: script")
+            return cut_off(story, ended, found, kind.fault("read fault: script"))
         if nth <= puts:
             return journal_fault(story, ended, found, nth)
-        return unwritten(ended, out) or ("" if found == kept else "another journal")
+        return unwritten(kind, ended, out) or ("" if found == kept else "another journal")
+
+    return use
+
+
+def given(story: Story) -> Use:
+    """The script on standard input, which is read as it comes."""
+    replies, _ = story.plain(frozenset())
+    out = b"".join(replies)
+
+    def use(kind: Kind, nth: int, variables: dict[str, str]) -> str:
+        ended = run([], story.script(), variables)
+        if kind.is_harmless:
+            return wrong(ended, Ended(0, out, b""))
+        if kind.of == "read":
+            return cut_off(story, ended, story.journal_of(*answered(story, ended)), kind.fault("read fault: script"))
+        return unwritten(kind, ended, out)
 
     return use
 
@@ -180,21 +216,23 @@ class Served:
         replies, unasked = play(self.story, server.port, kind.of in ("accept", "thread"))
         talk = Talk(replies, unasked, server.end(), self.journal.read_bytes())
         self.story.audit(talk.journal)
-        if kind.is_short or (kind.of == "write" and nth > len(self.writes)):
+        if kind.is_harmless or (kind.of == "write" and nth > len(self.writes)):
             return self.plain(talk)
+        if kind.of == "open":
+            return "it serves"
         if kind.of == "read":
-            return self.hung_up(talk, frozenset())
+            return self.hung_up(kind, talk, frozenset())
         if kind.of == "write":
-            return self.unwritten(talk, self.writes[nth - 1])
-        line = "serve: cannot accept" if kind.error == EMFILE else "out of memory"
-        return self.untaken(talk, nth, told(line, 4 if kind.error == EMFILE else 5))
+            return self.unwritten(kind, talk, self.writes[nth - 1])
+        wanted = told("out of memory", 5) if kind.of == "thread" else kind.fault("serve: cannot accept")
+        return self.untaken(talk, nth, wanted)
 
     def unserved(self, kind: Kind, nth: int, ended: Ended) -> str:
         """Of a server that ended before it served."""
-        if kind.of == "read":
-            return wrong(ended, told("read fault: lab"))
+        if kind.of in ("open", "read"):
+            return wrong(ended, kind.fault("read fault: lab"))
         if kind.of == "write" and self.writes[nth - 1] == "first line":
-            return wrong(ended, told("write fault"))
+            return wrong(ended, kind.fault("write fault"))
         return f"it doesn't serve: {ended}"
 
     def done(self, journal: bytes) -> bytes:
@@ -210,25 +248,28 @@ class Served:
             or ("" if talk.journal == self.kept else "another journal")
         )
 
-    def hung_up(self, talk: Talk, lost: frozenset[int]) -> str:
+    def hung_up(self, kind: Kind, talk: Talk, lost: frozenset[int]) -> str:
         """Of a run in which a connection ended at a fault; lines were granted whose replies are lost."""
         closed = {self.story.lines[at].split(b" ", 1)[0] for at in talk.unasked}
         unasked = talk.unasked - lost
+        done = self.done(talk.journal)
+        # Want of memory is told at the end, but for a read after the session, whose bytes nobody wants.
+        well = kind.error != ENOMEM or (not closed and talk.ended.status == 0)
         return (
             ("two connections were closed" if len(closed) > 1 else "")
             or self.story.expects(talk.replies, unasked, lost)
-            or wrong(talk.ended, Ended(0, self.done(talk.journal), b""))
+            or wrong(talk.ended, Ended(0, done, b"") if well else kind.fault("", done))
             or ("" if talk.journal == self.story.journal_of(talk.replies, unasked) else "another journal")
         )
 
-    def unwritten(self, talk: Talk, write: str) -> str:
+    def unwritten(self, kind: Kind, talk: Talk, write: str) -> str:
         """Of a run whose write of that name failed."""
         if write == "last line":
-            return unwritten(talk.ended, self.done(self.kept))
+            return unwritten(kind, talk.ended, self.done(self.kept))
         what, at = write.split()
         if what == "reply":
             arrived = "" if int(at) in talk.unasked else "a reply that wasn't written arrived"
-            return arrived or self.hung_up(talk, frozenset({int(at)}))
+            return arrived or self.hung_up(kind, talk, frozenset({int(at)}))
         return (
             ("a connection was closed" if talk.unasked else "")
             or self.story.expects(talk.replies, frozenset())
@@ -295,10 +336,11 @@ def work(room: Path) -> str:
     pair = Story(lab, b"".join(line.replace(b"4 ", b"2 ", 1) for line in lines if line[:1] in b"14"), room)
     reads = Reads(library, lab)
     uses: list[tuple[str, Use, list[Kind]]] = [
-        ("check", shown(["check", str(lab)], "lab", reads), READS + WRITES),
-        ("audit", shown(["audit", str(lab), str(journal)], "journal", reads), READS + WRITES),
-        ("script", scripted(story, room, reads), READS + WRITES),
-        ("serve", Served(pair, room, library), READS + WRITES + ACCEPTS + THREADS),
+        ("no words", given(story), READS + WRITES),
+        ("check", shown(["check", str(lab)], "lab", reads), READS + WRITES + OPENS + [Kind("open", EACCES)]),
+        ("audit", shown(["audit", str(lab), str(journal)], "journal", reads), READS + WRITES + OPENS),
+        ("script", scripted(story, room, reads), READS + WRITES + OPENS),
+        ("serve", Served(pair, room, library), READS + WRITES + OPENS + ACCEPTS + THREADS),
     ]
     met = ", ".join(fail_all(*use, library) for use in uses)
     return f"faults met: {met}; {stopped(pair, room)}"

@@ -3,7 +3,9 @@
     python3 .ci/hostile.py [SECONDS]
 
 The replies to the honest ones are those of a script of the same lines, run alone. The server's memory at
-the end is that after their first hundred lines, and the thread of each connection that was closed has ended.
+the end is that after their first hundred lines, and the thread of each connection that was closed has ended,
+and its handles are given back. Before that, clients that send more than is answered, and read late, find all
+that was answered.
 """
 import math
 import random
@@ -24,6 +26,8 @@ PAUSE = 0.001
 SEE = b'{"do":"see","node":1}\n'
 NOT_GREETED = b'{"clause":0,"deny":"not-greeted","text":"say hello first"}\n'
 MALFORMED = b'{"refuse":"malformed"}\n'
+BYE = b'{"do":"bye"}\n'
+BID = b'{"ok":"bye"}\n'
 # A hostile client: a port, the time to end at, and what it draws from. It answers what is wrong with its replies.
 Hostile = Callable[[int, float, random.Random], str]
 
@@ -216,14 +220,38 @@ def wait_for_threads(server: Server, wanted: int, when: str) -> None:
     fail(f"hostile: {threads(server)} threads, not {wanted}, {when}")
 
 
+def handles(server: Server) -> int:
+    """How many files the server has open."""
+    return len(list(Path(f"/proc/{server.process.pid}/fd").iterdir()))
+
+
+def late(lab: Path) -> None:
+    """Clients that send more after a bye, or too much for a line, and read late: all replies arrive, and the end."""
+    server = Server(lambda port: ["serve", str(lab), str(port), "16"], {})
+    for tail, said in [(BYE + b"x" * 5000, BID), (b"x" * 20_000, b"")] * 8:
+        with opened(server.port) as it, it.makefile("rb") as replies:
+            it.sendall(SEE * 100 + tail)
+            time.sleep(0.1)
+            try:
+                found = replies.read()
+            except ConnectionError:
+                found = b"a reset"
+            if found != NOT_GREETED * 100 + said:
+                fail(f"hostile: a late reader finds {len(found)} bytes: {found[-100:]!r}")
+    end = server.end()
+    if end != Ended(0, b"done: 0 events, configuration 0\n", b""):
+        fail(f"hostile: the server of late readers ended otherwise: {end}")
+
+
 def work(room: Path) -> str:
-    """A quiet run, and one beside the hostile clients."""
+    """Late readers, a quiet run, and one beside the hostile clients."""
     seconds = float(sys.argv[1]) if len(sys.argv) > 1 else SECONDS
     lab = room / "hostile.toml"
     text = built_in(room).read_text(encoding="utf-8")
     limits = text.replace("sessions = 4\n", "sessions = 16\n").replace("events = 100\n", "events = 100000\n")
     lab.write_text(limits, encoding="utf-8")
     story = Story(lab, honest_lines(), room)
+    late(lab)
 
     server, honest = served(story, 2)
     quiet = statistics.median(honest.play(500, PAUSE))
@@ -241,6 +269,9 @@ def work(room: Path) -> str:
         times += honest.play(MOST_LINES, PAUSE, until)
         answered(futures)
     wait_for_threads(server, 3, "once the hostile clients have gone")
+    # The standard streams, and two for each honest client.
+    if handles(server) != 7:
+        fail(f"hostile: {handles(server)} files are open once the hostile clients have gone")
     if abs(kilobytes(server) - held) * 10 > held:
         fail(f"hostile: the server holds {kilobytes(server)} kB, not {held} kB as after a hundred lines")
     holds = kilobytes(server)

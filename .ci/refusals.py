@@ -83,12 +83,10 @@ def scripted(story: Story, room: Path, with_words: bool) -> Use:
 def fault_of_end(ended: Ended, replies: list[bytes], audited: bytes) -> str:
     """What is wrong with how a server ended that answered so, if anything."""
     done = b"done:" + audited.split(b":", 1)[1].rsplit(b",", 1)[0] + b"\n"
+    # Where a session got no memory to begin with, its connection is closed, and that is told at the end.
+    wanted = Ended(5, done, b"out of memory\n") if b"" in replies else Ended(0, done, b"")
     # Where no thread can be made, those that were taken are served to their ends, and nothing more is told.
-    wanted = [Ended(0, done, b""), OUT_OF_MEMORY]
-    # Where a session got no memory to begin with, its connection is closed.
-    if b"" in replies:
-        wanted.append(Ended(5, done, b"out of memory\n"))
-    return "" if ended in wanted else "another end"
+    return "" if ended in (wanted, OUT_OF_MEMORY) else "another end"
 
 
 def first_unanswered_late(story: Story, unasked: frozenset[int]) -> str:

@@ -1,5 +1,5 @@
 //! What ends the program early: one line on standard error and a status.
-ghost use Rattle.std.specs.Prelude.{◌≡◌, ◌≢◌, ◌⊎◌};
+ghost use Rattle.std.specs.Prelude.{◌≡◌, ◌≢◌, ◌⊎◌, true, false};
 ghost use Rattle.std.specs.IoError.{error_kind};
 ghost use Rattle.mml_program.specs.declared.fault.Fault.TheVariants.{Memory};
 
@@ -81,6 +81,16 @@ impl Fault {
             | Fault::Write => 4,
             Fault::Place | Fault::Memory => 5,
         }
+    }
+}
+
+impl Fault {
+    /// Want of memory where a reader or a writer met it, whatever the fault was told as.
+    pub fn or_memory(self, lacked: bool) -> Fault
+        ensures memory { lacked ≡ true → result ≡ Fault.Memory }
+        ensures other { lacked ≡ false → result ≡ self }
+    {
+        if lacked { Fault::Memory } else { self }
     }
 }
 

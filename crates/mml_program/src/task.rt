@@ -7,20 +7,23 @@ use crate::built_in::BUILT_IN;
 use crate::fault::{Fault, memory_or};
 use crate::files::{begin_journal, read_file, read_journal};
 use crate::words::{ScriptTask, ServeTask, Task, read_words};
+use mml_ends::{Retrying, hold_streams};
 use mml_files::OpenJournal;
 use mml_journal::{FileSink, NullSink, Sink};
 use mml_lab::{Lab, read_lab};
-use mml_serving::{serve_on, write_listening};
+use mml_serving::{ServeFault, serve_on, write_listening};
 use mml_session::NoGate;
 use std::alloc::Global;
 use std::fs::File;
+use std::io::Write;
 use std::net::{Ipv4Addr, Net, SocketAddr, TcpListener, TcpStream};
 use std::rt::{Env, Files};
 use std::sync::Wait;
 use std::thread::Threads;
 use std::{env, io};
 
-/// Does what the words of the command line ask for. The lab is read first, then the journal's file is
+/// Does what the words of the command line ask for. Before all else each standard stream that is closed
+/// is held, so that no file takes its place. The lab is read first, then the journal's file is
 /// opened, the script is read or the port taken, and only then the journal is begun: what stood in its
 /// file is kept under another name, and where an earlier step fails the file is as it was.
 pub fn run<
@@ -34,6 +37,7 @@ pub fn run<
         + Print
         + AllocGlobal,
 >(rt: &R) -> Result<(), Fault> {
+    hold_streams(rt).map_err(|error| memory_or(&error, Fault::Write))?;
     let words = words_of(rt)?;
     do_task(rt, read_words(rt.alloc(), words.as_slice())?)
 }
@@ -68,14 +72,12 @@ fn check_file<R: Files + Print + AllocGlobal>(rt: &R, lab: &str) -> Result<(), F
 fn answer_input<R: Input + Print + AllocGlobal>(rt: &R) -> Result<(), Fault> {
     let alloc = rt.alloc();
     let lab = lab_in(alloc, BUILT_IN.as_bytes())?;
-    answer_script(
-        alloc,
-        lab,
-        &mut rt.reader(),
-        &mut io::writer(rt),
-        NullSink::new(),
-    )?;
-    Ok(())
+    let mut reader = Retrying::new(rt.reader());
+    let mut writer = Retrying::new(io::writer(rt));
+    match answer_script(alloc, lab, &mut reader, &mut writer, NullSink::new()) {
+        Ok(_) => Ok(()),
+        Err(fault) => Err(fault.or_memory(reader.lacked_memory || writer.lacked_memory)),
+    }
 }
 
 // Answers the script of a file over the lab of a file.
@@ -135,11 +137,12 @@ fn answer_lines<R: Print + AllocGlobal, S: Sink + Drop>(
     requires countable { S.failures sink < 2 ^ 64 - 1 }
 {
     let mut script = script;
-    let hall = answer_script(rt.alloc(), lab, &mut script, &mut io::writer(rt), sink)?;
-    if hall.halted() {
-        return Err(Fault::Journal);
+    let mut writer = Retrying::new(io::writer(rt));
+    match answer_script(rt.alloc(), lab, &mut script, &mut writer, sink) {
+        Ok(hall) if hall.halted() => Err(Fault::Journal),
+        Ok(_) => Ok(()),
+        Err(fault) => Err(fault.or_memory(writer.lacked_memory)),
     }
-    Ok(())
 }
 
 // Audits the journal of a file over the lab of a file.
@@ -226,19 +229,31 @@ fn serve_listener<
     requires fresh { IsFresh (S.contents sink) }
     requires countable { S.failures sink < 2 ^ 64 - 1 }
 {
+    let mut writer = Retrying::new(io::writer(rt));
+    match serve_lines(rt, lab, listener, port, connections, sink, &mut writer) {
+        Ok(()) => Ok(()),
+        Err(fault) => Err(Fault::from(fault).or_memory(writer.lacked_memory)),
+    }
+}
+
+// The first line, the connections, and the last line.
+fn serve_lines<R: Threads + Wait + Sync + AllocGlobal, S: Sink + Send + Drop, W: Write>(
+    rt: &R,
+    lab: Lab,
+    listener: TcpListener,
+    port: u16,
+    connections: u8,
+    sink: S,
+    writer: &mut W,
+) -> Result<(), ServeFault>
+    requires some { 0 < connections }
+    requires sessions { connections ≤ lab.sessions }
+    requires fresh { IsFresh (S.contents sink) }
+    requires countable { S.failures sink < 2 ^ 64 - 1 }
+{
     let alloc = rt.alloc();
-    write_listening(alloc, port, &mut io::writer(rt))?;
-    serve_on(
-        rt,
-        alloc,
-        lab,
-        listener,
-        connections,
-        sink,
-        &NoGate,
-        &mut io::writer(rt),
-    )?;
-    Ok(())
+    write_listening(alloc, port, writer)?;
+    serve_on(rt, alloc, lab, listener, connections, sink, &NoGate, writer)
 }
 
 // Listens on a port of this machine alone.

@@ -1,12 +1,15 @@
 -- Connections that were served as they came.
-use Rattle.std.specs.Prelude.{◌≡◌, ℕ, ◌+◌, List, [], ◌∷◌, ◌++◌, All, length, map, ⊤, Option}
+use Rattle.std.specs.Prelude.{◌≡◌, ℕ, Bool, true, false, not, ◌&&◌, ◌+◌, List, [], ◌∷◌, ◌++◌, All, length, map, ⊤, Option}
 use Rattle.mml_lab.specs.Labs.{LabValue}
 use Rattle.mml_window.specs.declared.log.Log.{Log}
 use Rattle.mml_window.specs.Logs.{IsLog}
 use Rattle.mml_window.specs.Windows.{WindowValue, window}
 use Rattle.mml_session.specs.declared.each.Connection.{Connection}
 use Rattle.mml_session.specs.declared.house.EndedSession.{EndedSession}
+use Rattle.mml_session.specs.declared.session.SessionEnd.{SessionEnd}
+use Rattle.mml_session.specs.declared.session.SessionEnd.TheVariants as end
 use Rattle.mml_session.specs.Houses.{Each, IsServed}
+use Rattle.mml_serving.specs.declared.socket.Socket.{Socket}
 use Rattle.mml_serving.specs.Arriving.{Takes}
 
 -- a connection without its number
@@ -37,3 +40,11 @@ pub record ServesHouse {S R W : Type 0} (lab : LabValue) (sink : S → Option (L
   pub idle : All (λ w. w ≡ window [] []) unused
   pub kept : IsLog lab sink (windows ++ unused) log
   pub each : ServesAll lab remaining contents to_come count sessions windows
+
+abbrev pub is_for_memory : SessionEnd → Bool
+is_for_memory end.Memory = true
+is_for_memory _ = false
+
+-- neither did the session end for want of memory, nor a read or a write of its socket fail for it
+abbrev pub had_memory : EndedSession Socket Socket → Bool
+had_memory s = not (is_for_memory s.end) && (not s.connection.reader.end.lacked_memory && not s.connection.writer.end.lacked_memory)

@@ -1,10 +1,11 @@
-//! Where connections come from.
-ghost use Rattle.std.specs.Prelude.{List, [], ◌∷◌, None, Option, MatchResult};
+//! Where connections come from, and how they are let go.
+ghost use Rattle.std.specs.Prelude.{◌≡◌, List, [], ◌∷◌, None, Option, MatchResult};
 ghost use Rattle.mml_serving.specs.Arriving.{Takes};
 
+use crate::socket::Socket;
 use std::io;
 use std::io::{Read, Write};
-use std::net::{Shutdown, TcpListener, TcpStream};
+use std::net::TcpListener;
 
 /// What gives connections as they come, each as its two ends.
 pub trait Arrivals<R: Read + Drop, W: Write + Drop> {
@@ -18,25 +19,26 @@ pub trait Arrivals<R: Read + Drop, W: Write + Drop> {
             (λ _. Takes (to_come self.old) (to_come self.new) []) };
 }
 
-/// An end of a connection by which the other side can be told that nothing more comes.
-pub trait HangUp {
-    /// Ends the connection. It is let go later.
-    fn hang_up(&self);
+/// The reading end of a connection, which can be given back while its value is kept.
+pub trait LetGo: Read {
+    /// Gives back what it holds of the system. Nothing more is read.
+    fn let_go(&mut self)
+        ensures { Self.remaining self.new ≡ Self.remaining self.old };
 }
 
-impl Arrivals<TcpStream, TcpStream> for TcpListener {
-    fn accept_next(&mut self) -> io::Result<(TcpStream, TcpStream)> {
+/// The writing end of a connection, by which the other side can be told that nothing more comes.
+pub trait HangUp: Write {
+    /// Ends the connection, and gives back what it holds of the system. Nothing more is written.
+    fn hang_up(&mut self)
+        ensures { Self.contents self.new ≡ Self.contents self.old };
+}
+
+impl Arrivals<Socket, Socket> for TcpListener {
+    fn accept_next(&mut self) -> io::Result<(Socket, Socket)> {
         let (stream, _) = self.accept()?;
         // Where the system refuses this, replies still go out, only later.
         let _ = stream.set_nodelay(true);
-        let writer = stream.try_clone()?;
-        Ok((stream, writer))
-    }
-}
-
-impl HangUp for TcpStream {
-    fn hang_up(&self) {
-        // It is refused where the other side is gone.
-        let _ = self.shutdown(Shutdown::Both);
+        let writer = Socket::new(stream.try_clone()?);
+        Ok((Socket::new(stream), writer))
     }
 }

@@ -6,7 +6,9 @@ mod arriving;
 mod numbers;
 mod seating;
 mod serving;
+mod socket;
 
-pub use arriving::{Arrivals, HangUp};
+pub use arriving::{Arrivals, HangUp, LetGo};
 pub use numbers::{read_connections, read_port};
 pub use serving::{ServeFault, serve_arrivals, serve_on, write_last, write_listening};
+pub use socket::Socket;

@@ -6,7 +6,7 @@ ghost use Rattle.mml_session.specs.Houses.{Each, IsServed};
 ghost use Rattle.mml_serving.specs.Arriving.{Takes};
 ghost use Rattle.mml_serving.specs.Serving.{ServesAll, ends};
 
-use crate::arriving::{Arrivals, HangUp};
+use crate::arriving::{Arrivals, HangUp, LetGo};
 use crate::serving::ServeFault;
 use mml_journal::Sink;
 use mml_session::{Connection, EndedSession, Gate, Seat, Served, serve_seat};
@@ -24,8 +24,8 @@ pub(crate) fn serve_all<
     Rt: Threads + Wait + Sync,
     S: Sink + Send + Drop,
     H: House + Send + Sync,
-    R: Read + Send + Drop,
-    W: Write + HangUp + Send + Drop,
+    R: LetGo + Send + Drop,
+    W: HangUp + Send + Drop,
     A: Arrivals<R, W> + Drop,
     G: Gate + Sync,
 >(
@@ -143,15 +143,9 @@ fn accept_fault(kind: ErrorKind) -> ServeFault
     }
 }
 
-// Serves the connection of a seat and hangs up, so that the other side needn't wait for the others.
-fn serve_apart<
-    Rt: Wait,
-    S: Sink + Drop,
-    H: House,
-    R: Read + Drop,
-    W: Write + HangUp + Drop,
-    G: Gate,
->(
+// Serves the connection of a seat, hangs up and gives it back, so that neither the other side nor the
+// system waits for the other connections.
+fn serve_apart<Rt: Wait, S: Sink + Drop, H: House, R: LetGo + Drop, W: HangUp + Drop, G: Gate>(
     rt: &Rt,
     alloc: Global,
     desk: &Desk<S, H>,
@@ -163,7 +157,9 @@ fn serve_apart<
 {
     let Served { seat, end } = serve_seat(rt, alloc, desk, seat, gate);
     let Seat { window, connection } = seat;
+    let mut connection = connection;
     connection.writer.hang_up();
+    connection.reader.let_go();
     (window, EndedSession { end, connection })
 }
 

@@ -1,5 +1,6 @@
 //! A server from the opening of its house to its last line.
 ghost use Rattle.std.specs.Prelude.{◌≡◌, ◌<◌, ◌≤◌, ◌+◌, ◌-◌, ◌^◌, ◌++◌, Err, false, length, IfOk, OnOk};
+ghost use Rattle.std.specs.List.{list_all};
 ghost use Rattle.std.specs.Io.KnownBytes.{Appends};
 ghost use Rattle.mml_ids.specs.Pieces.{joined};
 ghost use Rattle.mml_journal.specs.Taken.{IsFresh};
@@ -7,18 +8,19 @@ ghost use Rattle.mml_window.specs.Houses.{house_of};
 ghost use Rattle.mml_window.specs.Lists.{world_in};
 ghost use Rattle.mml_window.specs.Logs.{IsLog};
 ghost use Rattle.mml_serving.specs.Closings.{Closes, done_line, listening_line};
-ghost use Rattle.mml_serving.specs.Serving.{ServesHouse};
+ghost use Rattle.mml_serving.specs.Serving.{ServesHouse, had_memory};
 
-use crate::arriving::{Arrivals, HangUp};
+use crate::arriving::{Arrivals, HangUp, LetGo};
 use crate::seating::serve_all;
+use crate::socket::Socket;
 use mml_ids::{Piece, put};
 use mml_journal::Sink;
 use mml_lab::Lab;
 use mml_lines::put_all;
-use mml_session::{Gate, ServedHouse};
+use mml_session::{EndedSession, Gate, ServedHouse, SessionEnd};
 use mml_window::{Blank, Brand, Desk, House, HouseFault, Log, Window, open_house};
 use std::alloc::Global;
-use std::io::{Read, Write};
+use std::io::Write;
 use std::net::TcpListener;
 use std::sync::Wait;
 use std::thread::Threads;
@@ -60,8 +62,28 @@ pub fn serve_on<Rt: Threads + Wait + Sync, S: Sink + Send + Drop, G: Gate + Sync
     requires countable { S.failures sink < 2 ^ 64 - 1 }
     ensures { OnOk result (Closes lab (W.contents writer.old) (W.contents writer.new)) }
 {
-    let _house = serve_arrivals(rt, alloc, lab, listener, connections, sink, gate, writer)?;
-    Ok(())
+    let house = serve_arrivals(rt, alloc, lab, listener, connections, sink, gate, writer)?;
+    if all_had_memory(&house.sessions) {
+        Ok(())
+    } else {
+        Err(ServeFault::Memory)
+    }
+}
+
+// Whether no session of a socket ended for want of memory, and none of its calls failed for it.
+fn all_had_memory(sessions: &[EndedSession<Socket, Socket>]) -> bool
+    ensures { result ≡ list_all had_memory sessions.now }
+{
+    sessions.iter().all(|session| had_memory(session))
+}
+
+fn had_memory(session: &EndedSession<Socket, Socket>) -> bool
+    ensures { result ≡ had_memory session.now }
+{
+    let connection = &session.connection;
+    !matches!(session.end, SessionEnd::Memory)
+        && !connection.reader.end.lacked_memory
+        && !connection.writer.end.lacked_memory
 }
 
 /// Serves the first so many connections that arrive, each as it comes, in a thread of its own and
@@ -72,8 +94,8 @@ pub fn serve_on<Rt: Threads + Wait + Sync, S: Sink + Send + Drop, G: Gate + Sync
 pub fn serve_arrivals<
     Rt: Threads + Wait + Sync,
     S: Sink + Send + Drop,
-    R: Read + Send + Drop,
-    W: Write + HangUp + Send + Drop,
+    R: LetGo + Send + Drop,
+    W: HangUp + Send + Drop,
     A: Arrivals<R, W> + Drop,
     G: Gate + Sync,
     O: Write,
@@ -111,8 +133,8 @@ fn in_house<
     H: House + Send + Sync,
     Rt: Threads + Wait + Sync,
     S: Sink + Send + Drop,
-    R: Read + Send + Drop,
-    W: Write + HangUp + Send + Drop,
+    R: LetGo + Send + Drop,
+    W: HangUp + Send + Drop,
     A: Arrivals<R, W> + Drop,
     G: Gate + Sync,
 >(

@@ -3,12 +3,12 @@ use mml_fakes::FakeWriter;
 use mml_journal::MemorySink;
 use mml_lab::{Lab, read_lab};
 use mml_program::BUILT_IN;
-use mml_serving::{Arrivals, HangUp, ServeFault, serve_arrivals};
+use mml_serving::{Arrivals, HangUp, LetGo, ServeFault, serve_arrivals};
 use mml_session::{NoGate, ServedHouse};
 use std::alloc::{AllocError, Global};
 use std::collections::VecDeque;
 use std::io;
-use std::io::{ErrorKind, Write};
+use std::io::{ErrorKind, Read, Write};
 use std::sync::Wait;
 use std::test::Fail;
 use std::thread::Threads;
@@ -28,7 +28,21 @@ impl Write for Kept {
 }
 
 impl HangUp for Kept {
-    fn hang_up(&self) {}
+    fn hang_up(&mut self) {}
+}
+
+/// A reader that gives these bytes.
+#[derive(Drop)]
+struct Given(VecDeque<u8>);
+
+impl Read for Given {
+    fn read(&mut self, bytes: &mut [u8]) -> io::Result<usize> {
+        self.0.read(bytes)
+    }
+}
+
+impl LetGo for Given {
+    fn let_go(&mut self) {}
 }
 
 /// Connections that send these bytes, the last ones first.
@@ -38,16 +52,16 @@ struct Texts {
     left: Vec<VecDeque<u8>>,
 }
 
-impl Arrivals<VecDeque<u8>, Kept> for Texts {
-    fn accept_next(&mut self) -> io::Result<(VecDeque<u8>, Kept)> {
+impl Arrivals<Given, Kept> for Texts {
+    fn accept_next(&mut self) -> io::Result<(Given, Kept)> {
         match self.left.pop() {
-            Some(text) => Ok((text, Kept(FakeWriter::patient(self.alloc)))),
+            Some(text) => Ok((Given(text), Kept(FakeWriter::patient(self.alloc)))),
             None => Err(io::Error::from(ErrorKind::NotConnected)),
         }
     }
 }
 
-type Left = ServedHouse<MemorySink, VecDeque<u8>, Kept>;
+type Left = ServedHouse<MemorySink, Given, Kept>;
 
 fn bytes_of(alloc: Global, text: &str) -> Result<VecDeque<u8>, AllocError> {
     let mut bytes = VecDeque::new(alloc);
