@@ -9,6 +9,7 @@ import hmac
 import json
 import queue
 import secrets
+import socket
 import threading
 from http.server import BaseHTTPRequestHandler, ThreadingHTTPServer
 from typing import Any
@@ -24,6 +25,7 @@ from classroom.watch import Now, Present
 TRIES = 50
 LISTED = 25  # events and lines that a page is told of at once
 STILL_HERE = 10.0  # seconds without news after which a page is told that there are none
+KEPT = 16384  # bytes of news that wait for a page
 MOST_BYTES = 200  # of what a page asks for
 WORDS = ("close", "fault", "link", "cut", "release", "every", "when-idle", "by-hand")
 POLICY = ("default-src 'none'; style-src 'unsafe-inline'; script-src 'unsafe-inline'; connect-src 'self'; "
@@ -72,6 +74,11 @@ class Page(BaseHTTPRequestHandler):
     def log_message(self, format: str, *words: Any) -> None:
         """Nothing is printed: an address has the token."""
 
+    def setup(self) -> None:
+        """Little is kept for a page that is slow: it gets the present instead of what has passed."""
+        self.request.setsockopt(socket.SOL_SOCKET, socket.SO_SNDBUF, KEPT)
+        super().setup()
+
     def asked(self) -> str | None:
         """What is asked for below the token, where the address has it and is that of this machine."""
         beginning, slash, rest = self.path[1:].partition("/")
@@ -116,7 +123,8 @@ class Page(BaseHTTPRequestHandler):
 
     def tell(self, present: Present) -> None:
         """Sends the present, and then what has changed, until the run or the page ends."""
-        rows, before = Frames(self.server.lab), None
+        rows = Frames(self.server.lab)
+        before: Now | None = None
         while before is None or not before.ended:
             now = present.after(before.version if before else 0, STILL_HERE)
             text = ": no news" if now is before else f"data: {json.dumps(message(rows, before, now))}"

@@ -10,20 +10,11 @@ import xml.etree.ElementTree as ElementTree
 from pathlib import Path
 from typing import Any
 
-from selenium import webdriver
-from selenium.webdriver.chrome.options import Options
-from selenium.webdriver.chrome.service import Service
-from selenium.webdriver.common.action_chains import ActionChains
 from selenium.webdriver.common.keys import Keys
-from selenium.webdriver.support.ui import WebDriverWait
 
-from classroom.frames import Frame, State, frames_of
+from classroom.frames import frames_of
+from classroom.tests.browser import browser, is_ready, press, shown, told, until
 from classroom.tests.runs import TOP, built_in, edited_run, examples, largest_run
-
-ATTRIBUTES = """
-const nodes = [...document.querySelectorAll('#drawing .node')].map((node) => ({...node.dataset}));
-return [{...document.getElementById('drawing').dataset}, nodes, document.getElementById('event').textContent];
-"""
 
 # The milliseconds of each step, those of some in which nothing was known of what is shown, and how many changes of
 # the drawing each step makes.
@@ -50,42 +41,9 @@ return counts;
 """
 
 
-def browser() -> webdriver.Chrome:
-    options = Options()
-    options.binary_location = "/usr/bin/chromium"
-    for word in ("--headless=new", "--no-sandbox", "--disable-dev-shm-usage", "--window-size=1300,900"):
-        options.add_argument(word)
-    return webdriver.Chrome(options=options, service=Service("/usr/bin/chromedriver"))
-
-
-def told(state: State, frame: Frame) -> tuple[dict[str, str], list[dict[str, str]], str]:
-    """What the page has to show of a state."""
-    root = {
-        "place": str(state.place), "number": str(state.number), "privileged": str(len(state.privileged)),
-        "pairs": str(len(state.pairs)),
-    }
-    married = {node for pair in state.pairs for node in pair}
-    nodes = [
-        {
-            "node": str(node), "p": "" if pointer is None else str(pointer), "m": str(state.ms[node]).lower(),
-            "married": str(node in married).lower(), "rule": state.privileged.get(node, ""),
-            "chosen": state.chosen.get(node, ""),
-        }
-        for node, pointer in state.pointers.items()
-    ]
-    line = "the beginning" if frame.event is None else f"{state.place}: {' '.join(frame.event.words)}"
-    return root, sorted(nodes, key=lambda node: int(node["node"])), line
-
-
 class Played(unittest.TestCase):
-    driver: webdriver.Chrome
-
-    @classmethod
-    def setUpClass(cls) -> None:
-        cls.driver = browser()
-        cls.addClassCleanup(cls.driver.quit)
-
     def setUp(self) -> None:
+        self.driver: Any = browser()
         room = tempfile.TemporaryDirectory()
         self.addCleanup(room.cleanup)
         self.room = Path(room.name)
@@ -104,16 +62,11 @@ class Played(unittest.TestCase):
         start = time.monotonic()
         self.driver.get("about:blank")
         self.driver.get(page.as_uri() + place)
-        while self.driver.execute_script("return document.body.dataset.ready") != "true":
-            self.assertLess(time.monotonic() - start, 300)
+        until(self.driver, is_ready)
         return time.monotonic() - start
 
     def press(self, key: str) -> None:
-        ActionChains(self.driver).send_keys(key).perform()
-
-    def shown(self) -> tuple[dict[str, str], list[dict[str, str]], str]:
-        root, nodes, line = self.driver.execute_script(ATTRIBUTES)
-        return root, sorted(nodes, key=lambda node: int(node["node"])), line
+        press(self.driver, key)
 
     def test_each_configuration_by_keys(self) -> None:
         for lab, journal in (edited_run(self.room), *examples(self.room)):
@@ -122,36 +75,36 @@ class Played(unittest.TestCase):
             self.open(self.page(lab, journal))
             with self.subTest(lab=lab.name):
                 for place in range(len(run)):
-                    self.assertEqual(self.shown(), run[place])
+                    self.assertEqual(shown(self.driver), run[place])
                     self.press(Keys.ARROW_RIGHT)
                 self.press(Keys.HOME)
-                self.assertEqual(self.shown(), run[0])
+                self.assertEqual(shown(self.driver), run[0])
                 numbers = [root["number"] for root, _, _ in run]
                 firsts = [at for at, number in enumerate(numbers) if at == 0 or number != numbers[at - 1]]
                 for at in firsts[1:]:
                     self.press(Keys.ARROW_DOWN)
-                    self.assertEqual(self.shown(), run[at])
+                    self.assertEqual(shown(self.driver), run[at])
                 self.press(Keys.ARROW_UP)
-                self.assertEqual(self.shown(), run[firsts[-2]])
+                self.assertEqual(shown(self.driver), run[firsts[-2]])
                 self.press(Keys.END)
                 self.press(Keys.ARROW_LEFT)
-                self.assertEqual(self.shown(), run[-2])
+                self.assertEqual(shown(self.driver), run[-2])
 
     def test_a_link_to_a_place(self) -> None:
         lab, journal = edited_run(self.room)
         page = self.page(lab, journal)
         self.open(page, "#p=7")
-        self.assertEqual(self.shown()[0]["place"], "7")
+        self.assertEqual(shown(self.driver)[0]["place"], "7")
         self.driver.execute_script("location.hash = '#p=2'")
         self.driver.execute_script("window.dispatchEvent(new HashChangeEvent('hashchange'))")
-        self.assertEqual(self.shown()[0]["place"], "2")
+        self.assertEqual(shown(self.driver)[0]["place"], "2")
         self.open(page, "#p=99999")
-        self.assertEqual(self.shown()[0]["place"], str(len(journal.read_text().splitlines())))
+        self.assertEqual(shown(self.driver)[0]["place"], str(len(journal.read_text().splitlines())))
         self.press(Keys.HOME)
         self.press(Keys.ARROW_RIGHT)
-        WebDriverWait(self.driver, 300).until(lambda driver: driver.execute_script("return location.hash") == "#p=1")
+        until(self.driver, lambda driver: driver.execute_script("return location.hash") == "#p=1")
         self.driver.find_element("css selector", "#events li:not([hidden]) + li + li + li a").click()
-        self.assertEqual(self.shown()[0]["place"], "3")
+        self.assertEqual(shown(self.driver)[0]["place"], "3")
 
     def test_it_plays_to_the_end_by_itself(self) -> None:
         lab, journal = edited_run(self.room)
@@ -159,11 +112,8 @@ class Played(unittest.TestCase):
         self.driver.execute_script("document.getElementById('speed').value = '20'")
         self.press(" ")
         last = str(len(journal.read_text().splitlines()))
-        end = time.monotonic() + 300
-        while self.shown()[0]["place"] != last:
-            self.assertLess(time.monotonic(), end)
-        while self.driver.find_element("id", "play").text != "Play":
-            self.assertLess(time.monotonic(), end)
+        until(self.driver, lambda driver: shown(driver)[0]["place"] == last)
+        until(self.driver, lambda driver: driver.find_element("id", "play").text == "Play")
 
     def test_the_largest_lab_opens_and_steps_in_time(self) -> None:
         lab, journal = largest_run(self.room)
@@ -180,7 +130,7 @@ class Played(unittest.TestCase):
         self.assertLess(steps[990], 50)
         self.assertLess(steps[500], anew / 2)
         touched: list[int] = self.driver.execute_script(TOUCHED)
-        self.assertEqual(self.shown()[0]["place"], "1000")
+        self.assertEqual(shown(self.driver)[0]["place"], "1000")
         for place in range(2, 1001):
             if kinds[place - 1] in ("grant", "release") and kinds[place - 2] in ("grant", "release"):
                 self.assertLess(touched[place - 1], 10, place)

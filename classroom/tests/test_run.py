@@ -1,48 +1,20 @@
 """`./class run` and `demo`, and the programs that take part, over the built program."""
 from __future__ import annotations
 
-import json
-import os
 import shutil
 import signal
 import socket
 import subprocess
 import sys
 import unittest
-from pathlib import Path
 
 from classroom.client import Client, Closed, Denied, Refused
-from classroom.lab import read
-from classroom.program import call
-from classroom.tests.help import EXAMPLES, LIMIT, Going, InRoom, words
-
-CYCLE = EXAMPLES / "cycle.toml"
-KEYS = {"gus": "heron-31", "hana": "swift-86", "ines": "finch-05", "jonas": "plover-48"}
+from classroom.tests.help import CYCLE, EXAMPLES, KEYS, LIMIT, Cycle, Going, words
 
 
-class Run(InRoom):
+
+class Run(Cycle):
     """Runs over the cycle of `examples/`."""
-
-    def bot(self, going: Going, name: str, *command: str | Path) -> subprocess.Popen[bytes]:
-        """A student's bot."""
-        lab = read(CYCLE)
-        nodes = list(map(str, lab.nodes_of(name)))
-        named = [",".join(nodes)] if not command else nodes
-        bot = subprocess.Popen(
-            [*(command or (sys.executable, EXAMPLES / "bot.py")), str(going.port), name, KEYS[name], *named],
-            stdin=subprocess.DEVNULL, stdout=subprocess.DEVNULL, stderr=subprocess.DEVNULL,
-        )
-        self.addCleanup(bot.wait)
-        self.addCleanup(bot.kill)
-        return bot
-
-    def whole(self, folder: Path) -> int:
-        """Wants a finished folder; gives the number of its events."""
-        for name in ("lab.toml", "journal", "audit.txt", "marks.txt", "marks.json", "run.html", "run.txt", "server.txt"):
-            self.assertTrue((folder / name).is_file(), name)
-        self.assertEqual(call("audit", folder / "lab.toml", folder / "journal").status, 0)
-        events: int = json.loads((folder / "marks.json").read_text(encoding="utf-8"))["runs"][0]["events"]
-        return events
 
     def test_to_stable(self) -> None:
         going = Going(self, CYCLE, "--close", "when-idle:0.3", "--until", "stable")
@@ -100,17 +72,6 @@ class Run(InRoom):
             going.process.send_signal(number)
             self.assertEqual(going.ends(), 0, going.lines)
             self.assertEqual(self.whole(going.folder), 0)
-
-    def test_kills_of_the_server(self) -> None:
-        for moment in range(10):
-            going = Going(self, CYCLE, "--close", "every:0.05")
-            for name in KEYS:
-                self.bot(going, name)
-            for _ in range(moment % 5):
-                going.until("^configuration ")
-            os.kill(going.server(), signal.SIGKILL)
-            self.assertEqual(going.ends(), 4, going.lines)
-            self.whole(going.folder)
 
     def test_a_port_in_use(self) -> None:
         with socket.create_server(("127.0.0.1", 0)) as taken:
