@@ -198,15 +198,15 @@ class Live(InRoom):
             slow.setsockopt(socket.SOL_SOCKET, socket.SO_RCVBUF, 4096)
             slow.connect(("127.0.0.1", parts.port))
             slow.sendall(f"GET {parts.path}events HTTP/1.0\r\nHost: {parts.netloc}\r\n\r\n".encode())
-            self.going.type("\n".join(["cut 1 2", "link 1 2"] * 60))
-            self.going.until("^configuration 120: link 1 2")
-            until(self.driver, lambda driver: shown(driver)[0]["number"] == "120")
+            self.going.type("\n".join(["cut 1 2", "link 1 2"] * 30))
+            self.going.until("^configuration 60: link 1 2")
+            until(self.driver, lambda driver: shown(driver)[0]["number"] == "60")
             pieces = 0
             for line in slow.makefile("rb"):
                 pieces += line.startswith(b"data: ")
-                if b'"number": 120,' in line:
+                if b'"number": 60,' in line:
                     break
-            self.assertLess(pieces, 120)
+            self.assertLess(pieces, 60)
         self.end()
 
     def test_without_the_token(self) -> None:
