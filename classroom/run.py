@@ -23,6 +23,7 @@ from classroom.program import TOP, Fault, call
 from classroom.watch import Watch
 
 TICK = 0.1
+PATIENCE = 60.0  # seconds for the server's end after the teacher's bye
 HELP = ("close, fault N P M, link A B, cut A B, release N, report, wait, every SECONDS, when-idle SECONDS, by-hand, "
         "end")
 
@@ -330,7 +331,7 @@ def hold(folder: Path, lab: labs.Lab, words: argparse.Namespace, tell: Teller, b
         tell(f"the server: {error}")
         why = "died"
     finally:
-        status = it.finish(10.0)
+        status = it.finish(0.0 if why == "died" else PATIENCE)
     if why == "died" or status != 0:
         tell(f"the server has ended by itself, status {status}: {it.printed()}")
         return 4
