@@ -120,10 +120,11 @@ class Played(unittest.TestCase):
         kinds = [line.split(" ")[2] for line in journal.read_text().splitlines()]
         self.assertEqual(len(kinds), 1000)
         page = self.page(lab, journal)
-        # Each limit leaves a slow machine several times what it needs: the best of three passes counts, and a
-        # step is held against drawing everything anew in the same browser.
+        # It opens within two seconds and steps within some milliseconds where nothing else runs. Each limit leaves a
+        # slow machine ten times that: the best of three passes counts, and a step is held against drawing
+        # everything anew in the same browser.
         opened = min(self.open(page) for _ in range(3))
-        self.assertLess(opened, 8)
+        self.assertLess(opened, 20)
         passes: list[list[float]] = [self.driver.execute_script(TIMES) for _ in range(3)]
         steps = sorted(min(of) for of in zip(*passes))
         anew: float = min(self.driver.execute_script(ANEW))
