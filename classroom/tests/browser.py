@@ -2,7 +2,13 @@
 from __future__ import annotations
 
 import atexit
+import subprocess
+import sys
+import tempfile
+import time
+import unittest
 from functools import cache
+from pathlib import Path
 from typing import Any
 
 from selenium import webdriver
@@ -12,6 +18,7 @@ from selenium.webdriver.common.action_chains import ActionChains
 from selenium.webdriver.support.wait import WebDriverWait
 
 from classroom.frames import Frame, State
+from classroom.program import TOP
 from classroom.tests.help import LIMIT
 
 Shown = tuple[dict[str, str], list[dict[str, str]], str]
@@ -82,3 +89,33 @@ def told(state: State, frame: Frame) -> Shown:
     ]
     line = "the beginning" if frame.event is None else f"{state.place}: {' '.join(frame.event.words)}"
     return root, sorted(nodes, key=lambda node: int(node["node"])), line
+
+
+class Played(unittest.TestCase):
+    """Opens the pages of runs."""
+
+    def setUp(self) -> None:
+        self.driver: Any = browser()
+        room = tempfile.TemporaryDirectory()
+        self.addCleanup(room.cleanup)
+        self.room = Path(room.name)
+
+    def call(self, *words: str | Path) -> subprocess.CompletedProcess[str]:
+        return subprocess.run([sys.executable, TOP / "class", *words], capture_output=True, text=True, check=False)
+
+    def page(self, lab: Path, journal: Path) -> Path:
+        output = self.room / f"{journal.stem}.html"
+        done = self.call("play", lab, journal, "-o", output)
+        self.assertEqual((done.returncode, done.stderr), (0, ""))
+        return output
+
+    def open(self, page: Path, place: str = "") -> float:
+        """Opens a page, and answers the seconds until it shows something."""
+        start = time.monotonic()
+        self.driver.get("about:blank")
+        self.driver.get(page.as_uri() + place)
+        until(self.driver, is_ready)
+        return time.monotonic() - start
+
+    def press(self, key: str) -> None:
+        press(self.driver, key)

@@ -1,10 +1,6 @@
 """The page of a run, in a real browser."""
 from __future__ import annotations
 
-import subprocess
-import sys
-import tempfile
-import time
 import unittest
 import xml.etree.ElementTree as ElementTree
 from pathlib import Path
@@ -13,60 +9,12 @@ from typing import Any
 from selenium.webdriver.common.keys import Keys
 
 from classroom.frames import frames_of
-from classroom.tests.browser import browser, is_ready, press, shown, told, until
-from classroom.tests.runs import TOP, built_in, edited_run, examples, largest_run
-
-# The milliseconds of each step, those of some in which nothing was known of what is shown, and how many changes of
-# the drawing each step makes.
-TIMES = """
-const times = [];
-for (let at = 1; at <= 1000; at += 1) {
-  const start = performance.now();
-  player.goTo(at);
-  times.push(performance.now() - start);
-}
-return times;
-"""
-ANEW = TIMES.replace("at <= 1000", "at <= 20").replace("const start", "player.drawing.forget(); const start")
-TOUCHED = """
-const counts = [], observer = new MutationObserver(() => {});
-observer.observe(document.querySelector('.stage'), {attributes: true, characterData: true, childList: true, subtree: true});
-player.goTo(0);
-for (let at = 1; at <= 1000; at += 1) {
-  observer.takeRecords();
-  player.goTo(at);
-  counts.push(observer.takeRecords().length);
-}
-return counts;
-"""
+from classroom.tests.browser import Played, shown, told, until
+from classroom.tests.runs import TOP, built_in, edited_run, examples
 
 
-class Played(unittest.TestCase):
-    def setUp(self) -> None:
-        self.driver: Any = browser()
-        room = tempfile.TemporaryDirectory()
-        self.addCleanup(room.cleanup)
-        self.room = Path(room.name)
-
-    def call(self, *words: str | Path) -> subprocess.CompletedProcess[str]:
-        return subprocess.run([sys.executable, TOP / "class", *words], capture_output=True, text=True, check=False)
-
-    def page(self, lab: Path, journal: Path) -> Path:
-        output = self.room / f"{journal.stem}.html"
-        done = self.call("play", lab, journal, "-o", output)
-        self.assertEqual((done.returncode, done.stderr), (0, ""))
-        return output
-
-    def open(self, page: Path, place: str = "") -> float:
-        """Opens a page, and answers the seconds until it shows something."""
-        start = time.monotonic()
-        self.driver.get("about:blank")
-        self.driver.get(page.as_uri() + place)
-        until(self.driver, is_ready)
-        return time.monotonic() - start
-
-    def press(self, key: str) -> None:
-        press(self.driver, key)
+class Play(Played):
+    """Runs that are short enough to be gone through step by step."""
 
     def test_each_configuration_by_keys(self) -> None:
         for lab, journal in (edited_run(self.room), *examples(self.room)):
@@ -114,27 +62,6 @@ class Played(unittest.TestCase):
         last = str(len(journal.read_text().splitlines()))
         until(self.driver, lambda driver: shown(driver)[0]["place"] == last)
         until(self.driver, lambda driver: driver.find_element("id", "play").text == "Play")
-
-    def test_the_largest_lab_opens_and_steps_in_time(self) -> None:
-        lab, journal = largest_run(self.room)
-        kinds = [line.split(" ")[2] for line in journal.read_text().splitlines()]
-        self.assertEqual(len(kinds), 1000)
-        page = self.page(lab, journal)
-        # It opens within two seconds and steps within some milliseconds where nothing else runs. Each limit leaves a
-        # slow machine ten times that: the best of three passes counts, and a step is held against drawing
-        # everything anew in the same browser.
-        opened = min(self.open(page) for _ in range(3))
-        self.assertLess(opened, 20)
-        passes: list[list[float]] = [self.driver.execute_script(TIMES) for _ in range(3)]
-        steps = sorted(min(of) for of in zip(*passes))
-        anew: float = min(self.driver.execute_script(ANEW))
-        self.assertLess(steps[990], 50)
-        self.assertLess(steps[500], anew / 2)
-        touched: list[int] = self.driver.execute_script(TOUCHED)
-        self.assertEqual(shown(self.driver)[0]["place"], "1000")
-        for place in range(2, 1001):
-            if kinds[place - 1] in ("grant", "release") and kinds[place - 2] in ("grant", "release"):
-                self.assertLess(touched[place - 1], 10, place)
 
     def test_names_of_files_end_nothing(self) -> None:
         lab, journal = edited_run(self.room)
