@@ -32,7 +32,7 @@ class Refused(Exception):
     """`malformed`, `full`, `journal`, `memory`, or `busy` where no place was free."""
 
     def __init__(self, word: str) -> None:
-        super().__init__(word)
+        super().__init__("busy: all places are taken; come again later" if word == "busy" else word)
         self.word = word
 
 
@@ -125,6 +125,11 @@ class Client:
         except BaseException:
             self._socket.close()
             raise
+
+    def own_port(self) -> int:
+        """The port of this end."""
+        port: int = self._socket.getsockname()[1]
+        return port
 
     def __enter__(self) -> Client:
         return self
@@ -234,7 +239,7 @@ class Client:
     def report(self) -> Report:
         """For a teacher: the state of the matching."""
         it = self.ask(do="report")
-        lists = {word: tuple(tuple(each) for each in it[word]) for word in ("pairs", "privileged", "open")}
+        lists: dict[str, Any] = {word: tuple(tuple(each) for each in it[word]) for word in ("pairs", "privileged", "open")}
         return Report(it["at"], it["stable"], lists["pairs"], tuple(it["free"]), lists["privileged"], lists["open"])
 
 

@@ -6,7 +6,7 @@ from itertools import islice
 from pathlib import Path
 
 from classroom.drawing import Drawing, standalone
-from classroom.frames import frames_of
+from classroom.frames import Frame, frames_of
 from classroom.layout import lay_out
 from classroom.page import page_of
 from classroom.program import Fault
@@ -33,7 +33,9 @@ def picture(lab_file: Path, journal: Path, place: int) -> str:
     lab, frames = frames_of(lab_file, journal)
     first = next(frames)
     drawing = Drawing(lab, lay_out((node.id for node in lab.nodes), first.state.links))
-    frame = first if place == 0 else next(islice(frames, place - 1, None), None) if place > 0 else None
+    frame: Frame | None = first
+    if place != 0:
+        frame = next(islice(frames, place - 1, None), None) if place > 0 else None
     if frame is None:
         raise Fault(f"{journal}: there is no place {place}", 3)
     return standalone(drawing, frame.state, frame.event)

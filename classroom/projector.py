@@ -9,6 +9,7 @@ import hmac
 import json
 import queue
 import secrets
+import socket
 import threading
 from http.server import BaseHTTPRequestHandler, ThreadingHTTPServer
 from typing import Any
@@ -24,6 +25,8 @@ from classroom.watch import Now, Present
 TRIES = 50
 LISTED = 25  # events and lines that a page is told of at once
 STILL_HERE = 10.0  # seconds without news after which a page is told that there are none
+LAST_WORD = 5.0  # seconds in which the pages may learn that the run is over
+KEPT = 8192  # bytes of news that wait for a page
 MOST_BYTES = 200  # of what a page asks for
 WORDS = ("close", "fault", "link", "cut", "release", "every", "when-idle", "by-hand")
 POLICY = ("default-src 'none'; style-src 'unsafe-inline'; script-src 'unsafe-inline'; connect-src 'self'; "
@@ -41,6 +44,7 @@ class Pages(ThreadingHTTPServer):
         self.token = secrets.token_urlsafe(16)
         self.drawing = Drawing(lab, lay_out((node.id for node in lab.nodes), lab.links))
         self.present: Present | None = None
+        self.told = 0  # how many pages are told the news
 
     @property
     def address(self) -> str:
@@ -56,8 +60,16 @@ class Pages(ThreadingHTTPServer):
         """Tells the pages that the run is over, and lets go of the port."""
         if self.present is not None:
             self.present.put(ended=True)
+            with self.present.turn:
+                self.present.turn.wait_for(lambda: self.told == 0, LAST_WORD)
             self.shutdown()
         self.server_close()
+
+    def count(self, present: Present, more: int) -> None:
+        """A page begins to be told the news, or ends."""
+        with present.turn:
+            self.told += more
+            present.turn.notify_all()
 
     def handle_error(self, request: Any, client_address: Any) -> None:
         """A page that went away is no fault."""
@@ -71,6 +83,11 @@ class Page(BaseHTTPRequestHandler):
 
     def log_message(self, format: str, *words: Any) -> None:
         """Nothing is printed: an address has the token."""
+
+    def setup(self) -> None:
+        """Little is kept for a page that is slow: it gets the present instead of what has passed."""
+        self.request.setsockopt(socket.SOL_SOCKET, socket.SO_SNDBUF, KEPT)
+        super().setup()
 
     def asked(self) -> str | None:
         """What is asked for below the token, where the address has it and is that of this machine."""
@@ -98,7 +115,11 @@ class Page(BaseHTTPRequestHandler):
             return self.head(404)
         if asked == "events":
             self.head(200, "text/event-stream", None)
-            return self.tell(present)
+            self.server.count(present, 1)
+            try:
+                return self.tell(present)
+            finally:
+                self.server.count(present, -1)
         page = live_page(self.server.title, self.server.drawing, present.now.state).encode()
         self.head(200, "text/html; charset=utf-8", len(page))
         self.wfile.write(page)
@@ -116,7 +137,8 @@ class Page(BaseHTTPRequestHandler):
 
     def tell(self, present: Present) -> None:
         """Sends the present, and then what has changed, until the run or the page ends."""
-        rows, before = Frames(self.server.lab), None
+        rows = Frames(self.server.lab)
+        before: Now | None = None
         while before is None or not before.ended:
             now = present.after(before.version if before else 0, STILL_HERE)
             text = ": no news" if now is before else f"data: {json.dumps(message(rows, before, now))}"

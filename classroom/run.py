@@ -17,11 +17,13 @@ from pathlib import Path
 from classroom import lab as labs
 from classroom import mark, play, projector, server
 from classroom.client import Client, Closed, Denied, Refused, Report
+from classroom.connected import Connected
 from classroom.journal import Book, events
 from classroom.program import TOP, Fault, call
 from classroom.watch import Watch
 
 TICK = 0.1
+PATIENCE = 60.0  # seconds for the server's end after the teacher's bye
 HELP = ("close, fault N P M, link A B, cut A B, release N, report, wait, every SECONDS, when-idle SECONDS, by-hand, "
         "end")
 
@@ -36,11 +38,19 @@ class Teller:
     def __call__(self, line: str) -> None:
         for hear in self.also:
             hear(line)
-        for put in (lambda: print(line, flush=True), lambda: self.keep(line)):
+        for put in (self.say, self.keep):
             try:
-                put()
+                put(line)
             except OSError:
                 pass
+
+    def say(self, line: str) -> None:
+        """Prints it; where nobody reads any more, nothing is printed from then on."""
+        try:
+            print(line, flush=True)
+        except OSError:
+            with open(os.devnull, "w", encoding="utf-8") as nowhere:
+                os.dup2(nowhere.fileno(), sys.stdout.fileno())
 
     def keep(self, line: str) -> None:
         """Adds a line to `run.txt`."""
@@ -99,6 +109,7 @@ class Desk:
         self.told_waiting = ""
         self.report: Report = client.report()
         self.watch: Watch | None = None
+        self.over = ""
 
     def read(self) -> None:
         """Reads what the journal has got, and tells each step as a line."""
@@ -154,6 +165,11 @@ class Desk:
             if denied.name != "empty":
                 raise
             self.tell_waiting()
+        except Refused as refused:
+            if refused.word not in ("full", "journal"):
+                return  # It is asked for again.
+            self.over = refused.word
+            self.tell(f"nothing more is granted: {refused}")
 
     def command(self, line: str) -> bool:
         """Does a line of the teacher's; false where it ends the run."""
@@ -198,7 +214,7 @@ class Desk:
             raise ValueError(word)
 
 
-def attend(desk: Desk, it: server.Server, until_stable: bool, typed: queue.SimpleQueue[str]) -> str:
+def attend(desk: Desk, it: server.Server, until_stable: bool, typed: queue.SimpleQueue[str], connected: Connected) -> str:
     """Closes steps and does what is typed, until the run ends; says by what."""
     how = desk.closing
     due = time.monotonic() + how[1]
@@ -210,8 +226,12 @@ def attend(desk: Desk, it: server.Server, until_stable: bool, typed: queue.Simpl
         if it.ended():
             return "died"
         desk.read()
+        for line in connected.news():
+            desk.tell(line)
         if until_stable and desk.report.stable and not desk.book.chosen:
             return "stable"
+        if desk.over:
+            return desk.over
         try:
             if not desk.command(typed.get(timeout=TICK if kind == "by-hand" else min(TICK, max(seconds / 4, 0.01)))):
                 return "end"
@@ -225,8 +245,11 @@ def attend(desk: Desk, it: server.Server, until_stable: bool, typed: queue.Simpl
 
 def read_typed(typed: queue.SimpleQueue[str]) -> None:
     """Puts the lines of standard input into a queue."""
-    for line in sys.stdin:
-        typed.put(line)
+    try:
+        for line in sys.stdin:
+            typed.put(line)
+    except (OSError, ValueError):
+        pass  # The terminal went away.
 
 
 def whole_lines(journal: Path) -> None:
@@ -245,12 +268,12 @@ def finish(folder: Path, tell: Callable[[str], None]) -> int:
     try:
         whole_lines(folder / "journal")
         answer = call("audit", folder / "lab.toml", folder / "journal")
-        (folder / "audit.txt").write_text(answer.output + answer.error + "\n" * bool(answer.error), encoding="utf-8")
         tell((answer.output or answer.error).strip())
+        (folder / "audit.txt").write_text(answer.output + answer.error + "\n" * bool(answer.error), encoding="utf-8")
         run = mark.marked(folder / "lab.toml", folder / "journal")
+        tell(mark.text([run]).rstrip())
         (folder / "marks.txt").write_text(mark.text([run]), encoding="utf-8")
         (folder / "marks.json").write_text(mark.as_json([run]), encoding="utf-8")
-        tell(mark.text([run]).rstrip())
         (folder / "run.html").write_text(play.page(folder / "lab.toml", folder / "journal"), encoding="utf-8")
     except Fault as fault:
         tell(f"class: {fault}")
@@ -294,25 +317,26 @@ def hold(folder: Path, lab: labs.Lab, words: argparse.Namespace, tell: Teller, b
     why = "died"
     try:
         desk = open_desk(it, lab, folder, words, tell)
-        if pages is not None:
-            show(pages, desk, tell)
         beside(it.port)
         if words.typed or sys.stdin is not None and sys.stdin.isatty():
             threading.Thread(target=read_typed, args=[typed], daemon=True).start()
             tell(f"words: {HELP}")
-        why = attend(desk, it, words.until == "stable", typed)
+        if pages is not None:
+            show(pages, desk, tell)
+        connected = Connected(it.port, lab.sessions - 1, lab.students, desk.client.own_port())
+        why = attend(desk, it, words.until == "stable", typed, connected)
         if why != "died":
             desk.client.bye()
     except (Closed, Refused, Denied) as error:
         tell(f"the server: {error}")
         why = "died"
     finally:
-        status = it.finish(10.0)
+        status = it.finish(0.0 if why == "died" else PATIENCE)
     if why == "died" or status != 0:
         tell(f"the server has ended by itself, status {status}: {it.printed()}")
         return 4
     tell("stable, and so the run is ended" if why == "stable" else "the run is ended")
-    return 0
+    return 4 if why == "journal" else 0
 
 
 def nobody(port: int) -> None:

@@ -4,7 +4,7 @@ import sys, time
 from pathlib import Path
 
 sys.path.append(str(Path(__file__).resolve().parent.parent / "classroom"))
-from client import Client, Closed, Denied
+from client import Client, Closed, Denied, Refused
 
 port, name, key, nodes, *patience = sys.argv[1:]
 try:
@@ -20,5 +20,5 @@ try:
                 except Denied as denied:  # A step was closed since, or another program was quicker.
                     print(name, look.node, denied, flush=True)
             time.sleep(0.1)
-except Closed as end:
+except (Closed, Refused) as end:  # The run has ended, or no place is free.
     print(name, end, flush=True)

@@ -1,6 +1,7 @@
 """What the tests share: calls of `./class`, labs, and clients of runs that are going on."""
 from __future__ import annotations
 
+import json
 import os
 import random
 import re
@@ -11,9 +12,12 @@ import tempfile
 import unittest
 from pathlib import Path
 
-from classroom.program import TOP
+from classroom.lab import read
+from classroom.program import TOP, call
 
 EXAMPLES = TOP / "examples"
+CYCLE = EXAMPLES / "cycle.toml"
+KEYS = {"gus": "heron-31", "hana": "swift-86", "ines": "finch-05", "jonas": "plover-48"}
 LIMIT = 300  # seconds after which something hangs; a slow machine needs a small part of it
 
 
@@ -43,10 +47,11 @@ class InRoom(unittest.TestCase):
 class Going:
     """A run that is going on; its lines are read one by one."""
 
-    def __init__(self, test: InRoom, lab: Path, *more: str, **environment: str) -> None:
+    def __init__(self, test: InRoom, lab: Path, *more: str, before: tuple[str, ...] = (), **environment: str) -> None:
+        """`before` are words before the call: another program that makes it."""
         self.lines: list[str] = []
         self.process = subprocess.Popen(
-            [sys.executable, TOP / "class", "run", lab, "--into", test.room / "runs", "--port",
+            [*before, sys.executable, TOP / "class", "run", lab, "--into", test.room / "runs", "--port",
              str(random.randint(20000, 50000)), "--typed", *more],
             stdin=subprocess.PIPE, stdout=subprocess.PIPE, stderr=subprocess.STDOUT, text=True,
             env={**os.environ, **environment},
@@ -95,3 +100,28 @@ class Going:
                     pipe.close()
                 except OSError:
                     pass
+
+
+class Cycle(InRoom):
+    """Runs over the cycle of `examples/`, or a lab with its students."""
+
+    def bot(self, going: Going, name: str, *command: str | Path) -> subprocess.Popen[bytes]:
+        """A student's bot."""
+        lab = read(CYCLE)
+        nodes = list(map(str, lab.nodes_of(name)))
+        named = [",".join(nodes)] if not command else nodes
+        bot = subprocess.Popen(
+            [*(command or (sys.executable, EXAMPLES / "bot.py")), str(going.port), name, KEYS[name], *named],
+            stdin=subprocess.DEVNULL, stdout=subprocess.DEVNULL, stderr=subprocess.DEVNULL,
+        )
+        self.addCleanup(bot.wait)
+        self.addCleanup(bot.kill)
+        return bot
+
+    def whole(self, folder: Path) -> int:
+        """Wants a finished folder; gives the number of its events."""
+        for name in ("lab.toml", "journal", "audit.txt", "marks.txt", "marks.json", "run.html", "run.txt", "server.txt"):
+            self.assertTrue((folder / name).is_file(), name)
+        self.assertEqual(call("audit", folder / "lab.toml", folder / "journal").status, 0)
+        events: int = json.loads((folder / "marks.json").read_text(encoding="utf-8"))["runs"][0]["events"]
+        return events

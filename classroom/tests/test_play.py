@@ -1,119 +1,20 @@
 """The page of a run, in a real browser."""
 from __future__ import annotations
 
-import subprocess
-import sys
-import tempfile
-import time
 import unittest
 import xml.etree.ElementTree as ElementTree
 from pathlib import Path
 from typing import Any
 
-from selenium import webdriver
-from selenium.webdriver.chrome.options import Options
-from selenium.webdriver.chrome.service import Service
-from selenium.webdriver.common.action_chains import ActionChains
 from selenium.webdriver.common.keys import Keys
-from selenium.webdriver.support.ui import WebDriverWait
 
-from classroom.frames import Frame, State, frames_of
-from classroom.tests.runs import TOP, built_in, edited_run, examples, largest_run
-
-ATTRIBUTES = """
-const nodes = [...document.querySelectorAll('#drawing .node')].map((node) => ({...node.dataset}));
-return [{...document.getElementById('drawing').dataset}, nodes, document.getElementById('event').textContent];
-"""
-
-# The milliseconds of each step, those of some in which nothing was known of what is shown, and how many changes of
-# the drawing each step makes.
-TIMES = """
-const times = [];
-for (let at = 1; at <= 1000; at += 1) {
-  const start = performance.now();
-  player.goTo(at);
-  times.push(performance.now() - start);
-}
-return times;
-"""
-ANEW = TIMES.replace("at <= 1000", "at <= 20").replace("const start", "player.drawing.forget(); const start")
-TOUCHED = """
-const counts = [], observer = new MutationObserver(() => {});
-observer.observe(document.querySelector('.stage'), {attributes: true, characterData: true, childList: true, subtree: true});
-player.goTo(0);
-for (let at = 1; at <= 1000; at += 1) {
-  observer.takeRecords();
-  player.goTo(at);
-  counts.push(observer.takeRecords().length);
-}
-return counts;
-"""
+from classroom.frames import frames_of
+from classroom.tests.browser import Played, shown, told, until
+from classroom.tests.runs import TOP, built_in, edited_run, examples
 
 
-def browser() -> webdriver.Chrome:
-    options = Options()
-    options.binary_location = "/usr/bin/chromium"
-    for word in ("--headless=new", "--no-sandbox", "--disable-dev-shm-usage", "--window-size=1300,900"):
-        options.add_argument(word)
-    return webdriver.Chrome(options=options, service=Service("/usr/bin/chromedriver"))
-
-
-def told(state: State, frame: Frame) -> tuple[dict[str, str], list[dict[str, str]], str]:
-    """What the page has to show of a state."""
-    root = {
-        "place": str(state.place), "number": str(state.number), "privileged": str(len(state.privileged)),
-        "pairs": str(len(state.pairs)),
-    }
-    married = {node for pair in state.pairs for node in pair}
-    nodes = [
-        {
-            "node": str(node), "p": "" if pointer is None else str(pointer), "m": str(state.ms[node]).lower(),
-            "married": str(node in married).lower(), "rule": state.privileged.get(node, ""),
-            "chosen": state.chosen.get(node, ""),
-        }
-        for node, pointer in state.pointers.items()
-    ]
-    line = "the beginning" if frame.event is None else f"{state.place}: {' '.join(frame.event.words)}"
-    return root, sorted(nodes, key=lambda node: int(node["node"])), line
-
-
-class Played(unittest.TestCase):
-    driver: webdriver.Chrome
-
-    @classmethod
-    def setUpClass(cls) -> None:
-        cls.driver = browser()
-        cls.addClassCleanup(cls.driver.quit)
-
-    def setUp(self) -> None:
-        room = tempfile.TemporaryDirectory()
-        self.addCleanup(room.cleanup)
-        self.room = Path(room.name)
-
-    def call(self, *words: str | Path) -> subprocess.CompletedProcess[str]:
-        return subprocess.run([sys.executable, TOP / "class", *words], capture_output=True, text=True, check=False)
-
-    def page(self, lab: Path, journal: Path) -> Path:
-        output = self.room / f"{journal.stem}.html"
-        done = self.call("play", lab, journal, "-o", output)
-        self.assertEqual((done.returncode, done.stderr), (0, ""))
-        return output
-
-    def open(self, page: Path, place: str = "") -> float:
-        """Opens a page, and answers the seconds until it shows something."""
-        start = time.monotonic()
-        self.driver.get("about:blank")
-        self.driver.get(page.as_uri() + place)
-        while self.driver.execute_script("return document.body.dataset.ready") != "true":
-            self.assertLess(time.monotonic() - start, 300)
-        return time.monotonic() - start
-
-    def press(self, key: str) -> None:
-        ActionChains(self.driver).send_keys(key).perform()
-
-    def shown(self) -> tuple[dict[str, str], list[dict[str, str]], str]:
-        root, nodes, line = self.driver.execute_script(ATTRIBUTES)
-        return root, sorted(nodes, key=lambda node: int(node["node"])), line
+class Play(Played):
+    """Runs that are short enough to be gone through step by step."""
 
     def test_each_configuration_by_keys(self) -> None:
         for lab, journal in (edited_run(self.room), *examples(self.room)):
@@ -122,36 +23,36 @@ class Played(unittest.TestCase):
             self.open(self.page(lab, journal))
             with self.subTest(lab=lab.name):
                 for place in range(len(run)):
-                    self.assertEqual(self.shown(), run[place])
+                    self.assertEqual(shown(self.driver), run[place])
                     self.press(Keys.ARROW_RIGHT)
                 self.press(Keys.HOME)
-                self.assertEqual(self.shown(), run[0])
+                self.assertEqual(shown(self.driver), run[0])
                 numbers = [root["number"] for root, _, _ in run]
                 firsts = [at for at, number in enumerate(numbers) if at == 0 or number != numbers[at - 1]]
                 for at in firsts[1:]:
                     self.press(Keys.ARROW_DOWN)
-                    self.assertEqual(self.shown(), run[at])
+                    self.assertEqual(shown(self.driver), run[at])
                 self.press(Keys.ARROW_UP)
-                self.assertEqual(self.shown(), run[firsts[-2]])
+                self.assertEqual(shown(self.driver), run[firsts[-2]])
                 self.press(Keys.END)
                 self.press(Keys.ARROW_LEFT)
-                self.assertEqual(self.shown(), run[-2])
+                self.assertEqual(shown(self.driver), run[-2])
 
     def test_a_link_to_a_place(self) -> None:
         lab, journal = edited_run(self.room)
         page = self.page(lab, journal)
         self.open(page, "#p=7")
-        self.assertEqual(self.shown()[0]["place"], "7")
+        self.assertEqual(shown(self.driver)[0]["place"], "7")
         self.driver.execute_script("location.hash = '#p=2'")
         self.driver.execute_script("window.dispatchEvent(new HashChangeEvent('hashchange'))")
-        self.assertEqual(self.shown()[0]["place"], "2")
+        self.assertEqual(shown(self.driver)[0]["place"], "2")
         self.open(page, "#p=99999")
-        self.assertEqual(self.shown()[0]["place"], str(len(journal.read_text().splitlines())))
+        self.assertEqual(shown(self.driver)[0]["place"], str(len(journal.read_text().splitlines())))
         self.press(Keys.HOME)
         self.press(Keys.ARROW_RIGHT)
-        WebDriverWait(self.driver, 300).until(lambda driver: driver.execute_script("return location.hash") == "#p=1")
+        until(self.driver, lambda driver: driver.execute_script("return location.hash") == "#p=1")
         self.driver.find_element("css selector", "#events li:not([hidden]) + li + li + li a").click()
-        self.assertEqual(self.shown()[0]["place"], "3")
+        self.assertEqual(shown(self.driver)[0]["place"], "3")
 
     def test_it_plays_to_the_end_by_itself(self) -> None:
         lab, journal = edited_run(self.room)
@@ -159,31 +60,8 @@ class Played(unittest.TestCase):
         self.driver.execute_script("document.getElementById('speed').value = '20'")
         self.press(" ")
         last = str(len(journal.read_text().splitlines()))
-        end = time.monotonic() + 300
-        while self.shown()[0]["place"] != last:
-            self.assertLess(time.monotonic(), end)
-        while self.driver.find_element("id", "play").text != "Play":
-            self.assertLess(time.monotonic(), end)
-
-    def test_the_largest_lab_opens_and_steps_in_time(self) -> None:
-        lab, journal = largest_run(self.room)
-        kinds = [line.split(" ")[2] for line in journal.read_text().splitlines()]
-        self.assertEqual(len(kinds), 1000)
-        page = self.page(lab, journal)
-        # Each limit leaves a slow machine several times what it needs: the best of three passes counts, and a
-        # step is held against drawing everything anew in the same browser.
-        opened = min(self.open(page) for _ in range(3))
-        self.assertLess(opened, 8)
-        passes: list[list[float]] = [self.driver.execute_script(TIMES) for _ in range(3)]
-        steps = sorted(min(of) for of in zip(*passes))
-        anew: float = min(self.driver.execute_script(ANEW))
-        self.assertLess(steps[990], 50)
-        self.assertLess(steps[500], anew / 2)
-        touched: list[int] = self.driver.execute_script(TOUCHED)
-        self.assertEqual(self.shown()[0]["place"], "1000")
-        for place in range(2, 1001):
-            if kinds[place - 1] in ("grant", "release") and kinds[place - 2] in ("grant", "release"):
-                self.assertLess(touched[place - 1], 10, place)
+        until(self.driver, lambda driver: shown(driver)[0]["place"] == last)
+        until(self.driver, lambda driver: driver.find_element("id", "play").text == "Play")
 
     def test_names_of_files_end_nothing(self) -> None:
         lab, journal = edited_run(self.room)

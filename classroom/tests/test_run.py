@@ -1,48 +1,50 @@
 """`./class run` and `demo`, and the programs that take part, over the built program."""
 from __future__ import annotations
 
-import json
-import os
 import shutil
 import signal
 import socket
 import subprocess
 import sys
 import unittest
-from pathlib import Path
 
 from classroom.client import Client, Closed, Denied, Refused
-from classroom.lab import read
-from classroom.program import call
-from classroom.tests.help import EXAMPLES, LIMIT, Going, InRoom, words
-
-CYCLE = EXAMPLES / "cycle.toml"
-KEYS = {"gus": "heron-31", "hana": "swift-86", "ines": "finch-05", "jonas": "plover-48"}
+from classroom.program import TOP
+from classroom.tests.help import CYCLE, EXAMPLES, KEYS, LIMIT, Cycle, Going, words
 
 
-class Run(InRoom):
+# Two ports as a host has them, before a server for so many connections: the desk's lines are passed on, and its
+# bye ends the whole.
+HOST = f"""
+import socket, subprocess, sys
+sys.path.insert(0, {str(TOP)!r})
+from classroom.program import program
+lab, port, desk, journal = sys.argv[1:]
+server = subprocess.Popen([program(), "serve", lab, port, "8", journal], stdout=subprocess.PIPE)
+line = server.stdout.readline().decode().strip()
+if not line:
+    sys.exit(server.wait())
+with socket.create_server(("127.0.0.1", 0)) as listener:
+    print(f"{{line}}, desk on port {{listener.getsockname()[1]}}", flush=True)
+    teacher, _ = listener.accept()
+    with socket.create_connection(("127.0.0.1", int(port))) as passed:
+        asked, answered = teacher.makefile("rb"), passed.makefile("rb")
+        for request in asked:
+            passed.sendall(request)
+            reply = answered.readline()
+            if b'"ok":"bye"' in reply:
+                server.kill()
+                print("done", flush=True)
+            teacher.sendall(reply)
+            if b'"ok":"bye"' in reply:
+                sys.exit(0)
+server.kill()
+sys.exit(4)
+"""
+
+
+class Run(Cycle):
     """Runs over the cycle of `examples/`."""
-
-    def bot(self, going: Going, name: str, *command: str | Path) -> subprocess.Popen[bytes]:
-        """A student's bot."""
-        lab = read(CYCLE)
-        nodes = list(map(str, lab.nodes_of(name)))
-        named = [",".join(nodes)] if not command else nodes
-        bot = subprocess.Popen(
-            [*(command or (sys.executable, EXAMPLES / "bot.py")), str(going.port), name, KEYS[name], *named],
-            stdin=subprocess.DEVNULL, stdout=subprocess.DEVNULL, stderr=subprocess.DEVNULL,
-        )
-        self.addCleanup(bot.wait)
-        self.addCleanup(bot.kill)
-        return bot
-
-    def whole(self, folder: Path) -> int:
-        """Wants a finished folder; gives the number of its events."""
-        for name in ("lab.toml", "journal", "audit.txt", "marks.txt", "marks.json", "run.html", "run.txt", "server.txt"):
-            self.assertTrue((folder / name).is_file(), name)
-        self.assertEqual(call("audit", folder / "lab.toml", folder / "journal").status, 0)
-        events: int = json.loads((folder / "marks.json").read_text(encoding="utf-8"))["runs"][0]["events"]
-        return events
 
     def test_to_stable(self) -> None:
         going = Going(self, CYCLE, "--close", "when-idle:0.3", "--until", "stable")
@@ -101,16 +103,17 @@ class Run(InRoom):
             self.assertEqual(going.ends(), 0, going.lines)
             self.assertEqual(self.whole(going.folder), 0)
 
-    def test_kills_of_the_server(self) -> None:
-        for moment in range(10):
-            going = Going(self, CYCLE, "--close", "every:0.05")
-            for name in KEYS:
-                self.bot(going, name)
-            for _ in range(moment % 5):
-                going.until("^configuration ")
-            os.kill(going.server(), signal.SIGKILL)
-            self.assertEqual(going.ends(), 4, going.lines)
-            self.whole(going.folder)
+    def test_by_a_host(self) -> None:
+        host = self.file("host", f"#!{sys.executable}\n{HOST}")
+        host.chmod(0o700)
+        going = Going(self, CYCLE, "--close", "when-idle:0.3", "--until", "stable", MML_HOST=str(host))
+        self.assertTrue(any("7 students at once" in line for line in going.lines), going.lines)
+        self.assertTrue(any(line.startswith("desk ") for line in going.lines), going.lines)
+        for name in KEYS:
+            self.bot(going, name)
+        self.assertEqual(going.ends(), 0, going.lines)
+        self.assertEqual((going.folder / "server.txt").read_text(encoding="utf-8"), "done\n")
+        self.assertGreater(self.whole(going.folder), 10)
 
     def test_a_port_in_use(self) -> None:
         with socket.create_server(("127.0.0.1", 0)) as taken:

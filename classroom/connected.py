@@ -1,0 +1,79 @@
+"""Who is connected to a port of this machine, as far as the system tells it (Linux alone)."""
+from __future__ import annotations
+
+import os
+import time
+from collections.abc import Iterable, Iterator
+from pathlib import Path
+
+PROC = Path("/proc")
+ESTABLISHED, LISTENING = "01", "0A"
+PAUSE = 1.0  # seconds between two looks
+
+
+def rows() -> Iterator[tuple[int, int, str, str]]:
+    """Each of the system's TCP connections: its own port, the other one, its state, its number."""
+    for line in (PROC / "net/tcp").read_text(encoding="ascii").splitlines()[1:]:
+        _, own, other, state, *_, = words = line.split()
+        yield int(own.rpartition(":")[2], 16), int(other.rpartition(":")[2], 16), state, words[9]
+
+
+def owner(number: str, students: Iterable[str]) -> str:
+    """Whose the client's end of a connection is: the student that the process was called with, and the process.
+    Of a process that this one may not look into, or of another machine's, nothing is known."""
+    wanted = f"socket:[{number}]"
+    for process in PROC.iterdir():
+        if not process.name.isdecimal():
+            continue
+        try:
+            if any(os.readlink(end) == wanted for end in (process / "fd").iterdir()):
+                words = (process / "cmdline").read_bytes().decode(errors="replace").split("\0")
+                named = next((word for word in words if word in students), None)
+                program = (process / "comm").read_text(encoding="utf-8", errors="replace").strip()
+                return f"{named or 'someone'} ({program}, process {process.name})"
+        except OSError:
+            continue
+    return "someone"
+
+
+class Connected:
+    """What there is to tell of who comes and goes at the students' port."""
+
+    def __init__(self, port: int, places: int, students: Iterable[str], but: int) -> None:
+        """`but` is the port of the desk's own end."""
+        self.port, self.places, self.students, self.but = port, places, set(students), but
+        self.known: dict[int, str] = {}
+        self.full = False
+        self.due = 0.0
+
+    def news(self) -> list[str]:
+        """Lines of who has come and gone since the last look, and whether all places are taken."""
+        now = time.monotonic()
+        if now < self.due:
+            return []
+        self.due = now + PAUSE
+        try:
+            return self.compared(list(rows()))
+        except OSError:
+            return []
+
+    def compared(self, found: list[tuple[int, int, str, str]]) -> list[str]:
+        """The same, of these connections."""
+        ends = {own: number for own, other, state, number in found if other == self.port and state == ESTABLISHED}
+        served = {other for own, other, state, _ in found if own == self.port and state == ESTABLISHED}
+        here = served - {self.but}
+        gone = [self.known.pop(port) for port in sorted(self.known.keys() - here)]
+        come = sorted(here - self.known.keys())
+        self.known |= {port: owner(ends[port], self.students) if port in ends else "someone" for port in come}
+        lines = [f"connected: {self.known[port]}" for port in come] + [f"gone: {who}" for who in gone]
+        listens = any(own == self.port and state == LISTENING for own, _, state, _ in found)
+        full = len(here) >= self.places or not listens
+        if full and not self.full:
+            taken = "all places are taken" if listens else "each connection of this server was used"
+            lines.append(f"{taken}, and who comes now isn't let in; connected: {self.who()}")
+        self.full = full
+        return lines
+
+    def who(self) -> str:
+        """Who is there."""
+        return ", ".join(self.known[port] for port in sorted(self.known)) or "nobody"
