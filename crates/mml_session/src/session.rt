@@ -88,7 +88,7 @@ pub fn serve_known<Rt: Wait, S: Sink + Drop, H: House, R: Read, W: Write, G: Gat
         return unserved();
     };
     let Ok(mut scratch) = LineScratch::new(alloc, MAX_REQUEST) else {
-        return SessionEnd::Memory;
+        return unserved();
     };
     let mut known = None;
     loop {
