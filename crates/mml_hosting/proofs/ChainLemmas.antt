@@ -40,7 +40,7 @@ module _ {R W X : Type 0} (f : X → ServedSession R W) (xs xs' : List X) (x : X
       (All-push (λ s. is_teachers_bye s.ending ≡ false) (map f xs) (f x) (so_far at) (second desk (is_teachers_bye (f x).ending) at (sym noted ∙ so)))
 
 -- what is known of a session by its connection as it came
-pub served_so : {R W : Type 0} (lab : LabValue) (remaining : R → Option (List ℕ)) (contents : W → Option (List ℕ)) (s t : ServedSession R W) (ends : R × W) (w w' : WindowValue)
-    → s ≡ t → t.came.value ≡ ends → EndedKnown t.ending.end t.ending.who lab w w' (remaining ends.0) (remaining t.reader) (contents ends.1) (contents t.writer)
+pub served_so : {R W : Type 0} (lab : LabValue) (remaining : R → Option (List ℕ)) (contents : W → Option (List ℕ)) (s t : ServedSession R W) (ends : R × W) (w w' : WindowValue) (wrote : Option (List ℕ))
+    → s ≡ t → t.came.value ≡ ends → contents t.writer ≡ wrote → EndedKnown t.ending.end t.ending.who lab w w' (remaining ends.0) (remaining t.reader) (contents ends.1) wrote
     → IsServed lab remaining contents s w w'
-served_so lab remaining contents s t ends w w' same came h = rw (same, came) h
+served_so lab remaining contents s t ends w w' wrote same came kept h = rw (same, came, kept) h

@@ -2,13 +2,12 @@
 ghost use Rattle.std.specs.Prelude.{List, None, Option};
 ghost use Rattle.mml_hosting.specs.Bringing.{Brings};
 
-use mml_serving::HangUp;
 use std::io::{Read, Write};
 
 /// What an accept brought.
 #[derive(Drop)]
 pub enum Next<R: Drop, W: Drop, U: Drop> {
-    /// A connection: its two ends, and what hangs it up from elsewhere.
+    /// A connection: its two ends, and what ends it from elsewhere.
     Came((R, W), U),
     /// Nobody. Those that have ended are to be let go of before the next accept.
     Nobody,
@@ -17,13 +16,19 @@ pub enum Next<R: Drop, W: Drop, U: Drop> {
 }
 
 /// What gives connections as they come.
-pub trait Arrivals<R: Read + Drop, W: Write + Drop, U: HangUp + Drop> {
+pub trait Arrivals<R: Read + Drop, W: Write + Drop, U: CutOff + Drop> {
     // The connections that are still to come, where they are known.
     ghost to_come: { Self → Option (List (R × W)) } = { λ _. None };
 
     /// The next connection, for which it may wait.
     fn accept_next(&mut self) -> Next<R, W, U>
         ensures { Brings (to_come self.old) (to_come self.new) result };
+}
+
+/// What ends a connection from another thread than its own.
+pub trait CutOff {
+    /// Ends the connection: who reads or writes there meets its end.
+    fn cut_off(&self);
 }
 
 /// What is rung where a session has ended.

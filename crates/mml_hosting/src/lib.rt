@@ -7,7 +7,7 @@ mod house;
 mod place;
 mod port;
 
-pub use arriving::{Arrivals, Bell, Next};
+pub use arriving::{Arrivals, Bell, CutOff, Next};
 pub use house::{HostFault, Hosted, Record, serve_host};
 pub use place::{Keep, Place, ServedSession, serve_in};
 pub use port::{BUSY, serve_port};

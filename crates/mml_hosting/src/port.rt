@@ -6,7 +6,7 @@ ghost use Rattle.mml_hosting.specs.Places.{IsPlace, came_to};
 ghost use Rattle.mml_hosting.specs.Ports.{Attends};
 ghost use Rattle.mml_hosting.specs.Counting.{count_free, count_busy};
 
-use crate::arriving::{Arrivals, Bell, Next};
+use crate::arriving::{Arrivals, Bell, CutOff, Next};
 use crate::place::{Keep, Place, serve_in, set_mark};
 use mml_ids::Memory;
 use mml_journal::Sink;
@@ -167,12 +167,12 @@ fn turn_away<R: Drop, W: Write + HangUp + Drop>(ends: (R, W)) {
     writer.hang_up();
 }
 
-// Hangs up all connections that are being served.
-fn hang_up_all<H: House, K: Keep<R, W> + Drop, R: Read + Drop, W: Write + Drop, U: HangUp + Drop>(
+// Ends all connections that are being served.
+fn cut_off_all<H: House, K: Keep<R, W> + Drop, R: Read + Drop, W: Write + Drop, U: CutOff + Drop>(
     busy: &Vec<Busy<H, K, R, W, U>>,
 ) {
     for index in 0..busy.len() {
-        busy[index].line.hang_up();
+        busy[index].line.cut_off();
     }
 }
 
@@ -197,7 +197,7 @@ pub fn serve_port<
     K: Keep<R, W> + Send + Drop,
     R: Read + Send + Drop,
     W: Write + HangUp + Send + Drop,
-    U: HangUp + Drop,
+    U: CutOff + Drop,
     A: Arrivals<R, W, U> + Drop,
     G: Gate + Sync,
     B: Bell + Sync,
@@ -285,7 +285,7 @@ pub fn serve_port<
             }
             // Who waits at the port is let go of before the sessions are waited for.
             drop(arrivals);
-            hang_up_all(&busy);
+            cut_off_all(&busy);
             join_all(rt, &mut free, &mut busy);
             Ok(free)
         },
