@@ -214,7 +214,11 @@ pub fn write_listening<W: Write>(alloc: Global, port: u16, writer: &mut W) -> Re
 }
 
 /// Writes the last line, unless the journal was halted.
-pub fn write_last<S, W: Write>(alloc: Global, log: &Log<S>, writer: &mut W) -> Result<(), ServeFault>
+pub fn write_last<S, W: Write>(
+    alloc: Global,
+    log: &Log<S>,
+    writer: &mut W,
+) -> Result<(), ServeFault>
     ensures unhalted { OnOk result (log.now.halted ≡ false) }
     ensures told { OnOk result (Appends (W.contents writer.old) (W.contents writer.new)
         (done_line (length log.now.events) log.now.board.number)) }
