@@ -46,18 +46,24 @@ fn is_size_told(alloc: Global) -> Result<bool, Fail> {
     Ok(fault.is_none() && out.as_slice() == wanted)
 }
 
-// Whether a writer's fault is told that fails after so many writes.
-fn fails_at_write(alloc: Global, writes: usize) -> Result<bool, Fail> {
-    let mut writer = failing_after(alloc, writes, 1);
+// Whether the fault is told of a writer that fails at once.
+fn fails_at_a_write(alloc: Global) -> Result<bool, Fail> {
+    let mut writer = failing_after(alloc, 0, 1);
     Ok(size_to(alloc, &mut writer)? == Some(Fault::Write))
+}
+
+// Whether one write is enough for the line.
+fn takes_one_write(alloc: Global) -> Result<bool, Fail> {
+    let mut writer = failing_after(alloc, 1, 1);
+    Ok(size_to(alloc, &mut writer)?.is_none())
 }
 
 #[test]
 fn the_size_of_a_lab_is_told(rt: HostRuntime) -> Result<(), Fail> {
     let is_told = is_size_told(rt.alloc())?;
-    let first = fails_at_write(rt.alloc(), 0)?;
-    let second = fails_at_write(rt.alloc(), 1)?;
-    assert_eq!(rt; (is_told, first, second), (true, true, true));
+    let fails = fails_at_a_write(rt.alloc())?;
+    let takes_one = takes_one_write(rt.alloc())?;
+    assert_eq!(rt; (is_told, fails, takes_one), (true, true, true));
     Ok(())
 }
 
