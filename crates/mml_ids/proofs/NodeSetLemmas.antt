@@ -137,7 +137,7 @@ one_counted =
     let some : count_ones 1 ≡ 0 → ⊥ = λ e. let z = zero_from_ones 1 e in omega arith in
     omega arith
 
-len-insert_new : (s : FinSet nat_cmp) (k : ℕ) → sets.contains s k ≡ false → sets.len (sets.insert s k) ≡ sets.len s + 1
+pub len-insert_new : (s : FinSet nat_cmp) (k : ℕ) → sets.contains s k ≡ false → sets.len (sets.insert s k) ≡ sets.len s + 1
 len-insert_new s k e = sets.len-insert nat_cmp_total s k ∙ ap (λ c. cond c (sets.len s) (sets.len s + 1)) e
 
 not_yet : (n : ℕ) (words : List ℕ) → sets.contains (set_of n words) n ≡ false

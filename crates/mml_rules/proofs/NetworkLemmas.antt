@@ -71,10 +71,10 @@ linked-with_link n a b i j la lb = has-with_neighbour (with_neighbour n.neighbou
 pub linked-without_link : (n : Network) (a b i j : ℕ) → a < length n.neighbours → b < length n.neighbours → (configuration_of (without_link n a b)).linked i j ≡ (not (eqb i b && eqb j a) && (not (eqb i a && eqb j b) && (configuration_of n).linked i j))
 linked-without_link n a b i j la lb = has-without_neighbour (without_neighbour n.neighbours a b) b a i j (omega (arith, length-without_neighbour n.neighbours a b)) ∙ ap (λ x. not (eqb i b && eqb j a) && x) (has-without_neighbour n.neighbours a b i j la)
 
-both_are : (i a j b : ℕ) → (eqb i a && eqb j b) ≡ true → (i ≡ a) × (j ≡ b)
+pub both_are : (i a j b : ℕ) → (eqb i a && eqb j b) ≡ true → (i ≡ a) × (j ≡ b)
 both_are i a j b h = let x = and_parts (eqb i a) (eqb j b) h in (eqb-true i a x.0, eqb-true j b x.1)
 
-are_both : (i a j b : ℕ) → i ≡ a → j ≡ b → (eqb i a && eqb j b) ≡ true
+pub are_both : (i a j b : ℕ) → i ≡ a → j ≡ b → (eqb i a && eqb j b) ≡ true
 are_both i a j b e f = and_from _ _ (eq-eqb i a e) (eq-eqb j b f)
 
 pub with_link-lawful : (n : Network) (a b : ℕ) → IsNetwork n → a < length n.registers → b < length n.registers → (a ≡ b → ⊥) → IsNetwork (with_link n a b)

@@ -136,7 +136,7 @@ fn cut_one_way(neighbours: &mut [NodeSet], a: Rank, b: Rank)
     requires { a < length neighbours.old }
     ensures { neighbours.new ≡ without_neighbour neighbours.old a b }
 {
-    let row = neighbours[a.index() as usize].without(NodeSet::empty().with(b));
+    let row = neighbours[a.index() as usize].except(b);
     neighbours[a.index() as usize] = row;
 }
 
