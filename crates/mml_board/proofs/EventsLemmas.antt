@@ -4,18 +4,12 @@ use Rattle.std.proofs.lemmas.Bool.{eq-eqb, eqb-true, and_parts, and_from, or_cas
 use Rattle.mml_rules.specs.declared.registers.Regs.{Regs}
 use Rattle.mml_rules.specs.Configuration.{holds}
 use Rattle.mml_rules.specs.Network.{registers_at, configuration_of, unpointed, with_link, without_link}
-use Rattle.mml_rules.proofs.NetworkLemmas.{registers_at-set, length-unpointed, linked-with_link, linked-without_link}
+use Rattle.mml_rules.proofs.NetworkLemmas.{registers_at-set, length-unpointed, both_are, are_both, linked-with_link, linked-without_link}
 use Rattle.mml_board.specs.declared.event.Event.{Event}
 use Rattle.mml_board.specs.World.{World, size, configuration, chosen_at, IsWorld}
 use Rattle.mml_board.specs.Events.{after}
 use Rattle.mml_board.specs.Meaning.{makes_configuration, AreEnds}
 use Rattle.mml_board.proofs.WorldLemmas.{none_at}
-
-both_are : (i a j b : ℕ) → (eqb i a && eqb j b) ≡ true → (i ≡ a) × (j ≡ b)
-both_are i a j b h = let x = and_parts (eqb i a) (eqb j b) h in (eqb-true i a x.0, eqb-true j b x.1)
-
-are_both : (i a j b : ℕ) → i ≡ a → j ≡ b → (eqb i a && eqb j b) ≡ true
-are_both i a j b e f = and_from _ _ (eq-eqb i a e) (eq-eqb j b f)
 
 pub linked-link : (w : World) (a b i j : ℕ) → IsWorld w → a < size w → b < size w → ((configuration_of (with_link w.network a b)).linked i j ≡ true) ↔ (AreEnds a b i j ⊎ ((configuration w).linked i j ≡ true))
 linked-link w a b i j k la lb = (λ h. there (sym at ∙ h), λ h. at ∙ back h)

@@ -11,6 +11,7 @@ use Rattle.std.specs.Cmp.{nat_cmp_total}
 use Rattle.mml_ids.specs.Search.{count_below}
 use Rattle.mml_ids.specs.Sets.{those_below}
 use Rattle.mml_ids.specs.inside.WordsLemmas.{has_empty, has_insert, has_remove, same_ranks, has-those_below}
+use Rattle.mml_ids.proofs.NodeSetLemmas.{len-insert_new}
 use Rattle.mml_rules.specs.declared.registers.Regs.{Regs}
 use Rattle.mml_rules.specs.declared.rule.Rule.{Rule}
 use Rattle.mml_rules.specs.Rules.{guard, effect, moved}
@@ -18,10 +19,10 @@ use Rattle.mml_rules.specs.Network.{Network, neighbours_at, registers_at, config
 use Rattle.mml_rules.proofs.StepLemmas.{effect-linked}
 use Rattle.mml_rules.proofs.NetworkLemmas.{registers_at-set}
 use Rattle.mml_board.specs.declared.granted.Granted.{Granted}
-use Rattle.mml_board.specs.World.{size, chosen_at, opening_of, IsWorld}
-use Rattle.mml_board.specs.Events.{is_chosen, chosen_nodes, chosen_count, renewed, choosing, moved_registers}
+use Rattle.mml_board.specs.World.{World, size, configuration, chosen_at, opening_of, IsWorld}
+use Rattle.mml_board.specs.Events.{is_chosen, chosen_nodes, chosen_count, renewed, choosing, may_point, moved_registers}
 use Rattle.mml_board.specs.inside.Kept.{granted_at, moves_of, world_in, IsKept}
-use Rattle.mml_board.proofs.WorldLemmas.{chosen_at-set, choosing-world, renewed-world, moved_registers-is, length-none, none_at, hold-none}
+use Rattle.mml_board.proofs.WorldLemmas.{closed, chosen_at-set, choosing-world, renewed-world, moved_registers-is, may_point-linked, length-none, none_at, hold-none}
 
 -- ---- the chosen moves
 
@@ -112,9 +113,6 @@ same_sets s t e f = same_ranks _ _ (λ q. go (sets.contains s q) (sets.contains 
     go true false h k = h
     go false true h k = sym k
     go false false h k = refl
-
-len-insert_new : (s : FinSet nat_cmp) (k : ℕ) → sets.contains s k ≡ false → sets.len (sets.insert s k) ≡ sets.len s + 1
-len-insert_new s k e = sets.len-insert nat_cmp_total s k ∙ ap (λ c. cond c (sets.len s) (sets.len s + 1)) e
 
 pub len-those_below : (n : ℕ) (t : ℕ → Bool) → sets.len (those_below n t) ≡ count_below n t
 unfolding those_below
@@ -279,6 +277,24 @@ module _ (n : Network) (s : FinSet nat_cmp) (g : List Granted) (number place : �
       go : (i : ℕ) (b : Bool) → sets.contains s i ≡ b → cond b (granted_at g i).effect (registers_at n.registers i) ≡ moved (configuration_of n) i (cond b (Some (granted_at g i).rule) None)
       go i true q = k.effects i q
       go i false q = refl
+
+  -- the network with the kept effects written is the next one
+  pub effects-closed : (n' : Network) (kept : List Granted) → kept ≡ g → n'.neighbours ≡ n.neighbours → length n'.registers ≡ length n.registers
+      → ((i : ℕ) → registers_at n'.registers i ≡ cond (sets.contains s i) (granted_at kept i).effect (registers_at n.registers i)) → n' ≡ closed (world_in n s g number place)
+  effects-closed n' kept same neighbours size written = λ i. record {
+    neighbours = neighbours i;
+    registers = (effects-written n'.registers size (λ j. written j ∙ ap (λ (x : List Granted). cond (sets.contains s j) (granted_at x j).effect (registers_at n.registers j)) same)) i;
+  }
+
+  -- what is asked of the world holds of what the board keeps
+  pub node_inside : (w : World) (a : ℕ) → world_in n s g number place ≡ w → a < length w.network.registers → a < length n.registers
+  node_inside w a seen l = subst (λ (x : World). a < length x.network.registers) (sym seen) l
+
+  pub ends_inside : (w : World) (a b : ℕ) → world_in n s g number place ≡ w → (configuration w).linked a b ≡ true → (a < length n.registers) × (b < length n.registers)
+  ends_inside w a b seen linked = k.world.network.lawful.in_range a b (subst (λ (x : World). (configuration x).linked a b ≡ true) (sym seen) linked)
+
+  pub pointer_inside : (w : World) (a j : ℕ) (p : Option ℕ) → world_in n s g number place ≡ w → may_point (configuration w) a p ≡ true → p ≡ Some j → sets.contains (neighbours_at n.neighbours a) j ≡ true
+  pointer_inside w a j p seen linked e = may_point-linked n a j p (subst (λ (x : World). may_point (configuration x) a p ≡ true) (sym seen) linked) e
 
 -- ---- writing the effects
 

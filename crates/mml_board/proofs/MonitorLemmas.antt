@@ -12,9 +12,9 @@ use Rattle.mml_rules.specs.declared.rule.Rule.{Rule}
 use Rattle.mml_rules.specs.Configuration.{Configuration, IsLawful, holds}
 use Rattle.mml_rules.specs.Rules.{enabled_kind, is_privileged, moved}
 use Rattle.mml_rules.specs.Around.{AgreeAround}
-use Rattle.mml_rules.specs.Network.{Network, registers_at, configuration_of, IsNetwork, unpointed, with_registers, with_link, without_link}
+use Rattle.mml_rules.specs.Network.{Network, neighbours_at, registers_at, configuration_of, IsNetwork, unpointed, with_registers, with_link, without_link}
 use Rattle.mml_rules.proofs.AroundLemmas.{same_kind}
-use Rattle.mml_rules.proofs.NetworkLemmas.{registers_at-set, length-unpointed, linked-with_link, linked-without_link}
+use Rattle.mml_rules.proofs.NetworkLemmas.{registers_at-set, length-unpointed, linked-with_link, linked-without_link, with_registers-lawful, with_link-lawful, without_link-lawful}
 use Rattle.mml_board.specs.World.{World, configuration, chosen_at, IsWorld, privileged_count}
 use Rattle.mml_board.specs.Events.{moved_registers}
 use Rattle.mml_board.specs.inside.Monitor.{is_privileged_node, privileged_nodes, IsUntouched}
@@ -234,3 +234,35 @@ insert-within s a n within l j h = go (eqb j a) refl (sym (has_insert s a j) ∙
 
 pub empty-within : (n j : ℕ) → sets.contains (sets.empty {R = nat_cmp}) j ≡ true → j < n
 empty-within n j h = absurd (both_ways _ (has_empty j) h)
+
+-- ---- where an event changes the configuration
+
+has_first : (s : FinSet nat_cmp) (a b : ℕ) → s ≡ sets.insert (sets.insert sets.empty a) b → sets.contains s a ≡ true
+has_first s a b e = ap (λ t. sets.contains t a) e ∙ in_insert (sets.insert sets.empty a) b a (in_one sets.empty a)
+
+has_second : (s : FinSet nat_cmp) (a b : ℕ) → s ≡ sets.insert (sets.insert sets.empty a) b → sets.contains s b ≡ true
+has_second s a b e = ap (λ t. sets.contains t b) e ∙ in_one (sets.insert sets.empty a) b
+
+pub node-within : (s : FinSet nat_cmp) (a n k : ℕ) → s ≡ sets.insert sets.empty a → k ≡ n → a < n → (j : ℕ) → sets.contains s j ≡ true → j < k
+node-within s a n k e f l j h = subst (λ (m : ℕ). j < m) (sym f) (insert-within sets.empty a n (empty-within n) l j (sym (ap (λ t. sets.contains t j) e) ∙ h))
+
+pub ends-within : (s : FinSet nat_cmp) (a b n k : ℕ) → s ≡ sets.insert (sets.insert sets.empty a) b → k ≡ n → a < n → b < n → (j : ℕ) → sets.contains s j ≡ true → j < k
+ends-within s a b n k e f la lb j h =
+    subst (λ (m : ℕ). j < m) (sym f) (insert-within (sets.insert sets.empty a) b n (insert-within sets.empty a n (empty-within n) la) lb j (sym (ap (λ t. sets.contains t j) e) ∙ h))
+
+-- the privileged nodes before an event are right after it where it changes nothing
+module _ (s privileged : FinSet nat_cmp) (n n' : Network) (k : IsNetwork n) (right : privileged ≡ privileged_nodes (configuration_of n)) where
+  pub right_after_fault : (a : ℕ) (r : Regs) → a < length n.registers → ((j : ℕ) → r.p ≡ Some j → sets.contains (neighbours_at n.neighbours a) j ≡ true) → n' ≡ with_registers n a r → s ≡ sets.insert sets.empty a
+      → (j : ℕ) → IsUntouched (configuration_of n') s j → sets.contains privileged j ≡ is_privileged_node (configuration_of n') j
+  right_after_fault a r l linked e f =
+      right_after s privileged n (with_registers n a r) n' k (with_registers-lawful n a r k l linked) e (fault_differs s n a r l (ap (λ t. sets.contains t a) f ∙ in_one sets.empty a)) right
+
+  pub right_after_link : (a b : ℕ) → a < length n.registers → b < length n.registers → (a ≡ b → ⊥) → n' ≡ with_link n a b → s ≡ sets.insert (sets.insert sets.empty a) b
+      → (j : ℕ) → IsUntouched (configuration_of n') s j → sets.contains privileged j ≡ is_privileged_node (configuration_of n') j
+  right_after_link a b la lb apart e f =
+      right_after s privileged n (with_link n a b) n' k (with_link-lawful n a b k la lb apart) e (link_differs s n a b k la lb (has_first s a b f) (has_second s a b f)) right
+
+  pub right_after_cut : (a b : ℕ) → a < length n.registers → b < length n.registers → n' ≡ without_link n a b → s ≡ sets.insert (sets.insert sets.empty a) b
+      → (j : ℕ) → IsUntouched (configuration_of n') s j → sets.contains privileged j ≡ is_privileged_node (configuration_of n') j
+  right_after_cut a b la lb e f =
+      right_after s privileged n (without_link n a b) n' k (without_link-lawful n a b k la lb) e (cut_differs s n a b k la lb (has_first s a b f) (has_second s a b f)) right

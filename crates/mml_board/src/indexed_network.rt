@@ -5,7 +5,7 @@ ghost use Rattle.mml_rules.specs.Rules.{is_candidate};
 ghost use Rattle.mml_rules.specs.Network.{neighbours_at, registers_at, configuration_of, unpointed, with_registers, with_link, without_link};
 ghost use Rattle.mml_board.specs.inside.Rows.{with_suitor, without_suitor};
 
-use crate::node_sets::{except, is_empty, put};
+use crate::node_sets::{is_empty, put};
 use mml_ids::{Memory, NodeSet, Rank};
 use mml_rules::{Network, Regs, Scene};
 use std::alloc::Global;
@@ -207,7 +207,7 @@ fn remove_suitor(suitors: &mut [NodeSet], p: Option<Rank>, node: Rank)
     ensures { suitors.new ≡ without_suitor suitors.old p node }
 {
     if let Some(other) = p {
-        let row = except(suitors[other.index() as usize], node);
+        let row = suitors[other.index() as usize].except(node);
         suitors[other.index() as usize] = row;
     }
 }

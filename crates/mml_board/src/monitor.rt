@@ -5,7 +5,7 @@ ghost use Rattle.mml_rules.specs.Network.{configuration_of};
 ghost use Rattle.mml_board.specs.inside.Monitor.{is_privileged_node, privileged_nodes, IsUntouched};
 
 use crate::indexed_network::IndexedNetwork;
-use crate::node_sets::{except, put};
+use crate::node_sets::put;
 use mml_ids::{NodeSet, Rank};
 use mml_rules::{Scene, enabled};
 
@@ -33,10 +33,9 @@ pub fn refresh(network: &IndexedNetwork, privileged: NodeSet, changed: NodeSet) 
     let _size = network.size();
     let mut privileged = privileged;
     let mut left = changed;
-    while let Some(node) = left.greatest() {
+    while let Some(node) = left.take_least() {
         let around = network.neighbours(node).with(node);
         privileged = refresh_each(network, privileged, around);
-        left = except(left, node);
     }
     privileged
 }
@@ -49,10 +48,9 @@ fn refresh_each(network: &IndexedNetwork, privileged: NodeSet, nodes: NodeSet) -
 {
     let mut privileged = privileged;
     let mut left = nodes;
-    while let Some(node) = left.greatest() {
+    while let Some(node) = left.take_least() {
         let is_privileged = enabled(network, node).is_some();
         privileged = put(privileged, node, is_privileged);
-        left = except(left, node);
     }
     privileged
 }

@@ -4,11 +4,11 @@ ghost use Rattle.std.specs.FinSet as set;
 
 use mml_ids::{NodeSet, Rank};
 
-/// The set without a rank.
-pub fn except(nodes: NodeSet, node: Rank) -> NodeSet
-    ensures { result ≡ set.remove nodes node }
+/// The set of two ranks.
+pub fn ends(a: Rank, b: Rank) -> NodeSet
+    ensures { result ≡ set.insert (set.insert set.empty a) b }
 {
-    nodes.without(NodeSet::empty().with(node))
+    NodeSet::empty().with(a).with(b)
 }
 
 /// The set with the rank in it or not, and the others as they are.
@@ -19,7 +19,7 @@ pub fn put(nodes: NodeSet, node: Rank, is_in: bool) -> NodeSet
     if is_in {
         nodes.with(node)
     } else {
-        except(nodes, node)
+        nodes.except(node)
     }
 }
 
