@@ -178,8 +178,9 @@ def unrun_blocks(page, files):
 
 
 def counted(pages):
-    """How many words each page has: what has a letter or a digit."""
-    return {page: sum(bool(re.search(r"\w", word)) for word in (TOP / page).read_text(encoding="utf-8").split()) for page in pages}
+    """How many words each page has outside its code blocks: what has a letter or a digit."""
+    texts = {page: re.sub(r"^    .*$", "", FENCE.sub("", (TOP / page).read_text(encoding="utf-8")), flags=re.MULTILINE) for page in pages}
+    return {page: sum(bool(re.search(r"\w", word)) for word in text.split()) for page, text in texts.items()}
 
 
 def main():
