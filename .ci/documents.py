@@ -186,7 +186,7 @@ def counted(pages):
 def main():
     """Checks, counts, or prints the commands of pages."""
     if sys.argv[1:] == ["--words"]:
-        words = counted(path for path in tracked() if is_page(path))
+        words = counted(path for path in tracked() if is_page(path) and path != "CHANGELOG.md")
         print("\n".join(f"{words[page]:6} {page}" for page in sorted(words)))
         print(f"{sum(words.values()):6} in all")
         return
