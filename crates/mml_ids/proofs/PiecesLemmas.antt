@@ -1,0 +1,56 @@
+-- Texts in pieces, cut between two pieces.
+use Rattle.std.proofs.Common.{◌≡◌, ℕ, suc, ◌+◌, ◌≤◌, ◌<◌, List, [], ◌∷◌, ◌++◌, length, take, drop, slice_index_or, refl, ap, sym, ◌∙◌, arith, inl, inr}
+use Rattle.std.proofs.lemmas.List.{append_assoc, append-nil, take-append-drop}
+use Rattle.std.proofs.Math.Seq.{take-suc, take-add}
+use Rattle.std.proofs.Math.Nat.{eq-or-lt_of_le}
+use Rattle.mml_ids.specs.declared.piece.Piece.{Piece}
+use Rattle.mml_ids.specs.Pieces.{piece_text, piece_room, joined, room_of, Fills}
+
+pub joined-append : (ps qs : List Piece) → joined (ps ++ qs) ≡ joined ps ++ joined qs
+joined-append [] qs = refl
+joined-append (p ∷ ps) qs = ap (λ t. piece_text p ++ t) (joined-append ps qs) ∙ sym (append_assoc (piece_text p) (joined ps) (joined qs))
+
+pub room_of-append : (ps qs : List Piece) → room_of (ps ++ qs) ≡ room_of ps + room_of qs
+room_of-append [] qs = omega arith
+room_of-append (p ∷ ps) qs = omega (arith, room_of-append ps qs)
+
+-- one piece more
+take_next : (ps : List Piece) (n : ℕ) (p : Piece) → p ≡ slice_index_or ps n p → n < length ps → take (n + 1) ps ≡ take n ps ++ p ∷ []
+take_next ps n p is inside = let one : n + 1 ≡ suc n = omega arith in
+    ap (λ k. take k ps) one ∙ take-suc ps n p inside ∙ ap (λ q. take n ps ++ q ∷ []) (sym is)
+
+pub joined-next : (was now next : List ℕ) (ps : List Piece) (n : ℕ) (p : Piece) → p ≡ slice_index_or ps n p → n < length ps → now ≡ was ++ joined (take n ps) → next ≡ now ++ piece_text p → next ≡ was ++ joined (take (n + 1) ps)
+joined-next was now next ps n p is inside before after =
+    let more = ap joined (take_next ps n p is inside) ∙ joined-append (take n ps) (p ∷ []) ∙ ap (λ t. joined (take n ps) ++ t) (append-nil (piece_text p)) in
+    after ∙ ap (λ t. t ++ piece_text p) before ∙ append_assoc was (joined (take n ps)) (piece_text p) ∙ ap (λ t. was ++ t) (sym more)
+
+pub room_of-next : (ps : List Piece) (n : ℕ) (p : Piece) → p ≡ slice_index_or ps n p → n < length ps → room_of (take (n + 1) ps) ≡ room_of (take n ps) + piece_room p
+room_of-next ps n p is inside = omega (arith, ap room_of (take_next ps n p is inside), room_of-append (take n ps) (p ∷ []))
+
+-- more pieces after the first
+pub joined-more : (was now kept next : List ℕ) (ps rest : List Piece) (n m : ℕ) → now ≡ was ++ joined (take n ps) → kept ≡ now → rest ≡ drop n ps → next ≡ kept ++ joined (take m rest) → next ≡ was ++ joined (take (n + m) ps)
+joined-more was now kept next ps rest n m before same is after =
+    let more = ap joined (take-add n m ps) ∙ joined-append (take n ps) (take m (drop n ps)) in
+    let begun = after ∙ ap (λ t. t ++ joined (take m rest)) (same ∙ before) ∙ ap (λ qs. (was ++ joined (take n ps)) ++ joined (take m qs)) is in
+    begun ∙ append_assoc was (joined (take n ps)) (joined (take m (drop n ps))) ∙ ap (λ t. was ++ t) (sym more)
+
+pub room_of-more : (ps rest : List Piece) (n m : ℕ) → rest ≡ drop n ps → room_of (take (n + m) ps) ≡ room_of (take n ps) + room_of (take m rest)
+room_of-more ps rest n m is = ap room_of (take-add n m ps) ∙ room_of-append (take n ps) (take m (drop n ps)) ∙ ap (λ qs. room_of (take n ps) + room_of (take m qs)) (sym is)
+
+-- the room of the next piece
+pub room_of-one : (ps : List Piece) (n : ℕ) (p : Piece) → p ≡ slice_index_or ps n p → n < length ps → room_of (take 1 (drop n ps)) ≡ piece_room p
+room_of-one ps n p is inside = omega (arith, room_of-next ps n p is inside, room_of-more ps (drop n ps) n 1 refl)
+
+-- the room of the first is part of the room of all
+pub room_of-front : (ps : List Piece) (n : ℕ) → room_of (take n ps) ≤ room_of ps
+room_of-front ps n = omega (arith, ap room_of (take-append-drop n ps), room_of-append (take n ps) (drop n ps))
+
+-- where there is room for all, all are put
+pub fills_all : (was now : List ℕ) (capacity : ℕ) (ps : List Piece) (n : ℕ) → Fills was now capacity ps n → length was + room_of ps ≤ capacity → n ≡ length ps
+fills_all was now capacity ps n f room = elim (eq-or-lt_of_le f.bound) [
+  | inl whole ↦ whole
+  | inr short ↦
+      let one = room_of-more ps (drop n ps) n 1 refl in
+      let front = room_of-front ps (n + 1) in
+      absurd (omega (arith, f.next short, f.grows))
+]
