@@ -1,6 +1,7 @@
 //! Steps of clauses: each hands on what it found, or answers the denial that it is given.
 ghost use Rattle.std.specs.Prelude.{◌≡◌, ◌<◌, length, IfOk, IfSome};
 ghost use Rattle.mml_ids.specs.Gives.{need};
+ghost use Rattle.mml_ids.specs.Ids.{rank_in};
 ghost use Rattle.mml_rules.specs.Rules.{IsWithin};
 ghost use Rattle.mml_policy.specs.Clauses.{node, student, rule_of, pointer};
 
@@ -23,6 +24,36 @@ pub(crate) fn node(ids: &IdTable, id: u64, denial: Denial) -> Result<Rank, Denia
     ensures there { IfOk result (λ i. i < length ids.now) }
 {
     ids.rank_of(id).ok_or(denial)
+}
+
+/// Who asks, and for which node.
+#[derive(Clone, Copy)]
+pub(crate) struct Asking {
+    /// The node with the identifier, if there is one.
+    pub(crate) found: Option<Rank>,
+    /// The one who asks; a student who owns nothing where no node was found.
+    pub(crate) who: Who,
+    /// The node that was found, or another one.
+    pub(crate) node: Rank,
+}
+
+/// Who asks, and for which node. Where there is no such node others stand in, so that what is asked of
+/// them takes the steps that it takes of a node that isn't shown; what comes of it is thrown away.
+pub(crate) fn asked_for(ids: &IdTable, who: Who, id: u64) -> Asking
+    ensures found { result.found ≡ rank_in ids.now id }
+    ensures asked { IfSome result.found (λ i. (result.who ≡ who) × (result.node ≡ i)) }
+    ensures there { result.node < length ids.now }
+{
+    let found = ids.rank_of(id);
+    let other = Rank::at(id % ids.len());
+    match found {
+        Some(node) => Asking { found, who, node },
+        None => Asking {
+            found,
+            who: Who::Student(Student::new(u16::MAX)),
+            node: other,
+        },
+    }
 }
 
 /// The one who asks is a student.
