@@ -1,6 +1,7 @@
 //! Lines of a reader, lines that go out together, and whole reads and writes.
 #![tactic(auto)]
 
+mod counted;
 pub mod laws;
 mod lines;
 mod outgoing;

@@ -1,0 +1,94 @@
+//! Reads that are counted. The lines of a reader come by no other call.
+ghost use Rattle.std.specs.Prelude.{◌≡◌, [], ◌+◌, ◌<◌, ◌≤◌, ◌⊎◌, take, vec_len, IfErr};
+ghost use Rattle.std.specs.Vec.{vec_capacity};
+ghost use Rattle.std.specs.Io.{ReadsAtMost};
+ghost use Rattle.std.specs.Io.KnownBytes.{Consumes, IsAtEnd, ReadConsumes, prepend_known};
+ghost use Rattle.mml_lines.specs.LinesOf.{IsWithinLimit};
+
+use crate::lines::{MAX_READS, READ_SIZE, Step};
+use std::io;
+use std::io::Read;
+
+/// A reader that nobody else reads meanwhile, and how often it was read.
+pub(crate) struct Counted<'a, R> {
+    reader: &'a mut R,
+    reads: u32,
+}
+
+impl<R> Drop for Counted<'_, R> {
+    // The reader is given back as it is.
+    fn drop(self)
+        ensures { self.exit.0.now ≡ self.entry.reader.now }
+    {
+        let Counted {
+            reader: _,
+            reads: _,
+        } = self;
+    }
+}
+
+impl<'a, R: Read> Counted<'a, R> {
+    /// Counts on from so many reads.
+    pub(crate) fn of(reader: &'a mut R, reads: u32) -> Counted<'a, R>
+        ensures same_reader { result.reader.ghost_name ≡ reader.entry.ghost_name }
+        ensures reader { result.reader.now ≡ reader.old }
+        ensures reads { result.reads ≡ reads }
+    {
+        Counted { reader, reads }
+    }
+
+    /// How often it was read.
+    pub(crate) fn reads(&self) -> u32
+        ensures { result ≡ self.now.reads }
+    {
+        self.reads
+    }
+
+    /// One read onto what is held, where that is the front of a line, or the ending that it found.
+    pub(crate) fn read_onto(
+        &mut self,
+        held: &mut Vec<u8>,
+        chunk: &mut Vec<u8>,
+        limit: usize,
+    ) -> Result<(), Step>
+        requires needed { IsWithinLimit limit held.old.items }
+        requires few { self.old.reads < MAX_READS }
+        requires chunk { vec_len chunk.old ≡ READ_SIZE }
+        requires room { vec_len held.old + READ_SIZE ≤ vec_capacity held.old }
+        ensures counted { self.new.reads ≡ self.old.reads + 1 }
+        ensures same_reader { self.new.reader.ghost_name ≡ self.old.reader.ghost_name }
+        ensures chunk { vec_len chunk.new ≡ READ_SIZE }
+        ensures capacity { vec_capacity held.old ≤ vec_capacity held.new }
+        ensures kept { Consumes (prepend_known held.old.items (R.remaining self.old.reader.now))
+            (prepend_known held.new.items (R.remaining self.new.reader.now)) [] }
+        ensures front { take (vec_len held.old) held.new.items ≡ held.old.items }
+        ensures size { vec_len held.new ≤ vec_len held.old + READ_SIZE }
+        ensures err { IfErr result (λ step. (held.new.items ≡ held.old.items)
+            × ((step ≡ Step.End) × IsAtEnd (R.remaining self.new.reader.now)
+            ⊎ (step ≡ Step.ReadFault))) }
+    {
+        // The need stands in the clauses alone.
+        let _ = limit;
+        match self.read(chunk) {
+            Ok(0) => Err(Step::End),
+            Ok(n) => {
+                held.extend_from_slice(&chunk[..n]).unwrap();
+                Ok(())
+            }
+            Err(_) => Err(Step::ReadFault),
+        }
+    }
+
+    // The one call that reads.
+    fn read(&mut self, chunk: &mut [u8]) -> io::Result<usize>
+        requires few { self.old.reads < MAX_READS }
+        ensures counted { self.new.reads ≡ self.old.reads + 1 }
+        ensures same_reader { self.new.reader.ghost_name ≡ self.old.reader.ghost_name }
+        ensures bound { ReadsAtMost result chunk.new }
+        ensures bytes { ReadConsumes (R.remaining self.old.reader.now)
+            (R.remaining self.new.reader.now) result chunk.new }
+    {
+        self.reads += 1;
+        self.reader.read(chunk)
+    }
+}
