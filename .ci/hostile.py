@@ -1,6 +1,6 @@
-"""Plays two honest clients of a server beside fourteen hostile ones.
+"""Plays two honest clients of a server, or of a host, beside fourteen hostile ones.
 
-    python3 .ci/hostile.py [SECONDS]
+    python3 .ci/hostile.py [SECONDS] [host]
 
 The replies to the honest ones are those of a script of the same lines, run alone. The server's memory at
 the end is that after their first hundred lines, and the thread of each connection that was closed has ended,
@@ -18,6 +18,7 @@ from collections.abc import Callable
 from concurrent.futures import Future, ProcessPoolExecutor
 from pathlib import Path
 
+from hosting import BID, BYE, HOST, Host, hello, let_in
 from preload import LIMIT, Client, Ended, Server, Story, built_in, fail, in_room
 
 SECONDS = 20.0
@@ -26,8 +27,7 @@ PAUSE = 0.001
 SEE = b'{"do":"see","node":1}\n'
 NOT_GREETED = b'{"clause":0,"deny":"not-greeted","text":"say hello first"}\n'
 MALFORMED = b'{"refuse":"malformed"}\n'
-BYE = b'{"do":"bye"}\n'
-BID = b'{"ok":"bye"}\n'
+Program = Server | Host
 # A hostile client: a port, the time to end at, and what it draws from. It answers what is wrong with its replies.
 Hostile = Callable[[int, float, random.Random], str]
 
@@ -72,10 +72,11 @@ def long_line(port: int, until: float, draw: random.Random) -> str:
 
 
 def half_line(port: int, until: float, draw: random.Random) -> str:
-    """Half a line, and the rest at the end: silence doesn't end a connection."""
+    """A line, half a line, and the rest at the end: silence after a line doesn't end a connection."""
     middle = draw.randrange(1, len(SEE) - 1)
     with opened(port) as it, it.makefile("rb") as replies:
-        it.sendall(SEE[:middle])
+        it.sendall(SEE + SEE[:middle])
+        replies.readline()
         time.sleep(max(0.0, until - time.monotonic()))
         it.sendall(SEE[middle:])
         return "" if replies.readline() == NOT_GREETED else "a line in two halves wasn't answered"
@@ -142,24 +143,25 @@ def honest_lines() -> bytes:
     return "".join(line + "\n" for line in lines).encode()
 
 
-def kilobytes(server: Server) -> int:
+def kilobytes(server: Program) -> int:
     """What the server holds of memory."""
     status = Path(f"/proc/{server.process.pid}/status").read_text(encoding="ascii")
     return int(status.split("VmRSS:", 1)[1].split()[0])
 
 
-def threads(server: Server) -> int:
+def threads(server: Program) -> int:
     """How many threads the server has."""
     return len(list(Path(f"/proc/{server.process.pid}/task").iterdir()))
 
 
 class Honest:
-    """Two clients, who ask one line after the other."""
+    """Two clients, who ask one line after the other: a student, and the teacher, who is at a host's desk."""
 
-    def __init__(self, story: Story, server: Server) -> None:
+    def __init__(self, story: Story, server: Program) -> None:
         self.lines = [line.split(b" ", 1) for line in story.lines]
         self.wanted, _ = story.plain(frozenset())
-        self.clients = {b"1": Client(server.port), b"2": Client(server.port)}
+        desk = server.desk if isinstance(server, Host) else server.port
+        self.clients = {b"1": Client(server.port), b"2": Client(desk)}
         self.at = 0
 
     def ask(self) -> float:
@@ -181,22 +183,34 @@ class Honest:
             time.sleep(pause)
         return times
 
-    def end(self, server: Server) -> Ended:
-        """Closes both, and waits for the server."""
+    def end(self, server: Program) -> Ended:
+        """Closes both, a host by the teacher's bye, and waits for the server."""
+        if isinstance(server, Host):
+            self.clients[b"2"].ask(BYE)
         for client in self.clients.values():
             client.close()
         return server.end()
 
 
-def served(story: Story, connections: int) -> tuple[Server, Honest]:
-    """A server with its honest clients."""
-    server = Server(lambda port: ["serve", str(story.lab), str(port), str(connections)], {})
+def serving(lab: Path, connections: int) -> Program:
+    """A server for so many connections, or a host."""
+    server: Program
+    if "host" in sys.argv[1:]:
+        server = Host(lab, 0, 0)
+    else:
+        server = Server(lambda port: ["serve", str(lab), str(port), str(connections)], {})
     if not server.listens:
         fail(f"hostile: the server doesn't listen: {server.end()}")
+    return server
+
+
+def served(story: Story, connections: int) -> tuple[Program, Honest]:
+    """A server with its honest clients."""
+    server = serving(story.lab, connections)
     return server, Honest(story, server)
 
 
-def ended(honest: Honest, server: Server) -> None:
+def ended(honest: Honest, server: Program) -> None:
     """Wants that the server ends with the events of the honest ones alone."""
     events = sum(b'"place":' in reply for reply in honest.wanted[:honest.at])
     end = honest.end(server)
@@ -211,8 +225,8 @@ def answered(futures: list[Future[str]]) -> None:
             fail(f"hostile: {future.result()}")
 
 
-def wait_for_threads(server: Server, wanted: int, when: str) -> None:
-    """Wants one thread for each connection that is open, and one more."""
+def wait_for_threads(server: Program, wanted: int, when: str) -> None:
+    """Wants so many threads: one for each connection that is open, beside those that there always are."""
     for _ in range(int(LIMIT / 0.05)):
         if threads(server) == wanted:
             return
@@ -220,14 +234,23 @@ def wait_for_threads(server: Server, wanted: int, when: str) -> None:
     fail(f"hostile: {threads(server)} threads, not {wanted}, {when}")
 
 
-def handles(server: Server) -> int:
+def handles(server: Program) -> int:
     """How many files the server has open."""
     return len(list(Path(f"/proc/{server.process.pid}/fd").iterdir()))
 
 
+def wait_for_handles(server: Program, wanted: int, when: str) -> None:
+    """Wants so many open files."""
+    for _ in range(int(LIMIT / 0.05)):
+        if handles(server) == wanted:
+            return
+        time.sleep(0.05)
+    fail(f"hostile: {handles(server)} files are open, not {wanted}, {when}")
+
+
 def late(lab: Path) -> None:
     """Clients that send more after a bye, or too much for a line, and read late: all replies arrive, and the end."""
-    server = Server(lambda port: ["serve", str(lab), str(port), "16"], {})
+    server = serving(lab, 16)
     for tail, said in [(BYE + b"x" * 5000, BID), (b"x" * 20_000, b"")] * 8:
         with opened(server.port) as it, it.makefile("rb") as replies:
             it.sendall(SEE * 100 + tail)
@@ -238,14 +261,23 @@ def late(lab: Path) -> None:
                 found = b"a reset"
             if found != NOT_GREETED * 100 + said:
                 fail(f"hostile: a late reader finds {len(found)} bytes: {found[-100:]!r}")
-    end = server.end()
+    end = server.dismissed(let_in(server.desk, hello("tess"))[0]) if isinstance(server, Host) else server.end()
     if end != Ended(0, b"done: 0 events, configuration 0\n", b""):
         fail(f"hostile: the server of late readers ended otherwise: {end}")
 
 
+def resting(server: Program) -> tuple[int, int]:
+    """How many threads and open files a server has with its two honest clients alone, once it takes no others:
+    the main thread, two more, the standard streams, and two files for each. A host always takes others."""
+    return (threads(server), handles(server)) if isinstance(server, Host) else (3, 7)
+
+
 def work(room: Path) -> str:
     """Late readers, a quiet run, and one beside the hostile clients."""
-    seconds = float(sys.argv[1]) if len(sys.argv) > 1 else SECONDS
+    numbers = [float(word) for word in sys.argv[1:] if word != "host"]
+    seconds = numbers[0] if numbers else SECONDS
+    if "host" in sys.argv[1:] and not HOST.is_file():
+        fail("no host's program is built")
     lab = room / "hostile.toml"
     text = built_in(room).read_text(encoding="utf-8")
     limits = text.replace("sessions = 4\n", "sessions = 16\n").replace("events = 100\n", "events = 100000\n")
@@ -258,20 +290,20 @@ def work(room: Path) -> str:
     ended(honest, server)
 
     server, honest = served(story, 2 + len(ALL))
+    honest.play(2, PAUSE)
+    rest = resting(server)
     until = time.monotonic() + seconds
     with ProcessPoolExecutor(len(ALL)) as pool:
         futures = [
             pool.submit(client, server.port, until, random.Random(seed)) for seed, client in enumerate(ALL)
         ]
-        wait_for_threads(server, 3 + len(ALL), "once all are there")
+        wait_for_threads(server, rest[0] + len(ALL), "once all are there")
         times = honest.play(100, 10 * PAUSE)
         held = kilobytes(server)
         times += honest.play(MOST_LINES, PAUSE, until)
         answered(futures)
-    wait_for_threads(server, 3, "once the hostile clients have gone")
-    # The standard streams, and two for each honest client.
-    if handles(server) != 7:
-        fail(f"hostile: {handles(server)} files are open once the hostile clients have gone")
+    wait_for_threads(server, rest[0], "once the hostile clients have gone")
+    wait_for_handles(server, rest[1], "once the hostile clients have gone")
     if abs(kilobytes(server) - held) * 10 > held:
         fail(f"hostile: the server holds {kilobytes(server)} kB, not {held} kB as after a hundred lines")
     holds = kilobytes(server)
@@ -281,7 +313,7 @@ def work(room: Path) -> str:
     if beside > 20 * quiet + 0.5:
         fail(f"hostile: a reply takes {beside * 1e6:.0f} microseconds, alone {quiet * 1e6:.0f}")
     return (
-        f"beside {len(ALL)} hostile clients: {len(times)} lines as in a quiet run, "
+        f"{'a host' if isinstance(server, Host) else 'serve'} beside {len(ALL)} hostile clients: {len(times)} lines as in a quiet run, "
         f"{beside * 1e6:.0f} microseconds each (alone {quiet * 1e6:.0f}), {holds} kB ({held} after 100 lines)"
     )
 

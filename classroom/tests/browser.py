@@ -91,6 +91,67 @@ def told(state: State, frame: Frame) -> Shown:
     return root, sorted(nodes, key=lambda node: int(node["node"])), line
 
 
+# Each text that is seen, in its colour over what lies behind it. On paper no background of HTML is printed. Behind
+# a text of the drawing is the ground that surrounds its letters, but for those that stand in a form of their own.
+TEXTS = """
+const onPaper = arguments[0];
+const colour = (text) => (text.match(/[\\d.]+/g) || []).map(Number);
+const isSeen = ([, , , alpha]) => alpha === undefined || alpha > 0;
+const paper = (element) => {
+  for (let at = element; at && !onPaper; at = at.parentElement) {
+    const found = colour(getComputedStyle(at).backgroundColor);
+    if (isSeen(found)) return found;
+  }
+  return [255, 255, 255];
+};
+const behind = (element) => {
+  const group = element.closest('svg') && element.closest('.m, .node');
+  if (group && element.closest('.m')) return [colour(getComputedStyle(group.querySelector('rect')).fill)];
+  if (element.matches('.identifier')) {
+    return [...group.querySelectorAll('.owned')].map((form) => colour(getComputedStyle(form).fill));
+  }
+  return [paper(element.closest('svg') ? element.closest('.stage') : element)];
+};
+const found = [];
+for (const element of document.querySelectorAll('body *')) {
+  const own = [...element.childNodes].some((node) => node.nodeType === 3 && node.data.trim());
+  const style = getComputedStyle(element);
+  if (!own && !element.matches('select, input[type="number"]')) continue;
+  if (!element.getClientRects().length || style.visibility !== 'visible' || element.matches('title, script')) continue;
+  const front = colour(element.closest('svg') ? style.fill : style.color);
+  for (const back of behind(element)) found.push([element.textContent.trim(), front.slice(0, 3), back.slice(0, 3)]);
+}
+return found;
+"""
+
+
+def luminance(colour: list[float]) -> float:
+    """How light a colour is, as WCAG 2 counts it."""
+    parts = [part / 255 for part in colour]
+    red, green, blue = (part / 12.92 if part <= 0.04045 else ((part + 0.055) / 1.055) ** 2.4 for part in parts)
+    lightness: float = 0.2126 * red + 0.7152 * green + 0.0722 * blue
+    return lightness
+
+
+def contrast(front: list[float], back: list[float]) -> float:
+    """The contrast of two colours, from 1 to 21."""
+    darker, lighter = sorted((luminance(front), luminance(back)))
+    return (lighter + 0.05) / (darker + 0.05)
+
+
+def show_as(driver: Any, theme: str = "light", media: str = "") -> None:
+    """Shows pages as for a reader who has set this theme, on a screen or on paper."""
+    setting = {"media": media, "features": [{"name": "prefers-color-scheme", "value": theme}]}
+    driver.execute_cdp_cmd("Emulation.setEmulatedMedia", setting)
+
+
+def pale(driver: Any, on_paper: bool = False) -> tuple[int, list[tuple[str, float]]]:
+    """How many texts a page shows, and those whose contrast is under 4.5 to 1."""
+    texts = driver.execute_script(TEXTS, on_paper)
+    told = [(text, contrast(front, back)) for text, front, back in texts]
+    return len(told), [(text, ratio) for text, ratio in told if ratio < 4.5]
+
+
 class Played(unittest.TestCase):
     """Opens the pages of runs."""
 

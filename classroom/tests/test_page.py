@@ -15,7 +15,7 @@ from selenium.webdriver.common.keys import Keys
 from classroom.client import Client
 from classroom.frames import frames_of
 from classroom.lab import read
-from classroom.tests.browser import Shown, browser, is_ready, press, shown, told, until
+from classroom.tests.browser import Shown, browser, is_ready, pale, press, show_as, shown, told, until
 from classroom.tests.help import EXAMPLES, Going, InRoom
 
 CYCLE = EXAMPLES / "cycle.toml"
@@ -156,6 +156,25 @@ class Live(InRoom):
         self.begin()
         self.find("close")
         until(self.driver, lambda driver: "no: empty" in driver.find_element("id", "lines").text)
+        self.end()
+
+    def test_texts_are_readable_in_both_themes(self) -> None:
+        self.begin()
+        self.addCleanup(show_as, self.driver)
+        self.find("close")
+        until(self.driver, lambda driver: "no: empty" in driver.find_element("id", "lines").text)
+        gus = self.student("gus")
+        gus.move(gus.look(4))
+        self.sees("grant gus 4 update")
+        self.click_node(5)
+        for theme in ("light", "dark"):
+            show_as(self.driver, theme)
+            for disabled in (False, True):
+                self.driver.execute_script("for (const it of document.querySelectorAll('button')) it.disabled = arguments[0]", disabled)
+                count, faint = pale(self.driver)
+                self.assertGreater(count, 50)
+                self.assertEqual(faint, [], (theme, disabled))
+        self.driver.execute_script("for (const it of document.querySelectorAll('button')) it.disabled = false")
         self.end()
 
     def test_opened_again_and_twice(self) -> None:
