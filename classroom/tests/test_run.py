@@ -100,7 +100,9 @@ class Run(Cycle):
         done = words("demo", "--into", self.room)
         self.assertEqual(done.returncode, 0, done.stdout + done.stderr)
         self.assertIn("stable, and so the run is ended", done.stdout)
-        self.whole(next(self.room.iterdir()))
+        folder = next(self.room.iterdir())
+        self.whole(folder)
+        self.assertLess((folder / "run.html").stat().st_size, 1_000_000)
 
     def test_side_by_side(self) -> None:
         students = self.file("students", "".join(f"S {number}\n" for number in range(6)))
