@@ -312,8 +312,9 @@ def work(room: Path) -> str:
     # A wait for a hostile client is of seconds; what their share of the processors makes of it is less.
     if beside > 20 * quiet + 0.5:
         fail(f"hostile: a reply takes {beside * 1e6:.0f} microseconds, alone {quiet * 1e6:.0f}")
+    kind = "a host" if isinstance(server, Host) else "a server"
     return (
-        f"{'a host' if isinstance(server, Host) else 'serve'} beside {len(ALL)} hostile clients: {len(times)} lines as in a quiet run, "
+        f"{kind} beside {len(ALL)} hostile clients: {len(times)} lines as in a quiet run, "
         f"{beside * 1e6:.0f} microseconds each (alone {quiet * 1e6:.0f}), {holds} kB ({held} after 100 lines)"
     )
 

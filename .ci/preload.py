@@ -2,7 +2,9 @@
 
 The libraries are built from the C sources beside this file by the toolchain's own clang. What a run should
 answer comes from a plain run, without a library, over the lines that the other one answered.
+Another program than the one that is built here is taken where the environment's MML_PROGRAM names it.
 """
+import os
 import shutil
 import socket
 import struct
@@ -16,7 +18,7 @@ from typing import NoReturn, Optional
 
 HERE = Path(__file__).resolve().parent
 TOP = HERE.parent
-PROGRAM = TOP / "crates/mml_server/out/mml_server"
+PROGRAM = Path(os.environ.get("MML_PROGRAM") or TOP / "crates/mml_server/out/mml_server")
 LIMIT = 300.0
 # Replies that change nothing, whatever was asked.
 REFUSED = (b'{"refuse":"memory"}\n', b'{"refuse":"journal"}\n')

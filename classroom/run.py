@@ -291,7 +291,7 @@ SIGNALS = (signal.SIGINT, signal.SIGTERM, signal.SIGHUP)
 def open_desk(it: server.Server, lab: labs.Lab, folder: Path, words: argparse.Namespace, tell: Callable[[str], None]) -> Desk:
     """Tells where the run is, and greets at the desk."""
     places = f"{lab.sessions - 1} students at once" if it.hosted else \
-        f"{lab.sessions} connections in all, the teacher's among them, since no host is built"
+        f"{lab.sessions} connections in all, the teacher's among them, since no host is built: ./mml host builds it"
     if it.port != words.port:
         tell(f"port {words.port} is in use")
     tell(f"port {it.port}, for {places}; folder {folder}")

@@ -9,38 +9,7 @@ import sys
 import unittest
 
 from classroom.client import Client, Closed, Denied, Refused
-from classroom.program import TOP
 from classroom.tests.help import CYCLE, EXAMPLES, KEYS, LIMIT, Cycle, Going, words
-
-
-# Two ports as a host has them, before a server for so many connections: the desk's lines are passed on, and its
-# bye ends the whole.
-HOST = f"""
-import socket, subprocess, sys
-sys.path.insert(0, {str(TOP)!r})
-from classroom.program import program
-lab, port, desk, journal = sys.argv[1:]
-server = subprocess.Popen([program(), "serve", lab, port, "8", journal], stdout=subprocess.PIPE)
-line = server.stdout.readline().decode().strip()
-if not line:
-    sys.exit(server.wait())
-with socket.create_server(("127.0.0.1", 0)) as listener:
-    print(f"{{line}}, desk on port {{listener.getsockname()[1]}}", flush=True)
-    teacher, _ = listener.accept()
-    with socket.create_connection(("127.0.0.1", int(port))) as passed:
-        asked, answered = teacher.makefile("rb"), passed.makefile("rb")
-        for request in asked:
-            passed.sendall(request)
-            reply = answered.readline()
-            if b'"ok":"bye"' in reply:
-                server.kill()
-                print("done", flush=True)
-            teacher.sendall(reply)
-            if b'"ok":"bye"' in reply:
-                sys.exit(0)
-server.kill()
-sys.exit(4)
-"""
 
 
 class Run(Cycle):
@@ -103,18 +72,6 @@ class Run(Cycle):
             self.assertEqual(going.ends(), 0, going.lines)
             self.assertEqual(self.whole(going.folder), 0)
 
-    def test_by_a_host(self) -> None:
-        host = self.file("host", f"#!{sys.executable}\n{HOST}")
-        host.chmod(0o700)
-        going = Going(self, CYCLE, "--close", "when-idle:0.3", "--until", "stable", MML_HOST=str(host))
-        self.assertTrue(any("7 students at once" in line for line in going.lines), going.lines)
-        self.assertTrue(any(line.startswith("desk ") for line in going.lines), going.lines)
-        for name in KEYS:
-            self.bot(going, name)
-        self.assertEqual(going.ends(), 0, going.lines)
-        self.assertEqual((going.folder / "server.txt").read_text(encoding="utf-8"), "done\n")
-        self.assertGreater(self.whole(going.folder), 10)
-
     def test_a_port_in_use(self) -> None:
         with socket.create_server(("127.0.0.1", 0)) as taken:
             port = taken.getsockname()[1]
@@ -143,7 +100,9 @@ class Run(Cycle):
         done = words("demo", "--into", self.room)
         self.assertEqual(done.returncode, 0, done.stdout + done.stderr)
         self.assertIn("stable, and so the run is ended", done.stdout)
-        self.whole(next(self.room.iterdir()))
+        folder = next(self.room.iterdir())
+        self.whole(folder)
+        self.assertLess((folder / "run.html").stat().st_size, 1_000_000)
 
     def test_side_by_side(self) -> None:
         students = self.file("students", "".join(f"S {number}\n" for number in range(6)))

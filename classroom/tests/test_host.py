@@ -1,0 +1,124 @@
+"""`./class run` over the built host: its places go from one connection to the next."""
+from __future__ import annotations
+
+import fcntl
+import os
+import pty
+import re
+import subprocess
+import sys
+import termios
+import time
+import unittest
+
+from classroom.client import Client, Refused
+from classroom.lab import read
+from classroom.program import TOP, host
+from classroom.tests.help import CYCLE, KEYS, LIMIT, Cycle, Going
+
+TEACHER = read(CYCLE).teacher
+
+
+@unittest.skipUnless(host(), "not tried: no host is built")
+class Hosted(Cycle):
+    """Runs over the cycle of `examples/`, with three places of which one is the desk's, or with all."""
+
+    def begin(self, sessions: int, *more: str) -> Going:
+        """Starts a run over a lab with so many places."""
+        text = re.sub(r"(?m)^sessions = \d+", f"sessions = {sessions}", CYCLE.read_text(encoding="utf-8"))
+        going = Going(self, self.file("cycle.toml", text), *more)
+        self.assertTrue(any(f"for {sessions - 1} students at once; folder" in line for line in going.lines), going.lines)
+        return going
+
+    def ended(self, going: Going) -> None:
+        """Wants a run that was ended by the bye at its desk, and its folder whole."""
+        self.assertEqual(going.ends(), 0, going.lines)
+        events = self.whole(going.folder)
+        self.assertRegex((going.folder / "server.txt").read_text(encoding="utf-8"),
+                         rf"^done: {events} events, configuration \d+\n$")
+
+    def let_in(self, going: Going, name: str) -> Client:
+        """A student's connection, as soon as a place is free."""
+        while True:
+            try:
+                return Client(going.port, name, KEYS[name])
+            except Refused as refused:
+                self.assertEqual(refused.word, "busy")
+                time.sleep(0.01)
+
+    def test_to_stable_with_bots_that_die_and_come_again(self) -> None:
+        going = self.begin(8, "--close", "when-idle:0.3", "--until", "stable")
+        for name in KEYS:
+            for _ in range(3):
+                self.bot(going, name).kill()
+        for _ in range(20):
+            gus = self.let_in(going, "gus")
+            gus.look(4)
+            gus.__exit__(OSError, None, None)
+        for name in KEYS:
+            self.bot(going, name)
+        self.ended(going)
+        self.assertIn(", stable", (going.folder / "audit.txt").read_text(encoding="utf-8"))
+
+    def test_a_full_house(self) -> None:
+        going = self.begin(3, "--close", "by-hand")
+        gus = self.bot(going, "gus")
+        going.until("^connected: gus ")
+        self.bot(going, "hana")
+        self.assertRegex(going.until("^all places are taken, and who comes now isn't let in; connected: "), "gus.*hana")
+        for _ in range(3):
+            with self.assertRaises(Refused) as refused:
+                Client(going.port, "ines", KEYS["ines"])
+            self.assertEqual(refused.exception.word, "busy")
+        gus.kill()
+        going.until("^gone: gus ")
+        with self.let_in(going, "ines") as ines:
+            self.assertEqual(ines.look(3).at, 0)
+            self.assertRegex(going.until("^all places are taken"), "hana")
+        going.until("^gone: ")
+        self.bot(going, "jonas")
+        going.until("^connected: jonas ")
+        going.type("end")
+        self.ended(going)
+
+    def test_the_desk_is_held_and_the_teacher_comes_to_the_port_too(self) -> None:
+        going = self.begin(4, "--close", "by-hand")
+        told = next((line for line in going.lines if line.startswith("desk ")), "")
+        with self.assertRaises(Refused) as refused:
+            Client(int(told.removeprefix("desk ")), *TEACHER)
+        self.assertEqual(refused.exception.word, "busy")
+        with Client(going.port, *TEACHER) as program, Client(going.port, "gus", KEYS["gus"]) as gus:
+            gus.move(gus.look(4))
+            self.assertEqual(program.close().moved, (4,))
+        going.until("^configuration 1: 4 \\(gus\\) update")
+        going.type("fault 1 2 true")
+        going.until("^configuration 2: fault 1 2 true")
+        going.type("end")
+        self.ended(going)
+
+    def test_an_interrupt_in_a_terminal(self) -> None:
+        ours, theirs = pty.openpty()
+        process = subprocess.Popen(
+            [sys.executable, TOP / "class", "run", CYCLE, "--into", self.room / "runs", "--close", "by-hand"],
+            stdin=theirs, stdout=theirs, stderr=theirs, start_new_session=True,
+            preexec_fn=lambda: fcntl.ioctl(0, termios.TIOCSCTTY, 0),
+        )
+        os.close(theirs)
+        text = b""
+        while b"words: " not in text:
+            text += os.read(ours, 4096)
+        os.write(ours, b"fault 1 2 true\n")
+        while b"fault 1 2 true;" not in text:
+            text += os.read(ours, 4096)
+        os.write(ours, b"\x03")
+        while b"all of it is in " not in text:
+            text += os.read(ours, 4096)
+        self.assertEqual(process.wait(LIMIT), 0)
+        os.close(ours)
+        folder = next((self.room / "runs").iterdir())
+        self.assertEqual(self.whole(folder), 1)
+        self.assertEqual((folder / "server.txt").read_text(encoding="utf-8"), "done: 1 events, configuration 1\n")
+
+
+if __name__ == "__main__":
+    unittest.main()
