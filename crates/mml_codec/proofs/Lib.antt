@@ -9,6 +9,7 @@ pub mod SeparatedLemmas
 pub mod ReportLemmas
 pub mod AboutLemmas
 pub mod RulingsLemmas
+pub mod PartsLemmas
 pub mod ReplyTextLemmas
 pub mod ReplyValuesLemmas
 pub mod GreetingsLemmas

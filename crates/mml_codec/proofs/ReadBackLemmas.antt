@@ -7,12 +7,12 @@ use Rattle.std.proofs.lemmas.Bool.{and_parts, and_from}
 use Rattle.std.proofs.lemmas.List.Elements.{All-head, All-tail}
 use Rattle.json.specs.Tree as tree
 use Rattle.json.proofs.Printed.Utf8.{are_ascii, IsUtf8-are_ascii}
-use Rattle.serde_json.specs.Data.{Data, null, boolean, string, array, object, Members, no_members, put}
+use Rattle.serde_json.specs.Data.{Data, null, boolean, number, unsigned, string, array, object, Members, no_members, put}
 use Rattle.serde_json.specs.Read.{of_json, of_items, of_members, read, max_depth}
 use Rattle.serde_json.specs.Written.{outline, items_outline, members_outline, compact_text}
 use Rattle.serde_json.proofs.Numbers.{number_of-decimal}
 use Rattle.mml_codec.specs.Objects.{items_with, members_with, array_of, object_with}
-use Rattle.mml_codec.specs.ReplyValues.{count, has_rising_keys, items_have_rising_keys}
+use Rattle.mml_codec.specs.ReplyValues.{has_rising_keys, items_have_rising_keys}
 use Rattle.mml_codec.proofs.CompactTextLemmas.{HasText, ItemsHaveText, MembersHaveText, read-compact_text}
 
 -- its text is read as the value again, in which arrays and objects nest n deep at most
@@ -27,7 +27,7 @@ null_read n = record { text = tt; back = refl; shallow = omega arith }
 pub truth_read : (n : ℕ) (b : Bool) → IsReadable n (boolean b)
 truth_read n b = record { text = tt; back = refl; shallow = omega arith }
 
-pub count_read : (n k : ℕ) → k < 2 ^ 64 → IsReadable n (count k)
+pub count_read : (n k : ℕ) → k < 2 ^ 64 → IsReadable n (number (unsigned k))
 count_read n k h = record { text = h; back = rw (number_of-decimal k h) refl; shallow = omega arith }
 
 pub string_read : (n : ℕ) (s : List ℕ) → IsUtf8 s → IsReadable n (string s)

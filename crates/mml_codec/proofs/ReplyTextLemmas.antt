@@ -1,39 +1,65 @@
--- The text of a reply is that of its JSON value.
-use Rattle.std.proofs.Common.{◌≡◌, ℕ, List, [], ◌∷◌, ◌++◌, Bool, true, false, Option, None, Some, All, map, length, codes, decimal, inl, inr, refl, sym, ap, ◌∙◌, arith, append_assoc}
+-- The text of a reply is that of its JSON value: of each fact, and so of all fields.
+use Rattle.std.proofs.Common.{◌≡◌, ◌≢◌, ℕ, ◌≤◌, List, [], ◌∷◌, ◌++◌, Bool, true, false, not, ◌&&◌, eqb, ltb, Option, None, Some, All, map, length, codes, inl, inr, refl, sym, ap, ◌∙◌, arith, append_assoc, lt-ltb, ltb-true}
 use Rattle.std.specs.Prelude.{flat_map}
-use Rattle.std.specs.List.{concat}
-use Rattle.std.specs.Ordering.{nat_cmp}
-use Rattle.std.specs.FinSet.{FinSet}
-use Rattle.std.proofs.lemmas.Bool.{and_parts}
+use Rattle.std.specs.List.{AllByRecursion}
+use Rattle.std.proofs.lemmas.Bool.{and_parts, and_from, eq-eqb, ne_eqb, both_ways, not-true}
 use Rattle.std.proofs.lemmas.List.Elements.{All-head, All-tail}
 use Rattle.json.specs.Print.{escape_byte, escape}
 use Rattle.json.proofs.Printed.Strings.{escape_byte_plain}
+use Rattle.json.proofs.Printed.Utf8.{are_ascii}
 use Rattle.serde_json.specs.Data.{Data, boolean}
-use Rattle.serde_json.specs.Written.{compact_text, items_text}
+use Rattle.serde_json.specs.Written.{compact_text, items_text, members_text, comma_if}
 use Rattle.mml_rules.specs.declared.registers.Regs.{Regs}
 use Rattle.mml_rules.specs.declared.rule.Kind.{Kind}
 use Rattle.mml_rules.specs.declared.rule.Kind.TheVariants as kind
-use Rattle.mml_lab.specs.declared.who.Who.{Who}
-use Rattle.mml_lab.specs.Rosters.{RosterValue, IsRoster, IsPrincipal, is_name, is_key, name_of, key_of}
 use Rattle.mml_lab.specs.RosterMeaning.{IsNameByte}
-use Rattle.mml_lab.proofs.FormLemmas.{name-means}
-use Rattle.mml_policy.specs.declared.denial.Denial.{Denial}
-use Rattle.mml_policy.specs.declared.denial.Denial.TheVariants as denial
-use Rattle.mml_policy.specs.Denials.{clause_of, text_of}
-use Rattle.mml_policy.specs.Denials as denials
-use Rattle.mml_policy.specs.declared.see.See.{See}
-use Rattle.mml_policy.specs.declared.look.Look.{Look}
 use Rattle.mml_stable.specs.declared.open_link.OpenLink.{OpenLink}
-use Rattle.mml_stable.specs.declared.stability.Report.{Report}
-use Rattle.mml_codec.specs.declared.reply.Refused.{Refused}
-use Rattle.mml_codec.specs.declared.reply.Refused.TheVariants as refused
-use Rattle.mml_codec.specs.declared.reply.Reply.{Reply}
-use Rattle.mml_codec.specs.declared.reply.Reply.TheVariants as replies
-use Rattle.mml_codec.specs.Replies.{truth_text, node_text, pointer_text, kind_text, kind_or_null, separated, members, hello_text, see_text, near_text, look_head, look_tail, look_text, move_text, close_text, fault_text, ends_text, release_text, pair_text, privileged_text, open_link_text, report_text, deny_text, refuse_text, text, IsAbout}
-use Rattle.mml_codec.specs.Objects.{items_with}
-use Rattle.mml_codec.specs.ReplyValues.{node_value, pointer_value, kind_value, kind_or_null_value, near_value, pair_value, privileged_value, open_link_value, reply_value}
+use Rattle.mml_codec.specs.Objects.{items_with, members_with}
+use Rattle.mml_codec.specs.Facts as fact
+use Rattle.mml_codec.specs.Facts.{Fact, Fields, truth_text, node_text, pointer_text, kind_text, kind_or_null, separated, members, near_text, pair_text, privileged_text, open_link_text, list_then, fact_then, fields_after, node_value, pointer_value, kind_value, kind_or_null_value, near_value, pair_value, privileged_value, open_link_value, fact_value, keys_of}
 
--- ---- words, and the texts of one item
+-- ---- words of which no byte is escaped
+
+abbrev pub is_plain : List ℕ → Bool
+is_plain [] = true
+is_plain (b ∷ bs) = (ltb 31 b && (ltb b 128 && (not (eqb b 34) && not (eqb b 92)))) && is_plain bs
+
+other_than : (b k : ℕ) → not (eqb b k) ≡ true → b ≢ k
+other_than b k h e = both_ways _ (not-true _ h) (eq-eqb b k e)
+
+pub plain_escape : (bs : List ℕ) → is_plain bs ≡ true → escape bs ≡ bs
+plain_escape [] h = refl
+plain_escape (b ∷ bs) h =
+    let here = and_parts _ _ h in
+    let low = and_parts (ltb 31 b) _ here.0 in
+    let high = and_parts (ltb b 128) _ low.1 in
+    let others = and_parts (not (eqb b 34)) _ high.1 in
+    let more = ltb-true 31 b low.0 in
+    rw (escape_byte_plain b (other_than b 34 others.0) (other_than b 92 others.1) (omega arith), plain_escape bs here.1) refl
+
+pub plain_ascii : (bs : List ℕ) → is_plain bs ≡ true → are_ascii bs ≡ true
+plain_ascii [] h = refl
+plain_ascii (b ∷ bs) h =
+    let here = and_parts _ _ h in
+    and_from _ _ (and_parts (ltb b 128) _ (and_parts (ltb 31 b) _ here.0).1).0 (plain_ascii bs here.1)
+
+not_false : (b k : ℕ) → b ≢ k → not (eqb b k) ≡ true
+not_false b k h = ap not (ne_eqb b k h)
+
+plain_byte : (b : ℕ) → 32 ≤ b → b ≤ 122 → b ≢ 34 → b ≢ 92 → (ltb 31 b && (ltb b 128 && (not (eqb b 34) && not (eqb b 92)))) ≡ true
+plain_byte b low high quote slash = and_from _ _ (lt-ltb 31 b (omega arith)) (and_from _ _ (lt-ltb b 128 (omega arith)) (and_from _ _ (not_false b 34 quote) (not_false b 92 slash)))
+
+pub name_plain : (bs : List ℕ) → All IsNameByte bs → is_plain bs ≡ true
+name_plain [] all = refl
+name_plain (b ∷ bs) all =
+    let here : (ltb 31 b && (ltb b 128 && (not (eqb b 34) && not (eqb b 92)))) ≡ true = elim (All-head IsNameByte b bs all) [
+      | inl letter ↦ plain_byte b (omega arith) (omega arith) (λ e. omega arith) (λ e. omega arith)
+      | inr (inl digit) ↦ plain_byte b (omega arith) (omega arith) (λ e. omega arith) (λ e. omega arith)
+      | inr (inr hyphen) ↦ plain_byte b (omega arith) (omega arith) (λ e. omega arith) (λ e. omega arith)
+    ] in
+    and_from _ _ here (name_plain bs (All-tail IsNameByte b bs all))
+
+-- ---- the texts of one item
 
 truth_is : (b : Bool) → truth_text b ≡ compact_text (boolean b)
 truth_is true = refl
@@ -64,28 +90,11 @@ pair_is ids p = refl
 
 privileged_is : (ids : List ℕ) (n : ℕ × Kind) → privileged_text ids n ≡ compact_text (privileged_value ids n)
 unfolding privileged_text
-privileged_is ids n = rw (kind_is n.1) refl
+privileged_is ids n = ap (λ t. codes "[" ++ (node_text ids n.0 ++ (codes "," ++ (t ++ codes "]")))) (kind_is n.1)
 
 open_link_is : (ids : List ℕ) (l : OpenLink) → open_link_text ids l ≡ compact_text (open_link_value ids l)
 unfolding open_link_text
-open_link_is ids l = rw (kind_is l.kind) refl
-
--- a name has no byte that is escaped
-escape_name : (bs : List ℕ) → All IsNameByte bs → escape bs ≡ bs
-escape_name [] all = refl
-escape_name (b ∷ bs) all =
-    let here : escape_byte b ≡ b ∷ [] = elim (All-head IsNameByte b bs all) [
-      | inl letter ↦ escape_byte_plain b (λ e. omega arith) (λ e. omega arith) (omega arith)
-      | inr (inl digit) ↦ escape_byte_plain b (λ e. omega arith) (λ e. omega arith) (omega arith)
-      | inr (inr hyphen) ↦ escape_byte_plain b (λ e. omega arith) (λ e. omega arith) (omega arith)
-    ] in
-    rw (here, escape_name bs (All-tail IsNameByte b bs all)) refl
-
-pub name_bytes : (r : RosterValue) (who : Who) → IsRoster r → IsPrincipal r who → All IsNameByte (name_of r who)
-name_bytes r who roster is = ((name-means (name_of r who)).0 (and_parts (is_name (name_of r who)) (is_key (key_of r who)) (roster.formed who is)).0).bytes
-
-escape_name_of : (r : RosterValue) (who : Who) → IsRoster r → IsPrincipal r who → escape (name_of r who) ≡ name_of r who
-escape_name_of r who roster is = escape_name (name_of r who) (name_bytes r who roster is)
+open_link_is ids l = ap (λ t. codes "[" ++ (node_text ids l.a ++ (codes "," ++ (node_text ids l.b ++ (codes "," ++ (node_text ids l.node ++ (codes "," ++ (t ++ codes "]")))))))) (kind_is l.kind)
 
 -- ---- lists, and what follows them
 
@@ -108,125 +117,44 @@ items_then : {A : Type 0} (g : A → List ℕ) (f : A → Data) → ((x : A) →
 items_then g f same xs rest more e =
     sym (append_assoc (separated (map g xs)) (93 ∷ []) rest) ∙ ap (λ t. t ++ rest) (items_are g f same xs) ∙ ap (λ t. items_text false (items_with (map f xs)) ++ t) e
 
--- the pieces one after another, before what follows
-abbrev onto : List (List ℕ) → List ℕ → List ℕ
-onto [] rest = rest
-onto (x ∷ xs) rest = x ++ onto xs rest
+list_is : {A : Type 0} (g : A → List ℕ) (f : A → Data) → ((x : A) → g x ≡ compact_text (f x)) → (xs : List A) (rest : List ℕ)
+    → list_then (map g xs) rest ≡ 91 ∷ (items_text false (items_with (map f xs)) ++ rest)
+list_is g f same xs rest = ap (λ t. 91 ∷ t) (items_then g f same xs rest rest refl)
 
-concat_then : (xs : List (List ℕ)) (rest : List ℕ) → concat xs ++ rest ≡ onto xs rest
-concat_then [] rest = refl
-concat_then (x ∷ xs) rest = append_assoc x (concat xs) rest ∙ ap (λ t. x ++ t) (concat_then xs rest)
+-- ---- a fact, and all fields
 
--- ---- each reply
+-- what is told by a word has no byte that is escaped
+abbrev pub IsPlainFact : Fact → Type 0
+IsPlainFact (fact.word w) = is_plain w ≡ true
+IsPlainFact _ = Unit {0}
 
-hello_is : (ids : List ℕ) (r : RosterValue) (who : Who) → IsRoster r → IsPrincipal r who → hello_text (name_of r who) ≡ compact_text (reply_value ids r (replies.Hello who))
-unfolding hello_text escape_byte
-hello_is ids r who roster is = rw (escape_name_of r who roster is) (ap (λ t. codes "{\"ok\":\"hello\",\"who\":\"" ++ t) (sym (append_assoc (name_of r who) (34 ∷ []) (125 ∷ []))))
+-- the keys, too
+abbrev pub ArePlain : Fields → Type 0
+ArePlain fs = AllByRecursion (λ f. (is_plain f.0 ≡ true) × IsPlainFact f.1) fs
 
-see_is : (ids : List ℕ) (r : RosterValue) (s : See) → see_text ids s ≡ compact_text (reply_value ids r (replies.See s))
-unfolding see_text escape_byte
-see_is ids r s = rw (truth_is s.regs.m, pointer_is ids s.regs.p) refl
+quoted_is : (w rest : List ℕ) → is_plain w ≡ true → codes "\"" ++ (w ++ (codes "\"" ++ rest)) ≡ 34 ∷ ((escape w ++ 34 ∷ []) ++ rest)
+quoted_is w rest h = ap (λ t. 34 ∷ t) (sym (append_assoc w (34 ∷ []) rest) ∙ ap (λ t. (t ++ 34 ∷ []) ++ rest) (sym (plain_escape w h)))
 
-abbrev head_pieces : Look → List (List ℕ)
-head_pieces l = codes "{\"at\":" ∷ decimal l.at ∷ codes ",\"chosen\":" ∷ compact_text (kind_or_null_value l.chosen) ∷ codes ",\"m\":" ∷ compact_text (boolean l.regs.m) ∷ codes ",\"near\":[" ∷ []
+fact_is : (ids : List ℕ) (f : Fact) (rest : List ℕ) → IsPlainFact f → fact_then ids f rest ≡ compact_text (fact_value ids f) ++ rest
+fact_is ids (fact.count n) rest h = refl
+fact_is ids (fact.clause n) rest h = refl
+fact_is ids (fact.word w) rest h = quoted_is w rest h
+fact_is ids (fact.truth b) rest h = ap (λ t. t ++ rest) (truth_is b)
+fact_is ids (fact.node i) rest h = refl
+fact_is ids (fact.pointer p) rest h = ap (λ t. t ++ rest) (pointer_is ids p)
+fact_is ids (fact.rule k) rest h = ap (λ t. t ++ rest) (kind_is k)
+fact_is ids (fact.rule_or_null k) rest h = ap (λ t. t ++ rest) (kind_or_null_is k)
+fact_is ids (fact.moved s) rest h = list_is (node_text ids) (node_value ids) (λ i. refl) (members (length ids) s) rest
+fact_is ids (fact.nodes is) rest h = list_is (node_text ids) (node_value ids) (λ i. refl) is rest
+fact_is ids (fact.near ns) rest h = list_is (near_text ids) (near_value ids) (near_is ids) ns rest
+fact_is ids (fact.pairs ps) rest h = list_is (pair_text ids) (pair_value ids) (pair_is ids) ps rest
+fact_is ids (fact.privileged ns) rest h = list_is (privileged_text ids) (privileged_value ids) (privileged_is ids) ns rest
+fact_is ids (fact.open_links ls) rest h = list_is (open_link_text ids) (open_link_value ids) (open_link_is ids) ls rest
 
-abbrev tail_pieces : List ℕ → Look → List (List ℕ)
-tail_pieces ids l = codes "],\"node\":" ∷ node_text ids l.node ∷ codes ",\"ok\":\"look\",\"p\":" ∷ compact_text (pointer_value ids l.regs.p)
-    ∷ codes ",\"rule\":" ∷ compact_text (kind_or_null_value l.enabled) ∷ codes "}" ∷ []
-
-look_head_is : (l : Look) (rest : List ℕ) → look_head l ++ rest ≡ onto (head_pieces l) rest
-unfolding look_head
-look_head_is l rest = rw (kind_or_null_is l.chosen, truth_is l.regs.m) (concat_then (head_pieces l) rest)
-
-look_tail_is : (ids : List ℕ) (l : Look) → look_tail ids l ++ [] ≡ onto (tail_pieces ids l) []
-unfolding look_tail
-look_tail_is ids l = rw (pointer_is ids l.regs.p, kind_or_null_is l.enabled) (concat_then (tail_pieces ids l) [])
-
-look_is : (ids : List ℕ) (r : RosterValue) (l : Look) → look_text ids l ≡ compact_text (reply_value ids r (replies.Look l))
-unfolding look_text escape_byte
-look_is ids r l =
-    look_head_is l (separated (map (near_text ids) l.near) ++ (look_tail ids l ++ []))
-    ∙ ap (onto (head_pieces l)) (ap (λ t. separated (map (near_text ids) l.near) ++ t) (look_tail_is ids l) ∙ items_then (near_text ids) (near_value ids) (near_is ids) l.near _ _ refl)
-
-move_is : (ids : List ℕ) (r : RosterValue) (at place node : ℕ) (k : Kind) → move_text ids at place node k ≡ compact_text (reply_value ids r (replies.Move at place node k))
-unfolding move_text escape_byte
-move_is ids r at place node k = rw (kind_is k) refl
-
-close_is : (ids : List ℕ) (r : RosterValue) (at place : ℕ) (moved : FinSet nat_cmp) → close_text ids at place moved ≡ compact_text (reply_value ids r (replies.Close at place moved))
-unfolding close_text escape_byte
-close_is ids r at place moved =
-    ap (λ t. codes "{\"at\":" ++ (decimal at ++ (codes ",\"moved\":[" ++ t)))
-    (items_then (node_text ids) (node_value ids) (λ i. refl) (members (length ids) moved) (codes ",\"ok\":\"close\",\"place\":" ++ (decimal place ++ codes "}")) _ refl)
-
-fault_is : (ids : List ℕ) (r : RosterValue) (at place node dropped : ℕ) → fault_text ids at place node dropped ≡ compact_text (reply_value ids r (replies.Fault at place node dropped))
-unfolding fault_text escape_byte
-fault_is ids r at place node dropped = refl
-
-link_is : (ids : List ℕ) (r : RosterValue) (at place a b dropped : ℕ) → ends_text ids (codes "link") at place a b dropped ≡ compact_text (reply_value ids r (replies.Link at place a b dropped))
-unfolding ends_text escape_byte
-link_is ids r at place a b dropped = refl
-
-cut_is : (ids : List ℕ) (r : RosterValue) (at place a b dropped : ℕ) → ends_text ids (codes "cut") at place a b dropped ≡ compact_text (reply_value ids r (replies.Cut at place a b dropped))
-unfolding ends_text escape_byte
-cut_is ids r at place a b dropped = refl
-
-release_is : (ids : List ℕ) (r : RosterValue) (at place node : ℕ) → release_text ids at place node ≡ compact_text (reply_value ids r (replies.Release at place node))
-unfolding release_text escape_byte
-release_is ids r at place node = refl
-
-report_is : (ids : List ℕ) (r : RosterValue) (q : Report) → report_text ids q ≡ compact_text (reply_value ids r (replies.Report q))
-unfolding report_text escape_byte
-report_is ids r q =
-    ap (λ t. codes "{\"at\":" ++ (decimal q.at ++ (codes ",\"free\":[" ++ t)))
-    (items_then (node_text ids) (node_value ids) (λ i. refl) q.free _ _ (ap (λ t. codes ",\"ok\":\"report\",\"open\":[" ++ t)
-    (items_then (open_link_text ids) (open_link_value ids) (open_link_is ids) q.open_links _ _ (ap (λ t. codes ",\"pairs\":[" ++ t)
-    (items_then (pair_text ids) (pair_value ids) (pair_is ids) q.pairs _ _ (ap (λ t. codes ",\"privileged\":[" ++ t)
-    (items_then (privileged_text ids) (privileged_value ids) (privileged_is ids) q.privileged _ _ (ap (λ t. codes ",\"stable\":" ++ (t ++ codes "}")) (truth_is q.stable)))))))))
-
-abbrev denial_part : Denial → List ℕ
-denial_part d = concat (codes "\"clause\":" ∷ decimal (clause_of d) ∷ codes ",\"deny\":\"" ∷ denials.name_of d ∷ codes "\",\"text\":\"" ∷ text_of d ∷ codes "\"}" ∷ [])
-
-deny_is : (ids : List ℕ) (r : RosterValue) (d : Denial) → deny_text d ≡ compact_text (reply_value ids r (replies.Deny d))
-unfolding deny_text escape_byte
-deny_is ids r denial.NotGreeted = refl
-deny_is ids r denial.Greeted = refl
-deny_is ids r denial.Unknown = refl
-deny_is ids r denial.Hidden = refl
-deny_is ids r denial.NotOwner = refl
-deny_is ids r (denial.Stale at) = ap (λ t. codes "{\"at\":" ++ t) (append_assoc (decimal at) (codes ",") (denial_part (denial.Stale at)))
-deny_is ids r denial.Chosen = refl
-deny_is ids r denial.Guard = refl
-deny_is ids r denial.NotTeacher = refl
-deny_is ids r denial.Empty = refl
-deny_is ids r denial.NoNode = refl
-deny_is ids r denial.BadRegister = refl
-deny_is ids r denial.Loop = refl
-deny_is ids r denial.Linked = refl
-deny_is ids r denial.NotLinked = refl
-deny_is ids r denial.NotChosen = refl
-
-refuse_is : (ids : List ℕ) (r : RosterValue) (q : Refused) → refuse_text q ≡ compact_text (reply_value ids r (replies.Refuse q))
-unfolding escape_byte
-refuse_is ids r refused.Malformed = refl
-refuse_is ids r refused.Full = refl
-refuse_is ids r refused.Journal = refl
-refuse_is ids r refused.Memory = refl
-
-bye_is : (ids : List ℕ) (r : RosterValue) → text ids r replies.Bye ≡ compact_text (reply_value ids r replies.Bye)
-unfolding escape_byte
-bye_is ids r = refl
-
-pub reply_text : (ids : List ℕ) (r : RosterValue) (q : Reply) → IsRoster r → IsAbout ids r q → text ids r q ≡ compact_text (reply_value ids r q)
-reply_text ids r (replies.Hello who) roster about = hello_is ids r who roster about
-reply_text ids r replies.Bye roster about = bye_is ids r
-reply_text ids r (replies.See s) roster about = see_is ids r s
-reply_text ids r (replies.Look l) roster about = look_is ids r l
-reply_text ids r (replies.Move at place node k) roster about = move_is ids r at place node k
-reply_text ids r (replies.Close at place moved) roster about = close_is ids r at place moved
-reply_text ids r (replies.Fault at place node dropped) roster about = fault_is ids r at place node dropped
-reply_text ids r (replies.Link at place a b dropped) roster about = link_is ids r at place a b dropped
-reply_text ids r (replies.Cut at place a b dropped) roster about = cut_is ids r at place a b dropped
-reply_text ids r (replies.Release at place node) roster about = release_is ids r at place node
-reply_text ids r (replies.Report q) roster about = report_is ids r q
-reply_text ids r (replies.Deny d) roster about = deny_is ids r d
-reply_text ids r (replies.Refuse q) roster about = refuse_is ids r q
+pub fields_are : (ids : List ℕ) (later : Bool) (fs : Fields) → ArePlain fs → fields_after ids (comma_if later) fs ≡ members_text later (members_with (keys_of ids fs))
+fields_are ids later [] h = refl
+fields_are ids later (f ∷ fs) h =
+    let rest = fields_after ids (codes ",") fs in
+    let told = fact_then ids f.1 rest in
+    ap (λ t. comma_if later ++ t) (ap (λ t. codes "\"" ++ (f.0 ++ (codes "\":" ++ t))) (fact_is ids f.1 rest h.0.1 ∙ ap (λ t. compact_text (fact_value ids f.1) ++ t) (fields_are ids true fs h.1))
+    ∙ quoted_is f.0 (58 ∷ (compact_text (fact_value ids f.1) ++ members_text true (members_with (keys_of ids fs)))) h.0.0)

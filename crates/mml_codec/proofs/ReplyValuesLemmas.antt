@@ -1,21 +1,22 @@
 -- The text of a reply is read as the value that it spells, and is one line.
-use Rattle.std.proofs.Common.{◌≡◌, ◌≢◌, ℕ, ◌<◌, ◌^◌, List, [], ◌∷◌, ◌++◌, Bool, true, ◌&&◌, Option, None, Some, IfSome, All, codes, length, inl, inr, nat_lt, refl, sym, ap, ◌∙◌, arith, ltb-true, lit≤, subst, slice_index, zero-add}
+use Rattle.std.proofs.Common.{◌≡◌, ◌≢◌, ℕ, ◌<◌, List, [], ◌∷◌, Bool, true, false, ◌&&◌, Option, None, Some, IfSome, All, codes, length, nat_lt, refl, sym, ap, ◌∙◌, arith, ltb-true, lit≤, subst, slice_index, zero-add}
 use Rattle.std.specs.List.{AllByRecursion, range_with_len}
-use Rattle.std.specs.Ordering.{nat_cmp}
+use Rattle.std.specs.Ordering.{nat_cmp, is_lt}
+use Rattle.std.specs.Cmp.Lexicographic.{slice_cmp}
 use Rattle.std.specs.FinSet as set
 use Rattle.std.specs.FinSet.{FinSet}
-use Rattle.std.proofs.lemmas.Bool.{and_parts, and_from, lt-ltb}
-use Rattle.std.proofs.lemmas.List.Elements.{All-head, All-tail, All-filter, All-from_get_or}
+use Rattle.std.proofs.lemmas.Bool.{and_parts, and_from}
+use Rattle.std.proofs.lemmas.List.Elements.{All-filter, All-from_get_or}
 use Rattle.std.proofs.lemmas.List.FromFn.{length-range_with_len, get_or-range_with_len}
-use Rattle.json.proofs.Printed.Utf8.{are_ascii}
-use Rattle.serde_json.specs.Data.{Data}
 use Rattle.serde_json.specs.Read.{read}
+use Rattle.serde_json.specs.Written.{compact_text}
 use Rattle.mml_ids.specs.Ids.{IsTable}
 use Rattle.mml_rules.specs.declared.registers.Regs.{Regs}
 use Rattle.mml_rules.specs.declared.rule.Kind.{Kind}
 use Rattle.mml_rules.specs.declared.rule.Kind.TheVariants as kind
-use Rattle.mml_lab.specs.Rosters.{RosterValue, IsRoster, name_of}
-use Rattle.mml_lab.specs.RosterMeaning.{IsNameByte}
+use Rattle.mml_lab.specs.declared.who.Who.{Who}
+use Rattle.mml_lab.specs.Rosters.{RosterValue, IsRoster, IsPrincipal, is_name, is_key, name_of, key_of}
+use Rattle.mml_lab.proofs.FormLemmas.{name-means}
 use Rattle.mml_policy.specs.About.{IsNear}
 use Rattle.mml_policy.specs.declared.denial.Denial.{Denial}
 use Rattle.mml_policy.specs.declared.denial.Denial.TheVariants as denial
@@ -27,14 +28,16 @@ use Rattle.mml_codec.specs.declared.reply.Refused.{Refused}
 use Rattle.mml_codec.specs.declared.reply.Refused.TheVariants as refused
 use Rattle.mml_codec.specs.declared.reply.Reply.{Reply}
 use Rattle.mml_codec.specs.declared.reply.Reply.TheVariants as replies
-use Rattle.mml_codec.specs.Replies.{as_list, members, current_number, text, IsAbout}
-use Rattle.mml_codec.specs.Objects.{object_with}
-use Rattle.mml_codec.specs.ReplyValues.{node_value, pointer_value, kind_value, kind_or_null_value, near_keys, near_value, pair_value, privileged_value, open_link_value, number_key, told_keys, refused_value, reply_keys, reply_value, AreWritableCounts, has_rising_keys}
+use Rattle.mml_codec.specs.Objects.{members_with}
+use Rattle.mml_codec.specs.Facts as fact
+use Rattle.mml_codec.specs.Facts.{Fact, Fields, members, object_text, node_value, pointer_value, kind_value, kind_or_null_value, near_keys, near_value, pair_value, privileged_value, open_link_value, fact_value, keys_of, FitsCount, HaveFittingCounts}
+use Rattle.mml_codec.specs.Replies.{current_number, number_first, told_fields, refusal_name, fields_of, text, IsAbout}
+use Rattle.mml_codec.specs.ReplyValues.{reply_value, AreWritableCounts, has_rising_keys, members_rise, comes_first}
 use Rattle.mml_codec.proofs.OneLineLemmas.{compact_text_line}
-use Rattle.mml_codec.proofs.ReplyTextLemmas.{name_bytes, reply_text}
+use Rattle.mml_codec.proofs.ReplyTextLemmas.{is_plain, plain_ascii, name_plain, IsPlainFact, ArePlain, fields_are}
 use Rattle.mml_codec.proofs.ReadBackLemmas.{IsReadable, AreReadable, IsKeyed, null_read, truth_read, count_read, word_read, items_read, array_read, object_read, read_value, items_rise}
 
--- ---- parts of replies
+-- ---- each kind of fact
 
 kind_read : (n : ℕ) (k : Kind) → IsReadable n (kind_value k)
 kind_read n kind.Update = word_read n (codes "update") refl
@@ -46,41 +49,6 @@ kind_or_null_read : (n : ℕ) (k : Option Kind) → IsReadable n (kind_or_null_v
 kind_or_null_read n None = null_read n
 kind_or_null_read n (Some k) = kind_read n k
 
-refused_read : (n : ℕ) (q : Refused) → IsReadable n (refused_value q)
-refused_read n refused.Malformed = word_read n (codes "malformed") refl
-refused_read n refused.Full = word_read n (codes "full") refl
-refused_read n refused.Journal = word_read n (codes "journal") refl
-refused_read n refused.Memory = word_read n (codes "memory") refl
-
--- the bytes of a name are ASCII
-ascii_name : (bs : List ℕ) → All IsNameByte bs → are_ascii bs ≡ true
-ascii_name [] h = refl
-ascii_name (b ∷ bs) h =
-    let small : b < 128 = elim (All-head IsNameByte b bs h) [ inl letter ↦ omega arith | inr (inl digit) ↦ omega arith | inr (inr hyphen) ↦ omega arith ] in
-    and_from _ _ (lt-ltb b 128 small) (ascii_name bs (All-tail IsNameByte b bs h))
-
--- the clause, the name and the text of a denial
-abbrev has_plain_words : Denial → Bool
-has_plain_words d = nat_lt (clause_of d) 128 && (are_ascii (denials.name_of d) && are_ascii (text_of d))
-
-plain_words : (d : Denial) → has_plain_words d ≡ true
-plain_words denial.NotGreeted = refl
-plain_words denial.Greeted = refl
-plain_words denial.Unknown = refl
-plain_words denial.Hidden = refl
-plain_words denial.NotOwner = refl
-plain_words (denial.Stale at) = refl
-plain_words denial.Chosen = refl
-plain_words denial.Guard = refl
-plain_words denial.NotTeacher = refl
-plain_words denial.Empty = refl
-plain_words denial.NoNode = refl
-plain_words denial.BadRegister = refl
-plain_words denial.Loop = refl
-plain_words denial.Linked = refl
-plain_words denial.NotLinked = refl
-plain_words denial.NotChosen = refl
-
 -- the ranks of a set's nodes
 below : (n : ℕ) → All (λ i. i < n) (range_with_len 0 n)
 below n = All-from_get_or (λ i. i < n) (range_with_len 0 n) 0 (λ i l.
@@ -89,6 +57,42 @@ below n = All-from_get_or (λ i. i < n) (range_with_len 0 n) 0 (λ i l.
 
 members_below : (n : ℕ) (s : FinSet nat_cmp) → All (λ i. i < n) (members n s)
 members_below n s = All-filter (set.contains s) (λ i. i < n) (range_with_len 0 n) (below n)
+
+-- it is about nodes of the lab
+abbrev IsFactOf : List ℕ → Fact → Type 0
+IsFactOf ids (fact.count n) = Unit {0}
+IsFactOf ids (fact.clause n) = nat_lt n 128 ≡ true
+IsFactOf ids (fact.word w) = is_plain w ≡ true
+IsFactOf ids (fact.truth b) = Unit {0}
+IsFactOf ids (fact.node i) = i < length ids
+IsFactOf ids (fact.pointer p) = IfSome p (λ j. j < length ids)
+IsFactOf ids (fact.rule k) = Unit {0}
+IsFactOf ids (fact.rule_or_null k) = Unit {0}
+IsFactOf ids (fact.moved s) = Unit {0}
+IsFactOf ids (fact.nodes is) = All (λ i. i < length ids) is
+IsFactOf ids (fact.near ns) = All (IsNear ids) ns
+IsFactOf ids (fact.pairs ps) = All (IsPairOf (length ids)) ps
+IsFactOf ids (fact.privileged ns) = All (λ n. n.0 < length ids) ns
+IsFactOf ids (fact.open_links ls) = All (IsOpenLinkOf (length ids)) ls
+
+abbrev AreFactsOf : List ℕ → Fields → Type 0
+AreFactsOf ids fs = AllByRecursion (λ f. IsFactOf ids f.1) fs
+
+plain_fact : (ids : List ℕ) (f : Fact) → IsFactOf ids f → IsPlainFact f
+plain_fact ids (fact.word w) h = h
+plain_fact ids (fact.count n) h = tt
+plain_fact ids (fact.clause n) h = tt
+plain_fact ids (fact.truth b) h = tt
+plain_fact ids (fact.node i) h = tt
+plain_fact ids (fact.pointer p) h = tt
+plain_fact ids (fact.rule k) h = tt
+plain_fact ids (fact.rule_or_null k) h = tt
+plain_fact ids (fact.moved s) h = tt
+plain_fact ids (fact.nodes is) h = tt
+plain_fact ids (fact.near ns) h = tt
+plain_fact ids (fact.pairs ps) h = tt
+plain_fact ids (fact.privileged ns) h = tt
+plain_fact ids (fact.open_links ls) h = tt
 
 module _ (ids : List ℕ) (table : IsTable ids) where
   node_read : (n i : ℕ) → i < length ids → IsReadable n (node_value ids i)
@@ -110,156 +114,177 @@ module _ (ids : List ℕ) (table : IsTable ids) where
   open_link_read : (l : OpenLink) → IsOpenLinkOf (length ids) l → IsReadable 1 (open_link_value ids l)
   open_link_read l h = items_read 0 (node_value ids l.a ∷ node_value ids l.b ∷ node_value ids l.node ∷ kind_value l.kind ∷ []) (node_read 0 l.a h.0, (node_read 0 l.b h.1, (node_read 0 l.node h.2, (kind_read 0 l.kind, tt))))
 
-number_then : (n : ℕ) (o : Option ℕ) (ms : List (List ℕ × Data)) → AllByRecursion (λ k. k < 2 ^ 64) (as_list o) → AreReadable n ms → AreReadable n (number_key o ++ ms)
-number_then n None ms h rest = rest
-number_then n (Some at) ms h rest = (count_read n at h.0, rest)
+  fact_read : (f : Fact) → IsFactOf ids f → FitsCount f → IsReadable 2 (fact_value ids f)
+  fact_read (fact.count n) h fits = count_read 2 n fits
+  fact_read (fact.clause n) h fits = let small = ltb-true n 128 h in count_read 2 n (omega (arith, small))
+  fact_read (fact.word w) h fits = word_read 2 w (plain_ascii w h)
+  fact_read (fact.truth b) h fits = truth_read 2 b
+  fact_read (fact.node i) h fits = node_read 2 i h
+  fact_read (fact.pointer p) h fits = pointer_read 2 p h
+  fact_read (fact.rule k) h fits = kind_read 2 k
+  fact_read (fact.rule_or_null k) h fits = kind_or_null_read 2 k
+  fact_read (fact.moved s) h fits = array_read 1 (λ i. i < length ids) (node_value ids) (node_read 1) (members (length ids) s) (members_below (length ids) s)
+  fact_read (fact.nodes is) h fits = array_read 1 (λ i. i < length ids) (node_value ids) (node_read 1) is h
+  fact_read (fact.near ns) h fits = array_read 1 (IsNear ids) (near_value ids) near_read ns h
+  fact_read (fact.pairs ps) h fits = array_read 1 (IsPairOf (length ids)) (pair_value ids) pair_read ps h
+  fact_read (fact.privileged ns) h fits = array_read 1 (λ n. n.0 < length ids) (privileged_value ids) privileged_read ns h
+  fact_read (fact.open_links ls) h fits = array_read 1 (IsOpenLinkOf (length ids)) (open_link_value ids) open_link_read ls h
 
-deny_keyed : (o : Option ℕ) (c : ℕ) (name said : List ℕ) → IsKeyed (number_key o ++ told_keys c name said)
-deny_keyed None c name said = record { rising = refl; ascii = refl }
-deny_keyed (Some at) c name said = record { rising = refl; ascii = refl }
+  facts_read : (fs : Fields) → AreFactsOf ids fs → HaveFittingCounts fs → AreReadable 2 (keys_of ids fs)
+  facts_read [] h fits = tt
+  facts_read (f ∷ fs) h fits = (fact_read f.1 h.0 fits.0, facts_read fs h.1 fits.1)
 
-deny_rises : (o : Option ℕ) (c : ℕ) (name said : List ℕ) → has_rising_keys (object_with (number_key o ++ told_keys c name said)) ≡ true
-deny_rises None c name said = refl
-deny_rises (Some at) c name said = refl
+-- ---- the keys of fields
 
--- ---- each reply
+abbrev has_plain_keys : Fields → Bool
+has_plain_keys [] = true
+has_plain_keys (f ∷ fs) = is_plain f.0 && has_plain_keys fs
 
-keyed : (ids : List ℕ) (r : RosterValue) (q : Reply) → IsKeyed (reply_keys ids r q)
-keyed ids r (replies.Hello who) = record { rising = refl; ascii = refl }
-keyed ids r replies.Bye = record { rising = refl; ascii = refl }
-keyed ids r (replies.See s) = record { rising = refl; ascii = refl }
-keyed ids r (replies.Look l) = record { rising = refl; ascii = refl }
-keyed ids r (replies.Move at place node k) = record { rising = refl; ascii = refl }
-keyed ids r (replies.Close at place moved) = record { rising = refl; ascii = refl }
-keyed ids r (replies.Fault at place node dropped) = record { rising = refl; ascii = refl }
-keyed ids r (replies.Link at place a b dropped) = record { rising = refl; ascii = refl }
-keyed ids r (replies.Cut at place a b dropped) = record { rising = refl; ascii = refl }
-keyed ids r (replies.Release at place node) = record { rising = refl; ascii = refl }
-keyed ids r (replies.Report q) = record { rising = refl; ascii = refl }
-keyed ids r (replies.Deny d) = deny_keyed (current_number d) (clause_of d) (denials.name_of d) (text_of d)
-keyed ids r (replies.Refuse q) = record { rising = refl; ascii = refl }
+abbrev comes_before : List ℕ → Fields → Bool
+comes_before k [] = true
+comes_before k (f ∷ fs) = is_lt (slice_cmp nat_cmp k f.0)
 
-deny_read : (d : Denial) → AllByRecursion (λ k. k < 2 ^ 64) (as_list (current_number d)) → AreReadable 2 (number_key (current_number d) ++ told_keys (clause_of d) (denials.name_of d) (text_of d))
-deny_read d h =
-    let plain = and_parts (nat_lt (clause_of d) 128) (are_ascii (denials.name_of d) && are_ascii (text_of d)) (plain_words d) in
-    let words = and_parts (are_ascii (denials.name_of d)) (are_ascii (text_of d)) plain.1 in
-    let small : clause_of d < 128 = ltb-true (clause_of d) 128 plain.0 in
-    number_then 2 (current_number d) (told_keys (clause_of d) (denials.name_of d) (text_of d)) h
-    (count_read 2 (clause_of d) (omega (arith, small)), (word_read 2 (denials.name_of d) words.0, (word_read 2 (text_of d) words.1, tt)))
+abbrev are_in_order : Fields → Bool
+are_in_order [] = true
+are_in_order (f ∷ fs) = comes_before f.0 fs && are_in_order fs
 
-module _ (ids : List ℕ) (r : RosterValue) (table : IsTable ids) (roster : IsRoster r) where
-  keys_read : (q : Reply) → IsAbout ids r q → AreWritableCounts q → AreReadable 2 (reply_keys ids r q)
-  keys_read (replies.Hello who) about h = (word_read 2 (codes "hello") refl, (word_read 2 (name_of r who) (ascii_name (name_of r who) (name_bytes r who roster about)), tt))
-  keys_read replies.Bye about h = (word_read 2 (codes "bye") refl, tt)
-  keys_read (replies.See s) about h =
-      (count_read 2 s.at h.0, (truth_read 2 s.regs.m, (node_read ids table 2 s.node about.node, (word_read 2 (codes "see") refl, (pointer_read ids table 2 s.regs.p about.pointer, tt)))))
-  keys_read (replies.Look l) about h = (
-    count_read 2 l.at h.0,
-    (
-      kind_or_null_read 2 l.chosen,
-      (
-        truth_read 2 l.regs.m,
-        (
-          array_read 1 (IsNear ids) (near_value ids) (near_read ids table) l.near about.near,
-          (node_read ids table 2 l.node about.node, (word_read 2 (codes "look") refl, (pointer_read ids table 2 l.regs.p about.pointer, (kind_or_null_read 2 l.enabled, tt)))),
-        ),
-      ),
-    ),
-  )
-  keys_read (replies.Move at place node k) about h =
-      (count_read 2 at h.0, (node_read ids table 2 node about, (word_read 2 (codes "move") refl, (count_read 2 place h.1.0, (kind_read 2 k, tt)))))
-  keys_read (replies.Close at place moved) about h = (
-    count_read 2 at h.0,
-    (
-      array_read 1 (λ i. i < length ids) (node_value ids) (node_read ids table 1) (members (length ids) moved) (members_below (length ids) moved),
-      (word_read 2 (codes "close") refl, (count_read 2 place h.1.0, tt)),
-    ),
-  )
-  keys_read (replies.Fault at place node dropped) about h =
-      (count_read 2 at h.0, (count_read 2 dropped h.1.1.0, (node_read ids table 2 node about, (word_read 2 (codes "fault") refl, (count_read 2 place h.1.0, tt)))))
-  keys_read (replies.Link at place a b dropped) about h =
-      (node_read ids table 2 a about.0, (count_read 2 at h.0, (node_read ids table 2 b about.1, (count_read 2 dropped h.1.1.0, (word_read 2 (codes "link") refl, (count_read 2 place h.1.0, tt))))))
-  keys_read (replies.Cut at place a b dropped) about h =
-      (node_read ids table 2 a about.0, (count_read 2 at h.0, (node_read ids table 2 b about.1, (count_read 2 dropped h.1.1.0, (word_read 2 (codes "cut") refl, (count_read 2 place h.1.0, tt))))))
-  keys_read (replies.Release at place node) about h =
-      (count_read 2 at h.0, (node_read ids table 2 node about, (word_read 2 (codes "release") refl, (count_read 2 place h.1.0, tt))))
-  keys_read (replies.Report q) about h = (
-    count_read 2 q.at h.0,
-    (
-      array_read 1 (λ i. i < length ids) (node_value ids) (node_read ids table 1) q.free about.free,
-      (
-        word_read 2 (codes "report") refl,
-        (
-          array_read 1 (IsOpenLinkOf (length ids)) (open_link_value ids) (open_link_read ids table) q.open_links about.links,
-          (
-            array_read 1 (IsPairOf (length ids)) (pair_value ids) (pair_read ids table) q.pairs about.pairs,
-            (array_read 1 (λ n. n.0 < length ids) (privileged_value ids) (privileged_read ids table) q.privileged about.privileged, (truth_read 2 q.stable, tt)),
-          ),
-        ),
-      ),
-    ),
-  )
-  keys_read (replies.Deny d) about h = deny_read d h
-  keys_read (replies.Refuse q) about h = (refused_read 2 q, tt)
+-- they rise, each once, and no byte of them is escaped
+record HasKeys (ids : List ℕ) (fs : Fields) : Type 0 where
+  keyed : IsKeyed (keys_of ids fs)
+  plain : has_plain_keys fs ≡ true
+  order : are_in_order fs ≡ true
 
-  reply_read : (q : Reply) → IsAbout ids r q → AreWritableCounts q → IsReadable 3 (reply_value ids r q)
-  reply_read q about h = object_read 2 (reply_keys ids r q) (keyed ids r q) (keys_read q about h)
-
-  pub reply_line_is : (q : Reply) → IsAbout ids r q → AreWritableCounts q → All (λ b. b ≢ 10) (text ids r q)
-  reply_line_is q about h = rw (reply_text ids r q roster about) (compact_text_line (reply_value ids r q) (reply_read q about h).text)
-
-  pub read-reply : (q : Reply) → IsAbout ids r q → AreWritableCounts q → read (text ids r q) ≡ Some (reply_value ids r q)
-  read-reply q about h = ap read (reply_text ids r q roster about) ∙ read_value 3 (reply_value ids r q) (lit≤ tt) (reply_read q about h)
-
--- ---- keys in byte order
-
-kind_rises : (k : Kind) → has_rising_keys (kind_value k) ≡ true
-kind_rises kind.Update = refl
-kind_rises kind.Marriage = refl
-kind_rises kind.Seduction = refl
-kind_rises kind.Abandonment = refl
+all_plain : (ids : List ℕ) (fs : Fields) → has_plain_keys fs ≡ true → AreFactsOf ids fs → ArePlain fs
+all_plain ids [] keys h = tt
+all_plain ids (f ∷ fs) keys h = let parts = and_parts _ _ keys in ((parts.0, plain_fact ids f.1 h.0), all_plain ids fs parts.1 h.1)
 
 kind_or_null_rises : (k : Option Kind) → has_rising_keys (kind_or_null_value k) ≡ true
 kind_or_null_rises None = refl
-kind_or_null_rises (Some k) = kind_rises k
+kind_or_null_rises (Some k) = refl
 
 pointer_rises : (ids : List ℕ) (p : Option ℕ) → has_rising_keys (pointer_value ids p) ≡ true
 pointer_rises ids None = refl
 pointer_rises ids (Some j) = refl
 
-refused_rises : (q : Refused) → has_rising_keys (refused_value q) ≡ true
-refused_rises refused.Malformed = refl
-refused_rises refused.Full = refl
-refused_rises refused.Journal = refl
-refused_rises refused.Memory = refl
-
 near_rises : (ids : List ℕ) (n : ℕ × Regs) → has_rising_keys (near_value ids n) ≡ true
 near_rises ids n = rw (pointer_rises ids n.1.p) refl
 
-privileged_rises : (ids : List ℕ) (n : ℕ × Kind) → has_rising_keys (privileged_value ids n) ≡ true
-privileged_rises ids n = rw (kind_rises n.1) refl
+fact_rises : (ids : List ℕ) (f : Fact) → has_rising_keys (fact_value ids f) ≡ true
+fact_rises ids (fact.count n) = refl
+fact_rises ids (fact.clause n) = refl
+fact_rises ids (fact.word w) = refl
+fact_rises ids (fact.truth b) = refl
+fact_rises ids (fact.node i) = refl
+fact_rises ids (fact.pointer p) = pointer_rises ids p
+fact_rises ids (fact.rule k) = refl
+fact_rises ids (fact.rule_or_null k) = kind_or_null_rises k
+fact_rises ids (fact.moved s) = items_rise (node_value ids) (λ i. refl) (members (length ids) s)
+fact_rises ids (fact.nodes is) = items_rise (node_value ids) (λ i. refl) is
+fact_rises ids (fact.near ns) = items_rise (near_value ids) (near_rises ids) ns
+fact_rises ids (fact.pairs ps) = items_rise (pair_value ids) (λ p. refl) ps
+fact_rises ids (fact.privileged ns) = items_rise (privileged_value ids) (λ n. refl) ns
+fact_rises ids (fact.open_links ls) = items_rise (open_link_value ids) (λ l. refl) ls
 
-open_link_rises : (ids : List ℕ) (l : OpenLink) → has_rising_keys (open_link_value ids l) ≡ true
-open_link_rises ids l = rw (kind_rises l.kind) refl
+same_first : (ids : List ℕ) (k : List ℕ) (fs : Fields) → comes_before k fs ≡ true → comes_first k (members_with (keys_of ids fs)) ≡ true
+same_first ids k [] h = refl
+same_first ids k (f ∷ fs) h = h
+
+fields_rise : (ids : List ℕ) (fs : Fields) → are_in_order fs ≡ true → members_rise (members_with (keys_of ids fs)) ≡ true
+fields_rise ids [] h = refl
+fields_rise ids (f ∷ fs) h =
+    let parts = and_parts _ _ h in
+    and_from _ _ (same_first ids f.0 fs parts.0) (and_from _ _ (fact_rises ids f.1) (fields_rise ids fs parts.1))
+
+-- ---- the table
+
+deny_keys : (ids : List ℕ) (o : Option ℕ) (c : ℕ) (name said : List ℕ) → HasKeys ids (number_first o (told_fields c name said))
+deny_keys ids None c name said = record { keyed = record { rising = refl; ascii = refl }; plain = refl; order = refl }
+deny_keys ids (Some at) c name said = record { keyed = record { rising = refl; ascii = refl }; plain = refl; order = refl }
+
+has_keys : (ids : List ℕ) (r : RosterValue) (q : Reply) → HasKeys ids (fields_of r q)
+has_keys ids r (replies.Hello who) = record { keyed = record { rising = refl; ascii = refl }; plain = refl; order = refl }
+has_keys ids r replies.Bye = record { keyed = record { rising = refl; ascii = refl }; plain = refl; order = refl }
+has_keys ids r (replies.See s) = record { keyed = record { rising = refl; ascii = refl }; plain = refl; order = refl }
+has_keys ids r (replies.Look l) = record { keyed = record { rising = refl; ascii = refl }; plain = refl; order = refl }
+has_keys ids r (replies.Move at place node k) = record { keyed = record { rising = refl; ascii = refl }; plain = refl; order = refl }
+has_keys ids r (replies.Close at place moved) = record { keyed = record { rising = refl; ascii = refl }; plain = refl; order = refl }
+has_keys ids r (replies.Fault at place node dropped) = record { keyed = record { rising = refl; ascii = refl }; plain = refl; order = refl }
+has_keys ids r (replies.Link at place a b dropped) = record { keyed = record { rising = refl; ascii = refl }; plain = refl; order = refl }
+has_keys ids r (replies.Cut at place a b dropped) = record { keyed = record { rising = refl; ascii = refl }; plain = refl; order = refl }
+has_keys ids r (replies.Release at place node) = record { keyed = record { rising = refl; ascii = refl }; plain = refl; order = refl }
+has_keys ids r (replies.Report q) = record { keyed = record { rising = refl; ascii = refl }; plain = refl; order = refl }
+has_keys ids r (replies.Deny d) = deny_keys ids (current_number d) (clause_of d) (denials.name_of d) (text_of d)
+has_keys ids r (replies.Refuse q) = record { keyed = record { rising = refl; ascii = refl }; plain = refl; order = refl }
+
+-- the clause, the name and the text of a denial
+abbrev has_plain_words : Denial → Bool
+has_plain_words d = nat_lt (clause_of d) 128 && (is_plain (denials.name_of d) && is_plain (text_of d))
+
+plain_words : (d : Denial) → has_plain_words d ≡ true
+plain_words denial.NotGreeted = refl
+plain_words denial.Greeted = refl
+plain_words denial.Unknown = refl
+plain_words denial.Hidden = refl
+plain_words denial.NotOwner = refl
+plain_words (denial.Stale at) = refl
+plain_words denial.Chosen = refl
+plain_words denial.Guard = refl
+plain_words denial.NotTeacher = refl
+plain_words denial.Empty = refl
+plain_words denial.NoNode = refl
+plain_words denial.BadRegister = refl
+plain_words denial.Loop = refl
+plain_words denial.Linked = refl
+plain_words denial.NotLinked = refl
+plain_words denial.NotChosen = refl
+
+plain_refusal : (q : Refused) → is_plain (refusal_name q) ≡ true
+plain_refusal refused.Malformed = refl
+plain_refusal refused.Full = refl
+plain_refusal refused.Journal = refl
+plain_refusal refused.Memory = refl
+
+plain_name : (r : RosterValue) (who : Who) → IsRoster r → IsPrincipal r who → is_plain (name_of r who) ≡ true
+plain_name r who roster is = name_plain (name_of r who) ((name-means (name_of r who)).0 (and_parts (is_name (name_of r who)) (is_key (key_of r who)) (roster.formed who is)).0).bytes
+
+module _ (ids : List ℕ) (r : RosterValue) (roster : IsRoster r) where
+  number_facts : (o : Option ℕ) (fs : Fields) → AreFactsOf ids fs → AreFactsOf ids (number_first o fs)
+  number_facts None fs h = h
+  number_facts (Some at) fs h = (tt, h)
+
+  deny_facts : (d : Denial) → AreFactsOf ids (fields_of r (replies.Deny d))
+  deny_facts d =
+      let plain = and_parts (nat_lt (clause_of d) 128) (is_plain (denials.name_of d) && is_plain (text_of d)) (plain_words d) in
+      let words = and_parts (is_plain (denials.name_of d)) (is_plain (text_of d)) plain.1 in
+      number_facts (current_number d) (told_fields (clause_of d) (denials.name_of d) (text_of d)) (plain.0, (words.0, (words.1, tt)))
+
+  facts_of : (q : Reply) → IsAbout ids r q → AreFactsOf ids (fields_of r q)
+  facts_of (replies.Hello who) about = (refl, (plain_name r who roster about, tt))
+  facts_of replies.Bye about = (refl, tt)
+  facts_of (replies.See s) about = (tt, (tt, (about.node, (refl, (about.pointer, tt)))))
+  facts_of (replies.Look l) about = (tt, (tt, (tt, (about.near, (about.node, (refl, (about.pointer, (tt, tt))))))))
+  facts_of (replies.Move at place node k) about = (tt, (about, (refl, (tt, (tt, tt)))))
+  facts_of (replies.Close at place moved) about = (tt, (tt, (refl, (tt, tt))))
+  facts_of (replies.Fault at place node dropped) about = (tt, (tt, (about, (refl, (tt, tt)))))
+  facts_of (replies.Link at place a b dropped) about = (about.0, (tt, (about.1, (tt, (refl, (tt, tt))))))
+  facts_of (replies.Cut at place a b dropped) about = (about.0, (tt, (about.1, (tt, (refl, (tt, tt))))))
+  facts_of (replies.Release at place node) about = (tt, (about, (refl, (tt, tt))))
+  facts_of (replies.Report q) about = (tt, (about.free, (refl, (about.links, (about.pairs, (about.privileged, (tt, tt)))))))
+  facts_of (replies.Deny d) about = deny_facts d
+  facts_of (replies.Refuse q) about = (plain_refusal q, tt)
+
+  pub reply_text : (q : Reply) → IsAbout ids r q → text ids r q ≡ compact_text (reply_value ids r q)
+  unfolding object_text
+  reply_text q about = ap (λ t. 123 ∷ t) (fields_are ids false (fields_of r q) (all_plain ids (fields_of r q) (has_keys ids r q).plain (facts_of q about)))
+
+  reply_read : (table : IsTable ids) (q : Reply) → IsAbout ids r q → AreWritableCounts r q → IsReadable 3 (reply_value ids r q)
+  reply_read table q about h = object_read 2 (keys_of ids (fields_of r q)) (has_keys ids r q).keyed (facts_read ids table (fields_of r q) (facts_of q about) h)
+
+  pub reply_line_is : (table : IsTable ids) (q : Reply) → IsAbout ids r q → AreWritableCounts r q → All (λ b. b ≢ 10) (text ids r q)
+  reply_line_is table q about h = rw (reply_text q about) (compact_text_line (reply_value ids r q) (reply_read table q about h).text)
+
+  pub read-reply : (table : IsTable ids) (q : Reply) → IsAbout ids r q → AreWritableCounts r q → read (text ids r q) ≡ Some (reply_value ids r q)
+  read-reply table q about h = ap read (reply_text q about) ∙ read_value 3 (reply_value ids r q) (lit≤ tt) (reply_read table q about h)
 
 pub keys_rise : (ids : List ℕ) (r : RosterValue) (q : Reply) → has_rising_keys (reply_value ids r q) ≡ true
-keys_rise ids r (replies.Hello who) = refl
-keys_rise ids r replies.Bye = refl
-keys_rise ids r (replies.See s) = rw (pointer_rises ids s.regs.p) refl
-keys_rise ids r (replies.Look l) =
-    rw (kind_or_null_rises l.chosen, items_rise (near_value ids) (near_rises ids) l.near, pointer_rises ids l.regs.p, kind_or_null_rises l.enabled) refl
-keys_rise ids r (replies.Move at place node k) = rw (kind_rises k) refl
-keys_rise ids r (replies.Close at place moved) = rw (items_rise (node_value ids) (λ i. refl) (members (length ids) moved)) refl
-keys_rise ids r (replies.Fault at place node dropped) = refl
-keys_rise ids r (replies.Link at place a b dropped) = refl
-keys_rise ids r (replies.Cut at place a b dropped) = refl
-keys_rise ids r (replies.Release at place node) = refl
-keys_rise ids r (replies.Report q) =
-    rw (
-      items_rise (node_value ids) (λ i. refl) q.free,
-      items_rise (open_link_value ids) (open_link_rises ids) q.open_links,
-      items_rise (pair_value ids) (λ p. refl) q.pairs,
-      items_rise (privileged_value ids) (privileged_rises ids) q.privileged,
-    ) refl
-keys_rise ids r (replies.Deny d) = deny_rises (current_number d) (clause_of d) (denials.name_of d) (text_of d)
-keys_rise ids r (replies.Refuse q) = rw (refused_rises q) refl
+keys_rise ids r q = fields_rise ids (fields_of r q) (has_keys ids r q).order

@@ -5,18 +5,16 @@ use Rattle.mml_board.specs.declared.done.Done.TheVariants as done
 use Rattle.mml_codec.specs.Replies.{place_in, is_short}
 use Rattle.mml_codec.specs.Rulings.{reply_of_done}
 
+told_done : (at place : ℕ) (d : Done) → (place_in (reply_of_done at place d) ≡ Some place) × (is_short (reply_of_done at place d) ≡ true)
+told_done at place (done.Move node kind) = (refl, refl)
+told_done at place (done.Close moved) = (refl, refl)
+told_done at place (done.Fault node dropped) = (refl, refl)
+told_done at place (done.Link a b dropped) = (refl, refl)
+told_done at place (done.Cut a b dropped) = (refl, refl)
+told_done at place (done.Release node) = (refl, refl)
+
 pub place_of_done : (at place : ℕ) (d : Done) → place_in (reply_of_done at place d) ≡ Some place
-place_of_done at place (done.Move node kind) = refl
-place_of_done at place (done.Close moved) = refl
-place_of_done at place (done.Fault node dropped) = refl
-place_of_done at place (done.Link a b dropped) = refl
-place_of_done at place (done.Cut a b dropped) = refl
-place_of_done at place (done.Release node) = refl
+place_of_done at place d = (told_done at place d).0
 
 pub short_done : (at place : ℕ) (d : Done) → is_short (reply_of_done at place d) ≡ true
-short_done at place (done.Move node kind) = refl
-short_done at place (done.Close moved) = refl
-short_done at place (done.Fault node dropped) = refl
-short_done at place (done.Link a b dropped) = refl
-short_done at place (done.Cut a b dropped) = refl
-short_done at place (done.Release node) = refl
+short_done at place d = (told_done at place d).1

@@ -7,7 +7,7 @@ use Rattle.std.specs.FinSet.{FinSet}
 use Rattle.std.proofs.lemmas.Grind.{flat_map-append}
 use Rattle.std.proofs.lemmas.List.{take_more, map-append}
 use Rattle.mml_policy.proofs.NearLemmas.{passing_with, passing_without}
-use Rattle.mml_codec.specs.Replies.{node_text, members, separated}
+use Rattle.mml_codec.specs.Facts.{node_text, members, separated}
 
 -- the comma that stands before one more text
 abbrev pub comma_after : List (List ℕ) → List ℕ

@@ -3,6 +3,7 @@ pub mod Lines
 pub mod Objects
 pub mod Fields
 pub mod Canonical
+pub mod Facts
 pub mod Replies
 pub mod ReplyValues
 pub mod Rulings

@@ -44,7 +44,7 @@ pub fn a_text_is_one_line()
 /// No byte of a reply's text is 10, so its line is one line.
 pub fn a_reply_is_one_line()
     ensures { (ids : List ℕ) (roster : RosterValue) (r : Reply) → IsTable ids → IsRoster roster →
-        IsAbout ids roster r → AreWritableCounts r → All (λ byte. byte ≢ 10) (text ids roster r) }
+        IsAbout ids roster r → AreWritableCounts roster r → All (λ byte. byte ≢ 10) (text ids roster r) }
 {}
 
 /// The text of a reply spells an object, without a space, and is read as that object, whose keys rise
@@ -53,7 +53,7 @@ pub fn a_reply_reads_back()
     ensures text { (ids : List ℕ) (roster : RosterValue) (r : Reply) → IsRoster roster →
         IsAbout ids roster r → text ids roster r ≡ compact_text (reply_value ids roster r) }
     ensures value { (ids : List ℕ) (roster : RosterValue) (r : Reply) → IsTable ids →
-        IsRoster roster → IsAbout ids roster r → AreWritableCounts r →
+        IsRoster roster → IsAbout ids roster r → AreWritableCounts roster r →
         read (text ids roster r) ≡ Some (reply_value ids roster r) }
     ensures order { (ids : List ℕ) (roster : RosterValue) (r : Reply) →
         has_rising_keys (reply_value ids roster r) ≡ true }
@@ -74,6 +74,7 @@ pub fn a_greeting_tells_who_is_known()
 {}
 
 /// The lines of refusals are the same in each lab.
+#[tactic(auto, unfolding(crate::specs::Facts::object_text))]
 pub fn refusals_have_fixed_lines()
     ensures malformed { (ids : List ℕ) (roster : RosterValue) →
         reply_line ids roster (Refuse refused.Malformed) ≡ MALFORMED_LINE.now }

@@ -2,7 +2,7 @@
 ghost use Rattle.std.specs.Prelude.{◌≡◌, ◌≤◌, ◌<◌, ◌++◌, ℕ, List, All, length, map, OnOk, vec_capacity};
 ghost use Rattle.mml_policy.specs.About.{IsNear};
 ghost use Rattle.mml_stable.specs.Reports.{IsPairOf, IsOpenLinkOf};
-ghost use Rattle.mml_codec.specs.Replies.{node_text, near_text, pair_text, privileged_text, open_link_text, separated};
+ghost use Rattle.mml_codec.specs.Facts.{node_text, near_text, pair_text, privileged_text, open_link_text, separated};
 
 use crate::replying::{kind_word, pointer, truth};
 use mml_ids::{IdTable, Memory, Piece, Rank, put};
@@ -60,7 +60,7 @@ impl Listed for (Rank, Regs) {
 
     ghost text = { near_text };
 
-    #[tactic(auto, unfolding(crate::specs::Replies::near_text))]
+    #[tactic(auto, unfolding(crate::specs::Facts::near_text))]
     fn put_item(&self, ids: &IdTable, out: &mut Vec<u8>) -> Result<(), Memory> {
         let (node, regs) = self;
         put(
@@ -84,7 +84,7 @@ impl Listed for (Rank, Rank) {
 
     ghost text = { pair_text };
 
-    #[tactic(auto, unfolding(crate::specs::Replies::pair_text))]
+    #[tactic(auto, unfolding(crate::specs::Facts::pair_text))]
     fn put_item(&self, ids: &IdTable, out: &mut Vec<u8>) -> Result<(), Memory> {
         let (lower, greater) = self;
         put(
@@ -106,7 +106,7 @@ impl Listed for (Rank, Kind) {
 
     ghost text = { privileged_text };
 
-    #[tactic(auto, unfolding(crate::specs::Replies::privileged_text))]
+    #[tactic(auto, unfolding(crate::specs::Facts::privileged_text))]
     fn put_item(&self, ids: &IdTable, out: &mut Vec<u8>) -> Result<(), Memory> {
         let (node, kind) = self;
         put(
@@ -127,7 +127,7 @@ impl Listed for OpenLink {
 
     ghost text = { open_link_text };
 
-    #[tactic(auto, unfolding(crate::specs::Replies::open_link_text))]
+    #[tactic(auto, unfolding(crate::specs::Facts::open_link_text))]
     fn put_item(&self, ids: &IdTable, out: &mut Vec<u8>) -> Result<(), Memory> {
         put(
             out,

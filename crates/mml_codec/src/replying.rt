@@ -1,12 +1,13 @@
-ghost use Rattle.std.specs.Prelude.{◌≡◌, ◌≤◌, ◌<◌, ◌+◌, ◌^◌, ◌++◌, [], true, codes, length, map, OnOk, OnErr, IsOk, IfSome, vec_capacity};
+ghost use Rattle.std.specs.Prelude.{◌≡◌, ◌≤◌, ◌<◌, ◌+◌, ◌^◌, ◌++◌, [], true, length, map, OnOk, OnErr, IsOk, IfSome, vec_capacity};
 ghost use Rattle.mml_ids.specs.Pieces.{piece_text, piece_room};
 ghost use Rattle.mml_ids.specs.declared.piece.Piece.TheVariants.{Number};
 ghost use Rattle.mml_lab.specs.Rosters.{name_of, IsPrincipal};
-ghost use Rattle.mml_codec.specs.Replies.{truth_text, pointer_text, kind_text, kind_or_null, node_text, members, separated, hello_text, see_text, look_head, look_tail, look_text, move_text, close_text, fault_text, ends_text, release_text, current_number, number_first, deny_text, refuse_text, text, reply_line, is_short, IsAbout, TellsFor};
+ghost use Rattle.mml_board.specs.declared.done.Done.TheVariants as done;
+ghost use Rattle.mml_codec.specs.Facts.{truth_text, pointer_text, kind_text, kind_or_null, node_text, members, separated, object_text, HaveFittingCounts};
+ghost use Rattle.mml_codec.specs.Replies.{done_fields, ends_fields, hello_fields, bye_fields, see_fields, look_fields, current_number, deny_fields, refuse_fields, refusal_name, text, reply_line, is_short, IsAbout, TellsFor};
 ghost use Rattle.mml_codec.specs.ReplyValues.{AreWritableCounts};
-ghost use Rattle.mml_codec.specs.declared.reply.Reply.TheVariants.{Deny};
 ghost use Rattle.mml_policy.specs.About.{IsSeen, IsLookedAt};
-ghost use Rattle.mml_codec.specs.inside.Puts.{Puts};
+ghost use Rattle.mml_codec.specs.inside.Puts.{number_front, deny_parts, look_head, look_tail, look_parts, joined_text, Puts};
 
 use crate::listed::put_list;
 use crate::reply::{REPLY_ROOM, Refused, Reply};
@@ -19,6 +20,24 @@ use std::alloc::Global;
 
 // Enough for the text of each reply but a look and a report.
 const TEXT_ROOM: usize = 2000;
+
+// When an event took place: the number after it, and its place.
+#[derive(Clone, Copy)]
+struct Moment {
+    at: u64,
+    place: u64,
+}
+
+fn moment_of(at: &u64, place: &u64) -> Moment
+    ensures moment { result ≡ record { at = at.now; place = place.now } }
+    ensures at { at.now < 2 ^ 64 }
+    ensures place { place.now < 2 ^ 64 }
+{
+    Moment {
+        at: *at,
+        place: *place,
+    }
+}
 
 /// Puts the line of a reply, with its byte 10, in the place of what the vector holds. The vector
 /// grows by its own allocator.
@@ -36,7 +55,7 @@ pub fn write_reply(
     ensures room { REPLY_ROOM ≤ vec_capacity out.old → is_short reply.now ≡ true → IsOk result }
     ensures kept { REPLY_ROOM ≤ vec_capacity out.old → is_short reply.now ≡ true →
         vec_capacity out.new ≡ vec_capacity out.old }
-    ensures counts { AreWritableCounts reply.now }
+    ensures counts { AreWritableCounts roster.now reply.now }
 {
     out.clear();
     let written = put_line(ids, roster, reply, out);
@@ -89,7 +108,7 @@ fn put_line(ids: &IdTable, roster: &Roster, reply: &Reply, out: &mut Vec<u8>) ->
     ensures kept { is_short reply.now ≡ true →
         length out.old.items + REPLY_ROOM ≤ vec_capacity out.old →
         vec_capacity out.new ≡ vec_capacity out.old }
-    ensures counts { AreWritableCounts reply.now }
+    ensures counts { AreWritableCounts roster.now reply.now }
 {
     put_text(ids, roster, reply, out)?;
     put(out, &[Piece::Text("\n")])
@@ -107,11 +126,11 @@ fn put_text(ids: &IdTable, roster: &Roster, reply: &Reply, out: &mut Vec<u8>) ->
     ensures kept { is_short reply.now ≡ true →
         length out.old.items + TEXT_ROOM ≤ vec_capacity out.old →
         vec_capacity out.new ≡ vec_capacity out.old }
-    ensures counts { AreWritableCounts reply.now }
+    ensures counts { AreWritableCounts roster.now reply.now }
 {
     match reply {
-        Reply::Hello(who) => put_hello(roster, *who, out),
-        Reply::Bye => put_bye(out),
+        Reply::Hello(who) => put_hello(ids, roster, *who, out),
+        Reply::Bye => put_bye(ids, out),
         Reply::See(see) => put_see(ids, see, out),
         Reply::Look(look) => put_look(ids, look, out),
         Reply::Move {
@@ -119,39 +138,40 @@ fn put_text(ids: &IdTable, roster: &Roster, reply: &Reply, out: &mut Vec<u8>) ->
             place,
             node,
             kind,
-        } => put_move(ids, *at, *place, *node, *kind, out),
-        Reply::Close { at, place, moved } => put_close(ids, *at, *place, *moved, out),
+        } => put_move(ids, moment_of(at, place), *node, *kind, out),
+        Reply::Close { at, place, moved } => put_close(ids, moment_of(at, place), *moved, out),
         Reply::Fault {
             at,
             place,
             node,
             dropped,
-        } => put_fault(ids, *at, *place, *node, *dropped, out),
+        } => put_fault(ids, moment_of(at, place), *node, *dropped, out),
         Reply::Link {
             at,
             place,
             a,
             b,
             dropped,
-        } => put_ends(ids, "link", *at, *place, *a, *b, *dropped, out),
+        } => put_link(ids, moment_of(at, place), (*a, *b), *dropped, out),
         Reply::Cut {
             at,
             place,
             a,
             b,
             dropped,
-        } => put_ends(ids, "cut", *at, *place, *a, *b, *dropped, out),
-        Reply::Release { at, place, node } => put_release(ids, *at, *place, *node, out),
+        } => put_cut(ids, moment_of(at, place), (*a, *b), *dropped, out),
+        Reply::Release { at, place, node } => put_release(ids, moment_of(at, place), *node, out),
         Reply::Report(report) => put_report(ids, report, out),
-        Reply::Deny(denial) => put_denial(*denial, out),
-        Reply::Refuse(refused) => put_refusal(*refused, out),
+        Reply::Deny(denial) => put_denial(ids, *denial, out),
+        Reply::Refuse(refused) => put_refusal(ids, *refused, out),
     }
 }
 
-#[tactic(auto, unfolding(crate::specs::Replies::hello_text))]
-fn put_hello(roster: &Roster, who: Who, out: &mut Vec<u8>) -> Result<(), Memory>
+#[tactic(auto, unfolding(crate::specs::Facts::object_text))]
+fn put_hello(ids: &IdTable, roster: &Roster, who: Who, out: &mut Vec<u8>) -> Result<(), Memory>
     requires { IsPrincipal roster.now who }
-    ensures { Puts (hello_text (name_of roster.now who)) TEXT_ROOM out.old out.new result }
+    ensures { Puts (object_text ids.now (hello_fields (name_of roster.now who)))
+        TEXT_ROOM out.old out.new result }
 {
     put(
         out,
@@ -163,10 +183,10 @@ fn put_hello(roster: &Roster, who: Who, out: &mut Vec<u8>) -> Result<(), Memory>
     )
 }
 
-#[tactic(auto, unfolding(crate::specs::Replies::see_text))]
+#[tactic(auto, unfolding(crate::specs::Facts::object_text))]
 fn put_see(ids: &IdTable, see: &See, out: &mut Vec<u8>) -> Result<(), Memory>
     requires { IsSeen ids.now see.now }
-    ensures puts { Puts (see_text ids.now see.now) TEXT_ROOM out.old out.new result }
+    ensures puts { Puts (object_text ids.now (see_fields see.now)) TEXT_ROOM out.old out.new result }
     ensures count { see.now.at < 2 ^ 64 }
 {
     put(
@@ -185,10 +205,20 @@ fn put_see(ids: &IdTable, see: &See, out: &mut Vec<u8>) -> Result<(), Memory>
     )
 }
 
-#[tactic(auto, unfolding(crate::specs::Replies::look_text))]
 fn put_look(ids: &IdTable, look: &Look, out: &mut Vec<u8>) -> Result<(), Memory>
     requires { IsLookedAt ids.now look.now }
-    ensures text { OnOk result (out.new.items ≡ out.old.items ++ look_text ids.now look.now) }
+    ensures text { OnOk result
+        (out.new.items ≡ out.old.items ++ object_text ids.now (look_fields look.now)) }
+    ensures capacity { vec_capacity out.old ≤ vec_capacity out.new }
+    ensures count { look.now.at < 2 ^ 64 }
+{
+    put_look_parts(ids, look, out)
+}
+
+#[tactic(auto, unfolding(crate::specs::inside::Puts::look_parts))]
+fn put_look_parts(ids: &IdTable, look: &Look, out: &mut Vec<u8>) -> Result<(), Memory>
+    requires { IsLookedAt ids.now look.now }
+    ensures text { OnOk result (out.new.items ≡ out.old.items ++ look_parts ids.now look.now) }
     ensures capacity { vec_capacity out.old ≤ vec_capacity out.new }
     ensures count { look.now.at < 2 ^ 64 }
 {
@@ -197,9 +227,10 @@ fn put_look(ids: &IdTable, look: &Look, out: &mut Vec<u8>) -> Result<(), Memory>
     put_look_tail(ids, look, out)
 }
 
-#[tactic(auto, unfolding(crate::specs::Replies::look_head))]
+#[tactic(auto, unfolding(crate::specs::inside::Puts::joined_text))]
 fn put_look_head(look: &Look, out: &mut Vec<u8>) -> Result<(), Memory>
-    ensures text { OnOk result (out.new.items ≡ out.old.items ++ look_head look.now) }
+    ensures text { OnOk result
+        (out.new.items ≡ out.old.items ++ joined_text (look_head look.now)) }
     ensures capacity { vec_capacity out.old ≤ vec_capacity out.new }
     ensures count { look.now.at < 2 ^ 64 }
 {
@@ -217,10 +248,11 @@ fn put_look_head(look: &Look, out: &mut Vec<u8>) -> Result<(), Memory>
     )
 }
 
-#[tactic(auto, unfolding(crate::specs::Replies::look_tail))]
+#[tactic(auto, unfolding(crate::specs::inside::Puts::joined_text))]
 fn put_look_tail(ids: &IdTable, look: &Look, out: &mut Vec<u8>) -> Result<(), Memory>
     requires { IsLookedAt ids.now look.now }
-    ensures text { OnOk result (out.new.items ≡ out.old.items ++ look_tail ids.now look.now) }
+    ensures text { OnOk result
+        (out.new.items ≡ out.old.items ++ joined_text (look_tail ids.now look.now)) }
     ensures capacity { vec_capacity out.old ≤ vec_capacity out.new }
 {
     put(
@@ -237,27 +269,28 @@ fn put_look_tail(ids: &IdTable, look: &Look, out: &mut Vec<u8>) -> Result<(), Me
     )
 }
 
-#[tactic(auto, unfolding(crate::specs::Replies::move_text))]
+#[tactic(auto, unfolding(crate::specs::Facts::object_text))]
 fn put_move(
     ids: &IdTable,
-    at: u64,
-    place: u64,
+    moment: Moment,
     node: Rank,
     kind: Kind,
     out: &mut Vec<u8>,
 ) -> Result<(), Memory>
     requires { node < length ids.now }
-    ensures { Puts (move_text ids.now at place node kind) TEXT_ROOM out.old out.new result }
+    ensures { Puts (object_text ids.now
+        (done_fields moment.at moment.place (done.Move node kind)))
+        TEXT_ROOM out.old out.new result }
 {
     put(
         out,
         &[
             Piece::Text("{\"at\":"),
-            Piece::Number(at),
+            Piece::Number(moment.at),
             Piece::Text(",\"node\":"),
             Piece::Id(ids.node_id(node)),
             Piece::Text(",\"ok\":\"move\",\"place\":"),
-            Piece::Number(place),
+            Piece::Number(moment.place),
             Piece::Text(",\"rule\":"),
             Piece::Text(kind_word(kind)),
             Piece::Text("}"),
@@ -265,21 +298,17 @@ fn put_move(
     )
 }
 
-#[tactic(auto, unfolding(crate::specs::Replies::close_text))]
-fn put_close(
-    ids: &IdTable,
-    at: u64,
-    place: u64,
-    moved: NodeSet,
-    out: &mut Vec<u8>,
-) -> Result<(), Memory>
-    ensures { Puts (close_text ids.now at place moved) TEXT_ROOM out.old out.new result }
+#[tactic(auto, unfolding(crate::specs::Facts::object_text))]
+fn put_close(ids: &IdTable, moment: Moment, moved: NodeSet, out: &mut Vec<u8>) -> Result<(), Memory>
+    ensures { Puts (object_text ids.now
+        (done_fields moment.at moment.place (done.Close moved)))
+        TEXT_ROOM out.old out.new result }
 {
     put(
         out,
         &[
             Piece::Text("{\"at\":"),
-            Piece::Number(at),
+            Piece::Number(moment.at),
             Piece::Text(",\"moved\":["),
         ],
     )?;
@@ -288,7 +317,7 @@ fn put_close(
         out,
         &[
             Piece::Text("],\"ok\":\"close\",\"place\":"),
-            Piece::Number(place),
+            Piece::Number(moment.place),
             Piece::Text("}"),
         ],
     )
@@ -310,58 +339,91 @@ fn put_members(ids: &IdTable, moved: NodeSet, out: &mut Vec<u8>) -> Result<(), M
     Ok(())
 }
 
-#[tactic(auto, unfolding(crate::specs::Replies::fault_text))]
+#[tactic(auto, unfolding(crate::specs::Facts::object_text))]
 fn put_fault(
     ids: &IdTable,
-    at: u64,
-    place: u64,
+    moment: Moment,
     node: Rank,
     dropped: u16,
     out: &mut Vec<u8>,
 ) -> Result<(), Memory>
     requires { node < length ids.now }
-    ensures { Puts (fault_text ids.now at place node dropped) TEXT_ROOM out.old out.new result }
+    ensures { Puts (object_text ids.now
+        (done_fields moment.at moment.place (done.Fault node dropped)))
+        TEXT_ROOM out.old out.new result }
 {
     put(
         out,
         &[
             Piece::Text("{\"at\":"),
-            Piece::Number(at),
+            Piece::Number(moment.at),
             Piece::Text(",\"dropped\":"),
             Piece::Number(u64::from(dropped)),
             Piece::Text(",\"node\":"),
             Piece::Id(ids.node_id(node)),
             Piece::Text(",\"ok\":\"fault\",\"place\":"),
-            Piece::Number(place),
+            Piece::Number(moment.place),
             Piece::Text("}"),
         ],
     )
 }
 
-#[tactic(auto, unfolding(crate::specs::Replies::ends_text))]
-fn put_ends(
+fn put_link(
     ids: &IdTable,
-    word: &'static str,
-    at: u64,
-    place: u64,
-    a: Rank,
-    b: Rank,
+    moment: Moment,
+    ends: (Rank, Rank),
     dropped: u16,
     out: &mut Vec<u8>,
 ) -> Result<(), Memory>
-    requires first { a < length ids.now }
-    requires second { b < length ids.now }
-    requires word { length word.now ≤ 40 }
-    ensures { Puts (ends_text ids.now word.now at place a b dropped)
+    requires first { ends.0 < length ids.now }
+    requires second { ends.1 < length ids.now }
+    ensures { Puts (object_text ids.now
+        (done_fields moment.at moment.place (done.Link ends.0 ends.1 dropped)))
         TEXT_ROOM out.old out.new result }
 {
+    put_ends(ids, "link", moment, ends, dropped, out)
+}
+
+fn put_cut(
+    ids: &IdTable,
+    moment: Moment,
+    ends: (Rank, Rank),
+    dropped: u16,
+    out: &mut Vec<u8>,
+) -> Result<(), Memory>
+    requires first { ends.0 < length ids.now }
+    requires second { ends.1 < length ids.now }
+    ensures { Puts (object_text ids.now
+        (done_fields moment.at moment.place (done.Cut ends.0 ends.1 dropped)))
+        TEXT_ROOM out.old out.new result }
+{
+    put_ends(ids, "cut", moment, ends, dropped, out)
+}
+
+#[tactic(auto, unfolding(crate::specs::Facts::object_text))]
+fn put_ends(
+    ids: &IdTable,
+    word: &'static str,
+    moment: Moment,
+    ends: (Rank, Rank),
+    dropped: u16,
+    out: &mut Vec<u8>,
+) -> Result<(), Memory>
+    requires first { ends.0 < length ids.now }
+    requires second { ends.1 < length ids.now }
+    requires word { length word.now ≤ 40 }
+    ensures { Puts (object_text ids.now
+        (ends_fields word.now moment.at moment.place ends.0 ends.1 dropped))
+        TEXT_ROOM out.old out.new result }
+{
+    let (a, b) = ends;
     put(
         out,
         &[
             Piece::Text("{\"a\":"),
             Piece::Id(ids.node_id(a)),
             Piece::Text(",\"at\":"),
-            Piece::Number(at),
+            Piece::Number(moment.at),
             Piece::Text(",\"b\":"),
             Piece::Id(ids.node_id(b)),
             Piece::Text(",\"dropped\":"),
@@ -369,41 +431,44 @@ fn put_ends(
             Piece::Text(",\"ok\":\""),
             Piece::Text(word),
             Piece::Text("\",\"place\":"),
-            Piece::Number(place),
+            Piece::Number(moment.place),
             Piece::Text("}"),
         ],
     )
 }
 
-#[tactic(auto, unfolding(crate::specs::Replies::release_text))]
-fn put_release(
-    ids: &IdTable,
-    at: u64,
-    place: u64,
-    node: Rank,
-    out: &mut Vec<u8>,
-) -> Result<(), Memory>
+#[tactic(auto, unfolding(crate::specs::Facts::object_text))]
+fn put_release(ids: &IdTable, moment: Moment, node: Rank, out: &mut Vec<u8>) -> Result<(), Memory>
     requires { node < length ids.now }
-    ensures { Puts (release_text ids.now at place node) TEXT_ROOM out.old out.new result }
+    ensures { Puts (object_text ids.now
+        (done_fields moment.at moment.place (done.Release node)))
+        TEXT_ROOM out.old out.new result }
 {
     put(
         out,
         &[
             Piece::Text("{\"at\":"),
-            Piece::Number(at),
+            Piece::Number(moment.at),
             Piece::Text(",\"node\":"),
             Piece::Id(ids.node_id(node)),
             Piece::Text(",\"ok\":\"release\",\"place\":"),
-            Piece::Number(place),
+            Piece::Number(moment.place),
             Piece::Text("}"),
         ],
     )
 }
 
-#[tactic(auto, unfolding(crate::specs::Replies::deny_text))]
-fn put_denial(denial: Denial, out: &mut Vec<u8>) -> Result<(), Memory>
-    ensures puts { Puts (deny_text denial) TEXT_ROOM out.old out.new result }
-    ensures count { AreWritableCounts (Deny denial) }
+fn put_denial(ids: &IdTable, denial: Denial, out: &mut Vec<u8>) -> Result<(), Memory>
+    ensures puts { Puts (object_text ids.now (deny_fields denial)) TEXT_ROOM out.old out.new result }
+    ensures count { HaveFittingCounts (deny_fields denial) }
+{
+    put_denial_parts(denial, out)
+}
+
+#[tactic(auto, unfolding(crate::specs::inside::Puts::deny_parts))]
+fn put_denial_parts(denial: Denial, out: &mut Vec<u8>) -> Result<(), Memory>
+    ensures puts { Puts (deny_parts denial) TEXT_ROOM out.old out.new result }
+    ensures count { HaveFittingCounts (deny_fields denial) }
 {
     put_number_first(denial, out)?;
     put(
@@ -421,8 +486,8 @@ fn put_denial(denial: Denial, out: &mut Vec<u8>) -> Result<(), Memory>
 }
 
 fn put_number_first(denial: Denial, out: &mut Vec<u8>) -> Result<(), Memory>
-    ensures puts { Puts (number_first (current_number denial)) 40 out.old out.new result }
-    ensures count { AreWritableCounts (Deny denial) }
+    ensures puts { Puts (number_front (current_number denial)) 40 out.old out.new result }
+    ensures count { HaveFittingCounts (deny_fields denial) }
 {
     match denial {
         Denial::Stale(at) => put(
@@ -433,27 +498,36 @@ fn put_number_first(denial: Denial, out: &mut Vec<u8>) -> Result<(), Memory>
     }
 }
 
-fn put_bye(out: &mut Vec<u8>) -> Result<(), Memory>
-    ensures { Puts (codes "{\"ok\":\"bye\"}") TEXT_ROOM out.old out.new result }
+#[tactic(auto, unfolding(crate::specs::Facts::object_text))]
+fn put_bye(ids: &IdTable, out: &mut Vec<u8>) -> Result<(), Memory>
+    ensures { Puts (object_text ids.now bye_fields) TEXT_ROOM out.old out.new result }
 {
     put(out, &[Piece::Text("{\"ok\":\"bye\"}")])
 }
 
-fn put_refusal(refused: Refused, out: &mut Vec<u8>) -> Result<(), Memory>
-    ensures { Puts (refuse_text refused) TEXT_ROOM out.old out.new result }
+#[tactic(auto, unfolding(crate::specs::Facts::object_text))]
+fn put_refusal(ids: &IdTable, refused: Refused, out: &mut Vec<u8>) -> Result<(), Memory>
+    ensures { Puts (object_text ids.now (refuse_fields refused)) TEXT_ROOM out.old out.new result }
 {
-    put(out, &[Piece::Text(refusal(refused))])
+    put(
+        out,
+        &[
+            Piece::Text("{\"refuse\":\""),
+            Piece::Text(refusal_name(refused)),
+            Piece::Text("\"}"),
+        ],
+    )
 }
 
-fn refusal(refused: Refused) -> &'static str
-    ensures text { result.now ≡ refuse_text refused }
+fn refusal_name(refused: Refused) -> &'static str
+    ensures text { result.now ≡ refusal_name refused }
     ensures short { length result.now ≤ 40 }
 {
     match refused {
-        Refused::Malformed => "{\"refuse\":\"malformed\"}",
-        Refused::Full => "{\"refuse\":\"full\"}",
-        Refused::Journal => "{\"refuse\":\"journal\"}",
-        Refused::Memory => "{\"refuse\":\"memory\"}",
+        Refused::Malformed => "malformed",
+        Refused::Full => "full",
+        Refused::Journal => "journal",
+        Refused::Memory => "memory",
     }
 }
 

@@ -1,6 +1,13 @@
--- What is said of each function that puts a text at the end of a line.
-use Rattle.std.specs.Prelude.{◌≡◌, ℕ, ◌+◌, ◌<◌, ◌≤◌, ◌++◌, List, length, Vec, vec_capacity, OnOk, OnErr, Result}
+-- What is said of each function that puts a text at the end of a line, and the texts that are put in parts.
+use Rattle.std.specs.Prelude.{◌≡◌, ℕ, ◌+◌, ◌<◌, ◌≤◌, ◌++◌, List, [], ◌∷◌, length, map, Vec, vec_capacity, Option, None, Some, OnOk, OnErr, Result, codes, decimal}
+use Rattle.std.specs.List.{concat}
 use Rattle.std.specs.declared.alloc.Global.{Global}
+use Rattle.mml_policy.specs.declared.denial.Denial.{Denial}
+use Rattle.mml_policy.specs.declared.look.Look.{Look}
+use Rattle.mml_policy.specs.Denials.{clause_of, text_of}
+use Rattle.mml_policy.specs.Denials as denials
+use Rattle.mml_codec.specs.Facts.{truth_text, node_text, pointer_text, kind_or_null, separated, near_text}
+use Rattle.mml_codec.specs.Replies.{current_number}
 
 -- the text stands at the end, unless memory ran out; where there was the room, none was taken and the capacity is the same
 pub record Puts {T E : Type 0} (bytes : List ℕ) (most : ℕ) (old new : Vec ℕ Global) (r : Result T E) : Type 0 where
@@ -9,3 +16,28 @@ pub record Puts {T E : Type 0} (bytes : List ℕ) (most : ℕ) (old new : Vec �
   pub grows : OnOk r (length new.items ≤ length old.items + most)
   pub room : OnErr r (vec_capacity old < length old.items + most)
   pub kept : length old.items + most ≤ vec_capacity old → vec_capacity new ≡ vec_capacity old
+
+-- ---- texts as they are put, in parts
+
+-- what stands before the clause of a denial
+abbrev pub number_front : Option ℕ → List ℕ
+number_front None = codes "{"
+number_front (Some at) = concat (codes "{\"at\":" ∷ decimal at ∷ codes "," ∷ [])
+
+unfoldable pub deny_parts : Denial → List ℕ
+deny_parts d = number_front (current_number d) ++ concat (codes "\"clause\":" ∷ decimal (clause_of d) ∷ codes ",\"deny\":\"" ∷ denials.name_of d
+    ∷ codes "\",\"text\":\"" ∷ text_of d ∷ codes "\"}" ∷ [])
+
+-- what stands before the nodes that are linked to the one that is looked at, and what after them
+abbrev pub look_head : Look → List (List ℕ)
+look_head l = codes "{\"at\":" ∷ decimal l.at ∷ codes ",\"chosen\":" ∷ kind_or_null l.chosen ∷ codes ",\"m\":" ∷ truth_text l.regs.m ∷ codes ",\"near\":[" ∷ []
+
+abbrev pub look_tail : List ℕ → Look → List (List ℕ)
+look_tail ids l = codes "],\"node\":" ∷ node_text ids l.node ∷ codes ",\"ok\":\"look\",\"p\":" ∷ pointer_text ids l.regs.p
+    ∷ codes ",\"rule\":" ∷ kind_or_null l.enabled ∷ codes "}" ∷ []
+
+unfoldable pub joined_text : List (List ℕ) → List ℕ
+joined_text texts = concat texts
+
+unfoldable pub look_parts : List ℕ → Look → List ℕ
+look_parts ids l = concat (joined_text (look_head l) ∷ separated (map (near_text ids) l.near) ∷ joined_text (look_tail ids l) ∷ [])

@@ -1,5 +1,5 @@
 use Rattle.std.proofs.Common.{◌≡◌, ◌≤◌, ◌++◌, take, map, vec_capacity}
-use Rattle.mml_codec.specs.Replies.{separated}
+use Rattle.mml_codec.specs.Facts.{separated}
 use Rattle.mml_codec.proofs.SeparatedLemmas.{comma_after}
 use Rattle.mml_codec.proofs.listed.put_list.Given as goal
 

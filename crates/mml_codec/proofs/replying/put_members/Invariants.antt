@@ -1,5 +1,5 @@
 use Rattle.std.proofs.Common.{◌≡◌, ◌≤◌, ◌+◌, ◌*◌, ◌++◌, length, vec_capacity}
-use Rattle.mml_codec.specs.Replies.{separated}
+use Rattle.mml_codec.specs.Facts.{separated}
 use Rattle.mml_codec.proofs.SeparatedLemmas.{comma_after, texts}
 use Rattle.mml_codec.proofs.replying.put_members.Given as goal
 

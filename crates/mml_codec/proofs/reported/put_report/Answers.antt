@@ -1,11 +1,11 @@
 use Rattle.std.proofs.Common.{[], ◌++◌, ◌∙◌, ap, codes, decimal, map}
 use Rattle.mml_ids.specs.Pieces.{piece_text}
-use Rattle.mml_codec.specs.Replies.{node_text, pair_text, privileged_text, open_link_text, report_text, separated}
+use Rattle.mml_codec.specs.Facts.{node_text, pair_text, privileged_text, open_link_text, object_text, separated}
 use Rattle.mml_codec.proofs.ReportLemmas.{on_ok, parts_put, grouped}
 use Rattle.mml_codec.proofs.reported.put_report.Goals as goal
 
 pub returns-clause-text : goal.returns-clause-text
-unfolding report_text
+unfolding object_text
 returns-clause-text c =
     let ids = c.args.ids.now in
     on_ok c.put-5.result (λ last.

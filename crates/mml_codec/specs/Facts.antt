@@ -1,0 +1,181 @@
+-- What a key of a reply tells: its text, and the JSON value that the text spells.
+use Rattle.std.specs.Prelude.{ℕ, ◌<◌, ◌^◌, List, [], ◌∷◌, ◌++◌, length, map, filter, flat_map, Bool, Option, None, Some, codes, decimal, slice_index, if◌then◌else◌}
+use Rattle.std.specs.List.{concat, range_with_len, AllByRecursion}
+use Rattle.std.specs.Ordering.{nat_cmp}
+use Rattle.std.specs.FinSet as set
+use Rattle.std.specs.FinSet.{FinSet}
+use Rattle.serde_json.specs.Data.{Data, null, boolean, number, unsigned, string, array}
+use Rattle.mml_rules.specs.declared.registers.Regs.{Regs}
+use Rattle.mml_rules.specs.declared.rule.Kind.{Kind}
+use Rattle.mml_rules.specs.declared.rule.Kind.TheVariants as kind
+use Rattle.mml_stable.specs.declared.open_link.OpenLink.{OpenLink}
+use Rattle.mml_codec.specs.Objects.{items_with, array_of, object_with}
+
+-- the number of a clause is told apart from other numbers, since it is always small; a moved fact is a set of nodes, which are told
+-- in rising order
+pub data Fact : Type 0 where
+  count : ℕ → Fact
+  clause : ℕ → Fact
+  word : List ℕ → Fact
+  truth : Bool → Fact
+  node : ℕ → Fact
+  pointer : Option ℕ → Fact
+  rule : Kind → Fact
+  rule_or_null : Option Kind → Fact
+  moved : FinSet nat_cmp → Fact
+  nodes : List ℕ → Fact
+  near : List (ℕ × Regs) → Fact
+  pairs : List (ℕ × ℕ) → Fact
+  privileged : List (ℕ × Kind) → Fact
+  open_links : List OpenLink → Fact
+
+-- keys in byte order, and what each tells
+abbrev pub Fields : Type 0
+Fields = List (List ℕ × Fact)
+
+abbrev pub rule_name : Kind → List ℕ
+rule_name kind.Update = codes "update"
+rule_name kind.Marriage = codes "marriage"
+rule_name kind.Seduction = codes "seduction"
+rule_name kind.Abandonment = codes "abandonment"
+
+-- the nodes of a set in rising order
+abbrev pub members : ℕ → FinSet nat_cmp → List ℕ
+members n s = filter (set.contains s) (range_with_len 0 n)
+
+-- ---- texts
+
+abbrev pub truth_text : Bool → List ℕ
+truth_text m = if m then codes "true" else codes "false"
+
+-- the identifier of a node
+abbrev pub node_text : List ℕ → ℕ → List ℕ
+node_text ids i = decimal (slice_index ids i)
+
+-- the identifier of the node that a register points at
+abbrev pub pointer_text : List ℕ → Option ℕ → List ℕ
+pointer_text ids None = codes "null"
+pointer_text ids (Some i) = node_text ids i
+
+abbrev pub kind_text : Kind → List ℕ
+kind_text k = codes "\"" ++ (rule_name k ++ codes "\"")
+
+abbrev pub kind_or_null : Option Kind → List ℕ
+kind_or_null None = codes "null"
+kind_or_null (Some k) = kind_text k
+
+-- texts with commas between them
+abbrev pub separated : List (List ℕ) → List ℕ
+separated [] = []
+separated (x ∷ xs) = x ++ flat_map (λ t. 44 ∷ t) xs
+
+-- a node that is linked to the one that is looked at
+unfoldable pub near_text : List ℕ → ℕ × Regs → List ℕ
+near_text ids n = concat (codes "{\"m\":" ∷ truth_text n.1.m ∷ codes ",\"node\":" ∷ node_text ids n.0 ∷ codes ",\"p\":" ∷ pointer_text ids n.1.p ∷ codes "}" ∷ [])
+
+-- two nodes that point at each other
+unfoldable pub pair_text : List ℕ → ℕ × ℕ → List ℕ
+pair_text ids p = concat (codes "[" ∷ node_text ids p.0 ∷ codes "," ∷ node_text ids p.1 ∷ codes "]" ∷ [])
+
+-- a privileged node with its rule
+unfoldable pub privileged_text : List ℕ → ℕ × Kind → List ℕ
+privileged_text ids n = concat (codes "[" ∷ node_text ids n.0 ∷ codes "," ∷ kind_text n.1 ∷ codes "]" ∷ [])
+
+-- an open link with its witness and the rule there
+unfoldable pub open_link_text : List ℕ → OpenLink → List ℕ
+open_link_text ids l = concat (codes "[" ∷ node_text ids l.a ∷ codes "," ∷ node_text ids l.b ∷ codes "," ∷ node_text ids l.node ∷ codes "," ∷ kind_text l.kind ∷ codes "]" ∷ [])
+
+-- a list, before what follows
+abbrev pub list_then : List (List ℕ) → List ℕ → List ℕ
+list_then texts rest = codes "[" ++ (separated texts ++ (codes "]" ++ rest))
+
+-- the text of a fact, before what follows; of a word no byte is escaped
+abbrev pub fact_then : List ℕ → Fact → List ℕ → List ℕ
+fact_then ids (count n) rest = decimal n ++ rest
+fact_then ids (clause n) rest = decimal n ++ rest
+fact_then ids (word w) rest = codes "\"" ++ (w ++ (codes "\"" ++ rest))
+fact_then ids (truth b) rest = truth_text b ++ rest
+fact_then ids (node i) rest = node_text ids i ++ rest
+fact_then ids (pointer p) rest = pointer_text ids p ++ rest
+fact_then ids (rule k) rest = kind_text k ++ rest
+fact_then ids (rule_or_null k) rest = kind_or_null k ++ rest
+fact_then ids (moved s) rest = list_then (map (node_text ids) (members (length ids) s)) rest
+fact_then ids (nodes is) rest = list_then (map (node_text ids) is) rest
+fact_then ids (near ns) rest = list_then (map (near_text ids) ns) rest
+fact_then ids (pairs ps) rest = list_then (map (pair_text ids) ps) rest
+fact_then ids (privileged ns) rest = list_then (map (privileged_text ids) ns) rest
+fact_then ids (open_links ls) rest = list_then (map (open_link_text ids) ls) rest
+
+-- fields and the end of their object: these bytes stand before the first, a comma before each other
+abbrev pub fields_after : List ℕ → List ℕ → Fields → List ℕ
+fields_after ids first [] = codes "}"
+fields_after ids first (f ∷ fs) = first ++ (codes "\"" ++ (f.0 ++ (codes "\":" ++ fact_then ids f.1 (fields_after ids (codes ",") fs))))
+
+-- the text of an object with these fields
+unfoldable pub object_text : List ℕ → Fields → List ℕ
+object_text ids fs = codes "{" ++ fields_after ids [] fs
+
+-- ---- values
+
+-- the identifier of a node
+abbrev pub node_value : List ℕ → ℕ → Data
+node_value ids i = number (unsigned (slice_index ids i))
+
+-- the identifier of the node that a register points at
+abbrev pub pointer_value : List ℕ → Option ℕ → Data
+pointer_value ids None = null
+pointer_value ids (Some i) = node_value ids i
+
+abbrev pub kind_value : Kind → Data
+kind_value k = string (rule_name k)
+
+abbrev pub kind_or_null_value : Option Kind → Data
+kind_or_null_value None = null
+kind_or_null_value (Some k) = kind_value k
+
+-- a node that is linked to the one that is looked at
+abbrev pub near_keys : List ℕ → ℕ × Regs → List (List ℕ × Data)
+near_keys ids n = (codes "m", boolean n.1.m) ∷ (codes "node", node_value ids n.0) ∷ (codes "p", pointer_value ids n.1.p) ∷ []
+
+abbrev pub near_value : List ℕ → ℕ × Regs → Data
+near_value ids n = object_with (near_keys ids n)
+
+-- two nodes that point at each other
+abbrev pub pair_value : List ℕ → ℕ × ℕ → Data
+pair_value ids p = array (items_with (node_value ids p.0 ∷ node_value ids p.1 ∷ []))
+
+-- a privileged node with its rule
+abbrev pub privileged_value : List ℕ → ℕ × Kind → Data
+privileged_value ids n = array (items_with (node_value ids n.0 ∷ kind_value n.1 ∷ []))
+
+-- an open link with its witness and the rule there
+abbrev pub open_link_value : List ℕ → OpenLink → Data
+open_link_value ids l = array (items_with (node_value ids l.a ∷ node_value ids l.b ∷ node_value ids l.node ∷ kind_value l.kind ∷ []))
+
+abbrev pub fact_value : List ℕ → Fact → Data
+fact_value ids (count n) = number (unsigned n)
+fact_value ids (clause n) = number (unsigned n)
+fact_value ids (word w) = string w
+fact_value ids (truth b) = boolean b
+fact_value ids (node i) = node_value ids i
+fact_value ids (pointer p) = pointer_value ids p
+fact_value ids (rule k) = kind_value k
+fact_value ids (rule_or_null k) = kind_or_null_value k
+fact_value ids (moved s) = array_of (node_value ids) (members (length ids) s)
+fact_value ids (nodes is) = array_of (node_value ids) is
+fact_value ids (near ns) = array_of (near_value ids) ns
+fact_value ids (pairs ps) = array_of (pair_value ids) ps
+fact_value ids (privileged ns) = array_of (privileged_value ids) ns
+fact_value ids (open_links ls) = array_of (open_link_value ids) ls
+
+-- the keys with their values
+abbrev pub keys_of : List ℕ → Fields → List (List ℕ × Data)
+keys_of ids fs = map (λ f. (f.0, fact_value ids f.1)) fs
+
+-- a number beside identifiers and clauses fits 64 bits
+abbrev pub FitsCount : Fact → Type 0
+FitsCount (count n) = n < 2 ^ 64
+FitsCount _ = Unit {0}
+
+abbrev pub HaveFittingCounts : Fields → Type 0
+HaveFittingCounts fs = AllByRecursion (λ f. FitsCount f.1) fs
