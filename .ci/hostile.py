@@ -5,7 +5,7 @@
 The replies to the honest ones are those of a script of the same lines, run alone. The server's memory at
 the end is that after their first hundred lines, and the thread of each connection that was closed has ended,
 and its handles are given back. Before that, clients that send more than is answered, and read late, find all
-that was answered.
+that was answered. Beside all this a client of another server is silent for a minute, and is answered then.
 """
 import math
 import random
@@ -22,6 +22,7 @@ from hosting import BID, BYE, HOST, Host, hello, let_in
 from preload import LIMIT, Client, Ended, Server, Story, built_in, fail, in_room
 
 SECONDS = 20.0
+SILENCE = 61.0
 MOST_LINES = 18_000
 PAUSE = 0.001
 SEE = b'{"do":"see","node":1}\n'
@@ -48,14 +49,16 @@ def begin(it: socket.socket, until: float, draw: random.Random) -> None:
 
 
 def noise(port: int, until: float, draw: random.Random) -> str:
-    """Lines of any bytes, 255 in a string among them: each is answered, and none is a request."""
+    """Lines of any bytes, 255 in a string among them: each is answered as no request, and the next one plainly."""
     with opened(port) as it, it.makefile("rb") as replies:
         while time.monotonic() < until:
             lines = [draw.randbytes(draw.randrange(1, 300)).replace(b"\n", b" ") for _ in range(20)]
             lines.append(b'{"do":"hello","name":"\xff","key":"chalk"}')
-            it.sendall(b"".join(line + b"\n" for line in lines))
+            it.sendall(b"".join(line + b"\n" for line in lines) + SEE)
             if any(replies.readline() != MALFORMED for _ in lines):
                 return "noise was answered as something else"
+            if replies.readline() != NOT_GREETED:
+                return "a line after noise was answered as something else"
             time.sleep(0.02)
     return ""
 
@@ -266,6 +269,25 @@ def late(lab: Path) -> None:
         fail(f"hostile: the server of late readers ended otherwise: {end}")
 
 
+class Silent:
+    """A client that says nothing for a minute: its connection isn't ended for that."""
+
+    def __init__(self, lab: Path) -> None:
+        self.server = Server(lambda port: ["serve", str(lab), str(port), "1"], {})
+        self.open = opened(self.server.port)
+        self.until = time.monotonic() + SILENCE
+
+    def end(self) -> None:
+        """Asks after the minute, and wants a reply."""
+        time.sleep(max(0.0, self.until - time.monotonic()))
+        with self.open as it, it.makefile("rb") as replies:
+            it.sendall(SEE)
+            if replies.readline() != NOT_GREETED:
+                fail("hostile: a client that was silent for a minute isn't answered")
+        if self.server.end() != Ended(0, b"done: 0 events, configuration 0\n", b""):
+            fail("hostile: the server of a silent client ended otherwise")
+
+
 def resting(server: Program) -> tuple[int, int]:
     """How many threads and open files a server has with its two honest clients alone, once it takes no others:
     the main thread, two more, the standard streams, and two files for each. A host always takes others."""
@@ -273,7 +295,7 @@ def resting(server: Program) -> tuple[int, int]:
 
 
 def work(room: Path) -> str:
-    """Late readers, a quiet run, and one beside the hostile clients."""
+    """Late readers, a quiet run, and one beside the hostile clients; and over a server a silent client all along."""
     numbers = [float(word) for word in sys.argv[1:] if word != "host"]
     seconds = numbers[0] if numbers else SECONDS
     if "host" in sys.argv[1:] and not HOST.is_file():
@@ -283,6 +305,7 @@ def work(room: Path) -> str:
     limits = text.replace("sessions = 4\n", "sessions = 16\n").replace("events = 100\n", "events = 100000\n")
     lab.write_text(limits, encoding="utf-8")
     story = Story(lab, honest_lines(), room)
+    silent = None if "host" in sys.argv[1:] else Silent(lab)
     late(lab)
 
     server, honest = served(story, 2)
@@ -308,6 +331,8 @@ def work(room: Path) -> str:
         fail(f"hostile: the server holds {kilobytes(server)} kB, not {held} kB as after a hundred lines")
     holds = kilobytes(server)
     ended(honest, server)
+    if silent is not None:
+        silent.end()
     beside = statistics.median(times)
     # A wait for a hostile client is of seconds; what their share of the processors makes of it is less.
     if beside > 20 * quiet + 0.5:
