@@ -327,9 +327,10 @@ def work(room: Path) -> str:
         answered(futures)
     wait_for_threads(server, rest[0], "once the hostile clients have gone")
     wait_for_handles(server, rest[1], "once the hostile clients have gone")
-    if abs(kilobytes(server) - held) * 10 > held:
-        fail(f"hostile: the server holds {kilobytes(server)} kB, not {held} kB as after a hundred lines")
     holds = kilobytes(server)
+    # A host gives back what the threads of those connections held, which may be more than a tenth.
+    if holds * 10 > held * 11 or isinstance(server, Server) and holds * 10 < held * 9:
+        fail(f"hostile: the server holds {holds} kB, not {held} kB as after a hundred lines")
     ended(honest, server)
     if silent is not None:
         silent.end()

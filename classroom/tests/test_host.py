@@ -2,6 +2,7 @@
 from __future__ import annotations
 
 import fcntl
+import json
 import os
 import pty
 import re
@@ -10,11 +11,12 @@ import sys
 import termios
 import time
 import unittest
+from pathlib import Path
 
-from classroom.client import Client, Refused
+from classroom.client import Client, Closed, Refused
 from classroom.lab import read
 from classroom.program import TOP, host
-from classroom.tests.help import CYCLE, KEYS, LIMIT, Cycle, Going
+from classroom.tests.help import CYCLE, KEYS, LIMIT, Cycle, Going, words
 
 TEACHER = read(CYCLE).teacher
 
@@ -37,14 +39,18 @@ class Hosted(Cycle):
         self.assertRegex((going.folder / "server.txt").read_text(encoding="utf-8"),
                          rf"^done: {events} events, configuration \d+\n$")
 
-    def let_in(self, going: Going, name: str) -> Client:
-        """A student's connection, as soon as a place is free."""
+    def let_in(self, port: int, name: str, key: str) -> Client:
+        """A connection, as soon as a place is free."""
         while True:
             try:
-                return Client(going.port, name, KEYS[name])
+                return Client(port, name, key)
             except Refused as refused:
                 self.assertEqual(refused.word, "busy")
                 time.sleep(0.01)
+
+    def desk(self, going: Going) -> int:
+        """The desk's port."""
+        return next(int(line.removeprefix("desk ")) for line in going.lines if line.startswith("desk "))
 
     def test_to_stable_with_bots_that_die_and_come_again(self) -> None:
         going = self.begin(8, "--close", "when-idle:0.3", "--until", "stable")
@@ -52,7 +58,7 @@ class Hosted(Cycle):
             for _ in range(3):
                 self.bot(going, name).kill()
         for _ in range(20):
-            gus = self.let_in(going, "gus")
+            gus = self.let_in(going.port, "gus", KEYS["gus"])
             gus.look(4)
             gus.__exit__(OSError, None, None)
         for name in KEYS:
@@ -72,7 +78,7 @@ class Hosted(Cycle):
             self.assertEqual(refused.exception.word, "busy")
         gus.kill()
         going.until("^gone: gus ")
-        with self.let_in(going, "ines") as ines:
+        with self.let_in(going.port, "ines", KEYS["ines"]) as ines:
             self.assertEqual(ines.look(3).at, 0)
             self.assertRegex(going.until("^all places are taken"), "hana")
         going.until("^gone: ")
@@ -83,9 +89,8 @@ class Hosted(Cycle):
 
     def test_the_desk_is_held_and_the_teacher_comes_to_the_port_too(self) -> None:
         going = self.begin(4, "--close", "by-hand")
-        told = next((line for line in going.lines if line.startswith("desk ")), "")
         with self.assertRaises(Refused) as refused:
-            Client(int(told.removeprefix("desk ")), *TEACHER)
+            Client(self.desk(going), *TEACHER)
         self.assertEqual(refused.exception.word, "busy")
         with Client(going.port, *TEACHER) as program, Client(going.port, "gus", KEYS["gus"]) as gus:
             gus.move(gus.look(4))
@@ -95,6 +100,28 @@ class Hosted(Cycle):
         going.until("^configuration 2: fault 1 2 true")
         going.type("end")
         self.ended(going)
+
+    def test_the_host_goes_on_where_the_run_is_killed(self) -> None:
+        going = self.begin(3, "--close", "by-hand")
+        server = Path(f"/proc/{going.server()}/stat")
+        with Client(going.port, "gus", KEYS["gus"]) as gus:
+            gus.move(gus.look(4))
+            going.process.kill()
+            going.process.wait()
+            teacher = self.let_in(self.desk(going), *TEACHER)
+            self.assertEqual(teacher.close().moved, (4,))
+            self.assertEqual(gus.look(4).at, 1)
+            teacher.bye()
+            with self.assertRaises(Closed):
+                while True:  # It hangs up when the bye was answered.
+                    gus.look(4)
+        until = time.monotonic() + LIMIT
+        while server.exists() and server.read_text(encoding="ascii").rpartition(") ")[2][0] != "Z":
+            self.assertLess(time.monotonic(), until)
+            time.sleep(0.01)
+        marks = words("mark", going.folder / "lab.toml", going.folder / "journal", "--json")
+        self.assertEqual(marks.returncode, 0, marks.stderr)
+        self.assertEqual(json.loads(marks.stdout)["runs"][0]["events"], 2)
 
     def test_an_interrupt_in_a_terminal(self) -> None:
         ours, theirs = pty.openpty()
