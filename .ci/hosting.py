@@ -165,6 +165,8 @@ def called(port: int, source: str = "127.0.0.1") -> Caller:
     while True:
         try:
             return Caller(port, source)
+        except ConnectionRefusedError:
+            fail("host: nobody listens any more")
         except OSError as error:
             if time.monotonic() > end:
                 fail(f"host: nobody takes a connection: {error}")
