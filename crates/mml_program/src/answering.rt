@@ -81,8 +81,8 @@ fn write_ended<W: Write>(
     write_pieces(alloc, &pieces, writer)
 }
 
-// Writes a text in one go.
-fn write_pieces<W: Write>(alloc: Global, pieces: &[Piece], writer: &mut W) -> Result<(), Fault>
+/// Writes a text in one go.
+pub fn write_pieces<W: Write>(alloc: Global, pieces: &[Piece], writer: &mut W) -> Result<(), Fault>
     ensures { OnOk result
         (Appends (W.contents writer.old) (W.contents writer.new) (joined pieces.now)) }
 {

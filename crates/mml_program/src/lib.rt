@@ -9,10 +9,10 @@ mod refusal;
 mod task;
 mod words;
 
-pub use answering::{answer_script, write_audit, write_size};
+pub use answering::{answer_script, write_audit, write_pieces, write_size};
 pub use built_in::BUILT_IN;
 pub use fault::{Fault, memory_or};
 pub use files::{MAX_FILE, MAX_JOURNAL, begin_journal, read_file, read_journal};
 pub use refusal::{AuditRefusal, LabRefusal};
-pub use task::run;
-pub use words::{ScriptTask, ServeTask, Task, read_words};
+pub use task::{lab_of, run, words_of};
+pub use words::{ScriptTask, ServeTask, Task, command_of, match_words, read_words, with_journal};

@@ -267,14 +267,14 @@ fn listen<R: Net<Listener = TcpListener, Stream = TcpStream>>(
     }
 }
 
-// The words, the program's name first; one that isn't UTF-8 is not understood.
-fn words_of<R: Env + AllocGlobal>(rt: &R) -> Result<Vec<String>, Fault> {
+/// The words, the program's name first; one that isn't UTF-8 is not understood.
+pub fn words_of<R: Env + AllocGlobal>(rt: &R) -> Result<Vec<String>, Fault> {
     let words = env::args(rt).map_err(|error| memory_or(&error, Fault::CommandLine))?;
     Ok(words.collect(rt.alloc())?)
 }
 
-// The lab of a file.
-fn lab_of<R: Files + AllocGlobal>(rt: &R, path: &str) -> Result<Lab, Fault> {
+/// The lab of a file.
+pub fn lab_of<R: Files + AllocGlobal>(rt: &R, path: &str) -> Result<Lab, Fault> {
     let bytes = read_file(rt, path, Fault::ReadLab)?;
     lab_in(rt.alloc(), bytes.as_slice())
 }

@@ -39,21 +39,28 @@ pub struct ServeTask<'a> {
     pub journal: Option<&'a str>,
 }
 
-/// Reads the words, of which the first is the program's name. A word that begins with `-` is refused
-/// before clap is asked, which would take `-` and `--`.
+/// Reads the words, of which the first is the program's name.
 pub fn read_words<'a>(alloc: Global, words: &'a [String]) -> Result<Task<'a>, Fault> {
-    if words.iter().skip(1).any(|word| word.starts_with('-')) {
-        return Err(Fault::CommandLine);
-    }
-    let command = whole(alloc)?;
-    let matches = match command.try_get_matches_from(words) {
-        Ok(matches) => matches,
-        Err(error) if error.kind() == ErrorKind::OutOfMemory => return Err(Fault::Memory),
-        Err(_) => return Err(Fault::CommandLine),
-    };
+    let matches = match_words(whole(alloc)?, words)?;
     match matches.subcommand() {
         None => Ok(Task::BuiltIn),
         Some((name, values)) => task_of(name, values).ok_or(Fault::CommandLine),
+    }
+}
+
+/// What a command finds in the words, of which the first is the program's name. A word that begins with
+/// `-` is refused before clap is asked, which would take `-` and `--`.
+pub fn match_words<'a>(
+    command: Command<'a>,
+    words: &'a [String],
+) -> Result<ArgMatches<'a>, Fault> {
+    if words.iter().skip(1).any(|word| word.starts_with('-')) {
+        return Err(Fault::CommandLine);
+    }
+    match command.try_get_matches_from(words) {
+        Ok(matches) => Ok(matches),
+        Err(error) if error.kind() == ErrorKind::OutOfMemory => Err(Fault::Memory),
+        Err(_) => Err(Fault::CommandLine),
     }
 }
 
@@ -82,17 +89,17 @@ fn task_of<'a>(name: &str, values: &ArgMatches<'a>) -> Option<Task<'a>> {
 
 fn whole<'a>(alloc: Global) -> Result<Command<'a>, AllocError> {
     plain(alloc, "mml_server")
-        .subcommand(subcommand(alloc, "check", &["lab"])?)?
-        .subcommand(with_journal(alloc, subcommand(alloc, "script", &["lab", "script"])?)?)?
-        .subcommand(subcommand(alloc, "audit", &["lab", "journal"])?)?
+        .subcommand(command_of(alloc, "check", &["lab"])?)?
+        .subcommand(with_journal(alloc, command_of(alloc, "script", &["lab", "script"])?)?)?
+        .subcommand(command_of(alloc, "audit", &["lab", "journal"])?)?
         .subcommand(with_journal(
             alloc,
-            subcommand(alloc, "serve", &["lab", "port", "connections"])?,
+            command_of(alloc, "serve", &["lab", "port", "connections"])?,
         )?)
 }
 
-// A subcommand whose values are all wanted, by their places.
-fn subcommand<'a>(
+/// A command or subcommand whose values are all wanted, by their places.
+pub fn command_of<'a>(
     alloc: Global,
     name: &'a str,
     values: &[&'a str],
@@ -104,8 +111,8 @@ fn subcommand<'a>(
     Ok(command)
 }
 
-// One value more, which may be left out.
-fn with_journal<'a>(alloc: Global, command: Command<'a>) -> Result<Command<'a>, AllocError> {
+/// One value more, which may be left out.
+pub fn with_journal<'a>(alloc: Global, command: Command<'a>) -> Result<Command<'a>, AllocError> {
     command.arg(Arg::new(alloc, "journal").action(ArgAction::Set))
 }
 

@@ -1,0 +1,83 @@
+//! What ends the host early: one line on standard error and a status.
+ghost use Rattle.std.specs.Prelude.{◌≡◌, true, false};
+
+use mml_files::JournalFileFault;
+use mml_hosting::HostFault;
+use mml_program::Fault as ProgramFault;
+use thiserror::Error;
+
+/// Why the host ended before its work was done.
+#[derive(Debug, Drop, PartialEq, Eq, Error)]
+pub enum Fault {
+    /// What `mml_server` tells in the same words: of command line, lab, journal, output and memory.
+    #[error("{0}")]
+    Common(ProgramFault),
+    /// A port can't be listened on.
+    #[error("host: cannot listen")]
+    Listen,
+    /// No connection can be accepted any more, and the teacher hadn't said bye.
+    #[error("host: cannot accept")]
+    Accept,
+    /// The places that were told aren't those of the events, each once.
+    #[error("host: the tally does not fit")]
+    Astray,
+    /// There was no reader's place for a window.
+    #[error("host: no place for a window")]
+    Place,
+}
+
+impl Fault {
+    /// The exit status that goes with the fault, as of `mml_server`.
+    pub fn status(&self) -> u8 {
+        match self {
+            Fault::Common(fault) => fault.status(),
+            Fault::Listen | Fault::Accept | Fault::Astray => 4,
+            Fault::Place => 5,
+        }
+    }
+
+    /// Want of memory where a writer met it, whatever the fault was told as.
+    pub fn or_memory(self, lacked: bool) -> Fault
+        ensures memory { lacked ≡ true → result ≡ Fault.Common ProgramFault.Memory }
+        ensures other { lacked ≡ false → result ≡ self }
+    {
+        if lacked {
+            Fault::Common(ProgramFault::Memory)
+        } else {
+            self
+        }
+    }
+}
+
+impl From<ProgramFault> for Fault {
+    ghost use Rattle.mml_host_program.specs.declared.fault.Fault.TheVariants.{Common};
+
+    ghost from_gives = { λ fault e. e ≡ Common fault };
+
+    fn from(fault: ProgramFault) -> Fault {
+        Fault::Common(fault)
+    }
+}
+
+impl From<JournalFileFault> for Fault {
+    fn from(fault: JournalFileFault) -> Fault {
+        Fault::Common(ProgramFault::from(fault))
+    }
+}
+
+impl From<HostFault> for Fault {
+    ghost use Rattle.mml_host_program.specs.Faults.{of_hosting};
+
+    ghost from_gives = { λ fault e. e ≡ of_hosting fault };
+
+    fn from(fault: HostFault) -> Fault {
+        match fault {
+            HostFault::Memory => Fault::Common(ProgramFault::Memory),
+            HostFault::Place => Fault::Place,
+            HostFault::Undismissed => Fault::Accept,
+            HostFault::Astray => Fault::Astray,
+            HostFault::Halted => Fault::Common(ProgramFault::Journal),
+            HostFault::Write => Fault::Common(ProgramFault::Write),
+        }
+    }
+}

@@ -1,0 +1,18 @@
+//! The body of the host: its words, its two ports and their sockets, its fault lines and statuses.
+#![tactic(auto)]
+
+mod fault;
+mod port;
+mod socket;
+mod state;
+mod task;
+mod words;
+
+pub use fault::Fault;
+pub use port::{EndBell, Port, WRITE_LIMIT};
+pub use socket::{
+    FIRST_LINE, Incoming, Kept, Outgoing, SharedSocket, SocketCutOff, SocketReader, SocketWriter,
+};
+pub use state::HostState;
+pub use task::{NEXT_LINE, run, write_listening};
+pub use words::{HostTask, read_port, read_words};
