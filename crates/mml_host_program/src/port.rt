@@ -48,8 +48,8 @@ impl<'a, Rt: Clock + Wait> Port<'a, Rt> {
     }
 }
 
-impl<'a, Rt: Clock + Wait>
-    Arrivals<Incoming<'a, Rt>, Outgoing<'a, Rt>, SocketCutOff<'a, Rt>> for Port<'a, Rt> {
+impl<'a, Rt: Clock + Wait> Arrivals<Incoming<'a, Rt>, Outgoing<'a, Rt>, SocketCutOff<'a, Rt>>
+    for Port<'a, Rt> {
     fn accept_next(&mut self) -> Next<Incoming<'a, Rt>, Outgoing<'a, Rt>, SocketCutOff<'a, Rt>> {
         let ended = self.state.ended(self.rt);
         if self.state.is_over(self.rt) {

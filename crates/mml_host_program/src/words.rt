@@ -19,7 +19,10 @@ pub struct HostTask<'a> {
 
 /// Reads the words, of which the first is the program's name.
 pub fn read_words<'a>(alloc: Global, words: &'a [String]) -> Result<HostTask<'a>, ProgramFault> {
-    let command = with_journal(alloc, command_of(alloc, "mml_host", &["lab", "port", "desk"])?)?;
+    let command = with_journal(
+        alloc,
+        command_of(alloc, "mml_host", &["lab", "port", "desk"])?,
+    )?;
     task_of(&match_words(command, words)?).ok_or(ProgramFault::CommandLine)
 }
 
