@@ -1,11 +1,12 @@
 -- Which texts name no port.
-use Rattle.std.proofs.Common.{◌≡◌, ◌^◌, ◌-◌, ℕ, suc, List, codes, arith}
+use Rattle.std.proofs.Common.{◌≡◌, ◌^◌, ◌-◌, ℕ, zero, suc, List, codes, sym, ◌∙◌, arith}
+use Rattle.std.proofs.lemmas.Fmt.{decimal_digit}
 use Rattle.mml_serving.specs.Numbers.{Spells}
 use Rattle.mml_host_program.specs.Words.{Names, NamesNone}
 
 pub names_none : (text : List ℕ) → (text ≡ codes "0" → ⊥) → ((n : ℕ) → Spells (2 ^ 16 - 1) text n → ⊥) → NamesNone text
-names_none text other none 0 names = other names.1
+names_none text other none zero names = other (names.1 ∙ decimal_digit 0 (omega arith))
 names_none text other none (suc n) names = none (suc n) (omega arith, names.0, names.1)
 
 pub zero_named : (text : List ℕ) → text ≡ codes "0" → Names text 0
-zero_named text is = (omega arith, is)
+zero_named text is = (omega arith, is ∙ sym (decimal_digit 0 (omega arith)))
