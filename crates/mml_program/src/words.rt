@@ -50,10 +50,7 @@ pub fn read_words<'a>(alloc: Global, words: &'a [String]) -> Result<Task<'a>, Fa
 
 /// What a command finds in the words, of which the first is the program's name. A word that begins with
 /// `-` is refused before clap is asked, which would take `-` and `--`.
-pub fn match_words<'a>(
-    command: Command<'a>,
-    words: &'a [String],
-) -> Result<ArgMatches<'a>, Fault> {
+pub fn match_words<'a>(command: Command<'a>, words: &'a [String]) -> Result<ArgMatches<'a>, Fault> {
     if words.iter().skip(1).any(|word| word.starts_with('-')) {
         return Err(Fault::CommandLine);
     }
