@@ -107,7 +107,7 @@ def reset(port: int, until: float, draw: random.Random) -> str:
 
 
 def flood(port: int, until: float, draw: random.Random) -> str:
-    """Requests without end, whose replies nobody reads."""
+    """Requests without end, whose replies nobody reads: for less than the ten seconds after which a host gives up."""
     with opened(port) as it:
         it.setblocking(False)
         sent = 0
