@@ -66,7 +66,9 @@ def time_serve(path):
     words = [TOP / "crates/mml_server/out/mml_server", "serve", path, str(port), str(CONNECTIONS)]
     with subprocess.Popen(words, stdout=subprocess.PIPE) as server:
         server.stdout.readline()
-        return time_clients(port)
+        done = time_clients(port)
+        server.stdout.read()
+        return done
 
 
 def time_host(path):
@@ -77,6 +79,7 @@ def time_host(path):
         with socket.create_connection(("127.0.0.1", desk)) as it:
             it.sendall(HELLO + BYE)
             it.makefile("rb").read()
+        server.stdout.read()
         return done
 
 
