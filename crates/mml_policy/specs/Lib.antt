@@ -2,6 +2,7 @@ pub mod Acts
 pub mod Denials
 pub mod Visible
 pub mod Clauses
+pub mod Courses
 pub mod Verdicts
 pub mod Shown
 pub mod Rulings

@@ -3,6 +3,7 @@
 
 mod clause;
 mod command;
+mod course;
 mod denial;
 pub mod laws;
 mod look;
@@ -13,6 +14,7 @@ mod verdict;
 mod visibility;
 
 pub use command::{Asked, Command};
+pub use course::Course;
 pub use denial::Denial;
 pub use look::{Look, look_of};
 pub use refusal::Refusal;

@@ -1,15 +1,17 @@
 ghost use Rattle.std.specs.Prelude.{◌≡◌, ◌<◌, length, OnErr, IfOk, true};
-ghost use Rattle.mml_policy.specs.Rulings.{ruling, told, event_of, is_look, IsThere};
+ghost use Rattle.mml_policy.specs.Courses.{NamesEachNode, ruling_in};
+ghost use Rattle.mml_policy.specs.Rulings.{told, event_of, is_look, IsThere};
 ghost use Rattle.mml_policy.specs.declared.verdict.Leave.TheVariants as leaves;
 
 use crate::command::Command;
+use crate::course::Course;
 use crate::denial::Denial;
 use crate::look::{Look, look_of};
 use crate::see::{See, see_of};
 use crate::verdict::{Leave, clauses};
 use mml_board::{Board, Done, Event};
-use mml_ids::{IdTable, Memory};
-use mml_lab::{Roster, Who};
+use mml_ids::Memory;
+use mml_lab::Who;
 use std::alloc::Global;
 
 /// What comes of a command.
@@ -48,27 +50,25 @@ impl Ruling {
     }
 }
 
-/// Judges a command, and shows what it asks; the value of a report is left to who answers. Board,
-/// identifiers and roster are of one lab, and no event is granted where the limit of events is
-/// reached, nor where the journal is halted. Only a look takes memory.
+/// Judges a command, and shows what it asks; the value of a report is left to who answers. No event
+/// is granted where the limit of events is reached, nor where the journal is halted. Only a look
+/// takes memory.
 pub fn rule_on(
     alloc: Global,
-    board: &Board,
-    ids: &IdTable,
-    roster: &Roster,
+    course: &Course<'_>,
     limit: u64,
     is_halted: bool,
     who: Who,
     command: &Command,
 ) -> Result<Ruling, Memory>
-    requires { length ids.now ≡ length board.now.network.registers }
+    requires { NamesEachNode course.now }
     ensures ruling { IfOk result (λ r. r ≡
-        ruling ids.now roster.now limit is_halted board.now who command.now) }
+        ruling_in course.now limit is_halted who command.now) }
     ensures memory { OnErr result
-        (is_look (ruling ids.now roster.now limit is_halted board.now who command.now) ≡ true) }
+        (is_look (ruling_in course.now limit is_halted who command.now) ≡ true) }
 {
-    match clauses(board, ids, roster, who, command) {
-        Ok(leave) => rule(alloc, board, limit, is_halted, leave),
+    match clauses(course, who, command) {
+        Ok(leave) => rule(alloc, course.board, limit, is_halted, leave),
         Err(denial) => Ok(Ruling::Denied(denial)),
     }
 }

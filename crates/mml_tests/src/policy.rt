@@ -3,7 +3,7 @@ use mml_board::Board;
 use mml_fakes::labs::PATH_OF_THREE;
 use mml_ids::{Memory, Rank};
 use mml_lab::{Lab, Who, read_lab};
-use mml_policy::{Asked, Command, Ruling, See, judge, rule_on, see_of};
+use mml_policy::{Asked, Command, Course, Ruling, See, judge, rule_on, see_of};
 use mml_rules::{Regs, Scene};
 use std::alloc::{AllocError, Global};
 use std::test::Fail;
@@ -178,7 +178,8 @@ fn ruled(
     if ids.len() != board.size() {
         return Ok("another size");
     }
-    let ruling = rule_on(alloc, board, ids, roster, *limit, *is_halted, who, command)?;
+    let course = Course { board, ids, roster };
+    let ruling = rule_on(alloc, &course, *limit, *is_halted, who, command)?;
     Ok(word_of(&ruling))
 }
 

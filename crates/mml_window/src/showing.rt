@@ -10,9 +10,21 @@ ghost use Rattle.mml_window.specs.Views.{Shows};
 use crate::sight::SightFault;
 use mml_board::Board;
 use mml_lab::{Lab, Who};
-use mml_policy::{Look, See, look_of, may_look, may_report, may_see, see_of};
+use mml_policy::{Course, Look, See, look_of, may_look, may_report, may_see, see_of};
 use mml_stable::{Report, report};
 use std::alloc::Global;
+
+fn course_in<'a>(board: &'a Board, lab: &'a Lab) -> Course<'a>
+    ensures board { result.board.now ≡ board.now }
+    ensures ids { result.ids.now ≡ lab.now.ids }
+    ensures roster { result.roster.now ≡ lab.now.roster }
+{
+    Course {
+        board,
+        ids: lab.ids(),
+        roster: lab.roster(),
+    }
+}
 
 /// What a node shows to those who may see it. It takes no memory.
 pub(crate) fn see_at(board: &Board, lab: &Lab, who: Who, node: u64) -> Result<See, SightFault>
@@ -20,7 +32,8 @@ pub(crate) fn see_at(board: &Board, lab: &Lab, who: Who, node: u64) -> Result<Se
     ensures shows { Shows rulings.Seen (ruling_at lab.now board.now who (command.See node)) result }
     ensures memory { IfErr result (λ fault. fault ≢ faults.Memory) }
 {
-    match may_see(board, lab.ids(), lab.roster(), who, node) {
+    let course = course_in(board, lab);
+    match may_see(&course, who, node) {
         Ok(rank) => Ok(see_of(board, rank)),
         Err(denial) => Err(SightFault::Denied(denial)),
     }
@@ -37,7 +50,8 @@ pub(crate) fn look_at(
     requires { length lab.now.ids ≡ length board.now.network.registers }
     ensures { Shows rulings.Looked (ruling_at lab.now board.now who (command.Look node)) result }
 {
-    match may_look(board, lab.ids(), lab.roster(), who, node) {
+    let course = course_in(board, lab);
+    match may_look(&course, who, node) {
         Ok(rank) => match look_of(alloc, board, rank) {
             Ok(look) => Ok(look),
             Err(_) => Err(SightFault::Memory),
@@ -58,7 +72,8 @@ pub(crate) fn report_at(
         result }
     ensures report { IfOk result (λ r. r ≡ report_of board.now) }
 {
-    match may_report(board, lab.ids(), lab.roster(), who) {
+    let course = course_in(board, lab);
+    match may_report(&course, who) {
         Ok(()) => match report(alloc, board) {
             Ok(report) => Ok(report),
             Err(_) => Err(SightFault::Memory),

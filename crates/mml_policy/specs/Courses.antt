@@ -1,0 +1,20 @@
+-- What is decided of a command in a course, over what its parts show.
+use Rattle.std.specs.Prelude.{ℕ, ◌≡◌, Bool, length, Result}
+use Rattle.mml_lab.specs.declared.who.Who.{Who}
+use Rattle.mml_policy.specs.declared.command.Command.{Command}
+use Rattle.mml_policy.specs.declared.course.Course.{Course}
+use Rattle.mml_policy.specs.declared.denial.Denial.{Denial}
+use Rattle.mml_policy.specs.declared.ruling.Ruling.{Ruling}
+use Rattle.mml_policy.specs.declared.verdict.Leave.{Leave}
+use Rattle.mml_policy.specs.Rulings.{ruling}
+use Rattle.mml_policy.specs.Verdicts.{clauses}
+
+-- there are as many identifiers as nodes
+abbrev pub NamesEachNode : Course → Type 0
+NamesEachNode k = length k.ids.now ≡ length k.board.now.network.registers
+
+abbrev pub clauses_in : Course → Who → Command → Result Leave Denial
+clauses_in k x c = clauses k.ids.now k.roster.now k.board.now x c
+
+abbrev pub ruling_in : Course → ℕ → Bool → Who → Command → Ruling
+ruling_in k limit is_halted x c = ruling k.ids.now k.roster.now limit is_halted k.board.now x c
