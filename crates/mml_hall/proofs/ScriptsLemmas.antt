@@ -10,6 +10,7 @@ use Rattle.mml_lines.specs.LinesOf.{ended}
 use Rattle.mml_lines.specs.Sending.{BreaksOff, Sends}
 use Rattle.mml_lines.specs.declared.lines.TheConstants.{READ_SIZE}
 use Rattle.mml_lines.specs.declared.writing.WriteFault.{WriteFault}
+use Rattle.mml_lines.proofs.KnownBytesLemmas.{nothing_held}
 use Rattle.mml_lines.proofs.SendingLemmas.{nothing_sent, sends_on, sends_more, all_out, breaks_on, breaks_more}
 use Rattle.mml_codec.specs.declared.reply.Reply.{Reply}
 use Rattle.mml_hall.specs.declared.script.Next.{Next}
@@ -78,10 +79,6 @@ end_longer lab t after s = refl
 count_longer : (lab : LabValue) (t : Transcript lab) (after : State) (s : LineTurn lab t.end after) → length (longer lab t after s).lines ≡ length t.lines + 1
 unfolding longer
 count_longer lab t after s = grind (arith, common_steps, length-append t.lines (s.line ∷ []))
-
-nothing_held : (a : Option (List ℕ)) (held : List ℕ) → held ≡ [] → Consumes a (prepend_known held a) []
-nothing_held None held e = tt
-nothing_held (Some xs) held e = rw e refl
 
 -- nothing was taken since
 nothing_taken : (lab : LabValue) (t : Transcript lab) (input a b : Option (List ℕ)) → Consumes input a (bytes_read t) → Consumes a b [] → Consumes input b (bytes_read t)

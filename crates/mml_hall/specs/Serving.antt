@@ -1,11 +1,10 @@
 -- What comes of the next line of a script.
-use Rattle.std.specs.Prelude.{◌≡◌, ◌≢◌, ℕ, ◌+◌, ◌-◌, ◌*◌, ◌<◌, List, [], ◌∷◌, ◌++◌, length, Option, Result, Ok, Err, ⊤}
+use Rattle.std.specs.Prelude.{◌≡◌, ◌≢◌, ℕ, ◌+◌, ◌<◌, List, [], ◌∷◌, ◌++◌, length, Option, Result, Ok, Err, ⊤}
 use Rattle.std.specs.Io.KnownBytes.{Consumes, IsAtEnd, prepend_known}
 use Rattle.mml_lab.specs.Labs.{LabValue}
 use Rattle.mml_lines.specs.LinesOf.{IsWithinLimit}
 use Rattle.mml_lines.specs.Sending.{BreaksOff, Sends}
-use Rattle.mml_lines.specs.LinesState.{LinesState}
-use Rattle.mml_lines.specs.declared.lines.TheConstants.{MAX_READS, READ_SIZE}
+use Rattle.mml_lines.specs.declared.lines.TheConstants.{READ_SIZE}
 use Rattle.mml_lines.specs.declared.writing.WriteFault.{WriteFault}
 use Rattle.mml_hall.specs.declared.TheConstants.{MAX_SCRIPT_LINE}
 use Rattle.mml_hall.specs.declared.script.Next.{Next}
@@ -46,7 +45,3 @@ ServesNext next.ReadFault lab st after input held left unsent unsent' wrote wrot
 ServesNext (next.WriteFault fault) lab st after input held left unsent unsent' wrote wrote' =
     (t : LineTurn lab st after) × Consumes input (prepend_known held left) (line_read t) × (length held < READ_SIZE)
     × BreaksOff fault wrote wrote' (unsent ++ line_written t ∷ [])
-
--- the most bytes that may still come, by the reads that are left
-abbrev pub bytes_ahead : LinesState → ℕ
-bytes_ahead lines = length lines.unread + READ_SIZE * (MAX_READS - lines.reads)

@@ -2,7 +2,7 @@ ghost use Rattle.std.specs.Prelude.{◌≡◌, ◌≢◌, ◌+◌, ◌-◌, ◌^
 ghost use Rattle.std.specs.Io.KnownBytes.{prepend_known};
 ghost use Rattle.mml_lines.specs.declared.lines.TheConstants.{READ_SIZE};
 ghost use Rattle.mml_lines.specs.LinesOf.{IsWithinLimit};
-ghost use Rattle.mml_lines.specs.LinesState.{fresh};
+ghost use Rattle.mml_lines.specs.LinesState.{bytes_ahead, fresh};
 ghost use Rattle.mml_lines.specs.Sending.{BreaksOff, Sends};
 ghost use Rattle.mml_hall.specs.Turns.{Halts, opening};
 ghost use Rattle.mml_journal.specs.Taken.{IsFresh};
@@ -10,7 +10,7 @@ ghost use Rattle.mml_hall.specs.Journals.{TellsJournal, Journals};
 ghost use Rattle.mml_hall.specs.ScriptLines.{IsScriptLine, line_of};
 ghost use Rattle.mml_hall.specs.Scripts.{Finished, Stopped};
 ghost use Rattle.mml_hall.specs.inside.Ending.{EndsScript};
-ghost use Rattle.mml_hall.specs.Serving.{ServesLine, ServesNext, ServesText, bytes_ahead};
+ghost use Rattle.mml_hall.specs.Serving.{ServesLine, ServesNext, ServesText};
 
 use crate::MAX_SCRIPT_LINE;
 use crate::hall::Hall;

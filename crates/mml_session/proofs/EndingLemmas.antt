@@ -4,6 +4,7 @@ use Rattle.std.proofs.KnownBytes.{Appends-nil, Appends-trans, Consumes-nil, Cons
 use Rattle.std.specs.Io.KnownBytes.{Consumes, Appends, prepend_known}
 use Rattle.mml_lab.specs.Labs.{LabValue}
 use Rattle.mml_lines.specs.LinesOf.{ended}
+use Rattle.mml_lines.proofs.KnownBytesLemmas.{nothing_held}
 use Rattle.mml_window.specs.Windows.{WindowValue}
 use Rattle.mml_session.specs.declared.session.SessionEnd.{SessionEnd}
 use Rattle.mml_session.specs.declared.session.SessionEnd.TheVariants as ends
@@ -14,10 +15,6 @@ use Rattle.mml_session.specs.Talks.{Talk, newcomer, bytes_read, bytes_written, l
 use Rattle.mml_session.specs.Ends.{AllAnswered, EndedKnown, IsView}
 use Rattle.mml_session.specs.Serving.{ServesNext}
 use Rattle.mml_session.proofs.LongerLemmas.{longer, read_longer, written_longer, empty, end_longer}
-
-nothing_held : (a : Option (List ℕ)) (held : List ℕ) → held ≡ [] → Consumes a (prepend_known held a) []
-nothing_held None held e = tt
-nothing_held (Some xs) held e = rw e refl
 
 -- nothing was written since
 still : (wrote c d : Option (List ℕ)) (xs : List ℕ) → Appends wrote c xs → Appends c d [] → Appends wrote d xs

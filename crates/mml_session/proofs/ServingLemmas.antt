@@ -1,5 +1,5 @@
 -- What comes of a line, from what its parts say.
-use Rattle.std.proofs.Common.{◌≡◌, ℕ, ◌+◌, ◌-◌, ◌*◌, ◌<◌, ◌≤◌, arith, true, true≢false, List, length, sym, refl, Option, Result, Ok, Err, subst}
+use Rattle.std.proofs.Common.{◌≡◌, ℕ, ◌<◌, true, true≢false, List, length, sym, refl, Option, Result, Ok, Err, subst}
 use Rattle.std.specs.Io.KnownBytes.{Consumes, prepend_known}
 use Rattle.mml_lab.specs.Labs.{LabValue}
 use Rattle.mml_lines.specs.LinesOf.{IsWithinLimit, ended}
@@ -17,19 +17,8 @@ taken_by : (a b : Option (List ℕ)) (line line' : List ℕ) → Consumes a b (e
 taken_by a b line line' taken same = subst (λ (t : List ℕ). Consumes a b (ended t)) (sym same) taken
 
 bye_is : (r : Reply) → is_bye r ≡ true → r ≡ replies.Bye
-bye_is (replies.Hello who) is = absurd (true≢false (sym is))
 bye_is replies.Bye is = refl
-bye_is (replies.See s) is = absurd (true≢false (sym is))
-bye_is (replies.Look l) is = absurd (true≢false (sym is))
-bye_is (replies.Move at place node kind) is = absurd (true≢false (sym is))
-bye_is (replies.Close at place moved) is = absurd (true≢false (sym is))
-bye_is (replies.Fault at place node dropped) is = absurd (true≢false (sym is))
-bye_is (replies.Link at place x y dropped) is = absurd (true≢false (sym is))
-bye_is (replies.Cut at place x y dropped) is = absurd (true≢false (sym is))
-bye_is (replies.Release at place node) is = absurd (true≢false (sym is))
-bye_is (replies.Report r) is = absurd (true≢false (sym is))
-bye_is (replies.Deny d) is = absurd (true≢false (sym is))
-bye_is (replies.Refuse r) is = absurd (true≢false (sym is))
+bye_is _ is = absurd (true≢false (sym is))
 
 -- a line was taken, short enough, and no more than one read brought in is held after it
 module _ (lab : LabValue) (st after : Standing) (a left c d : Option (List ℕ)) (held line : List ℕ) (taken : Consumes a (prepend_known held left) (ended line))
@@ -39,8 +28,3 @@ module _ (lab : LabValue) (st after : Standing) (a left c d : Option (List ℕ))
   serves_next (Ok says.Bye) had = (had.0, bye_is had.0.reply had.2.0, taken_by a (prepend_known held left) line had.0.line taken had.1, few, had.2.1)
   serves_next (Ok (says.Unwritten n)) had = (had.0, n, had.2.0, taken_by a (prepend_known held left) line had.0.line taken had.1, few, had.2.1)
   serves_next (Err closed) had = (had.0, line, short, had.1, taken, few, had.2)
-
--- a line was taken, and fewer bytes may come
-pub nearer : (u u' r r' most taken : ℕ) → taken + u' ≤ u + READ_SIZE * (r' - r) → r ≤ r' → r' ≤ most → 0 < taken
-    → u' + READ_SIZE * (most - r') < u + READ_SIZE * (most - r)
-nearer u u' r r' most taken counted grow end some = omega arith

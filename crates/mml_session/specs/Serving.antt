@@ -1,10 +1,9 @@
 -- What comes of the next line of a session.
-use Rattle.std.specs.Prelude.{◌≡◌, ℕ, ◌+◌, ◌-◌, ◌*◌, ◌<◌, false, true, List, [], length, take, Option, Result, Ok, Err}
+use Rattle.std.specs.Prelude.{◌≡◌, ℕ, ◌+◌, ◌<◌, false, true, List, [], length, take, Option, Result, Ok, Err}
 use Rattle.std.specs.Io.KnownBytes.{Appends, Consumes, IsAtEnd, prepend_known}
 use Rattle.mml_lab.specs.Labs.{LabValue}
 use Rattle.mml_lines.specs.LinesOf.{IsWithinLimit, IsTooLong, ended}
-use Rattle.mml_lines.specs.LinesState.{LinesState}
-use Rattle.mml_lines.specs.declared.lines.TheConstants.{MAX_READS, READ_SIZE}
+use Rattle.mml_lines.specs.declared.lines.TheConstants.{READ_SIZE}
 use Rattle.mml_codec.specs.declared.TheConstants.{MAX_REQUEST}
 use Rattle.mml_codec.specs.declared.reply.Reply.{Reply}
 use Rattle.mml_codec.specs.declared.reply.Reply.TheVariants as reply
@@ -58,7 +57,3 @@ ServesNext (next.Ended end.Closed) lab st after input held left wrote wrote' =
     (after ≡ st) × (line : List ℕ) × IsWithinLimit MAX_REQUEST line × IsView st line × Consumes input (prepend_known held left) (ended line)
     × (length held < READ_SIZE) × Appends wrote wrote' []
 ServesNext (next.Ended end.Memory) lab st after input held left wrote wrote' = ⊥
-
--- the most bytes that may still come, by the reads that are left
-abbrev pub bytes_ahead : LinesState → ℕ
-bytes_ahead lines = length lines.unread + READ_SIZE * (MAX_READS - lines.reads)

@@ -1,10 +1,11 @@
 ghost use Rattle.std.specs.Prelude.{◌≡◌, ◌<◌, ◌≤◌, None, IfSome, vec_capacity};
 ghost use Rattle.std.specs.Io.KnownBytes.{prepend_known};
 ghost use Rattle.mml_lines.specs.LinesOf.{IsWithinLimit};
+ghost use Rattle.mml_lines.specs.LinesState.{bytes_ahead};
 ghost use Rattle.mml_lab.specs.Rosters.{IsPrincipal};
 ghost use Rattle.mml_session.specs.Turns.{standing, is_bye};
 ghost use Rattle.mml_session.specs.Ends.{Ended, EndedKnown};
-ghost use Rattle.mml_session.specs.Serving.{SendsReply, ServesLine, ServesNext, bytes_ahead, next_after};
+ghost use Rattle.mml_session.specs.Serving.{SendsReply, ServesLine, ServesNext, next_after};
 
 use crate::answering::answer;
 use crate::gate::{Gate, Point};

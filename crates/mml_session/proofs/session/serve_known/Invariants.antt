@@ -6,7 +6,7 @@ use Rattle.mml_lab.specs.Rosters.{IsPrincipal}
 use Rattle.mml_codec.specs.declared.TheConstants.{MAX_REQUEST}
 use Rattle.mml_codec.specs.declared.reply.TheConstants.{REPLY_ROOM}
 use Rattle.mml_session.specs.Turns.{standing}
-use Rattle.mml_session.specs.Serving.{bytes_ahead}
+use Rattle.mml_lines.specs.LinesState.{bytes_ahead}
 use Rattle.mml_session.proofs.EndingLemmas.{AnsweredSoFar}
 use Rattle.mml_session.proofs.session.serve_known.Given as goal
 
