@@ -16,40 +16,22 @@ use Rattle.mml_codec.proofs.LinesLemmas.{value_in-some, request_in-some}
 
 -- each word: its fields are those of an object
 IsObject-fields_of : (r : Request) → IsObject (fields_of r)
-IsObject-fields_of (requests.Hello n k) = record { keyed = record { rising = refl; ascii = refl }; ascii = refl }
-IsObject-fields_of requests.Bye = record { keyed = record { rising = refl; ascii = refl }; ascii = refl }
-IsObject-fields_of (requests.Do (command.See n)) = record { keyed = record { rising = refl; ascii = refl }; ascii = refl }
-IsObject-fields_of (requests.Do (command.Look n)) = record { keyed = record { rising = refl; ascii = refl }; ascii = refl }
-IsObject-fields_of (requests.Do (command.Move n asked.Update at)) = record { keyed = record { rising = refl; ascii = refl }; ascii = refl }
 IsObject-fields_of (requests.Do (command.Move n (asked.Marriage w) at)) = record { keyed = record { rising = refl; ascii = refl }; ascii = refl }
-IsObject-fields_of (requests.Do (command.Move n asked.Seduction at)) = record { keyed = record { rising = refl; ascii = refl }; ascii = refl }
-IsObject-fields_of (requests.Do (command.Move n asked.Abandonment at)) = record { keyed = record { rising = refl; ascii = refl }; ascii = refl }
-IsObject-fields_of (requests.Do command.Close) = record { keyed = record { rising = refl; ascii = refl }; ascii = refl }
+IsObject-fields_of (requests.Do (command.Move n _ at)) = record { keyed = record { rising = refl; ascii = refl }; ascii = refl }
 IsObject-fields_of (requests.Do (command.Fault n None m)) = record { keyed = record { rising = refl; ascii = refl }; ascii = refl }
-IsObject-fields_of (requests.Do (command.Fault n (Some p) m)) = record { keyed = record { rising = refl; ascii = refl }; ascii = refl }
-IsObject-fields_of (requests.Do (command.Link a b)) = record { keyed = record { rising = refl; ascii = refl }; ascii = refl }
-IsObject-fields_of (requests.Do (command.Cut a b)) = record { keyed = record { rising = refl; ascii = refl }; ascii = refl }
-IsObject-fields_of (requests.Do (command.Release n)) = record { keyed = record { rising = refl; ascii = refl }; ascii = refl }
-IsObject-fields_of (requests.Do command.Report) = record { keyed = record { rising = refl; ascii = refl }; ascii = refl }
+IsObject-fields_of (requests.Do (command.Fault n _ m)) = record { keyed = record { rising = refl; ascii = refl }; ascii = refl }
+IsObject-fields_of (requests.Do _) = record { keyed = record { rising = refl; ascii = refl }; ascii = refl }
+IsObject-fields_of _ = record { keyed = record { rising = refl; ascii = refl }; ascii = refl }
 
 -- each word: its object asks it
 request-fields_of : (r : Request) → request (object_of (fields_of r)) ≡ Some r
 unfolding request by_word hello_of move_of asked_at fault_of
-request-fields_of (requests.Hello n k) = refl
-request-fields_of requests.Bye = refl
-request-fields_of (requests.Do (command.See n)) = refl
-request-fields_of (requests.Do (command.Look n)) = refl
-request-fields_of (requests.Do (command.Move n asked.Update at)) = refl
 request-fields_of (requests.Do (command.Move n (asked.Marriage w) at)) = refl
-request-fields_of (requests.Do (command.Move n asked.Seduction at)) = refl
-request-fields_of (requests.Do (command.Move n asked.Abandonment at)) = refl
-request-fields_of (requests.Do command.Close) = refl
+request-fields_of (requests.Do (command.Move n _ at)) = refl
 request-fields_of (requests.Do (command.Fault n None m)) = refl
-request-fields_of (requests.Do (command.Fault n (Some p) m)) = refl
-request-fields_of (requests.Do (command.Link a b)) = refl
-request-fields_of (requests.Do (command.Cut a b)) = refl
-request-fields_of (requests.Do (command.Release n)) = refl
-request-fields_of (requests.Do command.Report) = refl
+request-fields_of (requests.Do (command.Fault n _ m)) = refl
+request-fields_of (requests.Do _) = refl
+request-fields_of _ = refl
 
 pub canonical_line : (r : Request) → IsWritable r → All (λ b. b ≢ 10) (canonical r)
 unfolding canonical

@@ -202,19 +202,8 @@ deny_keys ids None c name said = record { keyed = record { rising = refl; ascii 
 deny_keys ids (Some at) c name said = record { keyed = record { rising = refl; ascii = refl }; plain = refl; order = refl }
 
 has_keys : (ids : List ℕ) (r : RosterValue) (q : Reply) → HasKeys ids (fields_of r q)
-has_keys ids r (replies.Hello who) = record { keyed = record { rising = refl; ascii = refl }; plain = refl; order = refl }
-has_keys ids r replies.Bye = record { keyed = record { rising = refl; ascii = refl }; plain = refl; order = refl }
-has_keys ids r (replies.See s) = record { keyed = record { rising = refl; ascii = refl }; plain = refl; order = refl }
-has_keys ids r (replies.Look l) = record { keyed = record { rising = refl; ascii = refl }; plain = refl; order = refl }
-has_keys ids r (replies.Move at place node k) = record { keyed = record { rising = refl; ascii = refl }; plain = refl; order = refl }
-has_keys ids r (replies.Close at place moved) = record { keyed = record { rising = refl; ascii = refl }; plain = refl; order = refl }
-has_keys ids r (replies.Fault at place node dropped) = record { keyed = record { rising = refl; ascii = refl }; plain = refl; order = refl }
-has_keys ids r (replies.Link at place a b dropped) = record { keyed = record { rising = refl; ascii = refl }; plain = refl; order = refl }
-has_keys ids r (replies.Cut at place a b dropped) = record { keyed = record { rising = refl; ascii = refl }; plain = refl; order = refl }
-has_keys ids r (replies.Release at place node) = record { keyed = record { rising = refl; ascii = refl }; plain = refl; order = refl }
-has_keys ids r (replies.Report q) = record { keyed = record { rising = refl; ascii = refl }; plain = refl; order = refl }
 has_keys ids r (replies.Deny d) = deny_keys ids (current_number d) (clause_of d) (denials.name_of d) (text_of d)
-has_keys ids r (replies.Refuse q) = record { keyed = record { rising = refl; ascii = refl }; plain = refl; order = refl }
+has_keys ids r _ = record { keyed = record { rising = refl; ascii = refl }; plain = refl; order = refl }
 
 -- the clause, the name and the text of a denial
 abbrev has_plain_words : Denial → Bool

@@ -7,11 +7,7 @@ use Rattle.mml_codec.specs.Rulings.{reply_of_done}
 
 told_done : (at place : ℕ) (d : Done) → (place_in (reply_of_done at place d) ≡ Some place) × (is_short (reply_of_done at place d) ≡ true)
 told_done at place (done.Move node kind) = (refl, refl)
-told_done at place (done.Close moved) = (refl, refl)
-told_done at place (done.Fault node dropped) = (refl, refl)
-told_done at place (done.Link a b dropped) = (refl, refl)
-told_done at place (done.Cut a b dropped) = (refl, refl)
-told_done at place (done.Release node) = (refl, refl)
+told_done at place _ = (refl, refl)
 
 pub place_of_done : (at place : ℕ) (d : Done) → place_in (reply_of_done at place d) ≡ Some place
 place_of_done at place d = (told_done at place d).0

@@ -41,11 +41,7 @@ refused_admission lab st k (Some x) e h = absurd h
 -- the reply to a grant is no refusal
 granted_not_refused : (at place : ℕ) (d : Done) → IsRefusal (reply_of_done at place d) → ⊥
 granted_not_refused at place (done.Move node kind) h = h
-granted_not_refused at place (done.Close moved) h = h
-granted_not_refused at place (done.Fault node dropped) h = h
-granted_not_refused at place (done.Link a b dropped) h = h
-granted_not_refused at place (done.Cut a b dropped) h = h
-granted_not_refused at place (done.Release node) h = h
+granted_not_refused at place _ h = h
 
 refused_told : (st : State) (r : Ruling) → IsRefusal (told st r).reply → (told st r).state ≡ st
 refused_told st (Denied d) h = refl

@@ -146,19 +146,9 @@ pub record IsKept (st after : State) : Type 0 where
 
 -- a clause doesn't hold, or the request was refused
 abbrev pub IsRefusal : Reply → Type 0
-IsRefusal (reply.Hello who) = ⊥
-IsRefusal reply.Bye = ⊥
-IsRefusal (reply.See s) = ⊥
-IsRefusal (reply.Look l) = ⊥
-IsRefusal (reply.Move at place node kind) = ⊥
-IsRefusal (reply.Close at place moved) = ⊥
-IsRefusal (reply.Fault at place node dropped) = ⊥
-IsRefusal (reply.Link at place a b dropped) = ⊥
-IsRefusal (reply.Cut at place a b dropped) = ⊥
-IsRefusal (reply.Release at place node) = ⊥
-IsRefusal (reply.Report r) = ⊥
 IsRefusal (reply.Deny d) = Unit {0}
 IsRefusal (reply.Refuse r) = Unit {0}
+IsRefusal _ = ⊥
 
 -- one event more takes place, and the reply names its place; or none does, and the reply names no place
 abbrev pub GrowsByGrant : State → Outcome → Type 0

@@ -100,7 +100,6 @@ module _ (ids : List ℕ) (r : RosterValue) (limit : ℕ) (is_halted : Bool) (s 
   same_clauses (command.See id) =
       bind-same (node ids id Hidden) (node ids id Hidden) _ _ refl (λ i _.
       need-same (is_visible r c x i) (is_visible r d x i) _ _ _ _ (same_visible i) refl (λ _. refl))
-  same_clauses (command.Look id) = refl
   same_clauses (command.Move id q at) =
       bind-same (node ids id NotOwner) (node ids id NotOwner) _ _ refl (λ i _.
       need-same (owns r x i) (owns r x i) _ _ _ _ refl refl (λ own.
@@ -108,12 +107,7 @@ module _ (ids : List ℕ) (r : RosterValue) (limit : ℕ) (is_halted : Bool) (s 
       need-same (is_none (chosen_at w.chosen i)) (is_none (chosen_at v.chosen i)) _ _ _ _ (ap is_none (a.chosen i own)) refl (λ _.
       bind-same (rule_of ids q Guard) (rule_of ids q Guard) _ _ refl (λ rule _.
       need-same (guard c i rule) (guard d i rule) _ _ _ _ (same_guard c d i lawful_w lawful_v (around i own) rule) refl (λ _. refl))))))
-  same_clauses command.Close = refl
-  same_clauses (command.Fault id p m) = refl
-  same_clauses (command.Link first second) = refl
-  same_clauses (command.Cut first second) = refl
-  same_clauses (command.Release id) = refl
-  same_clauses command.Report = refl
+  same_clauses _ = refl
 
   -- what is shown is the same
   same_seen : (i : ℕ) → is_visible r c x i ≡ true → registers_at w.network.registers i ≡ registers_at v.network.registers i
@@ -201,12 +195,7 @@ module _ (ids : List ℕ) (r : RosterValue) (limit : ℕ) (is_halted : Bool) (s 
       bind-if Keeps (rule_of ids q Guard) _ (λ rule _.
       need-if Keeps (guard c i rule) _ _ (λ _.
       keeps_move i rule (node_there ids id _ i there)))))))
-  keeps command.Close = tt
-  keeps (command.Fault id p m) = tt
-  keeps (command.Link first second) = tt
-  keeps (command.Cut first second) = tt
-  keeps (command.Release id) = tt
-  keeps command.Report = tt
+  keeps _ = tt
 
   abbrev Same : Result Leave Denial → Result Leave Denial → Type 0
   Same p q = (ruled limit is_halted w p ≡ ruled limit is_halted v q) × Alike r s (after_ruling w (ruled limit is_halted w p)) (after_ruling v (ruled limit is_halted v q))

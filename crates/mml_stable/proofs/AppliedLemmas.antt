@@ -31,9 +31,7 @@ pub event_pays : (w : World) (e : Event) → IsWorld w → is_of_step e ≡ true
 event_pays w (event.Grant s i rule) k of_step = omega arith
 event_pays w (event.Release i) k of_step = omega arith
 event_pays w event.Close k of_step = close_pays w k
-event_pays w (event.Fault i registers) k of_step = absurd (false≢true of_step)
-event_pays w (event.Link a b) k of_step = absurd (false≢true of_step)
-event_pays w (event.Cut a b) k of_step = absurd (false≢true of_step)
+event_pays w _ k of_step = absurd (false≢true of_step)
 
 pub moves_paid : (r : RosterValue) (w : World) (es : List Event) → IsWorld w → is_legal_list r w es ≡ true → list_all is_of_step es ≡ true → applied_over w es ≤ whole_potential (configuration w)
 moves_paid r w [] k legal steps = omega arith
@@ -74,12 +72,8 @@ closes_fewer r w (e ∷ es) k legal =
     omega (arith, first, rest)
   where
     one : (e : Event) → is_possible w e ≡ true → cond (is_close e) 1 0 ≤ applied_by w e
-    one (event.Grant s i rule) p = omega arith
-    one (event.Release i) p = omega arith
     one event.Close p = close_moves w k p
-    one (event.Fault i registers) p = omega arith
-    one (event.Link a b) p = omega arith
-    one (event.Cut a b) p = omega arith
+    one _ p = omega arith
 
 pub closes_bounded : (r : RosterValue) (w : World) (es : List Event) → IsWorld w → is_legal_list r w es ≡ true → list_all is_of_step es ≡ true → count_closes es ≤ 2 * link_count w.network + 3 * size w
 closes_bounded r w es k legal steps =

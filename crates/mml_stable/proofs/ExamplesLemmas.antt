@@ -41,13 +41,10 @@ abbrev tells : (ℕ → ℕ → Bool) → List Regs → List (Option Rule) → L
 tells linked registers chosen [] n = n == 0
 tells linked registers chosen (event.Grant s i rule ∷ es) n =
     (s == 0) && ((nat_lt i (length registers) && (is_none (chosen_at chosen i) && guard (shape linked registers) i rule)) && tells linked registers (set chosen i (Some rule)) es n)
-tells linked registers chosen (event.Release i ∷ es) n = false
 tells linked registers chosen (event.Close ∷ es) n =
     list_any is_some chosen && (nat_le (chosen_among registers chosen) n &&
     tells linked (map (λ i. moved (shape linked registers) i (chosen_at chosen i)) (range_with_len 0 (length registers))) (replicate (length registers) None) es (n - chosen_among registers chosen))
-tells linked registers chosen (event.Fault i regs ∷ es) n = false
-tells linked registers chosen (event.Link a b ∷ es) n = false
-tells linked registers chosen (event.Cut a b ∷ es) n = false
+tells linked registers chosen (_ ∷ es) n = false
 
 -- what it tells holds of a world with these links, registers and choices
 sound : (r : RosterValue) (w : World) (es : List Event) (n : ℕ) → ((i : ℕ) → i < size w → owns r (who.Student 0) i ≡ true) → tells (configuration w).linked w.network.registers w.chosen es n ≡ true
@@ -62,7 +59,6 @@ sound r w (event.Grant s i rule ∷ es) n owned t =
     let rest = sound r (after w (event.Grant s i rule)) es n owned y.1 in
     let last = rest.1 in
     (and_from _ _ (and_from _ _ owner y.0) rest.0, omega (arith, last))
-sound r w (event.Release i ∷ es) n owned t = absurd (false≢true t)
 sound r w (event.Close ∷ es) n owned t =
     let x = and_parts (list_any is_some w.chosen) _ t in
     let y = and_parts (nat_le (chosen_among w.network.registers w.chosen) n) _ x.1 in
@@ -70,9 +66,7 @@ sound r w (event.Close ∷ es) n owned t =
     let le = leb-true (chosen_among w.network.registers w.chosen) n y.0 in
     let last = rest.1 in
     (and_from _ _ x.0 rest.0, omega (arith, le, last))
-sound r w (event.Fault i regs ∷ es) n owned t = absurd (false≢true t)
-sound r w (event.Link a b ∷ es) n owned t = absurd (false≢true t)
-sound r w (event.Cut a b ∷ es) n owned t = absurd (false≢true t)
+sound r w (_ ∷ es) n owned t = absurd (false≢true t)
 
 -- ---- the triangle with a tail
 

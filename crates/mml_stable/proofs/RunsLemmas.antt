@@ -29,9 +29,7 @@ step_pays w (event.Release node) i k of_step = same_m _ _
 step_pays w event.Close i k of_step =
     let pays = step-weight (configuration w) (chosen_at w.chosen) k.network.lawful k.hold i in
     subst (λ (c : Configuration). change ((configuration w).m i) (c.m i) + weight (c.m i) (is_married c i) ≤ weight_at w i) (sym (closed-step w k.choices)) pays
-step_pays w (event.Fault node registers) i k of_step = absurd (false≢true of_step)
-step_pays w (event.Link a b) i k of_step = absurd (false≢true of_step)
-step_pays w (event.Cut a b) i k of_step = absurd (false≢true of_step)
+step_pays w _ i k of_step = absurd (false≢true of_step)
 
 changes_paid : (r : RosterValue) (i : ℕ) (w : World) (es : List Event) → IsWorld w → is_legal_list r w es ≡ true → list_all is_of_step es ≡ true → changes_of_m i w es ≤ weight_at w i
 changes_paid r i w [] k legal steps = omega arith

@@ -63,9 +63,7 @@ stays_after : (P : Configuration → Type 0) → Stays P → (w : World) (e : Ev
 stays_after P stays w (event.Grant s i rule) k of_step p = p
 stays_after P stays w (event.Release i) k of_step p = p
 stays_after P stays w event.Close k of_step p = subst P (sym (closed-step w k.choices)) (stays (configuration w) (chosen_at w.chosen) k.network.lawful k.hold p)
-stays_after P stays w (event.Fault i registers) k of_step p = absurd (false≢true of_step)
-stays_after P stays w (event.Link a b) k of_step p = absurd (false≢true of_step)
-stays_after P stays w (event.Cut a b) k of_step p = absurd (false≢true of_step)
+stays_after P stays w _ k of_step p = absurd (false≢true of_step)
 
 pub stays_over : (P : Configuration → Type 0) → Stays P → (r : RosterValue) (w : World) (es : List Event) → IsRun r w es → P (configuration w) → P (configuration (world_of w es))
 stays_over P stays r w [] k p = p
@@ -77,16 +75,12 @@ both_stay : (P Q : Configuration → Type 0) (i : ℕ) → Stays P → Brings P 
 both_stay P Q i stays b c chosen l h p = (stays c chosen l h p.0, b.stays c chosen l h p.0 p.1)
 
 moved_after : (P Q : Configuration → Type 0) (i : ℕ) → Brings P Q i → (w : World) (e : Event) → IsWorld w → (is_close e && is_chosen w i) ≡ true → P (configuration w) → Q (configuration (after w e))
-moved_after P Q i b w (event.Grant s j rule) k e p = absurd (false≢true e)
-moved_after P Q i b w (event.Release j) k e p = absurd (false≢true e)
 moved_after P Q i b w event.Close k e p = go (chosen_at w.chosen i) refl e
   where
     go : (o : Option Rule) → chosen_at w.chosen i ≡ o → is_some o ≡ true → Q (configuration (after w event.Close))
     go None f some = absurd (false≢true some)
     go (Some rule) f some = subst Q (sym (closed-step w k.choices)) (b.moves (configuration w) (chosen_at w.chosen) rule k.network.lawful k.hold p f)
-moved_after P Q i b w (event.Fault j registers) k e p = absurd (false≢true e)
-moved_after P Q i b w (event.Link x y) k e p = absurd (false≢true e)
-moved_after P Q i b w (event.Cut x y) k e p = absurd (false≢true e)
+moved_after P Q i b w _ k e p = absurd (false≢true e)
 
 served : (P Q : Configuration → Type 0) (i : ℕ) → Stays P → Brings P Q i → (r : RosterValue) (w : World) (es : List Event) → IsRun r w es → P (configuration w) → is_served i w es ≡ true → Q (configuration (world_of w es))
 served P Q i stays b r w [] k p turn = b.idle (configuration w) k.world.network.lawful p (not-true _ turn)

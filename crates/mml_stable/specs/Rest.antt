@@ -22,11 +22,8 @@ pub record IsOver (r : RosterValue) (w : World) : Type 0 where
 -- a grant or a close
 abbrev pub is_grant_or_close : Event → Bool
 is_grant_or_close (event.Grant s i rule) = true
-is_grant_or_close (event.Release i) = false
 is_grant_or_close event.Close = true
-is_grant_or_close (event.Fault i registers) = false
-is_grant_or_close (event.Link a b) = false
-is_grant_or_close (event.Cut a b) = false
+is_grant_or_close _ = false
 
 -- a legal list of grants and closes, n at the most, after which no node is privileged
 pub record LeadsToRest (r : RosterValue) (w : World) (n : ℕ) (es : List Event) : Type 0 where
