@@ -317,12 +317,3 @@ pub all_written : (before now : List Regs) (chosen left : FinSet nat_cmp) (g : L
     → ((i : ℕ) → registers_at now i ≡ cond (sets.contains left i) (registers_at before i) (cond (sets.contains chosen i) (granted_at g i).effect (registers_at before i)))
     → (i : ℕ) → registers_at now i ≡ cond (sets.contains chosen i) (granted_at g i).effect (registers_at before i)
 all_written before now chosen left g e h i = h i ∙ ap (λ b. cond b (registers_at before i) (cond (sets.contains chosen i) (granted_at g i).effect (registers_at before i))) (ap (λ t. sets.contains t i) e ∙ has_empty i)
-
--- none is left yet
-pub none_written : (before : List Regs) (chosen : FinSet nat_cmp) (g : List Granted) (i : ℕ)
-    → registers_at before i ≡ cond (sets.contains chosen i) (registers_at before i) (cond (sets.contains chosen i) (granted_at g i).effect (registers_at before i))
-none_written before chosen g i = go (sets.contains chosen i)
-  where
-    go : (b : Bool) → registers_at before i ≡ cond b (registers_at before i) (cond b (granted_at g i).effect (registers_at before i))
-    go true = refl
-    go false = refl

@@ -93,13 +93,6 @@ pub all_refreshed : (before now nodes left : FinSet nat_cmp) (test : ℕ → Boo
     → (j : ℕ) → sets.contains now j ≡ cond (sets.contains nodes j) (test j) (sets.contains before j)
 all_refreshed before now nodes left test e h j = h j ∙ ap (λ x. cond x (sets.contains before j) (cond (sets.contains nodes j) (test j) (sets.contains before j))) (ap (λ t. sets.contains t j) e ∙ has_empty j)
 
-pub none_refreshed : (before nodes : FinSet nat_cmp) (test : ℕ → Bool) (j : ℕ) → sets.contains before j ≡ cond (sets.contains nodes j) (sets.contains before j) (cond (sets.contains nodes j) (test j) (sets.contains before j))
-none_refreshed before nodes test j = go (sets.contains nodes j)
-  where
-    go : (b : Bool) → sets.contains before j ≡ cond b (sets.contains before j) (cond b (test j) (sets.contains before j))
-    go true = refl
-    go false = refl
-
 -- the node and its neighbours are looked at
 pub around_refreshed : (c : Configuration) (now next row left left' : FinSet nat_cmp) (a : ℕ) → IsLawful c → ((k : ℕ) → sets.contains row k ≡ c.linked a k) → left' ≡ sets.remove left a
     → ((j : ℕ) → sets.contains next j ≡ cond (sets.contains (sets.insert row a) j) (is_privileged_node c j) (sets.contains now j))

@@ -208,6 +208,3 @@ lab_in-lab raw right = record {
   some_sessions = (within MAX_SESSIONS raw.sessions right.sessions).0;
   few_sessions = (within MAX_SESSIONS raw.sessions right.sessions).1;
 }
-
-pub lab_in-sessions : (raw : RawSpec) → IsFaultless raw → number_of raw.sessions ≤ MAX_SESSIONS
-lab_in-sessions raw right = (within MAX_SESSIONS raw.sessions right.sessions).1

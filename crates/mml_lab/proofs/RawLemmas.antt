@@ -16,9 +16,6 @@ use Rattle.mml_lab.specs.Faults.{id_fault_as}
 use Rattle.mml_lab.specs.Labs.{number_of, file_ids, is_node, node_with, ids_fault}
 use Rattle.mml_ids.proofs.MapLemmas.{list_any-map, find-map, map-map}
 
-pub is_node-read : (nodes : List RawNode) (id : ℤ) → list_any (λ node. int_eq node.id id) nodes ≡ is_node (map node_view nodes) id
-is_node-read nodes id = list_any-map (λ node. int_eq node.id id) node_view nodes
-
 pub file_ids-read : (nodes : List RawNode) → map (λ node. number_of node.id) nodes ≡ file_ids (map node_view nodes)
 file_ids-read nodes = map-map (λ node. number_of node.id) node_view nodes
 

@@ -14,12 +14,6 @@ two_none (a ∷ []) h = refl
 two_none (a ∷ b ∷ []) h = absurd (h (omega arith))
 two_none (a ∷ b ∷ c ∷ vs) h = refl
 
-pub two_some : (vs : List Value) (d e : Value) → length vs ≡ 2 → two_of (items_view vs) ≡ Some (view (get_or vs 0 d), view (get_or vs 1 e))
-two_some [] d e h = absurd (omega arith)
-two_some (a ∷ []) d e h = absurd (omega arith)
-two_some (a ∷ b ∷ []) d e h = refl
-two_some (a ∷ b ∷ c ∷ vs) d e h = absurd (omega arith)
-
 pub table_in-some : (bytes : List ℕ) (t : Members) → IsUtf8 bytes → parse_document bytes ≡ Some t → table_in bytes ≡ Some t
 unfolding table_in
 table_in-some bytes t u e = rw (is_utf8-from_IsUtf8 bytes u) e

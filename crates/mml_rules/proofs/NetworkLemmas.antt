@@ -178,9 +178,6 @@ without_link-lawful n a b w la lb = record {
         flip false true = refl
         flip false false = refl
 
-pub linked_apart : (n : Network) (i j : ℕ) → IsNetwork n → (configuration_of n).linked i j ≡ true → i ≡ j → ⊥
-linked_apart n i j w h e = both_ways _ (w.lawful.no_loop i) (subst (λ x. (configuration_of n).linked i x ≡ true) (sym e) h)
-
 network_is : (m n : Network) → m.neighbours ≡ n.neighbours → m.registers ≡ n.registers → n ≡ m
 network_is m n e f = λ k. record { neighbours = sym e k; registers = sym f k }
 
