@@ -57,7 +57,14 @@ pub(crate) fn check(alloc: Global, raw: RawLab) -> Result<Checked, LabFault>
         neighbours,
         events,
         sessions,
-    } = gather(alloc, &teacher, students, &nodes, &links, events, sessions)?;
+    } = gather(
+        alloc,
+        &teacher,
+        students,
+        &nodes,
+        &links,
+        Bounds { events, sessions },
+    )?;
     Ok(Checked {
         ids,
         teacher,
@@ -79,6 +86,13 @@ struct Found {
     sessions: u8,
 }
 
+/// How many events and connections a file allows.
+#[derive(Clone, Copy)]
+struct Bounds {
+    events: i64,
+    sessions: i64,
+}
+
 /// Goes through the faults with the parts of a file. Its teacher and its nodes stay with the caller.
 #[tactic(auto, unfolding(crate::specs::inside::Checks::checked))]
 fn gather(
@@ -87,12 +101,11 @@ fn gather(
     students: Vec<Account>,
     nodes: &[RawNode],
     links: &[(i64, i64)],
-    events: i64,
-    sessions: i64,
+    bounds: Bounds,
 ) -> Result<Found, LabFault>
     ensures { Gives is_memory (found_view teacher.now nodes.now) result (checked (record {
-      events = events;
-      sessions = sessions;
+      events = bounds.events;
+      sessions = bounds.sessions;
       teacher = account_view teacher.now;
       students = map account_view students.items;
       nodes = map node_view nodes.now;
@@ -102,7 +115,7 @@ fn gather(
     let ids = identify(alloc, nodes)?;
     let students = enrol(alloc, teacher, students)?;
     let neighbours = join(alloc, &ids, &students, nodes, links)?;
-    let (events, sessions) = limits(events, sessions, count(&students))?;
+    let (events, sessions) = limits(bounds.events, bounds.sessions, count(&students))?;
     Ok(Found {
         ids,
         students,
