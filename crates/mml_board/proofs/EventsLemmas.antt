@@ -140,33 +140,26 @@ module _ (w : World) (a b i : ℕ) (la : a < size w) (lb : b < size w) where
       last false y e f = ap (λ v. cond (v && eqb j a) None (Some j)) e ∙ ap (λ v. cond v None (Some j)) f
 
 pub dropped : (w : World) (e : Event) (i : ℕ) → makes_configuration e ≡ true → chosen_at (after w e).chosen i ≡ None
-dropped w (Event.Grant s a r) i h = cc
-dropped w (Event.Release a) i h = cc
 dropped w Event.Close i h = none_at (size w) i
 dropped w (Event.Fault a r) i h = none_at (size w) i
 dropped w (Event.Link a b) i h = none_at (size w) i
 dropped w (Event.Cut a b) i h = none_at (size w) i
+dropped w _ i h = cc
 
 pub same_configuration : (w : World) (e : Event) → makes_configuration e ≡ false → ((after w e).network ≡ w.network) × ((after w e).number ≡ w.number)
-same_configuration w (Event.Grant s a r) h = (refl, refl)
-same_configuration w (Event.Release a) h = (refl, refl)
 same_configuration w Event.Close h = cc
 same_configuration w (Event.Fault a r) h = cc
 same_configuration w (Event.Link a b) h = cc
 same_configuration w (Event.Cut a b) h = cc
+same_configuration w _ h = (refl, refl)
 
 pub next_configuration : (w : World) (e : Event) → makes_configuration e ≡ true → (after w e).number ≡ w.number + 1
-next_configuration w (Event.Grant s a r) h = cc
-next_configuration w (Event.Release a) h = cc
 next_configuration w Event.Close h = refl
 next_configuration w (Event.Fault a r) h = refl
 next_configuration w (Event.Link a b) h = refl
 next_configuration w (Event.Cut a b) h = refl
+next_configuration w _ h = cc
 
 pub next_place : (w : World) (e : Event) → (after w e).place ≡ w.place + 1
-next_place w (Event.Grant s a r) = refl
-next_place w (Event.Release a) = refl
 next_place w Event.Close = refl
-next_place w (Event.Fault a r) = refl
-next_place w (Event.Link a b) = refl
-next_place w (Event.Cut a b) = refl
+next_place w _ = refl
