@@ -1,5 +1,5 @@
--- What a verdict grants is legal, and what it shows is there.
-use Rattle.std.proofs.Common.{◌≡◌, ℕ, ◌<◌, ◌==◌, true, not, ◌||◌, List, length, is_some, is_none, Result, Ok, Err, sym, ap, ◌∙◌, arith}
+-- What a verdict grants is legal, and what it shows is there; acts alone are granted.
+use Rattle.std.proofs.Common.{◌≡◌, ℕ, ◌<◌, ◌==◌, Bool, true, false, not, ◌||◌, List, length, is_some, is_none, Result, Ok, Err, refl, sym, ap, ◌∙◌, arith, subst}
 use Rattle.std.specs.Result.{IfOk}
 use Rattle.std.proofs.lemmas.Bool.{and_from, lt-ltb}
 use Rattle.std.proofs.lemmas.Result.{IfOk-at_ok}
@@ -10,6 +10,7 @@ use Rattle.mml_lab.specs.Rosters.{RosterValue, owns}
 use Rattle.mml_board.specs.declared.event.Event.{Event}
 use Rattle.mml_board.specs.World.{World, size, configuration, chosen_at}
 use Rattle.mml_board.specs.Events.{is_legal, is_node, may_point, is_any_chosen}
+use Rattle.mml_policy.specs.Acts.{is_act}
 use Rattle.mml_policy.specs.declared.command.Command.{Command}
 use Rattle.mml_policy.specs.declared.command.Command.TheVariants as command
 use Rattle.mml_policy.specs.declared.denial.Denial.{Denial}
@@ -50,52 +51,81 @@ node_is ids w i same there = lt-ltb i (size w) (omega (arith, same, there))
 pub owner_is : (r : RosterValue) (x : Who) (s i : ℕ) → x ≡ who.Student s → owns r x i ≡ true → owns r (who.Student s) i ≡ true
 owner_is r x s i e h = ap (λ y. owns r y i) (sym e) ∙ h
 
-module _ (ids : List ℕ) (r : RosterValue) (w : World) (x : Who) (same : length ids ≡ size w) where
-  abbrev good : Leave → Type 0
-  good = IsFine ids r w
+-- an event is given leave to, and nothing to be shown
+abbrev pub is_event : Leave → Bool
+is_event (See i) = false
+is_event (Look i) = false
+is_event Report = false
+is_event (Grant e) = true
 
-  pub fine : (c : Command) → IfOk (clauses ids r w x c) good
-  fine (command.See id) =
-      bind-if good (node ids id Hidden) _ (λ i there.
-      need-if good (is_visible r (configuration w) x i) _ _ (λ _. node_there ids id _ i there))
-  fine (command.Look id) =
-      bind-if good (node ids id NotOwner) _ (λ i there.
-      need-if good (is_teacher x || owns r x i) _ _ (λ _. node_there ids id _ i there))
-  fine (command.Move id a at) =
-      bind-if good (student x NotOwner) _ (λ s is.
-      bind-if good (node ids id NotOwner) _ (λ i there.
-      need-if good (owns r x i) _ _ (λ owner.
-      need-if good (at == w.number) _ _ (λ current.
-      need-if good (is_none (chosen_at w.chosen i)) _ _ (λ free.
-      bind-if good (rule_of ids a Guard) _ (λ q rule.
-      need-if good (guard (configuration w) i q) _ _ (λ g.
-      and_from _ _ (owner_is r x s i (student-ok x _ s is) owner) (and_from _ _ (node_is ids w i same (node_there ids id _ i there)) (and_from _ _ free g)))))))))
-  fine command.Close =
-      need-if good (is_teacher x) _ _ (λ _.
-      need-if good (is_any_chosen w) _ _ (λ some. some))
-  fine (command.Fault id p m) =
-      need-if good (is_teacher x) _ _ (λ _.
-      bind-if good (node ids id NoNode) _ (λ i there.
-      bind-if good (pointer ids p BadRegister) _ (λ q pointed.
-      need-if good (may_point (configuration w) i q) _ _ (λ may.
-      and_from _ _ (node_is ids w i same (node_there ids id _ i there)) may))))
-  fine (command.Link first second) =
-      need-if good (is_teacher x) _ _ (λ _.
-      bind-if good (node ids first NoNode) _ (λ a a_there.
-      bind-if good (node ids second NoNode) _ (λ b b_there.
-      need-if good (not (a == b)) _ _ (λ apart.
-      need-if good (not ((configuration w).linked a b)) _ _ (λ loose.
-      and_from _ _ (and_from _ _ (node_is ids w a same (node_there ids first _ a a_there)) (node_is ids w b same (node_there ids second _ b b_there))) (and_from _ _ apart loose))))))
-  fine (command.Cut first second) =
-      need-if good (is_teacher x) _ _ (λ _.
-      bind-if good (node ids first NoNode) _ (λ a a_there.
-      bind-if good (node ids second NoNode) _ (λ b b_there.
-      need-if good ((configuration w).linked a b) _ _ (λ linked. linked))))
-  fine (command.Release id) =
-      need-if good (is_teacher x) _ _ (λ _.
-      bind-if good (node ids id NoNode) _ (λ i there.
-      need-if good (is_some (chosen_at w.chosen i)) _ _ (λ is. is)))
-  fine command.Report = need-if good (is_teacher x) _ _ (λ _. tt)
+abbrev pub IsEvent : Bool → Leave → Type 0
+IsEvent b l = is_event l ≡ b
 
-  pub granted_legal : (c : Command) (e : Event) → verdict ids r w x c ≡ verdicts.Grant e → is_legal r w e ≡ true
-  granted_legal c e h = IfOk-at_ok good (settled-grant (clauses ids r w x c) e h) (fine c)
+-- an event, or none; and fine, where there are as many identifiers as nodes
+abbrev Good : List ℕ → RosterValue → World → Bool → Leave → Type 0
+Good ids r w b l = IsEvent b l × (length ids ≡ size w → IsFine ids r w l)
+
+both_of : {A E : Type 0} (P Q : A → Type 0) (s : Result A E) → ((a : A) → P a → Q a) → IfOk s P → IfOk s Q
+both_of P Q (Ok a) f h = f a h
+both_of P Q (Err e) f h = tt
+
+module _ (ids : List ℕ) (r : RosterValue) (w : World) (x : Who) where
+  abbrev act : Leave → Type 0
+  act = Good ids r w true
+
+  abbrev view : Leave → Type 0
+  view = Good ids r w false
+
+  good : (c : Command) → IfOk (clauses ids r w x c) (Good ids r w (is_act c))
+  good (command.See id) =
+      bind-if view (node ids id Hidden) _ (λ i there.
+      need-if view (is_visible r (configuration w) x i) _ _ (λ _. (refl, λ same. node_there ids id _ i there)))
+  good (command.Look id) =
+      bind-if view (node ids id NotOwner) _ (λ i there.
+      need-if view (is_teacher x || owns r x i) _ _ (λ _. (refl, λ same. node_there ids id _ i there)))
+  good (command.Move id a at) =
+      bind-if act (student x NotOwner) _ (λ s is.
+      bind-if act (node ids id NotOwner) _ (λ i there.
+      need-if act (owns r x i) _ _ (λ owner.
+      need-if act (at == w.number) _ _ (λ current.
+      need-if act (is_none (chosen_at w.chosen i)) _ _ (λ free.
+      bind-if act (rule_of ids a Guard) _ (λ q rule.
+      need-if act (guard (configuration w) i q) _ _ (λ g.
+      (refl, λ same. and_from _ _ (owner_is r x s i (student-ok x _ s is) owner) (and_from _ _ (node_is ids w i same (node_there ids id _ i there)) (and_from _ _ free g))))))))))
+  good command.Close =
+      need-if act (is_teacher x) _ _ (λ _.
+      need-if act (is_any_chosen w) _ _ (λ some. (refl, λ same. some)))
+  good (command.Fault id p m) =
+      need-if act (is_teacher x) _ _ (λ _.
+      bind-if act (node ids id NoNode) _ (λ i there.
+      bind-if act (pointer ids p BadRegister) _ (λ q pointed.
+      need-if act (may_point (configuration w) i q) _ _ (λ may.
+      (refl, λ same. and_from _ _ (node_is ids w i same (node_there ids id _ i there)) may)))))
+  good (command.Link first second) =
+      need-if act (is_teacher x) _ _ (λ _.
+      bind-if act (node ids first NoNode) _ (λ a a_there.
+      bind-if act (node ids second NoNode) _ (λ b b_there.
+      need-if act (not (a == b)) _ _ (λ apart.
+      need-if act (not ((configuration w).linked a b)) _ _ (λ loose.
+      (refl, λ same. and_from _ _ (and_from _ _ (node_is ids w a same (node_there ids first _ a a_there)) (node_is ids w b same (node_there ids second _ b b_there))) (and_from _ _ apart loose)))))))
+  good (command.Cut first second) =
+      need-if act (is_teacher x) _ _ (λ _.
+      bind-if act (node ids first NoNode) _ (λ a a_there.
+      bind-if act (node ids second NoNode) _ (λ b b_there.
+      need-if act ((configuration w).linked a b) _ _ (λ linked. (refl, λ same. linked)))))
+  good (command.Release id) =
+      need-if act (is_teacher x) _ _ (λ _.
+      bind-if act (node ids id NoNode) _ (λ i there.
+      need-if act (is_some (chosen_at w.chosen i)) _ _ (λ is. (refl, λ same. is))))
+  good command.Report = need-if view (is_teacher x) _ _ (λ _. (refl, λ same. tt))
+
+  -- acts alone are given leave to an event
+  pub of_kind : (c : Command) (b : Bool) → is_act c ≡ b → IfOk (clauses ids r w x c) (IsEvent b)
+  of_kind c b h = subst (λ b. IfOk (clauses ids r w x c) (IsEvent b)) h (both_of (Good ids r w (is_act c)) (IsEvent (is_act c)) (clauses ids r w x c) (λ l k. k.0) (good c))
+
+  module _ (same : length ids ≡ size w) where
+    pub fine : (c : Command) → IfOk (clauses ids r w x c) (IsFine ids r w)
+    fine c = both_of (Good ids r w (is_act c)) (IsFine ids r w) (clauses ids r w x c) (λ l k. k.1 same) (good c)
+
+    pub granted_legal : (c : Command) (e : Event) → verdict ids r w x c ≡ verdicts.Grant e → is_legal r w e ≡ true
+    granted_legal c e h = IfOk-at_ok (IsFine ids r w) (settled-grant (clauses ids r w x c) e h) (fine c)
