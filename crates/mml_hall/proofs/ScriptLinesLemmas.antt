@@ -119,24 +119,3 @@ no_digit line rest n few e other = elim (first_digits line rest n few e) [
   | inl one ↦ absurd (other (omega (arith, one.3)) n one.0 one.1)
   | inr two ↦ let digit : 49 ≡ 48 + 1 = refl in absurd (other (omega (arith, two.3)) 1 (omega arith) (two.1 ∙ digit))
 ]
-
--- the number that the line begins with is that of no connection
-pub none_outside : (sessions found : ℕ) (line : List ℕ) → sessions ≤ 16 → ((n : ℕ) (rest : List ℕ) → 0 < n → n ≤ 16 → line ≡ decimal n ++ 32 ∷ rest → found ≡ n)
-    → (found ≡ 0) ⊎ (sessions < found) → (s : RequestLine) → IsScriptLine sessions s → line ≢ script_line s
-none_outside sessions found line few exact outside s valid e =
-    let same : found ≡ s.connection = exact s.connection s.request valid.some (omega (arith, few, valid.known)) e in
-    omega (arith, outside, same, valid.some, valid.known)
-
--- it is a connection's, and no request of its comes after
-pub none_after : (sessions found : ℕ) (line : List ℕ) → sessions ≤ 16 → ((n : ℕ) (rest : List ℕ) → 0 < n → n ≤ 16 → line ≡ decimal n ++ 32 ∷ rest → found ≡ n)
-    → ((request : List ℕ) → length request ≤ MAX_REQUEST → line ≢ decimal found ++ 32 ∷ request) → (s : RequestLine) → IsScriptLine sessions s → line ≢ script_line s
-none_after sessions found line few exact differs s valid e =
-    let same : found ≡ s.connection = exact s.connection s.request valid.some (omega (arith, few, valid.known)) e in
-    differs s.request valid.request.1 (e ∙ ap (λ n. decimal n ++ 32 ∷ s.request) (sym same))
-
--- what stands before the request
-pub front_of : (line word request : List ℕ) → line ≡ word ++ 32 ∷ request → take (length line - length request) line ≡ word ++ 32 ∷ []
-front_of line word request e =
-    let whole : line ≡ (word ++ 32 ∷ []) ++ request = e ∙ sym (append_assoc word (32 ∷ []) request) in
-    let size : length line - length request ≡ length (word ++ 32 ∷ []) = omega (arith, ap length whole, length-append (word ++ 32 ∷ []) request) in
-    ap (λ n. take n line) size ∙ (ap (take (length (word ++ 32 ∷ []))) whole ∙ take-append_seam (word ++ 32 ∷ []) request)

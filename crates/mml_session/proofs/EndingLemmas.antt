@@ -128,6 +128,3 @@ module _ (lab : LabValue) (old : WindowValue) where
         ),
         knew st so,
       )
-
-pub nothing_done : (lab : LabValue) (old : WindowValue) (input wrote : Option (List ℕ)) → EndedKnown ends.Memory None lab old old input input wrote wrote
-nothing_done lab old input wrote = ((refl, Consumes-nil input, Appends-nil wrote), refl)

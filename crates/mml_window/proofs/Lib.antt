@@ -1,7 +1,6 @@
 pub mod PrefixLemmas
 pub mod ListLemmas
 pub mod RuleLemmas
-pub mod RulingLemmas
 pub mod ClimbingLemmas
 pub mod ViewLemmas
 pub mod ActLemmas

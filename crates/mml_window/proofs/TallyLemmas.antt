@@ -77,9 +77,6 @@ pub at_end : (b : Bool) (ps : List ℕ) (n : ℕ) → leb (length ps) n ≡ b �
 at_end true ps n is = none_behind ps n (leb-true (length ps) n is)
 at_end false ps n is = some_behind ps n (leb-false (length ps) n is)
 
-pub stuck_none : (place : ℕ) → IsStuck place []
-stuck_none place some = absurd (omega (arith, some))
-
 pub stuck_append : (place : ℕ) (xs ys : List ℕ) → IsStuck place xs → IsStuck place ys → IsStuck place (xs ++ ys)
 stuck_append place xs ys f h some = ⊎_elim
     (λ (l : 0 < times place xs). let t = f l in (t.0, t.1, t.2, omega (arith, t.3, times_append t.0 xs ys)))
@@ -167,27 +164,6 @@ pub counted_none : (all left : List ℕ) → left ≡ all → IsCounted 0 all le
 counted_none all left is zero = omega (arith, ap (times 0) is)
 counted_none all left is (suc p) = omega (arith, ap (times (suc p)) is, once_above 0 (suc p) (omega arith))
 
-pub counted_more : (n place : ℕ) (all old new : List ℕ) → place ≡ n + 1 → IsCounted n all old → ((p : ℕ) → times p old ≡ times p (place ∷ []) + times p new) → IsCounted (n + 1) all new
-counted_more n place all old new is counted moved p =
-    let e : times p (place ∷ []) ≡ times p ((n + 1) ∷ []) = ap (λ (q : ℕ). times p (q ∷ [])) is in
-    omega (arith, counted p, moved p, e, once_more n p)
-
-pub counted_all : (n : ℕ) (all left : List ℕ) → IsCounted n all left → left ≡ [] → IsEachOnce n all
-counted_all n all left counted none p = omega (arith, counted p, ap (times p) none)
-
 at_most_once : (n p : ℕ) → once_to n p ≤ 1
 at_most_once n zero = omega arith
 at_most_once n (suc p) = ⊎_elim (λ (l : n < suc p). omega (arith, once_above n (suc p) l)) (λ (l : suc p ≤ n). omega (arith, once_within n (suc p) (omega arith) l)) (less_or_not n (suc p))
-
--- a place stands nowhere, or behind a smaller one that stands twice
-pub not_counted : (n most place : ℕ) (all left : List ℕ) → place ≡ n + 1 → place ≤ most → IsCounted n all left → IsStuck place left → IsEachOnce most all → ⊥
-not_counted n most place all left is le counted stuck each =
-    let one : times place all ≡ 1 = each place ∙ once_within most place (omega (arith, is)) le in
-    let some : 0 < times place left = omega (arith, one, counted place, once_above n place (omega (arith, is))) in
-    let t = stuck some in
-    let again : 1 < times t.0 all = omega (arith, counted t.0, t.3, once_within n t.0 t.1 (omega (arith, t.2, is))) in
-    omega (arith, again, each t.0, at_most_once most t.0)
-
--- more is left than each once
-pub not_at_end : (n p : ℕ) (all left : List ℕ) → IsCounted n all left → 0 < times p left → IsEachOnce n all → ⊥
-not_at_end n p all left counted some each = omega (arith, counted p, some, each p)

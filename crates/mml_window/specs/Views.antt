@@ -32,9 +32,3 @@ Tells shown lab old who command (Ok x) new = Shows shown (ruling_at lab (world_i
 Tells shown lab old who command (Err (fault.Denied d)) new = (ruling_at lab (world_in lab new.seen) who command ≡ Denied d) × SeesOn lab old new
 Tells shown lab old who command (Err fault.Memory) new = Shows shown (ruling_at lab (world_in lab new.seen) who command) (Err fault.Memory) × SeesOn lab old new
 Tells shown lab old who command (Err fault.Closed) new = new ≡ old
-
-abbrev pub TellsSee : LabValue → WindowValue → Who → ℕ → Result See SightFault → WindowValue → Type 0
-TellsSee lab old who node result new = Tells Seen lab old who (command.See node) result new
-
-abbrev pub TellsLook : LabValue → WindowValue → Who → ℕ → Result Look SightFault → WindowValue → Type 0
-TellsLook lab old who node result new = Tells Looked lab old who (command.Look node) result new
