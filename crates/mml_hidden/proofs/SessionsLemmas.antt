@@ -53,11 +53,7 @@ seen_plainly w l Reported = all_of l (length l - 0) (omega arith)
 seen_plainly w l Full = all_of l (length l - 0) (omega arith)
 seen_plainly w l Journal = all_of l (length l - 0) (omega arith)
 seen_plainly w l (Granted e (done.Move node kind)) = but_last l e
-seen_plainly w l (Granted e (done.Close moved)) = but_last l e
-seen_plainly w l (Granted e (done.Fault node dropped)) = but_last l e
-seen_plainly w l (Granted e (done.Link a b dropped)) = but_last l e
-seen_plainly w l (Granted e (done.Cut a b dropped)) = but_last l e
-seen_plainly w l (Granted e (done.Release node)) = but_last l e
+seen_plainly w l (Granted e _) = but_last l e
 
 -- a refusal in the place of a ruling tells what hindered it
 hindered : (g : Ruling) (why : Refused) → MayRefuse g why → IsUnhindered (reply.Refuse why) → ⊥

@@ -51,12 +51,7 @@ no_report ids r w s (command.Move id q at) =
     need-if NoReport (is_none (chosen_at w.chosen i)) _ _ (λ _.
     bind-if NoReport (rule_of ids q Guard) _ (λ rule _.
     need-if NoReport (guard (configuration w) i rule) _ _ (λ _. tt))))))
-no_report ids r w s command.Close = tt
-no_report ids r w s (command.Fault id p m) = tt
-no_report ids r w s (command.Link first second) = tt
-no_report ids r w s (command.Cut first second) = tt
-no_report ids r w s (command.Release id) = tt
-no_report ids r w s command.Report = tt
+no_report ids r w s _ = tt
 
 abbrev is_report : Ruling → Bool
 is_report (Denied d) = false
