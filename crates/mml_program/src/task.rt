@@ -175,17 +175,30 @@ fn serve_file<
     match task.journal {
         Some(path) => {
             let ServeFiles { listener, sink } = serve_files(rt, task, path)?;
-            serve_listener(rt, lab, listener, port, connections, sink)
+            let service = Service {
+                listener,
+                port,
+                connections,
+            };
+            serve_listener(rt, lab, service, sink)
         }
-        None => serve_listener(
-            rt,
-            lab,
-            listen(rt, port)?,
-            port,
-            connections,
-            NullSink::new(),
-        ),
+        None => {
+            let service = Service {
+                listener: listen(rt, port)?,
+                port,
+                connections,
+            };
+            serve_listener(rt, lab, service, NullSink::new())
+        }
     }
+}
+
+// A port that was taken, its number, and how many of the connections that come are served there.
+#[derive(Drop)]
+struct Service {
+    listener: TcpListener,
+    port: u16,
+    connections: u8,
 }
 
 // A port that was taken, and the journal that was begun for its connections.
@@ -223,14 +236,14 @@ fn serve_listener<
         + Print
         + AllocGlobal,
     S: Sink + Send + Drop,
->(rt: &R, lab: Lab, listener: TcpListener, port: u16, connections: u8, sink: S) -> Result<(), Fault>
-    requires some { 0 < connections }
-    requires sessions { connections ≤ lab.sessions }
+>(rt: &R, lab: Lab, service: Service, sink: S) -> Result<(), Fault>
+    requires some { 0 < service.connections }
+    requires sessions { service.connections ≤ lab.sessions }
     requires fresh { IsFresh (S.contents sink) }
     requires countable { S.failures sink < 2 ^ 64 - 1 }
 {
     let mut writer = Retrying::new(io::writer(rt));
-    match serve_lines(rt, lab, listener, port, connections, sink, &mut writer) {
+    match serve_lines(rt, lab, service, sink, &mut writer) {
         Ok(()) => Ok(()),
         Err(fault) => Err(Fault::from(fault).or_memory(writer.lacked_memory)),
     }
@@ -240,18 +253,21 @@ fn serve_listener<
 fn serve_lines<R: Threads + Wait + Sync + AllocGlobal, S: Sink + Send + Drop, W: Write>(
     rt: &R,
     lab: Lab,
-    listener: TcpListener,
-    port: u16,
-    connections: u8,
+    service: Service,
     sink: S,
     writer: &mut W,
 ) -> Result<(), ServeFault>
-    requires some { 0 < connections }
-    requires sessions { connections ≤ lab.sessions }
+    requires some { 0 < service.connections }
+    requires sessions { service.connections ≤ lab.sessions }
     requires fresh { IsFresh (S.contents sink) }
     requires countable { S.failures sink < 2 ^ 64 - 1 }
 {
     let alloc = rt.alloc();
+    let Service {
+        listener,
+        port,
+        connections,
+    } = service;
     write_listening(alloc, port, writer)?;
     serve_on(rt, alloc, lab, listener, connections, sink, &NoGate, writer)
 }
