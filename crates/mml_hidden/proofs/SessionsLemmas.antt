@@ -10,6 +10,7 @@ use Rattle.mml_board.specs.declared.done.Done.TheVariants as done
 use Rattle.mml_board.specs.declared.event.Event.{Event}
 use Rattle.mml_board.specs.World.{World}
 use Rattle.mml_policy.specs.declared.command.Command.{Command}
+use Rattle.mml_policy.specs.declared.refusal.Refusal.{Refusal}
 use Rattle.mml_policy.specs.declared.ruling.Ruling.{Ruling}
 use Rattle.mml_policy.specs.declared.ruling.Ruling.TheVariants.{Denied, Seen, Looked, Reported, Full, Journal, Granted}
 use Rattle.mml_policy.specs.Rulings.{event_of, after_ruling}
@@ -56,12 +57,12 @@ seen_plainly w l (Granted e (done.Move node kind)) = but_last l e
 seen_plainly w l (Granted e _) = but_last l e
 
 -- a refusal in the place of a ruling tells what hindered it
-hindered : (g : Ruling) (why : Refused) → MayRefuse g why → IsUnhindered (reply.Refuse why) → ⊥
-hindered (Looked l) refused.Memory may free = free.0 refl
-hindered Reported refused.Memory may free = free.0 refl
-hindered (Granted e d) refused.Memory may free = free.0 refl
-hindered (Granted e d) refused.Journal may free = free.1 refl
-hindered g why may free = absurd may
+hindered : (g : Ruling) (why : Refused) (kept : Option Refusal) → MayRefuse g why kept → IsUnhindered (reply.Refuse why) → ⊥
+hindered (Looked l) refused.Memory kept may free = free.0 refl
+hindered Reported refused.Memory kept may free = free.0 refl
+hindered (Granted e d) refused.Memory kept may free = free.0 refl
+hindered (Granted e d) refused.Journal kept may free = free.1 refl
+hindered g why kept may free = absurd may
 
 -- the reply is that of the ruling, at the list
 record IsPlain (lab : LabValue) (x : Who) (c : Command) (r : Reply) (new : WindowValue) : Type 0 where
@@ -72,7 +73,7 @@ plain_from : (lab : LabValue) (ps : List ℕ) (l : List Event) (x : Who) (c : Co
 plain_from lab ps l x c r new legal h =
     let g = ruling_at lab (world_in lab l) x c in
     let there : seen_at r new ≡ l =
-    (λ z. seen_at (h.0 z) (h.1 z)) ∙ seen_plainly_at g in
+    (λ z. take (length (h.1.0 z) - length (places_in (h.0 z))) (h.1.0 z)) ∙ seen_plainly_at g in
     record {
       legal = ap (is_legal_in lab) there ∙ legal;
       says = h.0 ∙ ap (λ l. reply_to lab.ids lab.roster lab.events false (world_in lab l) x c) (sym there);
@@ -84,7 +85,7 @@ plain_from lab ps l x c r new legal h =
 plain_told : (lab : LabValue) (old new : WindowValue) (x : Who) (c : Command) (r : Reply) → IsUnhindered r → Told lab old x c r new → IsPlain lab x c r new
 plain_told lab old new x c r free t = elim t.says [
   | inl plain ↦ plain_from lab old.places t.list x c r new t.legal plain
-  | inr why ↦ absurd (hindered (ruling_at lab (world_in lab t.list) x c) why.0 why.2 (subst IsUnhindered why.1 free))
+  | inr why ↦ absurd (hindered (ruling_at lab (world_in lab t.list) x c) why.0 new.refused why.2 (subst IsUnhindered why.1 free))
 ]
 
 -- ---- one line in both

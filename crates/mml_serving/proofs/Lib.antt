@@ -1,3 +1,4 @@
 pub mod NumbersLemmas
 pub mod ArrivingLemmas
 mod ServingLemmas
+mod EndingsLemmas

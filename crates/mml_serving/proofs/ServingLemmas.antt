@@ -1,13 +1,13 @@
 -- Connections that came and were served, one more at a time.
-use Rattle.std.proofs.Common.{◌≡◌, ℕ, ◌+◌, List, [], ◌∷◌, ◌++◌, map, length, arith, refl, Option, IfOk, Result, Ok, Err}
+use Rattle.std.proofs.Common.{◌≡◌, ◌≤◌, ℕ, ◌+◌, List, [], ◌∷◌, ◌++◌, All, ap, drop, map, length, length-append, length-drop, arith, refl, subst, sym, Option, IfOk, Result, Ok, Err}
 use Rattle.std.proofs.lemmas.List.{map-append, length-map}
+use Rattle.std.proofs.lemmas.List.Elements.{All-drop}
 use Rattle.mml_lab.specs.Labs.{LabValue}
-use Rattle.mml_window.specs.Windows.{WindowValue}
-use Rattle.mml_session.specs.declared.each.Connection.{Connection}
-use Rattle.mml_session.specs.declared.house.EndedSession.{EndedSession}
-use Rattle.mml_session.specs.Houses.{Each, IsServed}
+use Rattle.mml_window.specs.Windows.{WindowValue, window}
+use Rattle.mml_serving.specs.declared.connection.Connection.{Connection}
+use Rattle.mml_serving.specs.declared.connection.EndedSession.{EndedSession}
 use Rattle.mml_serving.specs.Arriving.{Takes}
-use Rattle.mml_serving.specs.Serving.{Numbered, ServesAll, ends}
+use Rattle.mml_serving.specs.Serving.{Each, IsServed, Numbered, ServesAll, ServesWindows, ends}
 use Rattle.mml_serving.proofs.ArrivingLemmas.{Takes-trans}
 
 numbered_more : {R W : Type 0} (n : ℕ) (cs : List (Connection R W)) (c : Connection R W) → Numbered n cs → c.number ≡ n + length cs → Numbered n (cs ++ c ∷ [])
@@ -54,3 +54,19 @@ each_long P [] [] (c ∷ ws) h = absurd h
 each_long P [] (b ∷ vs) ws h = absurd h
 each_long P (a ∷ us) [] ws h = absurd h
 each_long P (a ∷ us) (b ∷ vs) [] h = absurd h
+
+-- so many windows were used, and the others stayed as they were
+pub serves_windows : {R W : Type 0} (lab : LabValue) (remaining : R → Option (List ℕ)) (contents : W → Option (List ℕ)) (to_come : Option (List (R × W))) (count : ℕ)
+    (sessions : List (EndedSession R W)) (used unused fresh : List WindowValue) (n : ℕ) → ServesAll lab remaining contents to_come count sessions used → n ≡ count → unused ≡ drop n fresh
+    → length fresh ≡ lab.sessions → count ≤ lab.sessions → All (λ w. w ≡ window [] []) fresh → ServesWindows lab remaining contents to_come count sessions (used ++ unused)
+serves_windows lab remaining contents to_come count sessions used unused fresh n each so_many rest whole few idle = record {
+  used = used;
+  unused = unused;
+  parts = refl;
+  all =
+      let served : length used ≡ length each.connections = each_long (IsServed lab remaining contents) each.connections sessions used each.served in
+      let left : length unused ≡ length (drop n fresh) = ap (λ (ws : List WindowValue). length ws) rest in
+      omega (arith, served, each.all, few, left, length-drop n fresh, whole, so_many, length-append used unused);
+  idle = subst (λ (ws : List WindowValue). All (λ w. w ≡ window [] []) ws) (sym rest) (All-drop (λ w. w ≡ window [] []) n fresh idle);
+  each = each;
+}

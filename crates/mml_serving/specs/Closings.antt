@@ -1,10 +1,12 @@
 -- What a server tells at its beginning and at its end.
-use Rattle.std.specs.Prelude.{◌≡◌, ℕ, true, List, [], ◌∷◌, length, codes, decimal, Option}
+use Rattle.std.specs.Prelude.{◌≡◌, ◌<◌, ℕ, Bool, true, false, List, [], ◌∷◌, length, take, codes, decimal, Option}
 use Rattle.std.specs.List.{concat}
 use Rattle.std.specs.Io.KnownBytes.{Appends}
 use Rattle.mml_lab.specs.Labs.{LabValue}
 use Rattle.mml_board.specs.declared.event.Event.{Event}
 use Rattle.mml_window.specs.Lists.{is_legal_in, world_in}
+use Rattle.mml_serving.specs.declared.serving.ServeFault.{ServeFault}
+use Rattle.mml_serving.specs.declared.serving.ServeFault.TheVariants as fault
 
 abbrev pub listening_line : ℕ → List ℕ
 listening_line port = concat (codes "listening on port " ∷ decimal port ∷ codes "\n" ∷ [])
@@ -15,3 +17,16 @@ done_line events number = concat (codes "done: " ∷ decimal events ∷ codes " 
 -- how many events a legal list of the lab has, and the number that it leads to
 abbrev pub Closes : LabValue → Option (List ℕ) → Option (List ℕ) → Type 0
 Closes lab wrote wrote' = (l : List Event) × (is_legal_in lab l ≡ true) × Appends wrote wrote' (done_line (length l) (world_in lab l).number)
+
+-- nothing of a text was written, for want of memory, or a front of it, where the writer failed
+abbrev pub IsCutShort : Option (List ℕ) → Option (List ℕ) → List ℕ → ServeFault → Type 0
+IsCutShort wrote wrote' text fault.Memory = Appends wrote wrote' []
+IsCutShort wrote wrote' text fault.Write = (n : ℕ) × (n < length text) × Appends wrote wrote' (take n text)
+IsCutShort wrote wrote' text _ = ⊥
+
+-- the last line was cut short; where the journal is halted nothing of it is written
+abbrev pub LacksLastLine : Bool → Option (List ℕ) → Option (List ℕ) → List ℕ → ServeFault → Type 0
+LacksLastLine halted wrote wrote' line fault.Halted = (halted ≡ true) × Appends wrote wrote' []
+LacksLastLine halted wrote wrote' line fault.Memory = (halted ≡ false) × IsCutShort wrote wrote' line fault.Memory
+LacksLastLine halted wrote wrote' line fault.Write = (halted ≡ false) × IsCutShort wrote wrote' line fault.Write
+LacksLastLine halted wrote wrote' line _ = ⊥

@@ -1,4 +1,5 @@
 pub mod Arriving
 pub mod Closings
+pub mod Endings
 pub mod Numbers
 pub mod Serving

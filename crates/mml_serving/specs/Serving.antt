@@ -4,13 +4,28 @@ use Rattle.mml_lab.specs.Labs.{LabValue}
 use Rattle.mml_window.specs.declared.log.Log.{Log}
 use Rattle.mml_window.specs.Logs.{IsLog}
 use Rattle.mml_window.specs.Windows.{WindowValue, window}
-use Rattle.mml_session.specs.declared.each.Connection.{Connection}
-use Rattle.mml_session.specs.declared.house.EndedSession.{EndedSession}
 use Rattle.mml_session.specs.declared.session.SessionEnd.{SessionEnd}
 use Rattle.mml_session.specs.declared.session.SessionEnd.TheVariants as end
-use Rattle.mml_session.specs.Houses.{Each, IsServed}
+use Rattle.mml_session.specs.Ends.{Ended}
+use Rattle.mml_serving.specs.declared.connection.Connection.{Connection}
+use Rattle.mml_serving.specs.declared.connection.EndedSession.{EndedSession}
 use Rattle.mml_serving.specs.declared.socket.Socket.{Socket}
 use Rattle.mml_serving.specs.Arriving.{Takes}
+
+-- the lists are as long, and it holds of those that stand at one place
+abbrev pub Each : {A B C : Type 0} → (A → B → C → Type 0) → List A → List B → List C → Type 0
+Each P [] [] [] = Unit {0}
+Each P (x ∷ xs) (y ∷ ys) (z ∷ zs) = P x y z × Each P xs ys zs
+Each P [] [] (z ∷ zs) = ⊥
+Each P [] (y ∷ ys) zs = ⊥
+Each P (x ∷ xs) [] zs = ⊥
+Each P (x ∷ xs) (y ∷ ys) [] = ⊥
+
+-- the connection was served to an end through a window that had seen nothing
+abbrev pub IsServed : {R W : Type 0} → LabValue → (R → Option (List ℕ)) → (W → Option (List ℕ)) → Connection R W → EndedSession R W → WindowValue → Type 0
+IsServed lab remaining contents c s w =
+    (s.connection.number ≡ c.number)
+    × Ended s.end lab (window [] []) w (remaining c.reader) (remaining s.connection.reader) (contents c.writer) (contents s.connection.writer)
 
 -- a connection without its number
 abbrev pub ends : {R W : Type 0} → Connection R W → R × W
@@ -31,15 +46,24 @@ pub record ServesAll {R W : Type 0} (lab : LabValue) (remaining : R → Option (
   pub numbered : Numbered 1 connections
   pub served : Each (IsServed lab remaining contents) connections sessions windows
 
--- and the house through whose windows they were served left the log, beside windows that had seen nothing and served nobody: the
--- lab's legal list of events, of which each window has seen a beginning, and whose places are those that all windows were told, each once
+-- they were served through windows of the house; with those through which nobody was served, and which have seen nothing, these are
+-- all: as many as the lab has sessions
+pub record ServesWindows {R W : Type 0} (lab : LabValue) (remaining : R → Option (List ℕ)) (contents : W → Option (List ℕ)) (to_come : Option (List (R × W))) (count : ℕ)
+    (sessions : List (EndedSession R W)) (windows : List WindowValue) : Type 0 where
+  pub used : List WindowValue
+  pub unused : List WindowValue
+  pub parts : windows ≡ used ++ unused
+  pub all : length windows ≡ lab.sessions
+  pub idle : All (λ w. w ≡ window [] []) unused
+  pub each : ServesAll lab remaining contents to_come count sessions used
+
+-- and the house left the log: the lab's legal list of events, of which each window has seen a beginning, and whose places are those
+-- that all windows were told, each once
 pub record ServesHouse {S R W : Type 0} (lab : LabValue) (sink : S → Option (List ℕ)) (remaining : R → Option (List ℕ)) (contents : W → Option (List ℕ))
     (to_come : Option (List (R × W))) (count : ℕ) (sessions : List (EndedSession R W)) (log : Log S) : Type 0 where
   pub windows : List WindowValue
-  pub unused : List WindowValue
-  pub idle : All (λ w. w ≡ window [] []) unused
-  pub kept : IsLog lab sink (windows ++ unused) log
-  pub each : ServesAll lab remaining contents to_come count sessions windows
+  pub serves : ServesWindows lab remaining contents to_come count sessions windows
+  pub kept : IsLog lab sink windows log
 
 abbrev pub is_for_memory : SessionEnd → Bool
 is_for_memory end.Memory = true

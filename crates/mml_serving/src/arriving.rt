@@ -1,11 +1,14 @@
 //! Where connections come from, and how they are let go.
-ghost use Rattle.std.specs.Prelude.{◌≡◌, List, [], ◌∷◌, None, Option, MatchResult};
+ghost use Rattle.std.specs.Prelude.{◌≡◌, List, [], ◌∷◌, None, Option, Some, MatchResult};
+ghost use Rattle.std.specs.Vec.Iter.{into_iter_items};
 ghost use Rattle.mml_serving.specs.Arriving.{Takes};
 
 use crate::socket::Socket;
+use std::collections::VecDeque;
 use std::io;
-use std::io::{Read, Write};
+use std::io::{ErrorKind, Read, Write};
 use std::net::TcpListener;
+use std::vec::IntoIter;
 
 /// What gives connections as they come, each as its two ends.
 pub trait Arrivals<R: Read + Drop, W: Write + Drop> {
@@ -41,4 +44,31 @@ impl Arrivals<Socket, Socket> for TcpListener {
         let writer = Socket::new(stream.try_clone()?);
         Ok((Socket::new(stream), writer))
     }
+}
+
+/// Connections that have come already, in their order.
+impl<R: Read + Drop, W: Write + Drop> Arrivals<R, W> for IntoIter<(R, W)> {
+    ghost to_come = { λ ends. Some (into_iter_items ends) };
+
+    fn accept_next(&mut self) -> io::Result<(R, W)>
+        ensures { MatchResult result
+            (λ ends. Takes (Some (into_iter_items self.old)) (Some (into_iter_items self.new))
+            (ends ∷ []))
+            (λ _. Takes (Some (into_iter_items self.old)) (Some (into_iter_items self.new)) []) }
+    {
+        match self.next() {
+            Some(ends) => Ok(ends),
+            None => Err(io::Error::from(ErrorKind::NotConnected)),
+        }
+    }
+}
+
+/// Bytes in memory.
+impl LetGo for VecDeque<u8> {
+    fn let_go(&mut self) {}
+}
+
+/// Bytes in memory.
+impl HangUp for Vec<u8> {
+    fn hang_up(&mut self) {}
 }

@@ -2,14 +2,13 @@
 ghost use Rattle.std.specs.Prelude.{◌≡◌, ◌≢◌, ◌<◌, ◌≤◌, ◌+◌, [], ◌∷◌, All, IfOk, OnOk, length, map};
 ghost use Rattle.std.specs.Thread.{IsSync, IsSend};
 ghost use Rattle.mml_window.specs.Windows.{window};
-ghost use Rattle.mml_session.specs.Houses.{Each, IsServed};
 ghost use Rattle.mml_serving.specs.Arriving.{Takes};
-ghost use Rattle.mml_serving.specs.Serving.{ServesAll, ends};
+ghost use Rattle.mml_serving.specs.Serving.{Each, IsServed, ServesAll, ends};
 
 use crate::arriving::{Arrivals, HangUp, LetGo};
-use crate::serving::ServeFault;
+use crate::connection::{Connection, EndedSession};
 use mml_journal::Sink;
-use mml_session::{Connection, EndedSession, Gate, Seat, Served, serve_seat};
+use mml_session::{Gate, serve_one};
 use mml_window::{Desk, House, Window};
 use std::alloc::Global;
 use std::io::{ErrorKind, Read, Write};
@@ -17,6 +16,22 @@ use std::snapshot::Snapshot;
 use std::sync::Wait;
 use std::thread;
 use std::thread::{Promise, PromisedHandle, Threads};
+
+/// Why no more connections were served.
+#[derive(Clone, Copy)]
+pub(crate) enum SeatingFault {
+    /// A growth was refused, or no thread could be made.
+    Memory,
+    /// A connection couldn't be accepted.
+    Accept,
+}
+
+// A connection, and the window through which it is to be served.
+#[derive(Drop)]
+struct Seat<H: House, R: Drop, W: Drop> {
+    window: Window<H>,
+    connection: Connection<R, W>,
+}
 
 /// Serves so many connections, and gives back their windows and how their sessions ended, in the order
 /// in which they came. All threads have ended when it returns, after a fault too.
@@ -36,7 +51,7 @@ pub(crate) fn serve_all<
     arrivals: A,
     connections: u8,
     gate: &G,
-) -> Result<(Vec<Window<H>>, Vec<EndedSession<R, W>>), ServeFault>
+) -> Result<(Vec<Window<H>>, Vec<EndedSession<R, W>>), SeatingFault>
     requires fresh { All (λ w. w ≡ window [] []) windows.items }
     requires few { connections ≤ length windows.items }
     ensures { IfOk result (λ parts. ServesAll H.lab R.remaining W.contents
@@ -45,7 +60,7 @@ pub(crate) fn serve_all<
     thread::scope(
         thread::scope_env(),
         rt,
-        |scope| -> Result<(Vec<Window<H>>, Vec<EndedSession<R, W>>), ServeFault>
+        |scope| -> Result<(Vec<Window<H>>, Vec<EndedSession<R, W>>), SeatingFault>
             requires { IsSync Rt.row × IsSync G.row × IsSend S.row × IsSend H.row × IsSync H.row
                 × IsSend R.row × IsSend W.row × All (λ w. w ≡ window [] []) windows.items
                 × (connections ≤ length windows.items) }
@@ -55,7 +70,7 @@ pub(crate) fn serve_all<
             let mut arrivals = arrivals;
             let mut windows = windows;
             let Ok(mut handles) = Vec::with_capacity(alloc, usize::from(connections)) else {
-                return Err(ServeFault::Memory);
+                return Err(SeatingFault::Memory);
             };
             for index in 0..connections {
                 let seat = next_seat(&mut arrivals, &mut windows, index + 1)?;
@@ -69,7 +84,7 @@ pub(crate) fn serve_all<
                     { serve_apart(rt, alloc, desk, seat, gate) },
                 ) {
                     Ok(handle) => handles.push_reserved(handle),
-                    Err(_) => return Err(ServeFault::Memory),
+                    Err(_) => return Err(SeatingFault::Memory),
                 }
             }
             // Who comes after the last one is turned away at once.
@@ -85,7 +100,7 @@ struct Pledge<R: Drop, W: Drop>(Snapshot<Connection<R, W>>);
 
 impl<H: House, R: Read + Drop, W: Write + Drop> Promise<(Window<H>, EndedSession<R, W>)>
     for Pledge<R, W> {
-    ghost use Rattle.mml_session.specs.Houses.{IsServed};
+    ghost use Rattle.mml_serving.specs.Serving.{IsServed};
 
     ghost kept_by = { λ pledge t. IsServed H.lab R.remaining W.contents pledge.0.value t.1 t.0 };
 }
@@ -95,7 +110,7 @@ fn next_seat<H: House, R: Read + Drop, W: Write + Drop, A: Arrivals<R, W>>(
     arrivals: &mut A,
     windows: &mut Vec<Window<H>>,
     number: u8,
-) -> Result<Seat<H, R, W>, ServeFault>
+) -> Result<Seat<H, R, W>, SeatingFault>
     requires fresh { All (λ w. w ≡ window [] []) windows.old.items }
     requires some { 0 < length windows.old.items }
     ensures taken { IfOk result (λ seat. Takes (A.to_come arrivals.old) (A.to_come arrivals.new)
@@ -122,7 +137,7 @@ fn next_seat<H: House, R: Read + Drop, W: Write + Drop, A: Arrivals<R, W>>(
 // The two ends of the next connection.
 fn accept<R: Read + Drop, W: Write + Drop, A: Arrivals<R, W>>(
     arrivals: &mut A,
-) -> Result<(R, W), ServeFault>
+) -> Result<(R, W), SeatingFault>
     ensures { IfOk result (λ taken.
         Takes (A.to_come arrivals.old) (A.to_come arrivals.new) (taken ∷ [])) }
 {
@@ -133,13 +148,13 @@ fn accept<R: Read + Drop, W: Write + Drop, A: Arrivals<R, W>>(
 }
 
 // Want of memory where the kind says so.
-fn accept_fault(kind: ErrorKind) -> ServeFault
-    ensures memory { kind ≡ ErrorKind.OutOfMemory → result ≡ ServeFault.Memory }
-    ensures other { kind ≢ ErrorKind.OutOfMemory → result ≡ ServeFault.Accept }
+fn accept_fault(kind: ErrorKind) -> SeatingFault
+    ensures memory { kind ≡ ErrorKind.OutOfMemory → result ≡ SeatingFault.Memory }
+    ensures other { kind ≢ ErrorKind.OutOfMemory → result ≡ SeatingFault.Accept }
 {
     match kind {
-        ErrorKind::OutOfMemory => ServeFault::Memory,
-        _ => ServeFault::Accept,
+        ErrorKind::OutOfMemory => SeatingFault::Memory,
+        _ => SeatingFault::Accept,
     }
 }
 
@@ -155,11 +170,32 @@ fn serve_apart<Rt: Wait, S: Sink + Drop, H: House, R: LetGo + Drop, W: HangUp + 
     requires fresh { seat.window ≡ window [] [] }
     ensures served { IsServed H.lab R.remaining W.contents seat.connection result.1 result.0 }
 {
-    let Served { seat, end } = serve_seat(rt, alloc, desk, seat, gate);
-    let Seat { window, connection } = seat;
-    let mut connection = connection;
-    connection.writer.hang_up();
-    connection.reader.let_go();
+    let Seat {
+        mut window,
+        connection,
+    } = seat;
+    let Connection {
+        number,
+        mut reader,
+        mut writer,
+    } = connection;
+    let end = serve_one(
+        rt,
+        alloc,
+        desk,
+        &mut window,
+        &mut reader,
+        &mut writer,
+        gate,
+        number,
+    );
+    writer.hang_up();
+    reader.let_go();
+    let connection = Connection {
+        number,
+        reader,
+        writer,
+    };
     (window, EndedSession { end, connection })
 }
 
@@ -168,15 +204,15 @@ fn join_all<Rt: Threads, H: House, R: Read + Drop, W: Write + Drop>(
     rt: &Rt,
     alloc: Global,
     handles: Vec<PromisedHandle<(Window<H>, EndedSession<R, W>), Pledge<R, W>>>,
-) -> Result<(Vec<Window<H>>, Vec<EndedSession<R, W>>), ServeFault>
+) -> Result<(Vec<Window<H>>, Vec<EndedSession<R, W>>), SeatingFault>
     ensures { IfOk result (λ parts. Each (IsServed H.lab R.remaining W.contents)
         (map (λ h. h.promise.0.value) handles.items) parts.1.items parts.0.items) }
 {
     let Ok(mut windows) = Vec::with_capacity(alloc, handles.len()) else {
-        return Err(ServeFault::Memory);
+        return Err(SeatingFault::Memory);
     };
     let Ok(mut sessions) = Vec::with_capacity(alloc, handles.len()) else {
-        return Err(ServeFault::Memory);
+        return Err(SeatingFault::Memory);
     };
     for handle in handles {
         let (window, session) = handle.join(rt);

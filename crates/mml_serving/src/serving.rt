@@ -1,5 +1,5 @@
 //! A server from the opening of its house to its last line.
-ghost use Rattle.std.specs.Prelude.{◌≡◌, ◌<◌, ◌≤◌, ◌+◌, ◌-◌, ◌^◌, ◌++◌, Err, false, length, IfOk, OnOk};
+ghost use Rattle.std.specs.Prelude.{◌≡◌, ◌<◌, ◌≤◌, ◌+◌, ◌-◌, ◌^◌, ◌++◌, Err, false, length, IfOk, IfErr, OnOk};
 ghost use Rattle.std.specs.List.{list_all};
 ghost use Rattle.std.specs.Io.KnownBytes.{Appends};
 ghost use Rattle.mml_ids.specs.Pieces.{joined};
@@ -7,23 +7,33 @@ ghost use Rattle.mml_journal.specs.Taken.{IsFresh};
 ghost use Rattle.mml_window.specs.Houses.{house_of};
 ghost use Rattle.mml_window.specs.Lists.{world_in};
 ghost use Rattle.mml_window.specs.Logs.{IsLog};
-ghost use Rattle.mml_serving.specs.Closings.{Closes, done_line, listening_line};
+ghost use Rattle.mml_serving.specs.Closings.{Closes, IsCutShort, LacksLastLine, done_line, listening_line};
+ghost use Rattle.mml_serving.specs.Endings.{EndsBadly, EndsEarly, EndsWithout};
 ghost use Rattle.mml_serving.specs.Serving.{ServesHouse, had_memory};
 
 use crate::arriving::{Arrivals, HangUp, LetGo};
-use crate::seating::serve_all;
+use crate::connection::EndedSession;
+use crate::seating::{SeatingFault, serve_all};
 use crate::socket::Socket;
 use mml_ids::{Piece, put};
 use mml_journal::Sink;
 use mml_lab::Lab;
 use mml_lines::put_all;
-use mml_session::{EndedSession, Gate, ServedHouse, SessionEnd};
+use mml_session::{Gate, SessionEnd};
 use mml_window::{Blank, Brand, Desk, House, HouseFault, Log, Window, open_house};
 use std::alloc::Global;
 use std::io::Write;
 use std::net::TcpListener;
 use std::sync::Wait;
 use std::thread::Threads;
+
+/// What is left of a house whose sessions have all ended.
+#[derive(Drop)]
+pub struct ServedHouse<S: Drop, R: Drop, W: Drop> {
+    pub log: Log<S>,
+    /// In the order in which the connections came.
+    pub sessions: Vec<EndedSession<R, W>>,
+}
 
 /// Why connections weren't served to a good end.
 #[derive(Clone, Copy, Debug, PartialEq, Eq)]
@@ -117,15 +127,23 @@ pub fn serve_arrivals<
     ensures unhalted { IfOk result (λ house. house.log.halted ≡ false) }
     ensures last { IfOk result (λ house. Appends (O.contents writer.old) (O.contents writer.new)
         (done_line (length house.log.events) (world_in lab house.log.events).number)) }
+    ensures badly { IfErr result (EndsBadly lab S.contents R.remaining W.contents
+        (A.to_come arrivals) connections (O.contents writer.old) (O.contents writer.new)) }
 {
     let blank = match open_house(rt, alloc, lab, sink) {
         Ok(blank) => blank,
         Err(HouseFault::Memory) => return Err(ServeFault::Memory),
         Err(HouseFault::Place) => return Err(ServeFault::Place),
     };
-    let house = in_house::<Brand, _, _, _, _, _, _>(rt, alloc, blank, arrivals, connections, gate)?;
-    write_last(alloc, &house.log, writer)?;
-    Ok(house)
+    let served = in_house::<Brand, _, _, _, _, _, _>(rt, alloc, blank, arrivals, connections, gate);
+    let house = match served {
+        Ok(house) => house,
+        Err(fault) => return Err(fault),
+    };
+    match write_last(alloc, &house.log, writer) {
+        Ok(()) => Ok(house),
+        Err(fault) => Err(fault),
+    }
 }
 
 // Serves the connections in the house that H names.
@@ -147,8 +165,10 @@ fn in_house<
 ) -> Result<ServedHouse<S, R, W>, ServeFault>
     requires named { blank ≡ house_of H.name H.lab }
     requires few { connections ≤ H.lab.sessions }
-    ensures { IfOk result (λ house. ServesHouse H.lab S.contents R.remaining W.contents
+    ensures served { IfOk result (λ house. ServesHouse H.lab S.contents R.remaining W.contents
         (A.to_come arrivals) connections house.sessions.items house.log) }
+    ensures early { IfErr result
+        (EndsEarly H.lab R.remaining W.contents (A.to_come arrivals) connections) }
 {
     let Ok((desk, mut windows)) = blank.start::<H>(alloc) else {
         return Err(ServeFault::Memory);
@@ -161,7 +181,8 @@ fn in_house<
             Ok(log) => Ok(ServedHouse { log, sessions }),
             Err(fault) => Err(fault),
         },
-        Err(fault) => end_for(fault, rt, alloc, desk),
+        Err(SeatingFault::Memory) => end_for(ServeFault::Memory, rt, alloc, desk),
+        Err(SeatingFault::Accept) => end_for(ServeFault::Accept, rt, alloc, desk),
     }
 }
 
@@ -187,7 +208,8 @@ fn end_house<Rt: Wait, S: Sink + Drop, H: House>(
     unused: Vec<Window<H>>,
 ) -> Result<Log<S>, ServeFault>
     requires few { length windows.items + length unused.items ≤ H.lab.sessions }
-    ensures { IfOk result (IsLog H.lab S.contents (windows.items ++ unused.items)) }
+    ensures log { IfOk result (IsLog H.lab S.contents (windows.items ++ unused.items)) }
+    ensures without { IfErr result (EndsWithout H.lab (windows.items ++ unused.items)) }
 {
     let mut windows = windows;
     let mut unused = unused;
@@ -222,6 +244,8 @@ pub fn write_last<S, W: Write>(
     ensures unhalted { OnOk result (log.now.halted ≡ false) }
     ensures told { OnOk result (Appends (W.contents writer.old) (W.contents writer.new)
         (done_line (length log.now.events) log.now.board.number)) }
+    ensures lacking { IfErr result (LacksLastLine log.now.halted (W.contents writer.old)
+        (W.contents writer.new) (done_line (length log.now.events) log.now.board.number)) }
 {
     if log.halted {
         return Err(ServeFault::Halted);
@@ -237,8 +261,10 @@ fn write_done<W: Write>(
     number: u64,
     writer: &mut W,
 ) -> Result<(), ServeFault>
-    ensures { OnOk result
+    ensures told { OnOk result
         (Appends (W.contents writer.old) (W.contents writer.new) (done_line events number)) }
+    ensures cut { IfErr result
+        (IsCutShort (W.contents writer.old) (W.contents writer.new) (done_line events number)) }
 {
     let pieces = [
         Piece::Text("done: "),
@@ -252,8 +278,10 @@ fn write_done<W: Write>(
 
 // Writes a text in one go.
 fn write_pieces<W: Write>(alloc: Global, pieces: &[Piece], writer: &mut W) -> Result<(), ServeFault>
-    ensures { OnOk result
+    ensures told { OnOk result
         (Appends (W.contents writer.old) (W.contents writer.new) (joined pieces.now)) }
+    ensures cut { IfErr result
+        (IsCutShort (W.contents writer.old) (W.contents writer.new) (joined pieces.now)) }
 {
     let mut text = Vec::new(alloc);
     if put(&mut text, pieces).is_err() {

@@ -5,4 +5,3 @@ pub mod LongerLemmas
 pub mod EndingLemmas
 pub mod ServingLemmas
 pub mod TalkLemmas
-pub mod HouseLemmas

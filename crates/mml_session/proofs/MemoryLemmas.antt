@@ -21,7 +21,7 @@ use Rattle.mml_codec.specs.Replies.{is_short, TellsFor}
 use Rattle.mml_codec.specs.Rulings.{reply_of, reply_of_done}
 use Rattle.mml_codec.proofs.RulingsLemmas.{short_done}
 use Rattle.mml_window.specs.Lists.{world_in, ruling_at}
-use Rattle.mml_window.specs.Windows.{WindowValue, window}
+use Rattle.mml_window.specs.Windows.{WindowValue, HasSeen}
 use Rattle.mml_session.specs.Turns.{Standing, entered, places_in, MayRefuse, Plainly, Refuses, Told, Settles, Asked, Turn}
 use Rattle.mml_session.proofs.GreetingLemmas.{IsPlain, plain_greeting}
 
@@ -29,11 +29,11 @@ long_not_short : {P : Type 0} (r q : Reply) → is_short r ≡ false → r ≡ q
 long_not_short r q long same short = absurd (true≢false (sym short ∙ (ap is_short (sym same) ∙ long)))
 
 -- what isn't short shows a list, and names no place
-stays : (l : List Event) (ps : List ℕ) (r q : Reply) (new : WindowValue) → new ≡ window l (ps ++ places_in r) → r ≡ q → places_in q ≡ [] → new ≡ window l ps
-stays l ps r q new at same none = at ∙ ap (λ xs. window l xs) (ap (λ (x : Reply). ps ++ places_in x) same ∙ (ap (λ xs. ps ++ xs) none ∙ append-nil ps))
+stays : (l : List Event) (ps : List ℕ) (r q : Reply) (new : WindowValue) → HasSeen l (ps ++ places_in r) new → r ≡ q → places_in q ≡ [] → HasSeen l ps new
+stays l ps r q new at same none = (at.0, at.1 ∙ (ap (λ (x : Reply). ps ++ places_in x) same ∙ (ap (λ xs. ps ++ xs) none ∙ append-nil ps)))
 
 long_refused : (w : World) (l : List Event) (ps : List ℕ) (r : Reply) (new : WindowValue) (ruled : Ruling) → is_short r ≡ false
-    → r ≡ reply_of (after_ruling w ruled) ruled → new ≡ window (entered l (event_of ruled)) (ps ++ places_in r) → MayRefuse ruled refused.Memory × (new ≡ window l ps)
+    → r ≡ reply_of (after_ruling w ruled) ruled → HasSeen (entered l (event_of ruled)) (ps ++ places_in r) new → MayRefuse ruled refused.Memory new.refused × HasSeen l ps new
 long_refused w l ps r new (Denied d) long same at = long_not_short r (replies.Deny d) long same refl
 long_refused w l ps r new (Seen s) long same at = long_not_short r (replies.See s) long same refl
 long_refused w l ps r new (Looked k) long same at = (tt, stays l ps r (replies.Look k) new at same refl)

@@ -47,12 +47,12 @@ module _ (lab : LabValue) where
     where
       on : Plainly lab t.list old.places (ruling_at lab (world_in lab t.list) who c) r new ⊎ Refuses t.list old.places (ruling_at lab (world_in lab t.list) who c) r new → WentOn old new r
       on (inl p) = record {
-        places = ap (λ (w : WindowValue). w.places) p.1;
-        seen = subst (λ (w : WindowValue). IsPrefix old.seen w.seen) (sym p.1) (entered_on old.seen t.list (event_of (ruling_at lab (world_in lab t.list) who c)) t.later);
+        places = p.1.1;
+        seen = subst (IsPrefix old.seen) (sym p.1.0) (entered_on old.seen t.list (event_of (ruling_at lab (world_in lab t.list) who c)) t.later);
       }
       on (inr q) = record {
-        places = ap (λ (w : WindowValue). w.places) q.3 ∙ (sym (append-nil old.places) ∙ sym (ap (λ (x : Reply). old.places ++ places_in x) q.1));
-        seen = subst (λ (w : WindowValue). IsPrefix old.seen w.seen) (sym q.3) t.later;
+        places = q.3.1 ∙ (sym (append-nil old.places) ∙ sym (ap (λ (x : Reply). old.places ++ places_in x) q.1));
+        seen = subst (IsPrefix old.seen) (sym q.3.0) t.later;
       }
 
   settles_on : (st next : Standing) (g : Greeting) (r : Reply) → IsPlain g → Settles lab st g r next → WentOn st.window next.window r

@@ -7,6 +7,7 @@ use Rattle.mml_board.specs.declared.done.Done.{Done}
 use Rattle.mml_board.specs.World.{World}
 use Rattle.mml_board.specs.Events.{after}
 use Rattle.mml_policy.specs.declared.command.Command.{Command}
+use Rattle.mml_policy.specs.declared.denial.Denial.{Denial}
 use Rattle.mml_policy.specs.declared.refusal.Refusal.{Refusal}
 use Rattle.mml_policy.specs.declared.refusal.Refusal.TheVariants.{Full, Journal, Memory}
 use Rattle.mml_policy.specs.declared.ruling.Ruling.{Ruling}
@@ -18,11 +19,11 @@ use Rattle.mml_codec.specs.declared.reply.Reply.TheVariants as replies
 use Rattle.mml_codec.specs.Replies.{as_list}
 use Rattle.mml_codec.specs.Rulings.{reply_of_done, refusal_for}
 use Rattle.mml_codec.proofs.RulingsLemmas.{place_of_done}
-use Rattle.mml_window.specs.declared.answer.Answer.TheVariants.{Granted, Refused}
+use Rattle.mml_window.specs.declared.answer.Answer.TheVariants.{Denied, Granted, Refused}
 use Rattle.mml_window.specs.declared.sight.Closed.{Closed}
 use Rattle.mml_window.specs.Answers.{Answers, Says}
 use Rattle.mml_window.specs.Lists.{world_in, ruling_at}
-use Rattle.mml_window.specs.Windows.{WindowValue, window}
+use Rattle.mml_window.specs.Windows.{WindowValue, HasSeen, window_with}
 use Rattle.mml_window.proofs.ListLemmas.{world-one_more}
 use Rattle.mml_session.specs.Turns.{Told, Plainly, Refuses, Settles, standing}
 
@@ -41,16 +42,32 @@ granted_told lab old new who c place number done answers =
       says = inl (subst (λ (ruled : Ruling). Plainly lab l old.places ruled (reply_of_done number place done) new) (sym takes.ruled) (
         ap (λ n. reply_of_done n place done) (takes.numbered ∙ ap (λ (w : World). w.number) world)
             ∙ ap (λ p. reply_of_done next.number p done) (takes.placed ∙ ap (λ (w : World). w.place) world),
-        answers.3.2 ∙ ap (λ ps. window (l ++ e ∷ []) (old.places ++ ps)) (ap as_list (sym (place_of_done number place done))),
+        (ap (λ (w : WindowValue). w.seen) answers.3.2, ap (λ (w : WindowValue). w.places) answers.3.2 ∙ ap (λ ps. old.places ++ ps) (ap as_list (sym (place_of_done number place done)))),
       ));
     }
+
+has_seen : (l : List Event) (ps : List ℕ) (new : WindowValue) {why : Option Refusal} → new ≡ window_with l ps why → HasSeen l ps new
+has_seen l ps new is = (ap (λ (w : WindowValue). w.seen) is, ap (λ (w : WindowValue). w.places) is)
+
+-- beside no place
+seen_so : (l : List Event) (ps : List ℕ) (new : WindowValue) {why : Option Refusal} → new ≡ window_with l ps why → HasSeen l (ps ++ []) new
+seen_so l ps new is = (ap (λ (w : WindowValue). w.seen) is, ap (λ (w : WindowValue). w.places) is ∙ sym (append-nil ps))
+
+pub denied_told : (lab : LabValue) (old new : WindowValue) (who : Who) (c : Command) (d : Denial)
+    → Answers lab old who c (Denied d) new → Told lab old who c (replies.Deny d) new
+denied_told lab old new who c d answers = record {
+  list = answers.0;
+  later = answers.1;
+  legal = answers.2;
+  says = inl (subst (λ (ruled : Ruling). Plainly lab answers.0 old.places ruled (replies.Deny d) new) (sym answers.3.0) (refl, seen_so answers.0 old.places new answers.3.1));
+}
 
 -- an act that is refused is told as the ruling itself, or as the refusal in its place
 refused_says : (lab : LabValue) (l : List Event) (ps : List ℕ) (who : Who) (c : Command) (why : Refusal) (new : WindowValue) → Says lab l ps who c (Refused why) new
     → Plainly lab l ps (ruling_at lab (world_in lab l) who c) (replies.Refuse (refusal_for why)) new ⊎ Refuses l ps (ruling_at lab (world_in lab l) who c) (replies.Refuse (refusal_for why)) new
-refused_says lab l ps who c Full new h = inl (subst (λ (ruled : Ruling). Plainly lab l ps ruled (replies.Refuse refused.Full) new) (sym h.0) (refl, h.2 ∙ ap (λ qs. window l qs) (sym (append-nil ps))))
-refused_says lab l ps who c Journal new h = inr (subst (λ (ruled : Ruling). Refuses l ps ruled (replies.Refuse refused.Journal) new) (sym h.0.2) (refused.Journal, refl, tt, h.1))
-refused_says lab l ps who c Memory new h = inr (subst (λ (ruled : Ruling). Refuses l ps ruled (replies.Refuse refused.Memory) new) (sym h.0.2) (refused.Memory, refl, tt, h.1))
+refused_says lab l ps who c Full new h = inl (subst (λ (ruled : Ruling). Plainly lab l ps ruled (replies.Refuse refused.Full) new) (sym h.0) (refl, seen_so l ps new h.2))
+refused_says lab l ps who c Journal new h = inr (subst (λ (ruled : Ruling). Refuses l ps ruled (replies.Refuse refused.Journal) new) (sym h.0.2) (refused.Journal, refl, ap (λ (w : WindowValue). w.refused) h.1, has_seen l ps new h.1))
+refused_says lab l ps who c Memory new h = inr (subst (λ (ruled : Ruling). Refuses l ps ruled (replies.Refuse refused.Memory) new) (sym h.0.2) (refused.Memory, refl, ap (λ (w : WindowValue). w.refused) h.1, has_seen l ps new h.1))
 
 pub refused_told : (lab : LabValue) (old new : WindowValue) (who : Who) (c : Command) (why : Refusal)
     → Answers lab old who c (Refused why) new → Told lab old who c (replies.Refuse (refusal_for why)) new

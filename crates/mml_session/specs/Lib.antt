@@ -3,4 +3,3 @@ pub mod Talks
 pub mod Ends
 pub mod Serving
 pub mod Asking
-pub mod Houses

@@ -5,6 +5,8 @@ use Rattle.mml_lab.specs.declared.who.Who.{Who}
 use Rattle.mml_lab.specs.Labs.{LabValue}
 use Rattle.mml_board.specs.declared.event.Event.{Event}
 use Rattle.mml_policy.specs.declared.command.Command.{Command}
+use Rattle.mml_policy.specs.declared.refusal.Refusal.{Refusal}
+use Rattle.mml_policy.specs.declared.refusal.Refusal.TheVariants as cause
 use Rattle.mml_policy.specs.declared.ruling.Ruling.{Ruling}
 use Rattle.mml_policy.specs.declared.ruling.Ruling.TheVariants.{Looked, Reported, Granted}
 use Rattle.mml_policy.specs.Rulings.{event_of, after_ruling}
@@ -21,7 +23,7 @@ use Rattle.mml_codec.specs.Lines.{request_in}
 use Rattle.mml_codec.specs.Replies.{as_list, place_in}
 use Rattle.mml_codec.specs.Rulings.{reply_of}
 use Rattle.mml_window.specs.Lists.{is_legal_in, world_in, ruling_at}
-use Rattle.mml_window.specs.Windows.{WindowValue, window}
+use Rattle.mml_window.specs.Windows.{WindowValue, HasSeen}
 
 -- where a session stands: who is known on its connection, if anyone is, and what its window has seen and was granted
 pub record Standing : Type 0 where
@@ -40,22 +42,22 @@ entered l (Some e) = l ++ e ∷ []
 abbrev pub places_in : Reply → List ℕ
 places_in r = as_list (place_in r)
 
--- which refusals may stand in the place of what was ruled: memory may be refused to what has a list, and to a grant, whose
--- line the journal may not take either
-abbrev pub MayRefuse : Ruling → Refused → Type 0
-MayRefuse (Looked l) refused.Memory = Unit {0}
-MayRefuse Reported refused.Memory = Unit {0}
-MayRefuse (Granted e done) refused.Memory = Unit {0}
-MayRefuse (Granted e done) refused.Journal = Unit {0}
-MayRefuse _ _ = ⊥
+-- which refusals may stand in the place of what was ruled: memory may be refused to what has a list; a grant is refused for the
+-- cause that the window keeps
+abbrev pub MayRefuse : Ruling → Refused → Option Refusal → Type 0
+MayRefuse (Looked l) refused.Memory kept = Unit {0}
+MayRefuse Reported refused.Memory kept = Unit {0}
+MayRefuse (Granted e done) refused.Memory kept = kept ≡ Some cause.Memory
+MayRefuse (Granted e done) refused.Journal kept = kept ≡ Some cause.Journal
+MayRefuse _ _ _ = ⊥
 
 -- the reply is that to the ruling at the list, and the window has then seen the list and the event that took place
 abbrev pub Plainly : LabValue → List Event → List ℕ → Ruling → Reply → WindowValue → Type 0
-Plainly lab l ps ruled r new = (r ≡ reply_of (after_ruling (world_in lab l) ruled) ruled) × (new ≡ window (entered l (event_of ruled)) (ps ++ places_in r))
+Plainly lab l ps ruled r new = (r ≡ reply_of (after_ruling (world_in lab l) ruled) ruled) × HasSeen (entered l (event_of ruled)) (ps ++ places_in r) new
 
 -- the reply is a refusal in the place of the ruling at the list, and the window has then seen the list
 abbrev pub Refuses : List Event → List ℕ → Ruling → Reply → WindowValue → Type 0
-Refuses l ps ruled r new = (why : Refused) × (r ≡ reply.Refuse why) × MayRefuse ruled why × (new ≡ window l ps)
+Refuses l ps ruled r new = (why : Refused) × (r ≡ reply.Refuse why) × MayRefuse ruled why new.refused × HasSeen l ps new
 
 -- the window's reply to a command: it is given at a legal list that begins with all that the window had seen
 pub record Told (lab : LabValue) (old : WindowValue) (who : Who) (c : Command) (r : Reply) (new : WindowValue) : Type 0 where

@@ -1,5 +1,5 @@
 -- What views say, put together.
-use Rattle.std.proofs.Common.{◌≡◌, ℕ, List, [], Result, Ok, Err, refl, ap, ◌∙◌, sym, subst}
+use Rattle.std.proofs.Common.{◌≡◌, ℕ, List, [], Option, Result, Ok, Err, refl, ap, ◌∙◌, sym, subst}
 use mathlib.Core.List.{IsPrefix}
 use Rattle.mml_lab.specs.declared.who.Who.{Who}
 use Rattle.mml_lab.specs.Labs.{LabValue}
@@ -14,7 +14,8 @@ use Rattle.mml_window.specs.declared.rule.View.{View}
 use Rattle.mml_window.specs.declared.published.Published.{Published}
 use Rattle.mml_window.specs.Lists.{is_legal_in, ruling_at, world_in}
 use Rattle.mml_window.specs.Rule.{Saw}
-use Rattle.mml_window.specs.Windows.{WindowValue, window, SeesOn}
+use Rattle.mml_policy.specs.declared.refusal.Refusal.{Refusal}
+use Rattle.mml_window.specs.Windows.{WindowValue, window, window_with, SeesOn}
 use Rattle.mml_window.specs.Views.{Shows, Tells, TellsNumber}
 
 -- what is shown at a list that was seen
@@ -32,27 +33,27 @@ tells_entered shown lab lab' x v w u board who command r named saw left read s =
     let seen : u.seen ≡ x.events.items = ap (λ (y : View). y.seen) (left ∙ saw.view) in
     let world : board ≡ world_in lab u.seen = read ∙ saw.published.board ∙ ap (world_in lab) (sym seen) in
     tells shown lab (window v.seen []) (window u.seen []) who command r
-    (record { begins = subst (IsPrefix v.seen) (sym seen) saw.begins; legal = ap (is_legal_in lab) seen ∙ saw.published.legal; places = refl })
+    (record { begins = subst (IsPrefix v.seen) (sym seen) saw.begins; legal = ap (is_legal_in lab) seen ∙ saw.published.legal; places = refl; refused = refl })
     (subst (λ (k : LabValue). Shows shown (ruling_at k (world_in lab u.seen) who command) r) named (subst (λ (b : World). Shows shown (ruling_at lab' b who command) r) world s))
 
--- the places that were granted play no part
-beside : (lab : LabValue) (a b : List Event) (ps : List ℕ) → SeesOn lab (window a []) (window b []) → SeesOn lab (window a ps) (window b ps)
-beside lab a b ps on = record { begins = on.begins; legal = on.legal; places = refl }
+-- the places that were granted, and what was refused, play no part
+beside : (lab : LabValue) (a b : List Event) (ps : List ℕ) (why : Option Refusal) → SeesOn lab (window a []) (window b []) → SeesOn lab (window_with a ps why) (window_with b ps why)
+beside lab a b ps why on = record { begins = on.begins; legal = on.legal; places = refl; refused = refl }
 
-pub tells_beside : {A : Type 0} (shown : A → Ruling) (lab : LabValue) (a b : List Event) (ps : List ℕ) (who : Who) (command : Command) (r : Result A SightFault) (old : WindowValue) → old ≡ window a ps
-    → Tells shown lab (window a []) who command r (window b []) → Tells shown lab old who command r (window b ps)
-tells_beside shown lab a b ps who command r old same t = subst (λ (o : WindowValue). Tells shown lab o who command r (window b ps)) (sym same) (go r t)
+pub tells_beside : {A : Type 0} (shown : A → Ruling) (lab : LabValue) (a b : List Event) (ps : List ℕ) (why : Option Refusal) (who : Who) (command : Command) (r : Result A SightFault) (old : WindowValue) → old ≡ window_with a ps why
+    → Tells shown lab (window a []) who command r (window b []) → Tells shown lab old who command r (window_with b ps why)
+tells_beside shown lab a b ps why who command r old same t = subst (λ (o : WindowValue). Tells shown lab o who command r (window_with b ps why)) (sym same) (go r t)
   where
-    go : (r : Result _ SightFault) → Tells shown lab (window a []) who command r (window b []) → Tells shown lab (window a ps) who command r (window b ps)
-    go (Ok x) t = (t.0, beside lab a b ps t.1)
-    go (Err (fault.Denied d)) t = (t.0, beside lab a b ps t.1)
-    go (Err fault.Memory) t = (t.0, beside lab a b ps t.1)
-    go (Err fault.Closed) t = ap (λ (w : WindowValue). window w.seen ps) t
+    go : (r : Result _ SightFault) → Tells shown lab (window a []) who command r (window b []) → Tells shown lab (window_with a ps why) who command r (window_with b ps why)
+    go (Ok x) t = (t.0, beside lab a b ps why t.1)
+    go (Err (fault.Denied d)) t = (t.0, beside lab a b ps why t.1)
+    go (Err fault.Memory) t = (t.0, beside lab a b ps why t.1)
+    go (Err fault.Closed) t = ap (λ (w : WindowValue). window_with w.seen ps why) t
 
-pub number_beside : (lab : LabValue) (a b : List Event) (ps : List ℕ) (r : Result ℕ Closed) (old : WindowValue) → old ≡ window a ps
-    → TellsNumber lab (window a []) r (window b []) → TellsNumber lab old r (window b ps)
-number_beside lab a b ps r old same t = subst (λ (o : WindowValue). TellsNumber lab o r (window b ps)) (sym same) (go r t)
+pub number_beside : (lab : LabValue) (a b : List Event) (ps : List ℕ) (why : Option Refusal) (r : Result ℕ Closed) (old : WindowValue) → old ≡ window_with a ps why
+    → TellsNumber lab (window a []) r (window b []) → TellsNumber lab old r (window_with b ps why)
+number_beside lab a b ps why r old same t = subst (λ (o : WindowValue). TellsNumber lab o r (window_with b ps why)) (sym same) (go r t)
   where
-    go : (r : Result ℕ Closed) → TellsNumber lab (window a []) r (window b []) → TellsNumber lab (window a ps) r (window b ps)
-    go (Ok n) t = (t.0, beside lab a b ps t.1)
-    go (Err closed) t = ap (λ (w : WindowValue). window w.seen ps) t
+    go : (r : Result ℕ Closed) → TellsNumber lab (window a []) r (window b []) → TellsNumber lab (window_with a ps why) r (window_with b ps why)
+    go (Ok n) t = (t.0, beside lab a b ps why t.1)
+    go (Err closed) t = ap (λ (w : WindowValue). window_with w.seen ps why) t

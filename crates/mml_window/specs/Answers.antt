@@ -1,5 +1,5 @@
 -- What an answer to an act says.
-use Rattle.std.specs.Prelude.{◌≡◌, ◌⊎◌, ℕ, ◌+◌, true, false, List, [], ◌∷◌, ◌++◌, length}
+use Rattle.std.specs.Prelude.{◌≡◌, ◌⊎◌, ℕ, ◌+◌, true, false, List, [], ◌∷◌, ◌++◌, length, Option, None, Some}
 use mathlib.Core.List.{IsPrefix}
 use Rattle.mml_lab.specs.declared.who.Who.{Who}
 use Rattle.mml_lab.specs.Labs.{LabValue}
@@ -10,9 +10,10 @@ use Rattle.mml_policy.specs.declared.ruling.Ruling.TheVariants as ruling
 use Rattle.mml_policy.specs.About.{IsDone}
 use Rattle.mml_window.specs.declared.answer.Answer.{Answer}
 use Rattle.mml_window.specs.declared.answer.Answer.TheVariants.{Granted, Denied, Refused}
+use Rattle.mml_policy.specs.declared.refusal.Refusal.{Refusal}
 use Rattle.mml_policy.specs.declared.refusal.Refusal.TheVariants.{Full, Journal, Memory}
 use Rattle.mml_window.specs.Lists.{is_legal_in, world_in, ruling_at}
-use Rattle.mml_window.specs.Windows.{WindowValue, window}
+use Rattle.mml_window.specs.Windows.{WindowValue, window, window_with}
 use Rattle.mml_window.specs.Books.{BookValue, Grows, Halts}
 
 -- an event would take place there
@@ -45,13 +46,19 @@ Lets lab failures old e done (Refused Journal) new = Halts failures old new
 Lets lab failures old e done (Refused Memory) new = new ≡ old
 Lets lab failures old e done (Granted place number d) new = (d ≡ done) × (place ≡ length old.events + 1) × (number ≡ (world_in lab new.events).number) × Grows failures old new e
 
--- what an answer says of the list at which it is given, and of the window afterwards
+-- why an act was refused, if it was
+abbrev pub refused_by : Answer → Option Refusal
+refused_by (Denied d) = None
+refused_by (Refused why) = Some why
+refused_by (Granted place number done) = None
+
+-- what an answer says of the list at which it is given, and of the window afterwards, which keeps why the act was refused
 abbrev pub Says : LabValue → List Event → List ℕ → Who → Command → Answer → WindowValue → Type 0
 Says lab l places who command (Denied d) new = (ruling_at lab (world_in lab l) who command ≡ ruling.Denied d) × (new ≡ window l places)
 Says lab l places who command (Refused Full) new =
-    (ruling_at lab (world_in lab l) who command ≡ ruling.Full) × (length l ≡ lab.events) × (new ≡ window l places)
-Says lab l places who command (Refused Journal) new = Grants lab l who command × (new ≡ window l places)
-Says lab l places who command (Refused Memory) new = Grants lab l who command × (new ≡ window l places)
+    (ruling_at lab (world_in lab l) who command ≡ ruling.Full) × (length l ≡ lab.events) × (new ≡ window_with l places (Some Full))
+Says lab l places who command (Refused Journal) new = Grants lab l who command × (new ≡ window_with l places (Some Journal))
+Says lab l places who command (Refused Memory) new = Grants lab l who command × (new ≡ window_with l places (Some Memory))
 Says lab l places who command (Granted place number done) new =
     (e : Event) × Takes lab l who command e place number done × (new ≡ window (l ++ e ∷ []) (places ++ place ∷ []))
 

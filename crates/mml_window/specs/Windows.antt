@@ -1,18 +1,28 @@
 -- What a window stands for.
-use Rattle.std.specs.Prelude.{◌≡◌, ◌≤◌, ℕ, true, List, length}
+use Rattle.std.specs.Prelude.{◌≡◌, ◌≤◌, ℕ, true, List, length, Option, None}
 use mathlib.Core.List.{IsPrefix}
 use Rattle.mml_lab.specs.Labs.{LabValue, IsLab}
 use Rattle.mml_board.specs.declared.event.Event.{Event}
+use Rattle.mml_policy.specs.declared.refusal.Refusal.{Refusal}
 use Rattle.mml_window.specs.Lists.{is_legal_in}
 use Rattle.mml_window.specs.Climbing.{Climbs}
 
--- what its answers have shown it so far, and the places that it was granted
+-- what its answers have shown it so far, the places that it was granted, and why its last act was refused, if it was
 pub record WindowValue : Type 0 where
   pub seen : List Event
   pub places : List ℕ
+  pub refused : Option Refusal
 
+abbrev pub window_with : List Event → List ℕ → Option Refusal → WindowValue
+window_with seen places refused = record { seen = seen; places = places; refused = refused }
+
+-- its last act was not refused
 abbrev pub window : List Event → List ℕ → WindowValue
-window seen places = record { seen = seen; places = places }
+window seen places = window_with seen places None
+
+-- these events it has seen, and these places it was granted
+abbrev pub HasSeen : List Event → List ℕ → WindowValue → Type 0
+HasSeen seen places w = (w.seen ≡ seen) × (w.places ≡ places)
 
 -- a legal list of a lab was seen, beside places that climb to no more than its length
 pub record IsWindow (lab : LabValue) (w : WindowValue) : Type 0 where
@@ -21,8 +31,9 @@ pub record IsWindow (lab : LabValue) (w : WindowValue) : Type 0 where
   pub few : length w.seen ≤ lab.events
   pub climbs : Climbs 0 w.places (length w.seen)
 
--- a legal list was seen, which begins with all that was seen before; no place was granted
+-- a legal list was seen, which begins with all that was seen before; nothing was granted or refused
 pub record SeesOn (lab : LabValue) (old new : WindowValue) : Type 0 where
   pub begins : IsPrefix old.seen new.seen
   pub legal : is_legal_in lab new.seen ≡ true
   pub places : new.places ≡ old.places
+  pub refused : new.refused ≡ old.refused

@@ -11,7 +11,7 @@ ghost use Rattle.mml_stable.specs.Reports.{report_of, NamesNodes};
 ghost use Rattle.mml_window.specs.declared.sight.SightFault.TheVariants as faults;
 ghost use Rattle.mml_window.specs.Lists.{world_in};
 ghost use Rattle.mml_window.specs.Rule.{viewer};
-ghost use Rattle.mml_window.specs.Windows.{window, IsWindow, SeesOn};
+ghost use Rattle.mml_window.specs.Windows.{window, window_with, IsWindow, SeesOn};
 ghost use Rattle.mml_window.specs.Views.{Tells, TellsNumber};
 ghost use Rattle.mml_window.specs.Tallies.{times};
 ghost use Rattle.mml_window.specs.inside.Cursors.{IsStuck};
@@ -25,7 +25,7 @@ use crate::sight::{Closed, SightFault};
 use mml_board::Event;
 use mml_ids::IdTable;
 use mml_lab::{Lab, Roster, Who};
-use mml_policy::{Look, See};
+use mml_policy::{Look, Refusal, See};
 use mml_stable::Report;
 use std::alloc::Global;
 use std::marker::{Model, PhantomData};
@@ -40,6 +40,8 @@ pub struct Window<H: House> {
     reader: Option<Place<H>>,
     lab: Arc<Lab>,
     places: Vec<u64>,
+    // Why its last act was refused, if it was.
+    refused: Option<Refusal>,
     of: PhantomData<H>,
 }
 
@@ -48,15 +50,17 @@ impl<H: House> Model for Window<H> {
     ghost use Rattle.std.specs.Arc.{arc_value};
     ghost use Rattle.left_right.specs.Sides.{view as known};
     ghost use Rattle.mml_window.specs.Rule.{newcomer};
-    ghost use Rattle.mml_window.specs.Windows.{WindowValue, window, IsWindow};
+    ghost use Rattle.mml_window.specs.Windows.{WindowValue, window_with, IsWindow};
 
     ghost Value = { WindowValue };
 
-    ghost view = { λ w. window (unwrap_or (option_map (λ r. known r.place) w.reader) newcomer).seen
-        w.places.items };
+    ghost view = { λ w. window_with
+        (unwrap_or (option_map (λ r. known r.place) w.reader) newcomer).seen w.places.items
+        w.refused };
 
-    ghost invariant = { λ w. IsWindow H.lab (window
-        (unwrap_or (option_map (λ r. known r.place) w.reader) newcomer).seen w.places.items)
+    ghost invariant = { λ w. IsWindow H.lab (window_with
+        (unwrap_or (option_map (λ r. known r.place) w.reader) newcomer).seen w.places.items
+        w.refused)
         × (arc_value w.lab ≡ H.lab) × (H.lab.events ≤ vec_capacity w.places) };
 }
 
@@ -73,6 +77,7 @@ impl<H: House> Window<H> {
             reader: None,
             lab,
             places,
+            refused: None,
             of: PhantomData,
         }
     }
@@ -84,6 +89,20 @@ impl<H: House> Window<H> {
         ensures { self.new ≡ self.old }
     {
         self.reader = Some(place);
+    }
+
+    /// Why its last act was refused, if it was.
+    pub fn refused(&self) -> Option<Refusal>
+        ensures { result ≡ self.now.refused }
+    {
+        self.refused
+    }
+
+    /// Keeps why an act was refused, if it was.
+    pub(crate) fn keep_refused(&mut self, refused: Option<Refusal>)
+        ensures { self.new ≡ window_with self.old.seen self.old.places refused }
+    {
+        self.refused = refused;
     }
 
     /// The nodes' identifiers.
@@ -186,7 +205,8 @@ impl<H: House> Window<H> {
         requires next { place ≡ length self.old.seen + 1 }
         requires room { length self.old.seen < H.lab.events }
         ensures { self.new
-            ≡ window (self.old.seen ++ event.now ∷ []) (self.old.places ++ place ∷ []) }
+            ≡ window_with (self.old.seen ++ event.now ∷ []) (self.old.places ++ place ∷ [])
+            self.old.refused }
     {
         let reader = match self.reader.take() {
             Some(reader) => reader,
@@ -199,7 +219,8 @@ impl<H: House> Window<H> {
     /// Looks until it sees all that is published.
     #[tactic(auto, using(crate::proofs::ClimbingLemmas::climbs_on))]
     pub(crate) fn look_for_all<R: Wait>(&mut self, rt: &R, press: &Press<H>)
-        ensures window { self.new ≡ window press.now.desk.shown.value.events.items self.old.places }
+        ensures window { self.new ≡ window_with press.now.desk.shown.value.events.items
+            self.old.places self.old.refused }
         ensures begins { IsPrefix self.old.seen press.now.desk.shown.value.events.items }
     {
         let reader = match self.reader.take() {

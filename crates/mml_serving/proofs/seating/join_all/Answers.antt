@@ -1,6 +1,6 @@
 use Rattle.std.proofs.Common.{◌≡◌, [], ◌∷◌, ◌++◌, ◌∙◌, ap, sym, length, arith, append_assoc}
 use Rattle.std.specs.Vec.Iter.{into_iter_items}
-use Rattle.mml_session.specs.Houses.{IsServed}
+use Rattle.mml_serving.specs.Serving.{IsServed}
 use Rattle.mml_serving.proofs.ServingLemmas.{served_more}
 use Rattle.mml_serving.proofs.seating.join_all.Goals as goal
 

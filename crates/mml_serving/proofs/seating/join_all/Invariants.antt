@@ -1,6 +1,6 @@
 use Rattle.std.proofs.Common.{◌≡◌, ◌≤◌, ◌+◌, ◌++◌, map, length, vec_len, vec_capacity}
 use Rattle.std.specs.Vec.Iter.{into_iter_items}
-use Rattle.mml_session.specs.Houses.{Each, IsServed}
+use Rattle.mml_serving.specs.Serving.{Each, IsServed}
 use Rattle.mml_serving.proofs.seating.join_all.Given as goal
 
 abbrev pub invariant-loop-handle : goal.invariant-loop-handle

@@ -1,8 +1,9 @@
 use Rattle.std.proofs.Common.{◌≡◌, [], All, List, arith, ap, length, drop, length-drop, subst, sym}
-use Rattle.std.proofs.lemmas.List.Elements.{All-take, All-drop}
+use Rattle.std.proofs.lemmas.List.Elements.{All-take}
 use Rattle.mml_window.specs.Windows.{WindowValue, window}
-use Rattle.mml_session.specs.Houses.{IsServed}
-use Rattle.mml_serving.proofs.ServingLemmas.{each_long}
+use Rattle.mml_serving.specs.Serving.{IsServed}
+use Rattle.mml_serving.proofs.EndingsLemmas.{early_so}
+use Rattle.mml_serving.proofs.ServingLemmas.{each_long, serves_windows}
 use Rattle.mml_serving.proofs.serving.in_house.Goals as goal
 
 pub serve_all-requires-clause-fresh : goal.serve_all-requires-clause-fresh
@@ -18,11 +19,17 @@ end_house-requires g c =
       few = omega (arith, served, all.all, c.requires.few, rest, length-drop c.from.result c.in-Ok.windows.items, c.from.ensures, c.in-Ok.ensures.count);
     }
 
-pub returns-in-Ok-end_house : goal.returns-in-Ok-end_house
-returns-in-Ok-end_house g c = record {
-  windows = c.in-Ok-serve_all.windows.items;
-  unused = c.in-Ok-split_off.unused.items;
-  idle = subst (λ (ws : List WindowValue). All (λ w. w ≡ window [] []) ws) (sym c.in-Ok-split_off.ensures.tail) (All-drop (λ w. w ≡ window [] []) c.from.result c.in-Ok.windows.items c.in-Ok.ensures.windows);
-  kept = c.in-Ok-end_house.ensures;
-  each = c.in-Ok-serve_all.ensures;
+pub returns-in-Ok-end_house-clause-served : goal.returns-in-Ok-end_house-clause-served
+returns-in-Ok-end_house-clause-served g c = record {
+  windows = _;
+  serves = serves_windows g.H.House.lab g.R.Read.remaining g.W.Write.contents (g.A.Arrivals.to_come c.args.arrivals) c.args.connections c.in-Ok-serve_all.sessions.items c.in-Ok-serve_all.windows.items c.in-Ok-split_off.unused.items c.in-Ok.windows.items
+      c.from.result c.in-Ok-serve_all.ensures c.from.ensures c.in-Ok-split_off.ensures.tail c.in-Ok.ensures.count c.requires.few c.in-Ok.ensures.windows;
+  kept = c.in-Ok-end_house.ensures.log;
 }
+
+pub returns-in-Ok-serve_all-clause-early : goal.returns-in-Ok-serve_all-clause-early
+returns-in-Ok-serve_all-clause-early g c =
+    early_so g.H.House.lab g.R.Read.remaining g.W.Write.contents (g.A.Arrivals.to_come c.args.arrivals) c.args.connections c.in-Ok-serve_all.sessions.items _
+    (serves_windows g.H.House.lab g.R.Read.remaining g.W.Write.contents (g.A.Arrivals.to_come c.args.arrivals) c.args.connections c.in-Ok-serve_all.sessions.items c.in-Ok-serve_all.windows.items c.in-Ok-split_off.unused.items c.in-Ok.windows.items
+    c.from.result c.in-Ok-serve_all.ensures c.from.ensures c.in-Ok-split_off.ensures.tail c.in-Ok.ensures.count c.requires.few c.in-Ok.ensures.windows)
+    c.in-Err.fault c.in-Err.ensures.without

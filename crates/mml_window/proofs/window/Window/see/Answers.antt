@@ -7,7 +7,7 @@ use Rattle.mml_window.proofs.ViewLemmas.{tells_beside}
 use Rattle.mml_window.proofs.window.Window.see.Goals as goal
 
 pub returns-clause-tells : goal.returns-clause-tells
-returns-clause-tells g c = tells_beside rulings.Seen g.H.House.lab (view c.in-Some.reader.place).seen _ c.self.inside.places.items c.args.who (command.See c.args.node) _ c.args.self.now (search rules) c.read_see-reader.ensures.tells
+returns-clause-tells g c = tells_beside rulings.Seen g.H.House.lab (view c.in-Some.reader.place).seen _ c.self.inside.places.items c.self.inside.refused c.args.who (command.See c.args.node) _ c.args.self.now (search rules) c.read_see-reader.ensures.tells
 
 pub returns-clause-nodes : goal.returns-clause-nodes
 returns-clause-nodes g c = seen_is g.H.House.lab c.self.invariant.0.lawful _ _ c.args.who (command.See c.args.node) _ c.read_see-reader.ensures.tells

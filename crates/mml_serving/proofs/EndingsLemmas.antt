@@ -1,0 +1,63 @@
+-- How houses come to no good end.
+use Rattle.std.proofs.Common.{◌≡◌, ℕ, List, length, Option, sym, subst, ap}
+use Rattle.std.proofs.KnownBytes.{Appends-nil}
+use Rattle.mml_lab.specs.Labs.{LabValue}
+use Rattle.mml_board.specs.World.{World}
+use Rattle.mml_window.specs.declared.log.Log.{Log}
+use Rattle.mml_window.specs.declared.log.Astray.{Astray}
+use Rattle.mml_window.specs.Books.{BookValue, IsBook}
+use Rattle.mml_window.specs.Lists.{world_in}
+use Rattle.mml_window.specs.Logs.{IsAstray}
+use Rattle.mml_window.specs.Tallies.{IsEachOnce, told_of}
+use Rattle.mml_window.specs.Windows.{WindowValue}
+use Rattle.mml_serving.specs.declared.connection.EndedSession.{EndedSession}
+use Rattle.mml_serving.specs.declared.serving.ServeFault.{ServeFault}
+use Rattle.mml_serving.specs.declared.serving.ServeFault.TheVariants as fault
+use Rattle.mml_serving.specs.Closings.{IsCutShort, LacksLastLine, done_line}
+use Rattle.mml_serving.specs.Endings.{EndsAstray, EndsBadly, EndsEarly, EndsLogged, EndsWithout, WentAstray}
+use Rattle.mml_serving.specs.Serving.{ServesHouse, ServesWindows}
+
+-- the list from which the windows went astray is the book's
+pub went_astray : {S : Type 0} (lab : LabValue) (sink : S → Option (List ℕ)) (b : BookValue S) (windows : List WindowValue) (astray : Astray) → IsBook lab sink b
+    → astray.found ≡ length b.events → IsAstray windows astray → WentAstray lab windows
+went_astray lab sink b windows astray book found is = record {
+  events = b.events;
+  legal = book.legal;
+  few = book.few;
+  places = subst (λ (n : ℕ). ¬ (IsEachOnce n (told_of windows))) found is.places;
+}
+
+module _ {R W : Type 0} (lab : LabValue) (remaining : R → Option (List ℕ)) (contents : W → Option (List ℕ)) (to_come : Option (List (R × W))) (count : ℕ) where
+  pub early_so : (sessions : List (EndedSession R W)) (windows : List WindowValue) → ServesWindows lab remaining contents to_come count sessions windows
+      → (f : ServeFault) → EndsWithout lab windows f → EndsEarly lab remaining contents to_come count f
+  early_so sessions windows serves fault.Memory without = tt
+  early_so sessions windows serves fault.Place without = absurd without
+  early_so sessions windows serves fault.Accept without = absurd without
+  early_so sessions windows serves fault.Astray without = record { sessions = sessions; windows = windows; serves = serves; astray = without }
+  early_so sessions windows serves fault.Halted without = absurd without
+  early_so sessions windows serves fault.Write without = absurd without
+
+  module _ {S : Type 0} (sink : S → Option (List ℕ)) where
+    -- nothing is written where there is no log
+    pub badly_early : (wrote : Option (List ℕ)) (f : ServeFault) → EndsEarly lab remaining contents to_come count f → EndsBadly lab sink remaining contents to_come count wrote wrote f
+    badly_early wrote fault.Memory early = Appends-nil wrote
+    badly_early wrote fault.Place early = Appends-nil wrote
+    badly_early wrote fault.Accept early = Appends-nil wrote
+    badly_early wrote fault.Astray early = (early, Appends-nil wrote)
+    badly_early wrote fault.Halted early = absurd early
+    badly_early wrote fault.Write early = absurd early
+
+    -- where there is one, the last line says why
+    pub badly_logged : (sessions : List (EndedSession R W)) (log : Log S) → ServesHouse lab sink remaining contents to_come count sessions log → (wrote wrote' : Option (List ℕ)) (f : ServeFault)
+        → LacksLastLine log.halted wrote wrote' (done_line (length log.events) log.board.number) f → EndsBadly lab sink remaining contents to_come count wrote wrote' f
+    badly_logged sessions log serves wrote wrote' fault.Memory lacks = lacks.1
+    badly_logged sessions log serves wrote wrote' fault.Place lacks = absurd lacks
+    badly_logged sessions log serves wrote wrote' fault.Accept lacks = absurd lacks
+    badly_logged sessions log serves wrote wrote' fault.Astray lacks = absurd lacks
+    badly_logged sessions log serves wrote wrote' fault.Halted lacks = (record { sessions = sessions; log = log; serves = serves; holds = lacks.0 }, lacks.1)
+    badly_logged sessions log serves wrote wrote' fault.Write lacks = record {
+      sessions = sessions;
+      log = log;
+      serves = serves;
+      holds = (lacks.0, subst (λ (w : World). IsCutShort wrote wrote' (done_line (length log.events) w.number) fault.Write) serves.kept.board lacks.1);
+    }

@@ -1,0 +1,62 @@
+-- Houses that come to no good end.
+use Rattle.std.specs.Prelude.{◌≡◌, ◌≤◌, ℕ, true, false, List, [], length, Option}
+use Rattle.std.specs.Io.KnownBytes.{Appends}
+use Rattle.mml_lab.specs.Labs.{LabValue}
+use Rattle.mml_board.specs.declared.event.Event.{Event}
+use Rattle.mml_window.specs.declared.log.Log.{Log}
+use Rattle.mml_window.specs.Lists.{is_legal_in, world_in}
+use Rattle.mml_window.specs.Tallies.{IsEachOnce, told_of}
+use Rattle.mml_window.specs.Windows.{WindowValue}
+use Rattle.mml_serving.specs.declared.connection.EndedSession.{EndedSession}
+use Rattle.mml_serving.specs.declared.serving.ServeFault.{ServeFault}
+use Rattle.mml_serving.specs.declared.serving.ServeFault.TheVariants as fault
+use Rattle.mml_serving.specs.Closings.{IsCutShort, done_line}
+use Rattle.mml_serving.specs.Serving.{ServesWindows, ServesHouse}
+
+-- the places that the windows were told aren't those of the house's legal list of events, each once
+pub record WentAstray (lab : LabValue) (windows : List WindowValue) : Type 0 where
+  pub events : List Event
+  pub legal : is_legal_in lab events ≡ true
+  pub few : length events ≤ lab.events
+  pub places : ¬ (IsEachOnce (length events) (told_of windows))
+
+-- these windows leave no log, for want of memory, or since they went astray
+abbrev pub EndsWithout : LabValue → List WindowValue → ServeFault → Type 0
+EndsWithout lab windows fault.Memory = Unit {0}
+EndsWithout lab windows fault.Astray = WentAstray lab windows
+EndsWithout lab windows _ = ⊥
+
+-- the connections were served, and the windows went astray
+pub record EndsAstray {R W : Type 0} (lab : LabValue) (remaining : R → Option (List ℕ)) (contents : W → Option (List ℕ)) (to_come : Option (List (R × W))) (count : ℕ) : Type 0 where
+  pub sessions : List (EndedSession R W)
+  pub windows : List WindowValue
+  pub serves : ServesWindows lab remaining contents to_come count sessions windows
+  pub astray : WentAstray lab windows
+
+-- there is no log, though all connections were served, or not all were
+abbrev pub EndsEarly : {R W : Type 0} → LabValue → (R → Option (List ℕ)) → (W → Option (List ℕ)) → Option (List (R × W)) → ℕ → ServeFault → Type 0
+EndsEarly lab remaining contents to_come count fault.Memory = Unit {0}
+EndsEarly lab remaining contents to_come count fault.Accept = Unit {0}
+EndsEarly lab remaining contents to_come count fault.Astray = EndsAstray lab remaining contents to_come count
+EndsEarly lab remaining contents to_come count _ = ⊥
+
+-- the house left a log, of which this holds
+pub record EndsLogged {S R W : Type 0} (lab : LabValue) (sink : S → Option (List ℕ)) (remaining : R → Option (List ℕ)) (contents : W → Option (List ℕ))
+    (to_come : Option (List (R × W))) (count : ℕ) (Holds : Log S → Type 0) : Type 0 where
+  pub sessions : List (EndedSession R W)
+  pub log : Log S
+  pub serves : ServesHouse lab sink remaining contents to_come count sessions log
+  pub holds : Holds log
+
+-- what a house that comes to no good end tells: nothing is written but the front of its last line, where the writer failed at it
+abbrev pub EndsBadly : {S R W : Type 0} → LabValue → (S → Option (List ℕ)) → (R → Option (List ℕ)) → (W → Option (List ℕ)) → Option (List (R × W)) → ℕ
+    → Option (List ℕ) → Option (List ℕ) → ServeFault → Type 0
+EndsBadly lab sink remaining contents to_come count wrote wrote' fault.Memory = Appends wrote wrote' []
+EndsBadly lab sink remaining contents to_come count wrote wrote' fault.Place = Appends wrote wrote' []
+EndsBadly lab sink remaining contents to_come count wrote wrote' fault.Accept = Appends wrote wrote' []
+EndsBadly lab sink remaining contents to_come count wrote wrote' fault.Astray = EndsAstray lab remaining contents to_come count × Appends wrote wrote' []
+EndsBadly lab sink remaining contents to_come count wrote wrote' fault.Halted =
+    EndsLogged lab sink remaining contents to_come count (λ log. log.halted ≡ true) × Appends wrote wrote' []
+EndsBadly lab sink remaining contents to_come count wrote wrote' fault.Write =
+    EndsLogged lab sink remaining contents to_come count (λ log. (log.halted ≡ false)
+    × IsCutShort wrote wrote' (done_line (length log.events) (world_in lab log.events).number) fault.Write)
