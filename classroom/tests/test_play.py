@@ -10,7 +10,7 @@ from selenium.webdriver.common.keys import Keys
 
 from classroom.frames import frames_of
 from classroom.tests.browser import Played, shown, told, until
-from classroom.tests.runs import TOP, built_in, edited_run, examples
+from classroom.tests.runs import BUILT_IN, TOP, edited_run, examples
 
 
 class Play(Played):
@@ -76,7 +76,7 @@ class Play(Played):
         self.assertIn("<", self.driver.title)
 
     def test_it_asks_for_nothing_else(self) -> None:
-        text = self.page(built_in(self.room), TOP / "examples" / "whole-run.journal").read_text()
+        text = self.page(BUILT_IN, TOP / "examples" / "whole-run.journal").read_text()
         for word in ("http://", "https://", "src=", "@import", "url("):
             found = text.replace('xmlns="http://www.w3.org/2000/svg"', "").replace('"http://www.w3.org/2000/svg"', "")
             self.assertNotIn(word, found.replace("url(#arrow)", ""))
