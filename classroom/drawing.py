@@ -3,18 +3,27 @@ from __future__ import annotations
 
 import math
 from dataclasses import dataclass
+from functools import cached_property
 from html import escape
 from pathlib import Path
 
-from classroom.layout import HEIGHT, WIDTH, Layout, Point
+from classroom.layout import HEIGHT, SMALL_BELOW, WIDTH, Layout, Point
 from classroom.frames import OpenLink, State
 from classroom.journal import Event
 from classroom.lab import Lab
 
 STYLE = Path(__file__).with_name("drawing.css")
-LETTERS_BELOW = 14.0  # radius under which a rule is told by its first letter
 WITNESSES_MOST = 60  # open links up to which each names its witness
 OPEN_MOST = 2000  # open links above which they are told as a number alone
+FAINT_ABOVE = 8  # links for each node above which their lines are the fainter the more they are
+LETTER_WIDE = 8.2  # of an owner's name
+SIGNS = "letters below a node: whose it is"
+LETTERS = "letter beside it: U update, M marriage, S seduction, A abandonment"
+LISTED_WIDE, LISTED_HIGH = 220, 18  # of a student's place in the list below a small drawing
+
+
+M_LARGE = '<rect x="-6" y="-6" width="12" height="12"/><text y="4">m</text>'
+M_SMALL = '<rect x="-3" y="-3" width="6" height="6"/>'
 
 
 @dataclass(frozen=True)
@@ -24,22 +33,48 @@ class Drawing:
     lab: Lab
     layout: Layout
 
+    @property
+    def small(self) -> bool:
+        """Whether rules are told by a letter."""
+        return self.layout.radius < SMALL_BELOW
+
+    @cached_property
+    def signed(self) -> bool:
+        """Whether owners are told by signs, since names would run into each other."""
+        longest = max(map(len, self.lab.students), default=0)
+        return self.small or longest * LETTER_WIDE > self.layout.nearest
+
+    @property
+    def letters(self) -> str:
+        """What the letters at a node stand for."""
+        return "; ".join([SIGNS] * self.signed + [LETTERS] * self.small)
+
+    @cached_property
+    def signs(self) -> dict[str, str]:
+        """Few letters for each student: the initial, and a number where others have the same."""
+        alike: dict[str, list[str]] = {}
+        for name in self.lab.students:
+            alike.setdefault(name[0], []).append(name)
+        return {
+            name: f"{initial}{number if len(names) > 1 else ''}"
+            for initial, names in alike.items() for number, name in enumerate(names, 1)
+        }
+
     def hue(self, student: str) -> int:
         """A colour for each student, as an angle; neighbours in the list are far apart."""
         return round(list(self.lab.students).index(student) * 137.508) % 360
 
     def svg(self, state: State, event: Event | None) -> str:
         """The whole element."""
-        radius = self.layout.radius
         open_links = state.open if len(state.open) <= OPEN_MOST else []
         return "\n".join([
             f'<svg xmlns="http://www.w3.org/2000/svg" id="drawing" viewBox="0 0 {WIDTH:g} {HEIGHT:g}" role="img"'
             f' aria-label="the network" data-place="{state.place}" data-number="{state.number}"'
             f' data-privileged="{len(state.privileged)}" data-pairs="{len(state.pairs)}"'
-            f' class="{"small" if radius < LETTERS_BELOW else "large"}">',
+            f' class="{"small" if self.small else "large"}" font-size="{self.size:g}">',
             '<defs><marker id="arrow" viewBox="0 0 10 10" refX="9" refY="5" markerWidth="6" markerHeight="6"'
             ' orient="auto"><path d="M0 0L10 5L0 10z"/></marker></defs>',
-            *self.rows("links", [(a, self.line(a, b)) for a, b in sorted(state.links)]),
+            *self.rows("links", [(a, self.line(a, b)) for a, b in sorted(state.links)], self.faint(len(state.links))),
             *self.rows("open", [(a, self.line(a, b)) for a, b, _, _ in open_links]),
             *self.rows("witness", [(a, self.half(witness, b if witness == a else a))
                                    for a, b, witness, _ in open_links if witness in (a, b)]),
@@ -58,12 +93,22 @@ class Drawing:
             "</svg>",
         ])
 
-    def rows(self, name: str, drawn: list[tuple[int, str]]) -> list[str]:
+    @property
+    def size(self) -> float:
+        """How large letters are."""
+        return max(6.0, 0.8 * self.layout.radius) if self.small else 15.0
+
+    def faint(self, links: int) -> float:
+        """How much is seen of each line of so many links: what lies over a whole field of them can be read."""
+        return min(1.0, FAINT_ABOVE * len(self.lab.nodes) / max(links, 1))
+
+    def rows(self, name: str, drawn: list[tuple[int, str]], opacity: float = 1.0) -> list[str]:
         """A path for each node, of the lines whose lower end it is: so that few change at a time."""
         lines: dict[int, list[str]] = {node.id: [] for node in self.lab.nodes}
         for node, line in drawn:
             lines[node].append(line)
-        return [f'<g class="{name}">', *(f'<path d="{"".join(row)}"/>' for row in lines.values()), "</g>"]
+        paths = (f'<path d="{"".join(row)}"/>' for row in lines.values())
+        return [f'<g class="{name}" stroke-opacity="{opacity:.2g}">', *paths, "</g>"]
 
     def line(self, a: int, b: int) -> str:
         (x, y), (u, v) = self.layout.points[a], self.layout.points[b]
@@ -99,26 +144,56 @@ class Drawing:
         radius = self.layout.radius
         pointer, rule = state.pointers[node], state.privileged.get(node, "")
         chosen, m = state.chosen.get(node, ""), told(state.ms[node])
-        below = radius + 14
+        corner, lines = 0.8 * radius, self.lines(owners)
         return "".join([
             f'<g class="node" data-node="{node}" data-p="{"" if pointer is None else pointer}" data-m="{m}"'
             f' data-married="{told(married(node, state))}" data-rule="{rule}" data-chosen="{chosen}"'
             f' transform="translate({x:g} {y:g})">',
             f"<title>node {node}, {escape(' and '.join(owners))}</title>",
-            f'<circle class="halo" r="{radius + 5:g}"/>',
+            f'<circle class="halo" r="{radius + (2 if self.small else 5):g}"/>',
             *(sector(index, len(owners), radius, self.hue(owner)) for index, owner in enumerate(owners)),
             f'<circle class="rim" r="{radius:g}"/>',
-            f'<text class="identifier" y="{radius * 0.3:g}">{node}</text>',
-            f'<g class="m" transform="translate({radius * 0.8:g} {-radius * 0.8:g})"><rect x="-6" y="-6" width="12"'
-            ' height="12"/><text y="4">m</text></g>',
-            f'<text class="rule" y="{below:g}">{self.word(rule)}</text>',
-            f'<text class="chosen" y="{-radius - 8:g}">{"◆ " + self.word(chosen) if chosen else ""}</text>',
-            f'<text class="owner" y="{below + 13:g}">{escape(", ".join(owners))}</text>',
+            f'<text class="identifier" y="{0.36 * self.size:.3g}">{node}</text>',
+            f'<g class="m" transform="translate({corner:g} {-corner:g})">{M_SMALL if self.small else M_LARGE}</g>',
+            *(f'<text class="owner" y="{self.below(at):g}">{escape(line)}</text>' for at, line in enumerate(lines)),
+            f'<text class="rule" {self.rule_at(len(lines))}>{self.word(rule)}</text>',
+            f'<text class="chosen" {self.chosen_at()}>{"◆ " + self.word(chosen) if chosen else ""}</text>',
             "</g>",
         ])
 
+    def lines(self, owners: list[str]) -> list[str]:
+        """What stands below a node: its owners' signs, or a name a line."""
+        return [" ".join(self.signs[owner] for owner in owners)] if self.signed else owners
+
+    def below(self, line: int) -> float:
+        """Where a line below a node stands, from 0."""
+        return self.layout.radius + (1 + 0.9 * self.size if self.small else 16 * (line + 1))
+
+    def rule_at(self, line: int) -> str:
+        """Beside the node where it is a letter, else below that many lines."""
+        radius = self.layout.radius
+        return f'x="{radius + 0.6 * self.size:g}" y="{0.4 * radius:g}"' if self.small else f'y="{self.below(line):g}"'
+
+    def chosen_at(self) -> str:
+        radius = self.layout.radius
+        return f'x="{-radius:g}" y="{-0.6 * radius:g}"' if self.small else f'y="{-radius - 8:g}"'
+
     def word(self, rule: str) -> str:
-        return rule[:1].upper() if self.layout.radius < LETTERS_BELOW else rule
+        return rule[:1].upper() if self.small else rule
+
+    def key(self) -> tuple[str, float]:
+        """What the letters of a drawing stand for, below it, and how high that is."""
+        if not self.signed:
+            return "", 0
+        columns, names = int(WIDTH // LISTED_WIDE), list(self.lab.students)
+        rows = [f'<text class="listed" x="8" y="{HEIGHT + 4:g}">{self.letters}</text>']
+        for place, name in enumerate(names):
+            row, column = divmod(place, columns)
+            rows.append(
+                f'<g transform="translate({14 + column * LISTED_WIDE:g} {HEIGHT + (row + 1) * LISTED_HIGH:g})">'
+                f'{sector(0, 1, 6, self.hue(name))}<text class="listed" x="12" y="4">{self.signs[name]}: {escape(name)}</text></g>'
+            )
+        return "".join(rows), (1 - -len(names) // columns) * LISTED_HIGH
 
     def mark(self, event: Event | None) -> str:
         """The word of a fault, link or cut, where it took place."""
@@ -148,15 +223,18 @@ def path(name: str, drawn: str) -> str:
 
 
 def sector(index: int, count: int, radius: float, hue: int) -> str:
-    """A circle in an owner's colour, or the half of one."""
+    """A circle in an owner's colour, or the half of one, the first owner's on the left."""
     if count == 1:
         return f'<circle class="owned" style="--hue:{hue}" r="{radius:g}"/>'
-    sweep = 1 - index
-    return f'<path class="owned" style="--hue:{hue}" d="M0 {-radius:g}A{radius:g} {radius:g} 0 0 {sweep} 0 {radius:g}z"/>'
+    return f'<path class="owned" style="--hue:{hue}" d="M0 {-radius:g}A{radius:g} {radius:g} 0 0 {index} 0 {radius:g}z"/>'
 
 
 def standalone(drawing: Drawing, state: State, event: Event | None) -> str:
-    """The element with its style inside, as a file of its own."""
+    """The element as a file of its own: with its style inside, and the list of signs where it has them."""
     style = f"<style>{STYLE.read_text(encoding='utf-8')}</style>"
+    key, high = drawing.key()
     head, tail = drawing.svg(state, event).split("<defs>", 1)
-    return f'<?xml version="1.0" encoding="UTF-8"?>\n{head}{style}<rect class="ground" width="100%" height="100%"/><defs>{tail}\n'
+    head = head.replace(f'{WIDTH:g} {HEIGHT:g}"', f'{WIDTH:g} {HEIGHT + high:g}"', 1)
+    tail = tail.removesuffix("</svg>")
+    return (f'<?xml version="1.0" encoding="UTF-8"?>\n{head}{style}<rect class="ground" width="100%" height="100%"/>'
+            f"<defs>{tail}{key}</svg>\n")

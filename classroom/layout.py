@@ -4,27 +4,41 @@ from __future__ import annotations
 import math
 import shutil
 import subprocess
+from bisect import bisect_left
 from collections.abc import Iterable
 from dataclasses import dataclass
+from itertools import accumulate, combinations, pairwise
 
-WIDTH, HEIGHT, MARGIN = 1000.0, 700.0, 60.0
+WIDTH, HEIGHT, MARGIN = 1000.0, 700.0, 75.0
+ROOM_X, ROOM_Y = WIDTH - 2 * MARGIN, HEIGHT - 2 * MARGIN
 PATIENCE = 5.0  # seconds for Graphviz
+SMALL_BELOW = 24.0  # radius under which rules are told by a letter
+TIGHT_BELOW = 9.0  # radius under which such letters run into each other
+TURNS = 1200  # parts of an ellipse by which it is measured
 Point = tuple[float, float]
 
 
 @dataclass(frozen=True)
 class Layout:
-    """Points by identifier, and the radius of a node."""
+    """Points by identifier, and how far apart the nearest two are."""
 
     points: dict[int, Point]
-    radius: float
+    nearest: float
+
+    @property
+    def radius(self) -> float:
+        """As large as leaves a gap between the nearest two."""
+        return round(max(4.0, min(26.0, 0.3 * self.nearest)), 1)
 
 
 def lay_out(nodes: Iterable[int], links: Iterable[tuple[int, int]]) -> Layout:
-    """A layout in a field of WIDTH by HEIGHT."""
+    """A layout in a field of WIDTH by HEIGHT: Graphviz's, unless rings alone leave room to read it."""
     identifiers, edges = sorted(nodes), sorted(links)
-    points = fitted(by_graphviz(identifiers, edges) or on_rings(identifiers))
-    return Layout(points, radius_of(list(points.values())))
+    drawn = by_graphviz(identifiers, edges)
+    if drawn is not None and (layout := fitted(drawn)).radius >= TIGHT_BELOW:
+        return layout
+    rings = on_rings(identifiers)
+    return rings if drawn is None or rings.radius > layout.radius else layout
 
 
 def by_graphviz(nodes: list[int], links: list[tuple[int, int]]) -> dict[int, Point] | None:
@@ -45,37 +59,46 @@ def by_graphviz(nodes: list[int], links: list[tuple[int, int]]) -> dict[int, Poi
     return points if set(points) == set(nodes) else None
 
 
-def on_rings(nodes: list[int]) -> dict[int, Point]:
-    """Nodes in order of identifiers on as many rings as keep them apart, the outermost first."""
-    rings = max(1, round(math.sqrt(len(nodes) / 24)))
-    radii = [(rings - ring) / rings for ring in range(rings)]
+def on_rings(nodes: list[int]) -> Layout:
+    """The fewest rings on which the nodes aren't small; else those that leave the most room."""
+    layouts = []
+    for rings in range(1, 2 + math.isqrt(len(nodes))):
+        layouts.append(fitted(ringed(nodes, rings)))
+        if layouts[-1].radius >= SMALL_BELOW:
+            return layouts[-1]
+    return max(layouts, key=lambda layout: layout.radius)
+
+
+def ringed(nodes: list[int], rings: int) -> dict[int, Point]:
+    """Nodes in order of identifiers on so many rings, the outermost first."""
+    sizes = [(rings - ring) / rings for ring in range(rings)]
     points: dict[int, Point] = {}
     start = 0
-    for ring, radius in enumerate(radii):
+    for ring, size in enumerate(sizes):
         left = len(nodes) - start
-        share = left if ring == rings - 1 else round(left * radius / sum(radii[ring:]))
-        for place, node in enumerate(nodes[start : start + share]):
-            angle = 2 * math.pi * place / share - math.pi / 2
-            points[node] = (radius * math.cos(angle), radius * math.sin(angle))
+        share = left if ring == rings - 1 else round(left * size / sum(sizes[ring:]))
+        points |= zip(nodes[start : start + share], around(share, size * ROOM_X, size * ROOM_Y))
         start += share
     return points
 
 
-def fitted(points: dict[int, Point]) -> dict[int, Point]:
+def around(count: int, wide: float, high: float) -> list[Point]:
+    """Points on an ellipse from its top, equally far apart along it."""
+    angles = [math.tau * turn / TURNS - math.pi / 2 for turn in range(TURNS + 1)]
+    fine = [(wide / 2 * math.cos(angle), high / 2 * math.sin(angle)) for angle in angles]
+    along = list(accumulate((math.dist(a, b) for a, b in pairwise(fine)), initial=0.0))
+    return [fine[bisect_left(along, along[-1] * place / count)] for place in range(count)]
+
+
+def fitted(points: dict[int, Point]) -> Layout:
     """The points, moved and stretched into the field."""
     xs, ys = [x for x, _ in points.values()], [y for _, y in points.values()]
     wide, high = max(xs) - min(xs), max(ys) - min(ys)
-    room_x, room_y = WIDTH - 2 * MARGIN, HEIGHT - 2 * MARGIN
-    scale = min(room_x / wide if wide > 1e-9 else math.inf, room_y / high if high > 1e-9 else math.inf)
+    scale = min(ROOM_X / wide if wide > 1e-9 else math.inf, ROOM_Y / high if high > 1e-9 else math.inf)
     scale = 1.0 if math.isinf(scale) else scale
     middle_x, middle_y = (max(xs) + min(xs)) / 2, (max(ys) + min(ys)) / 2
-    return {
+    moved = {
         node: (round(WIDTH / 2 + (x - middle_x) * scale, 1), round(HEIGHT / 2 + (y - middle_y) * scale, 1))
         for node, (x, y) in points.items()
     }
-
-
-def radius_of(points: list[Point]) -> float:
-    """As large as leaves a gap between the nearest two."""
-    nearest = min((math.dist(a, b) for i, a in enumerate(points) for b in points[:i]), default=200.0)
-    return round(max(4.0, min(26.0, 0.3 * nearest)), 1)
+    return Layout(moved, min((math.dist(a, b) for a, b in combinations(moved.values(), 2)), default=200.0))

@@ -133,7 +133,7 @@ def filled(name: str, title: str, drawing: Drawing, picture: str, data: dict[str
         "TITLE": escape(title),
         "STYLE": (FOLDER / "drawing.css").read_text("utf-8") + (FOLDER / "player.css").read_text("utf-8"),
         "DRAWING": picture,
-        "STUDENTS": "".join(legend_row(drawing, student) for student in drawing.lab.students),
+        "STUDENTS": legend(drawing),
         "DATA": data_element(json.dumps(data, separators=(",", ":"))),
         "PROGRAM": "".join((FOLDER / file).read_text("utf-8") for file in ("picture.js", f"{name}.js")),
     }
@@ -142,10 +142,17 @@ def filled(name: str, title: str, drawing: Drawing, picture: str, data: dict[str
     return head + "".join(parts[piece.split("}}", 1)[0]] + piece.split("}}", 1)[1] for piece in rest)
 
 
+def legend(drawing: Drawing) -> str:
+    """A row for each student, and what letters at the nodes stand for."""
+    rows = "".join(legend_row(drawing, student) for student in drawing.lab.students)
+    return rows + (f"<li>{drawing.letters}</li>" if drawing.signed else "")
+
+
 def legend_row(drawing: Drawing, student: str) -> str:
     nodes = [str(node) for node in drawing.lab.nodes_of(student)]
     swatch = f'<svg width="14" height="14"><circle class="owned" style="--hue:{drawing.hue(student)}" cx="7" cy="7" r="6"/></svg>'
-    return f"<li>{swatch} {escape(student)}: {', '.join(nodes) or 'no node'}</li>"
+    sign = f"<strong>{drawing.signs[student]}</strong> " if drawing.signed else ""
+    return f"<li>{swatch} {sign}{escape(student)}: {', '.join(nodes) or 'no node'}</li>"
 
 
 def data_element(text: str) -> str:

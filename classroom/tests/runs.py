@@ -1,6 +1,7 @@
 """Labs and journals that the tests show."""
 from __future__ import annotations
 
+import json
 import os
 import subprocess
 from pathlib import Path
@@ -8,6 +9,7 @@ from pathlib import Path
 TOP = Path(__file__).resolve().parents[2]
 PROGRAM = Path(os.environ.get("MML_PROGRAM") or TOP / "crates" / "mml_server" / "out" / "mml_server")
 EXAMPLES = TOP / "examples"
+BUILT_IN = EXAMPLES / "built-in.toml"
 STUDENTS = (("ana", "a-key"), ("ben", "b-key"))
 
 
@@ -17,18 +19,11 @@ def journal_of(lab: Path, script: Path, journal: Path) -> Path:
     return journal
 
 
-def built_in(room: Path) -> Path:
-    """The lab that docs/LAB.md shows, which is built into the program."""
-    lab = room / "built-in.toml"
-    lab.write_text((TOP / "docs" / "LAB.md").read_text().split("```toml\n")[1].split("```")[0])
-    return lab
-
-
 def examples(room: Path) -> list[tuple[Path, Path]]:
     """Each lab of examples/ that has a run, with the run's journal, and the built-in one with its own."""
     runs = [(lab, lab.with_name(f"{lab.stem}-run.script")) for lab in sorted(EXAMPLES.glob("*.toml"))]
     made = [(lab, journal_of(lab, script, room / f"{lab.stem}.journal")) for lab, script in runs if script.exists()]
-    return [*made, (built_in(room), EXAMPLES / "whole-run.journal")]
+    return [*made, (BUILT_IN, EXAMPLES / "whole-run.journal")]
 
 
 def lab_text(nodes: int, links: list[tuple[int, int]], events: int) -> str:
@@ -40,6 +35,19 @@ def lab_text(nodes: int, links: list[tuple[int, int]], events: int) -> str:
     for node in range(1, nodes + 1):
         rows += ["[[node]]", f"id = {node}", 'owner = "ana"' if node % 2 else 'owners = ["ana", "ben"]']
     return "\n".join(rows) + "\n"
+
+
+def many_owners(room: Path, nodes: int) -> Path:
+    """A cycle of so many nodes: names with the same initial, another one, and two owners for each third node."""
+    names = [f"student-{number}" for number in range(1, 13)] + ["zoe"]
+    lab = room / f"owners-{nodes}.toml"
+    rows = ["events = 9", "sessions = 2", "links = [" + ", ".join(f"[{a}, {a % nodes + 1}]" for a in range(1, nodes + 1)) + "]"]
+    rows += ['teacher = {name = "tess", key = "chalk"}', *(f'[[student]]\nname = "{name}"\nkey = "key"' for name in names)]
+    for node in range(1, nodes + 1):
+        owners = [names[node % 13], names[(node + 1) % 13]][: 2 if node % 3 == 0 else 1]
+        rows += [f"[[node]]\nid = {node}\nowners = {json.dumps(owners)}"]
+    lab.write_text("\n".join(rows) + "\n")
+    return lab
 
 
 def edited_run(room: Path) -> tuple[Path, Path]:

@@ -12,7 +12,7 @@ from unittest import mock
 from classroom import frames as module
 from classroom.frames import Frame, State, frames_of
 from classroom.program import Fault
-from classroom.tests.runs import PROGRAM, TOP, built_in, edited_run, examples
+from classroom.tests.runs import BUILT_IN, PROGRAM, TOP, edited_run, examples
 
 
 def states(lab: Path, journal: Path) -> list[State]:
@@ -36,7 +36,7 @@ class Replayed(unittest.TestCase):
                 self.assertEqual(shown, [(None, 0), *told])
 
     def test_the_whole_run_by_hand(self) -> None:
-        run = states(built_in(self.room), TOP / "examples" / "whole-run.journal")
+        run = states(BUILT_IN, TOP / "examples" / "whole-run.journal")
         self.assertEqual(run[3].pointers, {1: 2, 2: 3, 3: None})
         self.assertEqual(run[2].chosen, {1: "seduction", 2: "seduction"})
         self.assertEqual(run[3].chosen, {})
@@ -75,7 +75,7 @@ class Replayed(unittest.TestCase):
         )
         liar.chmod(liar.stat().st_mode | stat.S_IXUSR)
         with mock.patch.dict("os.environ", MML_PROGRAM=str(liar)):
-            run = states(built_in(self.room), TOP / "examples" / "whole-run.journal")
+            run = states(BUILT_IN, TOP / "examples" / "whole-run.journal")
         self.assertEqual([state.ms[3] for state in run], [True] * len(run))
 
     def test_a_journal_that_the_audit_refuses_is_not_played(self) -> None:
@@ -83,12 +83,12 @@ class Replayed(unittest.TestCase):
         lines = (TOP / "examples" / "whole-run.journal").read_text().splitlines(keepends=True)
         journal.write_text(lines[0] + lines[0] + "".join(lines[2:]))
         with self.assertRaisesRegex(Fault, "audit: line 2: wrong place or configuration$"):
-            states(built_in(self.room), journal)
+            states(BUILT_IN, journal)
 
     def test_an_empty_journal_is_its_beginning(self) -> None:
         journal = self.room / "empty.journal"
         journal.write_text("")
-        _, frames = frames_of(built_in(self.room), journal)
+        _, frames = frames_of(BUILT_IN, journal)
         beginning: Frame = next(frames)
         self.assertEqual(beginning.state.privileged, {1: "seduction", 2: "seduction"})
         self.assertIsNone(next(frames, None))

@@ -5,12 +5,14 @@ import unittest
 import xml.etree.ElementTree as ElementTree
 from pathlib import Path
 from typing import Any
+from unittest.mock import patch
 
 from selenium.webdriver.common.keys import Keys
 
 from classroom.frames import frames_of
+from classroom.play import picture
 from classroom.tests.browser import Played, shown, told, until
-from classroom.tests.runs import TOP, built_in, edited_run, examples
+from classroom.tests.runs import BUILT_IN, EXAMPLES, TOP, edited_run, examples, journal_of
 
 
 class Play(Played):
@@ -64,19 +66,15 @@ class Play(Played):
         until(self.driver, lambda driver: driver.find_element("id", "play").text == "Play")
 
     def test_names_of_files_end_nothing(self) -> None:
-        lab, journal = edited_run(self.room)
-        odd = self.room / "</title><script>window.broken=1</script>'\".toml"
-        try:
-            odd.write_text(lab.read_text())
-        except OSError:
-            odd = self.room / "<b>'\".toml"
-            odd.write_text(lab.read_text())
-        self.open(self.page(odd, journal))
+        odd = "<img src=x onerror=window.broken=1>'\"&\n{{DATA}}<b>"
+        lab, journal = (file.rename(file.with_stem(odd)) for file in edited_run(self.room))
+        self.open(self.page(lab, journal))
         self.assertIsNone(self.driver.execute_script("return window.broken || null"))
-        self.assertIn("<", self.driver.title)
+        self.assertEqual(self.driver.find_elements("css selector", "h1 *, title *"), [])
+        self.assertEqual(self.driver.title, " ".join(f"{lab.stem}: {journal.name}".split()))
 
     def test_it_asks_for_nothing_else(self) -> None:
-        text = self.page(built_in(self.room), TOP / "examples" / "whole-run.journal").read_text()
+        text = self.page(BUILT_IN, TOP / "examples" / "whole-run.journal").read_text()
         for word in ("http://", "https://", "src=", "@import", "url("):
             found = text.replace('xmlns="http://www.w3.org/2000/svg"', "").replace('"http://www.w3.org/2000/svg"', "")
             self.assertNotIn(word, found.replace("url(#arrow)", ""))
@@ -92,6 +90,14 @@ class Play(Played):
             self.assertEqual((done.returncode, done.stderr), (0, ""))
             self.assertEqual(attributes(output), told(frame.state, frame)[:2])
         self.assertEqual(self.call("play", lab, journal, "--svg", "99", "-o", output).returncode, 3)
+
+    def test_the_picture_of_the_documents(self) -> None:
+        kept, output = TOP / "docs" / "cycle.svg", self.room / "cycle.svg"
+        lab = EXAMPLES / "cycle.toml"
+        journal = journal_of(lab, EXAMPLES / "cycle-run.script", self.room / "journal")
+        with patch("shutil.which", return_value=None):
+            output.write_text(picture(lab, journal, int(attributes(kept)[0]["place"])))
+        self.assertEqual(output.read_text(), kept.read_text())
 
     def test_words_that_are_wrong(self) -> None:
         lab, journal = edited_run(self.room)
