@@ -34,6 +34,46 @@ pub const FIRST_LOOK_REPLIES: &str = r#"1 {"ok":"hello","who":"ana"}
 1 {"clause":1,"deny":"hidden","text":"this node is not shown to you"}
 "#;
 
+/// The greetings of all four over `labs::PATH_OF_THREE`.
+pub const GREETINGS: &str = r#"1 {"do":"hello","key":"a-key","name":"ana"}
+2 {"do":"hello","key":"b-key","name":"ben"}
+3 {"do":"hello","key":"c-key","name":"cyd"}
+4 {"do":"hello","key":"chalk","name":"tess"}
+"#;
+
+/// What is answered to `GREETINGS`.
+pub const WELCOMES: &str = r#"1 {"ok":"hello","who":"ana"}
+2 {"ok":"hello","who":"ben"}
+3 {"ok":"hello","who":"cyd"}
+4 {"ok":"hello","who":"tess"}
+"#;
+
+/// Ten acts that are granted after `GREETINGS`, whose journal is `TEN_LINES`.
+pub const TEN_ACTS: &str = r#"1 {"at":0,"do":"move","node":1,"rule":"seduction"}
+2 {"at":0,"do":"move","node":2,"rule":"seduction"}
+4 {"do":"close"}
+3 {"at":1,"do":"move","node":3,"rule":"marriage","with":2}
+4 {"do":"close"}
+2 {"at":2,"do":"move","node":2,"rule":"update"}
+3 {"at":2,"do":"move","node":3,"rule":"update"}
+4 {"do":"close"}
+1 {"at":3,"do":"move","node":1,"rule":"abandonment"}
+4 {"do":"close"}
+"#;
+
+/// What is answered to `TEN_ACTS`.
+pub const TEN_GRANTS: &str = r#"1 {"at":0,"node":1,"ok":"move","place":1,"rule":"seduction"}
+2 {"at":0,"node":2,"ok":"move","place":2,"rule":"seduction"}
+4 {"at":1,"moved":[1,2],"ok":"close","place":3}
+3 {"at":1,"node":3,"ok":"move","place":4,"rule":"marriage"}
+4 {"at":2,"moved":[3],"ok":"close","place":5}
+2 {"at":2,"node":2,"ok":"move","place":6,"rule":"update"}
+3 {"at":2,"node":3,"ok":"move","place":7,"rule":"update"}
+4 {"at":3,"moved":[2,3],"ok":"close","place":8}
+1 {"at":3,"node":1,"ok":"move","place":9,"rule":"abandonment"}
+4 {"at":4,"moved":[1],"ok":"close","place":10}
+"#;
+
 /// The journal of ten acts over `labs::PATH_OF_THREE`, up to a pair that holds.
 pub const TEN_LINES: &str = r#"1 0 grant ana 1 seduction
 2 0 grant ben 2 seduction

@@ -1,11 +1,17 @@
 //! The ten acts of a stored run over the path of three, and how houses end.
-ghost use Rattle.std.specs.Prelude.{◌≡◌, ◌+◌, ◌≤◌, length, true};
+ghost use Rattle.std.specs.Prelude.{◌≡◌, ◌+◌, ◌-◌, ◌^◌, ◌<◌, ◌≤◌, length, true};
 ghost use Rattle.mml_policy.specs.Acts.{is_act};
+ghost use Rattle.mml_journal.specs.Taken.{IsFresh};
+ghost use Rattle.mml_window.specs.Houses.{house_of};
 
+use mml_fakes::labs::PATH_OF_THREE;
 use mml_journal::Sink;
-use mml_lab::{Student, Who};
+use mml_lab::{Student, Who, read_lab};
 use mml_policy::{Asked, Command};
-use mml_window::{Astray, House, Log, Window};
+use mml_window::{Astray, Blank, Brand, Desk, House, Log, Window, open_house};
+use std::alloc::Global;
+use std::sync::Wait;
+use std::test::Fail;
 
 /// How many acts there are.
 pub const ACTS: u64 = 10;
@@ -55,6 +61,81 @@ pub fn number_before(place: u64) -> u64 {
         9 | 10 => 3,
         _ => 4,
     }
+}
+
+/// What is done through a window of a house.
+pub trait Visit<S: Sink> {
+    /// What is told of it.
+    type Told: Drop;
+
+    fn visit<H: House, R: Wait>(
+        &self,
+        rt: &R,
+        alloc: Global,
+        desk: &Desk<S, H>,
+        window: &mut Window<H>,
+    ) -> Self::Told;
+}
+
+/// Does it through one of these windows.
+fn visit_one<V: Visit<S>, S: Sink + Drop, H: House, R: Wait>(
+    rt: &R,
+    alloc: Global,
+    desk: &Desk<S, H>,
+    windows: &mut Vec<Window<H>>,
+    visit: &V,
+) -> Option<V::Told>
+    ensures { length windows.new.items ≤ length windows.old.items }
+{
+    let mut window = windows.pop()?;
+    let told = visit.visit(rt, alloc, desk, &mut window);
+    give_back(windows, window);
+    Some(told)
+}
+
+/// What is told of a visit, if there was a window for it, and how the house ended.
+type Visited<T, S> = (Option<T>, Result<Log<S>, Astray>);
+
+fn visit_house<V: Visit<S>, S: Sink + Drop, H: House, R: Wait>(
+    rt: &R,
+    alloc: Global,
+    blank: Blank<S>,
+    visit: &V,
+) -> Result<Visited<V::Told, S>, Fail>
+    requires { blank ≡ house_of H.name H.lab }
+{
+    let (desk, mut windows) = blank.start::<H>(alloc)?;
+    let told = visit_one(rt, alloc, &desk, &mut windows, visit);
+    Ok((told, desk.finish(rt, windows)))
+}
+
+/// Visits a house over the lab that a file spells.
+pub fn visit_lab<V: Visit<S>, S: Sink + Drop, R: Wait>(
+    rt: &R,
+    alloc: Global,
+    file: &str,
+    sink: S,
+    visit: &V,
+) -> Result<Visited<V::Told, S>, Fail>
+    requires fresh { IsFresh (S.contents sink) }
+    requires countable { S.failures sink < 2 ^ 64 - 1 }
+{
+    let lab = read_lab(alloc, file.as_bytes())?;
+    let blank = open_house(rt, alloc, lab, sink)?;
+    visit_house::<_, _, Brand, _>(rt, alloc, blank, visit)
+}
+
+/// Visits a house over the path of three.
+pub fn visit_path<V: Visit<S>, S: Sink + Drop, R: Wait>(
+    rt: &R,
+    alloc: Global,
+    sink: S,
+    visit: &V,
+) -> Result<Visited<V::Told, S>, Fail>
+    requires fresh { IsFresh (S.contents sink) }
+    requires countable { S.failures sink < 2 ^ 64 - 1 }
+{
+    visit_lab(rt, alloc, PATH_OF_THREE, sink, visit)
 }
 
 /// Puts a window back among those that the house will end with.

@@ -1,13 +1,15 @@
 //! Sessions in threads of their own, held at each line and each reply until the others are there.
+mod locked;
 mod steps;
 
-ghost use Rattle.std.specs.Prelude.{◌≡◌, ◌≤◌, length};
+ghost use Rattle.std.specs.Prelude.{◌≡◌, ◌<◌, ◌≤◌, ◌-◌, ◌^◌, length};
+ghost use Rattle.mml_journal.specs.Taken.{IsFresh};
 ghost use Rattle.mml_window.specs.Houses.{house_of};
 
 use mml_fakes::FakeReader;
 use mml_fakes::labs::PATH_OF_THREE;
 use mml_fakes::meeting::Meeting;
-use mml_journal::MemorySink;
+use mml_journal::{MemorySink, Sink};
 use mml_lab::read_lab;
 use mml_session::{Connection, Gate, Point, ServedHouse, SessionEnd, serve_house};
 use mml_window::{Blank, Brand, House, open_house};
@@ -19,7 +21,7 @@ use steps::{Hold, Steps};
 
 type Talks<'a> = Vec<Connection<FakeReader<'a>, Vec<u8>>>;
 
-type Ended<'a> = ServedHouse<MemorySink, FakeReader<'a>, Vec<u8>>;
+type Ended<'a, S> = ServedHouse<S, FakeReader<'a>, Vec<u8>>;
 
 /// Connections that are numbered from 1 on and ask these scripts.
 fn talks<'a>(alloc: Global, scripts: &[&'a str]) -> Result<Talks<'a>, AllocError> {
@@ -38,13 +40,13 @@ fn talks<'a>(alloc: Global, scripts: &[&'a str]) -> Result<Talks<'a>, AllocError
     Ok(talks)
 }
 
-fn serve_in<'a, H: House + Send + Sync, R: Threads + Wait + Sync, G: Gate + Sync>(
-    rt: &R,
-    alloc: Global,
-    blank: Blank<MemorySink>,
-    talks: Talks<'a>,
-    gate: &G,
-) -> Result<Ended<'a>, Fail>
+fn serve_in<
+    'a,
+    S: Sink + Send + Drop,
+    H: House + Send + Sync,
+    R: Threads + Wait + Sync,
+    G: Gate + Sync,
+>(rt: &R, alloc: Global, blank: Blank<S>, talks: Talks<'a>, gate: &G) -> Result<Ended<'a, S>, Fail>
     requires named { blank ≡ house_of H.name H.lab }
     requires few { length talks.items ≤ H.lab.sessions }
 {
@@ -61,18 +63,33 @@ fn serve<'a, R: Threads + Wait + Sync, G: Gate + Sync>(
     file: &str,
     scripts: &[&'a str],
     gate: &G,
-) -> Result<Ended<'a>, Fail> {
+) -> Result<Ended<'a, MemorySink>, Fail> {
+    serve_over(rt, alloc, file, MemorySink::new(alloc, None), scripts, gate)
+}
+
+/// The same over a sink.
+fn serve_over<'a, S: Sink + Send + Drop, R: Threads + Wait + Sync, G: Gate + Sync>(
+    rt: &R,
+    alloc: Global,
+    file: &str,
+    sink: S,
+    scripts: &[&'a str],
+    gate: &G,
+) -> Result<Ended<'a, S>, Fail>
+    requires fresh { IsFresh (S.contents sink) }
+    requires countable { S.failures sink < 2 ^ 64 - 1 }
+{
     let lab = read_lab(alloc, file.as_bytes())?;
     let talks = talks(alloc, scripts)?;
     if talks.len() > usize::from(lab.sessions()) {
         return Err(Fail::from("more scripts than sessions"));
     }
-    let blank = open_house(rt, alloc, lab, MemorySink::new(alloc, None))?;
-    serve_in::<Brand, _, _>(rt, alloc, blank, talks, gate)
+    let blank = open_house(rt, alloc, lab, sink)?;
+    serve_in::<_, Brand, _, _>(rt, alloc, blank, talks, gate)
 }
 
 /// Whether each session ended so, and the last reply to each before its bye is the one that is wanted.
-fn end_with(ended: &Ended<'_>, end: SessionEnd, replies: &[&str]) -> bool {
+fn end_with<S: Drop>(ended: &Ended<'_, S>, end: SessionEnd, replies: &[&str]) -> bool {
     let sessions = ended.sessions.as_slice();
     sessions.len() == replies.len()
         && sessions.iter().zip(replies.iter()).all(|(session, reply)| {
@@ -83,7 +100,7 @@ fn end_with(ended: &Ended<'_>, end: SessionEnd, replies: &[&str]) -> bool {
 }
 
 /// Whether that journal was kept.
-fn has_journal(ended: &Ended<'_>, journal: &str) -> bool {
+fn has_journal(ended: &Ended<'_, MemorySink>, journal: &str) -> bool {
     ended.log.sink.bytes() == journal.as_bytes()
 }
 
@@ -181,7 +198,7 @@ const MEETINGS_AFTER: &[Hold] = &[
 const IN_ORDER: &[Hold] = &[(1, 1, 2, 3), (2, 2, 1, 4)];
 
 /// Whether one of two has the first reply and the first journal, and the other is denied.
-fn is_won(ended: &Ended<'_>, won: &str, lost: &str, journals: [&str; 2]) -> bool {
+fn is_won(ended: &Ended<'_, MemorySink>, won: &str, lost: &str, journals: [&str; 2]) -> bool {
     let [first, second] = journals;
     let by_first = end_with(ended, SessionEnd::Bye, &[won, lost]) && has_journal(ended, first);
     let by_second = end_with(ended, SessionEnd::Bye, &[lost, won]) && has_journal(ended, second);

@@ -1,6 +1,9 @@
 //! Each request for memory refused in turn: the answer is the plain one or tells it, and nothing is lost.
+mod answering;
 mod asking;
 mod library;
+mod replies;
+mod serving;
 mod untouched;
 
 use library::{is_there, refuse, was_none_refused};

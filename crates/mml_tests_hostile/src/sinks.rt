@@ -1,15 +1,12 @@
 //! Houses whose sinks fail, asked for the acts of a stored run.
 mod drips;
 
-ghost use Rattle.std.specs.Prelude.{◌≡◌, ◌≤◌, length};
-ghost use Rattle.mml_window.specs.Houses.{house_of};
-
-use crate::houses::{ACTS, Ending, act, asker, ending_of, first_lines, give_back, number_before};
-use mml_fakes::labs::PATH_OF_THREE;
+use crate::houses::{
+    ACTS, Ending, Visit, act, asker, ending_of, first_lines, number_before, visit_path,
+};
 use mml_fakes::scripts::TEN_LINES;
 use mml_journal::{MemorySink, Sink};
-use mml_lab::read_lab;
-use mml_window::{Answer, Blank, Brand, Desk, House, Refusal, Window, open_house};
+use mml_window::{Answer, Astray, Desk, House, Log, Refusal, Window};
 use std::alloc::Global;
 use std::sync::Wait;
 use std::test::Fail;
@@ -42,39 +39,24 @@ fn plays<S: Sink + Drop, H: House, R: Wait>(
     true
 }
 
-/// The same through one of these windows.
-pub fn plays_in<S: Sink + Drop, H: House, R: Wait>(
-    rt: &R,
-    alloc: Global,
-    desk: &Desk<S, H>,
-    windows: &mut Vec<Window<H>>,
+/// All acts, where the sink fails at the line of the last one.
+#[derive(Clone, Copy)]
+struct Acts {
     last: u64,
-) -> Option<bool>
-    ensures { length windows.new.items ≤ length windows.old.items }
-{
-    let mut window = windows.pop()?;
-    let plays = plays(rt, alloc, desk, &mut window, last);
-    Some(give_back(windows, window) && plays)
 }
 
-/// The same of a house, how it ends, and whether it has the lines before the last.
-fn in_house<H: House, R: Wait>(
-    rt: &R,
-    alloc: Global,
-    blank: Blank<MemorySink>,
-    last: u64,
-) -> Result<(Option<bool>, Ending, bool), Fail>
-    requires { blank ≡ house_of H.name H.lab }
-{
-    let (desk, mut windows) = blank.start::<H>(alloc)?;
-    let plays = plays_in(rt, alloc, &desk, &mut windows, last);
-    let end = desk.finish(rt, windows);
-    let lines = first_lines(TEN_LINES, last.saturating_sub(1));
-    let has_lines = match &end {
-        Ok(log) => log.sink.bytes() == lines.as_bytes(),
-        Err(_) => false,
-    };
-    Ok((plays, ending_of(&end), has_lines))
+impl<S: Sink + Drop> Visit<S> for Acts {
+    type Told = bool;
+
+    fn visit<H: House, R: Wait>(
+        &self,
+        rt: &R,
+        alloc: Global,
+        desk: &Desk<S, H>,
+        window: &mut Window<H>,
+    ) -> bool {
+        plays(rt, alloc, desk, window, self.last)
+    }
 }
 
 /// How a house ends that was asked for all acts, whose sink failed at the line of the last one.
@@ -86,12 +68,20 @@ pub fn ending_at(last: u64) -> Ending {
     }
 }
 
+/// Whether a house ended so, with the lines before the last.
+fn has_lines(end: &Result<Log<MemorySink>, Astray>, last: u64) -> bool {
+    let lines = first_lines(TEN_LINES, last.saturating_sub(1));
+    match end {
+        Ok(log) => log.sink.bytes() == lines.as_bytes(),
+        Err(_) => false,
+    }
+}
+
 /// Whether all that holds of a sink in memory whose put of that number fails.
 fn stops_at<R: Wait>(rt: &R, alloc: Global, put: u64) -> Result<bool, Fail> {
-    let lab = read_lab(alloc, PATH_OF_THREE.as_bytes())?;
-    let blank = open_house(rt, alloc, lab, MemorySink::new(alloc, Some(put)))?;
-    let found = in_house::<Brand, _>(rt, alloc, blank, put)?;
-    Ok(found == (Some(true), ending_at(put), true))
+    let sink = MemorySink::new(alloc, Some(put));
+    let (plays, end) = visit_path(rt, alloc, sink, &Acts { last: put })?;
+    Ok(plays == Some(true) && ending_of(&end) == ending_at(put) && has_lines(&end, put))
 }
 
 /// The first put that fails with something else left. One more than there are doesn't fail.

@@ -207,33 +207,26 @@ fn write(network: &mut Network, node: Rank, regs: Regs) -> bool {
 
 // What a board should tell.
 impl PlainBoard {
-    /// Whether every reader of the board tells this world; what scans all nodes is asked at those
-    /// to be looked at, and how many nodes are privileged if these are all.
-    pub fn is_told_by(&self, board: &Board, looked: NodeSet) -> bool {
+    /// Whether every reader of the board tells this world.
+    pub fn is_told_by(&self, board: &Board) -> bool {
         if board.size() != self.network.size() {
             return false;
         }
         let mut privileged = NodeSet::empty();
         for index in 0..self.network.size() {
             let node = Rank::at(index);
-            if !self.is_world_told(board, node) {
+            let kind = enabled(&self.network, node);
+            if !self.is_world_told(board, node) || !self.are_looks_told(board, node, kind) {
                 return false;
             }
-            if looked.has(node) {
-                let kind = enabled(&self.network, node);
-                if !self.are_looks_told(board, node, kind) {
-                    return false;
-                }
-                if kind.is_some() {
-                    privileged = privileged.with(node);
-                }
+            if kind.is_some() {
+                privileged = privileged.with(node);
             }
         }
-        let is_counted = looked.len() == self.network.size();
         let chosen = self.chosen_set();
         board.number() == self.number
             && board.place() == self.place
-            && (!is_counted || board.privileged_count() == privileged.len())
+            && board.privileged_count() == privileged.len()
             && same_nodes(board.chosen_set(), chosen)
             && board.is_any_chosen() == chosen.greatest().is_some()
     }

@@ -1,6 +1,5 @@
 //! A board and a plain one over the same events.
-ghost use Rattle.std.specs.Prelude.{◌<◌, ◌≤◌};
-ghost use Rattle.mml_ids.specs.declared.TheConstants.{MAX_NODES};
+ghost use Rattle.std.specs.Prelude.{◌<◌};
 
 use crate::board::drawing::drawn;
 use crate::board::plain::PlainBoard;
@@ -58,22 +57,6 @@ fn kind(event: &Event) -> u64 {
     }
 }
 
-/// The nodes at which the boards are looked at in a round: all in each round that `every` divides,
-/// and one in `every` in the others, in turn.
-fn looked(size: u64, round: u64, every: u64) -> NodeSet
-    requires few { size ≤ MAX_NODES }
-    requires some { 0 < every }
-{
-    let mut nodes = NodeSet::empty();
-    let turn = round % every;
-    for index in 0..size {
-        if turn == 0 || index % every == turn {
-            nodes = nodes.with(Rank::at(index));
-        }
-    }
-    nodes
-}
-
 /// A plain board, one to which events are applied, and one that absorbs them.
 #[derive(Drop)]
 struct Twins {
@@ -91,13 +74,7 @@ impl Twins {
     }
 
     /// Whether the event is legal, does the same on all boards, and leaves every reader the same.
-    fn agree(
-        &mut self,
-        alloc: Global,
-        lab: &Lab,
-        event: &Event,
-        nodes: NodeSet,
-    ) -> Result<bool, Memory> {
+    fn agree(&mut self, alloc: Global, lab: &Lab, event: &Event) -> Result<bool, Memory> {
         let is_done = self.plain.is_done(event, &self.board.done(event));
         let is_legal = self.board.is_legal(lab.roster(), event);
         if self.board.can_absorb(event) {
@@ -105,23 +82,20 @@ impl Twins {
         }
         self.twin.absorb_event(event);
         let is_taken = self.plain.absorb(alloc, event)?;
-        let is_same = self.board.is_same(&self.twin) && self.plain.is_told_by(&self.board, nodes);
+        let is_same = self.board.is_same(&self.twin) && self.plain.is_told_by(&self.board);
         Ok(is_done && is_legal && is_taken && is_same)
     }
 }
 
 /// Of 1,000 events over a lab, on how many the boards agree; and how many kinds of events there were.
-fn agreed_by(alloc: Global, lab: &Lab, twins: &mut Twins, every: u64) -> Result<(u64, u64), Fail>
-    requires { 0 < every }
-{
+fn agreed_by(alloc: Global, lab: &Lab, twins: &mut Twins) -> Result<(u64, u64), Fail> {
     let mut numbers = Numbers {
         state: lab.node_count(),
     };
     let (mut agreed, mut kinds) = (0u64, NodeSet::empty());
-    for round in 0..1000u64 {
+    for _ in 0..1000u64 {
         let event = &drawn(&twins.plain, &mut numbers);
-        let nodes = looked(twins.board.size(), round, every);
-        if twins.agree(alloc, lab, event, nodes)? {
+        if twins.agree(alloc, lab, event)? {
             agreed = agreed.wrapping_add(1);
         }
         kinds = kinds.with(Rank::at(kind(event).min(5)));
@@ -130,38 +104,32 @@ fn agreed_by(alloc: Global, lab: &Lab, twins: &mut Twins, every: u64) -> Result<
 }
 
 /// The same from the beginning of a run.
-fn agreed_over(alloc: Global, lab: &Lab, every: u64) -> Result<(u64, u64), Fail>
-    requires { 0 < every }
-{
+fn agreed_over(alloc: Global, lab: &Lab) -> Result<(u64, u64), Fail> {
     let mut twins = Twins::new(alloc, lab)?;
-    agreed_by(alloc, lab, &mut twins, every)
+    agreed_by(alloc, lab, &mut twins)
 }
 
 /// The same over the lab that a document spells.
-fn agreed_in(alloc: Global, document: &str, every: u64) -> Result<(u64, u64), Fail>
-    requires { 0 < every }
-{
+fn agreed_in(alloc: Global, document: &str) -> Result<(u64, u64), Fail> {
     let lab = read_lab(alloc, document.as_bytes())?;
-    agreed_over(alloc, &lab, every)
+    agreed_over(alloc, &lab)
 }
 
 /// The same over a mesh of so many nodes.
-fn agreed(alloc: Global, count: u64, every: u64) -> Result<(u64, u64), Fail>
-    requires { 0 < every }
-{
+fn agreed(alloc: Global, count: u64) -> Result<(u64, u64), Fail> {
     let document = mesh(alloc, count)?;
-    agreed_in(alloc, document.as_str(), every)
+    agreed_in(alloc, document.as_str())
 }
 
 #[test]
 fn board_of_64_nodes_is_the_plain_one(rt: HostRuntime) -> Result<(), Fail> {
-    assert_eq!(rt; agreed(rt.alloc(), 64, 1)?, (1000, 6));
+    assert_eq!(rt; agreed(rt.alloc(), 64)?, (1000, 6));
     Ok(())
 }
 
 // A scan of 256 nodes for each of them after each event would take a minute.
 #[test]
 fn board_of_256_nodes_is_the_plain_one(rt: HostRuntime) -> Result<(), Fail> {
-    assert_eq!(rt; agreed(rt.alloc(), 256, 16)?, (1000, 6));
+    assert_eq!(rt; agreed(rt.alloc(), 256)?, (1000, 6));
     Ok(())
 }

@@ -12,7 +12,7 @@ pub type Hold = (u8, u64, u8, u64);
 #[derive(Drop)]
 pub struct Steps<'a> {
     holds: &'a [Hold],
-    come: Vec<AtomicU64>,
+    steps: Vec<AtomicU64>,
     given_up: AtomicU64,
     misled: AtomicU64,
 }
@@ -20,20 +20,20 @@ pub struct Steps<'a> {
 impl<'a> Steps<'a> {
     /// For so many connections.
     pub fn new(alloc: Global, connections: u8, holds: &'a [Hold]) -> Result<Steps<'a>, AllocError> {
-        let mut come = Vec::new(alloc);
+        let mut steps = Vec::new(alloc);
         for _ in 0..connections {
-            come.push(AtomicU64::new(0))?;
+            steps.push(AtomicU64::new(0))?;
         }
         Ok(Steps {
             holds,
-            come,
+            steps,
             given_up: AtomicU64::new(0),
             misled: AtomicU64::new(0),
         })
     }
 
     fn come_of(&self, connection: u8) -> Option<&AtomicU64> {
-        self.come.get(usize::from(connection.saturating_sub(1)))
+        self.steps.get(usize::from(connection.saturating_sub(1)))
     }
 
     fn has_come(&self, connection: u8, wanted: u64) -> bool {
@@ -51,19 +51,22 @@ impl<'a> Steps<'a> {
         }
     }
 
-    /// Whether each connection passed so many steps, lines and replies in turn, and nobody gave up.
+    /// Whether all passed lines and replies in turn, and nobody gave up.
+    pub fn were_led(&self) -> bool {
+        self.given_up.load(Ordering::SeqCst) == 0 && self.misled.load(Ordering::SeqCst) == 0
+    }
+
+    /// The same, and whether each connection passed so many steps.
     pub fn were_kept(&self, steps: u64) -> bool {
-        self.given_up.load(Ordering::SeqCst) == 0
-            && self.misled.load(Ordering::SeqCst) == 0
+        self.were_led()
             && self
-                .come
+                .steps
                 .iter()
                 .all(|come| come.load(Ordering::SeqCst) == steps)
     }
-}
 
-impl<'a> Gate for Steps<'a> {
-    fn pass(&self, connection: u8, point: Point) {
+    /// Comes to the next step of a connection, and is held there.
+    pub fn come(&self, connection: u8, point: Point) {
         let step = match self.come_of(connection) {
             Some(come) => come.fetch_add(1, Ordering::SeqCst),
             None => u64::MAX,
@@ -73,5 +76,11 @@ impl<'a> Gate for Steps<'a> {
             self.misled.fetch_add(1, Ordering::SeqCst);
         }
         self.hold(connection, step);
+    }
+}
+
+impl<'a> Gate for Steps<'a> {
+    fn pass(&self, connection: u8, point: Point) {
+        self.come(connection, point);
     }
 }

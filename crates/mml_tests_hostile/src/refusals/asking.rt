@@ -1,14 +1,9 @@
 //! The acts of a stored run, asked for through a window, each with each of its requests refused in turn.
-ghost use Rattle.std.specs.Prelude.{◌≡◌, ◌≤◌, length};
-ghost use Rattle.mml_window.specs.Houses.{house_of};
-
 use super::MOST;
 use super::library::{is_there, refuse, was_none_refused};
-use crate::houses::{ACTS, Ending, act, asker, ending_of, give_back, number_before};
-use mml_fakes::labs::PATH_OF_THREE;
+use crate::houses::{ACTS, Ending, Visit, act, asker, ending_of, number_before, visit_path};
 use mml_journal::NullSink;
-use mml_lab::read_lab;
-use mml_window::{Answer, Blank, Brand, Desk, House, Refusal, Window, open_house};
+use mml_window::{Answer, Desk, House, Refusal, Window};
 use std::alloc::Global;
 use std::sync::Wait;
 use std::test::Fail;
@@ -70,32 +65,24 @@ fn refusals_of_all<H: House, R: Wait>(
     Some(refused)
 }
 
-fn refusals_in<H: House, R: Wait>(
-    rt: &R,
-    alloc: Global,
-    desk: &Desk<NullSink, H>,
-    windows: &mut Vec<Window<H>>,
+/// All acts, each with its requests refused in turn.
+#[derive(Clone, Copy)]
+struct Acts {
     is_there: bool,
-) -> Option<usize>
-    ensures { length windows.new.items ≤ length windows.old.items }
-{
-    let mut window = windows.pop()?;
-    let refused = refusals_of_all(rt, alloc, desk, &mut window, is_there);
-    give_back(windows, window);
-    refused
 }
 
-fn in_house<H: House, R: Wait>(
-    rt: &R,
-    alloc: Global,
-    blank: Blank<NullSink>,
-    is_there: bool,
-) -> Result<(Option<usize>, Ending), Fail>
-    requires { blank ≡ house_of H.name H.lab }
-{
-    let (desk, mut windows) = blank.start::<H>(alloc)?;
-    let refused = refusals_in(rt, alloc, &desk, &mut windows, is_there);
-    Ok((refused, ending_of(&desk.finish(rt, windows))))
+impl Visit<NullSink> for Acts {
+    type Told = Option<usize>;
+
+    fn visit<H: House, R: Wait>(
+        &self,
+        rt: &R,
+        alloc: Global,
+        desk: &Desk<NullSink, H>,
+        window: &mut Window<H>,
+    ) -> Option<usize> {
+        refusals_of_all(rt, alloc, desk, window, self.is_there)
+    }
 }
 
 /// How often the acts were refused over the path of three, and how the house ended.
@@ -104,9 +91,8 @@ fn told_of_acts<R: Wait>(
     alloc: Global,
     is_there: bool,
 ) -> Result<(Option<usize>, Ending), Fail> {
-    let lab = read_lab(alloc, PATH_OF_THREE.as_bytes())?;
-    let blank = open_house(rt, alloc, lab, NullSink::new())?;
-    in_house::<Brand, _>(rt, alloc, blank, is_there)
+    let (refused, end) = visit_path(rt, alloc, NullSink::new(), &Acts { is_there })?;
+    Ok((refused.flatten(), ending_of(&end)))
 }
 
 #[test]

@@ -4,6 +4,8 @@ use std::alloc::Global;
 
 const ARM: usize = 0x11 << 56;
 
+const FROM: usize = 0x12 << 56;
+
 const MADE: usize = 0x13 << 56;
 
 const MET: usize = 0x14 << 56;
@@ -17,6 +19,11 @@ fn is_granted(alloc: Global, bytes: usize) -> bool {
 /// is 0.
 pub fn refuse(alloc: Global, nth: usize) {
     is_granted(alloc, ARM.saturating_add(nth.min(1_000_000)));
+}
+
+/// Has each request for memory that follows refused.
+pub fn refuse_all(alloc: Global) {
+    is_granted(alloc, FROM.saturating_add(1));
 }
 
 /// Whether no request was made since then.

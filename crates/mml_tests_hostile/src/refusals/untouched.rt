@@ -1,14 +1,11 @@
 //! Calls that take no memory: a view of a node, the number, and acts that are denied, over the limit of
 //! events, or asked for once the journal is halted.
-ghost use Rattle.std.specs.Prelude.{◌≡◌, ◌≤◌, length};
-ghost use Rattle.mml_window.specs.Houses.{house_of};
-
 use super::library::{is_there, refuse, was_none_made};
-use crate::houses::{act, asker, give_back};
+use crate::houses::{Visit, act, asker, visit_lab};
 use mml_fakes::labs::PATH_OF_THREE;
 use mml_journal::MemorySink;
-use mml_lab::{Who, read_lab};
-use mml_window::{Answer, Blank, Brand, Desk, House, Refusal, Window, open_house};
+use mml_lab::Who;
+use mml_window::{Answer, Desk, House, Refusal, Window};
 use std::alloc::Global;
 use std::sync::Wait;
 use std::test::Fail;
@@ -61,34 +58,25 @@ fn acts_take_none<H: House, R: Wait>(
         && views_take_none(alloc, window, is_there)
 }
 
-fn hold_in<H: House, R: Wait>(
-    rt: &R,
-    alloc: Global,
-    desk: &Desk<MemorySink, H>,
-    windows: &mut Vec<Window<H>>,
+/// The first act, and what is asked for after it.
+#[derive(Clone, Copy)]
+struct Asked {
     wanted: Refusal,
     is_there: bool,
-) -> Option<bool>
-    ensures { length windows.new.items ≤ length windows.old.items }
-{
-    let mut window = windows.pop()?;
-    let hold = acts_take_none(rt, alloc, desk, &mut window, wanted, is_there);
-    Some(give_back(windows, window) && hold)
 }
 
-fn in_house<H: House, R: Wait>(
-    rt: &R,
-    alloc: Global,
-    blank: Blank<MemorySink>,
-    wanted: Refusal,
-    is_there: bool,
-) -> Result<Option<bool>, Fail>
-    requires { blank ≡ house_of H.name H.lab }
-{
-    let (desk, mut windows) = blank.start::<H>(alloc)?;
-    let hold = hold_in(rt, alloc, &desk, &mut windows, wanted, is_there);
-    let _ = desk.finish(rt, windows);
-    Ok(hold)
+impl Visit<MemorySink> for Asked {
+    type Told = bool;
+
+    fn visit<H: House, R: Wait>(
+        &self,
+        rt: &R,
+        alloc: Global,
+        desk: &Desk<MemorySink, H>,
+        window: &mut Window<H>,
+    ) -> bool {
+        acts_take_none(rt, alloc, desk, window, self.wanted, self.is_there)
+    }
 }
 
 /// The same of a house over the path of three with so many events, whose sink fails at that put.
@@ -101,9 +89,14 @@ fn told_of<R: Wait>(
     is_there: bool,
 ) -> Result<Option<bool>, Fail> {
     let file = PATH_OF_THREE.replacen(alloc, "events = 100", events, 1)?;
-    let lab = read_lab(alloc, file.as_bytes())?;
-    let blank = open_house(rt, alloc, lab, MemorySink::new(alloc, fail_at))?;
-    in_house::<Brand, _>(rt, alloc, blank, wanted, is_there)
+    let (hold, _) = visit_lab(
+        rt,
+        alloc,
+        file.as_str(),
+        MemorySink::new(alloc, fail_at),
+        &Asked { wanted, is_there },
+    )?;
+    Ok(hold)
 }
 
 #[test]

@@ -1,15 +1,12 @@
 //! A sink that takes one byte a put, over a house, and the audit of what it has.
-ghost use Rattle.std.specs.Prelude.{◌≡◌};
-ghost use Rattle.mml_window.specs.Houses.{house_of};
-
-use super::{ending_at, plays_in};
-use crate::houses::{Ending, ending_of};
+use super::{Acts, ending_at};
+use crate::houses::{ending_of, visit_path};
 use mml_fakes::labs::PATH_OF_THREE;
 use mml_fakes::scripts::TEN_LINES;
 use mml_hall::{AuditFault, audit};
 use mml_journal::{Sink, SinkFault};
 use mml_lab::{Lab, read_lab};
-use mml_window::{Astray, Blank, Brand, House, Log, open_house};
+use mml_window::{Astray, Log};
 use std::alloc::Global;
 use std::sync::Wait;
 use std::test::Fail;
@@ -49,21 +46,6 @@ fn has_dripped(end: &Result<Log<Drip>, Astray>, wanted: &[u8]) -> bool {
     }
 }
 
-fn in_house<H: House, R: Wait>(
-    rt: &R,
-    alloc: Global,
-    blank: Blank<Drip>,
-    last: u64,
-    wanted: &[u8],
-) -> Result<(Option<bool>, Ending, bool), Fail>
-    requires { blank ≡ house_of H.name H.lab }
-{
-    let (desk, mut windows) = blank.start::<H>(alloc)?;
-    let plays = plays_in(rt, alloc, &desk, &mut windows, last);
-    let end = desk.finish(rt, windows);
-    Ok((plays, ending_of(&end), has_dripped(&end, wanted)))
-}
-
 /// How many lines begin with these bytes of a journal or before them.
 fn ended_lines(bytes: &[u8]) -> u64 {
     bytes.iter().filter(|byte| **byte == b'\n').count() as u64
@@ -90,10 +72,10 @@ fn drips<R: Wait>(rt: &R, alloc: Global, puts: usize) -> Result<bool, Fail> {
         left: puts,
         failures: 0,
     };
-    let blank = open_house(rt, alloc, lab, sink)?;
     let last = ended_lines(wanted).saturating_add(1);
-    let found = in_house::<Brand, _>(rt, alloc, blank, last, wanted)?;
-    Ok(is_audited && found == (Some(true), ending_at(last), true))
+    let (plays, end) = visit_path(rt, alloc, sink, &Acts { last })?;
+    let is_ended = ending_of(&end) == ending_at(last) && has_dripped(&end, wanted);
+    Ok(is_audited && is_ended && plays == Some(true))
 }
 
 /// The first number of bytes after which something else is left.

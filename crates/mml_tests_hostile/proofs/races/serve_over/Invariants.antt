@@ -1,4 +1,4 @@
-use Rattle.mml_tests_hostile.proofs.races.serve.Given as goal
+use Rattle.mml_tests_hostile.proofs.races.serve_over.Given as goal
 
 -- the house that was just opened
 abbrev pub ghosts-serve_in : goal.ghosts-serve_in

@@ -1,0 +1,193 @@
+//! Replies over a row of 256 nodes, written into room for a reply while each request for memory is refused.
+use super::library::{is_there, refuse, refuse_all};
+use mml_codec::{REPLY_ROOM, write_reply};
+use mml_hall::Hall;
+use mml_ids::Memory;
+use mml_journal::NullSink;
+use mml_lab::read_lab;
+use std::alloc::{AllocError, Global};
+use std::test::Fail;
+
+const LIMITS_AND_PEOPLE: &str = r#"events = 261
+sessions = 2
+teacher = { name = "tess", key = "chalk" }
+student = [{ name = "ana", key = "a-key" }]
+"#;
+
+/// Nodes 65280 to 65535 in a row, all of ana.
+fn row_of_256(alloc: Global) -> Result<String, AllocError> {
+    let mut text = format!(in alloc; "{LIMITS_AND_PEOPLE}links = [")?;
+    for id in 65280..65535u64 {
+        write!(text, "[{id}, {}], ", id.saturating_add(1))?;
+    }
+    text.push_str("]\n")?;
+    for id in 65280..65536u64 {
+        write!(text, "[[node]]\nid = {id}\nowner = \"ana\"\n")?;
+    }
+    Ok(text)
+}
+
+// A connection, its request, and the reply.
+const BEFORE: &[(u8, &str, &str)] = &[
+    (
+        1,
+        r#"{"do":"see","node":65280}"#,
+        r#"{"clause":0,"deny":"not-greeted","text":"say hello first"}"#,
+    ),
+    (
+        1,
+        r#"{"do":"hello","key":"a-key","name":"ana"}"#,
+        r#"{"ok":"hello","who":"ana"}"#,
+    ),
+    (
+        2,
+        r#"{"do":"hello","key":"chalk","name":"tess"}"#,
+        r#"{"ok":"hello","who":"tess"}"#,
+    ),
+    (
+        1,
+        r#"{"do":"see","node":65535}"#,
+        r#"{"at":0,"m":false,"node":65535,"ok":"see","p":null}"#,
+    ),
+    (
+        1,
+        r#"{"at":7,"do":"move","node":65280,"rule":"seduction"}"#,
+        r#"{"at":0,"clause":2,"deny":"stale","text":"this is not the current configuration"}"#,
+    ),
+    (1, "{", r#"{"refuse":"malformed"}"#),
+];
+
+// After the close.
+const AFTER: &[(u8, &str, &str)] = &[
+    (
+        2,
+        r#"{"do":"fault","m":true,"node":65280,"p":null}"#,
+        r#"{"at":2,"dropped":0,"node":65280,"ok":"fault","place":257}"#,
+    ),
+    (
+        2,
+        r#"{"a":65280,"b":65535,"do":"link"}"#,
+        r#"{"a":65280,"at":3,"b":65535,"dropped":0,"ok":"link","place":258}"#,
+    ),
+    (
+        2,
+        r#"{"a":65280,"b":65535,"do":"cut"}"#,
+        r#"{"a":65280,"at":4,"b":65535,"dropped":0,"ok":"cut","place":259}"#,
+    ),
+    (
+        1,
+        r#"{"at":4,"do":"move","node":65280,"rule":"update"}"#,
+        r#"{"at":4,"node":65280,"ok":"move","place":260,"rule":"update"}"#,
+    ),
+    (
+        2,
+        r#"{"do":"release","node":65280}"#,
+        r#"{"at":4,"node":65280,"ok":"release","place":261}"#,
+    ),
+    (
+        2,
+        r#"{"a":65280,"b":65535,"do":"link"}"#,
+        r#"{"refuse":"full"}"#,
+    ),
+    (1, r#"{"do":"bye"}"#, r#"{"ok":"bye"}"#),
+];
+
+/// The reply line to a request, written into that room while each request for memory is refused, or that
+/// one was wanted.
+fn written(
+    alloc: Global,
+    hall: &mut Hall<NullSink>,
+    out: &mut Vec<u8>,
+    connection: u8,
+    request: &str,
+) -> Result<(), Memory> {
+    if connection == 0 || connection > hall.lab().sessions() {
+        return Err(Memory);
+    }
+    let reply = hall.answer(alloc, connection, request.as_bytes());
+    refuse_all(alloc);
+    let told = write_reply(alloc, hall.lab().ids(), hall.lab().roster(), &reply, out);
+    refuse(alloc, 0);
+    told
+}
+
+/// Whether this is written.
+fn is_written(
+    alloc: Global,
+    hall: &mut Hall<NullSink>,
+    out: &mut Vec<u8>,
+    connection: u8,
+    request: &str,
+    wanted: &str,
+) -> bool {
+    let told = written(alloc, hall, out, connection, request);
+    told.is_ok() && out.strip_suffix(b"\n") == Some(wanted.as_bytes())
+}
+
+/// Whether all of these are.
+fn are_written(
+    alloc: Global,
+    hall: &mut Hall<NullSink>,
+    out: &mut Vec<u8>,
+    rows: &[(u8, &str, &str)],
+) -> bool {
+    for (connection, request, wanted) in rows {
+        if !is_written(alloc, hall, out, *connection, request, wanted) {
+            return false;
+        }
+    }
+    true
+}
+
+/// Whether the replies to a move of each node but the last are written.
+fn are_moves_written(
+    alloc: Global,
+    hall: &mut Hall<NullSink>,
+    out: &mut Vec<u8>,
+) -> Result<bool, AllocError> {
+    for id in 65280..65535u64 {
+        let place = id.saturating_sub(65279);
+        let request = format!(in alloc;
+            "{{\"at\":0,\"do\":\"move\",\"node\":{id},\"rule\":\"seduction\"}}"
+        )?;
+        let wanted = format!(in alloc;
+            "{{\"at\":0,\"node\":{id},\"ok\":\"move\",\"place\":{place},\"rule\":\"seduction\"}}"
+        )?;
+        if !is_written(alloc, hall, out, 1, request.as_str(), wanted.as_str()) {
+            return Ok(false);
+        }
+    }
+    Ok(true)
+}
+
+/// The reply to the close that applies them all.
+fn closed(alloc: Global) -> Result<String, AllocError> {
+    let mut text = String::from_str(alloc, "{\"at\":1,\"moved\":[65280")?;
+    for id in 65281..65535u64 {
+        write!(text, ",{id}")?;
+    }
+    text.push_str("],\"ok\":\"close\",\"place\":256}")?;
+    Ok(text)
+}
+
+/// Whether each kind of reply but a look and a report is written, and whether a report of all nodes is.
+fn told_of_replies(alloc: Global) -> Result<(bool, bool), Fail> {
+    let file = row_of_256(alloc)?;
+    let lab = read_lab(alloc, file.as_bytes())?;
+    let hall = &mut Hall::new(alloc, lab, NullSink::new())?;
+    let out = &mut Vec::with_capacity(alloc, REPLY_ROOM)?;
+    let closed = closed(alloc)?;
+    let is_before = are_written(alloc, hall, out, BEFORE);
+    let is_moved = are_moves_written(alloc, hall, out)?;
+    let is_closed = is_written(alloc, hall, out, 2, r#"{"do":"close"}"#, closed.as_str());
+    let is_after = are_written(alloc, hall, out, AFTER);
+    let is_reported = written(alloc, hall, out, 2, r#"{"do":"report"}"#).is_ok();
+    Ok((is_before && is_moved && is_closed && is_after, is_reported))
+}
+
+#[test]
+fn refusals_do_not_keep_a_reply_from_its_room(rt: HostRuntime) -> Result<(), Fail> {
+    let is_there = is_there(rt.alloc());
+    assert_eq!(rt; told_of_replies(rt.alloc())?, (true, !is_there));
+    Ok(())
+}
