@@ -1,5 +1,5 @@
 ghost use Rattle.std.specs.Prelude.{◌≡◌, ◌≤◌, ◌<◌, ◌+◌, ◌^◌, ◌++◌, [], true, length, map, OnOk, OnErr, IsOk, IfSome, vec_capacity};
-ghost use Rattle.mml_ids.specs.Pieces.{piece_text, piece_room};
+ghost use Rattle.mml_ids.specs.Pieces.{piece_text, piece_room, Puts};
 ghost use Rattle.mml_ids.specs.declared.piece.Piece.TheVariants.{Number};
 ghost use Rattle.mml_lab.specs.Rosters.{name_of, IsPrincipal};
 ghost use Rattle.mml_board.specs.declared.done.Done.TheVariants as done;
@@ -7,7 +7,7 @@ ghost use Rattle.mml_codec.specs.Facts.{truth_text, pointer_text, kind_text, kin
 ghost use Rattle.mml_codec.specs.Replies.{done_fields, ends_fields, hello_fields, bye_fields, see_fields, look_fields, current_number, deny_fields, refuse_fields, refusal_name, text, reply_line, is_short, IsAbout, TellsFor};
 ghost use Rattle.mml_codec.specs.ReplyValues.{AreWritableCounts};
 ghost use Rattle.mml_policy.specs.About.{IsSeen, IsLookedAt};
-ghost use Rattle.mml_codec.specs.inside.Puts.{number_front, deny_parts, look_head, look_tail, look_parts, joined_text, Puts};
+ghost use Rattle.mml_codec.specs.inside.Puts.{number_front, deny_parts, look_head, look_tail, look_parts, joined_text};
 
 use crate::listed::put_list;
 use crate::reply::{REPLY_ROOM, Refused, Reply};

@@ -1,4 +1,4 @@
--- What is said of each function that puts a text at the end of a line, and the texts that are put in parts.
+-- Texts that are put in parts.
 use Rattle.std.specs.Prelude.{◌≡◌, ℕ, ◌+◌, ◌<◌, ◌≤◌, ◌++◌, List, [], ◌∷◌, length, map, Vec, vec_capacity, Option, None, Some, OnOk, OnErr, Result, codes, decimal}
 use Rattle.std.specs.List.{concat}
 use Rattle.std.specs.declared.alloc.Global.{Global}
@@ -8,16 +8,6 @@ use Rattle.mml_policy.specs.Denials.{clause_of, text_of}
 use Rattle.mml_policy.specs.Denials as denials
 use Rattle.mml_codec.specs.Facts.{truth_text, node_text, pointer_text, kind_or_null, separated, near_text}
 use Rattle.mml_codec.specs.Replies.{current_number}
-
--- the text stands at the end, unless memory ran out; where there was the room, none was taken and the capacity is the same
-pub record Puts {T E : Type 0} (bytes : List ℕ) (most : ℕ) (old new : Vec ℕ Global) (r : Result T E) : Type 0 where
-  pub text : OnOk r (new.items ≡ old.items ++ bytes)
-  pub capacity : vec_capacity old ≤ vec_capacity new
-  pub grows : OnOk r (length new.items ≤ length old.items + most)
-  pub room : OnErr r (vec_capacity old < length old.items + most)
-  pub kept : length old.items + most ≤ vec_capacity old → vec_capacity new ≡ vec_capacity old
-
--- ---- texts as they are put, in parts
 
 -- what stands before the clause of a denial
 abbrev pub number_front : Option ℕ → List ℕ
