@@ -9,6 +9,7 @@ in a source. A law's has to be a public function of a module `laws`. A word in c
 What a table has under `Contract` has to be declared: a function, a type, a clause or a definition, and on a
 crate's page one that the crate declares or cites. A command block of the pages that show how the program is
 used is run by a test, or is marked: `sh not run`, or `text` for what is only an example of an output.
+All pages together have at most so many words; `CHANGELOG.md`, which grows, isn't counted.
 """
 import re
 import subprocess
@@ -30,6 +31,7 @@ RUN_BEFORE = {
     "./try": (".ci/program", '"$work/try") < examples/first-look.script'),
 }
 MARKS = ("sh not run", "text")
+MOST_WORDS = 18_000
 
 
 def tracked():
@@ -187,10 +189,11 @@ def counted(pages):
 
 def main():
     """Checks, counts, or prints the commands of pages."""
+    counts = counted(path for path in tracked() if is_page(path) and path != "CHANGELOG.md")
+    total = sum(counts.values())
     if sys.argv[1:] == ["--words"]:
-        words = counted(path for path in tracked() if is_page(path) and path != "CHANGELOG.md")
-        print("\n".join(f"{words[page]:6} {page}" for page in sorted(words)))
-        print(f"{sum(words.values()):6} in all")
+        print("\n".join(f"{counts[page]:6} {page}" for page in sorted(counts)))
+        print(f"{total:6} in all")
         return
     if sys.argv[1:]:
         print("\n".join(dict.fromkeys(command for page in sys.argv[1:] for command in commands_of(page))))
@@ -203,11 +206,13 @@ def main():
     missing = [f"not there: {page}: {name}" for page in pages for name in dict.fromkeys(told(page, files, folders, words, laws))]
     missing += [f"no contract: {page}: {name}" for page in pages for name in missing_contracts(page, texts, declared, laws)]
     missing += [f"no test runs it: {page}: {line}" for page in USED for line in unrun_blocks(page, files)]
+    if total > MOST_WORDS:
+        missing.append(f"too long: {total} words in all, of at most {MOST_WORDS}")
     for line in missing:
         print(f"FAILED: {line}")
     if missing:
         sys.exit(1)
-    print(f"documents: {len(pages)} pages, each link, file, name and contract is there, and each command is run")
+    print(f"documents: {len(pages)} pages, {total} words; each link, file, name and contract is there, and each command is run")
 
 
 main()

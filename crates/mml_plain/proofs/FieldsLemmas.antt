@@ -1,5 +1,6 @@
 -- A member more, in the fields and in the object.
-use Rattle.std.proofs.Common.{◌≡◌, ℕ, List, Bool, true, false, codes, bytes_eq, cond, Bor, Option, Some, option_map, option_and_then, true≢false, refl, sym, ap, ◌∙◌}
+use Rattle.std.proofs.Common.{◌≡◌, ℕ, List, Bool, true, false, codes, bytes_eq, cond, Bor, Option, Some, option_map, option_and_then, true≢false}
+use Rattle.std.proofs.Common.{refl, sym, ap, ◌∙◌}
 use Rattle.std.proofs.lemmas.Slice.Eq.{bytes_eq-Decides}
 use Rattle.serde_json.specs.Data.{Data, object, Members, put}
 use Rattle.serde_json.specs.Find.{get_member, as_str, as_bool, as_number, as_u64}
@@ -56,7 +57,8 @@ module _ (k : List ℕ) (v : PlainValue) (ms : Members) where
       → after k (number_in v) q old ≡ option_and_then (λ d. option_and_then as_u64 (as_number d)) (get_member q (put k (data_of v) ms))
   number = seen (λ o. o) (option_and_then (λ d. option_and_then as_u64 (as_number d))) k (data_of v) ms (number_in v) (number_is v)
 
-  truth : (q : List ℕ) (old : Option Bool) → old ≡ option_and_then as_bool (get_member q ms) → after k (truth_in v) q old ≡ option_and_then as_bool (get_member q (put k (data_of v) ms))
+  truth : (q : List ℕ) (old : Option Bool) → old ≡ option_and_then as_bool (get_member q ms)
+      → after k (truth_in v) q old ≡ option_and_then as_bool (get_member q (put k (data_of v) ms))
   truth = seen (λ o. o) (option_and_then as_bool) k (data_of v) ms (truth_in v) (truth_is v)
 
   register : (q : List ℕ) (old : Option (Option ℕ)) → old ≡ option_and_then as_register (get_member q ms)

@@ -1,5 +1,6 @@
 -- What the tokens say is what the tree says.
-use Rattle.std.proofs.Common.{◌≡◌, ℕ, zero, suc, ◌-◌, ◌<◌, ◌≤◌, List, [], ◌∷◌, length, Bool, true, false, cond, is_some, Option, Some, None, option_map, option_and_then, refl, ap, ◌∙◌, arith}
+use Rattle.std.proofs.Common.{◌≡◌, ℕ, zero, suc, ◌-◌, ◌<◌, ◌≤◌, List, [], ◌∷◌, length, Bool, true, false, cond, is_some, Option, Some, None}
+use Rattle.std.proofs.Common.{option_map, option_and_then, refl, ap, ◌∙◌, arith}
 use Rattle.std.specs.Str.{is_utf8, IsUtf8}
 use Rattle.std.proofs.lemmas.Bool.{and_parts}
 use Rattle.std.proofs.Math.Bool.{and-false}
@@ -21,7 +22,8 @@ outcome found None = None
 outcome found (Some (ms, [])) = cond (are_plain ms) (of_members ms found) None
 outcome found (Some (ms, t ∷ ts)) = None
 
-not_plain : (j : json.Json) → is_plain_value j ≡ false → (k : List ℕ) (found : Members) (o : Option (json.Members × List Token)) → outcome found (parse_map (json.member k j) o) ≡ None
+not_plain : (j : json.Json) → is_plain_value j ≡ false → (k : List ℕ) (found : Members) (o : Option (json.Members × List Token))
+    → outcome found (parse_map (json.member k j) o) ≡ None
 not_plain j e k found None = refl
 not_plain j e k found (Some (ms, [])) = rw e
 not_plain j e k found (Some (ms, t ∷ ts)) = refl
@@ -43,17 +45,21 @@ nested_array : (k : List ℕ) (found : Members) (more : Parse json.Members) (o :
 nested_array k found more None = refl
 nested_array k found more (Some q) = not_plain (json.array q.0) refl k found (more q.1)
 
-module _ (k : List ℕ) (found : Members) (ts : List Token) (s : List ℕ) (o : Option (json.Members × List Token)) (again : (d : Data) → outcome (put k d found) o ≡ plain_members (put k d found) ts) where
+module _ (k : List ℕ) (found : Members) (ts : List Token) (s : List ℕ) (o : Option (json.Members × List Token))
+    (again : (d : Data) → outcome (put k d found) o ≡ plain_members (put k d found) ts) where
   number_turn : (n : Option Num) → number_of s ≡ n
-      → outcome found (parse_map (json.member k (json.number s)) o) ≡ option_and_then (λ d. plain_members (put k d found) ts) (option_map unsigned_number (option_and_then as_u64 n))
+      → outcome found (parse_map (json.member k (json.number s)) o)
+      ≡ option_and_then (λ d. plain_members (put k d found) ts) (option_map unsigned_number (option_and_then as_u64 n))
   number_turn None e = not_plain (json.number s) (rw e) k found o
   number_turn (Some (unsigned n)) e = one_member k (json.number s) (number (unsigned n)) found (rw e) (rw e) o ∙ again (number (unsigned n))
   number_turn (Some (negative z)) e = not_plain (json.number s) (rw e) k found o
   number_turn (Some (float x)) e = not_plain (json.number s) (rw e) k found o
 
-module _ (depth : ℕ) (k : List ℕ) (found : Members) (more : Parse json.Members) (ts : List Token) (again : (d : Data) → outcome (put k d found) (more ts) ≡ plain_members (put k d found) ts) where
+module _ (depth : ℕ) (k : List ℕ) (found : Members) (more : Parse json.Members) (ts : List Token)
+    (again : (d : Data) → outcome (put k d found) (more ts) ≡ plain_members (put k d found) ts) where
   turn : (t : Token)
-      → outcome found (option_and_then (λ q. parse_map (json.member k q.0) (more q.1)) (value depth (t ∷ ts))) ≡ option_and_then (λ d. plain_members (put k d found) ts) (plain_value t)
+      → outcome found (option_and_then (λ q. parse_map (json.member k q.0) (more q.1)) (value depth (t ∷ ts)))
+      ≡ option_and_then (λ d. plain_members (put k d found) ts) (plain_value t)
   turn Token.begin_object = rw value_is (nested_object k found more _)
   turn Token.end_object = rw value_is
   turn Token.begin_array = rw value_is (nested_array k found more _)
@@ -76,7 +82,8 @@ members_are depth (suc n) found (Token.end_object ∷ t ∷ ts) h = refl
 members_are depth (suc n) found (Token.begin_array ∷ ts) h = refl
 members_are depth (suc n) found (Token.end_array ∷ ts) h = refl
 members_are depth (suc n) found (Token.key k ∷ []) h = rw value_is
-members_are depth (suc n) found (Token.key k ∷ t ∷ ts) h = turn depth k found (members (value depth) n) ts (λ d. members_are depth n (put k d found) ts (omega arith)) t
+members_are depth (suc n) found (Token.key k ∷ t ∷ ts) h =
+    turn depth k found (members (value depth) n) ts (λ d. members_are depth n (put k d found) ts (omega arith)) t
 members_are depth (suc n) found (Token.string s ∷ ts) h = refl
 members_are depth (suc n) found (Token.number s ∷ ts) h = refl
 members_are depth (suc n) found (Token.boolean b ∷ ts) h = refl
@@ -114,7 +121,8 @@ taken : (b : Bool) (x : Option Members) (ms : Members) → cond b x None ≡ Som
 taken true x ms e = e
 taken false x ms e = absurd (cc)
 
-object_read : (o : Option (json.Members × List Token)) (ms : Members) → outcome no_members o ≡ Some ms → option_and_then of_json (whole (parse_map json.object o)) ≡ Some (object ms)
+object_read : (o : Option (json.Members × List Token)) (ms : Members) → outcome no_members o ≡ Some ms
+    → option_and_then of_json (whole (parse_map json.object o)) ≡ Some (object ms)
 object_read None ms e = absurd (cc)
 object_read (Some (js, [])) ms e = ap (option_map object) (taken (are_plain js) (of_members js no_members) ms e)
 object_read (Some (js, t ∷ ts)) ms e = absurd (cc)
@@ -142,7 +150,8 @@ module _ (depth : ℕ) (some : 0 < depth) where
 
   plain_read : (ts : List Token) (ms : Members) → plain_object ts ≡ Some ms → option_and_then of_json (whole (value depth ts)) ≡ Some (object ms)
   plain_read [] ms e = absurd (cc)
-  plain_read (Token.begin_object ∷ ts) ms e = rw (value-begin_object depth ts some) (object_read (members (value (depth - 1)) (length ts) ts) ms (opened ts ∙ e))
+  plain_read (Token.begin_object ∷ ts) ms e =
+      rw (value-begin_object depth ts some) (object_read (members (value (depth - 1)) (length ts) ts) ms (opened ts ∙ e))
   plain_read (Token.end_object ∷ ts) ms e = absurd (cc)
   plain_read (Token.begin_array ∷ ts) ms e = absurd (cc)
   plain_read (Token.end_array ∷ ts) ms e = absurd (cc)
@@ -155,7 +164,8 @@ module _ (depth : ℕ) (some : 0 < depth) where
 
   plain_refused : (ts : List Token) → plain_object ts ≡ None → is_plain_object (whole (value depth ts)) ≡ false
   plain_refused [] e = rw value_is
-  plain_refused (Token.begin_object ∷ ts) e = rw (value-begin_object depth ts some) (object_refused (members (value (depth - 1)) (length ts) ts) (opened ts ∙ e))
+  plain_refused (Token.begin_object ∷ ts) e =
+      rw (value-begin_object depth ts some) (object_refused (members (value (depth - 1)) (length ts) ts) (opened ts ∙ e))
   plain_refused (Token.end_object ∷ ts) e = rw value_is
   plain_refused (Token.begin_array ∷ ts) e = rw value_is (array_refused _)
   plain_refused (Token.end_array ∷ ts) e = rw value_is

@@ -37,7 +37,8 @@ module _ (c d : Configuration) (i : ℕ) (l : IsLawful c) (k : IsLawful d) (a : 
   same_greatest : greatest_candidate c i ≡ greatest_candidate d i
   unfolding greatest_candidate
   same_greatest = greatest_below_alike c.size d.size (is_candidate c i) (is_candidate d i) (λ j.
-      and_same (c.linked i j) _ _ (λ n. ap (λ o. nat_lt i j && (is_none o && not (c.m j))) (a.p_near j n) ∙ ap (λ b. nat_lt i j && (is_none (d.p j) && not b)) (a.m_near j n)) ∙
+      and_same (c.linked i j) _ _
+      (λ n. ap (λ o. nat_lt i j && (is_none o && not (c.m j))) (a.p_near j n) ∙ ap (λ b. nat_lt i j && (is_none (d.p j) && not b)) (a.m_near j n)) ∙
       ap (λ b. b && (nat_lt i j && (is_none (d.p j) && not (d.m j)))) (a.links j))
       (λ j h. in_c j _ h) (λ j h. in_d j _ h)
 
@@ -48,7 +49,8 @@ module _ (c d : Configuration) (i : ℕ) (l : IsLawful c) (k : IsLawful d) (a : 
   same_vain = go (c.p i) refl ∙ ap (λ o. option_map_or (λ j. not (holds (d.p j) i) && (d.m j || nat_lt j i)) o false) a.p_here
     where
       go : (o : Option ℕ) → c.p i ≡ o →
-          option_map_or (λ j. not (holds (c.p j) i) && (c.m j || nat_lt j i)) o false ≡ option_map_or (λ j. not (holds (d.p j) i) && (d.m j || nat_lt j i)) o false
+          option_map_or (λ j. not (holds (c.p j) i) && (c.m j || nat_lt j i)) o false
+          ≡ option_map_or (λ j. not (holds (d.p j) i) && (d.m j || nat_lt j i)) o false
       go None e = refl
       go (Some j) e =
           let n = l.to_linked i j e in
@@ -69,6 +71,7 @@ module _ (c d : Configuration) (i : ℕ) (l : IsLawful c) (k : IsLawful d) (a : 
   same_guard (Rule.Marriage j) =
       ap (λ s. s && (is_none (c.p i) && (c.linked i j && holds (c.p j) i))) same_right ∙
       ap (λ o. m_is_right d i && (is_none o && (c.linked i j && holds (c.p j) i))) a.p_here ∙
-      ap (λ b. m_is_right d i && (is_none (d.p i) && b)) (and_same (c.linked i j) _ _ (λ n. ap (λ o. holds o i) (a.p_near j n)) ∙ ap (λ b. b && holds (d.p j) i) (a.links j))
+      ap (λ b. m_is_right d i && (is_none (d.p i) && b))
+      (and_same (c.linked i j) _ _ (λ n. ap (λ o. holds o i) (a.p_near j n)) ∙ ap (λ b. b && holds (d.p j) i) (a.links j))
   same_guard Rule.Seduction = λ z. same_right z && (is_none (a.p_here z) && (not (same_suitor z) && is_some (same_greatest z)))
   same_guard Rule.Abandonment = λ z. same_right z && same_vain z

@@ -18,7 +18,8 @@ choose settled pointing vain suitor best =
     (cond pointing (cond vain (Some Kind.Abandonment) None)
     (cond suitor (Some Kind.Marriage) (cond best (Some Kind.Seduction) None)))
 
-kind-choose : (c : Configuration) (i : ℕ) → enabled_kind c i ≡ choose (m_is_right c i) (is_some (c.p i)) (points_in_vain c i) (has_suitor c i) (is_some (greatest_candidate c i))
+kind-choose : (c : Configuration) (i : ℕ)
+    → enabled_kind c i ≡ choose (m_is_right c i) (is_some (c.p i)) (points_in_vain c i) (has_suitor c i) (is_some (greatest_candidate c i))
 unfolding enabled_kind
 kind-choose c i = refl
 
@@ -57,12 +58,15 @@ idle-guard c i r l h = false_from_ne_true (guard c i r) (λ g.
 
 -- the enabled rule has a guard that holds
 pub kind-guard : (c : Configuration) (i : ℕ) (k : Kind) → enabled_kind c i ≡ Some k → (r : Rule) × (kind_of r ≡ k) × (guard c i r ≡ true)
-kind-guard c i k h = go (m_is_right c i) (is_some (c.p i)) (points_in_vain c i) (has_suitor c i) (is_some (greatest_candidate c i)) refl refl refl refl refl (sym (kind-choose c i) ∙ h)
+kind-guard c i k h =
+    go (m_is_right c i) (is_some (c.p i)) (points_in_vain c i) (has_suitor c i) (is_some (greatest_candidate c i)) refl refl refl refl refl
+    (sym (kind-choose c i) ∙ h)
   where
     null : is_some (c.p i) ≡ false → is_none (c.p i) ≡ true
     null e = some-null (c.p i) e
 
-    go : (s p v u b : Bool) → m_is_right c i ≡ s → is_some (c.p i) ≡ p → points_in_vain c i ≡ v → has_suitor c i ≡ u → is_some (greatest_candidate c i) ≡ b → choose s p v u b ≡ Some k → (r : Rule) × (kind_of r ≡ k) × (guard c i r ≡ true)
+    go : (s p v u b : Bool) → m_is_right c i ≡ s → is_some (c.p i) ≡ p → points_in_vain c i ≡ v → has_suitor c i ≡ u
+        → is_some (greatest_candidate c i) ≡ b → choose s p v u b ≡ Some k → (r : Rule) × (kind_of r ≡ k) × (guard c i r ≡ true)
     go false p v u b es ep ev eu eb e = (Rule.Update, some-path e, ap not es)
     go true true true u b es ep ev eu eb e = (Rule.Abandonment, some-path e, and_from _ _ es ev)
     go true true false u b es ep ev eu eb e = cc

@@ -1,5 +1,6 @@
 -- Names that keep the order change no guard and no effect.
-use Rattle.std.proofs.Common.{◌≡◌, ℕ, ◌<◌, Bool, true, false, not, ◌&&◌, ◌||◌, eqb, ltb, Option, None, Some, is_some, is_none, sym, refl, ap, ◌∙◌, arith, inl, inr}
+use Rattle.std.proofs.Common.{◌≡◌, ℕ, ◌<◌, Bool, true, false, not, ◌&&◌, ◌||◌, eqb, ltb, Option, None, Some, is_some, is_none, sym, refl, ap, ◌∙◌}
+use Rattle.std.proofs.Common.{arith, inl, inr}
 use Rattle.std.specs.Bool.{beq}
 use Rattle.std.specs.Option.{option_map_or}
 use Rattle.std.proofs.lemmas.Bool.{cases_order, cases_eq, eq-eqb, ne_eqb, lt-ltb, le-ltb, and_parts, both_ways, false_from_ne_true}
@@ -59,14 +60,16 @@ module _ (f : ℕ → ℕ) (c d : Configuration) (l : IsLawful c) (r : IsRenamed
   pointing_named i a = ap is_some (r.p i a) ∙ some_named (c.p i)
 
   -- a search among the neighbours of a node finds the same under the names
-  search_named : (t u : ℕ → Bool) (x : ℕ) → ((k : ℕ) → k < c.size → u (f k) ≡ t k) → ((y : ℕ) → u y ≡ true → d.linked x y ≡ true) → some_below d.size u ≡ some_below c.size t
+  search_named : (t u : ℕ → Bool) (x : ℕ) → ((k : ℕ) → k < c.size → u (f k) ≡ t k) → ((y : ℕ) → u y ≡ true → d.linked x y ≡ true)
+      → some_below d.size u ≡ some_below c.size t
   search_named t u x same near = same_bool _ _
       (λ h. let y = some_below-find d.size u h in
       let n = r.named x y.0 (near y.0 y.2) in
       some_below-at c.size n.0 t n.1 (sym (same n.0 n.1) ∙ ap u n.2 ∙ y.2))
       (λ h. let k = some_below-find c.size t h in some_below-at d.size (f k.0) u (r.within k.0 k.1) (same k.0 k.1 ∙ k.2))
 
-  greatest_named : (t u : ℕ → Bool) (x : ℕ) → ((k : ℕ) → k < c.size → u (f k) ≡ t k) → ((y : ℕ) → u y ≡ true → d.linked x y ≡ true) → greatest_below d.size u ≡ renamed f (greatest_below c.size t)
+  greatest_named : (t u : ℕ → Bool) (x : ℕ) → ((k : ℕ) → k < c.size → u (f k) ≡ t k) → ((y : ℕ) → u y ≡ true → d.linked x y ≡ true)
+      → greatest_below d.size u ≡ renamed f (greatest_below c.size t)
   greatest_named t u x same near = go (greatest_below c.size t) refl
     where
       go : (o : Option ℕ) → greatest_below c.size t ≡ o → greatest_below d.size u ≡ renamed f o
@@ -116,7 +119,8 @@ module _ (f : ℕ → ℕ) (c d : Configuration) (l : IsLawful c) (r : IsRenamed
   vain_named i a = ap (λ o. option_map_or (λ j. not (holds (d.p j) (f i)) && (d.m j || ltb j (f i))) o false) (r.p i a) ∙ go (c.p i) refl
     where
       go : (o : Option ℕ) → c.p i ≡ o →
-          option_map_or (λ j. not (holds (d.p j) (f i)) && (d.m j || ltb j (f i))) (renamed f o) false ≡ option_map_or (λ j. not (holds (c.p j) i) && (c.m j || ltb j i)) o false
+          option_map_or (λ j. not (holds (d.p j) (f i)) && (d.m j || ltb j (f i))) (renamed f o) false
+          ≡ option_map_or (λ j. not (holds (c.p j) i) && (c.m j || ltb j i)) o false
       go None e = refl
       go (Some j) e =
           let b = pointee_in c i j l e in

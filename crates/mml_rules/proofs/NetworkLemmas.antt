@@ -1,5 +1,6 @@
 -- What a change of a network leaves, and that it keeps the network lawful.
-use Rattle.std.proofs.Common.{◌≡◌, ℕ, ◌<◌, Bool, true, false, cond, not, ◌&&◌, ◌||◌, eqb, Option, None, Some, List, length, set, sym, refl, ap, ◌∙◌, subst, arith, inl, inr, length-set, get_or-set_same, get_or-set_other}
+use Rattle.std.proofs.Common.{◌≡◌, ℕ, ◌<◌, Bool, true, false, cond, not, ◌&&◌, ◌||◌, eqb, Option, None, Some, List, length, set, sym, refl, ap, ◌∙◌}
+use Rattle.std.proofs.Common.{subst, arith, inl, inr, length-set, get_or-set_same, get_or-set_other}
 use Rattle.std.proofs.lemmas.Bool.{cases_eq, eq-eqb, ne_eqb, eqb-true, and_parts, and_from, or_cases, or_left, or_right, both_ways, false_from_ne_true}
 use Rattle.std.specs.FinSet as sets
 use Rattle.std.specs.FinSet.{FinSet}
@@ -7,32 +8,43 @@ use Rattle.std.specs.Ordering.{nat_cmp}
 use Rattle.mml_ids.specs.inside.WordsLemmas.{has_insert, has_remove}
 use Rattle.mml_rules.specs.declared.registers.Regs.{Regs}
 use Rattle.mml_rules.specs.Configuration.{holds}
-use Rattle.mml_rules.specs.Network.{Network, neighbours_at, registers_at, configuration_of, IsNetwork, with_neighbour, without_neighbour, unpointed, with_registers, with_link, without_link}
+use Rattle.mml_rules.specs.Network.{Network, neighbours_at, registers_at, configuration_of, IsNetwork, with_neighbour, without_neighbour, unpointed}
+use Rattle.mml_rules.specs.Network.{with_registers, with_link, without_link}
 
-pub neighbours_at-set : (neighbours : List (FinSet nat_cmp)) (a i : ℕ) (s : FinSet nat_cmp) → a < length neighbours → neighbours_at (set neighbours a s) i ≡ cond (eqb i a) s (neighbours_at neighbours i)
+pub neighbours_at-set : (neighbours : List (FinSet nat_cmp)) (a i : ℕ) (s : FinSet nat_cmp) → a < length neighbours
+    → neighbours_at (set neighbours a s) i ≡ cond (eqb i a) s (neighbours_at neighbours i)
 neighbours_at-set neighbours a i s l = elim (cases_eq i a) [
   | inl e ↦ rw (e, get_or-set_same, eq-eqb a a refl) refl
   | inr ne ↦ rw (get_or-set_other, ne_eqb i a ne) refl
 ]
 
-pub registers_at-set : (registers : List Regs) (a i : ℕ) (r : Regs) → a < length registers → registers_at (set registers a r) i ≡ cond (eqb i a) r (registers_at registers i)
+pub registers_at-set : (registers : List Regs) (a i : ℕ) (r : Regs) → a < length registers
+    → registers_at (set registers a r) i ≡ cond (eqb i a) r (registers_at registers i)
 registers_at-set registers a i r l = elim (cases_eq i a) [
   | inl e ↦ rw (e, get_or-set_same, eq-eqb a a refl) refl
   | inr ne ↦ rw (get_or-set_other, ne_eqb i a ne) refl
 ]
 
 -- which nodes are in the rows with one more neighbour
-pub has-with_neighbour : (neighbours : List (FinSet nat_cmp)) (a b i j : ℕ) → a < length neighbours → sets.contains (neighbours_at (with_neighbour neighbours a b) i) j ≡ ((eqb i a && eqb j b) || sets.contains (neighbours_at neighbours i) j)
-has-with_neighbour neighbours a b i j l = ap (λ s. sets.contains s j) (neighbours_at-set neighbours a i (sets.insert (neighbours_at neighbours a) b) l) ∙ go (eqb i a) refl
+pub has-with_neighbour : (neighbours : List (FinSet nat_cmp)) (a b i j : ℕ) → a < length neighbours
+    → sets.contains (neighbours_at (with_neighbour neighbours a b) i) j ≡ ((eqb i a && eqb j b) || sets.contains (neighbours_at neighbours i) j)
+has-with_neighbour neighbours a b i j l =
+    ap (λ s. sets.contains s j) (neighbours_at-set neighbours a i (sets.insert (neighbours_at neighbours a) b) l) ∙ go (eqb i a) refl
   where
-    go : (x : Bool) → eqb i a ≡ x → sets.contains (cond x (sets.insert (neighbours_at neighbours a) b) (neighbours_at neighbours i)) j ≡ ((x && eqb j b) || sets.contains (neighbours_at neighbours i) j)
+    go : (x : Bool) → eqb i a ≡ x
+        → sets.contains (cond x (sets.insert (neighbours_at neighbours a) b) (neighbours_at neighbours i)) j
+        ≡ ((x && eqb j b) || sets.contains (neighbours_at neighbours i) j)
     go true e = has_insert (neighbours_at neighbours a) b j ∙ ap (λ k. eqb j b || sets.contains (neighbours_at neighbours k) j) (sym (eqb-true i a e))
     go false e = refl
 
-pub has-without_neighbour : (neighbours : List (FinSet nat_cmp)) (a b i j : ℕ) → a < length neighbours → sets.contains (neighbours_at (without_neighbour neighbours a b) i) j ≡ (not (eqb i a && eqb j b) && sets.contains (neighbours_at neighbours i) j)
-has-without_neighbour neighbours a b i j l = ap (λ s. sets.contains s j) (neighbours_at-set neighbours a i (sets.remove (neighbours_at neighbours a) b) l) ∙ go (eqb i a) refl
+pub has-without_neighbour : (neighbours : List (FinSet nat_cmp)) (a b i j : ℕ) → a < length neighbours
+    → sets.contains (neighbours_at (without_neighbour neighbours a b) i) j ≡ (not (eqb i a && eqb j b) && sets.contains (neighbours_at neighbours i) j)
+has-without_neighbour neighbours a b i j l =
+    ap (λ s. sets.contains s j) (neighbours_at-set neighbours a i (sets.remove (neighbours_at neighbours a) b) l) ∙ go (eqb i a) refl
   where
-    go : (x : Bool) → eqb i a ≡ x → sets.contains (cond x (sets.remove (neighbours_at neighbours a) b) (neighbours_at neighbours i)) j ≡ (not (x && eqb j b) && sets.contains (neighbours_at neighbours i) j)
+    go : (x : Bool) → eqb i a ≡ x
+        → sets.contains (cond x (sets.remove (neighbours_at neighbours a) b) (neighbours_at neighbours i)) j
+        ≡ (not (x && eqb j b) && sets.contains (neighbours_at neighbours i) j)
     go true e = has_remove (neighbours_at neighbours a) b j ∙ ap (λ k. not (eqb j b) && sets.contains (neighbours_at neighbours k) j) (sym (eqb-true i a e))
     go false e = refl
 
@@ -49,7 +61,8 @@ length-unpointed registers a b = go (holds (registers_at registers a).p b)
     go true = length-set registers a _
     go false = refl
 
-pub with_registers-lawful : (n : Network) (i : ℕ) (r : Regs) → IsNetwork n → i < length n.registers → ((j : ℕ) → r.p ≡ Some j → sets.contains (neighbours_at n.neighbours i) j ≡ true) → IsNetwork (with_registers n i r)
+pub with_registers-lawful : (n : Network) (i : ℕ) (r : Regs) → IsNetwork n → i < length n.registers
+    → ((j : ℕ) → r.p ≡ Some j → sets.contains (neighbours_at n.neighbours i) j ≡ true) → IsNetwork (with_registers n i r)
 with_registers-lawful n i r w l ok = record {
   rows = w.rows ∙ sym (length-set n.registers i r);
   few = omega (arith, w.few, length-set n.registers i r);
@@ -65,11 +78,17 @@ with_registers-lawful n i r w l ok = record {
     go k j true e h = subst (λ z. sets.contains (neighbours_at n.neighbours z) j ≡ true) (sym (eqb-true k i e)) (ok j h)
     go k j false e h = w.lawful.to_linked k j h
 
-pub linked-with_link : (n : Network) (a b i j : ℕ) → a < length n.neighbours → b < length n.neighbours → (configuration_of (with_link n a b)).linked i j ≡ ((eqb i b && eqb j a) || ((eqb i a && eqb j b) || (configuration_of n).linked i j))
-linked-with_link n a b i j la lb = has-with_neighbour (with_neighbour n.neighbours a b) b a i j (omega (arith, length-with_neighbour n.neighbours a b)) ∙ ap (λ x. (eqb i b && eqb j a) || x) (has-with_neighbour n.neighbours a b i j la)
+pub linked-with_link : (n : Network) (a b i j : ℕ) → a < length n.neighbours → b < length n.neighbours
+    → (configuration_of (with_link n a b)).linked i j ≡ ((eqb i b && eqb j a) || ((eqb i a && eqb j b) || (configuration_of n).linked i j))
+linked-with_link n a b i j la lb =
+    has-with_neighbour (with_neighbour n.neighbours a b) b a i j (omega (arith, length-with_neighbour n.neighbours a b))
+    ∙ ap (λ x. (eqb i b && eqb j a) || x) (has-with_neighbour n.neighbours a b i j la)
 
-pub linked-without_link : (n : Network) (a b i j : ℕ) → a < length n.neighbours → b < length n.neighbours → (configuration_of (without_link n a b)).linked i j ≡ (not (eqb i b && eqb j a) && (not (eqb i a && eqb j b) && (configuration_of n).linked i j))
-linked-without_link n a b i j la lb = has-without_neighbour (without_neighbour n.neighbours a b) b a i j (omega (arith, length-without_neighbour n.neighbours a b)) ∙ ap (λ x. not (eqb i b && eqb j a) && x) (has-without_neighbour n.neighbours a b i j la)
+pub linked-without_link : (n : Network) (a b i j : ℕ) → a < length n.neighbours → b < length n.neighbours
+    → (configuration_of (without_link n a b)).linked i j ≡ (not (eqb i b && eqb j a) && (not (eqb i a && eqb j b) && (configuration_of n).linked i j))
+linked-without_link n a b i j la lb =
+    has-without_neighbour (without_neighbour n.neighbours a b) b a i j (omega (arith, length-without_neighbour n.neighbours a b))
+    ∙ ap (λ x. not (eqb i b && eqb j a) && x) (has-without_neighbour n.neighbours a b i j la)
 
 pub both_are : (i a j b : ℕ) → (eqb i a && eqb j b) ≡ true → (i ≡ a) × (j ≡ b)
 both_are i a j b h = let x = and_parts (eqb i a) (eqb j b) h in (eqb-true i a x.0, eqb-true j b x.1)
@@ -92,7 +111,8 @@ with_link-lawful n a b w la lb apart = record {
     at : (i j : ℕ) → (configuration_of (with_link n a b)).linked i j ≡ ((eqb i b && eqb j a) || ((eqb i a && eqb j b) || (configuration_of n).linked i j))
     at i j = linked-with_link n a b i j (omega (arith, w.rows)) (omega (arith, w.rows))
 
-    in_range : (i j : ℕ) → ((eqb i b && eqb j a) || ((eqb i a && eqb j b) || (configuration_of n).linked i j)) ≡ true → (i < length n.registers) × (j < length n.registers)
+    in_range : (i j : ℕ) → ((eqb i b && eqb j a) || ((eqb i a && eqb j b) || (configuration_of n).linked i j)) ≡ true
+        → (i < length n.registers) × (j < length n.registers)
     in_range i j h = elim (or_cases (eqb i b && eqb j a) ((eqb i a && eqb j b) || (configuration_of n).linked i j) h) [
       | inl x ↦ let e = both_are i b j a x in (omega (arith, e.0), omega (arith, e.1))
       | inr y ↦ elim (or_cases (eqb i a && eqb j b) ((configuration_of n).linked i j) y) [
@@ -101,7 +121,8 @@ with_link-lawful n a b w la lb apart = record {
       ]
     ]
 
-    symmetric : (i j : ℕ) → ((eqb i b && eqb j a) || ((eqb i a && eqb j b) || (configuration_of n).linked i j)) ≡ true → ((eqb j b && eqb i a) || ((eqb j a && eqb i b) || (configuration_of n).linked j i)) ≡ true
+    symmetric : (i j : ℕ) → ((eqb i b && eqb j a) || ((eqb i a && eqb j b) || (configuration_of n).linked i j)) ≡ true
+        → ((eqb j b && eqb i a) || ((eqb j a && eqb i b) || (configuration_of n).linked j i)) ≡ true
     symmetric i j h = elim (or_cases (eqb i b && eqb j a) ((eqb i a && eqb j b) || (configuration_of n).linked i j) h) [
       | inl x ↦ let e = both_are i b j a x in or_right _ _ (or_left _ _ (are_both j a i b e.1 e.0))
       | inr y ↦ elim (or_cases (eqb i a && eqb j b) ((configuration_of n).linked i j) y) [
@@ -120,20 +141,25 @@ with_link-lawful n a b w la lb apart = record {
     ])
 
 -- a pointer that is left stood before, and was not the one that is dropped
-pub pointer_left : (registers : List Regs) (a b i j : ℕ) → a < length registers → (registers_at (unpointed registers a b) i).p ≡ Some j → ((registers_at registers i).p ≡ Some j) × ((eqb i a && eqb j b) ≡ false)
+pub pointer_left : (registers : List Regs) (a b i j : ℕ) → a < length registers → (registers_at (unpointed registers a b) i).p ≡ Some j
+    → ((registers_at registers i).p ≡ Some j) × ((eqb i a && eqb j b) ≡ false)
 pointer_left registers a b i j l = go (holds (registers_at registers a).p b) refl
   where
-    go : (x : Bool) → holds (registers_at registers a).p b ≡ x → (registers_at (cond x (set registers a (record { p = None; m = (registers_at registers a).m })) registers) i).p ≡ Some j → ((registers_at registers i).p ≡ Some j) × ((eqb i a && eqb j b) ≡ false)
+    go : (x : Bool) → holds (registers_at registers a).p b ≡ x
+        → (registers_at (cond x (set registers a (record { p = None; m = (registers_at registers a).m })) registers) i).p ≡ Some j
+        → ((registers_at registers i).p ≡ Some j) × ((eqb i a && eqb j b) ≡ false)
     go true e h = here (eqb i a) refl (sym (ap (λ q. q.p) (registers_at-set registers a i (record { p = None; m = (registers_at registers a).m }) l)) ∙ h)
       where
-        here : (y : Bool) → eqb i a ≡ y → (cond y (record { p = None; m = (registers_at registers a).m }) (registers_at registers i)).p ≡ Some j → ((registers_at registers i).p ≡ Some j) × ((eqb i a && eqb j b) ≡ false)
+        here : (y : Bool) → eqb i a ≡ y → (cond y (record { p = None; m = (registers_at registers a).m }) (registers_at registers i)).p ≡ Some j
+            → ((registers_at registers i).p ≡ Some j) × ((eqb i a && eqb j b) ≡ false)
         here true f k = cc
         here false f k = (k, ap (λ z. z && eqb j b) f)
     go false e h = (
       h,
       false_from_ne_true _ (λ k.
           let s = both_are i a j b k in
-          both_ways (holds (registers_at registers a).p b) e (holds-is (registers_at registers a).p b (sym (ap (λ z. (registers_at registers z).p) s.0) ∙ h ∙ ap Some s.1))),
+          both_ways (holds (registers_at registers a).p b) e
+          (holds-is (registers_at registers a).p b (sym (ap (λ z. (registers_at registers z).p) s.0) ∙ h ∙ ap Some s.1))),
     )
       where
         holds-is : (o : Option ℕ) (x : ℕ) → o ≡ Some x → holds o x ≡ true
@@ -157,17 +183,22 @@ without_link-lawful n a b w la lb = record {
     size : length (unpointed (unpointed n.registers a b) b a) ≡ length n.registers
     size = length-unpointed (unpointed n.registers a b) b a ∙ length-unpointed n.registers a b
 
-    at : (i j : ℕ) → (configuration_of (without_link n a b)).linked i j ≡ (not (eqb i b && eqb j a) && (not (eqb i a && eqb j b) && (configuration_of n).linked i j))
+    at : (i j : ℕ)
+        → (configuration_of (without_link n a b)).linked i j ≡ (not (eqb i b && eqb j a) && (not (eqb i a && eqb j b) && (configuration_of n).linked i j))
     at i j = linked-without_link n a b i j (omega (arith, w.rows)) (omega (arith, w.rows))
 
     left : (i j : ℕ) → (configuration_of (without_link n a b)).linked i j ≡ true → not (eqb i b && eqb j a) ≡ true
     left i j h = (and_parts (not (eqb i b && eqb j a)) (not (eqb i a && eqb j b) && (configuration_of n).linked i j) (sym (at i j) ∙ h)).0
 
     right : (i j : ℕ) → (configuration_of (without_link n a b)).linked i j ≡ true → not (eqb i a && eqb j b) ≡ true
-    right i j h = (and_parts (not (eqb i a && eqb j b)) ((configuration_of n).linked i j) (and_parts (not (eqb i b && eqb j a)) (not (eqb i a && eqb j b) && (configuration_of n).linked i j) (sym (at i j) ∙ h)).1).0
+    right i j h =
+        (and_parts (not (eqb i a && eqb j b)) ((configuration_of n).linked i j)
+        (and_parts (not (eqb i b && eqb j a)) (not (eqb i a && eqb j b) && (configuration_of n).linked i j) (sym (at i j) ∙ h)).1).0
 
     old : (i j : ℕ) → (configuration_of (without_link n a b)).linked i j ≡ true → (configuration_of n).linked i j ≡ true
-    old i j h = (and_parts (not (eqb i a && eqb j b)) ((configuration_of n).linked i j) (and_parts (not (eqb i b && eqb j a)) (not (eqb i a && eqb j b) && (configuration_of n).linked i j) (sym (at i j) ∙ h)).1).1
+    old i j h =
+        (and_parts (not (eqb i a && eqb j b)) ((configuration_of n).linked i j)
+        (and_parts (not (eqb i b && eqb j a)) (not (eqb i a && eqb j b) && (configuration_of n).linked i j) (sym (at i j) ∙ h)).1).1
 
     swap : (i x j y : ℕ) → not (eqb i x && eqb j y) ≡ true → not (eqb j y && eqb i x) ≡ true
     swap i x j y h = ap not (flip (eqb j y) (eqb i x)) ∙ h
@@ -182,9 +213,11 @@ network_is : (m n : Network) → m.neighbours ≡ n.neighbours → m.registers �
 network_is m n e f = λ k. record { neighbours = sym e k; registers = sym f k }
 
 -- what is written in the place of a network with one more link
-pub linked_is_lawful : (n m : Network) (a b : ℕ) → IsNetwork n → a < length n.registers → b < length n.registers → (a ≡ b → ⊥) → m.neighbours ≡ with_neighbour (with_neighbour n.neighbours a b) b a → m.registers ≡ n.registers → IsNetwork m
+pub linked_is_lawful : (n m : Network) (a b : ℕ) → IsNetwork n → a < length n.registers → b < length n.registers → (a ≡ b → ⊥)
+    → m.neighbours ≡ with_neighbour (with_neighbour n.neighbours a b) b a → m.registers ≡ n.registers → IsNetwork m
 linked_is_lawful n m a b w la lb apart e f = subst (λ x. IsNetwork x) (network_is m (with_link n a b) e f) (with_link-lawful n a b w la lb apart)
 
 -- what is written in the place of a network with one link less
-pub cut_is_lawful : (n m : Network) (a b : ℕ) → IsNetwork n → a < length n.registers → b < length n.registers → m.neighbours ≡ without_neighbour (without_neighbour n.neighbours a b) b a → m.registers ≡ unpointed (unpointed n.registers a b) b a → IsNetwork m
+pub cut_is_lawful : (n m : Network) (a b : ℕ) → IsNetwork n → a < length n.registers → b < length n.registers
+    → m.neighbours ≡ without_neighbour (without_neighbour n.neighbours a b) b a → m.registers ≡ unpointed (unpointed n.registers a b) b a → IsNetwork m
 cut_is_lawful n m a b w la lb e f = subst (λ x. IsNetwork x) (network_is m (without_link n a b) e f) (without_link-lawful n a b w la lb)

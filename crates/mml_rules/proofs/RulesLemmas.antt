@@ -1,5 +1,6 @@
 -- What the definitions of the rules say, as facts.
-use Rattle.std.proofs.Common.{◌≡◌, ℕ, ◌<◌, ◌≤◌, Bool, true, false, not, ◌&&◌, ◌||◌, nat_lt, Option, None, Some, is_some, is_none, sym, refl, ap, ◌∙◌, subst, arith}
+use Rattle.std.proofs.Common.{◌≡◌, ℕ, ◌<◌, ◌≤◌, Bool, true, false, not, ◌&&◌, ◌||◌, nat_lt, Option, None, Some, is_some, is_none, sym, refl, ap, ◌∙◌}
+use Rattle.std.proofs.Common.{subst, arith}
 use Rattle.std.specs.Option.{option_map_or}
 use Rattle.std.proofs.lemmas.Bool.{and_parts, and_from, false_from_ne_true, both_ways, false≢true}
 use Rattle.mml_ids.specs.Search.{some_below}
@@ -82,7 +83,8 @@ vain-some c i h = go (c.p i) h
 
 pub suitor-from : (c : Configuration) (i k : ℕ) → IsLawful c → c.linked i k ≡ true → c.p k ≡ Some i → has_suitor c i ≡ true
 unfolding has_suitor
-suitor-from c i k l linked h = some_below-at c.size k (λ k. c.linked i k && holds (c.p k) i) (l.in_range i k linked).1 (and_from _ _ linked (holds-from (c.p k) i h))
+suitor-from c i k l linked h =
+    some_below-at c.size k (λ k. c.linked i k && holds (c.p k) i) (l.in_range i k linked).1 (and_from _ _ linked (holds-from (c.p k) i h))
 
 pub suitor-find : (c : Configuration) (i : ℕ) → has_suitor c i ≡ true → (k : ℕ) × (c.linked i k ≡ true) × (c.p k ≡ Some i)
 unfolding has_suitor

@@ -27,7 +27,8 @@ effect-linked c i j (Rule.Marriage k) l h e =
 effect-linked c i j Rule.Seduction l h e = (and_parts (c.linked i j) (nat_lt i j && (is_none (c.p j) && not (c.m j))) (greatest-is c i j e)).0
 effect-linked c i j Rule.Abandonment l h e = cc
 
-pub moved-linked : (c : Configuration) (i j : ℕ) (o : Option Rule) → IsLawful c → ((r : Rule) → o ≡ Some r → guard c i r ≡ true) → (moved c i o).p ≡ Some j → c.linked i j ≡ true
+pub moved-linked : (c : Configuration) (i j : ℕ) (o : Option Rule) → IsLawful c → ((r : Rule) → o ≡ Some r → guard c i r ≡ true)
+    → (moved c i o).p ≡ Some j → c.linked i j ≡ true
 moved-linked c i j None l h e = l.to_linked i j e
 moved-linked c i j (Some r) l h e = effect-linked c i j r l (h r refl) e
 

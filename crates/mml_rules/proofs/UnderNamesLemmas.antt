@@ -91,7 +91,8 @@ module _ (f : ℕ → ℕ) (c d : Configuration) (l : IsLawful c) (r : IsRenamed
     idle_elsewhere : (x : ℕ) → IsNoName f c.size x → is_privileged d x ≡ false
     unfolding enabled_kind
     idle_elsewhere x none = λ z. is_some (choose
-        (beq (empty.m x none z) (married-null d x (empty.p x none) z)) (is_some (empty.p x none z)) (points_in_vain d x) (no_suitor_elsewhere x none z) (no_candidate_elsewhere x none z))
+        (beq (empty.m x none z) (married-null d x (empty.p x none) z)) (is_some (empty.p x none z)) (points_in_vain d x)
+        (no_suitor_elsewhere x none z) (no_candidate_elsewhere x none z))
 
     pub stable_named : IsStable d ↔ IsStable c
     stable_named = (

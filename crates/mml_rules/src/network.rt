@@ -1,6 +1,7 @@
 ghost use Rattle.std.specs.FinSet as set;
 ghost use Rattle.std.specs.Prelude.{◌≡◌, ◌≢◌, ℕ, ◌<◌, length, true, Some, IfOk};
-ghost use Rattle.mml_rules.specs.Network.{neighbours_at, registers_at, configuration_of, IsNetwork, with_neighbour, without_neighbour, unpointed, with_registers, with_link, without_link};
+ghost use Rattle.mml_rules.specs.Network.{neighbours_at, registers_at, configuration_of, IsNetwork, with_neighbour, without_neighbour, unpointed};
+ghost use Rattle.mml_rules.specs.Network.{with_registers, with_link, without_link};
 
 use crate::{Regs, Scene};
 use mml_ids::{Memory, NodeSet, Rank};

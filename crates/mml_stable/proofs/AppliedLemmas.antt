@@ -27,13 +27,15 @@ close_pays w k =
     let same : whole_potential (configuration (after w event.Close)) ≡ whole_potential _ = ap whole_potential (closed-step w k.choices) in
     omega (arith, pays, same)
 
-pub event_pays : (w : World) (e : Event) → IsWorld w → is_of_step e ≡ true → applied_by w e + whole_potential (configuration (after w e)) ≤ whole_potential (configuration w)
+pub event_pays : (w : World) (e : Event) → IsWorld w → is_of_step e ≡ true
+    → applied_by w e + whole_potential (configuration (after w e)) ≤ whole_potential (configuration w)
 event_pays w (event.Grant s i rule) k of_step = omega arith
 event_pays w (event.Release i) k of_step = omega arith
 event_pays w event.Close k of_step = close_pays w k
 event_pays w _ k of_step = absurd (false≢true of_step)
 
-pub moves_paid : (r : RosterValue) (w : World) (es : List Event) → IsWorld w → is_legal_list r w es ≡ true → list_all is_of_step es ≡ true → applied_over w es ≤ whole_potential (configuration w)
+pub moves_paid : (r : RosterValue) (w : World) (es : List Event) → IsWorld w → is_legal_list r w es ≡ true → list_all is_of_step es ≡ true
+    → applied_over w es ≤ whole_potential (configuration w)
 moves_paid r w [] k legal steps = omega arith
 moves_paid r w (e ∷ es) k legal steps =
     let here = and_parts (is_legal r w e) (is_legal_list r (after w e) es) legal in
@@ -47,7 +49,8 @@ pub network_most : (n : Network) → IsNetwork n → whole_potential (configurat
 unfolding link_count
 network_most n k = whole_most (configuration_of n) k.lawful
 
-pub moves_bounded : (r : RosterValue) (w : World) (es : List Event) → IsWorld w → is_legal_list r w es ≡ true → list_all is_of_step es ≡ true → applied_over w es ≤ 2 * link_count w.network + 3 * size w
+pub moves_bounded : (r : RosterValue) (w : World) (es : List Event) → IsWorld w → is_legal_list r w es ≡ true → list_all is_of_step es ≡ true
+    → applied_over w es ≤ 2 * link_count w.network + 3 * size w
 moves_bounded r w es k legal steps =
     let paid = moves_paid r w es k legal steps in
     let most = network_most w.network k.network in
@@ -75,7 +78,8 @@ closes_fewer r w (e ∷ es) k legal =
     one event.Close p = close_moves w k p
     one _ p = omega arith
 
-pub closes_bounded : (r : RosterValue) (w : World) (es : List Event) → IsWorld w → is_legal_list r w es ≡ true → list_all is_of_step es ≡ true → count_closes es ≤ 2 * link_count w.network + 3 * size w
+pub closes_bounded : (r : RosterValue) (w : World) (es : List Event) → IsWorld w → is_legal_list r w es ≡ true → list_all is_of_step es ≡ true
+    → count_closes es ≤ 2 * link_count w.network + 3 * size w
 closes_bounded r w es k legal steps =
     let fewer = closes_fewer r w es k legal in
     let bounded = moves_bounded r w es k legal steps in

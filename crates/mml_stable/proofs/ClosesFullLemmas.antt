@@ -36,7 +36,8 @@ cut k w [] full less = absurd (omega arith)
 cut zero w (e ∷ es) full less = ([], e, es, refl, tt)
 cut (suc k) w (e ∷ es) full less = go (cut k (after w e) es full.1) (cut (suc k) (after w e) es full.1) (is_close e) refl
   where
-    go : (k < count_closes es → Cut k (after w e) es) → (suc k < count_closes es → Cut (suc k) (after w e) es) → (b : Bool) → is_close e ≡ b → Cut (suc k) w (e ∷ es)
+    go : (k < count_closes es → Cut k (after w e) es) → (suc k < count_closes es → Cut (suc k) (after w e) es) → (b : Bool) → is_close e ≡ b
+        → Cut (suc k) w (e ∷ es)
     go here there true f =
         let one : cond {A = ℕ} (is_close e) 1 0 ≡ 1 = ap (λ b. cond b 1 0) f in
         let rest = here (omega (arith, less, one)) in
@@ -47,7 +48,8 @@ cut (suc k) w (e ∷ es) full less = go (cut k (after w e) es full.1) (cut (suc 
         let rounds = rest.4 in
         (e ∷ rest.0, rest.1, rest.2, ap (λ z. e ∷ z) rest.3, (e ∷ rounds.0, rounds.1, ap (λ z. e ∷ z) rounds.2, longer_round w e rounds.0 rounds.3, rounds.4))
 
-pub closes_few : (r : RosterValue) (w : World) (es : List Event) → IsWorld w → is_legal_list r w es ≡ true → list_all is_of_step es ≡ true → ClosesFull w es → count_closes es ≤ rounds_for (size w)
+pub closes_few : (r : RosterValue) (w : World) (es : List Event) → IsWorld w → is_legal_list r w es ≡ true → list_all is_of_step es ≡ true
+    → ClosesFull w es → count_closes es ≤ rounds_for (size w)
 closes_few r w es k legal of_step full = elim (cases_lt (rounds_for (size w)) (count_closes es)) [
   | inr few ↦ few
   | inl less ↦

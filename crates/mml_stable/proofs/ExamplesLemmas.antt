@@ -1,5 +1,6 @@
 -- The bound is reached: on the triangle with a tail a legal list applies 20 moves.
-use Rattle.std.proofs.Common.{◌≡◌, ◌==◌, ℕ, zero, suc, ◌+◌, ◌-◌, ◌*◌, ◌<◌, nat_lt, Bool, true, false, ◌&&◌, ◌||◌, Option, None, Some, is_some, is_none, List, [], ◌∷◌, map, length, set, replicate, sym, refl, ap, ◌∙◌, subst, arith}
+use Rattle.std.proofs.Common.{◌≡◌, ◌==◌, ℕ, zero, suc, ◌+◌, ◌-◌, ◌*◌, ◌<◌, nat_lt, Bool, true, false, ◌&&◌, ◌||◌, Option, None, Some, is_some}
+use Rattle.std.proofs.Common.{is_none, List, [], ◌∷◌, map, length, set, replicate, sym, refl, ap, ◌∙◌, subst, arith}
 use Rattle.std.specs.Prelude.{nat_le, IsTrue, All}
 use Rattle.std.specs.List.{list_any, range_with_len}
 use Rattle.std.specs.Ordering.{nat_cmp}
@@ -40,14 +41,18 @@ chosen_among registers chosen = count_below (length registers) (λ i. is_some (c
 abbrev tells : (ℕ → ℕ → Bool) → List Regs → List (Option Rule) → List Event → ℕ → Bool
 tells linked registers chosen [] n = n == 0
 tells linked registers chosen (event.Grant s i rule ∷ es) n =
-    (s == 0) && ((nat_lt i (length registers) && (is_none (chosen_at chosen i) && guard (shape linked registers) i rule)) && tells linked registers (set chosen i (Some rule)) es n)
+    (s == 0) &&
+    ((nat_lt i (length registers) && (is_none (chosen_at chosen i) && guard (shape linked registers) i rule))
+    && tells linked registers (set chosen i (Some rule)) es n)
 tells linked registers chosen (event.Close ∷ es) n =
     list_any is_some chosen && (nat_le (chosen_among registers chosen) n &&
-    tells linked (map (λ i. moved (shape linked registers) i (chosen_at chosen i)) (range_with_len 0 (length registers))) (replicate (length registers) None) es (n - chosen_among registers chosen))
+    tells linked (map (λ i. moved (shape linked registers) i (chosen_at chosen i)) (range_with_len 0 (length registers)))
+    (replicate (length registers) None) es (n - chosen_among registers chosen))
 tells linked registers chosen (_ ∷ es) n = false
 
 -- what it tells holds of a world with these links, registers and choices
-sound : (r : RosterValue) (w : World) (es : List Event) (n : ℕ) → ((i : ℕ) → i < size w → owns r (who.Student 0) i ≡ true) → tells (configuration w).linked w.network.registers w.chosen es n ≡ true
+sound : (r : RosterValue) (w : World) (es : List Event) (n : ℕ) → ((i : ℕ) → i < size w → owns r (who.Student 0) i ≡ true)
+    → tells (configuration w).linked w.network.registers w.chosen es n ≡ true
     → (is_legal_list r w es ≡ true) × (applied_over w es ≡ n)
 unfolding moved_registers chosen_count
 sound r w [] n owned t = (refl, sym (eqb-true n 0 t))
@@ -62,7 +67,8 @@ sound r w (event.Grant s i rule ∷ es) n owned t =
 sound r w (event.Close ∷ es) n owned t =
     let x = and_parts (list_any is_some w.chosen) _ t in
     let y = and_parts (nat_le (chosen_among w.network.registers w.chosen) n) _ x.1 in
-    let rest = sound r (after w event.Close) es (n - chosen_among w.network.registers w.chosen) (λ i lt. owned i (omega (arith, size-after w event.Close, lt))) y.1 in
+    let rest =
+    sound r (after w event.Close) es (n - chosen_among w.network.registers w.chosen) (λ i lt. owned i (omega (arith, size-after w event.Close, lt))) y.1 in
     let le = leb-true (chosen_among w.network.registers w.chosen) n y.0 in
     let last = rest.1 in
     (and_from _ _ x.0 rest.0, omega (arith, le, last))
@@ -206,7 +212,8 @@ unfolding is_married has_suitor greatest_candidate
 told = refl
 
 run : (is_legal_list sole_owner triangle_world twenty_moves ≡ true) × (applied_over triangle_world twenty_moves ≡ 20)
-run = sound sole_owner triangle_world twenty_moves 20 owns_all (subst (λ linked. tells linked triangle_world.network.registers triangle_world.chosen twenty_moves 20 ≡ true) (sym same_links) told)
+run = sound sole_owner triangle_world twenty_moves 20 owns_all
+    (subst (λ linked. tells linked triangle_world.network.registers triangle_world.chosen twenty_moves 20 ≡ true) (sym same_links) told)
 
 pub legal : is_legal_list sole_owner triangle_world twenty_moves ≡ true
 legal = run.0

@@ -51,15 +51,20 @@ next_move r w k quiet = go (some_below (size w) (is_privileged (configuration w)
         let i = found.0 in
         let move = may_move r w i k.world found.1 found.2 (quiet i) in
         let owner = first_owner r i (k.owned i found.1) in
-        let here : chosen_at (set w.chosen i (Some move.0)) i ≡ Some move.0 = get_or-set_same w.chosen i (Some move.0) None (omega (arith, found.1, k.world.choices)) in
-        inr (record { owner = owner.0; node = i; rule = move.0; grant = move.1 owner.0 owner.1; close = any_chosen (set w.chosen i (Some move.0)) i (ap is_some here) })
+        let here : chosen_at (set w.chosen i (Some move.0)) i ≡ Some move.0 =
+        get_or-set_same w.chosen i (Some move.0) None (omega (arith, found.1, k.world.choices)) in
+        inr (record
+        { owner = owner.0; node = i; rule = move.0; grant = move.1 owner.0 owner.1; close = any_chosen (set w.chosen i (Some move.0)) i (ap is_some here) })
 
 -- a close takes at least 1 from the potential
-close_lowers : (r : RosterValue) (w : World) → IsWorld w → is_legal r w event.Close ≡ true → whole_potential (configuration (after w event.Close)) + 1 ≤ whole_potential (configuration w)
+close_lowers : (r : RosterValue) (w : World) → IsWorld w → is_legal r w event.Close ≡ true
+    → whole_potential (configuration (after w event.Close)) + 1 ≤ whole_potential (configuration w)
 close_lowers r w k legal = let pays = close_pays w k in let moves = close_moves w k legal in omega (arith, pays, moves)
 
-goes_on : (r : RosterValue) (w : World) (e : Event) (n : ℕ) (es : List Event) → is_legal r w e ≡ true → is_grant_or_close e ≡ true → LeadsToRest r (after w e) n es → LeadsToRest r w (n + 1) (e ∷ es)
-goes_on r w e n es legal forward t = let few = t.few in record { legal = and_from _ _ legal t.legal; forward = and_from _ _ forward t.forward; stable = t.stable; few = omega arith }
+goes_on : (r : RosterValue) (w : World) (e : Event) (n : ℕ) (es : List Event) → is_legal r w e ≡ true → is_grant_or_close e ≡ true
+    → LeadsToRest r (after w e) n es → LeadsToRest r w (n + 1) (e ∷ es)
+goes_on r w e n es legal forward t = let few = t.few in
+    record { legal = and_from _ _ legal t.legal; forward = and_from _ _ forward t.forward; stable = t.stable; few = omega arith }
 
 within : (r : RosterValue) (w : World) (n m : ℕ) (es : List Event) → n ≤ m → LeadsToRest r w n es → LeadsToRest r w m es
 within r w n m es le t = let few = t.few in record { legal = t.legal; forward = t.forward; stable = t.stable; few = omega arith }
@@ -107,5 +112,7 @@ reached r w k owned = go (is_any_chosen w) refl
     go true e =
         let most = network_most w.network k.network in
         let less = close_lowers r w k e in
-        let rest = by_moves (whole_potential (configuration (after w event.Close))) r (after w event.Close) (ready_after r w event.Close ready e) (none_at (size w)) (omega arith) in
+        let rest =
+        by_moves (whole_potential (configuration (after w event.Close))) r (after w event.Close) (ready_after r w event.Close ready e)
+        (none_at (size w)) (omega arith) in
         (event.Close ∷ rest.0, within r w _ _ (event.Close ∷ rest.0) (omega (arith, most, less)) (goes_on r w event.Close _ rest.0 e refl rest.1))

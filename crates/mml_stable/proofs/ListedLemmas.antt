@@ -1,8 +1,10 @@
 -- What stands in the lists of a report, and in which order.
-use Rattle.std.proofs.Common.{◌≡◌, ◌↔◌, ℕ, zero, suc, ◌<◌, Bool, true, false, ◌&&◌, ltb, List, [], ◌∷◌, ◌++◌, Option, None, Some, inl, inr, arith, refl, sym, ap, ◌∙◌, subst}
+use Rattle.std.proofs.Common.{◌≡◌, ◌↔◌, ℕ, zero, suc, ◌<◌, Bool, true, false, ◌&&◌, ltb, List, [], ◌∷◌, ◌++◌, Option, None, Some, inl, inr, arith}
+use Rattle.std.proofs.Common.{refl, sym, ap, ◌∙◌, subst}
 use Rattle.std.specs.List.{All, Contains}
 use Rattle.std.proofs.lemmas.Bool.{and_parts, and_from, ltb-true, lt-ltb, not-true, not_from_false, false_from_ne_true, both_ways, cases_eq, cases_order}
-use Rattle.std.proofs.lemmas.List.Elements.{All-nil, All-cons, All-append, All-head, All-tail, All-weaker, All-contains, Contains-append_left, Contains-append_right, Contains-append_cases, Contains-push}
+use Rattle.std.proofs.lemmas.List.Elements.{All-nil, All-cons, All-append, All-head, All-tail, All-weaker, All-contains, Contains-append_left}
+use Rattle.std.proofs.lemmas.List.Elements.{Contains-append_right, Contains-append_cases, Contains-push}
 use Rattle.mml_rules.specs.declared.rule.Kind.{Kind}
 use Rattle.mml_rules.specs.Configuration.{Configuration, IsLawful, holds}
 use Rattle.mml_rules.specs.Rules.{is_married, enabled_kind}
@@ -14,7 +16,8 @@ use Rattle.mml_rules.proofs.EnabledKindLemmas.{guard-kind, kind-guard}
 use Rattle.mml_rules.proofs.MeaningLemmas.{married-means, guard-means}
 use Rattle.mml_stable.specs.declared.open_link.OpenLink.{OpenLink}
 use Rattle.mml_stable.specs.Walk.{certificate}
-use Rattle.mml_stable.specs.Reports.{each_below, listed_if, pair_at, pairs, is_free, free_nodes, privileged_at, privileged_nodes, is_open, open_link, open_links_at, open_links, is_stable}
+use Rattle.mml_stable.specs.Reports.{each_below, listed_if, pair_at, pairs, is_free, free_nodes, privileged_at, privileged_nodes, is_open, open_link}
+use Rattle.mml_stable.specs.Reports.{open_links_at, open_links, is_stable}
 use Rattle.mml_stable.specs.Listed.{IsPairInOrder, IsFreeNode, IsPrivilegedBy, IsOpenLink, Rises, IsLinkBefore, HasEnd, IsMatched, IsMaximalMatching}
 use Rattle.mml_stable.proofs.MatchingLemmas.{maximal, stable-means}
 use Rattle.mml_stable.proofs.NamedLemmas.{all_listed, all_below}
@@ -61,11 +64,13 @@ rises_one R true x = (All-nil (R x), tt)
 rises_one R false x = tt
 
 -- where what is listed for a number has it as its key, and a lower key comes first
-module _ {X : Type 0} (R : X → X → Type 0) (key : X → ℕ) (f : ℕ → List X) (keyed : (i : ℕ) → All (λ x. key x ≡ i) (f i)) (lower : (x y : X) → key x < key y → R x y) (each : (i : ℕ) → Rises R (f i)) where
+module _ {X : Type 0} (R : X → X → Type 0) (key : X → ℕ) (f : ℕ → List X) (keyed : (i : ℕ) → All (λ x. key x ≡ i) (f i))
+    (lower : (x y : X) → key x < key y → R x y) (each : (i : ℕ) → Rises R (f i)) where
   rises_below : (n : ℕ) → Rises R (each_below n f)
   rises_below zero = tt
   rises_below (suc n) = rises_append R (each_below n f) (f n) (rises_below n) (each n)
-      (All-weaker (λ x. key x < n) (λ x. All (R x) (f n)) (λ x l. All-weaker (λ y. key y ≡ n) (R x) (λ y e. lower x y (omega arith)) (f n) (keyed n)) (each_below n f)
+      (All-weaker (λ x. key x < n) (λ x. All (R x) (f n)) (λ x l. All-weaker (λ y. key y ≡ n) (R x) (λ y e. lower x y (omega arith)) (f n) (keyed n))
+      (each_below n f)
       (all_below (λ x. key x < n) n f (λ i l. All-weaker (λ x. key x ≡ i) (λ x. key x < n) (λ x e. omega arith) (f i) (keyed i))))
 
 -- ---- the pairs
@@ -82,7 +87,8 @@ module _ (c : Configuration) (l : IsLawful c) where
   pair_listed i j None e lt back = cc
   pair_listed i j (Some k) e lt back =
       let same : k ≡ j = cc in
-      subst (λ k. Contains (pair_at c i (Some k)) (i, j)) (sym same) (listed (ltb i j && holds (c.p j) i) (i, j) (and_from _ _ (lt-ltb i j lt) (holds-from (c.p j) i back)))
+      subst (λ k. Contains (pair_at c i (Some k)) (i, j)) (sym same)
+      (listed (ltb i j && holds (c.p j) i) (i, j) (and_from _ _ (lt-ltb i j lt) (holds-from (c.p j) i back)))
 
   pub pairs_listed : (p : ℕ × ℕ) → Contains (pairs c) p ↔ IsPairInOrder c p
   pairs_listed p = (
@@ -185,10 +191,12 @@ module _ (c : Configuration) (l : IsLawful c) where
       one p q i hp hq ep eq = elim ep [
         | inl a ↦ elim eq [
           | inl b ↦ both p q i a b (same p.1 q.1 i (subst (λ x. c.p x ≡ Some p.1) a hp.1.0) (subst (λ x. c.p x ≡ Some q.1) b hq.1.0))
-          | inr b ↦ let e : p.1 ≡ q.0 = same p.1 q.0 i (subst (λ x. c.p x ≡ Some p.1) a hp.1.0) (subst (λ x. c.p x ≡ Some q.0) b hq.1.1) in absurd (omega (arith, hp.0, hq.0))
+          | inr b ↦ let e : p.1 ≡ q.0 = same p.1 q.0 i (subst (λ x. c.p x ≡ Some p.1) a hp.1.0) (subst (λ x. c.p x ≡ Some q.0) b hq.1.1) in
+              absurd (omega (arith, hp.0, hq.0))
         ]
         | inr a ↦ elim eq [
-          | inl b ↦ let e : p.0 ≡ q.1 = same p.0 q.1 i (subst (λ x. c.p x ≡ Some p.0) a hp.1.1) (subst (λ x. c.p x ≡ Some q.1) b hq.1.0) in absurd (omega (arith, hp.0, hq.0))
+          | inl b ↦ let e : p.0 ≡ q.1 = same p.0 q.1 i (subst (λ x. c.p x ≡ Some p.0) a hp.1.1) (subst (λ x. c.p x ≡ Some q.1) b hq.1.0) in
+              absurd (omega (arith, hp.0, hq.0))
           | inr b ↦ λ z. (same p.0 q.0 i (subst (λ x. c.p x ≡ Some p.0) a hp.1.1) (subst (λ x. c.p x ≡ Some q.0) b hq.1.1) z, (a ∙ sym b) z)
         ]
       ]
@@ -211,10 +219,14 @@ module _ (c : Configuration) where
       each i (Some j) = rises_one (λ p q. p.0 < q.0) (ltb i j && holds (c.p j) i) (i, j)
 
   pub free_rise : Rises (λ i j. i < j) (free_nodes c)
-  free_rise = rises_below (λ i j. i < j) (λ i. i) (λ i. listed_if (is_free c i) i) (λ i. all_listed (λ j. j ≡ i) (is_free c i) i (λ _. refl)) (λ x y l. l) (λ i. rises_one (λ i j. i < j) (is_free c i) i) c.size
+  free_rise =
+      rises_below (λ i j. i < j) (λ i. i) (λ i. listed_if (is_free c i) i) (λ i. all_listed (λ j. j ≡ i) (is_free c i) i (λ _. refl)) (λ x y l. l)
+      (λ i. rises_one (λ i j. i < j) (is_free c i) i) c.size
 
   pub privileged_rise : Rises (λ p q. p.0 < q.0) (privileged_nodes c)
-  privileged_rise = rises_below (λ p q. p.0 < q.0) (λ p. p.0) (λ i. privileged_at i (enabled_kind c i)) (λ i. keyed i (enabled_kind c i)) (λ x y l. l) (λ i. each i (enabled_kind c i)) c.size
+  privileged_rise =
+      rises_below (λ p q. p.0 < q.0) (λ p. p.0) (λ i. privileged_at i (enabled_kind c i)) (λ i. keyed i (enabled_kind c i)) (λ x y l. l)
+      (λ i. each i (enabled_kind c i)) c.size
     where
       keyed : (i : ℕ) (o : Option Kind) → All (λ p. p.0 ≡ i) (privileged_at i o)
       keyed i None = All-nil (λ p. p.0 ≡ i)
@@ -226,7 +238,9 @@ module _ (c : Configuration) where
 
   -- the links of a
   links_have_a : (a : ℕ) → All (λ k. k.a ≡ a) (open_links_at c a)
-  links_have_a a = all_below (λ k. k.a ≡ a) c.size (λ b. listed_if (is_open c a b) (open_link c a b)) (λ b l. all_listed (λ k. k.a ≡ a) (is_open c a b) (open_link c a b) (λ _. refl))
+  links_have_a a =
+      all_below (λ k. k.a ≡ a) c.size (λ b. listed_if (is_open c a b) (open_link c a b))
+      (λ b l. all_listed (λ k. k.a ≡ a) (is_open c a b) (open_link c a b) (λ _. refl))
 
   strengthen : (a : ℕ) (ks : List OpenLink) → All (λ k. k.a ≡ a) ks → Rises (λ k l. k.b < l.b) ks → Rises IsLinkBefore ks
   strengthen a [] h r = tt
@@ -237,4 +251,6 @@ module _ (c : Configuration) where
 
   pub open_rise : Rises IsLinkBefore (open_links c)
   open_rise = rises_below IsLinkBefore (λ k. k.a) (open_links_at c) links_have_a (λ x y l. inl l) (λ a. strengthen a (open_links_at c a) (links_have_a a)
-      (rises_below (λ k l. k.b < l.b) (λ k. k.b) (λ b. listed_if (is_open c a b) (open_link c a b)) (λ b. all_listed (λ k. k.b ≡ b) (is_open c a b) (open_link c a b) (λ _. refl)) (λ x y l. l) (λ b. rises_one (λ k l. k.b < l.b) (is_open c a b) (open_link c a b)) c.size)) c.size
+      (rises_below (λ k l. k.b < l.b) (λ k. k.b) (λ b. listed_if (is_open c a b) (open_link c a b))
+      (λ b. all_listed (λ k. k.b ≡ b) (is_open c a b) (open_link c a b) (λ _. refl)) (λ x y l. l)
+      (λ b. rises_one (λ k l. k.b < l.b) (is_open c a b) (open_link c a b)) c.size)) c.size

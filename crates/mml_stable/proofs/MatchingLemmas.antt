@@ -1,5 +1,6 @@
 -- Where no node is privileged, the pairs are a maximal matching.
-use Rattle.std.proofs.Common.{◌≡◌, ℕ, zero, suc, ◌<◌, ◌≤◌, ◌+◌, Bool, true, false, not, ◌&&◌, ◌||◌, ◌⊎◌, ◌↔◌, inl, inr, Option, None, Some, is_some, sym, refl, ap, ◌∙◌, subst, arith, nat_lt}
+use Rattle.std.proofs.Common.{◌≡◌, ℕ, zero, suc, ◌<◌, ◌≤◌, ◌+◌, Bool, true, false, not, ◌&&◌, ◌||◌, ◌⊎◌, ◌↔◌, inl, inr, Option, None, Some, is_some}
+use Rattle.std.proofs.Common.{sym, refl, ap, ◌∙◌, subst, arith, nat_lt}
 use Rattle.std.specs.Option.{option_map_or}
 use Rattle.std.proofs.lemmas.Bool.{and_from, or_parts, not-true, not-false, false_from_ne_true, both_ways, lt-ltb, ltb-false, cases_order}
 use Rattle.mml_ids.specs.Search.{some_below}
@@ -24,7 +25,8 @@ pub idle-quiet : (c : Configuration) (i : ℕ) → IsLawful c → is_privileged 
 idle-quiet c i l h = record { only = λ r g. absurd (both_ways (guard c i r) (idle-guard c i r l h) g) }
 
 pub quiet-settled : (c : Configuration) (i : ℕ) → IsQuiet c i → c.m i ≡ is_married c i
-quiet-settled c i q = beq-true _ _ (not-false _ (false_from_ne_true (not (m_is_right c i)) (λ g. let e : Kind.Update ≡ Kind.Seduction = q.only Rule.Update g in cc)))
+quiet-settled c i q =
+    beq-true _ _ (not-false _ (false_from_ne_true (not (m_is_right c i)) (λ g. let e : Kind.Update ≡ Kind.Seduction = q.only Rule.Update g in cc)))
 
 pub idle-settled : (c : Configuration) (i : ℕ) → IsLawful c → is_privileged c i ≡ false → c.m i ≡ is_married c i
 idle-settled c i l h = quiet-settled c i (idle-quiet c i l h)
@@ -33,7 +35,8 @@ pub quiet-vain : (c : Configuration) (i j : ℕ) → IsLawful c → IsQuiet c i 
 quiet-vain c i j l q p free =
     let right : m_is_right c i ≡ true = beq-same _ _ (quiet-settled c i q) in
     let unanswered : holds (c.p j) i ≡ false = sym (married-at c i j l p) ∙ free in
-    let at_j : points_in_vain c i ≡ (not (holds (c.p j) i) && (c.m j || nat_lt j i)) = ap (λ o. option_map_or (λ j. not (holds (c.p j) i) && (c.m j || nat_lt j i)) o false) p in
+    let at_j : points_in_vain c i ≡ (not (holds (c.p j) i) && (c.m j || nat_lt j i)) =
+    ap (λ o. option_map_or (λ j. not (holds (c.p j) i) && (c.m j || nat_lt j i)) o false) p in
     let not_vain : points_in_vain c i ≡ false = false_from_ne_true (points_in_vain c i) (λ v.
     let e : Kind.Abandonment ≡ Kind.Seduction = q.only Rule.Abandonment (and_from _ _ right v) in cc) in
     let calm : (c.m j || nat_lt j i) ≡ false = false_from_ne_true (c.m j || nat_lt j i) (λ v.
@@ -65,7 +68,8 @@ free-null c l s (suc n) i room in_c free = go (free-null c l s n) (c.p i) refl
         absurd (quiet-alone c i j l e (further j (omega arith) j_in j_free) (idle-quiet c j l (s j j_in)))
 
 -- of two neighbours that point nowhere, with m false at the higher one, the lower one may seduce
-pub may_seduce : (c : Configuration) (a b : ℕ) → IsLawful c → c.linked a b ≡ true → a < b → IsQuiet c a → c.p a ≡ None → c.p b ≡ None → c.m b ≡ false → guard c a Rule.Seduction ≡ true
+pub may_seduce : (c : Configuration) (a b : ℕ) → IsLawful c → c.linked a b ≡ true → a < b → IsQuiet c a → c.p a ≡ None → c.p b ≡ None → c.m b ≡ false
+    → guard c a Rule.Seduction ≡ true
 may_seduce c a b l linked lt quiet pa pb mb =
     let alone : has_suitor c a ≡ false = false_from_ne_true (has_suitor c a) (λ h.
     let k = suitor-find c a h in quiet-alone c k.0 a l k.2 pa quiet) in
@@ -77,7 +81,8 @@ may_seduce c a b l linked lt quiet pa pb mb =
     some-best None e f = absurd (both_ways (is_candidate c a b) (greatest-none c a b e (l.in_range a b linked).1) f)
     some-best (Some x) e f = refl
 
-pub no_open_link : (c : Configuration) (a b : ℕ) → IsLawful c → c.linked a b ≡ true → a < b → is_privileged c a ≡ false → c.p a ≡ None → c.p b ≡ None → c.m b ≡ false → ⊥
+pub no_open_link : (c : Configuration) (a b : ℕ) → IsLawful c → c.linked a b ≡ true → a < b → is_privileged c a ≡ false → c.p a ≡ None → c.p b ≡ None
+    → c.m b ≡ false → ⊥
 no_open_link c a b l linked lt idle pa pb mb =
     both_ways (guard c a Rule.Seduction) (idle-guard c a Rule.Seduction l idle) (may_seduce c a b l linked lt (idle-quiet c a l idle) pa pb mb)
 
@@ -113,7 +118,9 @@ pub stable-means : (c : Configuration) → (is_stable c ≡ true) ↔ IsStable c
 stable-means c = (to, from)
   where
     to : is_stable c ≡ true → IsStable c
-    to h i l = false_from_ne_true (is_privileged c i) (λ e. both_ways (some_below c.size (is_privileged c)) (not-true _ h) (some_below-at c.size i (is_privileged c) l e))
+    to h i l =
+        false_from_ne_true (is_privileged c i)
+        (λ e. both_ways (some_below c.size (is_privileged c)) (not-true _ h) (some_below-at c.size i (is_privileged c) l e))
 
     from : IsStable c → is_stable c ≡ true
     from s = ap not (false_from_ne_true (some_below c.size (is_privileged c)) (λ e.

@@ -1,5 +1,6 @@
 -- What guards say, and over which links a move makes or takes back a pointer.
-use Rattle.std.proofs.Common.{◌≡◌, ◌==◌, ℕ, ◌<◌, Bool, true, false, not, ◌&&◌, ◌||◌, ◌⊎◌, inl, inr, Option, None, Some, is_some, is_none, sym, refl, ap, ◌∙◌, subst, nat_lt}
+use Rattle.std.proofs.Common.{◌≡◌, ◌==◌, ℕ, ◌<◌, Bool, true, false, not, ◌&&◌, ◌||◌, ◌⊎◌, inl, inr, Option, None, Some, is_some, is_none, sym, refl}
+use Rattle.std.proofs.Common.{ap, ◌∙◌, subst, nat_lt}
 use Rattle.std.specs.Option.{option_map_or}
 use Rattle.std.proofs.lemmas.Bool.{and_parts, or_cases, not-true, both_ways, false≢true, ltb-true, eqb-true}
 use Rattle.mml_rules.specs.declared.rule.Rule.{Rule}
@@ -64,7 +65,8 @@ pub record Abandons (c : Configuration) (i j : ℕ) : Type 0 where
 pub abandons : (c : Configuration) (i j : ℕ) → guard c i Rule.Abandonment ≡ true → c.p i ≡ Some j → Abandons c i j
 abandons c i j h e =
     let x = and_parts (m_is_right c i) (points_in_vain c i) h in
-    let v : (not (holds (c.p j) i) && (c.m j || nat_lt j i)) ≡ true = sym (ap (λ o. option_map_or (λ j. not (holds (c.p j) i) && (c.m j || nat_lt j i)) o false) e) ∙ x.1 in
+    let v : (not (holds (c.p j) i) && (c.m j || nat_lt j i)) ≡ true =
+    sym (ap (λ o. option_map_or (λ j. not (holds (c.p j) i) && (c.m j || nat_lt j i)) o false) e) ∙ x.1 in
     let y = and_parts (not (holds (c.p j) i)) (c.m j || nat_lt j i) v in
     record {
       right = beq-true _ _ x.0;
@@ -130,7 +132,8 @@ makes c i j (Some Rule.Seduction) h off e =
 makes c i j (Some Rule.Abandonment) h off e = cc
 
 -- a pointer that i has before the move and has not after it: i abandons j
-pub drops : (c : Configuration) (i j : ℕ) (o : Option Rule) → Holds c i o → c.p i ≡ Some j → holds (moved c i o).p j ≡ false → Abandons c i j × ((moved c i o).m ≡ c.m i)
+pub drops : (c : Configuration) (i j : ℕ) (o : Option Rule) → Holds c i o → c.p i ≡ Some j → holds (moved c i o).p j ≡ false
+    → Abandons c i j × ((moved c i o).m ≡ c.m i)
 drops c i j None h e off = absurd (both_ways (holds (c.p i) j) off (holds-from (c.p i) j e))
 drops c i j (Some Rule.Update) h e off = absurd (both_ways (holds (c.p i) j) off (holds-from (c.p i) j e))
 drops c i j (Some (Rule.Marriage k)) h e off = let g = marries c i k (h (Rule.Marriage k) refl) in let null = g.null in cc

@@ -10,7 +10,8 @@ use Rattle.mml_rules.specs.Rules.{enabled_kind, is_married}
 use Rattle.mml_rules.proofs.RulesLemmas.{pointee_in}
 use Rattle.mml_board.specs.World.{World, IsWorld, size, configuration}
 use Rattle.mml_stable.specs.declared.stability.Report.{Report}
-use Rattle.mml_stable.specs.Reports.{each_below, listed_if, pair_at, is_free, privileged_at, is_open, open_link, open_links_at, report_of, IsPairOf, IsOpenLinkOf, NamesNodes}
+use Rattle.mml_stable.specs.Reports.{each_below, listed_if, pair_at, is_free, privileged_at, is_open, open_link, open_links_at, report_of, IsPairOf}
+use Rattle.mml_stable.specs.Reports.{IsOpenLinkOf, NamesNodes}
 use Rattle.mml_stable.proofs.WalkLemmas.{certified}
 
 pub all_listed : {X : Type 0} (P : X → Type 0) (b : Bool) (x : X) → (b ≡ true → P x) → All P (listed_if b x)

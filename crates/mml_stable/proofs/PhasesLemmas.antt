@@ -4,7 +4,11 @@ use Rattle.mml_rules.specs.declared.rule.Rule.{Rule}
 use Rattle.mml_rules.specs.Configuration.{Configuration, IsLawful}
 use Rattle.mml_rules.specs.Rules.{is_privileged, step, AllHold}
 use Rattle.mml_stable.proofs.MarriedCountLemmas.{married_count, married_kept, grows, Calm}
-use Rattle.mml_stable.proofs.StagesLemmas.{Modest, Upward, Aware, Hopeful, Each, IsOpen, IsCourting, IsCourted, IsLone, IsRising, IsFacing, facing_idle, rising_stays, facing_moves, facing_stays, lone_stays, modest_idle, upward_idle, aware_idle, hopeful_idle, courting_idle, courted_idle, modest_stays, modest_moves, upward_stays, upward_moves, aware_stays, aware_moves, hopeful_stays, hopeful_moves, open_stays, courting_stays, courting_moves, courted_moves, courted_kept}
+use Rattle.mml_stable.proofs.StagesLemmas.{Modest, Upward, Aware, Hopeful, Each, IsOpen, IsCourting, IsCourted, IsLone, IsRising, IsFacing}
+use Rattle.mml_stable.proofs.StagesLemmas.{facing_idle, rising_stays, facing_moves, facing_stays, lone_stays, modest_idle, upward_idle, aware_idle}
+use Rattle.mml_stable.proofs.StagesLemmas.{hopeful_idle, courting_idle, courted_idle, modest_stays, modest_moves, upward_stays, upward_moves}
+use Rattle.mml_stable.proofs.StagesLemmas.{aware_stays, aware_moves, hopeful_stays, hopeful_moves, open_stays, courting_stays, courting_moves}
+use Rattle.mml_stable.proofs.StagesLemmas.{courted_moves, courted_kept}
 
 -- ---- at any time
 
@@ -26,7 +30,8 @@ CalmStays P = (c : Configuration) (chosen : ℕ → Option Rule) → IsLawful c 
 pub record CalmBrings (P Q : Configuration → Type 0) (i : ℕ) : Type 0 where
   pub stays : (c : Configuration) (chosen : ℕ → Option Rule) → IsLawful c → AllHold c chosen → Calm c chosen → P c → Q c → Q (step c chosen)
   pub idle : (c : Configuration) → IsLawful c → P c → is_privileged c i ≡ false → Q c
-  pub moves : (c : Configuration) (chosen : ℕ → Option Rule) (r : Rule) → IsLawful c → AllHold c chosen → Calm c chosen → P c → chosen i ≡ Some r → Q (step c chosen)
+  pub moves : (c : Configuration) (chosen : ℕ → Option Rule) (r : Rule) → IsLawful c → AllHold c chosen → Calm c chosen → P c → chosen i ≡ Some r
+      → Q (step c chosen)
 
 -- of k married nodes there are two more, or P holds
 abbrev pub Within : ℕ → (Configuration → Type 0) → Configuration → Type 0
@@ -58,7 +63,8 @@ calm_brings k P Q i b = record { stays = stays; idle = idle; moves = moves }
     idle c l (inl more) e = inl more
     idle c l (inr p) e = inr (p.0, b.idle c l p.1 e)
 
-    moves : (c : Configuration) (chosen : ℕ → Option Rule) (r : Rule) → IsLawful c → AllHold c chosen → Within k P c → chosen i ≡ Some r → Within k Q (step c chosen)
+    moves : (c : Configuration) (chosen : ℕ → Option Rule) (r : Rule) → IsLawful c → AllHold c chosen → Within k P c → chosen i ≡ Some r
+        → Within k Q (step c chosen)
     moves c chosen r l h (inl more) e = let kept = married_kept c chosen l h in inl (omega (arith, more, kept))
     moves c chosen r l h (inr p) e = let le = p.0 in let kept = married_kept c chosen l h in elim (grows c chosen l h) [
       | inl two ↦ inl (omega (arith, le, two))

@@ -14,7 +14,8 @@ use Rattle.mml_stable.proofs.StepLemmas.{step-keeps, step-married, moved-m}
 use Rattle.mml_stable.specs.Potential.{sum_below, points_down, own_part, is_above, link_part, potential}
 use Rattle.mml_stable.proofs.PartsLemmas.{IsMoved, IsStep, own_kept, own_updated, own_abandoned, link_kept, link_fell, link_answered}
 use Rattle.mml_stable.proofs.SumsLemmas.{sum_kept, sum_fell, count_none, count_one_at_most}
-use Rattle.mml_stable.proofs.MovesLemmas.{pays, marries_lower, marries_lower-means, updates, Marries, marries, seduces, seduced, abandons, abandoned, makes, drops}
+use Rattle.mml_stable.proofs.MovesLemmas.{pays, marries_lower, marries_lower-means, updates, Marries, marries, seduces, seduced, abandons, abandoned}
+use Rattle.mml_stable.proofs.MovesLemmas.{makes, drops}
 
 cond_kept : (b : Bool) (x y : ℕ) → (b ≡ true → x ≤ y) → cond b x 0 ≤ cond b y 0
 cond_kept true x y le = le refl
@@ -66,13 +67,15 @@ module _ (c : Configuration) (chosen : ℕ → Option Rule) (l : IsLawful c) (h 
         | inr off ↦
             let made = makes c i j (chosen i) (h i) off e in
             elim made.partner [
-              | inl suitor ↦ absurd (both_ways (is_married next i) unmarried (lower_pair i j (made.right ∙ married-null c i made.null) suitor e (ltb-true j i d)))
+              | inl suitor ↦ absurd
+                  (both_ways (is_married next i) unmarried (lower_pair i j (made.right ∙ married-null c i made.null) suitor e (ltb-true j i d)))
               | inr higher ↦ let up = higher.0 in let lt = ltb-true j i d in absurd (omega arith)
             ]
       ]
 
   own_part_kept : (i : ℕ) → own_part next i ≤ own_part c i
-  own_part_kept i = own_kept (is_married c i) (c.m i) (points_down c i) (is_married next i) (next.m i) (points_down next i) (married i) (m_moved i) (down_kept i)
+  own_part_kept i =
+      own_kept (is_married c i) (c.m i) (points_down c i) (is_married next i) (next.m i) (points_down next i) (married i) (m_moved i) (down_kept i)
 
   m_stays : (j : ℕ) → is_married c j ≡ true → c.m j ≡ true → next.m j ≡ true
   m_stays j e m = elim (m_moved j) [ inl same ↦ same ∙ m | inr changed ↦ changed.0 ∙ e ]
@@ -107,7 +110,8 @@ module _ (c : Configuration) (chosen : ℕ → Option Rule) (l : IsLawful c) (h 
     | inr gt ↦ absurd (omega arith)
   ]
 
-  link_step : (i j : ℕ) → i < j → IsStep (holds (c.p i) j) (holds (c.p j) i) (c.m j) (is_married c j) (holds (next.p i) j) (holds (next.p j) i) (next.m j) (is_married next j)
+  link_step : (i j : ℕ) → i < j
+      → IsStep (holds (c.p i) j) (holds (c.p j) i) (c.m j) (is_married c j) (holds (next.p i) j) (holds (next.p j) i) (next.m j) (is_married next j)
   link_step i j lt = record {
     keeps = married j;
     m_keeps = m_stays j;
@@ -131,13 +135,15 @@ module _ (c : Configuration) (chosen : ℕ → Option Rule) (l : IsLawful c) (h 
   links_after i = sum_below c.size (λ j. cond (is_above c i j) (link_part next i j) 0)
 
   links_kept : (i : ℕ) → links_after i ≤ links_before i
-  links_kept i = sum_kept c.size (λ j. cond (is_above c i j) (link_part next i j) 0) (λ j. cond (is_above c i j) (link_part c i j) 0) (λ j lt. link_part_kept i j)
+  links_kept i =
+      sum_kept c.size (λ j. cond (is_above c i j) (link_part next i j) 0) (λ j. cond (is_above c i j) (link_part c i j) 0) (λ j lt. link_part_kept i j)
 
   links_fell : (i j : ℕ) → c.linked i j ≡ true → i < j → link_part next i j + 1 ≤ link_part c i j → links_after i + 1 ≤ links_before i
   links_fell i j linked lt less =
       let above : is_above c i j ≡ true = and_from _ _ linked (lt-ltb i j lt) in
       let here = cond_fell (is_above c i j) _ _ above less in
-      sum_fell c.size j (λ j. cond (is_above c i j) (link_part next i j) 0) (λ j. cond (is_above c i j) (link_part c i j) 0) (λ j lt. link_part_kept i j) (l.in_range i j linked).1 here
+      sum_fell c.size j (λ j. cond (is_above c i j) (link_part next i j) 0) (λ j. cond (is_above c i j) (link_part c i j) 0)
+      (λ j lt. link_part_kept i j) (l.in_range i j linked).1 here
 
   pointer_fell : (i j : ℕ) → c.linked i j ≡ true → i < j → holds (next.p i) j ≡ not (holds (c.p i) j) → links_after i + 1 ≤ links_before i
   pointer_fell i j linked lt turned = links_fell i j linked lt (link_fell _ _ _ _ _ _ _ _ (link_step i j lt) turned)
@@ -232,7 +238,8 @@ module _ (c : Configuration) (chosen : ℕ → Option Rule) (l : IsLawful c) (h 
       let off = w.guarded.right ∙ w.unmarried in
       let to : next.p k ≡ Some i = ap (λ o. (moved c k o).p) w.chooses in
       links_fell i k (l.symmetric k i w.guarded.linked) w.higher (link_answered _ _ _ _ _ _ _ _
-      (holds-from (c.p i) k w.guarded.suitor) (ap (λ o. holds o i) w.guarded.null) off (suitor_kept k i w.guarded.suitor off w.higher) (holds-from (next.p k) i to))
+      (holds-from (c.p i) k w.guarded.suitor) (ap (λ o. holds o i) w.guarded.null) off (suitor_kept k i w.guarded.suitor off w.higher)
+      (holds-from (next.p k) i to))
 
   -- what i may do in the same step is an update
   both_paid : (k i : ℕ) → MarriesLower k i → (o : Option Rule) → chosen i ≡ o → Pays i (cond (pays o i) 1 0 + 1)
@@ -253,7 +260,9 @@ module _ (c : Configuration) (chosen : ℕ → Option Rule) (l : IsLawful c) (h 
   marriages_with i = count_below c.size (λ k. marries_lower (chosen k) k i)
 
   one_marriage : (k i : ℕ) → MarriesLower k i → marriages_with i ≤ 1
-  one_marriage k i w = count_one_at_most c.size k (λ k. marries_lower (chosen k) k i) (λ j e. let there = (lower_marriage j i e).guarded.suitor in let here = w.guarded.suitor in cc)
+  one_marriage k i w =
+      count_one_at_most c.size k (λ k. marries_lower (chosen k) k i)
+      (λ j e. let there = (lower_marriage j i e).guarded.suitor in let here = w.guarded.suitor in cc)
 
   all_paid : (i : ℕ) → Pays i (cond (pays (chosen i) i) 1 0 + marriages_with i)
   all_paid i = go (some_below c.size (λ k. marries_lower (chosen k) k i)) refl

@@ -1,5 +1,6 @@
 -- The lists of a report: the open links of a node from rows of sets, and that no node is privileged.
-use Rattle.std.proofs.Common.{◌≡◌, ℕ, zero, suc, ◌+◌, ◌<◌, ◌≤◌, Bool, true, false, cond, not, ◌&&◌, ◌||◌, eqb, ltb, [], ◌∷◌, ◌++◌, map, sym, refl, ap, ◌∙◌, arith, zero-add, add-one}
+use Rattle.std.proofs.Common.{◌≡◌, ℕ, zero, suc, ◌+◌, ◌<◌, ◌≤◌, Bool, true, false, cond, not, ◌&&◌, ◌||◌, eqb, ltb, [], ◌∷◌, ◌++◌, map, sym, refl, ap}
+use Rattle.std.proofs.Common.{◌∙◌, arith, zero-add, add-one}
 use Rattle.std.proofs.lemmas.Bool.{lt-ltb, ne_eqb, and_parts}
 use Rattle.std.specs.List.{range_with_len}
 use Rattle.std.proofs.lemmas.List.Elements.{filter_agree}
@@ -21,7 +22,8 @@ listed_below t f (suc n) = ap (passing t f) (sym (add-one n)) ∙ passing_more t
     one false = refl
 
 -- of the ends of the open links of a
-pub links_of_ends : (c : Configuration) (a : ℕ) (ends : FinSet nat_cmp) → ((b : ℕ) → sets.contains ends b ≡ is_open c a b) → map (open_link c a) (ranks_in c.size ends) ≡ open_links_at c a
+pub links_of_ends : (c : Configuration) (a : ℕ) (ends : FinSet nat_cmp) → ((b : ℕ) → sets.contains ends b ≡ is_open c a b)
+    → map (open_link c a) (ranks_in c.size ends) ≡ open_links_at c a
 links_of_ends c a ends same =
     ap (map (open_link c a)) (filter_agree (sets.contains ends) (is_open c a) same (range_with_len 0 c.size))
     ∙ listed_below (is_open c a) (open_link c a) c.size
@@ -39,7 +41,8 @@ none_counted (suc n) t = go (t n) (none_counted n t)
     go true below = ne_eqb (1 + count_below n t) 0 (λ e. omega arith)
     go false below = ap (λ k. eqb k 0) (zero-add (count_below n t)) ∙ below
 
-row : (linked free_b above in_size few free_a : Bool) → (linked ≡ true → (in_size ≡ true) × (few ≡ true)) → free_a ≡ true → ((linked && (in_size && free_b)) && (above && few)) ≡ (linked && (above && (free_a && free_b)))
+row : (linked free_b above in_size few free_a : Bool) → (linked ≡ true → (in_size ≡ true) × (few ≡ true)) → free_a ≡ true
+    → ((linked && (in_size && free_b)) && (above && few)) ≡ (linked && (above && (free_a && free_b)))
 row false free_b above in_size few free_a within free = refl
 row true free_b above in_size few free_a within free = rw ((within refl).0, (within refl).1, free) (swap free_b above)
   where
@@ -50,7 +53,8 @@ row true free_b above in_size few free_a within free = rw ((within refl).0, (wit
     swap false false = refl
 
 -- of a free node: the free neighbours above it
-pub open_row : (c : Configuration) (a b : ℕ) → IsLawful c → c.size ≤ 256 → is_free c a ≡ true → ((c.linked a b && (ltb b c.size && is_free c b)) && (ltb a b && ltb b 256)) ≡ is_open c a b
+pub open_row : (c : Configuration) (a b : ℕ) → IsLawful c → c.size ≤ 256 → is_free c a ≡ true
+    → ((c.linked a b && (ltb b c.size && is_free c b)) && (ltb a b && ltb b 256)) ≡ is_open c a b
 open_row c a b l few free = row (c.linked a b) (is_free c b) (ltb a b) (ltb b c.size) (ltb b 256) (is_free c a)
     (λ linked. let b_in = (l.in_range a b linked).1 in (lt-ltb b c.size b_in, lt-ltb b 256 (omega arith))) free
 

@@ -1,5 +1,6 @@
 -- A run that is over has ended where no node is privileged; each run can be led there.
-use Rattle.std.proofs.Common.{◌≡◌, ℕ, zero, suc, ◌<◌, true, false, ◌&&◌, ◌==◌, List, [], ◌∷◌, length, Option, None, Some, is_some, is_none, sym, refl, ap, ◌∙◌, arith}
+use Rattle.std.proofs.Common.{◌≡◌, ℕ, zero, suc, ◌<◌, true, false, ◌&&◌, ◌==◌, List, [], ◌∷◌, length, Option, None, Some, is_some, is_none, sym, refl}
+use Rattle.std.proofs.Common.{ap, ◌∙◌, arith}
 use Rattle.std.specs.List.{list_any}
 use Rattle.std.proofs.lemmas.Bool.{false≢true, both_ways, and_parts, and_from, or_left, lt-ltb, ltb-true, eq-eqb, false_from_ne_true, and_right}
 use Rattle.mml_rules.specs.declared.rule.Rule.{Rule}
@@ -52,7 +53,8 @@ stable_unchosen w k stable i = go (chosen_at w.chosen i) refl
   where
     go : (o : Option Rule) → chosen_at w.chosen i ≡ o → is_some (chosen_at w.chosen i) ≡ false
     go None e = ap is_some e
-    go (Some rule) e = absurd (both_ways (guard (configuration w) i rule) (stable_guard w k stable i rule (chosen_node w i k.choices (ap is_some e))) (k.hold i rule e))
+    go (Some rule) e =
+        absurd (both_ways (guard (configuration w) i rule) (stable_guard w k stable i rule (chosen_node w i k.choices (ap is_some e))) (k.hold i rule e))
 
 stable_impossible : (w : World) (e : Event) → IsWorld w → IsStable (configuration w) → is_of_step e ≡ true → is_possible w e ≡ false
 stable_impossible w (event.Grant s i rule) k stable of_step = false_from_ne_true (is_possible w (event.Grant s i rule)) (λ h.

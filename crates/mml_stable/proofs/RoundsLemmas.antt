@@ -1,5 +1,6 @@
 -- Four rounds make two more nodes married, so four for each two nodes lead to where no node is privileged.
-use Rattle.std.proofs.Common.{◌≡◌, ℕ, zero, suc, ◌+◌, ◌*◌, ◌-◌, ◌<◌, ◌≤◌, ◌⊎◌, inl, inr, Bool, true, false, not, List, [], ◌∷◌, Option, None, Some, sym, refl, ap, ◌∙◌, subst, arith}
+use Rattle.std.proofs.Common.{◌≡◌, ℕ, zero, suc, ◌+◌, ◌*◌, ◌-◌, ◌<◌, ◌≤◌, ◌⊎◌, inl, inr, Bool, true, false, not, List, [], ◌∷◌, Option, None, Some}
+use Rattle.std.proofs.Common.{sym, refl, ap, ◌∙◌, subst, arith}
 use Rattle.std.specs.List.{list_all}
 use Rattle.std.proofs.lemmas.List.{append-nil}
 use Rattle.std.proofs.lemmas.Bool.{or_right, both_ways, false_from_ne_true, cases_Bool, cases_lt, cases_order}
@@ -24,13 +25,16 @@ use Rattle.mml_stable.proofs.MovesLemmas.{updates, marries, seduces, seduced, ab
 use Rattle.mml_stable.specs.Rounds.{IsRound, Rounds, rounds_for}
 use Rattle.mml_stable.proofs.MarriedCountLemmas.{married_count, apart, married_kept, pair_counts, open_counts, single_counts, most}
 use Rattle.mml_stable.proofs.StagesLemmas.{Modest, Upward, Aware, Hopeful, Each, IsOpen, IsCourting, IsLone, IsRising, IsFacing, courted, self}
-use Rattle.mml_stable.proofs.PhasesLemmas.{Stays, IsDawning, dawning_calm, dawning_brings, Any, any_stays, IsSettled, IsAware, IsHopeful, IsReady, IsWooed, Never, modest_brings, modest_each, upward_brings, settled_stays, settled_calm, aware_calm, ready_calm, wooed_calm, aware_brings, hopeful_brings, courting_brings, wedding_brings}
+use Rattle.mml_stable.proofs.PhasesLemmas.{Stays, IsDawning, dawning_calm, dawning_brings, Any, any_stays, IsSettled, IsAware, IsHopeful, IsReady}
+use Rattle.mml_stable.proofs.PhasesLemmas.{IsWooed, Never, modest_brings, modest_each, upward_brings, settled_stays, settled_calm, aware_calm}
+use Rattle.mml_stable.proofs.PhasesLemmas.{ready_calm, wooed_calm, aware_brings, hopeful_brings, courting_brings, wedding_brings}
 use Rattle.mml_stable.proofs.RestLemmas.{same_size}
 use Rattle.mml_stable.proofs.ServedLemmas.{IsRun, run_parts, run_end, stable_end, stays_over, round_brings, calm_round, calm_turn}
 
 -- ---- no node is privileged, or two linked nodes aren't married
 
-open_link : (c : Configuration) (i j : ℕ) → IsLawful c → c.linked i j ≡ true → is_married c i ≡ false → is_married c j ≡ false → (a : ℕ) × (b : ℕ) × IsOpen a b c
+open_link : (c : Configuration) (i j : ℕ) → IsLawful c → c.linked i j ≡ true → is_married c i ≡ false → is_married c j ≡ false
+    → (a : ℕ) × (b : ℕ) × IsOpen a b c
 open_link c i j l linked ei ej = elim (cases_order i j) [
   | inl same ↦ absurd (apart c i j l linked same)
   | inr o ↦ elim o [
@@ -108,21 +112,26 @@ ends r w es k u e = subst (λ x. IsStable (configuration x)) u.same e
 
 -- from any settled world of n nodes, m of them married, b rounds are enough
 abbrev Enough : RosterValue → ℕ → ℕ → ℕ → Type 0
-Enough r n m b = (w : World) (es : List Event) (k : ℕ) → IsRun r w es → IsSettled (configuration w) → size w ≡ n → m ≤ married_count (configuration w) → b ≤ k → Rounds k w es → EndsStable w es
+Enough r n m b =
+    (w : World) (es : List Event) (k : ℕ) → IsRun r w es → IsSettled (configuration w) → size w ≡ n → m ≤ married_count (configuration w) → b ≤ k
+    → Rounds k w es → EndsStable w es
 
 -- where m are married, and b rounds are enough for two more
 module _ (r : RosterValue) (n m b : ℕ) (enough : Enough r n (m + 2) b) where
   -- two more are married after the round
-  grown : (w : World) (es : List Event) (k : ℕ) (u : IsTurn r w es k) → IsSettled (configuration w) → size w ≡ n → (m + 2 ≤ n → b + 1 ≤ k) → m + 2 ≤ married_count (configuration (world_of w u.first)) → EndsStable (world_of w u.first) u.rest
+  grown : (w : World) (es : List Event) (k : ℕ) (u : IsTurn r w es k) → IsSettled (configuration w) → size w ≡ n → (m + 2 ≤ n → b + 1 ≤ k)
+      → m + 2 ≤ married_count (configuration (world_of w u.first)) → EndsStable (world_of w u.first) u.rest
   grown w es k u settled here room more =
       let all = most (configuration (world_of w u.first)) in
       let same = same_size w u.first in
       let fits = room (omega (arith, more, all, same, here)) in
       let is = u.is in
-      enough (world_of w u.first) u.rest u.left u.on (stays_over IsSettled settled_stays r w u.first u.here settled) (same ∙ here) more (omega (arith, fits, is)) u.rounds
+      enough (world_of w u.first) u.rest u.left u.on (stays_over IsSettled settled_stays r w u.first u.here settled) (same ∙ here) more
+      (omega (arith, fits, is)) u.rounds
 
   -- a node with a suitor: one round
-  from_wooed : (s t : ℕ) (w : World) (es : List Event) (k : ℕ) → IsRun r w es → size w ≡ n → m ≤ married_count (configuration w) → IsWooed s t (configuration w) → b + 1 ≤ k → Rounds k w es → EndsStable w es
+  from_wooed : (s t : ℕ) (w : World) (es : List Event) (k : ℕ) → IsRun r w es → size w ≡ n → m ≤ married_count (configuration w)
+      → IsWooed s t (configuration w) → b + 1 ≤ k → Rounds k w es → EndsStable w es
   from_wooed s t w es k run here le wooed room rounds =
       let u = turn r w es k (omega arith) run rounds in
       let l = run.world.network.lawful in
@@ -133,7 +142,8 @@ module _ (r : RosterValue) (n m b : ℕ) (enough : Enough r n (m + 2) b) where
       ])
 
   -- an open link: two
-  from_ready : (x y : ℕ) (w : World) (es : List Event) (k : ℕ) → IsRun r w es → size w ≡ n → m ≤ married_count (configuration w) → IsReady x y (configuration w) → b + 2 ≤ k → Rounds k w es → EndsStable w es
+  from_ready : (x y : ℕ) (w : World) (es : List Event) (k : ℕ) → IsRun r w es → size w ≡ n → m ≤ married_count (configuration w)
+      → IsReady x y (configuration w) → b + 2 ≤ k → Rounds k w es → EndsStable w es
   from_ready x y w es k run here le ready room rounds =
       let u = turn r w es k (omega arith) run rounds in
       let l = run.world.network.lawful in
@@ -144,10 +154,12 @@ module _ (r : RosterValue) (n m b : ℕ) (enough : Enough r n (m + 2) b) where
             let before = q.1.0.before in
             let top = courted (configuration (world_of w u.first)) (run_end r w u.first u.here).network.lawful before.settled.upward before.hopeful q.1.1 in
             let is = u.is in
-            from_wooed top.0 top.1 (world_of w u.first) u.rest u.left u.on (same_size w u.first ∙ here) q.0 (record { before = before; pair = top.2 }) (omega (arith, room, is)) u.rounds
+            from_wooed top.0 top.1 (world_of w u.first) u.rest u.left u.on (same_size w u.first ∙ here) q.0 (record { before = before; pair = top.2 })
+            (omega (arith, room, is)) u.rounds
       ])
 
-  from_hopeful : (w : World) (es : List Event) (k : ℕ) → IsRun r w es → size w ≡ n → m ≤ married_count (configuration w) → IsHopeful (configuration w) → (m + 2 ≤ n → b + 2 ≤ k) → Rounds k w es → EndsStable w es
+  from_hopeful : (w : World) (es : List Event) (k : ℕ) → IsRun r w es → size w ≡ n → m ≤ married_count (configuration w) → IsHopeful (configuration w)
+      → (m + 2 ≤ n → b + 2 ≤ k) → Rounds k w es → EndsStable w es
   from_hopeful w es k run here le hopeful room rounds =
       let l = run.world.network.lawful in
       elim (stable_or_open (configuration w) l hopeful) [
@@ -158,30 +170,35 @@ module _ (r : RosterValue) (n m b : ℕ) (enough : Enough r n (m + 2) b) where
             from_ready o.0 o.1 w es k run here le (record { before = hopeful; link = link }) (room (omega (arith, two, here, le))) rounds
       ]
 
-  from_aware : (w : World) (es : List Event) (k : ℕ) → IsRun r w es → size w ≡ n → m ≤ married_count (configuration w) → IsAware (configuration w) → 0 < k → (m + 2 ≤ n → b + 3 ≤ k) → Rounds k w es → EndsStable w es
+  from_aware : (w : World) (es : List Event) (k : ℕ) → IsRun r w es → size w ≡ n → m ≤ married_count (configuration w) → IsAware (configuration w)
+      → 0 < k → (m + 2 ≤ n → b + 3 ≤ k) → Rounds k w es → EndsStable w es
   from_aware w es k run here le aware some room rounds =
       let u = turn r w es k some run rounds in
       ends r w es k u (elim (calm_round m IsAware (λ i c. i < c.size → Hopeful i c) aware_calm hopeful_brings r w u.first u.here u.round (inr (le, aware))) [
         | inl more ↦ grown w es k u aware.settled here (λ fits. let fit = room fits in omega (arith, fit)) more
         | inr q ↦
             let at = q.1.0 in
-            from_hopeful (world_of w u.first) u.rest u.left u.on (same_size w u.first ∙ here) q.0 (record { settled = at.settled; aware = at.aware; hopeful = λ i lt. q.1.1 i lt lt })
+            from_hopeful (world_of w u.first) u.rest u.left u.on (same_size w u.first ∙ here) q.0
+            (record { settled = at.settled; aware = at.aware; hopeful = λ i lt. q.1.1 i lt lt })
             (λ fits. let fit = room fits in let is = u.is in omega (arith, fit, is)) u.rounds
       ])
 
-  from_settled : (w : World) (es : List Event) (k : ℕ) → IsRun r w es → size w ≡ n → m ≤ married_count (configuration w) → IsSettled (configuration w) → 1 < k → (m + 2 ≤ n → b + 4 ≤ k) → Rounds k w es → EndsStable w es
+  from_settled : (w : World) (es : List Event) (k : ℕ) → IsRun r w es → size w ≡ n → m ≤ married_count (configuration w) → IsSettled (configuration w)
+      → 1 < k → (m + 2 ≤ n → b + 4 ≤ k) → Rounds k w es → EndsStable w es
   from_settled w es k run here le settled some room rounds =
       let u = turn r w es k (omega arith) run rounds in
       ends r w es k u (elim (calm_round m IsSettled (λ i c. i < c.size → Aware i c) settled_calm aware_brings r w u.first u.here u.round (inr (le, settled))) [
         | inl more ↦ grown w es k u settled here (λ fits. let fit = room fits in omega (arith, fit)) more
         | inr q ↦
             let is = u.is in
-            from_aware (world_of w u.first) u.rest u.left u.on (same_size w u.first ∙ here) q.0 (record { settled = q.1.0; aware = λ i lt. q.1.1 i lt lt }) (omega (arith, some, is))
+            from_aware (world_of w u.first) u.rest u.left u.on (same_size w u.first ∙ here) q.0
+            (record { settled = q.1.0; aware = λ i lt. q.1.1 i lt lt }) (omega (arith, some, is))
             (λ fits. let fit = room fits in omega (arith, fit, is)) u.rounds
       ])
 
   -- where all are married: one round
-  from_all : (w : World) (es : List Event) (k : ℕ) → IsRun r w es → size w ≡ n → m ≤ married_count (configuration w) → n ≤ m → IsSettled (configuration w) → 0 < k → Rounds k w es → EndsStable w es
+  from_all : (w : World) (es : List Event) (k : ℕ) → IsRun r w es → size w ≡ n → m ≤ married_count (configuration w) → n ≤ m
+      → IsSettled (configuration w) → 0 < k → Rounds k w es → EndsStable w es
   from_all w es k run here le full settled some rounds =
       let u = turn r w es k some run rounds in
       let same = same_size w u.first in
@@ -192,18 +209,22 @@ module _ (r : RosterValue) (n m b : ℕ) (enough : Enough r n (m + 2) b) where
             from_hopeful (world_of w u.first) u.rest u.left u.on (same ∙ here) still (record {
               settled = q.1.0;
               aware = λ i lt. q.1.1 i lt lt;
-              hopeful = λ i lt free. let one = single_counts (configuration (world_of w u.first)) i lt free in absurd (omega (arith, one, still, same, here, full));
+              hopeful = λ i lt free. let one = single_counts (configuration (world_of w u.first)) i lt free in
+                  absurd (omega (arith, one, still, same, here, full));
             }) (λ fits. absurd (omega (arith, fits, full))) u.rounds
       ])
 
 -- one round more than for the nodes that aren't married
 settled_runs : (d : ℕ) (r : RosterValue) (n m : ℕ) → n ≤ m + d → Enough r n m (rounds_for d + 1)
 settled_runs zero r n m room w es k run settled here le enough rounds =
-    from_all r n m 0 (λ w es k run settled here le enough rounds. let all = most (configuration w) in absurd (omega (arith, all, le, here, room))) w es k run here le (omega arith) settled (omega arith) rounds
+    from_all r n m 0 (λ w es k run settled here le enough rounds. let all = most (configuration w) in absurd (omega (arith, all, le, here, room))) w
+    es k run here le (omega arith) settled (omega arith) rounds
 settled_runs (suc zero) r n m room w es k run settled here le enough rounds =
-    from_settled r n m 0 (λ w es k run settled here le enough rounds. let all = most (configuration w) in absurd (omega (arith, all, le, here, room))) w es k run here le settled (omega arith) (λ fits. absurd (omega (arith, fits, room))) rounds
+    from_settled r n m 0 (λ w es k run settled here le enough rounds. let all = most (configuration w) in absurd (omega (arith, all, le, here, room)))
+    w es k run here le settled (omega arith) (λ fits. absurd (omega (arith, fits, room))) rounds
 settled_runs (suc (suc d)) r n m room w es k run settled here le enough rounds =
-    from_settled r n m (rounds_for d + 1) (settled_runs d r n (m + 2) (omega (arith, room))) w es k run here le settled (omega arith) (λ fits. omega (arith, enough)) rounds
+    from_settled r n m (rounds_for d + 1) (settled_runs d r n (m + 2) (omega (arith, room))) w es k run here le settled (omega arith)
+    (λ fits. omega (arith, enough)) rounds
 
 -- ---- where no node is married
 
@@ -224,7 +245,8 @@ descend (suc n) x z c l room e = go (λ y. descend n z y c l) (c.p z) refl (case
 
     go : ((y : ℕ) → z < n → c.p z ≡ Some y → IsDawn c) → (o : Option ℕ) → c.p z ≡ o → (x ≡ z) ⊎ ((x < z) ⊎ (z < x)) → IsDawn c
     go further o f (inl same) = absurd (apart c x z l linked same)
-    go further o f (inr (inl up)) = record { low = x; high = z; up = up; within = (l.in_range x z linked).1; either = inl (record { who = x; whom = z; points = e; up = up }) }
+    go further o f (inr (inl up)) =
+        record { low = x; high = z; up = up; within = (l.in_range x z linked).1; either = inl (record { who = x; whom = z; points = e; up = up }) }
     go further None f (inr (inr down)) = record {
       low = z;
       high = x;
@@ -243,7 +265,14 @@ stable_or_dawn c l modest lone = go (some_below c.size (is_privileged c)) refl
     by_rule i lt Rule.Seduction g =
         let s = seduced c i g in
         let m = seduces c i s.0 g s.1 in
-        record { low = i; high = s.0; up = m.higher; within = (l.in_range i s.0 m.linked).1; either = inr (record { linked = m.linked; up = m.higher; null = m.null; either = inl m.free }) }
+        record {
+          low = i;
+          high = s.0;
+          up = m.higher;
+          within = (l.in_range i s.0 m.linked).1;
+          either =
+              inr (record { linked = m.linked; up = m.higher; null = m.null; either = inl m.free });
+        }
     by_rule i lt Rule.Abandonment g = let s = abandoned c i g in descend (suc i) i s.0 c l (omega arith) s.1
 
     go : (b : Bool) → some_below c.size (is_privileged c) ≡ b → IsStable c ⊎ IsDawn c
@@ -256,16 +285,21 @@ stable_or_dawn c l modest lone = go (some_below c.size (is_privileged c)) refl
 -- ---- from any world
 
 -- what holds after the first round
-from_modest : (r : RosterValue) (w : World) (es : List Event) (k : ℕ) → IsRun r w es → Each Modest (configuration w) → ((d : ℕ) → size w ≡ d + 2 → rounds_for d + 3 ≤ k) → Rounds k w es → EndsStable w es
+from_modest : (r : RosterValue) (w : World) (es : List Event) (k : ℕ) → IsRun r w es → Each Modest (configuration w)
+    → ((d : ℕ) → size w ≡ d + 2 → rounds_for d + 3 ≤ k) → Rounds k w es → EndsStable w es
 from_modest r w es k run modest room rounds = elim (cases_lt (married_count (configuration w)) 2) [
-  | inl less ↦ lone (λ i. false_from_ne_true (is_married (configuration w) i) (λ on. let two = pair_counts (configuration w) i run.world.network.lawful on in omega (arith, two, less)))
+  | inl less ↦ lone
+      (λ i. false_from_ne_true (is_married (configuration w) i)
+      (λ on. let two = pair_counts (configuration w) i run.world.network.lawful on in omega (arith, two, less)))
   | inr two ↦
       let all = most (configuration w) in
       let fits = room (size w - 2) (omega (arith, all, two)) in
       let u = turn r w es k (omega (arith, fits)) run rounds in
       let is = u.is in
       let kept = stays_over (λ c. 2 ≤ married_count c) two_stay r w u.first u.here two in
-      ends r w es k u (settled_runs (size w - 2) r (size w) 2 (omega arith) (world_of w u.first) u.rest u.left u.on (settled u) (same_size w u.first) kept (omega (arith, fits, is)) u.rounds)
+      ends r w es k u
+      (settled_runs (size w - 2) r (size w) 2 (omega arith) (world_of w u.first) u.rest u.left u.on (settled u) (same_size w u.first) kept
+      (omega (arith, fits, is)) u.rounds)
 ]
   where
     two_stay : Stays (λ c. 2 ≤ married_count c)
@@ -289,14 +323,20 @@ from_modest r w es k run modest room rounds = elim (cases_lt (married_count (con
           let v = world_of w u.first in
           let same = same_size w u.first in
           let enough = settled_runs (size w - 2) r (size w) (0 + 2) (omega arith) in
-          ends r w es k u (elim (calm_turn 0 (IsDawning d.low d.high) IsRising d.low (dawning_calm d.low d.high) (dawning_brings d.low d.high) r w u.first u.here u.round (omega (arith, up, within)) (inr (omega arith, record { modest = modest; lone = none; either = d.either }))) [
+          ends r w es k u
+          (elim (calm_turn 0 (IsDawning d.low d.high) IsRising d.low (dawning_calm d.low d.high) (dawning_brings d.low d.high) r w u.first u.here
+          u.round (omega (arith, up, within)) (inr (omega arith, record { modest = modest; lone = none; either = d.either }))) [
             | inl more ↦ enough v u.rest u.left u.on (settled u) same more (omega (arith, fits, is)) u.rounds
             | inr q ↦
                 let free = q.1.0.lone in
                 let rising = q.1.1 in
-                let hopeful : IsHopeful (configuration v) = record { settled = settled u; aware = λ i lt on. absurd (both_ways _ (free i) on); hopeful = λ i lt alone j e. free j } in
-                let top = courted (configuration v) (run_end r w u.first u.here).network.lawful hopeful.settled.upward hopeful.hopeful (record { who = rising.who; whom = rising.whom; free = free rising.who; points = rising.points }) in
-                from_wooed r (size w) 0 (rounds_for (size w - 2) + 1) enough top.0 top.1 v u.rest u.left u.on same (omega arith) (record { before = hopeful; pair = top.2 }) (omega (arith, fits, is)) u.rounds
+                let hopeful : IsHopeful (configuration v) =
+                record { settled = settled u; aware = λ i lt on. absurd (both_ways _ (free i) on); hopeful = λ i lt alone j e. free j } in
+                let top =
+                courted (configuration v) (run_end r w u.first u.here).network.lawful hopeful.settled.upward hopeful.hopeful
+                (record { who = rising.who; whom = rising.whom; free = free rising.who; points = rising.points }) in
+                from_wooed r (size w) 0 (rounds_for (size w - 2) + 1) enough top.0 top.1 v u.rest u.left u.on same (omega arith)
+                (record { before = hopeful; pair = top.2 }) (omega (arith, fits, is)) u.rounds
           ])
     ]
 
@@ -313,7 +353,8 @@ rounds_end r w es k run room rounds = elim (cases_lt 0 (size w)) [
       let u = turn r w es k (omega (arith, first, room)) run rounds in
       let same = same_size w u.first in
       let is = u.is in
-      ends r w es k u (from_modest r (world_of w u.first) u.rest u.left u.on (round_brings Any Modest any_stays modest_brings r w u.first u.here u.round tt) (λ d e.
+      ends r w es k u
+      (from_modest r (world_of w u.first) u.rest u.left u.on (round_brings Any Modest any_stays modest_brings r w u.first u.here u.round tt) (λ d e.
       let two : size w ≡ suc (suc d) = omega (arith, same, e) in
       let all = ap rounds_for two in
       omega (arith, all, room, is)) u.rounds)
@@ -340,7 +381,8 @@ for_odd (suc k) =
     let all = ap rounds_for next in
     omega (arith, rest, all)
 
-pub rounds_bounded : (r : RosterValue) (w : World) (es : List Event) → IsWorld w → is_legal_list r w es ≡ true → list_all is_of_step es ≡ true → Rounds (2 * size w) w es
+pub rounds_bounded : (r : RosterValue) (w : World) (es : List Event) → IsWorld w → is_legal_list r w es ≡ true → list_all is_of_step es ≡ true
+    → Rounds (2 * size w) w es
     → IsStable (configuration (world_of w es)) × IsMaximal (configuration (world_of w es))
 rounds_bounded r w es k legal of_step rounds =
     let run : IsRun r w es = record { world = k; legal = legal; of_step = of_step } in
@@ -348,7 +390,8 @@ rounds_bounded r w es k legal of_step rounds =
     (stable, maximal (configuration (world_of w es)) (run_end r w es run).network.lawful stable)
 
 -- so a run that goes on has had fewer
-pub rounds_fewer : (r : RosterValue) (w : World) (es : List Event) (k : ℕ) → IsWorld w → is_legal_list r w es ≡ true → list_all is_of_step es ≡ true → Rounds k w es → ¬ IsStable (configuration (world_of w es)) → k < rounds_for (size w)
+pub rounds_fewer : (r : RosterValue) (w : World) (es : List Event) (k : ℕ) → IsWorld w → is_legal_list r w es ≡ true → list_all is_of_step es ≡ true
+    → Rounds k w es → ¬ IsStable (configuration (world_of w es)) → k < rounds_for (size w)
 rounds_fewer r w es k world legal of_step rounds goes_on = elim (cases_lt k (rounds_for (size w))) [
   | inl less ↦ less
   | inr room ↦ absurd (goes_on (rounds_end r w es k (record { world = world; legal = legal; of_step = of_step }) room rounds))

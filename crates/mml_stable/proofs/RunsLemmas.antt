@@ -23,7 +23,8 @@ same_m true x = omega arith
 same_m false x = omega arith
 
 -- each change of m is paid for
-step_pays : (w : World) (e : Event) (i : ℕ) → IsWorld w → is_of_step e ≡ true → change ((configuration w).m i) ((configuration (after w e)).m i) + weight_at (after w e) i ≤ weight_at w i
+step_pays : (w : World) (e : Event) (i : ℕ) → IsWorld w → is_of_step e ≡ true
+    → change ((configuration w).m i) ((configuration (after w e)).m i) + weight_at (after w e) i ≤ weight_at w i
 step_pays w (event.Grant s node rule) i k of_step = same_m _ _
 step_pays w (event.Release node) i k of_step = same_m _ _
 step_pays w event.Close i k of_step =
@@ -31,7 +32,8 @@ step_pays w event.Close i k of_step =
     subst (λ (c : Configuration). change ((configuration w).m i) (c.m i) + weight (c.m i) (is_married c i) ≤ weight_at w i) (sym (closed-step w k.choices)) pays
 step_pays w _ i k of_step = absurd (false≢true of_step)
 
-changes_paid : (r : RosterValue) (i : ℕ) (w : World) (es : List Event) → IsWorld w → is_legal_list r w es ≡ true → list_all is_of_step es ≡ true → changes_of_m i w es ≤ weight_at w i
+changes_paid : (r : RosterValue) (i : ℕ) (w : World) (es : List Event) → IsWorld w → is_legal_list r w es ≡ true → list_all is_of_step es ≡ true
+    → changes_of_m i w es ≤ weight_at w i
 changes_paid r i w [] k legal steps = omega arith
 changes_paid r i w (e ∷ es) k legal steps =
     let here = and_parts (is_legal r w e) (is_legal_list r (after w e) es) legal in
@@ -41,5 +43,7 @@ changes_paid r i w (e ∷ es) k legal steps =
     let rest = changes_paid r i (after w e) es (after-world w e k possible.1) here.1 of_steps.1 in
     omega (arith, first, rest)
 
-pub twice_at_most : (r : RosterValue) (w : World) (es : List Event) (i : ℕ) → IsWorld w → is_legal_list r w es ≡ true → list_all is_of_step es ≡ true → changes_of_m i w es ≤ 2
-twice_at_most r w es i k legal steps = omega (arith, changes_paid r i w es k legal steps, weight_at_most ((configuration w).m i) (is_married (configuration w) i))
+pub twice_at_most : (r : RosterValue) (w : World) (es : List Event) (i : ℕ) → IsWorld w → is_legal_list r w es ≡ true → list_all is_of_step es ≡ true
+    → changes_of_m i w es ≤ 2
+twice_at_most r w es i k legal steps =
+    omega (arith, changes_paid r i w es k legal steps, weight_at_most ((configuration w).m i) (is_married (configuration w) i))

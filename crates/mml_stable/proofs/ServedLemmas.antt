@@ -44,7 +44,12 @@ run_parts r w [] fs k = (record { world = k.world; legal = refl; of_step = refl 
 run_parts r w (e ∷ es) fs k =
     let rest = run_parts r (after w e) es fs (run_on r w e (es ++ fs) k) in
     let first = rest.0 in (
-      record { world = k.world; legal = and_from _ _ (first_legal r w e (es ++ fs) k) first.legal; of_step = and_from _ _ (first_of_step r w e (es ++ fs) k) first.of_step },
+      record {
+        world = k.world;
+        legal = and_from _ _ (first_legal r w e (es ++ fs) k) first.legal;
+        of_step =
+            and_from _ _ (first_of_step r w e (es ++ fs) k) first.of_step;
+      },
       rest.1,
     )
 
@@ -59,13 +64,15 @@ stable_end r w (e ∷ es) k stable = absurd (both_ways (is_legal r w e) (stable_
 
 -- ---- what stays
 
-stays_after : (P : Configuration → Type 0) → Stays P → (w : World) (e : Event) → IsWorld w → is_of_step e ≡ true → P (configuration w) → P (configuration (after w e))
+stays_after : (P : Configuration → Type 0) → Stays P → (w : World) (e : Event) → IsWorld w → is_of_step e ≡ true → P (configuration w)
+    → P (configuration (after w e))
 stays_after P stays w (event.Grant s i rule) k of_step p = p
 stays_after P stays w (event.Release i) k of_step p = p
 stays_after P stays w event.Close k of_step p = subst P (sym (closed-step w k.choices)) (stays (configuration w) (chosen_at w.chosen) k.network.lawful k.hold p)
 stays_after P stays w _ k of_step p = absurd (false≢true of_step)
 
-pub stays_over : (P : Configuration → Type 0) → Stays P → (r : RosterValue) (w : World) (es : List Event) → IsRun r w es → P (configuration w) → P (configuration (world_of w es))
+pub stays_over : (P : Configuration → Type 0) → Stays P → (r : RosterValue) (w : World) (es : List Event) → IsRun r w es → P (configuration w)
+    → P (configuration (world_of w es))
 stays_over P stays r w [] k p = p
 stays_over P stays r w (e ∷ es) k p = stays_over P stays r (after w e) es (run_on r w e es k) (stays_after P stays w e k.world (first_of_step r w e es k) p)
 
@@ -74,7 +81,8 @@ stays_over P stays r w (e ∷ es) k p = stays_over P stays r (after w e) es (run
 both_stay : (P Q : Configuration → Type 0) (i : ℕ) → Stays P → Brings P Q i → Stays (λ c. P c × Q c)
 both_stay P Q i stays b c chosen l h p = (stays c chosen l h p.0, b.stays c chosen l h p.0 p.1)
 
-moved_after : (P Q : Configuration → Type 0) (i : ℕ) → Brings P Q i → (w : World) (e : Event) → IsWorld w → (is_close e && is_chosen w i) ≡ true → P (configuration w) → Q (configuration (after w e))
+moved_after : (P Q : Configuration → Type 0) (i : ℕ) → Brings P Q i → (w : World) (e : Event) → IsWorld w → (is_close e && is_chosen w i) ≡ true
+    → P (configuration w) → Q (configuration (after w e))
 moved_after P Q i b w event.Close k e p = go (chosen_at w.chosen i) refl e
   where
     go : (o : Option Rule) → chosen_at w.chosen i ≡ o → is_some o ≡ true → Q (configuration (after w event.Close))
@@ -82,7 +90,8 @@ moved_after P Q i b w event.Close k e p = go (chosen_at w.chosen i) refl e
     go (Some rule) f some = subst Q (sym (closed-step w k.choices)) (b.moves (configuration w) (chosen_at w.chosen) rule k.network.lawful k.hold p f)
 moved_after P Q i b w _ k e p = absurd (false≢true e)
 
-served : (P Q : Configuration → Type 0) (i : ℕ) → Stays P → Brings P Q i → (r : RosterValue) (w : World) (es : List Event) → IsRun r w es → P (configuration w) → is_served i w es ≡ true → Q (configuration (world_of w es))
+served : (P Q : Configuration → Type 0) (i : ℕ) → Stays P → Brings P Q i → (r : RosterValue) (w : World) (es : List Event) → IsRun r w es
+    → P (configuration w) → is_served i w es ≡ true → Q (configuration (world_of w es))
 served P Q i stays b r w [] k p turn = b.idle (configuration w) k.world.network.lawful p (not-true _ turn)
 served P Q i stays b r w (e ∷ es) k p turn = elim (or_cases _ _ turn) [
   | inl idle ↦ (stays_over (λ c. P c × Q c) (both_stay P Q i stays b) r w (e ∷ es) k (p, b.idle (configuration w) k.world.network.lawful p (not-true _ idle))).1
@@ -102,12 +111,14 @@ End w es = configuration (world_of w es)
 
 -- at each node
 pub round_brings : (P : Configuration → Type 0) (Q : ℕ → Configuration → Type 0) → Stays P → ((i : ℕ) → Brings P (Q i) i)
-    → (r : RosterValue) (w : World) (es : List Event) → IsRun r w es → IsRound w es → P (configuration w) → (i : ℕ) → i < size (world_of w es) → Q i (configuration (world_of w es))
+    → (r : RosterValue) (w : World) (es : List Event) → IsRun r w es → IsRound w es → P (configuration w) → (i : ℕ) → i < size (world_of w es)
+    → Q i (configuration (world_of w es))
 round_brings P Q stays b r w es k round p i lt = served P (Q i) i stays (b i) r w es k p (round i (omega (arith, lt, same_size w es)))
 
 -- at each node, unless more nodes are married
 pub calm_round : (n : ℕ) (P : Configuration → Type 0) (Q : ℕ → Configuration → Type 0) → CalmStays P → ((i : ℕ) → CalmBrings P (Q i) i)
-    → (r : RosterValue) (w : World) (es : List Event) → IsRun r w es → IsRound w es → Within n P (configuration w) → Within n (λ c. P c × ((i : ℕ) → i < c.size → Q i c)) (configuration (world_of w es))
+    → (r : RosterValue) (w : World) (es : List Event) → IsRun r w es → IsRound w es → Within n P (configuration w)
+    → Within n (λ c. P c × ((i : ℕ) → i < c.size → Q i c)) (configuration (world_of w es))
 calm_round n P Q stays b r w es k round p =
     let after = stays_over (Within n P) (calm_stays n P stays) r w es k p in
     let each = round_brings (Within n P) (λ i. Within n (Q i)) (calm_stays n P stays) (λ i. calm_brings n P (Q i) i (b i)) r w es k round p in
@@ -130,7 +141,8 @@ calm_round n P Q stays b r w es k round p =
 
 -- at one node
 pub calm_turn : (n : ℕ) (P Q : Configuration → Type 0) (i : ℕ) → CalmStays P → CalmBrings P Q i
-    → (r : RosterValue) (w : World) (es : List Event) → IsRun r w es → IsRound w es → i < size w → Within n P (configuration w) → Within n (λ c. P c × Q c) (configuration (world_of w es))
+    → (r : RosterValue) (w : World) (es : List Event) → IsRun r w es → IsRound w es → i < size w → Within n P (configuration w)
+    → Within n (λ c. P c × Q c) (configuration (world_of w es))
 calm_turn n P Q i stays b r w es k round i_in p =
     let after = stays_over (Within n P) (calm_stays n P stays) r w es k p in
     let here = served (Within n P) (Within n Q) i (calm_stays n P stays) (calm_brings n P Q i b) r w es k p (round i i_in) in

@@ -1,5 +1,6 @@
 -- What one step does to a free node, and to a married one.
-use Rattle.std.proofs.Common.{◌≡◌, ℕ, zero, suc, ◌+◌, ◌<◌, ◌≤◌, ◌⊎◌, inl, inr, Bool, true, false, not, ◌&&◌, Option, None, Some, is_some, is_none, sym, refl, ap, ◌∙◌, arith}
+use Rattle.std.proofs.Common.{◌≡◌, ℕ, zero, suc, ◌+◌, ◌<◌, ◌≤◌, ◌⊎◌, inl, inr, Bool, true, false, not, ◌&&◌, Option, None, Some, is_some, is_none}
+use Rattle.std.proofs.Common.{sym, refl, ap, ◌∙◌, arith}
 use Rattle.std.proofs.lemmas.Bool.{and_parts, both_ways, not-true, false≢true, false_from_ne_true, cases_Bool, cases_order}
 use Rattle.mml_rules.specs.declared.rule.Rule.{Rule}
 use Rattle.mml_rules.specs.Configuration.{Configuration, IsLawful, holds}
@@ -85,7 +86,8 @@ effect_right c i Rule.Seduction g = let s = seduced c i g in (seduces c i s.0 g 
 effect_right c i Rule.Abandonment g = let a = abandoned c i g in (abandons c i a.0 g a.1).right
 
 -- a node that isn't married, with m false, takes its pointer back if it moves
-lets_go : (c : Configuration) (i j k : ℕ) (r : Rule) → guard c i r ≡ true → is_married c i ≡ false → c.m i ≡ false → c.p i ≡ Some j → (effect c i r).p ≡ Some k → ⊥
+lets_go : (c : Configuration) (i j k : ℕ) (r : Rule) → guard c i r ≡ true → is_married c i ≡ false → c.m i ≡ false → c.p i ≡ Some j
+    → (effect c i r).p ≡ Some k → ⊥
 lets_go c i j k Rule.Update g free off e to = self (is_married c i) (free ∙ sym off ∙ updates c i g)
 lets_go c i j k (Rule.Marriage x) g free off e to = let null = (marries c i x g).null in cc
 lets_go c i j k Rule.Seduction g free off e to = let s = seduced c i g in let null = (seduces c i s.0 g s.1).null in cc
@@ -97,11 +99,13 @@ pub courted_free : (c : Configuration) (s t : ℕ) → IsLawful c → IsCourted 
 courted_free c s t l k = married-at c s t l k.suitor ∙ ap (λ o. holds o s) k.null
 
 -- along the pointers to a node that points nowhere
-pub climb : (n x y : ℕ) (c : Configuration) → IsLawful c → Each Upward c → Each Hopeful c → c.size ≤ x + n → is_married c x ≡ false → c.p x ≡ Some y → (s : ℕ) × (t : ℕ) × IsCourted s t c
+pub climb : (n x y : ℕ) (c : Configuration) → IsLawful c → Each Upward c → Each Hopeful c → c.size ≤ x + n → is_married c x ≡ false → c.p x ≡ Some y
+    → (s : ℕ) × (t : ℕ) × IsCourted s t c
 climb zero x y c l upward hopeful room free e = let range = l.in_range x y (l.to_linked x y e) in absurd (omega (arith, range.0))
 climb (suc n) x y c l upward hopeful room free e = go (λ z. climb n y z c l upward hopeful) (c.p y) refl
   where
-    go : ((z : ℕ) → c.size ≤ y + n → is_married c y ≡ false → c.p y ≡ Some z → (s : ℕ) × (t : ℕ) × IsCourted s t c) → (o : Option ℕ) → c.p y ≡ o → (s : ℕ) × (t : ℕ) × IsCourted s t c
+    go : ((z : ℕ) → c.size ≤ y + n → is_married c y ≡ false → c.p y ≡ Some z → (s : ℕ) × (t : ℕ) × IsCourted s t c) → (o : Option ℕ) → c.p y ≡ o
+        → (s : ℕ) × (t : ℕ) × IsCourted s t c
     go further None f = (x, y, record { suitor = e; null = f })
     go further (Some z) f =
         let range = l.in_range x y (l.to_linked x y e) in
@@ -177,7 +181,8 @@ module _ (c : Configuration) (chosen : ℕ → Option Rule) (l : IsLawful c) (h 
           | inl same ↦ absurd (apart c i j l (l.symmetric j i (l.to_linked j i suitor)) same)
           | inr o ↦ elim o [
             | inl up ↦ up
-            | inr down ↦ absurd (both_ways (is_married next i) free (married-from next i j lawful to (suitor_stays i j suitor (made.right ∙ married-null c i made.null) down)))
+            | inr down ↦ absurd
+                (both_ways (is_married next i) free (married-from next i j lawful to (suitor_stays i j suitor (made.right ∙ married-null c i made.null) down)))
           ]
         ]
       ]
@@ -252,7 +257,13 @@ module _ (c : Configuration) (chosen : ℕ → Option Rule) (l : IsLawful c) (h 
     pub courting_stays : Each Modest c → Each Upward c → Each Hopeful c → IsCourting c → IsCourting next
     courting_stays modest upward hopeful k =
         let top = courted c l upward hopeful k in
-        record { who = top.0; whom = top.1; free = free_after top.0 (courted_free c top.0 top.1 l top.2); points = courted_stays modest upward top.0 top.1 top.2 }
+        record {
+          who = top.0;
+          whom = top.1;
+          free = free_after top.0 (courted_free c top.0 top.1 l top.2);
+          points =
+              courted_stays modest upward top.0 top.1 top.2;
+        }
 
     pub courting_moves : Each Modest c → Each Upward c → Each Hopeful c → (a b : ℕ) → IsOpen a b c → (r : Rule) → chosen a ≡ Some r → IsCourting next
     courting_moves modest upward hopeful a b k r e = go (next.p a) refl

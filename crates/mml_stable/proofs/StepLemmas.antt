@@ -1,5 +1,6 @@
 -- What a step does to the pairs and to m.
-use Rattle.std.proofs.Common.{◌≡◌, ℕ, ◌≤◌, ◌+◌, Bool, true, false, cond, not, ◌&&◌, ◌||◌, ◌⊎◌, inl, inr, Option, None, Some, is_some, is_none, sym, refl, ap, ◌∙◌, arith, nat_lt}
+use Rattle.std.proofs.Common.{◌≡◌, ℕ, ◌≤◌, ◌+◌, Bool, true, false, cond, not, ◌&&◌, ◌||◌, ◌⊎◌, inl, inr, Option, None, Some, is_some, is_none, sym}
+use Rattle.std.proofs.Common.{refl, ap, ◌∙◌, arith, nat_lt}
 use Rattle.std.specs.Bool.{beq}
 use Rattle.std.specs.Option.{option_map_or}
 use Rattle.std.proofs.lemmas.Bool.{and_parts, not-true, both_ways, false≢true}
@@ -28,11 +29,13 @@ answered-keeps c i j Rule.Seduction a b h =
     let null : c.p i ≡ None = none-null (c.p i) (and_parts (is_none (c.p i)) (not (has_suitor c i) && is_some (greatest_candidate c i)) x.1).0 in cc
 answered-keeps c i j Rule.Abandonment a b h =
     let x = and_parts (m_is_right c i) (points_in_vain c i) h in
-    let v : (not (holds (c.p j) i) && (c.m j || nat_lt j i)) ≡ true = sym (ap (λ o. option_map_or (λ j. not (holds (c.p j) i) && (c.m j || nat_lt j i)) o false) a) ∙ x.1 in
+    let v : (not (holds (c.p j) i) && (c.m j || nat_lt j i)) ≡ true =
+    sym (ap (λ o. option_map_or (λ j. not (holds (c.p j) i) && (c.m j || nat_lt j i)) o false) a) ∙ x.1 in
     let y = and_parts (not (holds (c.p j) i)) (c.m j || nat_lt j i) v in
     absurd (both_ways (holds (c.p j) i) (not-true _ y.0) (holds-from (c.p j) i b))
 
-moved-keeps : (c : Configuration) (i j : ℕ) (o : Option Rule) → ((r : Rule) → o ≡ Some r → guard c i r ≡ true) → c.p i ≡ Some j → c.p j ≡ Some i → (moved c i o).p ≡ Some j
+moved-keeps : (c : Configuration) (i j : ℕ) (o : Option Rule) → ((r : Rule) → o ≡ Some r → guard c i r ≡ true) → c.p i ≡ Some j → c.p j ≡ Some i
+    → (moved c i o).p ≡ Some j
 moved-keeps c i j None h a b = a
 moved-keeps c i j (Some r) h a b = answered-keeps c i j r a b (h r refl)
 
@@ -61,22 +64,26 @@ weighed false true false y h e = elim e [ inl a ↦ absurd (false≢true (sym a)
 weighed true false false y h e = omega arith
 weighed true false true y h e = elim e [ inl a ↦ absurd (false≢true a) | inr a ↦ absurd (false≢true a.0) ]
 
-pub moved-m : (c : Configuration) (i : ℕ) (o : Option Rule) → ((r : Rule) → o ≡ Some r → guard c i r ≡ true) → ((moved c i o).m ≡ c.m i) ⊎ (((moved c i o).m ≡ is_married c i) × (c.m i ≡ not (is_married c i)))
+pub moved-m : (c : Configuration) (i : ℕ) (o : Option Rule) → ((r : Rule) → o ≡ Some r → guard c i r ≡ true)
+    → ((moved c i o).m ≡ c.m i) ⊎ (((moved c i o).m ≡ is_married c i) × (c.m i ≡ not (is_married c i)))
 moved-m c i None h = inl refl
 moved-m c i (Some Rule.Update) h = inr (refl, beq-false (c.m i) (is_married c i) (not-true _ (h Rule.Update refl)))
 moved-m c i (Some (Rule.Marriage j)) h = inl refl
 moved-m c i (Some Rule.Seduction) h = inl refl
 moved-m c i (Some Rule.Abandonment) h = inl refl
 
-pub step-married : (c : Configuration) (chosen : ℕ → Option Rule) → IsLawful c → AllHold c chosen → (i : ℕ) → is_married c i ≡ true → is_married (step c chosen) i ≡ true
+pub step-married : (c : Configuration) (chosen : ℕ → Option Rule) → IsLawful c → AllHold c chosen → (i : ℕ) → is_married c i ≡ true
+    → is_married (step c chosen) i ≡ true
 step-married c chosen l h i e =
     let r = married-partner c i e in
     let k = step-keeps c chosen h i r.0 (r.1, r.2) in
     married-from (step c chosen) i r.0 (step-lawful c chosen l h) k.0 k.1
 
 -- each change of m at a step is paid for
-pub step-weight : (c : Configuration) (chosen : ℕ → Option Rule) → IsLawful c → AllHold c chosen → (i : ℕ) → change (c.m i) ((step c chosen).m i) + weight ((step c chosen).m i) (is_married (step c chosen) i) ≤ weight (c.m i) (is_married c i)
-step-weight c chosen l h i = weighed (c.m i) ((step c chosen).m i) (is_married c i) (is_married (step c chosen) i) (step-married c chosen l h i) (moved-m c i (chosen i) (h i))
+pub step-weight : (c : Configuration) (chosen : ℕ → Option Rule) → IsLawful c → AllHold c chosen → (i : ℕ)
+    → change (c.m i) ((step c chosen).m i) + weight ((step c chosen).m i) (is_married (step c chosen) i) ≤ weight (c.m i) (is_married c i)
+step-weight c chosen l h i =
+    weighed (c.m i) ((step c chosen).m i) (is_married c i) (is_married (step c chosen) i) (step-married c chosen l h i) (moved-m c i (chosen i) (h i))
 
 pub weight_at_most : (m x : Bool) → weight m x ≤ 2
 weight_at_most true true = omega arith

@@ -45,7 +45,8 @@ sum_most (suc n) f g le =
     omega (arith, rest, last)
 
 -- a sum of parts, each 2 at the most and 1 more where a second test passes too
-pub sum_parts : (n : ℕ) (t u : ℕ → Bool) (f : ℕ → ℕ) → ((j : ℕ) → f j ≤ 2 + cond (u j) 1 0) → sum_below n (λ j. cond (t j) (f j) 0) ≤ 2 * count_below n t + count_below n (λ j. t j && u j)
+pub sum_parts : (n : ℕ) (t u : ℕ → Bool) (f : ℕ → ℕ) → ((j : ℕ) → f j ≤ 2 + cond (u j) 1 0)
+    → sum_below n (λ j. cond (t j) (f j) 0) ≤ 2 * count_below n t + count_below n (λ j. t j && u j)
 sum_parts zero t u f le = omega arith
 sum_parts (suc n) t u f le =
     let rest = sum_parts n t u f le in
@@ -88,7 +89,8 @@ sum_zero zero = refl
 sum_zero (suc n) = let rest = sum_zero n in omega (arith, rest)
 
 -- the last column
-pub one_column : (R : ℕ → ℕ → Bool) (r n : ℕ) → sum_below r (λ i. count_below (suc n) (R i)) ≡ count_below r (λ i. R i n) + sum_below r (λ i. count_below n (R i))
+pub one_column : (R : ℕ → ℕ → Bool) (r n : ℕ)
+    → sum_below r (λ i. count_below (suc n) (R i)) ≡ count_below r (λ i. R i n) + sum_below r (λ i. count_below n (R i))
 one_column R zero n = refl
 one_column R (suc r) n = let rest = one_column R r n in omega (arith, rest)
 

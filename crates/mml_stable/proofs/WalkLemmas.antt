@@ -1,5 +1,6 @@
 -- The walk rises, ends at a privileged node or one that points at no node, and gives an open link its witness.
-use Rattle.std.proofs.Common.{◌≡◌, ℕ, zero, suc, ◌<◌, ◌≤◌, ◌+◌, Bool, true, false, cond, not, ◌&&◌, ◌⊎◌, inl, inr, Option, None, Some, is_some, is_none, unwrap_or, sym, refl, ap, ◌∙◌, subst, arith, add-one}
+use Rattle.std.proofs.Common.{◌≡◌, ℕ, zero, suc, ◌<◌, ◌≤◌, ◌+◌, Bool, true, false, cond, not, ◌&&◌, ◌⊎◌, inl, inr, Option, None, Some, is_some}
+use Rattle.std.proofs.Common.{is_none, unwrap_or, sym, refl, ap, ◌∙◌, subst, arith, add-one}
 use Rattle.std.proofs.lemmas.Bool.{both_ways, and_parts}
 use Rattle.mml_rules.specs.declared.rule.Rule.{Rule}
 use Rattle.mml_rules.specs.declared.rule.Kind.{Kind}
@@ -17,11 +18,13 @@ pub record EndsAt (c : Configuration) (i x : ℕ) : Type 0 where
   pub leads : LeadsTo c i x
   pub from : (x ≡ i) ⊎ ((y : ℕ) × (c.p y ≡ Some x))
 
-pub climb-ends : (c : Configuration) → IsLawful c → (n i : ℕ) → c.size ≤ i + n → i < c.size → (is_married c i ≡ false) ⊎ (c.m i ≡ false) → EndsAt c i (climb c n i)
+pub climb-ends : (c : Configuration) → IsLawful c → (n i : ℕ) → c.size ≤ i + n → i < c.size → (is_married c i ≡ false) ⊎ (c.m i ≡ false)
+    → EndsAt c i (climb c n i)
 climb-ends c l zero i room i_in free = absurd (omega arith)
 climb-ends c l (suc n) i room i_in free = go (climb-ends c l n) (is_privileged c i) refl
   where
-    go : ((j : ℕ) → c.size ≤ j + n → j < c.size → (is_married c j ≡ false) ⊎ (c.m j ≡ false) → EndsAt c j (climb c n j)) → (b : Bool) → is_privileged c i ≡ b → EndsAt c i (cond b i (climb c n (unwrap_or (c.p i) i)))
+    go : ((j : ℕ) → c.size ≤ j + n → j < c.size → (is_married c j ≡ false) ⊎ (c.m j ≡ false) → EndsAt c j (climb c n j)) → (b : Bool)
+        → is_privileged c i ≡ b → EndsAt c i (cond b i (climb c n (unwrap_or (c.p i) i)))
     go further true e = record { in_range = i_in; leads = privileged e; from = inl refl }
     go further false e = on (c.p i) refl
       where
@@ -105,7 +108,8 @@ pub walk-witness : (c : Configuration) (i : ℕ) (e : ℕ × Kind) → IsLawful 
 walk-witness c i e l i_in free h = kept-witness c (top c i) (enabled_kind c (top c i)) e refl (top-ends c l i i_in (inl free)).in_range h
 
 -- the certificate of an open link names an enabled rule
-pub certified : (c : Configuration) (a b : ℕ) → IsLawful c → c.linked a b ≡ true → a < b → is_married c a ≡ false → is_married c b ≡ false → IsWitness c (certificate c a b)
+pub certified : (c : Configuration) (a b : ℕ) → IsLawful c → c.linked a b ≡ true → a < b → is_married c a ≡ false → is_married c b ≡ false
+    → IsWitness c (certificate c a b)
 unfolding certificate
 certified c a b l linked lt free_a free_b = go (walk c a) (walk c b) refl refl
   where
@@ -144,7 +148,8 @@ unfolding top
 top_is c i n x e stays = sym stays ∙ e
 
 -- what the pointers do on the way
-pub rises : (c : Configuration) (i j : ℕ) → IsLawful c → is_privileged c i ≡ false → (is_married c i ≡ false) ⊎ (c.m i ≡ false) → c.p i ≡ Some j → (i < j) × (c.m j ≡ false)
+pub rises : (c : Configuration) (i j : ℕ) → IsLawful c → is_privileged c i ≡ false → (is_married c i ≡ false) ⊎ (c.m i ≡ false) → c.p i ≡ Some j
+    → (i < j) × (c.m j ≡ false)
 rises c i j l idle free p =
     let up = quiet-vain c i j l (idle-quiet c i l idle) p (elim free [ inl f ↦ f | inr f ↦ sym (idle-settled c i l idle) ∙ f ]) in
     (up.1, up.0)

@@ -1,5 +1,6 @@
 -- All potentials together: they fall by the moves of a step, and are 2 for each link and 3 for each node at the most.
-use Rattle.std.proofs.Common.{◌≡◌, ◌==◌, ℕ, zero, suc, ◌+◌, ◌*◌, ◌<◌, ◌≤◌, Bool, true, false, cond, not, ◌&&◌, Option, None, Some, is_some, inl, inr, refl, sym, ap, ◌∙◌, arith, nat_lt}
+use Rattle.std.proofs.Common.{◌≡◌, ◌==◌, ℕ, zero, suc, ◌+◌, ◌*◌, ◌<◌, ◌≤◌, Bool, true, false, cond, not, ◌&&◌, Option, None, Some, is_some, inl, inr}
+use Rattle.std.proofs.Common.{refl, sym, ap, ◌∙◌, arith, nat_lt}
 use Rattle.std.specs.Option.{option_map_or}
 use Rattle.std.proofs.lemmas.Bool.{and_parts, and_from, and_right, ltb-true, lt-ltb, le-ltb, eqb-true, eq-eqb, false_from_ne_true, cases_Bool}
 use Rattle.mml_ids.specs.Search.{count_below}
@@ -11,7 +12,8 @@ use Rattle.mml_lab.specs.Labs.{links_below}
 use Rattle.mml_stable.specs.Potential.{sum_below, points_down, is_above, link_part, potential, whole_potential}
 use Rattle.mml_stable.specs.Moves.{moves}
 use Rattle.mml_stable.proofs.PartsLemmas.{own_most, link_most}
-use Rattle.mml_stable.proofs.SumsLemmas.{sum_kept, sum_charged, sum_most, sum_parts, sum_split, sum_turned, sum_of_tests, one_column, count_none, count_some, count_one_at_most, count_same}
+use Rattle.mml_stable.proofs.SumsLemmas.{sum_kept, sum_charged, sum_most, sum_parts, sum_split, sum_turned, sum_of_tests, one_column, count_none}
+use Rattle.mml_stable.proofs.SumsLemmas.{count_some, count_one_at_most, count_same}
 use Rattle.mml_stable.proofs.MovesLemmas.{pays, marries_lower}
 use Rattle.mml_stable.proofs.PotentialLemmas.{potential_fell}
 
@@ -41,11 +43,14 @@ all_charged chosen n =
     let split = sum_split n (λ i. cond (pays (chosen i) i) 1 0) (λ i. count_below n (λ k. marries_lower (chosen k) k i)) in
     let turned = sum_turned (λ i k. marries_lower (chosen k) k i) n n in
     let joined = sum_split n (λ k. cond (pays (chosen k) k) 1 0) (λ k. count_below n (marries_lower (chosen k) k)) in
-    let each = sum_kept n (λ k. cond (moves chosen k) 1 0) (λ k. cond (pays (chosen k) k) 1 0 + count_below n (marries_lower (chosen k) k)) (λ k lt. one_charged (chosen k) k n lt) in
+    let each =
+    sum_kept n (λ k. cond (moves chosen k) 1 0) (λ k. cond (pays (chosen k) k) 1 0 + count_below n (marries_lower (chosen k) k))
+    (λ k lt. one_charged (chosen k) k n lt) in
     let counted = sum_of_tests n (moves chosen) in
     omega (arith, split, turned, joined, each, counted)
 
-pub whole_fell : (c : Configuration) (chosen : ℕ → Option Rule) → IsLawful c → AllHold c chosen → whole_potential (step c chosen) + count_below c.size (moves chosen) ≤ whole_potential c
+pub whole_fell : (c : Configuration) (chosen : ℕ → Option Rule) → IsLawful c → AllHold c chosen
+    → whole_potential (step c chosen) + count_below c.size (moves chosen) ≤ whole_potential c
 unfolding whole_potential
 whole_fell c chosen l h =
     let fell = sum_charged c.size (charge chosen c.size) (potential (step c chosen)) (potential c) (potential_fell c chosen l h) in
@@ -55,7 +60,8 @@ whole_fell c chosen l h =
 -- ---- the bound
 
 -- a pointer leads to one higher node or to a lower one
-one_pointer : (c : Configuration) (i n : ℕ) (o : Option ℕ) → count_below n (λ j. is_above c i j && holds o j) + cond (option_map_or (λ j. nat_lt j i) o false) 1 0 ≤ 1
+one_pointer : (c : Configuration) (i n : ℕ) (o : Option ℕ)
+    → count_below n (λ j. is_above c i j && holds o j) + cond (option_map_or (λ j. nat_lt j i) o false) 1 0 ≤ 1
 one_pointer c i n None = let none = count_none n (λ j. is_above c i j && false) (λ j lt. and_right (is_above c i j) false refl) in omega (arith, none)
 one_pointer c i n (Some k) = elim (cases_Bool (nat_lt k i)) [
   | inl down ↦
@@ -67,7 +73,8 @@ one_pointer c i n (Some k) = elim (cases_Bool (nat_lt k i)) [
       let one : cond {A = ℕ} (nat_lt k i) 1 0 ≡ 1 = ap (λ b. cond b 1 0) down in
       omega (arith, none, one)
   | inr up ↦
-      let once = count_one_at_most n k (λ j. is_above c i j && holds (Some k) j) (λ j e. sym (eqb-true k j (and_parts (is_above c i j) (holds (Some k) j) e).1)) in
+      let once =
+      count_one_at_most n k (λ j. is_above c i j && holds (Some k) j) (λ j e. sym (eqb-true k j (and_parts (is_above c i j) (holds (Some k) j) e).1)) in
       let none : cond {A = ℕ} (nat_lt k i) 1 0 ≡ 0 = ap (λ b. cond b 1 0) up in
       omega (arith, once, none)
 ]
@@ -91,7 +98,9 @@ counted_above c (suc n) l =
     let rest = counted_above c n l in
     let columns = one_column (is_above c) n n in
     let top = count_none (suc n) (is_above c n) (λ j lt. and_right (c.linked n j) (nat_lt n j) (le-ltb n j (omega arith))) in
-    let turned = count_same n (λ i. is_above c i n) (c.linked n) (λ i lt. and_on (c.linked i n) (nat_lt i n) (lt-ltb i n lt) ∙ same_bool _ _ (λ e. l.symmetric i n e) (λ e. l.symmetric n i e)) in
+    let turned =
+    count_same n (λ i. is_above c i n) (c.linked n)
+    (λ i lt. and_on (c.linked i n) (nat_lt i n) (lt-ltb i n lt) ∙ same_bool _ _ (λ e. l.symmetric i n e) (λ e. l.symmetric n i e)) in
     omega (arith, rest, columns, top, turned)
 
 pub whole_most : (c : Configuration) → IsLawful c → whole_potential c ≤ 2 * links_below c c.size + 3 * c.size

@@ -1,5 +1,6 @@
 -- The witness of an open link is the same node under names that keep the order.
-use Rattle.std.proofs.Common.{◌≡◌, ◌⊎◌, ℕ, zero, suc, ◌<◌, ◌≤◌, Bool, true, false, ◌&&◌, ltb, Option, None, Some, unwrap_or, is_some, sym, refl, ap, ◌∙◌, subst, arith, inl, inr}
+use Rattle.std.proofs.Common.{◌≡◌, ◌⊎◌, ℕ, zero, suc, ◌<◌, ◌≤◌, Bool, true, false, ◌&&◌, ltb, Option, None, Some, unwrap_or, is_some, sym, refl, ap}
+use Rattle.std.proofs.Common.{◌∙◌, subst, arith, inl, inr}
 use Rattle.std.proofs.lemmas.Bool.{and_parts, not-true}
 use Rattle.mml_rules.specs.declared.rule.Kind.{Kind}
 use Rattle.mml_rules.specs.Configuration.{Configuration, IsLawful}
@@ -29,15 +30,18 @@ module _ (f : ℕ → ℕ) (c d : Configuration) (l : IsLawful c) (r : IsRenamed
   climbed : (n m i : ℕ) → n ≤ m → i < c.size → (is_privileged c (climb c n i) ≡ true) ⊎ (c.p (climb c n i) ≡ None) → climb d m (f i) ≡ f (climb c n i)
   climbed n m i room i_in end = at n m i room i_in end (is_privileged c i) refl (c.p i) refl
     where
-      at : (n m i : ℕ) → n ≤ m → i < c.size → (is_privileged c (climb c n i) ≡ true) ⊎ (c.p (climb c n i) ≡ None) → (b : Bool) → is_privileged c i ≡ b → (o : Option ℕ) → c.p i ≡ o → climb d m (f i) ≡ f (climb c n i)
+      at : (n m i : ℕ) → n ≤ m → i < c.size → (is_privileged c (climb c n i) ≡ true) ⊎ (c.p (climb c n i) ≡ None) → (b : Bool) → is_privileged c i ≡ b
+          → (o : Option ℕ) → c.p i ≡ o → climb d m (f i) ≡ f (climb c n i)
       at n m i room i_in end true e o p = climb_stops d m (f i) (privileged_at i i_in ∙ e) ∙ ap f (sym (climb_stops c n i e))
-      at n m i room i_in end false e None p = climb_null d m (f i) (privileged_at i i_in ∙ e) (r.p i i_in ∙ ap (renamed f) p) ∙ ap f (sym (climb_null c n i e p))
+      at n m i room i_in end false e None p =
+          climb_null d m (f i) (privileged_at i i_in ∙ e) (r.p i i_in ∙ ap (renamed f) p) ∙ ap f (sym (climb_null c n i e p))
       at zero m i room i_in end false e (Some j) p = absurd (elim end [ inl t ↦ cc | inr none ↦ cc ])
       at (suc n) zero i room i_in end false e (Some j) p = absurd (omega arith)
       at (suc n) (suc m) i room i_in end false e (Some j) p =
           let here : climb c (suc n) i ≡ climb c n j = climb_onward c n (suc n) i j (omega arith) e p in
           climb_onward d m (suc m) (f i) (f j) (omega arith) (privileged_at i i_in ∙ e) (r.p i i_in ∙ ap (renamed f) p)
-          ∙ at n m j (omega arith) (pointee_in c i j l p) (subst (λ x. (is_privileged c x ≡ true) ⊎ (c.p x ≡ None)) here end) (is_privileged c j) refl (c.p j) refl
+          ∙ at n m j (omega arith) (pointee_in c i j l p) (subst (λ x. (is_privileged c x ≡ true) ⊎ (c.p x ≡ None)) here end) (is_privileged c j) refl
+          (c.p j) refl
           ∙ ap f (sym here)
 
   ends_there : (i x : ℕ) → LeadsTo c i x → (is_privileged c x ≡ true) ⊎ (c.p x ≡ None)
@@ -68,7 +72,9 @@ module _ (f : ℕ → ℕ) (c d : Configuration) (l : IsLawful c) (r : IsRenamed
       ∙ ap (unless_seduction (f (top c i))) (kind_named f c d l r (top c i) x_in)
       ∙ unless_named (top c i) (enabled_kind c (top c i))
 
-  either : (x y : Option (ℕ × Kind)) (a : ℕ) → unwrap_or (found x) (unwrap_or (found y) (f a, Kind.Seduction)) ≡ (f (unwrap_or x (unwrap_or y (a, Kind.Seduction))).0, (unwrap_or x (unwrap_or y (a, Kind.Seduction))).1)
+  either : (x y : Option (ℕ × Kind)) (a : ℕ)
+      → unwrap_or (found x) (unwrap_or (found y) (f a, Kind.Seduction))
+      ≡ (f (unwrap_or x (unwrap_or y (a, Kind.Seduction))).0, (unwrap_or x (unwrap_or y (a, Kind.Seduction))).1)
   either (Some e) y a = refl
   either None (Some e) a = refl
   either None None a = refl

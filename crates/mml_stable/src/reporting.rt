@@ -2,7 +2,8 @@ ghost use Rattle.std.specs.Prelude.{◌≡◌, ℕ, ◌<◌, ◌++◌, length, t
 ghost use Rattle.std.specs.FinSet as set;
 ghost use Rattle.mml_ids.specs.Sets.{those_below};
 ghost use Rattle.mml_board.specs.World.{configuration};
-ghost use Rattle.mml_stable.specs.Reports.{pairs, is_free, free_nodes, privileged_nodes, is_open, open_link, open_links_at, open_links, is_stable, report_of, NamesNodes};
+ghost use Rattle.mml_stable.specs.Reports.{pairs, is_free, free_nodes, privileged_nodes, is_open, open_link, open_links_at, open_links, is_stable};
+ghost use Rattle.mml_stable.specs.Reports.{report_of, NamesNodes};
 
 use crate::certificate::certify;
 use crate::open_link::OpenLink;

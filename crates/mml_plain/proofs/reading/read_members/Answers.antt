@@ -46,7 +46,8 @@ returns-in_default-of c =
     let key : read_key l.reader ≡ Some (Some k, c.next_key.new.self) = grind arith in
     let first : c.next_key.new.self ≡ t ∷ r = grind arith in
     let other : plain_value t ≡ None = grind arith in
-    l.invariant.1 ∙ one_more l.invariant.0 l.reader k t r (key ∙ ap (λ ts. Some (Some k, ts)) first) ∙ ap (option_and_then (λ d. plain_members (put k d l.invariant.0) r)) other
+    l.invariant.1 ∙ one_more l.invariant.0 l.reader k t r (key ∙ ap (λ ts. Some (Some k, ts)) first)
+    ∙ ap (option_and_then (λ d. plain_members (put k d l.invariant.0) r)) other
 
 pub members-preserved : goal.members-preserved
 members-preserved c =
@@ -59,6 +60,7 @@ members-preserved c =
     let key : read_key l.reader ≡ Some (Some k, c.next_key.new.self) = grind arith in
     let first : c.next_key.new.self ≡ t ∷ r = grind arith in (
       put k (data_of v) found,
-      l.invariant.1 ∙ one_more found l.reader k t r (key ∙ ap (λ ts. Some (Some k, ts)) first) ∙ ap (option_and_then (λ d. plain_members (put k d found) r)) c.in-Some-of.ensures,
+      l.invariant.1 ∙ one_more found l.reader k t r (key ∙ ap (λ ts. Some (Some k, ts)) first)
+          ∙ ap (option_and_then (λ d. plain_members (put k d found) r)) c.in-Some-of.ensures,
       rw c.put.ensures (holds_with k v found l.fields l.invariant.2),
     )

@@ -19,7 +19,8 @@ the_answer b = Ok b
 abbrev Found : Bool → Fields → List Token → Type 0
 Found b fields ts = MatchBool b ((ms : Members) × (plain_object ts ≡ Some ms) × Holds fields (object ms)) (plain_object ts ≡ None)
 
-plain_is : (b : Bool) (fields : Fields) (line : List ℕ) → IsUtf8 line → Found b fields (tokens line) → the_answer b ≡ Ok true → (ms : Members) × IsUtf8 line × (read line ≡ Some (object ms)) × Holds fields (object ms)
+plain_is : (b : Bool) (fields : Fields) (line : List ℕ) → IsUtf8 line → Found b fields (tokens line) → the_answer b ≡ Ok true
+    → (ms : Members) × IsUtf8 line × (read line ≡ Some (object ms)) × Holds fields (object ms)
 plain_is true fields line u h e = (h.0, u, read_is line h.0 h.1, h.2)
 plain_is false fields line u h e = absurd (cc)
 
@@ -31,7 +32,11 @@ pub returns-in_default-clause-other : goal.returns-in_default-clause-other
 returns-in_default-clause-other c = λ e. is_plain-no_text c.args.line.now (c.in_default.ensures.cases.0)
 
 pub returns-clause-plain : goal.returns-clause-plain
-returns-clause-plain c = plain_is c.read_object.result c.read_object.new.fields c.args.line.now c.in-Ok.ensures.cases.1 (subst (Found c.read_object.result c.read_object.new.fields) (c.in_ok-reader.ensures.ok ∙ ap tokens c.in-Ok.ensures.cases.0) c.read_object.ensures)
+returns-clause-plain c =
+    plain_is c.read_object.result c.read_object.new.fields c.args.line.now c.in-Ok.ensures.cases.1
+    (subst (Found c.read_object.result c.read_object.new.fields) (c.in_ok-reader.ensures.ok ∙ ap tokens c.in-Ok.ensures.cases.0) c.read_object.ensures)
 
 pub returns-clause-other : goal.returns-clause-other
-returns-clause-other c = other_is c.read_object.result c.read_object.new.fields c.args.line.now (subst (Found c.read_object.result c.read_object.new.fields) (c.in_ok-reader.ensures.ok ∙ ap tokens c.in-Ok.ensures.cases.0) c.read_object.ensures)
+returns-clause-other c =
+    other_is c.read_object.result c.read_object.new.fields c.args.line.now
+    (subst (Found c.read_object.result c.read_object.new.fields) (c.in_ok-reader.ensures.ok ∙ ap tokens c.in-Ok.ensures.cases.0) c.read_object.ensures)

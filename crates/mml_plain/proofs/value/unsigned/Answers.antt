@@ -14,5 +14,6 @@ pub returns : goal.returns
 returns c =
     let s = c.as_bytes-bytes.result.now in
     let plain : (get_or s 0 0 == 45) ≡ false = sym c.if-has_minus.ensures in
-    c.integer.ensures ∙ ap (λ p. option_and_then as_u64 (number_from false p)) c.scan.ensures.parts ∙ ap (option_and_then as_u64) (sym (number_of-unsigned s plain))
+    c.integer.ensures ∙ ap (λ p. option_and_then as_u64 (number_from false p)) c.scan.ensures.parts
+    ∙ ap (option_and_then as_u64) (sym (number_of-unsigned s plain))
     ∙ ap (λ t. option_and_then as_u64 (number_of t)) c.as_bytes-bytes.ensures.value

@@ -7,7 +7,8 @@ use Rattle.mml_stable.proofs.certificate.certify.Goals as goal
 is_witness : (c : goal.After-witness) → IsWitness (configuration c.args.board.now) c.witness.result
 is_witness c =
     subst (λ (e : ℕ × Kind). IsWitness (configuration c.args.board.now) e) (sym c.witness.ensures)
-    (certified (configuration c.args.board.now) c.args.a c.args.b c.size-size.ensures.lawful c.requires.linked c.requires.lower c.requires.free_a c.requires.free_b)
+    (certified (configuration c.args.board.now) c.args.a c.args.b c.size-size.ensures.lawful c.requires.linked c.requires.lower c.requires.free_a
+    c.requires.free_b)
 
 pub returns-clause-node : goal.returns-clause-node
 returns-clause-node c = (is_witness c).node

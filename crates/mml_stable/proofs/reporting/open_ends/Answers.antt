@@ -15,7 +15,8 @@ returns-then-has c = λ b.
     let free_a : is_free d c.args.a ≡ true =
     sym (ap (λ t. t && is_free d c.args.a) (lt-ltb c.args.a d.size c.requires.a)) ∙ sym (has-those_below d.size (is_free d) c.args.a)
     ∙ sym (ap (λ s. sets.contains s c.args.a) c.requires.free) ∙ here in
-    let free_b : sets.contains c.args.free b ≡ (ltb b d.size && is_free d b) = ap (λ s. sets.contains s b) c.requires.free ∙ has-those_below d.size (is_free d) b in
+    let free_b : sets.contains c.args.free b ≡ (ltb b d.size && is_free d b) =
+    ap (λ s. sets.contains s b) c.requires.free ∙ has-those_below d.size (is_free d) b in
     let linked : sets.contains c.neighbours.result b ≡ d.linked c.args.a b = ap (λ s. sets.contains s b) c.neighbours.ensures in
     let near : sets.contains c.both.result b ≡ (d.linked c.args.a b && (ltb b d.size && is_free d b)) =
     ap (λ s. sets.contains s b) c.both.ensures ∙ sets.contains-intersection nat_cmp_total c.neighbours.result c.args.free b ∙ (λ i. linked i && free_b i) in

@@ -25,9 +25,12 @@ loop-b-preserved c =
     let below : b < size c.args.board.now = greater_end d a b c.size-size.ensures.lawful open_b in
     record {
       each = λ k h. c.loop-b.invariant.each k (in_remove left b k (ap (λ s. sets.contains s k) (sym taken.rest) ∙ h));
-      so_far = one_put (open_link d a) (size c.args.board.now) left _ b c.loop-b.all.items _ (c.args.all.now.items ++ open_links_at d a) taken.member taken.least below taken.rest
+      so_far = one_put (open_link d a) (size c.args.board.now) left _ b c.loop-b.all.items _ (c.args.all.now.items ++ open_links_at d a) taken.member
+          taken.least below taken.rest
           (c.in_ok-push.ensures.items ∙ ap (λ (x : OpenLink). c.loop-b.all.items ++ x ∷ []) c.open_link.ensures) c.loop-b.invariant.so_far;
     }
 
 pub returns : goal.returns
-returns c = all_put (open_link (configuration c.args.board.now) c.args.a) (size c.args.board.now) c.loop-b.left c.loop-b.all.items (c.args.all.now.items ++ open_links_at (configuration c.args.board.now) c.args.a) c.in_default.ensures.none c.loop-b.invariant.so_far
+returns c =
+    all_put (open_link (configuration c.args.board.now) c.args.a) (size c.args.board.now) c.loop-b.left c.loop-b.all.items
+    (c.args.all.now.items ++ open_links_at (configuration c.args.board.now) c.args.a) c.in_default.ensures.none c.loop-b.invariant.so_far

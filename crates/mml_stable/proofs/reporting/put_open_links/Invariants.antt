@@ -9,7 +9,8 @@ use Rattle.mml_stable.proofs.reporting.put_open_links.Given as goal
 abbrev pub invariant-loop-b : goal.invariant-loop-b
 invariant-loop-b l = record {
   each : (b : ℕ) → sets.contains l.left b ≡ true → is_open (configuration l.board) l.a b ≡ true;
-  so_far : l.all.items ++ map (open_link (configuration l.board) l.a) (ranks_in (size l.board) l.left) ≡ l.fn.all.items ++ open_links_at (configuration l.board) l.a;
+  so_far : l.all.items ++ map (open_link (configuration l.board) l.a) (ranks_in (size l.board) l.left)
+      ≡ l.fn.all.items ++ open_links_at (configuration l.board) l.a;
 }
 
 abbrev pub decreases-loop-b : goal.decreases-loop-b
