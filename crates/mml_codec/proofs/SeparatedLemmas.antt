@@ -55,11 +55,10 @@ text_without ids s n i start held e h so_far = so_far ∙ ap (λ t. start ++ t) 
 pub comma_more : {X : Type 0} (f : X → List ℕ) (xs : List X) (i : ℕ) (d : X) → i < length xs → 44 ∷ [] ≡ comma_after (map f (take (i + 1) xs))
 comma_more f xs i d h = sym (ap (λ ys. comma_after (map f ys)) (take_more xs i d h) ∙ ap comma_after (map-append f (take i xs) (get_or xs i d ∷ [])) ∙ comma_after-more (map f (take i xs)) (f (get_or xs i d)))
 
-pub text_more : {X : Type 0} (f : X → List ℕ) (xs : List X) (i : ℕ) (d : X) (start held with_comma put comma : List ℕ) → i < length xs
-    → comma ≡ comma_after (map f (take i xs)) → held ≡ start ++ separated (map f (take i xs)) → with_comma ≡ held ++ (comma ++ []) → put ≡ with_comma ++ f (get_or xs i d)
+pub text_more : {X : Type 0} (f : X → List ℕ) (xs : List X) (i : ℕ) (d : X) (start held put comma : List ℕ) → i < length xs
+    → comma ≡ comma_after (map f (take i xs)) → held ≡ start ++ separated (map f (take i xs)) → put ≡ held ++ (comma ++ f (get_or xs i d))
     → put ≡ start ++ separated (map f (take (i + 1) xs))
-text_more f xs i d start held with_comma put comma h comma_is so_far one more =
-    more ∙ ap (λ t. t ++ f (get_or xs i d)) (one ∙ ap (λ t. held ++ t) (append-nil comma ∙ comma_is) ∙ ap (λ t. t ++ comma_after (map f (take i xs))) so_far)
-    ∙ append_assoc (start ++ separated (map f (take i xs))) (comma_after (map f (take i xs))) (f (get_or xs i d))
+text_more f xs i d start held put comma h comma_is so_far more =
+    more ∙ ap (λ t. held ++ (t ++ f (get_or xs i d))) comma_is ∙ ap (λ t. t ++ (comma_after (map f (take i xs)) ++ f (get_or xs i d))) so_far
     ∙ append_assoc start (separated (map f (take i xs))) (comma_after (map f (take i xs)) ++ f (get_or xs i d))
     ∙ ap (λ t. start ++ t) (sym (ap (λ ys. separated (map f ys)) (take_more xs i d h) ∙ ap separated (map-append f (take i xs) (get_or xs i d ∷ [])) ∙ separated-more (map f (take i xs)) (f (get_or xs i d))))

@@ -17,9 +17,11 @@ pub(crate) trait Listed {
     // Its text, in a lab with these identifiers.
     ghost text: { List ℕ → Self → List ℕ };
 
-    fn put_item(&self, ids: &IdTable, out: &mut Vec<u8>) -> Result<(), Memory>
+    // Puts it after what parts it from the one before.
+    fn put_item(&self, ids: &IdTable, comma: &str, out: &mut Vec<u8>) -> Result<(), Memory>
         requires { names ids.now self.now }
-        ensures text { OnOk result (out.new.items ≡ out.old.items ++ text ids.now self.now) }
+        ensures text { OnOk result
+            (out.new.items ≡ out.old.items ++ (comma.now ++ text ids.now self.now)) }
         ensures capacity { vec_capacity out.old ≤ vec_capacity out.new };
 }
 
@@ -36,8 +38,7 @@ pub(crate) fn put_list<T: Listed>(
 {
     let mut comma = "";
     for item in items {
-        put(out, &[Piece::Text(comma)])?;
-        item.put_item(ids, out)?;
+        item.put_item(ids, comma, out)?;
         comma = ",";
     }
     Ok(())
@@ -49,8 +50,8 @@ impl Listed for Rank {
 
     ghost text = { node_text };
 
-    fn put_item(&self, ids: &IdTable, out: &mut Vec<u8>) -> Result<(), Memory> {
-        put(out, &[Piece::Id(ids.node_id(*self))])
+    fn put_item(&self, ids: &IdTable, comma: &str, out: &mut Vec<u8>) -> Result<(), Memory> {
+        put(out, &[Piece::Text(comma), Piece::Id(ids.node_id(*self))])
     }
 }
 
@@ -61,11 +62,12 @@ impl Listed for (Rank, Regs) {
     ghost text = { near_text };
 
     #[tactic(auto, unfolding(crate::specs::Facts::near_text))]
-    fn put_item(&self, ids: &IdTable, out: &mut Vec<u8>) -> Result<(), Memory> {
+    fn put_item(&self, ids: &IdTable, comma: &str, out: &mut Vec<u8>) -> Result<(), Memory> {
         let (node, regs) = self;
         put(
             out,
             &[
+                Piece::Text(comma),
                 Piece::Text("{\"m\":"),
                 Piece::Text(truth(regs.m)),
                 Piece::Text(",\"node\":"),
@@ -85,11 +87,12 @@ impl Listed for (Rank, Rank) {
     ghost text = { pair_text };
 
     #[tactic(auto, unfolding(crate::specs::Facts::pair_text))]
-    fn put_item(&self, ids: &IdTable, out: &mut Vec<u8>) -> Result<(), Memory> {
+    fn put_item(&self, ids: &IdTable, comma: &str, out: &mut Vec<u8>) -> Result<(), Memory> {
         let (lower, greater) = self;
         put(
             out,
             &[
+                Piece::Text(comma),
                 Piece::Text("["),
                 Piece::Id(ids.node_id(*lower)),
                 Piece::Text(","),
@@ -107,11 +110,12 @@ impl Listed for (Rank, Kind) {
     ghost text = { privileged_text };
 
     #[tactic(auto, unfolding(crate::specs::Facts::privileged_text))]
-    fn put_item(&self, ids: &IdTable, out: &mut Vec<u8>) -> Result<(), Memory> {
+    fn put_item(&self, ids: &IdTable, comma: &str, out: &mut Vec<u8>) -> Result<(), Memory> {
         let (node, kind) = self;
         put(
             out,
             &[
+                Piece::Text(comma),
                 Piece::Text("["),
                 Piece::Id(ids.node_id(*node)),
                 Piece::Text(","),
@@ -128,10 +132,11 @@ impl Listed for OpenLink {
     ghost text = { open_link_text };
 
     #[tactic(auto, unfolding(crate::specs::Facts::open_link_text))]
-    fn put_item(&self, ids: &IdTable, out: &mut Vec<u8>) -> Result<(), Memory> {
+    fn put_item(&self, ids: &IdTable, comma: &str, out: &mut Vec<u8>) -> Result<(), Memory> {
         put(
             out,
             &[
+                Piece::Text(comma),
                 Piece::Text("["),
                 Piece::Id(ids.node_id(self.a)),
                 Piece::Text(","),

@@ -1,4 +1,4 @@
-ghost use Rattle.std.specs.Prelude.{◌≡◌, ◌≤◌, ◌<◌, ◌+◌, ◌^◌, ◌++◌, [], true, length, map, OnOk, OnErr, IsOk, IfSome, vec_capacity};
+ghost use Rattle.std.specs.Prelude.{◌≡◌, ◌≤◌, ◌<◌, ◌+◌, ◌^◌, ◌++◌, ◌∷◌, [], true, length, map, OnOk, OnErr, IsOk, IfSome, vec_capacity};
 ghost use Rattle.mml_ids.specs.Pieces.{piece_text, piece_room, Puts};
 ghost use Rattle.mml_ids.specs.declared.piece.Piece.TheVariants.{Number};
 ghost use Rattle.mml_lab.specs.Rosters.{name_of, IsPrincipal};
@@ -111,6 +111,17 @@ fn put_line(ids: &IdTable, roster: &Roster, reply: &Reply, out: &mut Vec<u8>) ->
     ensures counts { AreWritableCounts roster.now reply.now }
 {
     put_text(ids, roster, reply, out)?;
+    put_end(out)
+}
+
+// Puts the byte 10 of a line.
+fn put_end(out: &mut Vec<u8>) -> Result<(), Memory>
+    ensures { Puts (10 ∷ []) 1 out.old out.new result }
+{
+    if out.len() < out.capacity() {
+        out.push_reserved(b'\n');
+        return Ok(());
+    }
     put(out, &[Piece::Text("\n")])
 }
 

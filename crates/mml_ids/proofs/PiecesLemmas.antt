@@ -1,6 +1,7 @@
 -- Texts in pieces, cut between two pieces.
-use Rattle.std.proofs.Common.{◌≡◌, ℕ, suc, ◌+◌, ◌≤◌, ◌<◌, List, [], ◌∷◌, ◌++◌, length, take, drop, slice_index_or, refl, ap, sym, ◌∙◌, arith, inl, inr}
+use Rattle.std.proofs.Common.{◌≡◌, ℕ, suc, ◌+◌, ◌≤◌, ◌<◌, List, [], ◌∷◌, ◌++◌, length, take, drop, ◌/◌, ◌%◌, ◌^◌, decimal, slice_index_or, refl, ap, sym, ◌∙◌, arith, inl, inr}
 use Rattle.std.proofs.lemmas.List.{append_assoc, append-nil, take-append-drop}
+use Rattle.std.proofs.lemmas.Fmt.{decimal_digit, decimal_step}
 use Rattle.std.proofs.Math.Seq.{take-suc, take-add}
 use Rattle.std.proofs.Math.Nat.{eq-or-lt_of_le}
 use Rattle.mml_ids.specs.declared.piece.Piece.{Piece}
@@ -54,3 +55,9 @@ fills_all was now capacity ps n f room = elim (eq-or-lt_of_le f.bound) [
       let front = room_of-front ps (n + 1) in
       absurd (omega (arith, f.next short, f.grows))
 ]
+
+-- one digit more
+pub digit_more : (was front all : List ℕ) (n : ℕ) → 10 ≤ n → n < 10000 → front ≡ was ++ decimal (n / 10) → all ≡ front ++ decimal (n % 10) → all ≡ was ++ decimal n
+digit_more was front all n many few before last =
+    last ∙ ap (λ t. t ++ decimal (n % 10)) before ∙ append_assoc was (decimal (n / 10)) (decimal (n % 10))
+    ∙ ap (λ t. was ++ t) (ap (λ t. decimal (n / 10) ++ t) (decimal_digit (n % 10) (omega arith)) ∙ sym (decimal_step n many (omega (arith, few))))
