@@ -323,7 +323,7 @@ def work(room: Path) -> str:
         wait_for_threads(server, rest[0] + len(ALL), "once all are there")
         times = honest.play(100, 10 * PAUSE)
         held = kilobytes(server)
-        times += honest.play(MOST_LINES, PAUSE, until)
+        times += honest.play(MOST_LINES, max(PAUSE, seconds / MOST_LINES), until)
         answered(futures)
     wait_for_threads(server, rest[0], "once the hostile clients have gone")
     wait_for_handles(server, rest[1], "once the hostile clients have gone")
