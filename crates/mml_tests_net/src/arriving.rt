@@ -3,90 +3,36 @@ use mml_fakes::FakeWriter;
 use mml_journal::MemorySink;
 use mml_lab::{Lab, read_lab};
 use mml_program::BUILT_IN;
-use mml_serving::{Arrivals, HangUp, LetGo, ServeFault, serve_arrivals};
-use mml_session::{NoGate, ServedHouse};
+use mml_serving::{ServeFault, ServedHouse, serve_arrivals};
+use mml_session::NoGate;
 use std::alloc::{AllocError, Global};
-use std::collections::VecDeque;
-use std::io;
-use std::io::{ErrorKind, Read, Write};
 use std::sync::Wait;
 use std::test::Fail;
 use std::thread::Threads;
+use std::vec::IntoIter;
 
-/// A writer that keeps what it was given.
-#[derive(Drop)]
-struct Kept(FakeWriter);
+/// What a connection sends, and what it is sent.
+type TextEnds<'a> = (&'a [u8], Vec<u8>);
 
-impl Write for Kept {
-    fn write(&mut self, bytes: &[u8]) -> io::Result<usize> {
-        self.0.write(bytes)
-    }
+type Left<'a> = ServedHouse<MemorySink, &'a [u8], Vec<u8>>;
 
-    fn flush(&mut self) -> io::Result<()> {
-        self.0.flush()
-    }
-}
-
-impl HangUp for Kept {
-    fn hang_up(&mut self) {}
-}
-
-/// A reader that gives these bytes.
-#[derive(Drop)]
-struct Given(VecDeque<u8>);
-
-impl Read for Given {
-    fn read(&mut self, bytes: &mut [u8]) -> io::Result<usize> {
-        self.0.read(bytes)
-    }
-}
-
-impl LetGo for Given {
-    fn let_go(&mut self) {}
-}
-
-/// Connections that send these bytes, the last ones first.
-#[derive(Drop)]
-struct Texts {
-    alloc: Global,
-    left: Vec<VecDeque<u8>>,
-}
-
-impl Arrivals<Given, Kept> for Texts {
-    fn accept_next(&mut self) -> io::Result<(Given, Kept)> {
-        match self.left.pop() {
-            Some(text) => Ok((Given(text), Kept(FakeWriter::patient(self.alloc)))),
-            None => Err(io::Error::from(ErrorKind::NotConnected)),
-        }
-    }
-}
-
-type Left = ServedHouse<MemorySink, Given, Kept>;
-
-fn bytes_of(alloc: Global, text: &str) -> Result<VecDeque<u8>, AllocError> {
-    let mut bytes = VecDeque::new(alloc);
-    for byte in text.as_bytes() {
-        bytes.push_back(*byte)?;
-    }
-    Ok(bytes)
-}
-
-fn arrivals_of(alloc: Global, texts: &[&str]) -> Result<Texts, AllocError> {
-    let mut left = Vec::new(alloc);
+/// Connections that send these texts, in their order.
+fn arrivals_of<'a>(alloc: Global, texts: &[&'a str]) -> Result<IntoIter<TextEnds<'a>>, AllocError> {
+    let mut coming = Vec::new(alloc);
     for text in texts {
-        left.push(bytes_of(alloc, text)?)?;
+        coming.push((text.as_bytes(), Vec::new(alloc)))?;
     }
-    Ok(Texts { alloc, left })
+    Ok(coming.into_iter())
 }
 
 /// Serves so many connections over a lab, if it has so many sessions.
-fn serve_over<R: Threads + Wait + Sync + AllocGlobal>(
+fn serve_over<'a, R: Threads + Wait + Sync + AllocGlobal>(
     rt: &R,
     lab: Lab,
-    arrivals: Texts,
+    arrivals: IntoIter<TextEnds<'a>>,
     connections: u8,
     writer: &mut FakeWriter,
-) -> Option<Result<Left, ServeFault>> {
+) -> Option<Result<Left<'a>, ServeFault>> {
     if connections > lab.sessions() {
         return None;
     }
@@ -95,20 +41,20 @@ fn serve_over<R: Threads + Wait + Sync + AllocGlobal>(
     Some(serve_arrivals(rt, alloc, lab, arrivals, connections, sink, &NoGate, writer))
 }
 
-/// Serves so many of these texts, the last one first, over the built-in lab.
-fn serve_texts<R: Threads + Wait + Sync + AllocGlobal>(
+/// Serves the first so many of these texts over the built-in lab.
+fn serve_texts<'a, R: Threads + Wait + Sync + AllocGlobal>(
     rt: &R,
-    texts: &[&str],
+    texts: &[&'a str],
     connections: u8,
     writer: &mut FakeWriter,
-) -> Result<Option<Result<Left, ServeFault>>, Fail> {
+) -> Result<Option<Result<Left<'a>, ServeFault>>, Fail> {
     let arrivals = arrivals_of(rt.alloc(), texts)?;
     let lab = read_lab(rt.alloc(), BUILT_IN.as_bytes())?;
     Ok(serve_over(rt, lab, arrivals, connections, writer))
 }
 
 /// Whether a house is left in which each connection, by its number, was written what is wanted.
-fn are_answered_so(ended: &Option<Result<Left, ServeFault>>, wanted: &[(u8, &str)]) -> bool {
+fn are_answered_so(ended: &Option<Result<Left<'_>, ServeFault>>, wanted: &[(u8, &str)]) -> bool {
     let Some(Ok(house)) = ended else {
         return false;
     };
@@ -118,9 +64,7 @@ fn are_answered_so(ended: &Option<Result<Left, ServeFault>>, wanted: &[(u8, &str
             return false;
         };
         let connection = &session.connection;
-        if connection.number != *number
-            || connection.writer.0.taken.as_slice() != replies.as_bytes()
-        {
+        if connection.number != *number || connection.writer.as_slice() != replies.as_bytes() {
             return false;
         }
     }
@@ -139,12 +83,12 @@ const BYE: &str = "{\"do\":\"bye\"}\n";
 
 const LEFT: &str = "{\"ok\":\"bye\"}\n";
 
-/// Whether the last two of three texts are answered in their order, as a server writes to this writer.
+/// Whether the first two of three texts are answered in their order, as a server writes to this writer.
 fn are_two_answered<R: Threads + Wait + Sync + AllocGlobal>(
     rt: &R,
     writer: &mut FakeWriter,
 ) -> Result<bool, Fail> {
-    let ended = serve_texts(rt, &["", BYE, MOVE], 2, writer)?;
+    let ended = serve_texts(rt, &[MOVE, BYE, ""], 2, writer)?;
     Ok(are_answered_so(&ended, &[(1, GRANTED), (2, LEFT)]))
 }
 
