@@ -1,50 +1,12 @@
 //! Scripts over sinks in memory: what is refused once a put has failed, and what the sink has then.
 use mml_fakes::FakeWriter;
 use mml_fakes::labs::PATH_OF_THREE;
-use mml_fakes::scripts::TEN_LINES;
+use mml_fakes::scripts::{GREETINGS, TEN_ACTS, TEN_GRANTS, TEN_LINES, WELCOMES};
 use mml_hall::{Hall, run_script};
 use mml_journal::{MemorySink, Sink, SinkFault};
 use mml_lab::read_lab;
 use std::alloc::Global;
 use std::test::Fail;
-
-/// The greetings of all four.
-const GREETINGS: &str = r#"1 {"do":"hello","key":"a-key","name":"ana"}
-2 {"do":"hello","key":"b-key","name":"ben"}
-3 {"do":"hello","key":"c-key","name":"cyd"}
-4 {"do":"hello","key":"chalk","name":"tess"}
-"#;
-
-const WELCOMES: &str = r#"1 {"ok":"hello","who":"ana"}
-2 {"ok":"hello","who":"ben"}
-3 {"ok":"hello","who":"cyd"}
-4 {"ok":"hello","who":"tess"}
-"#;
-
-/// Ten acts that are granted.
-const TEN_ACTS: &str = r#"1 {"at":0,"do":"move","node":1,"rule":"seduction"}
-2 {"at":0,"do":"move","node":2,"rule":"seduction"}
-4 {"do":"close"}
-3 {"at":1,"do":"move","node":3,"rule":"marriage","with":2}
-4 {"do":"close"}
-2 {"at":2,"do":"move","node":2,"rule":"update"}
-3 {"at":2,"do":"move","node":3,"rule":"update"}
-4 {"do":"close"}
-1 {"at":3,"do":"move","node":1,"rule":"abandonment"}
-4 {"do":"close"}
-"#;
-
-const TEN_GRANTS: &str = r#"1 {"at":0,"node":1,"ok":"move","place":1,"rule":"seduction"}
-2 {"at":0,"node":2,"ok":"move","place":2,"rule":"seduction"}
-4 {"at":1,"moved":[1,2],"ok":"close","place":3}
-3 {"at":1,"node":3,"ok":"move","place":4,"rule":"marriage"}
-4 {"at":2,"moved":[3],"ok":"close","place":5}
-2 {"at":2,"node":2,"ok":"move","place":6,"rule":"update"}
-3 {"at":2,"node":3,"ok":"move","place":7,"rule":"update"}
-4 {"at":3,"moved":[2,3],"ok":"close","place":8}
-1 {"at":3,"node":1,"ok":"move","place":9,"rule":"abandonment"}
-4 {"at":4,"moved":[1],"ok":"close","place":10}
-"#;
 
 /// A sink that takes one byte a put, and after so many fails for good.
 #[derive(Drop)]

@@ -110,3 +110,63 @@ fn refusals_of_an_act_lose_nothing(rt: HostRuntime) -> Result<(), Fail> {
     );
     Ok(())
 }
+
+/// The first act with that request refused, and then another one, for which none is.
+#[derive(Clone, Copy)]
+struct Instead {
+    nth: usize,
+    is_there: bool,
+}
+
+impl Visit<NullSink> for Instead {
+    /// Whether the first was granted, where the other then has the next place.
+    type Told = Option<bool>;
+
+    fn visit<H: House, R: Wait>(
+        &self,
+        rt: &R,
+        alloc: Global,
+        desk: &Desk<NullSink, H>,
+        window: &mut Window<H>,
+    ) -> Option<bool> {
+        refuse(alloc, self.nth);
+        let first = desk.ask(rt, alloc, window, asker(1), &act(1));
+        let was_none = was_none_refused(alloc, self.is_there);
+        let second = desk.ask(rt, alloc, window, asker(2), &act(2));
+        let was_granted = is_granted(&first, 1);
+        let is_told = was_granted || (is_memory(&first) && !was_none);
+        let is_next = is_granted(&second, if was_granted { 2 } else { 1 });
+        (is_told && is_next).then_some(was_granted)
+    }
+}
+
+/// How often the first act was refused before it was granted, where of it and the other just those that
+/// were granted are events.
+fn told_of_another<R: Wait>(rt: &R, alloc: Global, is_there: bool) -> Result<Option<usize>, Fail> {
+    for nth in 1..MOST {
+        let (told, end) = visit_path(rt, alloc, NullSink::new(), &Instead { nth, is_there })?;
+        let Some(was_granted) = told.flatten() else {
+            return Ok(None);
+        };
+        let wanted = Ending::Log {
+            events: if was_granted { 2 } else { 1 },
+            number: 0,
+            halted: false,
+        };
+        if ending_of(&end) != wanted {
+            return Ok(None);
+        }
+        if was_granted {
+            return Ok(Some(nth - 1));
+        }
+    }
+    Ok(None)
+}
+
+#[test]
+fn refusals_of_an_act_leave_nothing_to_the_next(rt: HostRuntime) -> Result<(), Fail> {
+    let is_there = is_there(rt.alloc());
+    let refused = told_of_another(&rt, rt.alloc(), is_there)?;
+    assert_eq!(rt; refused.map(|count| count > 0), Some(is_there));
+    Ok(())
+}
