@@ -1,58 +1,19 @@
 //! Sessions in threads of their own, held at each line and each reply until the others are there.
 mod steps;
 
-ghost use Rattle.std.specs.Prelude.{◌≡◌, ◌≤◌, length};
-ghost use Rattle.mml_window.specs.Houses.{house_of};
-
-use mml_fakes::FakeReader;
 use mml_fakes::labs::PATH_OF_THREE;
 use mml_fakes::meeting::Meeting;
 use mml_journal::MemorySink;
 use mml_lab::read_lab;
-use mml_session::{Connection, Gate, Point, ServedHouse, SessionEnd, serve_house};
-use mml_window::{Blank, Brand, House, open_house};
-use std::alloc::{AllocError, Global};
+use mml_serving::{ServedHouse, serve_arrivals};
+use mml_session::{Gate, Point, SessionEnd};
+use std::alloc::Global;
 use std::sync::Wait;
 use std::test::Fail;
 use std::thread::Threads;
 use steps::{Hold, Steps};
 
-type Talks<'a> = Vec<Connection<FakeReader<'a>, Vec<u8>>>;
-
-type Ended<'a> = ServedHouse<MemorySink, FakeReader<'a>, Vec<u8>>;
-
-/// Connections that are numbered from 1 on and ask these scripts.
-fn talks<'a>(alloc: Global, scripts: &[&'a str]) -> Result<Talks<'a>, AllocError> {
-    let mut talks = Vec::new(alloc);
-    let mut number = 0u8;
-    for script in scripts {
-        number = number.saturating_add(1);
-        let mut reader = FakeReader::failing_after(usize::MAX, script.as_bytes());
-        reader.step = usize::MAX;
-        talks.push(Connection {
-            number,
-            reader,
-            writer: Vec::new(alloc),
-        })?;
-    }
-    Ok(talks)
-}
-
-fn serve_in<'a, H: House + Send + Sync, R: Threads + Wait + Sync, G: Gate + Sync>(
-    rt: &R,
-    alloc: Global,
-    blank: Blank<MemorySink>,
-    talks: Talks<'a>,
-    gate: &G,
-) -> Result<Ended<'a>, Fail>
-    requires named { blank ≡ house_of H.name H.lab }
-    requires few { length talks.items ≤ H.lab.sessions }
-{
-    match serve_house::<_, _, H, _, _, _>(rt, alloc, blank, talks, gate) {
-        Ok(ended) => Ok(ended),
-        Err(_) => Err(Fail::from("memory was refused, or places went astray")),
-    }
-}
+type Ended<'a> = ServedHouse<MemorySink, &'a [u8], Vec<u8>>;
 
 /// What comes of sessions with these scripts over the lab that a file spells.
 fn serve<'a, R: Threads + Wait + Sync, G: Gate + Sync>(
@@ -63,12 +24,21 @@ fn serve<'a, R: Threads + Wait + Sync, G: Gate + Sync>(
     gate: &G,
 ) -> Result<Ended<'a>, Fail> {
     let lab = read_lab(alloc, file.as_bytes())?;
-    let talks = talks(alloc, scripts)?;
-    if talks.len() > usize::from(lab.sessions()) {
+    if scripts.len() > usize::from(lab.sessions()) {
         return Err(Fail::from("more scripts than sessions"));
     }
-    let blank = open_house(rt, alloc, lab, MemorySink::new(alloc, None))?;
-    serve_in::<Brand, _, _>(rt, alloc, blank, talks, gate)
+    let connections = scripts.len() as u8;
+    let mut talks = Vec::new(alloc);
+    for script in scripts {
+        talks.push((script.as_bytes(), Vec::new(alloc)))?;
+    }
+    let sink = MemorySink::new(alloc, None);
+    let mut last = Vec::new(alloc);
+    let arrivals = talks.into_iter();
+    match serve_arrivals(rt, alloc, lab, arrivals, connections, sink, gate, &mut last) {
+        Ok(ended) => Ok(ended),
+        Err(_) => Err(Fail::from("memory was refused, or places went astray")),
+    }
 }
 
 /// Whether each session ended so, and the last reply to each before its bye is the one that is wanted.
