@@ -131,11 +131,13 @@ fn cuts_of_the_reads_change_nothing(rt: HostRuntime) -> Result<(), Fail> {
 }
 
 // After how many good reads of a byte what is told.
-const FAILED_READS: [(usize, &str); 8] = [
+const FAILED_READS: [(usize, &str); 10] = [
     (0, "ReadFault \n"),
+    (1, "ReadFault \n"),
     (2, "ReadFault \n"),
     (3, "Line ab\nReadFault \n"),
     (4, "Line ab\nLine \nReadFault \n"),
+    (5, "Line ab\nLine \nReadFault \n"),
     (6, "Line ab\nLine \nReadFault \n"),
     (7, "Line ab\nLine \nLine cd\nReadFault \n"),
     (8, "Line ab\nLine \nLine cd\nReadFault \n"),
