@@ -18,6 +18,14 @@ def rows() -> Iterator[tuple[int, int, str, str]]:
         yield int(own.rpartition(":")[2], 16), int(other.rpartition(":")[2], 16), state, words[9]
 
 
+def leads_to(end: Path, wanted: str) -> bool:
+    """Whether a descriptor is that, while its process opens and closes others."""
+    try:
+        return os.readlink(end) == wanted
+    except FileNotFoundError:
+        return False
+
+
 def owner(number: str, students: Iterable[str]) -> str:
     """Whose the client's end of a connection is: the student that the process was called with, and the process.
     Of a process that this one may not look into, or of another machine's, nothing is known."""
@@ -26,7 +34,7 @@ def owner(number: str, students: Iterable[str]) -> str:
         if not process.name.isdecimal():
             continue
         try:
-            if any(os.readlink(end) == wanted for end in (process / "fd").iterdir()):
+            if any(leads_to(end, wanted) for end in (process / "fd").iterdir()):
                 words = (process / "cmdline").read_bytes().decode(errors="replace").split("\0")
                 named = next((word for word in words if word in students), None)
                 program = (process / "comm").read_text(encoding="utf-8", errors="replace").strip()
