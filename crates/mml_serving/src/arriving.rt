@@ -4,6 +4,7 @@ ghost use Rattle.std.specs.Vec.Iter.{into_iter_items};
 ghost use Rattle.mml_serving.specs.Arriving.{Takes};
 
 use crate::socket::Socket;
+use std::collections::VecDeque;
 use std::io;
 use std::io::{ErrorKind, Read, Write};
 use std::net::TcpListener;
@@ -64,6 +65,11 @@ impl<R: Read + Drop, W: Write + Drop> Arrivals<R, W> for IntoIter<(R, W)> {
 
 /// Bytes in memory.
 impl<'a> LetGo for &'a [u8] {
+    fn let_go(&mut self) {}
+}
+
+/// Bytes in memory that are taken from its front.
+impl LetGo for VecDeque<u8> {
     fn let_go(&mut self) {}
 }
 
