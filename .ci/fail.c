@@ -6,20 +6,11 @@
    byte at most instead. FAIL_COUNTS=FILE keeps two numbers of eight bytes in FILE: how many calls of the kind
    were made, and how many failed or were cut short. */
 
-typedef unsigned long size_t;
-typedef unsigned long word;
+#include "preload.h"
 
 extern void *dlsym(void *, const char *);
-extern char *getenv(const char *);
-extern int close(int);
-extern void *mmap(void *, size_t, int, int, int, long);
-extern void abort(void);
-extern int *__errno_location(void);
 
 #define NEXT ((void *)-1l)
-#define READ_WRITE 2
-#define READ_AND_WRITE 3
-#define SHARED 1
 #define CREATE 0x40
 
 enum how { AS_ASKED, SHORT, FAILED };
@@ -94,22 +85,9 @@ int pthread_create(void *thread, const void *attributes, void *(*body)(void *), 
     return meets('t') == FAILED ? (int)with : next(thread, attributes, body, given);
 }
 
-static word number(const char *name) {
-    const char *text = getenv(name);
-    word value = 0;
-    for (; text && *text >= '0' && *text <= '9'; text++) value = 10 * value + (word)(*text - '0');
-    return value;
-}
-
 __attribute__((constructor)) static void begin(void) {
-    const char *file = getenv("FAIL_COUNTS"), *of = getenv("FAIL");
-    if (file) {
-        int opened = open(file, READ_WRITE);
-        void *shared = mmap(0, sizeof own, READ_AND_WRITE, SHARED, opened, 0);
-        if (opened < 0 || shared == (void *)-1) abort();
-        close(opened);
-        counts = shared;
-    }
+    const char *of = getenv("FAIL");
+    counts = shared_with("FAIL_COUNTS", &own, sizeof own);
     at = number("FAIL_AT");
     with = number("FAIL_WITH");
     is_short = number("FAIL_SHORT");

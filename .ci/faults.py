@@ -4,8 +4,8 @@
 
 Of each use, runs are made in which the first, the second, .. call of a kind fails, is interrupted by a
 signal, takes nothing or does only one byte, until a run has no such call. What the program writes, its
-status and its fault line are those of `docs/LAB.md`: an interrupted call changes nothing, and one that
-fails for want of memory is told as that, but for a line of the journal. The replies before are a plain
+status and its error line are those of `docs/LAB.md`: an interrupted call changes nothing, and one that
+finds no memory is told as that, but for a line of the journal. The replies before are a plain
 run's, and so is the journal, whose whole lines pass the audit. A server that a signal ends leaves the same.
 """
 import signal
@@ -38,7 +38,7 @@ class Kind:
         return self.is_short or self.error == EINTR
 
     def fault(self, line: str, out: bytes = b"") -> Ended:
-        """An end at this fault, which has that line where it isn't want of memory."""
+        """An end at this error, which has that line where it isn't out of memory."""
         return told("out of memory", 5, out) if self.error == ENOMEM else told(line, 4, out)
 
     def __str__(self) -> str:
@@ -52,12 +52,12 @@ OPENS = [Kind("open", ENOMEM)]
 ACCEPTS = [Kind("accept", EMFILE), Kind("accept", ENOMEM)]
 THREADS = [Kind("thread", EAGAIN)]
 
-# What is wrong with the run of a use in which the nth call of a kind met its fault, if anything.
+# What is wrong with the run of a use in which the nth call of a kind met its error, if anything.
 Use = Callable[[Kind, int, dict[str, str]], str]
 
 
 def told(line: str, status: int = 4, out: bytes = b"") -> Ended:
-    """An end with a fault line."""
+    """An end with an error line."""
     return Ended(status, out, line.encode() + b"\n")
 
 
@@ -81,7 +81,7 @@ class Reads:
         self.of_lab = library.counts()[0]
 
     def fault(self, nth: int, then: str) -> str:
-        """The fault line of the nth read, where a file of that name is read after the lab."""
+        """The error line of the nth read, where a file of that name is read after the lab."""
         return "read fault: lab" if nth <= self.of_lab else f"read fault: {then}"
 
 
@@ -249,11 +249,11 @@ class Served:
         )
 
     def hung_up(self, kind: Kind, talk: Talk, lost: frozenset[int]) -> str:
-        """Of a run in which a connection ended at a fault; lines were granted whose replies are lost."""
+        """Of a run in which a connection ended at an error; lines were granted whose replies are lost."""
         closed = {self.story.lines[at].split(b" ", 1)[0] for at in talk.unasked}
         unasked = talk.unasked - lost
         done = self.done(talk.journal)
-        # Want of memory is told at the end, but for a read after the session, whose bytes nobody wants.
+        # Out of memory is told at the end, but for a read after the session, whose bytes nobody wants.
         well = kind.error != ENOMEM or (not closed and talk.ended.status == 0)
         return (
             ("two connections were closed" if len(closed) > 1 else "")
@@ -290,7 +290,7 @@ class Served:
 
 
 def fail_all(name: str, use: Use, kinds: list[Kind], library: Preloaded) -> str:
-    """Makes all runs of a use, and tells how many faults they met."""
+    """Makes all runs of a use, and tells how many errors they met."""
     met = 0
     for kind in kinds:
         for nth in range(1, MOST):

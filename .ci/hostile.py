@@ -23,6 +23,9 @@ from preload import LIMIT, Client, Ended, Server, Story, built_in, fail, in_room
 
 SECONDS = 20.0
 SILENCE = 61.0
+QUIET = 300.0
+UNREAD = 10.0
+OVER_HOST = "host" in sys.argv[1:]
 MOST_LINES = 18_000
 PAUSE = 0.001
 SEE = b'{"do":"see","node":1}\n'
@@ -75,14 +78,19 @@ def long_line(port: int, until: float, draw: random.Random) -> str:
 
 
 def half_line(port: int, until: float, draw: random.Random) -> str:
-    """A line, half a line, and the rest at the end: silence after a line doesn't end a connection."""
+    """A line in two halves, the second at the end or after minutes, since a host bears ten without a line."""
     middle = draw.randrange(1, len(SEE) - 1)
     with opened(port) as it, it.makefile("rb") as replies:
-        it.sendall(SEE + SEE[:middle])
+        it.sendall(SEE)
         replies.readline()
-        time.sleep(max(0.0, until - time.monotonic()))
-        it.sendall(SEE[middle:])
-        return "" if replies.readline() == NOT_GREETED else "a line in two halves wasn't answered"
+        while True:
+            it.sendall(SEE[:middle])
+            time.sleep(max(0.0, min(until - time.monotonic(), QUIET)))
+            it.sendall(SEE[middle:])
+            if replies.readline() != NOT_GREETED:
+                return "a line in two halves wasn't answered"
+            if time.monotonic() >= until:
+                return ""
 
 
 def byte_by_byte(port: int, until: float, draw: random.Random) -> str:
@@ -106,18 +114,33 @@ def reset(port: int, until: float, draw: random.Random) -> str:
     return ""
 
 
-def flood(port: int, until: float, draw: random.Random) -> str:
-    """Requests without end, whose replies nobody reads: for less than the ten seconds after which a host gives up."""
-    with opened(port) as it:
-        it.setblocking(False)
-        sent = 0
+def pour(port: int, until: float, draw: random.Random) -> int:
+    """Requests until that time or until the connection is ended, whose replies nobody reads. Tells how many bytes
+    were taken."""
+    caller, _ = let_in(port, SEE)
+    caller.socket.setblocking(False)
+    sent = 0
+    try:
         while time.monotonic() < until:
             try:
-                sent += it.send(SEE * draw.randrange(1, 100))
+                sent += caller.socket.send(SEE * draw.randrange(1, 100))
             except BlockingIOError:
                 time.sleep(0.01)
-            except ConnectionError:
-                return "a connection that doesn't read was ended"
+    except ConnectionError:
+        pass
+    finally:
+        caller.close()
+    return sent
+
+
+def flood(port: int, until: float, draw: random.Random) -> str:
+    """Requests without end, whose replies nobody reads. A host ends that after ten seconds, and it comes again."""
+    sent = 0
+    while (begun := time.monotonic()) < until:
+        sent += pour(port, until, draw)
+        now = time.monotonic()
+        if now < until and (not OVER_HOST or now - begun < UNREAD):
+            return "a connection that doesn't read was ended"
     return "" if sent > 100_000 else "nothing was taken of a flood"
 
 
@@ -198,7 +221,7 @@ class Honest:
 def serving(lab: Path, connections: int) -> Program:
     """A server for so many connections, or a host."""
     server: Program
-    if "host" in sys.argv[1:]:
+    if OVER_HOST:
         server = Host(lab, 0, 0)
     else:
         server = Server(lambda port: ["serve", str(lab), str(port), str(connections)], {})
@@ -298,14 +321,14 @@ def work(room: Path) -> str:
     """Late readers, a quiet run, and one beside the hostile clients; and over a server a silent client all along."""
     numbers = [float(word) for word in sys.argv[1:] if word != "host"]
     seconds = numbers[0] if numbers else SECONDS
-    if "host" in sys.argv[1:] and not HOST.is_file():
+    if OVER_HOST and not HOST.is_file():
         fail("no host's program is built")
     lab = room / "hostile.toml"
     text = built_in(room).read_text(encoding="utf-8")
     limits = text.replace("sessions = 4\n", "sessions = 16\n").replace("events = 100\n", "events = 100000\n")
     lab.write_text(limits, encoding="utf-8")
     story = Story(lab, honest_lines(), room)
-    silent = None if "host" in sys.argv[1:] else Silent(lab)
+    silent = None if OVER_HOST else Silent(lab)
     late(lab)
 
     server, honest = served(story, 2)

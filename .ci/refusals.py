@@ -32,7 +32,7 @@ Use = Callable[[dict[str, str]], Tried]
 
 
 def memories(replies: list[bytes]) -> int:
-    """How many of these replies tell want of memory."""
+    """How many of these replies tell out of memory."""
     return sum(reply.endswith(b'{"refuse":"memory"}\n') for reply in replies)
 
 

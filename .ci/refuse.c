@@ -8,22 +8,12 @@
    themselves and begin the counts anew. MADE + N is granted exactly where N requests were made since,
    and MET + N where N were refused. None of these five is counted. */
 
-typedef unsigned long size_t;
-typedef unsigned long word;
+#include "preload.h"
 
 extern void *__libc_malloc(size_t);
 extern void *__libc_calloc(size_t, size_t);
 extern void *__libc_realloc(void *, size_t);
-extern char *getenv(const char *);
-extern int open(const char *, int, ...);
-extern int close(int);
-extern void *mmap(void *, size_t, int, int, int, long);
-extern void abort(void);
-extern int *__errno_location(void);
 
-#define READ_WRITE 2
-#define READ_AND_WRITE 3
-#define SHARED 1
 #define NO_MEMORY 12
 #define KIND(bytes) ((bytes) >> 56)
 #define NUMBER(bytes) ((bytes) & 0xffffffff)
@@ -72,21 +62,7 @@ void *calloc(size_t many, size_t bytes) { return refuses(1) ? 0 : __libc_calloc(
 
 void *realloc(void *old, size_t bytes) { return refuses(bytes) ? 0 : __libc_realloc(old, bytes); }
 
-static word number(const char *name) {
-    const char *text = getenv(name);
-    word value = 0;
-    for (; text && *text >= '0' && *text <= '9'; text++) value = 10 * value + (word)(*text - '0');
-    return value;
-}
-
 __attribute__((constructor)) static void begin(void) {
-    const char *file = getenv("REFUSE_COUNTS");
-    if (file) {
-        int opened = open(file, READ_WRITE);
-        void *shared = mmap(0, sizeof own, READ_AND_WRITE, SHARED, opened, 0);
-        if (opened < 0 || shared == (void *)-1) abort();
-        close(opened);
-        counts = shared;
-    }
+    counts = shared_with("REFUSE_COUNTS", &own, sizeof own);
     arm(number("REFUSE"), number("REFUSE_FROM"));
 }

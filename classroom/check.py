@@ -26,7 +26,7 @@ GUESSES = 100_000  # a second, over one machine's loopback
 
 
 def refused(path: Path, error: str) -> Iterator[str]:
-    """The program's fault line, with the identifier, the line and its text, and the key that was meant."""
+    """The program's error line, with the identifier, the line and its text, and the key that was meant."""
     text = path.read_bytes().decode("utf-8-sig", errors="replace")
     yield f"{path}: {error}"
     line, what = standing(text, error)
@@ -38,7 +38,7 @@ def refused(path: Path, error: str) -> Iterator[str]:
 
 
 def standing(text: str, error: str) -> tuple[int | None, str]:
-    """The line that a fault is about, and the identifier of its node."""
+    """The line that an error is about, and the identifier of its node."""
     if error == "lab: not a TOML document":
         try:
             tomllib.loads(text)

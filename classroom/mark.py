@@ -72,7 +72,7 @@ def marked(lab_file: Path, journal: Path) -> Run:
 
 
 def refusal(journal: Path, error: str) -> str:
-    """The audit's fault line, with the text of the line that it names."""
+    """The audit's error line, with the text of the line that it names."""
     line = re.match(r"audit: line (\d+)", error)
     if line is None:
         return f"{journal}: {error}"

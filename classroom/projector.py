@@ -72,7 +72,7 @@ class Pages(ThreadingHTTPServer):
             present.turn.notify_all()
 
     def handle_error(self, request: Any, client_address: Any) -> None:
-        """A page that went away is no fault."""
+        """A page that went away is no error."""
 
 
 class Page(BaseHTTPRequestHandler):

@@ -24,8 +24,12 @@ from classroom.watch import Watch
 
 TICK = 0.1
 PATIENCE = 60.0  # seconds for the server's end after the teacher's bye
-HELP = ("close, fault N P M, link A B, cut A B, release N, report, wait, every SECONDS, when-idle SECONDS, by-hand, "
-        "end")
+# The words that the teacher types, each with its form.
+FORMS = {it.split()[0]: it for it in (
+    "close", "fault NODE NEIGHBOUR|null true|false", "link NODE NODE", "cut NODE NODE", "release NODE", "report", "wait",
+    "every SECONDS", "when-idle SECONDS", "by-hand", "end",
+)}
+HELP = ", ".join(FORMS.values())
 
 
 class Teller:
@@ -80,6 +84,18 @@ def mode(word: str) -> Closing:
 def spelled(how: Closing) -> str:
     """How steps are closed, as a word."""
     return how[0] if how[0] == "by-hand" else f"{how[0]}:{how[1]:g}"
+
+
+def listed(report: Report) -> str:
+    """A report as a line."""
+    lists = {
+        "pairs": [f"{a}-{b}" for a, b in report.pairs],
+        "free": [str(node) for node in report.free],
+        "privileged": [f"{node} ({rule})" for node, rule in report.privileged],
+        "open": [f"{a}-{b} ({node} {rule})" for a, b, node, rule in report.open],
+    }
+    told = "; ".join(f"{name} {', '.join(them)}" for name, them in lists.items() if them)
+    return f"configuration {report.at}, {'' if report.stable else 'not '}stable: {told}"
 
 
 def new_folder(into: Path, lab: Path) -> Path:
@@ -181,10 +197,10 @@ class Desk:
                 self.client.close()
             elif word == "report":
                 self.report = self.client.report()
-                self.tell(str(self.report))
+                self.tell(listed(self.report))
             elif word == "wait":
-                self.told_waiting = ""
-                self.tell_waiting()
+                self.told_waiting = self.waiting()
+                self.tell(f"waiting for {self.told_waiting or 'nobody'}")
             elif word in ("every", "when-idle", "by-hand"):
                 self.close_by(":".join([word, *rest]))
             else:
@@ -192,7 +208,7 @@ class Desk:
         except (Denied, Refused) as no:
             self.tell(f"no: {no}")
         except (ValueError, IndexError):
-            self.tell(f"not understood; words: {HELP}")
+            self.tell(f"not understood; it is {FORMS[word]}" if word in FORMS else f"not understood; words: {HELP}")
         return True
 
     def close_by(self, word: str) -> None:

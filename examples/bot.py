@@ -6,6 +6,8 @@ from pathlib import Path
 sys.path.append(str(Path(__file__).resolve().parent.parent / "classroom"))
 from client import Client, Closed, Denied, Refused
 
+if len(sys.argv) < 5:
+    sys.exit(__doc__)
 port, name, key, nodes, *patience = sys.argv[1:]
 try:
     with Client(int(port), name, key) as me:

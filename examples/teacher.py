@@ -10,6 +10,8 @@ sys.path.append(str(Path(__file__).resolve().parent.parent / "classroom"))
 from client import Client, Denied
 
 PAUSE = 0.5  # seconds for the students before each close
+if len(sys.argv) < 4:
+    sys.exit(__doc__)
 port, name, key, *lab = sys.argv[1:]
 owners: dict[int, list[str]] = {}
 for node in tomllib.loads(Path(lab[0]).read_text(encoding="utf-8-sig"))["node"] if lab else []:

@@ -1,14 +1,17 @@
 """What the tests share: calls of `./class`, labs, and clients of runs that are going on."""
 from __future__ import annotations
 
+import fcntl
 import json
 import os
+import pty
 import random
 import re
 import signal
 import subprocess
 import sys
 import tempfile
+import termios
 import unittest
 from pathlib import Path
 
@@ -100,6 +103,31 @@ class Going:
                     pipe.close()
                 except OSError:
                     pass
+
+
+class InTerminal:
+    """A run over the cycle in a terminal of its own, up to its words."""
+
+    def __init__(self, test: InRoom) -> None:
+        self.ours, theirs = pty.openpty()
+        self.process = subprocess.Popen(
+            [sys.executable, TOP / "class", "run", CYCLE, "--into", test.room / "runs", "--close", "by-hand"],
+            stdin=theirs, stdout=theirs, stderr=theirs, start_new_session=True,
+            preexec_fn=lambda: fcntl.ioctl(0, termios.TIOCSCTTY, 0),
+        )
+        os.close(theirs)
+        self.text = b""
+        self.until(b"words: ")
+
+    def until(self, wanted: bytes) -> None:
+        """Reads until that was written."""
+        while wanted not in self.text:
+            self.text += os.read(self.ours, 4096)
+
+    def type(self, line: bytes, wanted: bytes) -> None:
+        """Types a line, and reads until that was written."""
+        os.write(self.ours, line)
+        self.until(wanted)
 
 
 class Cycle(InRoom):

@@ -1,10 +1,8 @@
 """What can go wrong in a run: kills, a full disk, terminals that go away, no place, bots that race and guess."""
 from __future__ import annotations
 
-import fcntl
 import json
 import os
-import pty
 import re
 import secrets
 import shutil
@@ -12,7 +10,6 @@ import signal
 import socket
 import subprocess
 import sys
-import termios
 import threading
 import unittest
 from collections import Counter
@@ -22,8 +19,8 @@ from pathlib import Path
 from classroom import run
 from classroom.client import Client, Closed, Refused
 from classroom.connected import Connected
-from classroom.program import TOP, host
-from classroom.tests.help import CYCLE, EXAMPLES, KEYS, LIMIT, Cycle, Going
+from classroom.program import host
+from classroom.tests.help import CYCLE, EXAMPLES, KEYS, LIMIT, Cycle, Going, InTerminal
 
 MOUNT = "mount -t tmpfs -o size=128k tmpfs \"$1\" && shift && exec \"$@\""
 
@@ -124,21 +121,10 @@ class Broken(Cycle):
         self.assertRegex(lines[-1], "No space left on device; the journal is .*/journal$")
 
     def test_a_terminal_that_goes_away(self) -> None:
-        ours, theirs = pty.openpty()
-        process = subprocess.Popen(
-            [sys.executable, TOP / "class", "run", CYCLE, "--into", self.room / "runs", "--close", "by-hand"],
-            stdin=theirs, stdout=theirs, stderr=theirs, start_new_session=True,
-            preexec_fn=lambda: fcntl.ioctl(0, termios.TIOCSCTTY, 0),
-        )
-        os.close(theirs)
-        text = b""
-        while b"words: " not in text:
-            text += os.read(ours, 4096)
-        os.write(ours, b"fault 1 2 true\n")
-        while b" 0 of at most 35 moves" not in text:
-            text += os.read(ours, 4096)
-        os.close(ours)
-        self.assertEqual(process.wait(LIMIT), 0)
+        terminal = InTerminal(self)
+        terminal.type(b"fault 1 2 true\n", b" 0 of at most 35 moves")
+        os.close(terminal.ours)
+        self.assertEqual(terminal.process.wait(LIMIT), 0)
         self.assertEqual(self.whole(next((self.room / "runs").iterdir())), 1)
 
     def test_nobody_reads_any_more(self) -> None:
@@ -169,6 +155,13 @@ class Broken(Cycle):
                                  timeout=LIMIT, check=False)
             self.assertEqual((bot.returncode, bot.stdout), (0, "gus busy: all places are taken; come again later\n"))
             away.join()
+
+    def test_programs_of_the_examples_tell_their_words(self) -> None:
+        for name in ("bot.py", "teacher.py"):
+            said = subprocess.run([sys.executable, EXAMPLES / name, "--help"], capture_output=True, text=True, timeout=LIMIT, check=False)
+            self.assertEqual((said.returncode, said.stdout), (1, ""))
+            self.assertIn(f"{name} PORT NAME KEY", said.stderr)
+            self.assertNotIn("Traceback", said.stderr)
 
     def test_all_places_are_taken(self) -> None:
         going = Going(self, self.lab("cycle.toml", 3), "--close", "by-hand")

@@ -6,34 +6,21 @@ import unittest
 from classroom.check import bits
 from classroom.tests.help import EXAMPLES, InRoom, words
 
-GOOD = """events = 1000
-sessions = 4
-links = [[11, 12], [12, 17]]
 
-[teacher]
-name = "tess"
-key = "0f3b5a7c9d1e2f48a6b8c0d2e4f61357"
+def table(head: str, *lines: str) -> str:
+    """A table of a lab's file, behind an empty line."""
+    return "\n".join(("", head, *lines, ""))
 
-[[student]]
-name = "ana"
-key = "1f3b5a7c9d1e2f48a6b8c0d2e4f61357"
 
-[[student]]
-name = "jonas"
-key = "2f3b5a7c9d1e2f48a6b8c0d2e4f61357"
-
-[[node]]
-id = 11
-owner = "ana"
-
-[[node]]
-id = 12
-owners = ["ana", "jonas"]
-
-[[node]]
-id = 17
-owner = "jonas"
-"""
+GOOD = "".join((
+    "events = 1000\nsessions = 4\nlinks = [[11, 12], [12, 17]]\n",
+    table("[teacher]", 'name = "tess"', 'key = "0f3b5a7c9d1e2f48a6b8c0d2e4f61357"'),
+    table("[[student]]", 'name = "ana"', 'key = "1f3b5a7c9d1e2f48a6b8c0d2e4f61357"'),
+    table("[[student]]", 'name = "jonas"', 'key = "2f3b5a7c9d1e2f48a6b8c0d2e4f61357"'),
+    table("[[node]]", "id = 11", 'owner = "ana"'),
+    table("[[node]]", "id = 12", 'owners = ["ana", "jonas"]'),
+    table("[[node]]", "id = 17", 'owner = "jonas"'),
+))
 
 
 class Check(InRoom):

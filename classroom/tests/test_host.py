@@ -1,22 +1,17 @@
 """`./class run` over the built host: its places go from one connection to the next."""
 from __future__ import annotations
 
-import fcntl
 import json
 import os
-import pty
 import re
-import subprocess
-import sys
-import termios
 import time
 import unittest
 from pathlib import Path
 
 from classroom.client import Client, Closed, Refused
 from classroom.lab import read
-from classroom.program import TOP, host
-from classroom.tests.help import CYCLE, KEYS, LIMIT, Cycle, Going, words
+from classroom.program import host
+from classroom.tests.help import CYCLE, KEYS, LIMIT, Cycle, Going, InTerminal, words
 
 TEACHER = read(CYCLE).teacher
 
@@ -124,24 +119,11 @@ class Hosted(Cycle):
         self.assertEqual(json.loads(marks.stdout)["runs"][0]["events"], 2)
 
     def test_an_interrupt_in_a_terminal(self) -> None:
-        ours, theirs = pty.openpty()
-        process = subprocess.Popen(
-            [sys.executable, TOP / "class", "run", CYCLE, "--into", self.room / "runs", "--close", "by-hand"],
-            stdin=theirs, stdout=theirs, stderr=theirs, start_new_session=True,
-            preexec_fn=lambda: fcntl.ioctl(0, termios.TIOCSCTTY, 0),
-        )
-        os.close(theirs)
-        text = b""
-        while b"words: " not in text:
-            text += os.read(ours, 4096)
-        os.write(ours, b"fault 1 2 true\n")
-        while b"fault 1 2 true;" not in text:
-            text += os.read(ours, 4096)
-        os.write(ours, b"\x03")
-        while b"all of it is in " not in text:
-            text += os.read(ours, 4096)
-        self.assertEqual(process.wait(LIMIT), 0)
-        os.close(ours)
+        terminal = InTerminal(self)
+        terminal.type(b"fault 1 2 true\n", b"fault 1 2 true;")
+        terminal.type(b"\x03", b"all of it is in ")
+        self.assertEqual(terminal.process.wait(LIMIT), 0)
+        os.close(terminal.ours)
         folder = next((self.room / "runs").iterdir())
         self.assertEqual(self.whole(folder), 1)
         self.assertEqual((folder / "server.txt").read_text(encoding="utf-8"), "done: 1 events, configuration 1\n")

@@ -1,7 +1,9 @@
 -- What the rows of bits beside a network say, and how they follow its changes.
-use Rattle.std.proofs.Common.{◌≡◌, ℕ, ◌<◌, ◌≤◌, ◌+◌, Bool, true, false, cond, not, ◌&&◌, ◌||◌, eqb, ltb, Option, None, Some, is_none, is_some, List, length, ◌++◌, take, set, sym, refl, ap, ◌∙◌, subst, arith, inl, inr, length-set}
+use Rattle.std.proofs.Common.{◌≡◌, ℕ, ◌<◌, ◌≤◌, ◌+◌, Bool, true, false, cond, not, ◌&&◌, ◌||◌, eqb, ltb, Option, None, Some, is_none, is_some, List, length}
+use Rattle.std.proofs.Common.{◌++◌, take, set, sym, refl, ap, ◌∙◌, subst, arith, inl, inr, length-set}
 use Rattle.std.specs.Prelude.{replicate, IfSome, IfNone}
-use Rattle.std.proofs.lemmas.Bool.{cases_eq, cases_lt, eq-eqb, ne_eqb, eqb-true, eqb-false, lt-ltb, le-ltb, and_right, and_parts, and_from, both_ways, false_from_ne_true}
+use Rattle.std.proofs.lemmas.Bool.{cases_eq, cases_lt, eq-eqb, ne_eqb, eqb-true, eqb-false, lt-ltb, le-ltb, and_right, and_parts, and_from, both_ways}
+use Rattle.std.proofs.lemmas.Bool.{false_from_ne_true}
 use Rattle.std.proofs.lemmas.List.{get_or-replicate, length-replicate, take_at}
 use Rattle.std.specs.FinSet as sets
 use Rattle.std.specs.FinSet.{FinSet}
@@ -11,13 +13,14 @@ use Rattle.mml_ids.specs.declared.TheConstants.{MAX_NODES}
 use Rattle.mml_ids.specs.Search.{greatest_below}
 use Rattle.mml_ids.proofs.SearchLemmas.{greatest_is, greatest_below-some}
 use Rattle.mml_ids.specs.inside.WordsLemmas.{has_empty, same_ranks}
-use Rattle.mml_rules.specs.declared.registers.Regs.{Regs}
+use Rattle.mml_rules.specs.declared.regs.Regs.{Regs}
 use Rattle.mml_rules.specs.Configuration.{Configuration, IsLawful, holds}
 use Rattle.mml_rules.specs.Rules.{has_suitor, is_candidate, greatest_candidate}
 use Rattle.mml_rules.specs.Network.{Network, neighbours_at, registers_at, configuration_of, unpointed}
 use Rattle.mml_rules.proofs.ConfigurationLemmas.{holds-true, holds-from}
 use Rattle.mml_rules.proofs.RulesLemmas.{suitor-find, suitor-from}
-use Rattle.mml_rules.proofs.NetworkLemmas.{has-with_neighbour, has-without_neighbour, length-with_neighbour, length-without_neighbour, length-unpointed, registers_at-set, pointer_left}
+use Rattle.mml_rules.proofs.NetworkLemmas.{has-with_neighbour, has-without_neighbour, length-with_neighbour, length-without_neighbour, length-unpointed}
+use Rattle.mml_rules.proofs.NetworkLemmas.{registers_at-set, pointer_left}
 use Rattle.mml_board.specs.inside.Rows.{with_suitor, without_suitor, AreRows}
 
 -- ---- the row of the nodes that point at one
@@ -28,32 +31,43 @@ turned a b = elim (cases_eq a b) [
   | inr ne ↦ ne_eqb a b ne ∙ sym (ne_eqb b a (λ e. ne (sym e)))
 ]
 
+-- a suitor more leaves the number of rows
 pub length-with_suitor : (rows : List (FinSet nat_cmp)) (p : Option ℕ) (k : ℕ) → length (with_suitor rows p k) ≡ length rows
 length-with_suitor rows None k = refl
 length-with_suitor rows (Some i) k = length-with_neighbour rows i k
 
+-- a suitor less leaves the number of rows
 pub length-without_suitor : (rows : List (FinSet nat_cmp)) (p : Option ℕ) (k : ℕ) → length (without_suitor rows p k) ≡ length rows
 length-without_suitor rows None k = refl
 length-without_suitor rows (Some i) k = length-without_neighbour rows i k
 
-pub has-with_suitor : (rows : List (FinSet nat_cmp)) (p : Option ℕ) (k i j : ℕ) → ((x : ℕ) → p ≡ Some x → x < length rows) → sets.contains (neighbours_at (with_suitor rows p k) i) j ≡ ((holds p i && eqb j k) || sets.contains (neighbours_at rows i) j)
+pub has-with_suitor : (rows : List (FinSet nat_cmp)) (p : Option ℕ) (k i j : ℕ) → ((x : ℕ) → p ≡ Some x → x < length rows)
+    → sets.contains (neighbours_at (with_suitor rows p k) i) j ≡ ((holds p i && eqb j k) || sets.contains (neighbours_at rows i) j)
 has-with_suitor rows None k i j l = refl
-has-with_suitor rows (Some x) k i j l = has-with_neighbour rows x k i j (l x refl) ∙ ap (λ b. (b && eqb j k) || sets.contains (neighbours_at rows i) j) (turned i x)
+has-with_suitor rows (Some x) k i j l =
+    has-with_neighbour rows x k i j (l x refl) ∙ ap (λ b. (b && eqb j k) || sets.contains (neighbours_at rows i) j) (turned i x)
 
-pub has-without_suitor : (rows : List (FinSet nat_cmp)) (p : Option ℕ) (k i j : ℕ) → ((x : ℕ) → p ≡ Some x → x < length rows) → sets.contains (neighbours_at (without_suitor rows p k) i) j ≡ (not (holds p i && eqb j k) && sets.contains (neighbours_at rows i) j)
+pub has-without_suitor : (rows : List (FinSet nat_cmp)) (p : Option ℕ) (k i j : ℕ) → ((x : ℕ) → p ≡ Some x → x < length rows)
+    → sets.contains (neighbours_at (without_suitor rows p k) i) j ≡ (not (holds p i && eqb j k) && sets.contains (neighbours_at rows i) j)
 has-without_suitor rows None k i j l = refl
-has-without_suitor rows (Some x) k i j l = has-without_neighbour rows x k i j (l x refl) ∙ ap (λ b. not (b && eqb j k) && sets.contains (neighbours_at rows i) j) (turned i x)
+has-without_suitor rows (Some x) k i j l =
+    has-without_neighbour rows x k i j (l x refl) ∙ ap (λ b. not (b && eqb j k) && sets.contains (neighbours_at rows i) j) (turned i x)
 
+-- a test that is false exactly where a register points is true exactly where it is null
 pub none_told : (o : Option ℕ) (b : Bool) → is_some o ≡ not b → b ≡ is_none o
 none_told o true h = sym (ap not h)
 none_told o false h = sym (ap not h)
 
 -- ---- rows that are made
 
-pub no_rows : (registers : List Regs) (rows : List (FinSet nat_cmp)) (free believing : FinSet nat_cmp) → rows ≡ replicate (length registers) (sets.empty {R = nat_cmp}) → free ≡ sets.empty → believing ≡ sets.empty → AreRows registers 0 rows free believing
+-- empty rows are those of no rank
+pub no_rows : (registers : List Regs) (rows : List (FinSet nat_cmp)) (free believing : FinSet nat_cmp)
+    → rows ≡ replicate (length registers) (sets.empty {R = nat_cmp}) → free ≡ sets.empty → believing ≡ sets.empty → AreRows registers 0 rows free believing
 no_rows registers rows free believing is e f = record {
   count = ap length is ∙ length-replicate (length registers) sets.empty;
-  pointing = λ i j l. ap (λ r. sets.contains (neighbours_at r i) j) is ∙ ap (λ s. sets.contains s j) (get_or-replicate (length registers) i sets.empty sets.empty l) ∙ has_empty j ∙ none j (holds (registers_at registers j).p i);
+  pointing =
+      λ i j l. ap (λ r. sets.contains (neighbours_at r i) j) is ∙ ap (λ s. sets.contains s j) (get_or-replicate (length registers) i sets.empty sets.empty l)
+      ∙ has_empty j ∙ none j (holds (registers_at registers j).p i);
   null = λ j. ap (λ s. sets.contains s j) e ∙ has_empty j ∙ none j (is_none (registers_at registers j).p);
   true_m = λ j. ap (λ s. sets.contains s j) f ∙ has_empty j ∙ none j (registers_at registers j).m;
 }
@@ -77,18 +91,24 @@ next_here : (j k : ℕ) → eqb j k ≡ true → (ltb j (k + 1) ≡ true) × (lt
 next_here j k e = let s = eqb-true j k e in (lt-ltb j (k + 1) (omega arith), le-ltb j k (omega arith))
 
 -- the rows of one node more
-pub next_rows : (registers : List Regs) (k : ℕ) (p : Option ℕ) (m : Bool) (rows rows' : List (FinSet nat_cmp)) (free believing free' believing' : FinSet nat_cmp) → AreRows registers k rows free believing
+pub next_rows : (registers : List Regs) (k : ℕ) (p : Option ℕ) (m : Bool) (rows rows' : List (FinSet nat_cmp))
+    (free believing free' believing' : FinSet nat_cmp)
+    → AreRows registers k rows free believing
     → ((x : ℕ) → p ≡ Some x → x < length registers) → p ≡ (registers_at registers k).p → m ≡ (registers_at registers k).m
-    → rows' ≡ with_suitor rows p k → ((j : ℕ) → sets.contains free' j ≡ cond (eqb j k) (is_none p) (sets.contains free j)) → ((j : ℕ) → sets.contains believing' j ≡ cond (eqb j k) m (sets.contains believing j))
+    → rows' ≡ with_suitor rows p k → ((j : ℕ) → sets.contains free' j ≡ cond (eqb j k) (is_none p) (sets.contains free j))
+    → ((j : ℕ) → sets.contains believing' j ≡ cond (eqb j k) m (sets.contains believing j))
     → AreRows registers (k + 1) rows' free' believing'
 next_rows registers k p m rows rows' free believing free' believing' are l pk mk is f b = record {
   count = ap length is ∙ length-with_suitor rows p k ∙ are.count;
-  pointing = λ i j w. ap (λ r. sets.contains (neighbours_at r i) j) is ∙ has-with_suitor rows p k i j (λ x q. subst (λ n. x < n) (sym are.count) (l x q)) ∙ ap (λ x. (holds p i && eqb j k) || x) (are.pointing i j w) ∙ go_p i j (eqb j k) refl;
+  pointing =
+      λ i j w. ap (λ r. sets.contains (neighbours_at r i) j) is ∙ has-with_suitor rows p k i j (λ x q. subst (λ n. x < n) (sym are.count) (l x q))
+      ∙ ap (λ x. (holds p i && eqb j k) || x) (are.pointing i j w) ∙ go_p i j (eqb j k) refl;
   null = λ j. f j ∙ ap (cond (eqb j k) (is_none p)) (are.null j) ∙ go (λ (r : Regs). is_none r.p) j (is_none p) (ap is_none pk) (eqb j k) refl;
   true_m = λ j. b j ∙ ap (cond (eqb j k) m) (are.true_m j) ∙ go (λ (r : Regs). r.m) j m mk (eqb j k) refl;
 }
   where
-    go_p : (i j : ℕ) (e : Bool) → eqb j k ≡ e → ((holds p i && e) || (ltb j k && holds (registers_at registers j).p i)) ≡ (ltb j (k + 1) && holds (registers_at registers j).p i)
+    go_p : (i j : ℕ) (e : Bool) → eqb j k ≡ e
+        → ((holds p i && e) || (ltb j k && holds (registers_at registers j).p i)) ≡ (ltb j (k + 1) && holds (registers_at registers j).p i)
     go_p i j true e =
         let n = next_here j k e in
         ap (λ x. (holds p i && true) || (x && holds (registers_at registers j).p i)) n.1
@@ -103,8 +123,10 @@ next_rows registers k p m rows rows' free believing free' believing' are l pk mk
         ap (λ x. x || (ltb j k && holds (registers_at registers j).p i)) (and_right (holds p i) false refl)
         ∙ sym (ap (λ x. x && holds (registers_at registers j).p i) (next_other j k e))
 
-    go : (test : Regs → Bool) (j : ℕ) (v : Bool) → v ≡ test (registers_at registers k) → (e : Bool) → eqb j k ≡ e → cond e v (ltb j k && test (registers_at registers j)) ≡ (ltb j (k + 1) && test (registers_at registers j))
-    go test j v is true e = is ∙ ap (λ x. test (registers_at registers x)) (sym (eqb-true j k e)) ∙ sym (ap (λ x. x && test (registers_at registers j)) (next_here j k e).0)
+    go : (test : Regs → Bool) (j : ℕ) (v : Bool) → v ≡ test (registers_at registers k) → (e : Bool) → eqb j k ≡ e
+        → cond e v (ltb j k && test (registers_at registers j)) ≡ (ltb j (k + 1) && test (registers_at registers j))
+    go test j v is true e =
+        is ∙ ap (λ x. test (registers_at registers x)) (sym (eqb-true j k e)) ∙ sym (ap (λ x. x && test (registers_at registers j)) (next_here j k e).0)
     go test j v is false e = sym (ap (λ x. x && test (registers_at registers j)) (next_other j k e))
 
 -- ---- rows that follow a node's registers
@@ -113,15 +135,21 @@ next_rows registers k p m rows rows' free believing free' believing' are l pk mk
 pub written_back : (n : ℕ) (rows old : List (FinSet nat_cmp)) → length rows ≡ n → take n (rows ++ old) ≡ rows
 written_back n rows old e = take_at rows old n e
 
-pub rows-set : (registers : List Regs) (a : ℕ) (p : Option ℕ) (x : Regs) (rows rows' rows'' : List (FinSet nat_cmp)) (free believing free' believing' : FinSet nat_cmp) → AreRows registers (length registers) rows free believing → a < length registers
+-- where registers are set, the node leaves the row of its old pointer and joins that of its new one
+pub rows-set : (registers : List Regs) (a : ℕ) (p : Option ℕ) (x : Regs) (rows rows' rows'' : List (FinSet nat_cmp))
+    (free believing free' believing' : FinSet nat_cmp)
+    → AreRows registers (length registers) rows free believing → a < length registers
     → p ≡ (registers_at registers a).p → ((i : ℕ) → p ≡ Some i → i < length registers) → ((i : ℕ) → x.p ≡ Some i → i < length registers)
-    → rows' ≡ without_suitor rows p a → rows'' ≡ with_suitor rows' x.p a → ((j : ℕ) → sets.contains free' j ≡ cond (eqb j a) (is_none x.p) (sets.contains free j)) → ((j : ℕ) → sets.contains believing' j ≡ cond (eqb j a) x.m (sets.contains believing j))
+    → rows' ≡ without_suitor rows p a → rows'' ≡ with_suitor rows' x.p a
+    → ((j : ℕ) → sets.contains free' j ≡ cond (eqb j a) (is_none x.p) (sets.contains free j))
+    → ((j : ℕ) → sets.contains believing' j ≡ cond (eqb j a) x.m (sets.contains believing j))
     → AreRows (set registers a x) (length (set registers a x)) rows'' free' believing'
 rows-set registers a p x rows rows' rows'' free believing free' believing' are l pa old new is is' f b = record {
   count = ap length is' ∙ length-with_suitor rows' x.p a ∙ size' ∙ sym (length-set registers a x);
   pointing = λ i j w.
       ap (λ r. sets.contains (neighbours_at r i) j) is' ∙ has-with_suitor rows' x.p a i j (λ y q. subst (λ n. y < n) (sym size') (new y q))
-      ∙ ap (λ y. (holds x.p i && eqb j a) || y) (ap (λ r. sets.contains (neighbours_at r i) j) is ∙ has-without_suitor rows p a i j (λ y q. subst (λ n. y < n) (sym are.count) (old y q))
+      ∙ ap (λ y. (holds x.p i && eqb j a) || y) (ap (λ r. sets.contains (neighbours_at r i) j) is
+      ∙ has-without_suitor rows p a i j (λ y q. subst (λ n. y < n) (sym are.count) (old y q))
       ∙ ap (λ y. not (holds p i && eqb j a) && y) (are.pointing i j (subst (λ n. i < n) (length-set registers a x) w)))
       ∙ go_p i j (eqb j a) refl
       ∙ after j (λ (r : Regs). holds r.p i);
@@ -133,20 +161,27 @@ rows-set registers a p x rows rows' rows'' free believing free' believing' are l
     size' = ap length is ∙ length-without_suitor rows p a ∙ are.count
 
     -- the same test, read in the new registers
-    after : (j : ℕ) (test : Regs → Bool) → (ltb j (length registers) && test (cond (eqb j a) x (registers_at registers j))) ≡ (ltb j (length (set registers a x)) && test (registers_at (set registers a x) j))
-    after j test = sym (ap (λ n. ltb j n && test (registers_at (set registers a x) j)) (length-set registers a x) ∙ ap (λ r. ltb j (length registers) && test r) (registers_at-set registers a j x l))
+    after : (j : ℕ) (test : Regs → Bool) → (ltb j (length registers) && test (cond (eqb j a) x (registers_at registers j)))
+        ≡ (ltb j (length (set registers a x)) && test (registers_at (set registers a x) j))
+    after j test =
+        sym (ap (λ n. ltb j n && test (registers_at (set registers a x) j)) (length-set registers a x)
+        ∙ ap (λ r. ltb j (length registers) && test r) (registers_at-set registers a j x l))
 
     within : (j : ℕ) → eqb j a ≡ true → ltb j (length registers) ≡ true
     within j e = let s = eqb-true j a e in lt-ltb j (length registers) (omega arith)
 
-    go : (test : Regs → Bool) (j : ℕ) (e : Bool) → eqb j a ≡ e → cond e (test x) (ltb j (length registers) && test (registers_at registers j)) ≡ (ltb j (length registers) && test (cond e x (registers_at registers j)))
+    go : (test : Regs → Bool) (j : ℕ) (e : Bool) → eqb j a ≡ e → cond e (test x) (ltb j (length registers) && test (registers_at registers j))
+        ≡ (ltb j (length registers) && test (cond e x (registers_at registers j)))
     go test j true e = sym (ap (λ y. y && test x) (within j e))
     go test j false e = refl
 
-    go_p : (i j : ℕ) (e : Bool) → eqb j a ≡ e → ((holds x.p i && e) || (not (holds p i && e) && (ltb j (length registers) && holds (registers_at registers j).p i))) ≡ (ltb j (length registers) && holds (cond e x (registers_at registers j)).p i)
+    go_p : (i j : ℕ) (e : Bool) → eqb j a ≡ e
+        → ((holds x.p i && e) || (not (holds p i && e) && (ltb j (length registers) && holds (registers_at registers j).p i)))
+        ≡ (ltb j (length registers) && holds (cond e x (registers_at registers j)).p i)
     go_p i j true e =
         ap (λ y. (holds x.p i && true) || (not (holds p i && true) && (y && holds (registers_at registers j).p i))) (within j e)
-        ∙ ap (λ (o : Option ℕ). (holds x.p i && true) || (not (holds p i && true) && holds o i)) (ap (λ y. (registers_at registers y).p) (eqb-true j a e) ∙ sym pa)
+        ∙ ap (λ (o : Option ℕ). (holds x.p i && true) || (not (holds p i && true) && holds o i))
+        (ap (λ y. (registers_at registers y).p) (eqb-true j a e) ∙ sym pa)
         ∙ here (holds x.p i) (holds p i)
         ∙ sym (ap (λ y. y && holds x.p i) (within j e))
       where
@@ -165,7 +200,9 @@ rows-set registers a p x rows rows' rows'' free believing free' believing' are l
 
 -- ---- what looks read from the rows
 
-pub suitors-read : (n : Network) (rows : List (FinSet nat_cmp)) (free believing row : FinSet nat_cmp) (i : ℕ) → IsLawful (configuration_of n) → AreRows n.registers (length n.registers) rows free believing → i < length n.registers
+-- a node has a suitor exactly where its row isn't empty
+pub suitors-read : (n : Network) (rows : List (FinSet nat_cmp)) (free believing row : FinSet nat_cmp) (i : ℕ) → IsLawful (configuration_of n)
+    → AreRows n.registers (length n.registers) rows free believing → i < length n.registers
     → row ≡ neighbours_at rows i → (b : Bool) → (b ≡ true → row ≡ sets.empty) × (row ≡ sets.empty → b ≡ true) → not b ≡ has_suitor (configuration_of n) i
 suitors-read n rows free believing row i lawful are l is true h =
     sym (false_from_ne_true (has_suitor (configuration_of n) i) (λ s.
@@ -177,7 +214,8 @@ suitors-read n rows free believing row i lawful are l is false h = go (has_suito
   where
     none : has_suitor (configuration_of n) i ≡ false → (j : ℕ) → sets.contains row j ≡ false
     none e j = false_from_ne_true (sets.contains row j) (λ q.
-        let p = holds-true _ i (and_parts (ltb j (length n.registers)) (holds (registers_at n.registers j).p i) (sym (are.pointing i j l) ∙ sym (ap (λ t. sets.contains t j) is) ∙ q)).1 in
+        let p = holds-true _ i (and_parts (ltb j (length n.registers)) (holds (registers_at n.registers j).p i)
+        (sym (are.pointing i j l) ∙ sym (ap (λ t. sets.contains t j) is) ∙ q)).1 in
         both_ways (has_suitor (configuration_of n) i) e (suitor-from (configuration_of n) i j lawful (lawful.symmetric j i (lawful.to_linked j i p)) p))
 
     go : (b : Bool) → has_suitor (configuration_of n) i ≡ b → true ≡ b
@@ -188,23 +226,29 @@ suitors-read n rows free believing row i lawful are l is false h = go (has_suito
         same_empty s f = same_ranks s sets.empty (λ q. f q ∙ sym (has_empty q))
 
 -- the ranks of the four rows that a seduction looks at are the candidates
-pub candidates-read : (n : Network) (rows : List (FinSet nat_cmp)) (free believing courted candidates s t : FinSet nat_cmp) (i j : ℕ) → IsLawful (configuration_of n) → length n.registers ≤ MAX_NODES → AreRows n.registers (length n.registers) rows free believing
-    → courted ≡ sets.intersection (neighbours_at n.neighbours i) free → s ≡ sets.difference courted believing → ((q : ℕ) → sets.contains t q ≡ (ltb i q && ltb q MAX_NODES)) → candidates ≡ sets.intersection s t
+pub candidates-read : (n : Network) (rows : List (FinSet nat_cmp)) (free believing courted candidates s t : FinSet nat_cmp) (i j : ℕ)
+    → IsLawful (configuration_of n) → length n.registers ≤ MAX_NODES → AreRows n.registers (length n.registers) rows free believing
+    → courted ≡ sets.intersection (neighbours_at n.neighbours i) free → s ≡ sets.difference courted believing
+    → ((q : ℕ) → sets.contains t q ≡ (ltb i q && ltb q MAX_NODES)) → candidates ≡ sets.intersection s t
     → sets.contains candidates j ≡ is_candidate (configuration_of n) i j
 candidates-read n rows free believing courted candidates s t i j lawful few are a b c d =
     ap (λ u. sets.contains u j) d ∙ sets.contains-intersection nat_cmp_total s t j
     ∙ ap (λ x. x && sets.contains t j) (ap (λ u. sets.contains u j) b ∙ sets.contains-difference nat_cmp_total courted believing j
-    ∙ ap (λ x. x && not (sets.contains believing j)) (ap (λ u. sets.contains u j) a ∙ sets.contains-intersection nat_cmp_total (neighbours_at n.neighbours i) free j))
+    ∙ ap (λ x. x && not (sets.contains believing j))
+    (ap (λ u. sets.contains u j) a ∙ sets.contains-intersection nat_cmp_total (neighbours_at n.neighbours i) free j))
     ∙ go (sets.contains (neighbours_at n.neighbours i) j) refl
   where
-    go : (x : Bool) → sets.contains (neighbours_at n.neighbours i) j ≡ x → (((x && sets.contains free j) && not (sets.contains believing j)) && sets.contains t j) ≡ (x && (ltb i j && (is_none (registers_at n.registers j).p && not (registers_at n.registers j).m)))
+    go : (x : Bool) → sets.contains (neighbours_at n.neighbours i) j ≡ x
+        → (((x && sets.contains free j) && not (sets.contains believing j)) && sets.contains t j)
+        ≡ (x && (ltb i j && (is_none (registers_at n.registers j).p && not (registers_at n.registers j).m)))
     go false e = refl
     go true e =
         let l : j < length n.registers = (lawful.in_range i j e).1 in
         let here : ltb j (length n.registers) ≡ true = lt-ltb j (length n.registers) l in
         ap (λ y. (y && not (sets.contains believing j)) && sets.contains t j) (are.null j ∙ ap (λ y. y && is_none (registers_at n.registers j).p) here)
         ∙ ap (λ y. (is_none (registers_at n.registers j).p && not y) && sets.contains t j) (are.true_m j ∙ ap (λ y. y && (registers_at n.registers j).m) here)
-        ∙ ap (λ y. (is_none (registers_at n.registers j).p && not (registers_at n.registers j).m) && y) (c j ∙ ap (λ y. ltb i j && y) (lt-ltb j MAX_NODES (omega (arith, few, l))))
+        ∙ ap (λ y. (is_none (registers_at n.registers j).p && not (registers_at n.registers j).m) && y) (c j
+        ∙ ap (λ y. ltb i j && y) (lt-ltb j MAX_NODES (omega (arith, few, l))))
         ∙ shift (is_none (registers_at n.registers j).p && not (registers_at n.registers j).m) (ltb i j)
       where
         shift : (x y : Bool) → (x && (y && true)) ≡ (y && x)
@@ -214,18 +258,23 @@ candidates-read n rows free believing courted candidates s t i j lawful few are 
         shift false false = refl
 
 -- the greatest of the candidates
-pub greatest_told : (c : Configuration) (candidates : FinSet nat_cmp) (i : ℕ) (found : Option ℕ) → IsLawful c → ((j : ℕ) → sets.contains candidates j ≡ is_candidate c i j)
-    → IfNone found (candidates ≡ sets.empty) → IfSome found (λ j. sets.contains candidates j ≡ true) → IfSome found (λ j. (k : ℕ) → sets.contains candidates k ≡ true → k ≤ j) → found ≡ greatest_candidate c i
+pub greatest_told : (c : Configuration) (candidates : FinSet nat_cmp) (i : ℕ) (found : Option ℕ) → IsLawful c
+    → ((j : ℕ) → sets.contains candidates j ≡ is_candidate c i j)
+    → IfNone found (candidates ≡ sets.empty) → IfSome found (λ j. sets.contains candidates j ≡ true)
+    → IfSome found (λ j. (k : ℕ) → sets.contains candidates k ≡ true → k ≤ j) → found ≡ greatest_candidate c i
 unfolding greatest_candidate
 greatest_told c candidates i None lawful is none member greatest = go (greatest_below c.size (is_candidate c i)) refl
   where
     go : (o : Option ℕ) → greatest_below c.size (is_candidate c i) ≡ o → None ≡ o
     go None e = refl
-    go (Some j) e = absurd (both_ways (sets.contains candidates j) (ap (λ u. sets.contains u j) none ∙ has_empty j) (is j ∙ (greatest_below-some c.size j (is_candidate c i) e).1))
+    go (Some j) e =
+        absurd
+        (both_ways (sets.contains candidates j) (ap (λ u. sets.contains u j) none ∙ has_empty j) (is j ∙ (greatest_below-some c.size j (is_candidate c i) e).1))
 greatest_told c candidates i (Some j) lawful is none member greatest =
     let test : is_candidate c i j ≡ true = sym (is j) ∙ member in
     let linked : c.linked i j ≡ true = (and_parts (c.linked i j) (ltb i j && (is_none (c.p j) && not (c.m j))) test).0 in
-    sym (greatest_is c.size j (is_candidate c i) (lawful.in_range i j linked).1 test (λ k l m. sym (is k) ∙ false_from_ne_true (sets.contains candidates k) (λ q. let o = greatest k q in absurd (omega arith))))
+    sym (greatest_is c.size j (is_candidate c i) (lawful.in_range i j linked).1 test
+    (λ k l m. sym (is k) ∙ false_from_ne_true (sets.contains candidates k) (λ q. let o = greatest k q in absurd (omega arith))))
 
 -- ---- a cut
 
@@ -233,7 +282,9 @@ greatest_told c candidates i (Some j) lawful is none member greatest =
 pub unpointed-again : (registers : List Regs) (a b : ℕ) → holds (registers_at registers a).p b ≡ false → unpointed registers a b ≡ registers
 unpointed-again registers a b e = ap (λ x. cond x (set registers a (record { p = None; m = (registers_at registers a).m })) registers) e
 
-pub cut-again : (registers : List Regs) (a b : ℕ) → a < length registers → b < length registers → unpointed (unpointed (unpointed (unpointed registers a b) b a) a b) b a ≡ unpointed (unpointed registers a b) b a
+-- pointers over a link that are taken back twice are as taken back once
+pub cut-again : (registers : List Regs) (a b : ℕ) → a < length registers → b < length registers
+    → unpointed (unpointed (unpointed (unpointed registers a b) b a) a b) b a ≡ unpointed (unpointed registers a b) b a
 cut-again registers a b la lb = ap (λ r. unpointed r b a) (unpointed-again cut a b first) ∙ unpointed-again cut b a second
   where
     once : List Regs

@@ -1,26 +1,30 @@
 -- What events make of a world, and that lawful worlds stay lawful.
-use Rattle.std.proofs.Common.{◌≡◌, ℕ, ◌<◌, zero, suc, Bool, true, false, cond, not, ◌&&◌, eqb, ltb, Option, None, Some, is_some, is_none, List, length, get_or, set, replicate, sym, refl, ap, ◌∙◌, subst, arith, inl, inr, length-set, get_or-set_same, get_or-set_other}
+use Rattle.std.proofs.Common.{◌≡◌, ℕ, ◌<◌, zero, suc, Bool, true, false, cond, not, ◌&&◌, eqb, ltb, Option, None, Some, is_some, is_none, List, length, get_or}
+use Rattle.std.proofs.Common.{set, replicate, sym, refl, ap, ◌∙◌, subst, arith, inl, inr, length-set, get_or-set_same, get_or-set_other}
 use Rattle.std.proofs.lemmas.Bool.{cases_eq, cases_lt, eq-eqb, ne_eqb, eqb-true, eqb-false, ltb-true, not-true, and_parts, both_ways}
 use Rattle.std.proofs.lemmas.List.{get_or_past}
 use Rattle.std.proofs.lemmas.List.FromFn.{fill_by_all, get_or-map-range_with_len, length-map-range_with_len}
 use Rattle.std.specs.FinSet as sets
-use Rattle.mml_rules.specs.declared.registers.Regs.{Regs}
+use Rattle.mml_rules.specs.declared.regs.Regs.{Regs}
 use Rattle.mml_rules.specs.declared.rule.Rule.{Rule}
 use Rattle.mml_rules.specs.Configuration.{Configuration, IsLawful}
 use Rattle.mml_rules.specs.Rules.{guard, moved, step, AllHold}
-use Rattle.mml_rules.specs.Network.{Network, no_regs, neighbours_at, registers_at, configuration_of, IsNetwork, unpointed, with_registers, with_link, without_link}
+use Rattle.mml_rules.specs.Network.{Network, no_regs, neighbours_at, registers_at, configuration_of, IsNetwork, unpointed, with_registers, with_link}
+use Rattle.mml_rules.specs.Network.{without_link}
 use Rattle.mml_rules.proofs.StepLemmas.{step-lawful}
 use Rattle.mml_rules.proofs.NetworkLemmas.{length-unpointed, with_registers-lawful, with_link-lawful, without_link-lawful}
 use Rattle.mml_board.specs.declared.event.Event.{Event}
 use Rattle.mml_board.specs.World.{World, size, configuration, chosen_at, IsWorld}
 use Rattle.mml_board.specs.Events.{is_possible, may_point, moved_registers, renewed, choosing, after}
 
+-- moves leave the number of nodes
 pub length-moved_registers : (w : World) → length (moved_registers w) ≡ length w.network.registers
 unfolding moved_registers
 length-moved_registers w = length-map-range_with_len (λ i. moved (configuration w) i (chosen_at w.chosen i)) 0 (size w)
 
 -- every register after the moves, also past the last node
-pub moved_at : (w : World) → length w.chosen ≡ length w.network.registers → (i : ℕ) → registers_at (moved_registers w) i ≡ moved (configuration w) i (chosen_at w.chosen i)
+pub moved_at : (w : World) → length w.chosen ≡ length w.network.registers → (i : ℕ)
+    → registers_at (moved_registers w) i ≡ moved (configuration w) i (chosen_at w.chosen i)
 unfolding moved_registers
 moved_at w e i = elim (cases_lt i (size w)) [
   | inl lt ↦ get_or-map-range_with_len (λ i. moved (configuration w) i (chosen_at w.chosen i)) 0 (size w) i i no_regs lt (omega arith)
@@ -32,10 +36,12 @@ moved_at w e i = elim (cases_lt i (size w)) [
 ]
 
 -- a list of registers in which each is the moved one
-pub moved_registers-is : (w : World) (registers : List Regs) → length registers ≡ size w → ((i : ℕ) → registers_at registers i ≡ moved (configuration w) i (chosen_at w.chosen i)) → registers ≡ moved_registers w
+pub moved_registers-is : (w : World) (registers : List Regs) → length registers ≡ size w
+    → ((i : ℕ) → registers_at registers i ≡ moved (configuration w) i (chosen_at w.chosen i)) → registers ≡ moved_registers w
 unfolding moved_registers
 moved_registers-is w registers e h = fill_by_all (λ i. moved (configuration w) i (chosen_at w.chosen i)) registers (size w) no_regs e (λ k l. h k)
 
+-- the network after a close
 abbrev pub closed : World → Network
 closed w = record { neighbours = w.network.neighbours; registers = moved_registers w }
 
@@ -48,6 +54,7 @@ closed-step w e = λ k. record {
   m = λ i. (moved_at w e i k).m;
 }
 
+-- a close leaves the network lawful
 pub closed-network : (w : World) → IsWorld w → IsNetwork (closed w)
 closed-network w k = record {
   rows = k.network.rows ∙ sym (length-moved_registers w);
@@ -55,10 +62,12 @@ closed-network w k = record {
   lawful = subst (λ c. IsLawful c) (sym (closed-step w k.choices)) (step-lawful (configuration w) (chosen_at w.chosen) k.network.lawful k.hold);
 }
 
+-- a list of one choice n times is n long
 pub length-none : (n : ℕ) (o : Option Rule) → length (replicate n o) ≡ n
 length-none zero o = refl
 length-none (suc k) o = ap suc (length-none k o)
 
+-- in a list without a choice, none is chosen for any node
 pub none_at : (n i : ℕ) → chosen_at (replicate n None) i ≡ None
 none_at n i = go n i None
   where
@@ -67,9 +76,11 @@ none_at n i = go n i None
     go (suc k) zero o = refl
     go (suc k) (suc i) o = go k i o
 
+-- where no move is chosen, the guards of all chosen moves hold
 pub hold-none : (n : ℕ) (c : Configuration) → AllHold c (chosen_at (replicate n None))
 hold-none n c i r h = let e : None ≡ Some r = sym (none_at n i) ∙ h in cc
 
+-- another lawful network of as many nodes makes a lawful world
 pub renewed-world : (w : World) (n : Network) → IsNetwork n → length n.registers ≡ size w → IsWorld (renewed w n)
 renewed-world w n k e = record {
   network = k;
@@ -77,36 +88,45 @@ renewed-world w n k e = record {
   hold = hold-none (size w) (configuration_of n);
 }
 
-pub chosen_at-set : (chosen : List (Option Rule)) (a i : ℕ) (o : Option Rule) → a < length chosen → chosen_at (set chosen a o) i ≡ cond (eqb i a) o (chosen_at chosen i)
+-- a choice that is set stands at its node, and all others are as before
+pub chosen_at-set : (chosen : List (Option Rule)) (a i : ℕ) (o : Option Rule) → a < length chosen
+    → chosen_at (set chosen a o) i ≡ cond (eqb i a) o (chosen_at chosen i)
 chosen_at-set chosen a i o l = elim (cases_eq i a) [
   | inl e ↦ rw (e, get_or-set_same, eq-eqb a a refl) refl
   | inr ne ↦ rw (get_or-set_other, ne_eqb i a ne) refl
 ]
 
-hold-set : (c : Configuration) (chosen : List (Option Rule)) (a : ℕ) (o : Option Rule) → a < length chosen → ((r : Rule) → o ≡ Some r → guard c a r ≡ true) → AllHold c (chosen_at chosen) → AllHold c (chosen_at (set chosen a o))
+hold-set : (c : Configuration) (chosen : List (Option Rule)) (a : ℕ) (o : Option Rule) → a < length chosen → ((r : Rule) → o ≡ Some r → guard c a r ≡ true)
+    → AllHold c (chosen_at chosen) → AllHold c (chosen_at (set chosen a o))
 hold-set c chosen a o l h all i r e = go (eqb i a) refl (sym (chosen_at-set chosen a i o l) ∙ e)
   where
     go : (x : Bool) → eqb i a ≡ x → cond x o (chosen_at chosen i) ≡ Some r → guard c i r ≡ true
     go true f k = subst (λ z. guard c z r ≡ true) (sym (eqb-true i a f)) (h r k)
     go false f k = all i r k
 
-pub choosing-world : (w : World) (a : ℕ) (o : Option Rule) → a < size w → ((r : Rule) → o ≡ Some r → guard (configuration w) a r ≡ true) → IsWorld w → IsWorld (choosing w a o)
+-- a lawful world stays so where a node's choice is a move whose guard holds, or none
+pub choosing-world : (w : World) (a : ℕ) (o : Option Rule) → a < size w → ((r : Rule) → o ≡ Some r → guard (configuration w) a r ≡ true) → IsWorld w
+    → IsWorld (choosing w a o)
 choosing-world w a o l h k = record {
   network = k.network;
   choices = length-set w.chosen a o ∙ k.choices;
   hold = hold-set (configuration w) w.chosen a o (omega (arith, k.choices)) h k.hold;
 }
 
-pub may_point-linked : (n : Network) (i j : ℕ) (o : Option ℕ) → may_point (configuration_of n) i o ≡ true → o ≡ Some j → sets.contains (neighbours_at n.neighbours i) j ≡ true
+-- a node that another may point at is linked to it
+pub may_point-linked : (n : Network) (i j : ℕ) (o : Option ℕ) → may_point (configuration_of n) i o ≡ true → o ≡ Some j
+    → sets.contains (neighbours_at n.neighbours i) j ≡ true
 may_point-linked n i j None h e = cc
 may_point-linked n i j (Some k) h e = let same : k ≡ j = cc in subst (λ x. sets.contains (neighbours_at n.neighbours i) x ≡ true) same h
 
+-- what has a chosen move is a node
 pub chosen_node : (w : World) (i : ℕ) → length w.chosen ≡ size w → is_some (chosen_at w.chosen i) ≡ true → i < size w
 chosen_node w i e h = elim (cases_lt i (size w)) [
   | inl lt ↦ lt
   | inr ge ↦ absurd (both_ways _ (ap is_some (get_or_past w.chosen i None (omega arith))) h)
 ]
 
+-- a cut leaves the number of nodes
 pub length-without_link : (n : Network) (a b : ℕ) → length (without_link n a b).registers ≡ length n.registers
 length-without_link n a b = length-unpointed (unpointed n.registers a b) b a ∙ length-unpointed n.registers a b
 
@@ -121,26 +141,34 @@ after-world w Event.Close k h = renewed-world w (closed w) (closed-network w k) 
 after-world w (Event.Fault i registers) k h =
     let x = and_parts (ltb i (size w)) (may_point (configuration w) i registers.p) h in
     let l = ltb-true i (size w) x.0 in
-    renewed-world w (with_registers w.network i registers) (with_registers-lawful w.network i registers k.network l (λ j e. may_point-linked w.network i j registers.p x.1 e)) (length-set w.network.registers i registers)
+    renewed-world w (with_registers w.network i registers)
+    (with_registers-lawful w.network i registers k.network l (λ j e. may_point-linked w.network i j registers.p x.1 e))
+    (length-set w.network.registers i registers)
 after-world w (Event.Link a b) k h =
     let x = and_parts (ltb a (size w) && ltb b (size w)) (not (eqb a b) && not ((configuration w).linked a b)) h in
     let y = and_parts (ltb a (size w)) (ltb b (size w)) x.0 in
     let z = and_parts (not (eqb a b)) (not ((configuration w).linked a b)) x.1 in
-    renewed-world w (with_link w.network a b) (with_link-lawful w.network a b k.network (ltb-true a (size w) y.0) (ltb-true b (size w) y.1) (eqb-false a b (not-true _ z.0))) refl
+    renewed-world w (with_link w.network a b)
+    (with_link-lawful w.network a b k.network (ltb-true a (size w) y.0) (ltb-true b (size w) y.1) (eqb-false a b (not-true _ z.0))) refl
 after-world w (Event.Cut a b) k h =
     let l = k.network.lawful.in_range a b h in
     renewed-world w (without_link w.network a b) (without_link-lawful w.network a b k.network l.0 l.1) (length-without_link w.network a b)
 
 -- two lists with the same elements
 pub same_lists : {X : Type 0} (d : X) (xs ys : List X) → length xs ≡ length ys → ((k : ℕ) → k < length xs → get_or xs k d ≡ get_or ys k d) → xs ≡ ys
-same_lists d xs ys e h = fill_by_all (λ k. get_or ys k d) xs (length ys) d e (λ k l. h k (omega arith)) ∙ sym (fill_by_all (λ k. get_or ys k d) ys (length ys) d refl (λ k l. refl))
+same_lists d xs ys e h =
+    fill_by_all (λ k. get_or ys k d) xs (length ys) d e (λ k l. h k (omega arith)) ∙ sym (fill_by_all (λ k. get_or ys k d) ys (length ys) d refl (λ k l. refl))
 
 -- two worlds that have the same numbers, and the same at each node
 pub same_worlds : (v w : World) → IsWorld v → IsWorld w → v.number ≡ w.number → v.place ≡ w.place → size v ≡ size w
-    → ((i : ℕ) → i < size v → (registers_at v.network.registers i ≡ registers_at w.network.registers i) × (chosen_at v.chosen i ≡ chosen_at w.chosen i) × (neighbours_at v.network.neighbours i ≡ neighbours_at w.network.neighbours i)) → v ≡ w
+    → ((i : ℕ) → i < size v → (registers_at v.network.registers i ≡ registers_at w.network.registers i) × (chosen_at v.chosen i ≡ chosen_at w.chosen i)
+    × (neighbours_at v.network.neighbours i ≡ neighbours_at w.network.neighbours i))
+    → v ≡ w
 same_worlds v w k l number place size h = λ z. record {
   network = record {
-    neighbours = same_lists sets.empty v.network.neighbours w.network.neighbours (k.network.rows ∙ size ∙ sym l.network.rows) (λ i q. (h i (omega (arith, k.network.rows))).2) z;
+    neighbours =
+        same_lists sets.empty v.network.neighbours w.network.neighbours (k.network.rows ∙ size ∙ sym l.network.rows)
+        (λ i q. (h i (omega (arith, k.network.rows))).2) z;
     registers = same_lists no_regs v.network.registers w.network.registers size (λ i q. (h i q).0) z;
   };
   chosen = same_lists None v.chosen w.chosen (k.choices ∙ size ∙ sym l.choices) (λ i q. (h i (omega (arith, k.choices))).1) z;

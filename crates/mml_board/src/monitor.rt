@@ -2,7 +2,7 @@
 ghost use Rattle.std.specs.Prelude.{◌≡◌, ℕ, ◌<◌, true, length, if◌then◌else◌};
 ghost use Rattle.std.specs.FinSet as set;
 ghost use Rattle.mml_rules.specs.Network.{configuration_of};
-ghost use Rattle.mml_board.specs.inside.Monitor.{is_privileged_node, privileged_nodes, IsUntouched};
+ghost use Rattle.mml_board.specs.inside.Monitor.{is_privileged_node, privileged_set, IsUntouched};
 
 use crate::indexed_network::IndexedNetwork;
 use crate::node_sets::put;
@@ -10,8 +10,8 @@ use mml_ids::{NodeSet, Rank};
 use mml_rules::{Scene, enabled};
 
 /// The privileged nodes, computed from scratch.
-pub fn privileged_nodes(network: &IndexedNetwork) -> NodeSet
-    ensures { result ≡ privileged_nodes (configuration_of network.now) }
+pub fn privileged_set(network: &IndexedNetwork) -> NodeSet
+    ensures { result ≡ privileged_set (configuration_of network.now) }
 {
     let mut nodes = NodeSet::empty();
     for index in 0..network.size() {
@@ -28,7 +28,7 @@ pub fn refresh(network: &IndexedNetwork, privileged: NodeSet, changed: NodeSet) 
     requires changed { (j : ℕ) → set.contains changed j ≡ true → j < length network.now.registers }
     requires others { (j : ℕ) → IsUntouched (configuration_of network.now) changed j →
         set.contains privileged j ≡ is_privileged_node (configuration_of network.now) j }
-    ensures { result ≡ privileged_nodes (configuration_of network.now) }
+    ensures { result ≡ privileged_set (configuration_of network.now) }
 {
     let _size = network.size();
     let mut privileged = privileged;

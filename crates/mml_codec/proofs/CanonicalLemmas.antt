@@ -33,13 +33,16 @@ request-fields_of (requests.Do (command.Fault n _ m)) = refl
 request-fields_of (requests.Do _) = refl
 request-fields_of _ = refl
 
+-- what is written of a request has no newline
 pub canonical_line : (r : Request) → IsWritable r → All (λ b. b ≢ 10) (canonical r)
 unfolding canonical
 canonical_line r h = compact_text_line (object_of (fields_of r)) (flat_object_read (fields_of r) (IsObject-fields_of r) h).text
 
+-- what is written of a request is read as that request
 pub request_in-canonical : (r : Request) → IsWritable r → request_in (canonical r) ≡ Ok r
 unfolding canonical
 request_in-canonical r h =
     let is = IsObject-fields_of r in
     let utf8 = IsUtf8-compact_text (object_of (fields_of r)) (flat_object_read (fields_of r) is h).text in
-    request_in-some _ (object_of (fields_of r)) (value_in-some _ (object_of (fields_of r)) utf8 (read-object_of (fields_of r) is h)) ∙ rw (request-fields_of r) refl
+    request_in-some _ (object_of (fields_of r)) (value_in-some _ (object_of (fields_of r)) utf8 (read-object_of (fields_of r) is h))
+    ∙ rw (request-fields_of r) refl

@@ -10,7 +10,8 @@ use Rattle.json.proofs.Printed.Utf8.{IsUtf8-are_ascii, IsUtf8-quoted, IsUtf8-boo
 use Rattle.json.proofs.Printed.Decimals.{IsNumber-decimal}
 use Rattle.json.proofs.Printed.Tokens.{tokens-print}
 use Rattle.json.proofs.Printed.Trees.{value-json_tokens, ArePrintable-json_tokens}
-use Rattle.serde_json.specs.Data.{unsigned, negative, float, Data, null, boolean, number, string, array, object, Items, no_items, item, Members, no_members, member}
+use Rattle.serde_json.specs.Data.{unsigned, negative, float, Data, null, boolean, number, string, array, object, Items, no_items, item, Members, no_members}
+use Rattle.serde_json.specs.Data.{member}
 use Rattle.serde_json.specs.Read.{of_json, read, max_depth}
 use Rattle.serde_json.specs.Written.{outline, items_outline, members_outline, compact_text, items_text, members_text, comma_if}
 use Rattle.serde_json.proofs.Texts.{print-outline}
@@ -82,8 +83,11 @@ mutual
       let rest = IsUtf8-append _ _ (IsUtf8-compact_text d h.1.0) (IsUtf8-members_text true ms h.1.1) in
       IsUtf8-append _ _ (comma later) (IsUtf8-append _ _ (IsUtf8-quoted k h.0) (byte 58 _ (IsUtf8-are_ascii _ refl) rest))
 
+-- the text of a value is read as that value, if it doesn't nest too deep
 pub read-compact_text : (d : Data) → HasText d → tree.depth (outline d) ≤ max_depth → of_json (outline d) ≡ Some d → read (compact_text d) ≡ Some d
 read-compact_text d h shallow e =
     let ts : tokens (compact_text d) ≡ tree.json_tokens (outline d) ++ [] =
-    ap tokens (sym (print-outline d)) ∙ tokens-print (tree.json_tokens (outline d)) (ArePrintable-json_tokens (outline d) (numbers d h)) ∙ sym (append-nil (tree.json_tokens (outline d))) in
-    ap (λ o. option_and_then of_json (option_and_then (λ p. json.if_last p.0 p.1) o)) (ap (json.value max_depth) ts ∙ value-json_tokens (outline d) max_depth [] shallow) ∙ e
+    ap tokens (sym (print-outline d)) ∙ tokens-print (tree.json_tokens (outline d)) (ArePrintable-json_tokens (outline d) (numbers d h))
+    ∙ sym (append-nil (tree.json_tokens (outline d))) in
+    ap (λ o. option_and_then of_json (option_and_then (λ p. json.if_last p.0 p.1) o))
+    (ap (json.value max_depth) ts ∙ value-json_tokens (outline d) max_depth [] shallow) ∙ e

@@ -10,7 +10,8 @@ use Rattle.serde_json.specs.Read.{read}
 use Rattle.serde_json.specs.Written.{outline, members_outline, compact_text}
 use Rattle.serde_json.proofs.Texts.{print-outline}
 use Rattle.mml_codec.specs.Fields.{Field, number, word, text, truth, null, value_of, member_of, members_of, object_of, IsWritableField, AreWritable}
-use Rattle.mml_codec.proofs.ReadBackLemmas.{IsReadable, AreReadable, IsKeyed, null_read, truth_read, count_read, string_read, word_read, object_read, read_value}
+use Rattle.mml_codec.proofs.ReadBackLemmas.{IsReadable, AreReadable, IsKeyed, null_read, truth_read, count_read, string_read, word_read, object_read}
+use Rattle.mml_codec.proofs.ReadBackLemmas.{read_value}
 
 -- the words that the protocol fixes are ASCII
 abbrev has_ascii_word : Field → Bool
@@ -39,14 +40,17 @@ fields_read : (fs : List (List ℕ × Field)) → have_ascii_words fs ≡ true �
 fields_read [] a h = tt
 fields_read (f ∷ fs) a h = let parts = and_parts (has_ascii_word f.1) (have_ascii_words fs) a in (field_read f.1 parts.0 h.0, fields_read fs parts.1 h.1)
 
+-- a flat object is read back, with nothing nested in it
 pub flat_object_read : (fs : List (List ℕ × Field)) → IsObject fs → AreWritable fs → IsReadable 1 (object_of fs)
 flat_object_read fs is h = object_read 0 (map member_of fs) is.keyed (fields_read fs is.ascii h)
 
+-- the text of a flat object is read as that object
 pub read-object_of : (fs : List (List ℕ × Field)) → IsObject fs → AreWritable fs → read (compact_text (object_of fs)) ≡ Some (object_of fs)
 read-object_of fs is h = read_value 1 (object_of fs) (lit≤ tt) (flat_object_read fs is h)
 
 -- the tokens of an object are written as its text
-pub object_written : (fs : List (List ℕ × Field)) (items before : List ℕ) (tokens : List Token) → before ≡ [] → tokens ≡ tree.json_tokens (outline (object_of fs))
+pub object_written : (fs : List (List ℕ × Field)) (items before : List ℕ) (tokens : List Token) → before ≡ []
+    → tokens ≡ tree.json_tokens (outline (object_of fs))
     → items ≡ before ++ print tokens → items ≡ compact_text (object_of fs)
 object_written fs items before tokens none all written =
     written ∙ ap (λ xs. xs ++ print tokens) none ∙ ap print all ∙ print-outline (object_of fs)

@@ -15,6 +15,7 @@ granted : (found : Option Who) (who : Who) (known : Option Who) → admitted fou
 granted None who known e = absurd cc
 granted (Some w) who known e = let same : w ≡ who = cc in let after : Some w ≡ known = cc in (ap Some same, sym after ∙ ap Some same)
 
+-- where nobody is known yet, a hello is granted exactly to one who takes part under that name and key
 pub hello_is_granted : (r : RosterValue) (name key : List ℕ) (who : Who) (known : Option Who) → IsRoster r
     → (greeting r None (requests.Hello name key) ≡ Answered (replies.Hello who) known) ↔ (IsKnownAs r who name key × (known ≡ Some who))
 hello_is_granted r name key who known roster = (
@@ -26,7 +27,9 @@ denied_before : (found : Option Who) (d : Denial) (known : Option Who) → admit
 denied_before None d known e = cc
 denied_before (Some w) d known e = absurd cc
 
-pub denied_is_known_as_before : (r : RosterValue) (before : Option Who) (q : Request) (d : Denial) (known : Option Who) → greeting r before q ≡ Answered (replies.Deny d) known → known ≡ before
+-- a denial leaves who is known
+pub denied_is_known_as_before : (r : RosterValue) (before : Option Who) (q : Request) (d : Denial) (known : Option Who)
+    → greeting r before q ≡ Answered (replies.Deny d) known → known ≡ before
 denied_is_known_as_before r None (requests.Hello name key) d known e = denied_before (principal r name key) d known e
 denied_is_known_as_before r (Some who) (requests.Hello name key) d known e = cc
 denied_is_known_as_before r None requests.Bye d known e = absurd cc

@@ -1,12 +1,14 @@
--- In the text of a value no byte is 10.
-use Rattle.std.proofs.Common.{◌≡◌, ◌≢◌, ℕ, zero, suc, ◌+◌, ◌%◌, ◌^◌, ◌<◌, ◌==◌, ◌&&◌, not, List, [], ◌∷◌, ◌++◌, Bool, true, false, decimal, inl, inr, refl, subst, arith}
+-- In the text of a value no byte is a newline.
+use Rattle.std.proofs.Common.{◌≡◌, ◌≢◌, ℕ, zero, suc, ◌+◌, ◌%◌, ◌^◌, ◌<◌, ◌==◌, ◌&&◌, not, List, [], ◌∷◌, ◌++◌, Bool, true, false, decimal, inl, inr, refl}
+use Rattle.std.proofs.Common.{subst, arith}
 use Rattle.std.specs.List.{All}
 use Rattle.std.proofs.lemmas.Bool.{and_parts, cases_lt, cases_eq}
 use Rattle.std.proofs.lemmas.List.Elements.{All-nil, All-cons, All-append}
 use Rattle.std.proofs.lemmas.Fmt.{decimal_by_steps}
 use Rattle.json.specs.Print.{escape_byte, escape, quoted}
 use Rattle.json.proofs.Printed.Strings.{escape_byte_plain}
-use Rattle.serde_json.specs.Data.{unsigned, negative, float, Data, null, boolean, number, string, array, object, Items, no_items, item, Members, no_members, member}
+use Rattle.serde_json.specs.Data.{unsigned, negative, float, Data, null, boolean, number, string, array, object, Items, no_items, item, Members, no_members}
+use Rattle.serde_json.specs.Data.{member}
 use Rattle.serde_json.specs.Written.{compact_text, items_text, members_text, comma_if}
 use Rattle.mml_codec.proofs.CompactTextLemmas.{HasText, ItemsHaveText, MembersHaveText}
 
@@ -62,7 +64,9 @@ quoted_line : (s : List ℕ) → IsOneLine (quoted s)
 quoted_line s = then 34 (escape s ++ 34 ∷ []) (not_ten 34 refl) (join (escape s) (34 ∷ []) (escaped s) (tested (34 ∷ []) refl))
 
 decimal_line : (n : ℕ) → n < 2 ^ 64 → IsOneLine (decimal n)
-decimal_line n h = decimal_by_steps (λ n ds. IsOneLine ds) (λ n small. then (48 + n) [] (λ e. omega arith) none) (λ n ds big line. join ds ((48 + n % 10) ∷ []) line (then (48 + n % 10) [] (λ e. omega arith) none)) n h
+decimal_line n h =
+    decimal_by_steps (λ n ds. IsOneLine ds) (λ n small. then (48 + n) [] (λ e. omega arith) none)
+    (λ n ds big line. join ds ((48 + n % 10) ∷ []) line (then (48 + n % 10) [] (λ e. omega arith) none)) n h
 
 comma : (later : Bool) → IsOneLine (comma_if later)
 comma true = tested (44 ∷ []) refl
@@ -93,5 +97,7 @@ mutual
   members_line later no_members h = tested (125 ∷ []) refl
   members_line later (member k d ms) h =
       let rest = join (compact_text d) (members_text true ms) (compact_text_line d h.1.0) (members_line true ms h.1.1) in
-      let whole = join (quoted k) (58 ∷ (compact_text d ++ members_text true ms)) (quoted_line k) (then 58 (compact_text d ++ members_text true ms) (not_ten 58 refl) rest) in
+      let whole =
+      join (quoted k) (58 ∷ (compact_text d ++ members_text true ms)) (quoted_line k)
+      (then 58 (compact_text d ++ members_text true ms) (not_ten 58 refl) rest) in
       join (comma_if later) (quoted k ++ 58 ∷ (compact_text d ++ members_text true ms)) (comma later) whole

@@ -21,18 +21,23 @@ pub record IsReadable (n : ℕ) (d : Data) : Type 0 where
   pub back : of_json (outline d) ≡ Some d
   pub shallow : tree.depth (outline d) ≤ n
 
+-- null is read back
 pub null_read : (n : ℕ) → IsReadable n null
 null_read n = record { text = tt; back = refl; shallow = omega arith }
 
+-- a truth value is read back
 pub truth_read : (n : ℕ) (b : Bool) → IsReadable n (boolean b)
 truth_read n b = record { text = tt; back = refl; shallow = omega arith }
 
+-- a number of 64 bits without a sign is read back
 pub count_read : (n k : ℕ) → k < 2 ^ 64 → IsReadable n (number (unsigned k))
 count_read n k h = record { text = h; back = rw (number_of-decimal k h) refl; shallow = omega arith }
 
+-- a string of UTF-8 is read back
 pub string_read : (n : ℕ) (s : List ℕ) → IsUtf8 s → IsReadable n (string s)
 string_read n s h = record { text = h; back = refl; shallow = omega arith }
 
+-- a word of ASCII is read back
 pub word_read : (n : ℕ) (s : List ℕ) → are_ascii s ≡ true → IsReadable n (string s)
 word_read n s h = string_read n s (IsUtf8-are_ascii s h)
 
@@ -50,6 +55,7 @@ items_shallow : (n : ℕ) (ds : List Data) → AllByRecursion (IsReadable n) ds 
 items_shallow n [] h = omega arith
 items_shallow n (d ∷ ds) h = max-le h.0.shallow (items_shallow n ds h.1)
 
+-- an array of values that are read back is read back, nested one deeper
 pub items_read : (n : ℕ) (ds : List Data) → AllByRecursion (IsReadable n) ds → IsReadable (suc n) (array (items_with ds))
 items_read n ds h = record {
   text = items_text n ds h;
@@ -57,11 +63,14 @@ items_read n ds h = record {
   shallow = let within = items_shallow n ds h in omega (arith, within);
 }
 
-each_read : {A : Type 0} (n : ℕ) (P : A → Type 0) (f : A → Data) → ((x : A) → P x → IsReadable n (f x)) → (xs : List A) → All P xs → AllByRecursion (IsReadable n) (map f xs)
+each_read : {A : Type 0} (n : ℕ) (P : A → Type 0) (f : A → Data) → ((x : A) → P x → IsReadable n (f x)) → (xs : List A) → All P xs
+    → AllByRecursion (IsReadable n) (map f xs)
 each_read n P f each [] h = tt
 each_read n P f each (x ∷ xs) h = (each x (All-head P x xs h), each_read n P f each xs (All-tail P x xs h))
 
-pub array_read : {A : Type 0} (n : ℕ) (P : A → Type 0) (f : A → Data) → ((x : A) → P x → IsReadable n (f x)) → (xs : List A) → All P xs → IsReadable (suc n) (array_of f xs)
+-- an array of what is made of each element is read back, nested one deeper
+pub array_read : {A : Type 0} (n : ℕ) (P : A → Type 0) (f : A → Data) → ((x : A) → P x → IsReadable n (f x)) → (xs : List A) → All P xs
+    → IsReadable (suc n) (array_of f xs)
 array_read n P f each xs h = items_read n (map f xs) (each_read n P f each xs h)
 
 -- ---- objects
@@ -75,6 +84,7 @@ abbrev pub has_ascii_keys : List (List ℕ × Data) → Bool
 has_ascii_keys [] = true
 has_ascii_keys (m ∷ ms) = are_ascii m.0 && has_ascii_keys ms
 
+-- the value of each member is read back
 abbrev pub AreReadable : ℕ → List (List ℕ × Data) → Type 0
 AreReadable n ms = AllByRecursion (λ m. IsReadable n m.1) ms
 
@@ -82,7 +92,8 @@ members_text : (n : ℕ) (ms : List (List ℕ × Data)) → has_ascii_keys ms �
 members_text n [] keys h = tt
 members_text n (m ∷ ms) keys h = let parts = and_parts _ _ keys in (IsUtf8-are_ascii m.0 parts.0, (h.0.text, members_text n ms parts.1 h.1))
 
-members_back : (n : ℕ) (ms : List (List ℕ × Data)) (found : Members) → AreReadable n ms → of_members (members_outline (members_with ms)) found ≡ Some (put_in_turn ms found)
+members_back : (n : ℕ) (ms : List (List ℕ × Data)) (found : Members) → AreReadable n ms
+    → of_members (members_outline (members_with ms)) found ≡ Some (put_in_turn ms found)
 members_back n [] found h = refl
 members_back n (m ∷ ms) found h = rw h.0.back (members_back n ms (put m.0 m.1 found) h.1)
 
@@ -95,6 +106,7 @@ pub record IsKeyed (ms : List (List ℕ × Data)) : Type 0 where
   pub rising : put_in_turn ms no_members ≡ members_with ms
   pub ascii : has_ascii_keys ms ≡ true
 
+-- an object with rising keys and values that are read back is read back, nested one deeper
 pub object_read : (n : ℕ) (ms : List (List ℕ × Data)) → IsKeyed ms → AreReadable n ms → IsReadable (suc n) (object_with ms)
 object_read n ms keyed h = record {
   text = members_text n ms keyed.ascii h;
@@ -108,6 +120,7 @@ read_value n d few h = read-compact_text d h.text (omega (arith, h.shallow, few)
 
 -- ---- keys in byte order
 
+-- the keys in an array rise where they rise in what is made of each element
 pub items_rise : {A : Type 0} (f : A → Data) → ((x : A) → has_rising_keys (f x) ≡ true) → (xs : List A) → items_have_rising_keys (items_with (map f xs)) ≡ true
 items_rise f each [] = refl
 items_rise f each (x ∷ xs) = and_from _ _ (each x) (items_rise f each xs)

@@ -1,5 +1,6 @@
 -- The text of a reply is that of its JSON value: of each fact, and so of all fields.
-use Rattle.std.proofs.Common.{◌≡◌, ◌≢◌, ℕ, ◌≤◌, List, [], ◌∷◌, ◌++◌, Bool, true, false, not, ◌&&◌, eqb, ltb, Option, None, Some, All, map, length, codes, inl, inr, refl, sym, ap, ◌∙◌, arith, append_assoc, lt-ltb, ltb-true}
+use Rattle.std.proofs.Common.{◌≡◌, ◌≢◌, ℕ, ◌≤◌, List, [], ◌∷◌, ◌++◌, Bool, true, false, not, ◌&&◌, eqb, ltb, Option, None, Some, All, map, length, codes, inl}
+use Rattle.std.proofs.Common.{inr, refl, sym, ap, ◌∙◌, arith, append_assoc, lt-ltb, ltb-true}
 use Rattle.std.specs.Prelude.{flat_map}
 use Rattle.std.specs.List.{AllByRecursion}
 use Rattle.std.proofs.lemmas.Bool.{and_parts, and_from, eq-eqb, ne_eqb, both_ways, not-true}
@@ -9,17 +10,20 @@ use Rattle.json.proofs.Printed.Strings.{escape_byte_plain}
 use Rattle.json.proofs.Printed.Utf8.{are_ascii}
 use Rattle.serde_json.specs.Data.{Data, boolean}
 use Rattle.serde_json.specs.Written.{compact_text, items_text, members_text, comma_if}
-use Rattle.mml_rules.specs.declared.registers.Regs.{Regs}
+use Rattle.mml_rules.specs.declared.regs.Regs.{Regs}
 use Rattle.mml_rules.specs.declared.rule.Kind.{Kind}
 use Rattle.mml_rules.specs.declared.rule.Kind.TheVariants as kind
 use Rattle.mml_lab.specs.RosterMeaning.{IsNameByte}
 use Rattle.mml_stable.specs.declared.open_link.OpenLink.{OpenLink}
 use Rattle.mml_codec.specs.Objects.{items_with, members_with}
 use Rattle.mml_codec.specs.Facts as fact
-use Rattle.mml_codec.specs.Facts.{Fact, Fields, truth_text, node_text, pointer_text, kind_text, kind_or_null, separated, members, near_text, pair_text, privileged_text, open_link_text, list_then, fact_then, fields_after, node_value, pointer_value, kind_value, kind_or_null_value, near_value, pair_value, privileged_value, open_link_value, fact_value, keys_of}
+use Rattle.mml_codec.specs.Facts.{Fact, Fields, truth_text, node_text, pointer_text, kind_text, kind_or_null, separated, members, near_text, pair_text}
+use Rattle.mml_codec.specs.Facts.{privileged_text, open_link_text, list_then, fact_then, fields_after, node_value, pointer_value, kind_value}
+use Rattle.mml_codec.specs.Facts.{kind_or_null_value, near_value, pair_value, privileged_value, open_link_value, fact_value, keys_of}
 
 -- ---- words of which no byte is escaped
 
+-- each byte is from 32 to 127, and none is a quotation mark or a backslash
 abbrev pub is_plain : List ℕ → Bool
 is_plain [] = true
 is_plain (b ∷ bs) = (ltb 31 b && (ltb b 128 && (not (eqb b 34) && not (eqb b 92)))) && is_plain bs
@@ -37,6 +41,7 @@ plain_escape (b ∷ bs) h =
     let more = ltb-true 31 b low.0 in
     rw (escape_byte_plain b (other_than b 34 others.0) (other_than b 92 others.1) (omega arith), plain_escape bs here.1) refl
 
+-- a plain word is ASCII
 pub plain_ascii : (bs : List ℕ) → is_plain bs ≡ true → are_ascii bs ≡ true
 plain_ascii [] h = refl
 plain_ascii (b ∷ bs) h =
@@ -47,8 +52,10 @@ not_false : (b k : ℕ) → b ≢ k → not (eqb b k) ≡ true
 not_false b k h = ap not (ne_eqb b k h)
 
 plain_byte : (b : ℕ) → 32 ≤ b → b ≤ 122 → b ≢ 34 → b ≢ 92 → (ltb 31 b && (ltb b 128 && (not (eqb b 34) && not (eqb b 92)))) ≡ true
-plain_byte b low high quote slash = and_from _ _ (lt-ltb 31 b (omega arith)) (and_from _ _ (lt-ltb b 128 (omega arith)) (and_from _ _ (not_false b 34 quote) (not_false b 92 slash)))
+plain_byte b low high quote slash =
+    and_from _ _ (lt-ltb 31 b (omega arith)) (and_from _ _ (lt-ltb b 128 (omega arith)) (and_from _ _ (not_false b 34 quote) (not_false b 92 slash)))
 
+-- a word of the bytes that names are made of is plain
 pub name_plain : (bs : List ℕ) → All IsNameByte bs → is_plain bs ≡ true
 name_plain [] all = refl
 name_plain (b ∷ bs) all =
@@ -94,7 +101,9 @@ privileged_is ids n = ap (λ t. codes "[" ++ (node_text ids n.0 ++ (codes "," ++
 
 open_link_is : (ids : List ℕ) (l : OpenLink) → open_link_text ids l ≡ compact_text (open_link_value ids l)
 unfolding open_link_text
-open_link_is ids l = ap (λ t. codes "[" ++ (node_text ids l.a ++ (codes "," ++ (node_text ids l.b ++ (codes "," ++ (node_text ids l.node ++ (codes "," ++ (t ++ codes "]")))))))) (kind_is l.kind)
+open_link_is ids l =
+    ap (λ t. codes "[" ++ (node_text ids l.a ++ (codes "," ++ (node_text ids l.b ++ (codes "," ++ (node_text ids l.node ++ (codes "," ++ (t ++ codes "]"))))))))
+    (kind_is l.kind)
 
 -- ---- lists, and what follows them
 
@@ -115,7 +124,8 @@ items_are g f same (x ∷ xs) =
 items_then : {A : Type 0} (g : A → List ℕ) (f : A → Data) → ((x : A) → g x ≡ compact_text (f x)) → (xs : List A) (rest more : List ℕ) → rest ≡ more
     → separated (map g xs) ++ 93 ∷ rest ≡ items_text false (items_with (map f xs)) ++ more
 items_then g f same xs rest more e =
-    sym (append_assoc (separated (map g xs)) (93 ∷ []) rest) ∙ ap (λ t. t ++ rest) (items_are g f same xs) ∙ ap (λ t. items_text false (items_with (map f xs)) ++ t) e
+    sym (append_assoc (separated (map g xs)) (93 ∷ []) rest) ∙ ap (λ t. t ++ rest) (items_are g f same xs)
+    ∙ ap (λ t. items_text false (items_with (map f xs)) ++ t) e
 
 list_is : {A : Type 0} (g : A → List ℕ) (f : A → Data) → ((x : A) → g x ≡ compact_text (f x)) → (xs : List A) (rest : List ℕ)
     → list_then (map g xs) rest ≡ 91 ∷ (items_text false (items_with (map f xs)) ++ rest)
@@ -151,10 +161,13 @@ fact_is ids (fact.pairs ps) rest h = list_is (pair_text ids) (pair_value ids) (p
 fact_is ids (fact.privileged ns) rest h = list_is (privileged_text ids) (privileged_value ids) (privileged_is ids) ns rest
 fact_is ids (fact.open_links ls) rest h = list_is (open_link_text ids) (open_link_value ids) (open_link_is ids) ls rest
 
-pub fields_are : (ids : List ℕ) (later : Bool) (fs : Fields) → ArePlain fs → fields_after ids (comma_if later) fs ≡ members_text later (members_with (keys_of ids fs))
+-- the text of plain fields is that of their members in JSON
+pub fields_are : (ids : List ℕ) (later : Bool) (fs : Fields) → ArePlain fs
+    → fields_after ids (comma_if later) fs ≡ members_text later (members_with (keys_of ids fs))
 fields_are ids later [] h = refl
 fields_are ids later (f ∷ fs) h =
     let rest = fields_after ids (codes ",") fs in
     let told = fact_then ids f.1 rest in
-    ap (λ t. comma_if later ++ t) (ap (λ t. codes "\"" ++ (f.0 ++ (codes "\":" ++ t))) (fact_is ids f.1 rest h.0.1 ∙ ap (λ t. compact_text (fact_value ids f.1) ++ t) (fields_are ids true fs h.1))
+    ap (λ t. comma_if later ++ t) (ap (λ t. codes "\"" ++ (f.0 ++ (codes "\":" ++ t))) (fact_is ids f.1 rest h.0.1
+    ∙ ap (λ t. compact_text (fact_value ids f.1) ++ t) (fields_are ids true fs h.1))
     ∙ quoted_is f.0 (58 ∷ (compact_text (fact_value ids f.1) ++ members_text true (members_with (keys_of ids fs)))) h.0.0)

@@ -1,5 +1,6 @@
 -- The text of a reply is read as the value that it spells, and is one line.
-use Rattle.std.proofs.Common.{◌≡◌, ◌≢◌, ℕ, ◌<◌, List, [], ◌∷◌, Bool, true, false, ◌&&◌, Option, None, Some, IfSome, All, codes, length, nat_lt, refl, sym, ap, ◌∙◌, arith, ltb-true, lit≤, subst, slice_index, zero-add}
+use Rattle.std.proofs.Common.{◌≡◌, ◌≢◌, ℕ, ◌<◌, List, [], ◌∷◌, Bool, true, false, ◌&&◌, Option, None, Some, IfSome, All, codes, length, nat_lt, refl, sym, ap}
+use Rattle.std.proofs.Common.{◌∙◌, arith, ltb-true, lit≤, subst, slice_index, zero-add}
 use Rattle.std.specs.List.{AllByRecursion, range_with_len}
 use Rattle.std.specs.Ordering.{nat_cmp, is_lt}
 use Rattle.std.specs.Cmp.Lexicographic.{slice_cmp}
@@ -11,7 +12,7 @@ use Rattle.std.proofs.lemmas.List.FromFn.{length-range_with_len, get_or-range_wi
 use Rattle.serde_json.specs.Read.{read}
 use Rattle.serde_json.specs.Written.{compact_text}
 use Rattle.mml_ids.specs.Ids.{IsTable}
-use Rattle.mml_rules.specs.declared.registers.Regs.{Regs}
+use Rattle.mml_rules.specs.declared.regs.Regs.{Regs}
 use Rattle.mml_rules.specs.declared.rule.Kind.{Kind}
 use Rattle.mml_rules.specs.declared.rule.Kind.TheVariants as kind
 use Rattle.mml_lab.specs.declared.who.Who.{Who}
@@ -30,12 +31,14 @@ use Rattle.mml_codec.specs.declared.reply.Reply.{Reply}
 use Rattle.mml_codec.specs.declared.reply.Reply.TheVariants as replies
 use Rattle.mml_codec.specs.Objects.{members_with}
 use Rattle.mml_codec.specs.Facts as fact
-use Rattle.mml_codec.specs.Facts.{Fact, Fields, members, object_text, node_value, pointer_value, kind_value, kind_or_null_value, near_keys, near_value, pair_value, privileged_value, open_link_value, fact_value, keys_of, FitsCount, HaveFittingCounts}
+use Rattle.mml_codec.specs.Facts.{Fact, Fields, members, object_text, node_value, pointer_value, kind_value, kind_or_null_value, near_keys, near_value}
+use Rattle.mml_codec.specs.Facts.{pair_value, privileged_value, open_link_value, fact_value, keys_of, FitsCount, HaveFittingCounts}
 use Rattle.mml_codec.specs.Replies.{current_number, number_first, told_fields, refusal_name, fields_of, text, IsAbout}
 use Rattle.mml_codec.specs.ReplyValues.{reply_value, AreWritableCounts, has_rising_keys, members_rise, comes_first}
 use Rattle.mml_codec.proofs.OneLineLemmas.{compact_text_line}
 use Rattle.mml_codec.proofs.ReplyTextLemmas.{is_plain, plain_ascii, name_plain, IsPlainFact, ArePlain, fields_are}
-use Rattle.mml_codec.proofs.ReadBackLemmas.{IsReadable, AreReadable, IsKeyed, null_read, truth_read, count_read, word_read, items_read, array_read, object_read, read_value, items_rise}
+use Rattle.mml_codec.proofs.ReadBackLemmas.{IsReadable, AreReadable, IsKeyed, null_read, truth_read, count_read, word_read, items_read, array_read, object_read}
+use Rattle.mml_codec.proofs.ReadBackLemmas.{read_value, items_rise}
 
 -- ---- each kind of fact
 
@@ -103,7 +106,8 @@ module _ (ids : List ℕ) (table : IsTable ids) where
   pointer_read n (Some j) h = node_read n j h
 
   near_read : (n : ℕ × Regs) → IsNear ids n → IsReadable 1 (near_value ids n)
-  near_read n h = object_read 0 (near_keys ids n) record { rising = refl; ascii = refl } (truth_read 0 n.1.m, (node_read 0 n.0 h.0, (pointer_read 0 n.1.p h.1, tt)))
+  near_read n h =
+      object_read 0 (near_keys ids n) record { rising = refl; ascii = refl } (truth_read 0 n.1.m, (node_read 0 n.0 h.0, (pointer_read 0 n.1.p h.1, tt)))
 
   pair_read : (p : ℕ × ℕ) → IsPairOf (length ids) p → IsReadable 1 (pair_value ids p)
   pair_read p h = items_read 0 (node_value ids p.0 ∷ node_value ids p.1 ∷ []) (node_read 0 p.0 h.0, (node_read 0 p.1 h.1, tt))
@@ -112,7 +116,10 @@ module _ (ids : List ℕ) (table : IsTable ids) where
   privileged_read n h = items_read 0 (node_value ids n.0 ∷ kind_value n.1 ∷ []) (node_read 0 n.0 h, (kind_read 0 n.1, tt))
 
   open_link_read : (l : OpenLink) → IsOpenLinkOf (length ids) l → IsReadable 1 (open_link_value ids l)
-  open_link_read l h = items_read 0 (node_value ids l.a ∷ node_value ids l.b ∷ node_value ids l.node ∷ kind_value l.kind ∷ []) (node_read 0 l.a h.0, (node_read 0 l.b h.1, (node_read 0 l.node h.2, (kind_read 0 l.kind, tt))))
+  open_link_read l h = items_read 0 (node_value ids l.a ∷ node_value ids l.b ∷ node_value ids l.node ∷ kind_value l.kind ∷ []) (
+    node_read 0 l.a h.0,
+    (node_read 0 l.b h.1, (node_read 0 l.node h.2, (kind_read 0 l.kind, tt))),
+  )
 
   fact_read : (f : Fact) → IsFactOf ids f → FitsCount f → IsReadable 2 (fact_value ids f)
   fact_read (fact.count n) h fits = count_read 2 n fits
@@ -202,12 +209,12 @@ deny_keys ids None c name said = record { keyed = record { rising = refl; ascii 
 deny_keys ids (Some at) c name said = record { keyed = record { rising = refl; ascii = refl }; plain = refl; order = refl }
 
 has_keys : (ids : List ℕ) (r : RosterValue) (q : Reply) → HasKeys ids (fields_of r q)
-has_keys ids r (replies.Deny d) = deny_keys ids (current_number d) (clause_of d) (denials.name_of d) (text_of d)
+has_keys ids r (replies.Deny d) = deny_keys ids (current_number d) (clause_of d) (denials.denial_name d) (text_of d)
 has_keys ids r _ = record { keyed = record { rising = refl; ascii = refl }; plain = refl; order = refl }
 
 -- the clause, the name and the text of a denial
 abbrev has_plain_words : Denial → Bool
-has_plain_words d = nat_lt (clause_of d) 128 && (is_plain (denials.name_of d) && is_plain (text_of d))
+has_plain_words d = nat_lt (clause_of d) 128 && (is_plain (denials.denial_name d) && is_plain (text_of d))
 
 plain_words : (d : Denial) → has_plain_words d ≡ true
 plain_words denial.NotGreeted = refl
@@ -234,7 +241,8 @@ plain_refusal refused.Journal = refl
 plain_refusal refused.Memory = refl
 
 plain_name : (r : RosterValue) (who : Who) → IsRoster r → IsPrincipal r who → is_plain (name_of r who) ≡ true
-plain_name r who roster is = name_plain (name_of r who) ((name-means (name_of r who)).0 (and_parts (is_name (name_of r who)) (is_key (key_of r who)) (roster.formed who is)).0).bytes
+plain_name r who roster is =
+    name_plain (name_of r who) ((name-means (name_of r who)).0 (and_parts (is_name (name_of r who)) (is_key (key_of r who)) (roster.formed who is)).0).bytes
 
 module _ (ids : List ℕ) (r : RosterValue) (roster : IsRoster r) where
   number_facts : (o : Option ℕ) (fs : Fields) → AreFactsOf ids fs → AreFactsOf ids (number_first o fs)
@@ -243,9 +251,9 @@ module _ (ids : List ℕ) (r : RosterValue) (roster : IsRoster r) where
 
   deny_facts : (d : Denial) → AreFactsOf ids (fields_of r (replies.Deny d))
   deny_facts d =
-      let plain = and_parts (nat_lt (clause_of d) 128) (is_plain (denials.name_of d) && is_plain (text_of d)) (plain_words d) in
-      let words = and_parts (is_plain (denials.name_of d)) (is_plain (text_of d)) plain.1 in
-      number_facts (current_number d) (told_fields (clause_of d) (denials.name_of d) (text_of d)) (plain.0, (words.0, (words.1, tt)))
+      let plain = and_parts (nat_lt (clause_of d) 128) (is_plain (denials.denial_name d) && is_plain (text_of d)) (plain_words d) in
+      let words = and_parts (is_plain (denials.denial_name d)) (is_plain (text_of d)) plain.1 in
+      number_facts (current_number d) (told_fields (clause_of d) (denials.denial_name d) (text_of d)) (plain.0, (words.0, (words.1, tt)))
 
   facts_of : (q : Reply) → IsAbout ids r q → AreFactsOf ids (fields_of r q)
   facts_of (replies.Hello who) about = (refl, (plain_name r who roster about, tt))
@@ -275,5 +283,6 @@ module _ (ids : List ℕ) (r : RosterValue) (roster : IsRoster r) where
   pub read-reply : (table : IsTable ids) (q : Reply) → IsAbout ids r q → AreWritableCounts r q → read (text ids r q) ≡ Some (reply_value ids r q)
   read-reply table q about h = ap read (reply_text q about) ∙ read_value 3 (reply_value ids r q) (lit≤ tt) (reply_read table q about h)
 
+-- the keys of a reply's value rise, and so do those in all that it holds
 pub keys_rise : (ids : List ℕ) (r : RosterValue) (q : Reply) → has_rising_keys (reply_value ids r q) ≡ true
 keys_rise ids r q = fields_rise ids (fields_of r q) (has_keys ids r q).order

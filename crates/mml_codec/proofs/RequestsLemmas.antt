@@ -11,7 +11,9 @@ differ_at w k false e other = refl
 differ : (w k : List ℕ) → (w ≡ k → ⊥) → bytes_eq w k ≡ false
 differ w k other = differ_at w k (bytes_eq w k) refl other
 
-pub no_word : (w : List ℕ) (d : Data) → (w ≡ codes "hello" → ⊥) → (w ≡ codes "bye" → ⊥) → (w ≡ codes "see" → ⊥) → (w ≡ codes "look" → ⊥) → (w ≡ codes "move" → ⊥) → (w ≡ codes "close" → ⊥)
+-- a word that is none of the eleven asks nothing
+pub no_word : (w : List ℕ) (d : Data) → (w ≡ codes "hello" → ⊥) → (w ≡ codes "bye" → ⊥) → (w ≡ codes "see" → ⊥) → (w ≡ codes "look" → ⊥)
+    → (w ≡ codes "move" → ⊥) → (w ≡ codes "close" → ⊥)
     → (w ≡ codes "fault" → ⊥) → (w ≡ codes "link" → ⊥) → (w ≡ codes "cut" → ⊥) → (w ≡ codes "release" → ⊥) → (w ≡ codes "report" → ⊥) → by_word w d ≡ None
 unfolding by_word
 no_word w d hello bye see look move close fault link cut release report = rw (

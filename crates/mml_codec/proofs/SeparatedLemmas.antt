@@ -1,5 +1,6 @@
 -- Texts with commas between them, made one by one.
-use Rattle.std.proofs.Common.{◌≡◌, ℕ, ◌+◌, ◌<◌, ◌≤◌, List, [], ◌∷◌, ◌++◌, length, map, take, get_or, true, false, decimal, sym, ap, ◌∙◌, refl, append-nil, append_assoc, lit≤}
+use Rattle.std.proofs.Common.{◌≡◌, ℕ, ◌+◌, ◌<◌, ◌≤◌, List, [], ◌∷◌, ◌++◌, length, map, take, get_or, true, false, decimal, sym, ap, ◌∙◌, refl, append-nil}
+use Rattle.std.proofs.Common.{append_assoc, lit≤}
 use Rattle.std.specs.Prelude.{flat_map, slice_index}
 use Rattle.std.specs.Ordering.{nat_cmp}
 use Rattle.std.specs.FinSet as set
@@ -14,6 +15,7 @@ abbrev pub comma_after : List (List ℕ) → List ℕ
 comma_after [] = []
 comma_after (x ∷ xs) = 44 ∷ []
 
+-- the comma before one more text is one byte at the most
 pub length-comma_after : (xs : List (List ℕ)) → length (comma_after xs) ≤ 1
 length-comma_after [] = lit≤ tt
 length-comma_after (x ∷ xs) = lit≤ tt
@@ -28,37 +30,51 @@ separated-more (y ∷ ys) x =
     ap (λ t. y ++ t) (flat_map-append (λ t. 44 ∷ t) ys (x ∷ []) ∙ ap (λ t. flat_map (λ t. 44 ∷ t) ys ++ t) (append-nil (44 ∷ x)))
     ∙ sym (append_assoc y (flat_map (λ t. 44 ∷ t) ys) (44 ∷ x))
 
+-- the identifiers of the set's ranks below n, as texts
 abbrev pub texts : List ℕ → FinSet nat_cmp → ℕ → List (List ℕ)
 texts ids s n = map (node_text ids) (members n s)
 
+-- a rank in the set has a comma come before the next text
 pub comma_with : (ids : List ℕ) (s : FinSet nat_cmp) (n i : ℕ) → i ≡ n → set.contains s i ≡ true → 44 ∷ [] ≡ comma_after (texts ids s (n + 1))
 comma_with ids s n i e h =
-    sym (ap comma_after (passing_with (set.contains s) (node_text ids) n (ap (set.contains s) (sym e) ∙ h)) ∙ comma_after-more (texts ids s n) (node_text ids n))
+    sym (ap comma_after (passing_with (set.contains s) (node_text ids) n (ap (set.contains s) (sym e) ∙ h))
+    ∙ comma_after-more (texts ids s n) (node_text ids n))
 
-pub comma_without : (ids : List ℕ) (s : FinSet nat_cmp) (n i : ℕ) (comma : List ℕ) → i ≡ n → set.contains s i ≡ false → comma ≡ comma_after (texts ids s n) → comma ≡ comma_after (texts ids s (n + 1))
+-- a rank that isn't in the set leaves the comma before the next text as it is
+pub comma_without : (ids : List ℕ) (s : FinSet nat_cmp) (n i : ℕ) (comma : List ℕ) → i ≡ n → set.contains s i ≡ false → comma ≡ comma_after (texts ids s n)
+    → comma ≡ comma_after (texts ids s (n + 1))
 comma_without ids s n i comma e h so_far = so_far ∙ sym (ap comma_after (passing_without (set.contains s) (node_text ids) n (ap (set.contains s) (sym e) ∙ h)))
 
+-- a comma, where one is due, and the rank's identifier go behind the texts so far
 pub text_with : (ids : List ℕ) (s : FinSet nat_cmp) (n i id : ℕ) (start held put comma : List ℕ) → i ≡ n → set.contains s i ≡ true → id ≡ slice_index ids i
-    → comma ≡ comma_after (texts ids s n) → held ≡ start ++ separated (texts ids s n) → put ≡ held ++ (comma ++ (decimal id ++ [])) → put ≡ start ++ separated (texts ids s (n + 1))
+    → comma ≡ comma_after (texts ids s n) → held ≡ start ++ separated (texts ids s n) → put ≡ held ++ (comma ++ (decimal id ++ []))
+    → put ≡ start ++ separated (texts ids s (n + 1))
 text_with ids s n i id start held put comma e h is comma_is so_far more =
     let one : comma ++ (decimal id ++ []) ≡ comma_after (texts ids s n) ++ node_text ids n =
     ap (λ t. comma ++ t) (append-nil (decimal id) ∙ ap decimal (is ∙ ap (slice_index ids) e)) ∙ ap (λ t. t ++ node_text ids n) comma_is in
     more ∙ ap (λ t. held ++ t) one ∙ ap (λ t. t ++ (comma_after (texts ids s n) ++ node_text ids n)) so_far
     ∙ append_assoc start (separated (texts ids s n)) (comma_after (texts ids s n) ++ node_text ids n)
-    ∙ ap (λ t. start ++ t) (sym (ap separated (passing_with (set.contains s) (node_text ids) n (ap (set.contains s) (sym e) ∙ h)) ∙ separated-more (texts ids s n) (node_text ids n)))
+    ∙ ap (λ t. start ++ t) (sym (ap separated (passing_with (set.contains s) (node_text ids) n (ap (set.contains s) (sym e) ∙ h))
+    ∙ separated-more (texts ids s n) (node_text ids n)))
 
+-- a rank that isn't in the set leaves the text as it is
 pub text_without : (ids : List ℕ) (s : FinSet nat_cmp) (n i : ℕ) (start held : List ℕ) → i ≡ n → set.contains s i ≡ false
     → held ≡ start ++ separated (texts ids s n) → held ≡ start ++ separated (texts ids s (n + 1))
-text_without ids s n i start held e h so_far = so_far ∙ ap (λ t. start ++ t) (sym (ap separated (passing_without (set.contains s) (node_text ids) n (ap (set.contains s) (sym e) ∙ h))))
+text_without ids s n i start held e h so_far =
+    so_far ∙ ap (λ t. start ++ t) (sym (ap separated (passing_without (set.contains s) (node_text ids) n (ap (set.contains s) (sym e) ∙ h))))
 
 -- one more of a list
 pub comma_more : {X : Type 0} (f : X → List ℕ) (xs : List X) (i : ℕ) (d : X) → i < length xs → 44 ∷ [] ≡ comma_after (map f (take (i + 1) xs))
-comma_more f xs i d h = sym (ap (λ ys. comma_after (map f ys)) (take_more xs i d h) ∙ ap comma_after (map-append f (take i xs) (get_or xs i d ∷ [])) ∙ comma_after-more (map f (take i xs)) (f (get_or xs i d)))
+comma_more f xs i d h =
+    sym (ap (λ ys. comma_after (map f ys)) (take_more xs i d h) ∙ ap comma_after (map-append f (take i xs) (get_or xs i d ∷ []))
+    ∙ comma_after-more (map f (take i xs)) (f (get_or xs i d)))
 
+-- a comma, where one is due, and the text of the next element go behind the texts so far
 pub text_more : {X : Type 0} (f : X → List ℕ) (xs : List X) (i : ℕ) (d : X) (start held put comma : List ℕ) → i < length xs
     → comma ≡ comma_after (map f (take i xs)) → held ≡ start ++ separated (map f (take i xs)) → put ≡ held ++ (comma ++ f (get_or xs i d))
     → put ≡ start ++ separated (map f (take (i + 1) xs))
 text_more f xs i d start held put comma h comma_is so_far more =
     more ∙ ap (λ t. held ++ (t ++ f (get_or xs i d))) comma_is ∙ ap (λ t. t ++ (comma_after (map f (take i xs)) ++ f (get_or xs i d))) so_far
     ∙ append_assoc start (separated (map f (take i xs))) (comma_after (map f (take i xs)) ++ f (get_or xs i d))
-    ∙ ap (λ t. start ++ t) (sym (ap (λ ys. separated (map f ys)) (take_more xs i d h) ∙ ap separated (map-append f (take i xs) (get_or xs i d ∷ [])) ∙ separated-more (map f (take i xs)) (f (get_or xs i d))))
+    ∙ ap (λ t. start ++ t) (sym (ap (λ ys. separated (map f ys)) (take_more xs i d h) ∙ ap separated (map-append f (take i xs) (get_or xs i d ∷ []))
+    ∙ separated-more (map f (take i xs)) (f (get_or xs i d))))

@@ -1,11 +1,12 @@
 -- What a key of a reply tells: its text, and the JSON value that the text spells.
-use Rattle.std.specs.Prelude.{ℕ, ◌<◌, ◌^◌, List, [], ◌∷◌, ◌++◌, length, map, filter, flat_map, Bool, Option, None, Some, codes, decimal, slice_index, if◌then◌else◌}
+use Rattle.std.specs.Prelude.{ℕ, ◌<◌, ◌^◌, List, [], ◌∷◌, ◌++◌, length, map, filter, flat_map, Bool, Option, None, Some, codes, decimal, slice_index}
+use Rattle.std.specs.Prelude.{if◌then◌else◌}
 use Rattle.std.specs.List.{concat, range_with_len, AllByRecursion}
 use Rattle.std.specs.Ordering.{nat_cmp}
 use Rattle.std.specs.FinSet as set
 use Rattle.std.specs.FinSet.{FinSet}
 use Rattle.serde_json.specs.Data.{Data, null, boolean, number, unsigned, string, array}
-use Rattle.mml_rules.specs.declared.registers.Regs.{Regs}
+use Rattle.mml_rules.specs.declared.regs.Regs.{Regs}
 use Rattle.mml_rules.specs.declared.rule.Kind.{Kind}
 use Rattle.mml_rules.specs.declared.rule.Kind.TheVariants as kind
 use Rattle.mml_stable.specs.declared.open_link.OpenLink.{OpenLink}
@@ -71,7 +72,8 @@ separated (x ∷ xs) = x ++ flat_map (λ t. 44 ∷ t) xs
 
 -- a node that is linked to the one that is looked at
 unfoldable pub near_text : List ℕ → ℕ × Regs → List ℕ
-near_text ids n = concat (codes "{\"m\":" ∷ truth_text n.1.m ∷ codes ",\"node\":" ∷ node_text ids n.0 ∷ codes ",\"p\":" ∷ pointer_text ids n.1.p ∷ codes "}" ∷ [])
+near_text ids n =
+    concat (codes "{\"m\":" ∷ truth_text n.1.m ∷ codes ",\"node\":" ∷ node_text ids n.0 ∷ codes ",\"p\":" ∷ pointer_text ids n.1.p ∷ codes "}" ∷ [])
 
 -- two nodes that point at each other
 unfoldable pub pair_text : List ℕ → ℕ × ℕ → List ℕ
@@ -83,7 +85,8 @@ privileged_text ids n = concat (codes "[" ∷ node_text ids n.0 ∷ codes "," �
 
 -- an open link with its witness and the rule there
 unfoldable pub open_link_text : List ℕ → OpenLink → List ℕ
-open_link_text ids l = concat (codes "[" ∷ node_text ids l.a ∷ codes "," ∷ node_text ids l.b ∷ codes "," ∷ node_text ids l.node ∷ codes "," ∷ kind_text l.kind ∷ codes "]" ∷ [])
+open_link_text ids l =
+    concat (codes "[" ∷ node_text ids l.a ∷ codes "," ∷ node_text ids l.b ∷ codes "," ∷ node_text ids l.node ∷ codes "," ∷ kind_text l.kind ∷ codes "]" ∷ [])
 
 -- a list, before what follows
 abbrev pub list_then : List (List ℕ) → List ℕ → List ℕ

@@ -9,10 +9,10 @@ use Rattle.mml_codec.specs.declared.request.Request.{Request}
 use Rattle.mml_codec.specs.declared.request.Request.TheVariants as requests
 use Rattle.mml_codec.specs.Requests.{request}
 
--- the fault says nothing of the line: memory ran out
-abbrev pub is_memory : LineFault → Bool
-is_memory fault.Memory = true
-is_memory fault.Malformed = false
+-- the error says nothing of the line: memory ran out
+abbrev pub is_line_memory : LineFault → Bool
+is_line_memory fault.Memory = true
+is_line_memory fault.Malformed = false
 
 -- the value that the bytes of a line spell, if they spell one
 unfoldable pub value_in : List ℕ → Option Data

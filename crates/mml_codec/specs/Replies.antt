@@ -10,7 +10,7 @@ use Rattle.mml_policy.specs.declared.see.See.{See}
 use Rattle.mml_policy.specs.About.{IsSeen, IsLookedAt}
 use Rattle.mml_policy.specs.Denials.{clause_of, text_of}
 use Rattle.mml_policy.specs.Denials as denials
-use Rattle.mml_stable.specs.declared.stability.Report.{Report}
+use Rattle.mml_stable.specs.declared.stability_report.Report.{Report}
 use Rattle.mml_stable.specs.Reports.{NamesNodes}
 use Rattle.mml_codec.specs.declared.reply.Refused.{Refused}
 use Rattle.mml_codec.specs.declared.reply.Refused.TheVariants as refused
@@ -38,9 +38,11 @@ ends_fields verb at place a b dropped =
 
 -- what an event did, with the number and the place after it
 abbrev pub done_fields : ℕ → ℕ → Done → Fields
-done_fields at place (done.Move node kind) = at_key at ∷ (codes "node", fact.node node) ∷ ok (codes "move") ∷ place_key place ∷ (codes "rule", fact.rule kind) ∷ []
+done_fields at place (done.Move node kind) =
+    at_key at ∷ (codes "node", fact.node node) ∷ ok (codes "move") ∷ place_key place ∷ (codes "rule", fact.rule kind) ∷ []
 done_fields at place (done.Close moved) = at_key at ∷ (codes "moved", fact.moved moved) ∷ ok (codes "close") ∷ place_key place ∷ []
-done_fields at place (done.Fault node dropped) = at_key at ∷ (codes "dropped", fact.count dropped) ∷ (codes "node", fact.node node) ∷ ok (codes "fault") ∷ place_key place ∷ []
+done_fields at place (done.Fault node dropped) =
+    at_key at ∷ (codes "dropped", fact.count dropped) ∷ (codes "node", fact.node node) ∷ ok (codes "fault") ∷ place_key place ∷ []
 done_fields at place (done.Link a b dropped) = ends_fields (codes "link") at place a b dropped
 done_fields at place (done.Cut a b dropped) = ends_fields (codes "cut") at place a b dropped
 done_fields at place (done.Release node) = at_key at ∷ (codes "node", fact.node node) ∷ ok (codes "release") ∷ place_key place ∷ []
@@ -76,7 +78,7 @@ abbrev pub told_fields : ℕ → List ℕ → List ℕ → Fields
 told_fields clause name said = (codes "clause", fact.clause clause) ∷ (codes "deny", fact.word name) ∷ (codes "text", fact.word said) ∷ []
 
 abbrev pub deny_fields : Denial → Fields
-deny_fields d = number_first (current_number d) (told_fields (clause_of d) (denials.name_of d) (text_of d))
+deny_fields d = number_first (current_number d) (told_fields (clause_of d) (denials.denial_name d) (text_of d))
 
 abbrev pub refusal_name : Refused → List ℕ
 refusal_name refused.Malformed = codes "malformed"
@@ -108,7 +110,7 @@ fields_of roster (replies.Refuse r) = refuse_fields r
 abbrev pub text : List ℕ → RosterValue → Reply → List ℕ
 text ids roster r = object_text ids (fields_of roster r)
 
--- with byte 10 at its end
+-- with a newline at its end
 abbrev pub reply_line : List ℕ → RosterValue → Reply → List ℕ
 reply_line ids roster r = text ids roster r ++ 10 ∷ []
 
@@ -118,7 +120,7 @@ is_short (replies.Look l) = false
 is_short (replies.Report r) = false
 is_short _ = true
 
--- the reply that is told is the one that was given, or want of memory in the place of one that isn't short
+-- the reply that is told is the one that was given, or out of memory in the place of one that isn't short
 abbrev pub TellsFor : Reply → Reply → Type 0
 TellsFor reply told = (told ≡ reply) ⊎ ((is_short reply ≡ false) × (told ≡ replies.Refuse refused.Memory))
 

@@ -1,2 +1,3 @@
 pub mod FieldViews
 pub mod Puts
+pub mod Reading

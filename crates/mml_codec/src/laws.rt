@@ -25,7 +25,7 @@ ghost use Rattle.mml_codec.specs.Rulings.{reply_of_done};
 ghost use Rattle.mml_board.specs.declared.event.Event.TheVariants as event;
 ghost use Rattle.mml_board.specs.World.{World};
 ghost use Rattle.mml_board.specs.Events.{done_by, chosen_count, chosen_nodes};
-ghost use Rattle.mml_rules.specs.declared.registers.Regs.{Regs};
+ghost use Rattle.mml_rules.specs.declared.regs.Regs.{Regs};
 ghost use Rattle.mml_rules.specs.declared.rule.Rule.{Rule};
 ghost use Rattle.mml_rules.specs.Rules.{kind_of};
 
@@ -36,7 +36,7 @@ pub fn a_text_asks_its_request()
     ensures { (r : Request) → IsWritable r → request_in (canonical r) ≡ Ok r }
 {}
 
-/// No byte of a request's text is 10, so with a byte 10 at its end it is one line.
+/// A request's text has no newline, so with one at its end it is one line.
 pub fn a_text_is_one_line()
     ensures { (r : Request) → IsWritable r → All (λ byte. byte ≢ 10) (canonical r) }
 {}

@@ -5,22 +5,22 @@ mod greeting;
 pub mod laws;
 mod listed;
 mod object;
-mod reading;
 mod reply;
-mod replying;
-mod reported;
+mod reply_writing;
+mod report_writing;
 mod request;
-mod ruling;
-mod writing;
+mod request_reading;
+mod request_writing;
+mod ruling_reply;
 
 pub use greeting::{Greeting, greet};
 pub use mml_plain::LineScratch;
-pub use reading::{read_request, read_request_with};
 pub use reply::{FULL_LINE, JOURNAL_LINE, MALFORMED_LINE, MEMORY_LINE, REPLY_ROOM, Refused, Reply};
-pub use replying::{tell_reply, write_reply};
+pub use reply_writing::{tell_reply, write_reply};
 pub use request::{LineFault, Request};
-pub use ruling::{reply_of, reply_of_done};
-pub use writing::write_request;
+pub use request_reading::{read_request, read_request_with};
+pub use request_writing::write_request;
+pub use ruling_reply::{reply_of, reply_of_done};
 
-/// The most bytes of a request line, without byte 10.
+/// The most bytes of a request line, without its newline.
 pub const MAX_REQUEST: usize = 4096;

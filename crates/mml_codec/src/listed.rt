@@ -4,7 +4,7 @@ ghost use Rattle.mml_policy.specs.About.{IsNear};
 ghost use Rattle.mml_stable.specs.Reports.{IsPairOf, IsOpenLinkOf};
 ghost use Rattle.mml_codec.specs.Facts.{node_text, near_text, pair_text, privileged_text, open_link_text, separated};
 
-use crate::replying::{kind_word, pointer, truth};
+use crate::reply_writing::{kind_word, pointer, truth};
 use mml_ids::{IdTable, Memory, Piece, Rank, put};
 use mml_rules::{Kind, Regs};
 use mml_stable::OpenLink;

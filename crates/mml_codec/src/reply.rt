@@ -7,16 +7,16 @@ use mml_stable::Report;
 /// The capacity, in bytes, with which a reply line is written without taking memory.
 pub const REPLY_ROOM: usize = 2048;
 
-/// The reply line to a line that is no request, with its byte 10.
+/// The reply line to a line that is no request, with its newline.
 pub const MALFORMED_LINE: &str = "{\"refuse\":\"malformed\"}\n";
 
-/// The reply line to a grant where no event may follow any longer, with its byte 10.
+/// The reply line to a grant where no event may follow any longer, with its newline.
 pub const FULL_LINE: &str = "{\"refuse\":\"full\"}\n";
 
-/// The reply line to a grant where the journal takes no line any longer, with its byte 10.
+/// The reply line to a grant where the journal takes no line any longer, with its newline.
 pub const JOURNAL_LINE: &str = "{\"refuse\":\"journal\"}\n";
 
-/// The reply line where a growth was refused, with its byte 10.
+/// The reply line where a growth was refused, with its newline.
 pub const MEMORY_LINE: &str = "{\"refuse\":\"memory\"}\n";
 
 /// Why a request is refused.

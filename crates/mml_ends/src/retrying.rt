@@ -7,7 +7,7 @@ use std::io;
 use std::io::{Error, ErrorKind, Read, Write};
 
 /// A reader or a writer whose calls are made again where a signal interrupted them, and which remembers
-/// whether one of them failed for want of memory.
+/// whether one of them failed because memory ran out.
 #[derive(Debug, Drop)]
 pub struct Retrying<T: Drop> {
     pub inner: T,
@@ -39,7 +39,7 @@ impl<R: Read + Drop> Read for Retrying<R> {
             ⊎ IsErrAnd result (λ e. error_kind e ≡ ErrorKind.OutOfMemory)) }
     {
         let got = read_on(&mut self.inner, buf);
-        self.lacked_memory = self.lacked_memory || is_memory(&got);
+        self.lacked_memory = self.lacked_memory || is_out_of_memory(&got);
         got
     }
 }
@@ -56,7 +56,7 @@ impl<W: Write + Drop> Write for Retrying<W> {
             ⊎ IsErrAnd result (λ e. error_kind e ≡ ErrorKind.OutOfMemory)) }
     {
         let put = write_on(&mut self.inner, buf);
-        self.lacked_memory = self.lacked_memory || is_memory(&put);
+        self.lacked_memory = self.lacked_memory || is_out_of_memory(&put);
         put
     }
 
@@ -117,8 +117,8 @@ fn is_interrupted(error: &Error) -> bool
     error.kind() == ErrorKind::Interrupted
 }
 
-// Whether a call failed for want of memory.
-fn is_memory(done: &io::Result<usize>) -> bool
+// Whether a call failed because memory ran out.
+fn is_out_of_memory(done: &io::Result<usize>) -> bool
     ensures { IsTrue result ↔ IsErrAnd done.now (λ e. error_kind e ≡ ErrorKind.OutOfMemory) }
 {
     match done {

@@ -1,101 +1,49 @@
 //! Labs that several tests speak of, as TOML documents.
 use std::alloc::{AllocError, Global};
 
+/// A lab with 100 events and four connections, whose teacher is tess: its links, its students by name and
+/// key, and its nodes by identifier, owner and what else stands there.
+#[macro_export]
+macro_rules! lab {
+    ($links:literal, [$(($name:literal, $key:literal)),*], [$(($id:literal, $owner:literal, $more:literal)),*]) => {
+        concat!(
+            "\nevents = 100\nsessions = 4\n",
+            $links,
+            "\n[teacher]\nname = \"tess\"\nkey = \"chalk\"\n",
+            $("\n[[student]]\nname = \"", $name, "\"\nkey = \"", $key, "\"\n",)*
+            $("\n[[node]]\nid = ", $id, "\nowner = \"", $owner, "\"\n", $more,)*
+        )
+    };
+}
+
 /// Nodes 1, 2 and 3 in a row, of ana, ben and cyd; the teacher is tess, four connections.
-pub const PATH_OF_THREE: &str = r#"
-events = 100
-sessions = 4
-links = [[1, 2], [2, 3]]
-
-[teacher]
-name = "tess"
-key = "chalk"
-
-[[student]]
-name = "ana"
-key = "a-key"
-
-[[student]]
-name = "ben"
-key = "b-key"
-
-[[student]]
-name = "cyd"
-key = "c-key"
-
-[[node]]
-id = 1
-owner = "ana"
-
-[[node]]
-id = 2
-owner = "ben"
-
-[[node]]
-id = 3
-owner = "cyd"
-"#;
+pub const PATH_OF_THREE: &str = lab!(
+    "links = [[1, 2], [2, 3]]\n",
+    [("ana", "a-key"), ("ben", "b-key"), ("cyd", "c-key")],
+    [(1, "ana", ""), (2, "ben", ""), (3, "cyd", "")]
+);
 
 /// Nodes 3, 5 and 9 in a row, 5 and 9 of ben, 3 of ana; 3 and 5 point at each other, and only 3
 /// believes it.
-pub const PAIR: &str = r#"
-events = 100
-sessions = 4
-links = [[3, 5], [5, 9]]
-
-[teacher]
-name = "tess"
-key = "chalk"
-
-[[student]]
-name = "ana"
-key = "a-key"
-
-[[student]]
-name = "ben"
-key = "b-key"
-
-[[node]]
-id = 9
-owner = "ben"
-
-[[node]]
-id = 3
-owner = "ana"
-p = 5
-m = true
-
-[[node]]
-id = 5
-owner = "ben"
-p = 3
-"#;
+pub const PAIR: &str = lab!(
+    "links = [[3, 5], [5, 9]]\n",
+    [("ana", "a-key"), ("ben", "b-key")],
+    [
+        (9, "ben", ""),
+        (3, "ana", "p = 5\nm = true\n"),
+        (5, "ben", "p = 3\n")
+    ]
+);
 
 /// Nodes 7 and 65535 without a link, and a student with a name of 32 bytes.
-pub const FAR_APART: &str = r#"
-events = 100
-sessions = 4
-
-[teacher]
-name = "tess"
-key = "chalk"
-
-[[student]]
-name = "ana"
-key = "a-key"
-
-[[student]]
-name = "b-0123456789-0123456789-01234567"
-key = "b-key"
-
-[[node]]
-id = 7
-owner = "ana"
-
-[[node]]
-id = 65535
-owner = "ana"
-"#;
+pub const FAR_APART: &str = lab!(
+    "",
+    [
+        ("ana", "a-key"),
+        ("b-0123456789-0123456789-01234567", "b-key")
+    ],
+    [(7, "ana", ""), (65535, "ana", "")]
+);
 
 /// The largest lab: 256 nodes with the greatest identifiers, each linked to each other one and of
 /// two students, as many students with the longest names and keys, and the greatest limits of a run.

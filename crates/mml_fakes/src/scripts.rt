@@ -1,5 +1,42 @@
 //! Scripts that several tests speak of, with their replies.
 
+/// The first lines of a text, so many.
+pub fn first_lines(text: &str, count: u64) -> &str {
+    let mut rest = text;
+    for _ in 0..count {
+        match rest.split_once('\n') {
+            Some((_, after)) => rest = after,
+            None => return text,
+        }
+    }
+    text.strip_suffix(rest).unwrap_or(text)
+}
+
+/// One connection's greeting of a student over `labs::PATH_OF_THREE`, and a move of her node.
+pub const ANA_MOVES: &str = r#"{"do":"hello","key":"a-key","name":"ana"}
+{"at":0,"do":"move","node":1,"rule":"seduction"}
+"#;
+
+/// What is answered to her greeting.
+pub const ANA_WELCOME: &str = r#"{"ok":"hello","who":"ana"}
+"#;
+
+/// What is answered to a move of node 1 that is the first event.
+pub const GRANTED: &str = r#"{"at":0,"node":1,"ok":"move","place":1,"rule":"seduction"}
+"#;
+
+/// What is answered to it where the node is chosen.
+pub const CHOSEN: &str = r#"{"clause":3,"deny":"chosen","text":"this node is already chosen"}
+"#;
+
+/// What is answered to a close that applies that move.
+pub const CLOSED: &str = r#"{"at":1,"moved":[1],"ok":"close","place":2}
+"#;
+
+/// What is answered to a close where no node is chosen.
+pub const EMPTY: &str = r#"{"clause":2,"deny":"empty","text":"no node is chosen"}
+"#;
+
 /// Greetings on two connections, and what is asked before and after them.
 pub const GREETING: &str = r#"1 {"do":"see","node":1}
 1 {"do":"hello","key":"a-key","name":"ana"}

@@ -1,10 +1,9 @@
 -- How a script line is spelled, and what is none.
-use Rattle.std.proofs.Common.{◌≡◌, ◌≢◌, ℕ, ◌+◌, ◌-◌, ◌*◌, ◌/◌, ◌%◌, ◌<◌, ◌≤◌, ◌^◌, ◌⊎◌, take, List, [], ◌∷◌, ◌++◌, length, map, decimal, get_or, arith, sym, subst, ◌∙◌, length-append, append_assoc, refl, ap, zero, suc, All, Option, Some, None, inl, inr}
+use Rattle.std.proofs.Common.{◌≡◌, ◌≢◌, ℕ, ◌+◌, ◌-◌, ◌*◌, ◌/◌, ◌%◌, ◌<◌, ◌≤◌, ◌^◌, ◌⊎◌, List, [], ◌∷◌, ◌++◌, length, map, decimal, get_or, arith, sym}
+use Rattle.std.proofs.Common.{subst, ◌∙◌, length-append, append_assoc, refl, ap, zero, suc, All, Option, Some, None, inl, inr}
 use Rattle.std.specs.Prelude.{slice_index}
 use Rattle.std.proofs.lemmas.Bool.{cases_lt}
-use Rattle.std.proofs.Math.Seq.{take-append_seam}
 use Rattle.itoa.proofs.Decimal.{decimal_two}
-use Rattle.mml_codec.specs.declared.TheConstants.{MAX_REQUEST}
 use Rattle.std.proofs.lemmas.Fmt.{decimal-digits_of, decimal_digit}
 use Rattle.std.proofs.lemmas.List.{append_cancel_left, get_or-append_right}
 use Rattle.std.proofs.lemmas.List.Elements.{All-nil, All-cons}
@@ -20,13 +19,16 @@ use Rattle.mml_hall.specs.ScriptLines.{IsScriptLine, IsBad, script_line}
 unbroken_rest : (xs ys : List ℕ) → IsUnbroken (xs ++ ys) → IsUnbroken ys
 unbroken_rest xs ys h k less e =
     let place : length xs + k - length xs ≡ k = omega arith in
-    h (length xs + k) (omega (arith, less, length-append xs ys)) (get_or-append_right xs ys (length xs) (length xs + k) 0 refl (omega arith) ∙ (ap (λ i. get_or ys i 0) place ∙ e))
+    h (length xs + k) (omega (arith, less, length-append xs ys))
+    (get_or-append_right xs ys (length xs) (length xs + k) 0 refl (omega arith) ∙ (ap (λ i. get_or ys i 0) place ∙ e))
 
+-- a request within a line has no newline
 pub request_unbroken : (line word request : List ℕ) → line ≡ word ++ 32 ∷ request → IsUnbroken line → IsUnbroken request
 request_unbroken line word request e h = unbroken_rest (32 ∷ []) request (unbroken_rest word (32 ∷ request) (subst (λ (t : List ℕ). IsUnbroken t) e h))
 
 -- after a word comes no space
-pub word_without_space : (word rest line : List ℕ) → line ≡ word ++ rest → ((request : List ℕ) → rest ≢ 32 ∷ request) → (request : List ℕ) → line ≢ word ++ 32 ∷ request
+pub word_without_space : (word rest line : List ℕ) → line ≡ word ++ rest → ((request : List ℕ) → rest ≢ 32 ∷ request) → (request : List ℕ)
+    → line ≢ word ++ 32 ∷ request
 word_without_space word rest line e differs request h = differs request (append_cancel_left word rest (32 ∷ request) (sym e ∙ h))
 
 tail_unbroken : (b : ℕ) (bytes : List ℕ) → IsUnbroken (b ∷ bytes) → IsUnbroken bytes
@@ -53,9 +55,11 @@ script_unbroken n s few valid =
     (subst (λ (t : List ℕ). IsUnbroken t) (sym (decimal-digits_of s.connection valid.some small)) (digits_unbroken (digits_of 10 s.connection)))
     (space_first s.request valid.request.0)
 
+-- script lines have no newline within
 pub scripts_unbroken : (n : ℕ) (ss : List RequestLine) → n ≤ 16 → AllByRecursion (IsScriptLine n) ss → All IsUnbroken (map script_line ss)
 scripts_unbroken n [] few each = All-nil IsUnbroken
-scripts_unbroken n (s ∷ ss) few each = All-cons IsUnbroken (script_line s) (map script_line ss) (script_unbroken n s few each.0) (scripts_unbroken n ss few each.1)
+scripts_unbroken n (s ∷ ss) few each =
+    All-cons IsUnbroken (script_line s) (map script_line ss) (script_unbroken n s few each.0) (scripts_unbroken n ss few each.1)
 
 -- what was taken is put back before what is held
 put_back : (a b : Option (List ℕ)) (taken held : List ℕ) → Consumes a (prepend_known held b) taken → Consumes a (prepend_known (taken ++ held) b) []
@@ -67,11 +71,13 @@ put_back (Some xs) (Some ys) taken held h = h ∙ sym (append_assoc taken held y
 abbrev pub ComesBad : ℕ → Option (List ℕ) → Option (List ℕ) → Type 0
 ComesBad sessions a b = (bad : List ℕ) × Consumes a (prepend_known bad b) [] × IsBad sessions bad
 
+-- a line that is no script line, with no more after it than one read brings in, is bad input
 pub bad_line : (a b : Option (List ℕ)) (line more : List ℕ) (limit sessions : ℕ) → Consumes a (prepend_known more b) (ended line) → limit ≡ MAX_SCRIPT_LINE
     → IsWithinLimit limit line → length more < READ_SIZE → ((s : RequestLine) → IsScriptLine sessions s → line ≢ script_line s) → ComesBad sessions a b
 bad_line a b line more limit sessions taken e within few differs =
     (ended line ++ more, put_back a b (ended line) more taken, inl (line, more, refl, subst (λ (n : ℕ). IsWithinLimit n line) e within, differs, few))
 
+-- bytes that are too many for a script line, by no more than one read, are bad input
 pub too_long : (a b : Option (List ℕ)) (held : List ℕ) (limit sessions : ℕ) → Consumes a (prepend_known held b) [] → limit ≡ MAX_SCRIPT_LINE
     → IsTooLong limit held → length held ≤ limit + READ_SIZE → ComesBad sessions a b
 too_long a b held limit sessions kept e long few =
@@ -96,7 +102,9 @@ first_digits line rest n few e =
           inr (two, ap (λ t. slice_index t 0) whole ∙ tens, ap (λ t. slice_index t 1) whole ∙ units, omega (arith, ap length whole))
     ]
 
-pub two_digits : (line rest : List ℕ) (n tens units : ℕ) → n ≤ 16 → line ≡ decimal n ++ 32 ∷ rest → slice_index line 0 ≡ 48 + tens → slice_index line 1 ≡ 48 + units
+-- a line that begins with a number up to 16, of two digits, has that number in its first two bytes
+pub two_digits : (line rest : List ℕ) (n tens units : ℕ) → n ≤ 16 → line ≡ decimal n ++ 32 ∷ rest → slice_index line 0 ≡ 48 + tens
+    → slice_index line 1 ≡ 48 + units
     → units < 10 → 10 * tens + units ≡ n
 unfolding FirstDigits
 two_digits line rest n tens units few e first second small = elim (first_digits line rest n few e) [
@@ -104,6 +112,7 @@ two_digits line rest n tens units few e first second small = elim (first_digits 
   | inr two ↦ omega (arith, two.1, two.2, first, second)
 ]
 
+-- a line that begins with a number up to 16, of one digit, has that number in its first byte
 pub one_digit : (line rest : List ℕ) (n units : ℕ) → n ≤ 16 → line ≡ decimal n ++ 32 ∷ rest → slice_index line 0 ≡ 48 + units
     → (1 < length line → (d : ℕ) → d < 10 → slice_index line 1 ≢ 48 + d) → units ≡ n
 unfolding FirstDigits
@@ -112,6 +121,7 @@ one_digit line rest n units few e first other = elim (first_digits line rest n f
   | inr two ↦ let digit : 38 + n ≡ 48 + (n - 10) = omega (arith, two.0) in absurd (other two.3 (n - 10) (omega (arith, few)) (two.2 ∙ digit))
 ]
 
+-- a line that begins with no digit begins with no number but 0
 pub no_digit : (line rest : List ℕ) (n : ℕ) → n ≤ 16 → line ≡ decimal n ++ 32 ∷ rest
     → (0 < length line → (d : ℕ) → d < 10 → slice_index line 0 ≢ 48 + d) → 0 ≡ n
 unfolding FirstDigits

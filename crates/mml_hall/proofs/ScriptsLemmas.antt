@@ -1,5 +1,6 @@
 -- What has been answered so far, and how it ends.
-use Rattle.std.proofs.Common.{◌≡◌, ℕ, ◌+◌, List, [], ◌∷◌, ◌++◌, length, map, flat_map, refl, sym, ◌∙◌, ap, append_assoc, append-nil, Option, Some, None, subst, inl, inr, Result, Ok, Err, IsErrAnd, ◌<◌, length-append, arith}
+use Rattle.std.proofs.Common.{◌≡◌, ℕ, ◌+◌, List, [], ◌∷◌, ◌++◌, length, map, flat_map, refl, sym, ◌∙◌, ap, append_assoc, append-nil, Option, subst}
+use Rattle.std.proofs.Common.{inl, inr, Result, Ok, Err, IsErrAnd, ◌<◌, length-append, arith}
 use Rattle.std.specs.Prelude.{⊤}
 use Rattle.std.specs.List.{AllByRecursion}
 use Rattle.std.proofs.lemmas.Grind.{common_steps}
@@ -9,7 +10,7 @@ use Rattle.mml_lab.specs.Labs.{LabValue}
 use Rattle.mml_lines.specs.LinesOf.{ended}
 use Rattle.mml_lines.specs.Sending.{BreaksOff, Sends}
 use Rattle.mml_lines.specs.declared.lines.TheConstants.{READ_SIZE}
-use Rattle.mml_lines.specs.declared.writing.WriteFault.{WriteFault}
+use Rattle.mml_lines.specs.declared.write_fault.WriteFault.{WriteFault}
 use Rattle.mml_lines.proofs.KnownBytesLemmas.{nothing_held}
 use Rattle.mml_lines.proofs.SendingLemmas.{nothing_sent, sends_on, sends_more, all_out, breaks_on, breaks_more}
 use Rattle.mml_codec.specs.declared.reply.Reply.{Reply}
@@ -42,11 +43,15 @@ longer_written lab st mid [] (q ∷ rs) s r run = absurd run
 longer_written lab st mid (x ∷ ss) [] s r run = absurd run
 longer_written lab st mid (x ∷ ss) (q ∷ rs) s r run = ap (λ t. output_line lab x.connection q ∷ t) (longer_written lab run.0 mid ss rs s r run.2)
 
-longer_read : (ss : List RequestLine) (s : RequestLine) → flat_map ended (map script_line (ss ++ s ∷ [])) ≡ flat_map ended (map script_line ss) ++ ended (script_line s)
+longer_read : (ss : List RequestLine) (s : RequestLine)
+    → flat_map ended (map script_line (ss ++ s ∷ [])) ≡ flat_map ended (map script_line ss) ++ ended (script_line s)
 longer_read [] s = append-nil (ended (script_line s))
-longer_read (x ∷ ss) s = ap (λ t. ended (script_line x) ++ t) (longer_read ss s) ∙ sym (append_assoc (ended (script_line x)) (flat_map ended (map script_line ss)) (ended (script_line s)))
+longer_read (x ∷ ss) s =
+    ap (λ t. ended (script_line x) ++ t) (longer_read ss s)
+    ∙ sym (append_assoc (ended (script_line x)) (flat_map ended (map script_line ss)) (ended (script_line s)))
 
-longer_valid : (n : ℕ) (ss : List RequestLine) (s : RequestLine) → AllByRecursion (IsScriptLine n) ss → IsScriptLine n s → AllByRecursion (IsScriptLine n) (ss ++ s ∷ [])
+longer_valid : (n : ℕ) (ss : List RequestLine) (s : RequestLine) → AllByRecursion (IsScriptLine n) ss → IsScriptLine n s
+    → AllByRecursion (IsScriptLine n) (ss ++ s ∷ [])
 longer_valid n [] s all one = (one, tt)
 longer_valid n (x ∷ ss) s all one = (all.0, longer_valid n ss s all.1 one)
 
@@ -64,11 +69,13 @@ longer lab t after s = record {
   run = longer_run lab (opening lab) t.end t.lines t.replies s.line (record { reply = s.reply; state = after }) t.run s.turn;
 }
 
-read_longer : (lab : LabValue) (t : Transcript lab) (after : State) (s : LineTurn lab t.end after) → bytes_read (longer lab t after s) ≡ bytes_read t ++ line_read s
+read_longer : (lab : LabValue) (t : Transcript lab) (after : State) (s : LineTurn lab t.end after)
+    → bytes_read (longer lab t after s) ≡ bytes_read t ++ line_read s
 unfolding longer
 read_longer lab t after s = longer_read t.lines s.line
 
-written_longer : (lab : LabValue) (t : Transcript lab) (after : State) (s : LineTurn lab t.end after) → lines_written (longer lab t after s) ≡ lines_written t ++ line_written s ∷ []
+written_longer : (lab : LabValue) (t : Transcript lab) (after : State) (s : LineTurn lab t.end after)
+    → lines_written (longer lab t after s) ≡ lines_written t ++ line_written s ∷ []
 unfolding longer
 written_longer lab t after s = longer_written lab (opening lab) t.end t.lines t.replies s.line s.reply t.run
 
@@ -81,7 +88,8 @@ unfolding longer
 count_longer lab t after s = grind (arith, common_steps, length-append t.lines (s.line ∷ []))
 
 -- nothing was taken since
-nothing_taken : (lab : LabValue) (t : Transcript lab) (input a b : Option (List ℕ)) → Consumes input a (bytes_read t) → Consumes a b [] → Consumes input b (bytes_read t)
+nothing_taken : (lab : LabValue) (t : Transcript lab) (input a b : Option (List ℕ)) → Consumes input a (bytes_read t) → Consumes a b []
+    → Consumes input b (bytes_read t)
 nothing_taken lab t input a b consumed taken =
     subst (λ (bytes : List ℕ). Consumes input b bytes) (append-nil (bytes_read t)) (Consumes-trans input a b (bytes_read t) [] consumed taken)
 
@@ -91,7 +99,8 @@ module _ {S : Type 0} (contents : S → Option (List ℕ)) (failures : S → ℕ
   Left = Journals contents failures lab first
 
   -- the lines so far make a transcript, which leads to where the hall stands, and the last of the lines in answer aren't written
-  pub record AnsweredSoFar (hall : HallValue S) (count : ℕ) (input left : Option (List ℕ)) (unsent : List (List ℕ)) (wrote wrote' : Option (List ℕ)) : Type 0 where
+  pub record AnsweredSoFar (hall : HallValue S) (count : ℕ) (input left : Option (List ℕ)) (unsent : List (List ℕ))
+      (wrote wrote' : Option (List ℕ)) : Type 0 where
     pub transcript : Transcript lab
     pub consumed : Consumes input left (bytes_read transcript)
     pub sent : Sends wrote wrote' (lines_written transcript) unsent
@@ -100,7 +109,8 @@ module _ {S : Type 0} (contents : S → Option (List ℕ)) (failures : S → ℕ
     pub counted : length transcript.lines ≡ count
     pub journals : Left hall.sink hall.state
 
-  pub nothing_yet : (hall : HallValue S) (a wrote : Option (List ℕ)) (held : List ℕ) (unsent : List (List ℕ)) → hall.lab ≡ lab → hall.state ≡ opening lab → hall.sink ≡ first → IsFresh (contents first) → held ≡ [] → unsent ≡ []
+  pub nothing_yet : (hall : HallValue S) (a wrote : Option (List ℕ)) (held : List ℕ) (unsent : List (List ℕ)) → hall.lab ≡ lab → hall.state ≡ opening lab
+      → hall.sink ≡ first → IsFresh (contents first) → held ≡ [] → unsent ≡ []
       → AnsweredSoFar hall 0 a (prepend_known held a) unsent wrote wrote
   nothing_yet hall a wrote held unsent same fresh sink untold none quiet = record {
     transcript = empty lab;
@@ -135,7 +145,8 @@ module _ {S : Type 0} (contents : S → Option (List ℕ)) (failures : S → ℕ
   }
 
   from_end : (hall : HallValue S) (st after : State) (next : Next) (a left c d : Option (List ℕ)) (held : List ℕ) (unsent unsent' : List (List ℕ))
-      → hall.lab ≡ lab → st ≡ hall.state → ServesNext next hall.lab hall.state after a held left unsent unsent' c d → ServesNext next lab st after a held left unsent unsent' c d
+      → hall.lab ≡ lab → st ≡ hall.state → ServesNext next hall.lab hall.state after a held left unsent unsent' c d
+      → ServesNext next lab st after a held left unsent unsent' c d
   from_end hall st after next a left c d held unsent unsent' same stands serves =
       subst (λ (t : State). ServesNext next lab t after a held left unsent unsent' c d) (sym stands)
       (subst (λ (t : LabValue). ServesNext next t hall.state after a held left unsent unsent' c d) same serves)
@@ -159,7 +170,8 @@ module _ {S : Type 0} (contents : S → Option (List ℕ)) (failures : S → ℕ
       let one = from_end hall t.end hall'.state next.Answered a left c d held unsent unsent' so.same_lab so.stands serves in
       record {
         transcript = longer lab t hall'.state one.0;
-        consumed = rw (read_longer lab t hall'.state one.0) (Consumes-trans input a (prepend_known held left) (bytes_read t) (line_read one.0) so.consumed one.1);
+        consumed =
+            rw (read_longer lab t hall'.state one.0) (Consumes-trans input a (prepend_known held left) (bytes_read t) (line_read one.0) so.consumed one.1);
         sent = rw (written_longer lab t hall'.state one.0) (sends_more wrote c d (lines_written t) unsent (line_written one.0 ∷ []) unsent' so.sent one.2);
         same_lab = same ∙ so.same_lab;
         stands = end_longer lab t hall'.state one.0;
@@ -189,7 +201,8 @@ module _ {S : Type 0} (contents : S → Option (List ℕ)) (failures : S → ℕ
   left_so hall count input a wrote c unsent so = (hall.sink, subst (Left hall.sink) (sym so.stands) so.journals)
 
   pub bad_so : (hall : HallValue S) (count : ℕ) (input a left wrote c d e : Option (List ℕ)) (held : List ℕ) (after : State) (unsent unsent' : List (List ℕ))
-      → AnsweredSoFar hall count input a unsent wrote c → ServesNext next.BadLine hall.lab hall.state after a held left unsent unsent' c d → Sends d e unsent' []
+      → AnsweredSoFar hall count input a unsent wrote c → ServesNext next.BadLine hall.lab hall.state after a held left unsent unsent' c d
+      → Sends d e unsent' []
       → Stopped Left (fault.BadLine (count + 1)) lab input left wrote e
   bad_so hall count input a left wrote c d e held after unsent unsent' so serves flushed = (
     serves.0,
@@ -206,7 +219,8 @@ module _ {S : Type 0} (contents : S → Option (List ℕ)) (failures : S → ℕ
       (held, still hall count input a (prepend_known held left) wrote c d unsent so serves.0 serves.2, left_so hall count input a wrote c unsent so, serves.1)
 
   -- the output line of the next line is not wholly out, or one before it
-  pub unwritten_so : (hall hall' : HallValue S) (count : ℕ) (f : WriteFault) (input a left wrote c d : Option (List ℕ)) (held : List ℕ) (unsent unsent' : List (List ℕ))
+  pub unwritten_so : (hall hall' : HallValue S) (count : ℕ) (f : WriteFault) (input a left wrote c d : Option (List ℕ)) (held : List ℕ)
+      (unsent unsent' : List (List ℕ))
       → AnsweredSoFar hall count input a unsent wrote c → hall'.lab ≡ hall.lab
       → TellsJournal hall'.lab hall'.state (contents hall'.sink) → Halts hall.state.halted hall'.state.halted (failures hall.sink) (failures hall'.sink)
       → ServesNext (next.WriteFault f) hall.lab hall.state hall'.state a held left unsent unsent' c d
@@ -237,22 +251,26 @@ module _ {S : Type 0} (contents : S → Option (List ℕ)) (failures : S → ℕ
   )
 
   -- a flush before a bad line was told failed
-  pub bad_unflushed_so : (hall : HallValue S) (count : ℕ) (f : WriteFault) (input a left wrote c d e : Option (List ℕ)) (held : List ℕ) (after : State) (unsent unsent' : List (List ℕ))
-      → AnsweredSoFar hall count input a unsent wrote c → ServesNext next.BadLine hall.lab hall.state after a held left unsent unsent' c d → BreaksOff f d e unsent'
+  pub bad_unflushed_so : (hall : HallValue S) (count : ℕ) (f : WriteFault) (input a left wrote c d e : Option (List ℕ)) (held : List ℕ) (after : State)
+      (unsent unsent' : List (List ℕ))
+      → AnsweredSoFar hall count input a unsent wrote c → ServesNext next.BadLine hall.lab hall.state after a held left unsent unsent' c d
+      → BreaksOff f d e unsent'
       → Stopped Left (fault.Write f.written) lab input left wrote e
   bad_unflushed_so hall count f input a left wrote c d e held after unsent unsent' so serves breaks = (
     serves.0,
     record {
       transcript = so.transcript;
       consumed = nothing_taken lab so.transcript input a (prepend_known serves.0 left) so.consumed serves.1;
-      cut = breaks_on f wrote d e (lines_written so.transcript) unsent' (sends_on wrote c d (lines_written so.transcript) unsent unsent' so.sent serves.3) breaks;
+      cut =
+          breaks_on f wrote d e (lines_written so.transcript) unsent' (sends_on wrote c d (lines_written so.transcript) unsent unsent' so.sent serves.3) breaks;
     },
     left_so hall count input a wrote c unsent so,
     inr (subst (λ (t : LabValue). IsBad t.sessions serves.0) so.same_lab serves.2),
   )
 
--- a fault that a failed write is turned into
-pub write_told : {S : Type 0} (contents : S → Option (List ℕ)) (failures : S → ℕ) (r : Result ⊤ ScriptFault) (opened hall : HallValue S) (input left wrote wrote' : Option (List ℕ)) (n : ℕ)
+-- an error that a failed write is turned into
+pub write_told : {S : Type 0} (contents : S → Option (List ℕ)) (failures : S → ℕ) (r : Result ⊤ ScriptFault) (opened hall : HallValue S)
+    (input left wrote wrote' : Option (List ℕ)) (n : ℕ)
     → IsErrAnd r (λ e. e ≡ fault.Write n) → Stopped (Journals contents failures opened.lab opened.sink) (fault.Write n) opened.lab input left wrote wrote'
     → EndsScript contents failures r opened hall input left wrote wrote'
 write_told contents failures (Ok done) opened hall input left wrote wrote' n h stopped = absurd h

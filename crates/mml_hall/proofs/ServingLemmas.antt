@@ -1,5 +1,6 @@
 -- What comes of a line, from what its parts say.
-use Rattle.std.proofs.Common.{◌≡◌, ℕ, ◌+◌, ◌-◌, ◌*◌, ◌<◌, ◌≤◌, arith, List, [], ◌∷◌, ◌++◌, append_assoc, decimal, length, ◌∙◌, ap, refl, sym, Option, subst, OnOk, IfErr, Result, Ok, Err}
+use Rattle.std.proofs.Common.{◌≡◌, ℕ, ◌+◌, ◌-◌, ◌*◌, ◌<◌, ◌≤◌, arith, List, [], ◌∷◌, ◌++◌, append_assoc, decimal, length, ◌∙◌, ap, refl, sym, Option, subst}
+use Rattle.std.proofs.Common.{OnOk, IfErr, Result, Ok, Err}
 use Rattle.std.specs.Prelude.{⊤}
 use Rattle.mml_lines.proofs.SendingLemmas.{nothing_sent}
 use Rattle.mml_lines.specs.Sending.{BreaksOff, Sends}
@@ -8,7 +9,7 @@ use Rattle.std.specs.Io.KnownBytes.{Consumes, prepend_known}
 use Rattle.mml_lab.specs.Labs.{LabValue}
 use Rattle.mml_lines.specs.LinesOf.{IsWithinLimit, ended}
 use Rattle.mml_lines.specs.declared.lines.TheConstants.{READ_SIZE}
-use Rattle.mml_lines.specs.declared.writing.WriteFault.{WriteFault}
+use Rattle.mml_lines.specs.declared.write_fault.WriteFault.{WriteFault}
 use Rattle.mml_codec.specs.declared.reply.Reply.{Reply}
 use Rattle.mml_hall.specs.declared.TheConstants.{MAX_SCRIPT_LINE}
 use Rattle.mml_hall.specs.declared.script.Next.{Next}
@@ -21,7 +22,8 @@ use Rattle.mml_hall.specs.Serving.{ServesLine, ServesNext, ServesText}
 use Rattle.mml_hall.proofs.ScriptLinesLemmas.{ComesBad, bad_line}
 
 -- the line goes out, its front as it was read
-pub serves_line : (r : Result ⊤ WriteFault) (lab : LabValue) (st after : State) (line : RequestLine) (reply : Reply) (front whole : List ℕ) (unsent unsent' : List (List ℕ)) (wrote wrote' : Option (List ℕ))
+pub serves_line : (r : Result ⊤ WriteFault) (lab : LabValue) (st after : State) (line : RequestLine) (reply : Reply) (front whole : List ℕ)
+    (unsent unsent' : List (List ℕ)) (wrote wrote' : Option (List ℕ))
     → IsScriptLine lab.sessions line → Turn lab st line.connection line.request (record { reply = reply; state = after })
     → front ≡ decimal line.connection ++ 32 ∷ [] → whole ≡ reply_line lab.ids lab.roster reply
     → OnOk r (Sends wrote wrote' (unsent ++ (front ++ whole) ∷ []) unsent')
@@ -35,12 +37,14 @@ serves_line r lab st after line reply front whole unsent unsent' wrote wrote' va
     same = ap (λ t. t ++ whole) begins ∙ (append_assoc (decimal line.connection) (32 ∷ []) whole ∙ ap (λ t. decimal line.connection ++ 32 ∷ t) ends)
 
     of_line : (r : Result ⊤ WriteFault) → OnOk r (Sends wrote wrote' (unsent ++ output_line lab line.connection reply ∷ []) unsent')
-        → IfErr r (λ fault. BreaksOff fault wrote wrote' (unsent ++ output_line lab line.connection reply ∷ [])) → ServesLine r lab st after line unsent unsent' wrote wrote'
+        → IfErr r (λ fault. BreaksOff fault wrote wrote' (unsent ++ output_line lab line.connection reply ∷ []))
+        → ServesLine r lab st after line unsent unsent' wrote wrote'
     of_line (Ok done) ok err = (record { line = line; reply = reply; valid = valid; turn = turn }, refl, ok)
     of_line (Err fault) ok err = (record { line = line; reply = reply; valid = valid; turn = turn }, refl, err)
 
 -- a line was taken, short enough, and no more than one read brought in is held after it
-module _ (lab : LabValue) (st after : State) (a left wrote wrote' : Option (List ℕ)) (held line : List ℕ) (unsent unsent' : List (List ℕ)) (taken : Consumes a (prepend_known held left) (ended line))
+module _ (lab : LabValue) (st after : State) (a left wrote wrote' : Option (List ℕ)) (held line : List ℕ) (unsent unsent' : List (List ℕ))
+    (taken : Consumes a (prepend_known held left) (ended line))
     (short : IsWithinLimit MAX_SCRIPT_LINE line) (few : length held < READ_SIZE) where
   taken_by : (s : RequestLine) (t : LineTurn lab st after) → line ≡ script_line s → t.line ≡ s → Consumes a (prepend_known held left) (line_read t)
   taken_by s t spelled same = subst (λ (bytes : List ℕ). Consumes a (prepend_known held left) (ended bytes)) (spelled ∙ ap script_line (sym same)) taken
@@ -53,6 +57,7 @@ module _ (lab : LabValue) (st after : State) (a left wrote wrote' : Option (List
   serves_next next.ReadFault had = absurd had
   serves_next (next.WriteFault fault) had = (had.2.0, taken_by had.0 had.2.0 had.1 had.2.1, few, had.2.2)
 
+-- bad input that comes next is told as a bad line, with nothing answered and nothing sent
 pub bad_next : (lab : LabValue) (st after : State) (a left wrote : Option (List ℕ)) (held : List ℕ) (unsent : List (List ℕ)) → ComesBad lab.sessions a left
     → ServesNext next.BadLine lab st after a held left unsent unsent wrote wrote
 bad_next lab st after a left wrote held unsent comes = (comes.0, comes.1, comes.2, nothing_sent wrote unsent)

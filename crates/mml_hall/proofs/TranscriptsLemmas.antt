@@ -10,15 +10,18 @@ use Rattle.mml_hall.specs.ScriptLines.{script_line}
 use Rattle.mml_hall.specs.Transcripts.{Transcript, bytes_read}
 use Rattle.mml_hall.proofs.ScriptLinesLemmas.{scripts_unbroken}
 
+-- the lines of what a transcript took and of more are its script lines, and then those of what follows
 pub first_lines : (lab : LabValue) (t : Transcript lab) (rest : List ℕ) → lab.sessions ≤ MAX_SESSIONS
     → lines_of (bytes_read t ++ rest) ≡ map script_line t.lines ++ lines_of rest
 first_lines lab t rest few = lines_first (map script_line t.lines) rest (scripts_unbroken lab.sessions t.lines few t.each)
 
+-- where no newline follows, they are its script lines alone
 pub all_lines : (lab : LabValue) (t : Transcript lab) (rest : List ℕ) → lab.sessions ≤ MAX_SESSIONS → IsUnbroken rest
     → lines_of (bytes_read t ++ rest) ≡ map script_line t.lines
 all_lines lab t rest few unbroken =
     first_lines lab t rest few ∙ (ap (λ (ls : List (List ℕ)). map script_line t.lines ++ ls) (no_line rest unbroken) ∙ append-nil (map script_line t.lines))
 
+-- a run has as many replies as lines
 pub as_many : (lab : LabValue) (st end : State) (ss : List RequestLine) (rs : List Reply) → Run lab st ss rs end → length rs ≡ length ss
 as_many lab st end [] [] run = refl
 as_many lab st end [] (r ∷ rs) run = absurd run

@@ -1,5 +1,6 @@
--- What turns leave as it was, and a reply that wants memory.
-use Rattle.std.proofs.Common.{◌≡◌, ◌≢◌, ◌<◌, ◌-◌, ℕ, Bool, true, false, not, cond, List, Option, Some, None, Result, Ok, Err, refl, sym, ap, ◌∙◌, arith, subst, inl, inr}
+-- What turns leave as it was, and where out of memory may stand in the place of a reply.
+use Rattle.std.proofs.Common.{◌≡◌, ◌≢◌, ◌<◌, ◌-◌, ℕ, Bool, true, false, not, cond, List, Option, Some, None, Result, Ok, Err, refl, sym, ap, ◌∙◌, arith, subst}
+use Rattle.std.proofs.Common.{inl, inr}
 use Rattle.std.proofs.lemmas.Bool.{or_right}
 use Rattle.std.proofs.lemmas.List.{get_or-set_other, set-get_or}
 use Rattle.mml_lab.specs.declared.who.Who.{Who}
@@ -23,7 +24,8 @@ use Rattle.mml_codec.specs.Lines.{request_in}
 use Rattle.mml_codec.specs.Replies.{is_short, TellsFor}
 use Rattle.mml_codec.specs.Rulings.{reply_of_done}
 use Rattle.mml_codec.proofs.RulingsLemmas.{place_of_done, short_done}
-use Rattle.mml_hall.specs.Turns.{State, Outcome, Turn, IsRefusal, GrowsByGrant, is_grant, nothing, while_read, later, sink_failed, known_on, with_known, told, settled, answer_to, plain_turn, takes_memory, without_memory, is_grant, halting, IsKept}
+use Rattle.mml_hall.specs.Turns.{State, Outcome, Turn, IsRefusal, GrowsByGrant, is_grant, nothing, while_read, later, sink_failed, known_on, with_known, told}
+use Rattle.mml_hall.specs.Turns.{settled, answer_to, plain_turn, takes_memory, without_memory, is_grant, halting, IsKept}
 
 -- nothing changes where a connection stays known as it was
 with_known-known_on : (st : State) (k : ℕ) → with_known st k (known_on st k) ≡ st
@@ -43,14 +45,19 @@ granted_not_refused : (at place : ℕ) (d : Done) → IsRefusal (reply_of_done a
 granted_not_refused at place (done.Move node kind) h = h
 granted_not_refused at place _ h = h
 
+-- what is told keeps the state, if its reply isn't that to a grant
+told_keeps : (P : Reply → Type 0) → ((at place : ℕ) (d : Done) → P (reply_of_done at place d) → ⊥) → (st : State) (r : Ruling) → P (told st r).reply
+    → (told st r).state ≡ st
+told_keeps P apart st (Denied d) h = refl
+told_keeps P apart st (Seen s) h = refl
+told_keeps P apart st (Looked l) h = refl
+told_keeps P apart st Reported h = refl
+told_keeps P apart st Full h = refl
+told_keeps P apart st Journal h = refl
+told_keeps P apart st (Granted e d) h = absurd (apart _ _ d h)
+
 refused_told : (st : State) (r : Ruling) → IsRefusal (told st r).reply → (told st r).state ≡ st
-refused_told st (Denied d) h = refl
-refused_told st (Seen s) h = refl
-refused_told st (Looked l) h = refl
-refused_told st Reported h = refl
-refused_told st Full h = refl
-refused_told st Journal h = refl
-refused_told st (Granted e d) h = absurd (granted_not_refused _ _ d h)
+refused_told = told_keeps IsRefusal granted_not_refused
 
 refused_greeting : (lab : LabValue) (st : State) (k : ℕ) (known : Option Who) (r : Request) → known_on st k ≡ known
     → IsRefusal (settled lab st k (greeting lab.roster known r)).reply → (settled lab st k (greeting lab.roster known r)).state ≡ st
@@ -79,6 +86,7 @@ refused_failing : (st : State) (out : Outcome) (grants : Bool) → (IsRefusal ou
 refused_failing st out true plain h = record { world = refl; events = refl; greeted = refl }
 refused_failing st out false plain h = kept st out.state (plain h)
 
+-- a turn that is denied or refused leaves the world, the events and who is known
 pub refused_turn : (lab : LabValue) (st : State) (k : ℕ) (line : List ℕ) (out : Outcome) → Turn lab st k line out → IsRefusal out.reply → IsKept st out.state
 unfolding plain_turn
 refused_turn lab st k line out (nothing, e) h =
@@ -86,11 +94,13 @@ refused_turn lab st k line out (nothing, e) h =
 refused_turn lab st k line out (while_read, e) h = kept st out.state (ap (λ (o : Outcome). o.state) e)
 refused_turn lab st k line out (later, e) h =
     kept st out.state (ap (λ (o : Outcome). o.state) e
-    ∙ refused_later st (answer_to lab st k (request_in line)) (takes_memory (answer_to lab st k (request_in line)).reply) (refused_answer lab st k (request_in line))
+    ∙ refused_later st (answer_to lab st k (request_in line)) (takes_memory (answer_to lab st k (request_in line)).reply)
+    (refused_answer lab st k (request_in line))
     (subst (λ (o : Outcome). IsRefusal o.reply) e h))
 refused_turn lab st k line out (sink_failed, e) h =
     subst (λ (o : Outcome). IsKept st o.state) (sym e)
-    (refused_failing st (answer_to lab st k (request_in line)) (is_grant (answer_to lab st k (request_in line)).reply) (refused_answer lab st k (request_in line))
+    (refused_failing st (answer_to lab st k (request_in line)) (is_grant (answer_to lab st k (request_in line)).reply)
+    (refused_answer lab st k (request_in line))
     (subst (λ (o : Outcome). IsRefusal o.reply) e h))
 
 other_known : (st : State) (k j : ℕ) (x : Option Who) → 0 < k → 0 < j → j ≢ k → known_on (with_known st k x) j ≡ known_on st j
@@ -126,6 +136,7 @@ others_failing : (st : State) (j : ℕ) (out : Outcome) (grants : Bool) → know
 others_failing st j out true plain = refl
 others_failing st j out false plain = plain
 
+-- a turn leaves who is known on every other connection
 pub others_turn : (lab : LabValue) (st : State) (k j : ℕ) (line : List ℕ) (out : Outcome) → Turn lab st k line out → 0 < k → 0 < j → j ≢ k
     → known_on out.state j ≡ known_on st j
 unfolding plain_turn
@@ -147,13 +158,7 @@ never : true ≡ false → ⊥
 never h = cc
 
 long_told : (st : State) (r : Ruling) → is_short (told st r).reply ≡ false → (told st r).state ≡ st
-long_told st (Denied d) h = refl
-long_told st (Seen s) h = refl
-long_told st (Looked l) h = refl
-long_told st Reported h = refl
-long_told st Full h = refl
-long_told st Journal h = refl
-long_told st (Granted e d) h = absurd (never (sym (short_done _ _ d) ∙ h))
+long_told = told_keeps (λ reply. is_short reply ≡ false) (λ at place d h. never (sym (short_done at place d) ∙ h))
 
 long_admission : (lab : LabValue) (st : State) (k : ℕ) (found : Option Who) → is_short (settled lab st k (admitted found)).reply ≡ false → ⊥
 long_admission lab st k None h = never h
@@ -180,11 +185,11 @@ long_turn lab st k line h = long_answer lab st k (request_in line) h
 long_takes_memory : (r : Reply) → is_short r ≡ false → takes_memory r ≡ true
 long_takes_memory r h = or_right (is_grant r) (not (is_short r)) (ap not h)
 
--- the reply is want of memory, which is short
+-- the reply tells out of memory, which is short
 not_without : (st : State) (out : Outcome) → out ≡ without_memory st → is_short out.reply ≡ false → ⊥
 not_without st out e long = never (sym (ap (λ (o : Outcome). is_short o.reply) e) ∙ long)
 
--- the plain outcome isn't short: want of memory may stand in its place
+-- the plain outcome isn't short: out of memory may stand in its place
 wanting : (lab : LabValue) (st : State) (k : ℕ) (line : List ℕ) (out : Outcome) (told : Reply) → out ≡ plain_turn lab st k line → is_short out.reply ≡ false
     → told ≡ (without_memory st).reply → Turn lab st k line (record { reply = told; state = out.state })
 wanting lab st k line out told e long want =
@@ -218,7 +223,8 @@ told_turn lab st k line out told turn (inl same) = subst (λ (r : Reply). Turn l
 told_turn lab st k line out told (nothing, e) (inr want) = wanting lab st k line out told e want.0 want.1
 told_turn lab st k line out told (while_read, e) (inr want) = absurd (not_without st out e want.0)
 told_turn lab st k line out told (later, e) (inr want) = wanting_later lab st k line out told (takes_memory (plain_turn lab st k line).reply) e want.0 want.1
-told_turn lab st k line out told (sink_failed, e) (inr want) = wanting_failing lab st k line out told (is_grant (plain_turn lab st k line).reply) e want.0 want.1
+told_turn lab st k line out told (sink_failed, e) (inr want) =
+    wanting_failing lab st k line out told (is_grant (plain_turn lab st k line).reply) e want.0 want.1
 
 -- ---- the events that turns make
 
@@ -256,13 +262,16 @@ growing_failing : (st : State) (out : Outcome) (grants : Bool) → GrowsByGrant 
 growing_failing st out true grows = inl (refl, refl, refl)
 growing_failing st out false grows = grows
 
+-- a turn whose reply names a place adds that event, and any other turn adds none
 pub growing_turn : (lab : LabValue) (st : State) (k : ℕ) (line : List ℕ) (out : Outcome) → Turn lab st k line out → GrowsByGrant st out
 unfolding plain_turn
 growing_turn lab st k line out (nothing, e) = subst (GrowsByGrant st) (sym e) (growing_answer lab st k (request_in line))
 growing_turn lab st k line out (while_read, e) = subst (GrowsByGrant st) (sym e) (inl (refl, refl, refl))
 growing_turn lab st k line out (later, e) =
     subst (GrowsByGrant st) (sym e)
-    (growing_later st (answer_to lab st k (request_in line)) (takes_memory (answer_to lab st k (request_in line)).reply) (growing_answer lab st k (request_in line)))
+    (growing_later st (answer_to lab st k (request_in line)) (takes_memory (answer_to lab st k (request_in line)).reply)
+    (growing_answer lab st k (request_in line)))
 growing_turn lab st k line out (sink_failed, e) =
     subst (GrowsByGrant st) (sym e)
-    (growing_failing st (answer_to lab st k (request_in line)) (is_grant (answer_to lab st k (request_in line)).reply) (growing_answer lab st k (request_in line)))
+    (growing_failing st (answer_to lab st k (request_in line)) (is_grant (answer_to lab st k (request_in line)).reply)
+    (growing_answer lab st k (request_in line)))

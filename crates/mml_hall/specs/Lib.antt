@@ -2,7 +2,6 @@ pub mod Turns
 pub mod Transcripts
 pub mod Journals
 pub mod Halls
-pub mod HallView
 pub mod ScriptLines
 pub mod Scripts
 pub mod Serving

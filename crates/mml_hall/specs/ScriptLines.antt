@@ -7,7 +7,7 @@ use Rattle.mml_codec.specs.declared.TheConstants.{MAX_REQUEST}
 use Rattle.mml_hall.specs.declared.script_line.ScriptLine.{ScriptLine}
 use Rattle.mml_hall.specs.Turns.{RequestLine}
 
--- without its byte 10: the connection, a space and the request
+-- without its newline: the connection, a space and the request
 abbrev pub script_line : RequestLine → List ℕ
 script_line s = decimal s.connection ++ 32 ∷ s.request
 

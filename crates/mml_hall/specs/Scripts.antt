@@ -42,15 +42,17 @@ pub record CutShort (written : ℕ) (lab : LabValue) (input left wrote wrote' : 
 
 -- all lines of the input were answered, the hall is where they lead, its sink is left so, and after the lines came the
 -- front of a script line
-abbrev pub Finished : {S : Type 0} → (S → State → Type 0) → HallValue S → LabValue → Option (List ℕ) → Option (List ℕ) → Option (List ℕ) → Option (List ℕ) → Type 0
+abbrev pub Finished : {S : Type 0} → (S → State → Type 0) → HallValue S → LabValue → Option (List ℕ) → Option (List ℕ) → Option (List ℕ)
+    → Option (List ℕ) → Type 0
 Finished Leaves hall lab input left wrote wrote' =
     (held : List ℕ) × (a : AllAnswered lab input (prepend_known held left) wrote wrote') × (hall.lab ≡ lab) × (hall.state ≡ a.transcript.end)
     × Leaves hall.sink a.transcript.end × IsWithinLimit MAX_SCRIPT_LINE held × IsAtEnd left
 
--- what was answered when a fault came, and how the sink was left that is gone with the hall. What comes after it of the input
+-- what was answered when an error came, and how the sink was left that is gone with the hall. What comes after it of the input
 -- is what was held, and then what the reader has left: after a failed read the front of a script line, after a failed write no
 -- more than one read brought in, or what is no script line
-abbrev pub Stopped : {S : Type 0} → (S → State → Type 0) → ScriptFault → LabValue → Option (List ℕ) → Option (List ℕ) → Option (List ℕ) → Option (List ℕ) → Type 0
+abbrev pub Stopped : {S : Type 0} → (S → State → Type 0) → ScriptFault → LabValue → Option (List ℕ) → Option (List ℕ) → Option (List ℕ)
+    → Option (List ℕ) → Type 0
 Stopped {S} Leaves fault.Read lab input left wrote wrote' =
     (held : List ℕ) × (a : AllAnswered lab input (prepend_known held left) wrote wrote') × ((sink : S) × Leaves sink a.transcript.end)
     × IsWithinLimit MAX_SCRIPT_LINE held

@@ -5,7 +5,7 @@ use Rattle.mml_lab.specs.Labs.{LabValue}
 use Rattle.mml_lines.specs.LinesOf.{IsWithinLimit}
 use Rattle.mml_lines.specs.Sending.{BreaksOff, Sends}
 use Rattle.mml_lines.specs.declared.lines.TheConstants.{READ_SIZE}
-use Rattle.mml_lines.specs.declared.writing.WriteFault.{WriteFault}
+use Rattle.mml_lines.specs.declared.write_fault.WriteFault.{WriteFault}
 use Rattle.mml_hall.specs.declared.TheConstants.{MAX_SCRIPT_LINE}
 use Rattle.mml_hall.specs.declared.script.Next.{Next}
 use Rattle.mml_hall.specs.declared.script.Next.TheVariants as next
@@ -14,7 +14,8 @@ use Rattle.mml_hall.specs.ScriptLines.{IsScriptLine, IsBad, script_line}
 use Rattle.mml_hall.specs.Scripts.{LineTurn, line_read, line_written}
 
 -- the line had its turn; its output line comes after those that aren't written, of which the first are out
-abbrev pub ServesLine : Result ⊤ WriteFault → LabValue → State → State → RequestLine → List (List ℕ) → List (List ℕ) → Option (List ℕ) → Option (List ℕ) → Type 0
+abbrev pub ServesLine : Result ⊤ WriteFault → LabValue → State → State → RequestLine → List (List ℕ) → List (List ℕ) → Option (List ℕ)
+    → Option (List ℕ) → Type 0
 ServesLine (Ok done) lab st after line unsent unsent' wrote wrote' =
     (t : LineTurn lab st after) × (t.line ≡ line) × Sends wrote wrote' (unsent ++ line_written t ∷ []) unsent'
 ServesLine (Err fault) lab st after line unsent unsent' wrote wrote' =
@@ -33,7 +34,8 @@ ServesText (next.WriteFault fault) lab st after line unsent unsent' wrote wrote'
 
 -- what came of the next line says of the states, of the bytes to come, of which those held are first, of the lines that aren't
 -- written and of the bytes that are
-abbrev pub ServesNext : Next → LabValue → State → State → Option (List ℕ) → List ℕ → Option (List ℕ) → List (List ℕ) → List (List ℕ) → Option (List ℕ) → Option (List ℕ) → Type 0
+abbrev pub ServesNext : Next → LabValue → State → State → Option (List ℕ) → List ℕ → Option (List ℕ) → List (List ℕ) → List (List ℕ) → Option (List ℕ)
+    → Option (List ℕ) → Type 0
 ServesNext next.Answered lab st after input held left unsent unsent' wrote wrote' =
     (t : LineTurn lab st after) × Consumes input (prepend_known held left) (line_read t) × Sends wrote wrote' (unsent ++ line_written t ∷ []) unsent'
 ServesNext next.End lab st after input held left unsent unsent' wrote wrote' =

@@ -26,7 +26,7 @@ pub record Transcript (lab : LabValue) : Type 0 where
   pub each : AllByRecursion (IsScriptLine lab.sessions) lines
   pub run : Run lab (opening lab) lines replies end
 
--- the bytes of the script lines, each with its byte 10
+-- the bytes of the script lines, each with its newline
 abbrev pub bytes_read : {lab : LabValue} → Transcript lab → List ℕ
 bytes_read t = flat_map ended (map script_line t.lines)
 

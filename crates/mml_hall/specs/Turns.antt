@@ -1,5 +1,6 @@
 -- What one line does, and what many do.
-use Rattle.std.specs.Prelude.{◌≡◌, ◌⊎◌, ℕ, ◌+◌, ◌-◌, ◌<◌, List, [], ◌∷◌, ◌++◌, replicate, Bool, true, false, not, ◌||◌, Option, None, Some, is_some, Result, Ok, Err, slice_index_or, slice_set, if◌then◌else◌}
+use Rattle.std.specs.Prelude.{◌≡◌, ◌⊎◌, ℕ, ◌+◌, ◌-◌, ◌<◌, List, [], ◌∷◌, ◌++◌, replicate, Bool, true, false, not, ◌||◌, Option, None, Some, is_some, Result, Ok}
+use Rattle.std.specs.Prelude.{Err, slice_index_or, slice_set, if◌then◌else◌}
 use Rattle.mml_lab.specs.declared.who.Who.{Who}
 use Rattle.mml_lab.specs.Labs.{LabValue}
 use Rattle.mml_board.specs.declared.event.Event.{Event}
@@ -72,11 +73,11 @@ abbrev pub answer_to : LabValue → State → ℕ → Result Request LineFault �
 answer_to lab st k (Err fault) = replied st (reply.Refuse (refusal_of fault))
 answer_to lab st k (Ok request) = settled lab st k (greeting lab.roster (known_on st k) request)
 
--- the turn of a line on a connection, which knows no want of memory and no sink that fails
+-- the turn of a line on a connection, where memory never runs out and no sink fails
 unfoldable pub plain_turn : LabValue → State → ℕ → List ℕ → Outcome
 plain_turn lab st k line = answer_to lab st k (request_in line)
 
--- nothing happens for want of memory
+-- memory ran out, and nothing happens
 abbrev pub without_memory : State → Outcome
 without_memory st = replied st (reply.Refuse refused.Memory)
 

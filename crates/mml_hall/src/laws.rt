@@ -6,7 +6,8 @@ ghost use Rattle.mml_lab.specs.Labs.{LabValue};
 ghost use Rattle.mml_lines.specs.LinesOf.{IsUnbroken, lines_of};
 ghost use Rattle.mml_codec.specs.declared.reply.Reply.TheVariants.{Refuse};
 ghost use Rattle.mml_codec.specs.declared.reply.Refused.TheVariants as refused;
-ghost use Rattle.mml_hall.specs.Turns.{State, Outcome, Turn, Mishap, turn, sink_failed, plain_turn, is_grant, halting, IsRefusal, IsKept, GrowsByGrant, known_on};
+ghost use Rattle.mml_hall.specs.Turns.{State, Outcome, Turn, Mishap, turn, sink_failed, plain_turn, is_grant, halting, IsRefusal, IsKept, GrowsByGrant};
+ghost use Rattle.mml_hall.specs.Turns.{known_on};
 ghost use Rattle.mml_hall.specs.ScriptLines.{script_line};
 ghost use Rattle.mml_hall.specs.Transcripts.{Transcript, bytes_read};
 

@@ -11,5 +11,5 @@ pub use auditing::{AuditFault, audit};
 pub use hall::Hall;
 pub use script::{ScriptFault, run_script};
 
-/// The most bytes of a script line, without byte 10.
+/// The most bytes of a script line, without its newline.
 pub const MAX_SCRIPT_LINE: usize = 4099;

@@ -4,6 +4,7 @@ ghost use Rattle.mml_lines.specs.declared.lines.TheConstants.{READ_SIZE};
 ghost use Rattle.mml_lines.specs.LinesOf.{IsWithinLimit};
 ghost use Rattle.mml_lines.specs.LinesState.{bytes_ahead, fresh};
 ghost use Rattle.mml_lines.specs.Sending.{BreaksOff, Sends};
+ghost use Rattle.mml_hall.specs.declared.script.ScriptFault.TheVariants as faults;
 ghost use Rattle.mml_hall.specs.Turns.{Halts, opening};
 ghost use Rattle.mml_journal.specs.Taken.{IsFresh};
 ghost use Rattle.mml_hall.specs.Journals.{TellsJournal, Journals};
@@ -38,10 +39,7 @@ pub enum ScriptFault {
 }
 
 impl From<AllocError> for ScriptFault {
-    ghost use Rattle.std.specs.Prelude.{◌≡◌};
-    ghost use Rattle.mml_hall.specs.declared.script.ScriptFault.TheVariants as fault;
-
-    ghost from_gives = { λ _ e. e ≡ fault.Memory };
+    ghost from_gives = { λ _ e. e ≡ faults.Memory };
 
     fn from(_error: AllocError) -> ScriptFault {
         ScriptFault::Memory
@@ -49,10 +47,7 @@ impl From<AllocError> for ScriptFault {
 }
 
 impl From<Memory> for ScriptFault {
-    ghost use Rattle.std.specs.Prelude.{◌≡◌};
-    ghost use Rattle.mml_hall.specs.declared.script.ScriptFault.TheVariants as fault;
-
-    ghost from_gives = { λ _ e. e ≡ fault.Memory };
+    ghost from_gives = { λ _ e. e ≡ faults.Memory };
 
     fn from(_memory: Memory) -> ScriptFault {
         ScriptFault::Memory
@@ -60,10 +55,7 @@ impl From<Memory> for ScriptFault {
 }
 
 impl From<WriteFault> for ScriptFault {
-    ghost use Rattle.std.specs.Prelude.{◌≡◌};
-    ghost use Rattle.mml_hall.specs.declared.script.ScriptFault.TheVariants as fault;
-
-    ghost from_gives = { λ f e. e ≡ fault.Write f.written };
+    ghost from_gives = { λ f e. e ≡ faults.Write f.written };
 
     fn from(fault: WriteFault) -> ScriptFault {
         ScriptFault::Write {
@@ -74,7 +66,7 @@ impl From<WriteFault> for ScriptFault {
 
 /// Answers the lines of a script one by one. Replies go out together, so that one write takes many: the
 /// writer is flushed where the next line needs a read, and before a bad line is told. The lines of the
-/// granted events go to the sink, which is let go with the hall where a fault ends the script.
+/// granted events go to the sink, which is let go with the hall where an error ends the script.
 pub fn run_script<R: Read, W: Write, S: Sink + Drop>(
     alloc: Global,
     lab: Lab,

@@ -18,7 +18,7 @@ pub struct ScriptLine<'a> {
     pub request: &'a [u8],
 }
 
-/// Reads a line of a script, without byte 10: a connection in decimal, one space and the request.
+/// Reads a line of a script, without its newline: a connection in decimal, one space and the request.
 pub fn read_script_line(line: &[u8], sessions: u8) -> Option<ScriptLine<'_>>
     requires few { sessions ≤ MAX_SESSIONS }
     requires line { IsWithinLimit MAX_SCRIPT_LINE line.now }

@@ -1,5 +1,6 @@
 -- Scripts whose turns may meet mishaps, the same in both runs.
-use Rattle.std.proofs.Common.{◌≡◌, ◌⊎◌, ℕ, Bool, true, false, cond, List, [], ◌∷◌, ◌++◌, Option, None, Some, Result, Ok, Err, refl, sym, ap, ◌∙◌, subst, inl, inr}
+use Rattle.std.proofs.Common.{◌≡◌, ◌⊎◌, ℕ, Bool, true, false, cond, List, [], ◌∷◌, ◌++◌, Option, None, Some, Result, Ok, Err, refl, sym, ap, ◌∙◌, subst, inl}
+use Rattle.std.proofs.Common.{inr}
 use Rattle.std.specs.Prelude.{decimal}
 use Rattle.mml_lab.specs.declared.who.Who.{Who}
 use Rattle.mml_lab.specs.Labs.{LabValue, IsLab}
@@ -12,10 +13,12 @@ use Rattle.mml_codec.specs.declared.request.Request.TheVariants as requests
 use Rattle.mml_codec.specs.declared.reply.Reply.{Reply}
 use Rattle.mml_codec.specs.Greetings.{greeting}
 use Rattle.mml_codec.specs.Lines.{request_in}
-use Rattle.mml_hall.specs.Turns.{State, Outcome, Run, RequestLine, Mishap, nothing, while_read, later, sink_failed, turn, plain_turn, known_on, settled, answer_to, takes_memory, is_grant, without_memory, halting, opening}
+use Rattle.mml_hall.specs.Turns.{State, Outcome, Run, RequestLine, Mishap, nothing, while_read, later, sink_failed, turn, plain_turn, known_on, settled}
+use Rattle.mml_hall.specs.Turns.{answer_to, takes_memory, is_grant, without_memory, halting, opening}
 use Rattle.mml_hall.specs.Transcripts.{Transcript, output_line}
 use Rattle.mml_hidden.specs.Twins.{AreTwins, StatesAlike, is_hers}
-use Rattle.mml_hidden.specs.Mishaps.{BefallenLine, turn_with, lines_in, replies_with, end_with, StayAlikeWith, written_on_any, AreHersThroughout, Befalls, Befell}
+use Rattle.mml_hidden.specs.Mishaps.{BefallenLine, turn_with, lines_in, replies_with, end_with, StayAlikeWith, written_on_any, AreHersThroughout, Befalls}
+use Rattle.mml_hidden.specs.Mishaps.{Befell}
 use Rattle.mml_hidden.proofs.TwinsLemmas.{TurnsAlike, same_known, known_alike, greeted_alike, plain_of, told_greeted, twin_same, twin_turn, twin_line}
 use Rattle.mml_hidden.proofs.ScriptedLemmas.{if_same, openings_alike}
 
@@ -25,7 +28,8 @@ either_of : (ids : List ℕ) (b : Bool) (p q : Outcome) → IsWorldOf ids p.stat
 either_of ids true p q x y = x
 either_of ids false p q x y = y
 
-turn_world : (lab : LabValue) (st : State) → IsWorldOf lab.ids st.world → (m : Mishap) (k : ℕ) (line : List ℕ) → IsWorldOf lab.ids (turn m lab st k line).state.world
+turn_world : (lab : LabValue) (st : State) → IsWorldOf lab.ids st.world → (m : Mishap) (k : ℕ) (line : List ℕ)
+    → IsWorldOf lab.ids (turn m lab st k line).state.world
 turn_world lab st is nothing k line = plain_of lab st is k line
 turn_world lab st is while_read k line = is
 turn_world lab st is later k line =
@@ -38,7 +42,8 @@ turn_world lab st is sink_failed k line =
 -- the same are known, and either the same mishaps prevent both, or nobody greets
 record KnownAlike (st su : State) (one two : Outcome) : Type 0 where
   pub greeted : one.state.greeted ≡ two.state.greeted
-  pub prevented : ((takes_memory one.reply ≡ takes_memory two.reply) × (is_grant one.reply ≡ is_grant two.reply)) ⊎ ((one.state.greeted ≡ st.greeted) × (two.state.greeted ≡ su.greeted))
+  pub prevented : ((takes_memory one.reply ≡ takes_memory two.reply) × (is_grant one.reply ≡ is_grant two.reply))
+      ⊎ ((one.state.greeted ≡ st.greeted) × (two.state.greeted ≡ su.greeted))
 
 either_known : (st su : State) (b c : Bool) (p q one two : Outcome) → p.state.greeted ≡ st.greeted → q.state.greeted ≡ su.greeted → st.greeted ≡ su.greeted
     → one.state.greeted ≡ two.state.greeted → ((b ≡ c) ⊎ ((one.state.greeted ≡ st.greeted) × (two.state.greeted ≡ su.greeted)))
@@ -57,9 +62,11 @@ either_known st su false true p q one two x y same g (inl e) = absurd (true_fals
 either_known st su false true p q one two x y same g (inr (f, k)) = f ∙ same ∙ sym y
 
 module _ (lab : LabValue) (s : ℕ) (st su : State) (a : StatesAlike lab s st su) where
-  settled_known : (k : ℕ) (known : Option Who) (q : Request) → KnownAlike st su (settled lab st k (greeting lab.roster known q)) (settled lab su k (greeting lab.roster known q))
+  settled_known : (k : ℕ) (known : Option Who) (q : Request)
+      → KnownAlike st su (settled lab st k (greeting lab.roster known q)) (settled lab su k (greeting lab.roster known q))
   settled_known k None q =
-      let t : TurnsAlike lab s (settled lab st k (greeting lab.roster None q)) (settled lab su k (greeting lab.roster None q)) = greeted_alike lab s st su a k None q refl in
+      let t : TurnsAlike lab s (settled lab st k (greeting lab.roster None q)) (settled lab su k (greeting lab.roster None q)) =
+      greeted_alike lab s st su a k None q refl in
       record { greeted = t.states.greeted; prevented = inl (ap takes_memory t.reply, ap is_grant t.reply) }
   settled_known k (Some x) (requests.Hello name key) = record { greeted = (known_alike lab s st su a k (Some x)).greeted; prevented = inl (refl, refl) }
   settled_known k (Some x) requests.Bye = record { greeted = (known_alike lab s st su a k None).greeted; prevented = inl (refl, refl) }
@@ -71,20 +78,23 @@ module _ (lab : LabValue) (s : ℕ) (st su : State) (a : StatesAlike lab s st su
   answer_known : (k : ℕ) (asked : Result Request LineFault) → KnownAlike st su (answer_to lab st k asked) (answer_to lab su k asked)
   answer_known k (Err fault) = record { greeted = a.greeted; prevented = inl (refl, refl) }
   answer_known k (Ok q) =
-      subst (λ (known : Option Who). KnownAlike st su (settled lab st k (greeting lab.roster (known_on st k) q)) (settled lab su k (greeting lab.roster known q)))
+      subst
+      (λ (known : Option Who). KnownAlike st su (settled lab st k (greeting lab.roster (known_on st k) q)) (settled lab su k (greeting lab.roster known q)))
       (same_known lab s st su a k) (settled_known k (known_on st k) q)
 
   plain_known : (k : ℕ) (line : List ℕ) → KnownAlike st su (plain_turn lab st k line) (plain_turn lab su k line)
   unfolding plain_turn
   plain_known k line = answer_known k (request_in line)
 
-  memory_part : (one two : Outcome) → KnownAlike st su one two → (takes_memory one.reply ≡ takes_memory two.reply) ⊎ ((one.state.greeted ≡ st.greeted) × (two.state.greeted ≡ su.greeted))
+  memory_part : (one two : Outcome) → KnownAlike st su one two
+      → (takes_memory one.reply ≡ takes_memory two.reply) ⊎ ((one.state.greeted ≡ st.greeted) × (two.state.greeted ≡ su.greeted))
   memory_part one two h = elim h.prevented [
     | inl p ↦ inl p.0
     | inr q ↦ inr q
   ]
 
-  journal_part : (one two : Outcome) → KnownAlike st su one two → (is_grant one.reply ≡ is_grant two.reply) ⊎ ((one.state.greeted ≡ st.greeted) × (two.state.greeted ≡ su.greeted))
+  journal_part : (one two : Outcome) → KnownAlike st su one two
+      → (is_grant one.reply ≡ is_grant two.reply) ⊎ ((one.state.greeted ≡ st.greeted) × (two.state.greeted ≡ su.greeted))
   journal_part one two h = elim h.prevented [
     | inl p ↦ inl p.1
     | inr q ↦ inr q
@@ -115,15 +125,18 @@ module _ (lab : LabValue) (s : ℕ) (st su : State) (a : StatesAlike lab s st su
 -- ---- two runs of one script that the same befell
 
 module _ (lab other : LabValue) (t : AreTwins lab other) (s : ℕ) where
-  pub twin_others_with : (st su : State) → StatesAlike lab s st su → (m : Mishap) (k : ℕ) (line : List ℕ) → Alike lab.roster s (turn m lab st k line).state.world (turn m other su k line).state.world
-      → (turn m lab st k line).state.halted ≡ (turn m other su k line).state.halted → StatesAlike lab s (turn m lab st k line).state (turn m other su k line).state
+  pub twin_others_with : (st su : State) → StatesAlike lab s st su → (m : Mishap) (k : ℕ) (line : List ℕ)
+      → Alike lab.roster s (turn m lab st k line).state.world (turn m other su k line).state.world
+      → (turn m lab st k line).state.halted ≡ (turn m other su k line).state.halted
+      → StatesAlike lab s (turn m lab st k line).state (turn m other su k line).state
   twin_others_with st su a m k line worlds halted =
       subst (λ (o : Outcome). Alike lab.roster s (turn m lab st k line).state.world o.state.world → (turn m lab st k line).state.halted ≡ o.state.halted
       → StatesAlike lab s (turn m lab st k line).state o.state) (twin_same lab other t m su k line) (turn_others lab s st su a m k line) worlds halted
 
   next_with : (st su : State) → StatesAlike lab s st su → (b : BefallenLine)
       → (is_hers s (known_on st b.line.connection) ≡ false
-      → Alike lab.roster s (turn_with lab st b).state.world (turn_with other su b).state.world × ((turn_with lab st b).state.halted ≡ (turn_with other su b).state.halted))
+      → Alike lab.roster s (turn_with lab st b).state.world (turn_with other su b).state.world
+      × ((turn_with lab st b).state.halted ≡ (turn_with other su b).state.halted))
       → StatesAlike lab s (turn_with lab st b).state (turn_with other su b).state
   next_with st su a b stay = go (is_hers s (known_on st b.line.connection)) refl
     where
@@ -136,22 +149,28 @@ module _ (lab other : LabValue) (t : AreTwins lab other) (s : ℕ) where
   output_with st su a b h =
       ap (λ (bytes : List ℕ). decimal b.line.connection ++ 32 ∷ bytes) (twin_line lab other t s st su a b.mishap b.line.connection b.line.request h)
 
-  pub same_end_with : (st su : State) (bs : List BefallenLine) → StatesAlike lab s st su → StayAlikeWith lab other s st su bs → StatesAlike lab s (end_with lab st bs) (end_with other su bs)
+  pub same_end_with : (st su : State) (bs : List BefallenLine) → StatesAlike lab s st su → StayAlikeWith lab other s st su bs
+      → StatesAlike lab s (end_with lab st bs) (end_with other su bs)
   same_end_with st su [] a stay = a
   same_end_with st su (b ∷ bs) a stay = same_end_with (turn_with lab st b).state (turn_with other su b).state bs (next_with st su a b stay.0) stay.1
 
-  pub same_written_with : (st su : State) (some : ℕ → Bool) (bs : List BefallenLine) → StatesAlike lab s st su → StayAlikeWith lab other s st su bs → AreHersThroughout lab s some st bs
+  pub same_written_with : (st su : State) (some : ℕ → Bool) (bs : List BefallenLine) → StatesAlike lab s st su → StayAlikeWith lab other s st su bs
+      → AreHersThroughout lab s some st bs
       → written_on_any lab some (lines_in bs) (replies_with lab st bs) ≡ written_on_any other some (lines_in bs) (replies_with other su bs)
   same_written_with st su some [] a stay hers = refl
   same_written_with st su some (b ∷ bs) a stay hers =
-      let first = if_same (some b.line.connection) (output_line lab b.line.connection (turn_with lab st b).reply ∷ []) (output_line other b.line.connection (turn_with other su b).reply ∷ [])
+      let first =
+      if_same (some b.line.connection)
+      (output_line lab b.line.connection (turn_with lab st b).reply ∷ []) (output_line other b.line.connection (turn_with other su b).reply ∷ [])
       (λ h. ap (λ (x : List ℕ). x ∷ []) (output_with st su a b (hers.0 h))) in
       let rest = same_written_with (turn_with lab st b).state (turn_with other su b).state some bs (next_with st su a b stay.0) stay.1 hers.1 in
       λ z. first z ++ rest z
 
 -- ---- each run is that of turns that something befell
 
-pub run_befalls : (lab : LabValue) (st : State) (lines : List RequestLine) (rs : List Reply) (end : State) → Run lab st lines rs end → Befalls lab st lines rs end
+-- in each run something befell every line
+pub run_befalls : (lab : LabValue) (st : State) (lines : List RequestLine) (rs : List Reply) (end : State) → Run lab st lines rs end
+    → Befalls lab st lines rs end
 run_befalls lab st [] [] end run = record { befallen = []; lines_are = refl; replies_are = refl; end_is = run }
 run_befalls lab st [] (r ∷ rs) end run = absurd run
 run_befalls lab st (line ∷ lines) [] end run = absurd run
@@ -166,7 +185,9 @@ run_befalls lab st (line ∷ lines) (r ∷ rs) end (next, (m, e), run) =
       end_is = rest.end_is ∙ ap (λ (x : State). end_with lab x rest.befallen) state;
     }
 
-pub same_transcripts_with : (lab other : LabValue) (s : ℕ) (some : ℕ → Bool) (t : Transcript lab) (u : Transcript other) (bs : List BefallenLine) → AreTwins lab other → IsLab lab → IsLab other
+-- the same lines and mishaps have the same output on the student's connections, while the worlds stay alike
+pub same_transcripts_with : (lab other : LabValue) (s : ℕ) (some : ℕ → Bool) (t : Transcript lab) (u : Transcript other) (bs : List BefallenLine)
+    → AreTwins lab other → IsLab lab → IsLab other
     → Alike lab.roster s (opening_of lab.network) (opening_of other.network) → Befell lab t bs → Befell other u bs
     → StayAlikeWith lab other s (opening lab) (opening other) bs → AreHersThroughout lab s some (opening lab) bs
     → written_on_any lab some t.lines t.replies ≡ written_on_any other some u.lines u.replies

@@ -1,5 +1,6 @@
 -- Scripts in two labs between which a student can't tell.
-use Rattle.std.proofs.Common.{◌≡◌, ◌≢◌, ℕ, ◌-◌, ◌==◌, Bool, true, false, cond, List, [], ◌∷◌, ◌++◌, length, Option, None, Some, Result, Ok, Err, All, refl, sym, ap, ◌∙◌, subst, inl, inr}
+use Rattle.std.proofs.Common.{◌≡◌, ◌≢◌, ℕ, ◌-◌, ◌==◌, Bool, true, false, cond, List, [], ◌∷◌, ◌++◌, length, Option, None, Some, Result, Ok, Err, All, refl, sym}
+use Rattle.std.proofs.Common.{ap, ◌∙◌, subst, inl, inr}
 use Rattle.std.specs.List.{concat}
 use Rattle.std.specs.Prelude.{slice_index_or, replicate, decimal}
 use Rattle.std.proofs.lemmas.Bool.{eqb-true}
@@ -22,13 +23,16 @@ use Rattle.mml_codec.specs.declared.reply.Refused.TheVariants as refused
 use Rattle.mml_codec.specs.Greetings.{greeting, admitted}
 use Rattle.mml_codec.specs.Lines.{request_in}
 use Rattle.mml_codec.specs.Replies.{reply_line}
-use Rattle.mml_hall.specs.Turns.{State, Outcome, Turn, Run, RequestLine, Mishap, nothing, while_read, later, sink_failed, turn, plain_turn, known_on, with_known, settled, answer_to, told, opening, takes_memory, is_grant, without_memory, halting}
+use Rattle.mml_hall.specs.Turns.{State, Outcome, Turn, Run, RequestLine, Mishap, nothing, while_read, later, sink_failed, turn, plain_turn, known_on}
+use Rattle.mml_hall.specs.Turns.{with_known, settled, answer_to, told, opening, takes_memory, is_grant, without_memory, halting}
 use Rattle.mml_hall.specs.Transcripts.{Transcript, output_line, output_lines, bytes_written}
 use Rattle.mml_hall.proofs.AuditMeaningLemmas.{reached_first}
 use Rattle.mml_hidden.specs.Twins.{AreTwins, StatesAlike, is_hers}
-use Rattle.mml_hidden.specs.Scripted.{turn_of, replies_to, end_of, written_to, StayAlike, written_on, IsHersThroughout, OnlySheGreets, OnlySheIsKnown, AreUnhindered}
+use Rattle.mml_hidden.specs.Scripted.{turn_of, replies_to, end_of, written_to, StayAlike, written_on, IsHersThroughout, OnlySheGreets, OnlySheIsKnown}
+use Rattle.mml_hidden.specs.Scripted.{AreUnhindered}
 use Rattle.mml_hidden.proofs.TwinsLemmas.{TurnsAlike, same_known, twin_turn, twin_line, twin_others, told_greeted}
 
+-- what is written only where a test holds is the same where it is the same under the test
 pub if_same : (b : Bool) (x y : List (List ℕ)) → (b ≡ true → x ≡ y) → cond b x [] ≡ cond b y []
 if_same true x y h = h refl
 if_same false x y h = refl
@@ -39,7 +43,8 @@ module _ (lab other : LabValue) (t : AreTwins lab other) (s : ℕ) where
 
   same_output : (st su : State) → StatesAlike lab s st su → (line : RequestLine) → is_hers s (known_on st line.connection) ≡ true
       → output_line lab line.connection (turn_of lab st line).reply ≡ output_line other line.connection (turn_of other su line).reply
-  same_output st su a line h = ap (λ (bytes : List ℕ). decimal line.connection ++ 32 ∷ bytes) (twin_line lab other t s st su a nothing line.connection line.request h)
+  same_output st su a line h =
+      ap (λ (bytes : List ℕ). decimal line.connection ++ 32 ∷ bytes) (twin_line lab other t s st su a nothing line.connection line.request h)
 
   next_alike : (st su : State) → StatesAlike lab s st su → (line : RequestLine)
       → (is_hers s (known_on st line.connection) ≡ false → Alike lab.roster s (turn_of lab st line).state.world (turn_of other su line).state.world)
@@ -50,7 +55,8 @@ module _ (lab other : LabValue) (t : AreTwins lab other) (s : ℕ) where
       go true h = (twin_turn lab other t s st su a nothing line.connection line.request h).states
       go false h = twin_others lab other t s st su a line.connection line.request (worlds h)
 
-  pub same_written : (st su : State) (lines : List RequestLine) → StatesAlike lab s st su → StayAlike lab other s st su lines → written_to lab s st lines ≡ written_to other s su lines
+  pub same_written : (st su : State) (lines : List RequestLine) → StatesAlike lab s st su → StayAlike lab other s st su lines
+      → written_to lab s st lines ≡ written_to other s su lines
   same_written st su [] a stay = refl
   same_written st su (line ∷ lines) a stay =
       let first : cond (is_hers s (known_on st line.connection)) (output_line lab line.connection (turn_of lab st line).reply ∷ []) []
@@ -60,11 +66,13 @@ module _ (lab other : LabValue) (t : AreTwins lab other) (s : ℕ) where
       let rest = same_written (turn_of lab st line).state (turn_of other su line).state lines (next_alike st su a line stay.0) stay.1 in
       λ z. first z ++ rest z
 
-  pub same_end : (st su : State) (lines : List RequestLine) → StatesAlike lab s st su → StayAlike lab other s st su lines → StatesAlike lab s (end_of lab st lines) (end_of other su lines)
+  pub same_end : (st su : State) (lines : List RequestLine) → StatesAlike lab s st su → StayAlike lab other s st su lines
+      → StatesAlike lab s (end_of lab st lines) (end_of other su lines)
   same_end st su [] a stay = a
   same_end st su (line ∷ lines) a stay = same_end (turn_of lab st line).state (turn_of other su line).state lines (next_alike st su a line stay.0) stay.1
 
-  pub same_written_on : (st su : State) (k : ℕ) (lines : List RequestLine) → StatesAlike lab s st su → StayAlike lab other s st su lines → IsHersThroughout lab s k st lines
+  pub same_written_on : (st su : State) (k : ℕ) (lines : List RequestLine) → StatesAlike lab s st su → StayAlike lab other s st su lines
+      → IsHersThroughout lab s k st lines
       → written_on lab k lines (replies_to lab st lines) ≡ written_on other k lines (replies_to other su lines)
   same_written_on st su k [] a stay hers = refl
   same_written_on st su k (line ∷ lines) a stay hers =
@@ -94,7 +102,8 @@ module _ (lab : LabValue) (s : ℕ) where
   hers_with : (st : State) (k : ℕ) (x : Option Who) → OnlySheIsKnown s st → is_hers s x ≡ true → OnlySheIsKnown s (with_known st k x)
   hers_with st k x all h = All-set (λ (known : Option Who). is_hers s known ≡ true) st.greeted (k - 1) x h all
 
-  hers_admitted : (st : State) (k : ℕ) (found : Option Who) → OnlySheIsKnown s st → is_hers s found ≡ true → OnlySheIsKnown s (settled lab st k (admitted found)).state
+  hers_admitted : (st : State) (k : ℕ) (found : Option Who) → OnlySheIsKnown s st → is_hers s found ≡ true
+      → OnlySheIsKnown s (settled lab st k (admitted found)).state
   hers_admitted st k None all h = hers_with st k None all refl
   hers_admitted st k (Some x) all h = hers_with st k (Some x) all h
 
@@ -130,7 +139,9 @@ module _ (lab other : LabValue) (t : AreTwins lab other) (s : ℕ) where
   same_replies st su (line ∷ lines) a all greets =
       let both : TurnsAlike lab s (turn_of lab st line) (turn_of other su line) =
       twin_turn lab other t s st su a nothing line.connection line.request (hers_known lab s st line.connection all) in
-      let rest = same_replies (turn_of lab st line).state (turn_of other su line).state lines both.states (hers_plain lab s st line.connection line.request all greets.0) greets.1 in
+      let rest =
+      same_replies (turn_of lab st line).state (turn_of other su line).state lines both.states
+      (hers_plain lab s st line.connection line.request all greets.0) greets.1 in
       λ z. both.reply z ∷ rest z
 
   same_outputs : (lines : List RequestLine) (rs : List Reply) → output_lines lab lines rs ≡ output_lines other lines rs
@@ -148,7 +159,9 @@ module _ (lab other : LabValue) (t : AreTwins lab other) (s : ℕ) where
 
 -- ---- at the beginning
 
-pub openings_alike : (lab other : LabValue) (s : ℕ) → AreTwins lab other → IsLab lab → IsLab other → Alike lab.roster s (opening_of lab.network) (opening_of other.network)
+-- halls of twin labs, whose networks are alike for the student, begin alike
+pub openings_alike : (lab other : LabValue) (s : ℕ) → AreTwins lab other → IsLab lab → IsLab other
+    → Alike lab.roster s (opening_of lab.network) (opening_of other.network)
     → StatesAlike lab s (opening lab) (opening other)
 openings_alike lab other s t is other_is a = record {
   first = (reached_first lab is).world;
@@ -158,12 +171,14 @@ openings_alike lab other s t is other_is a = record {
   halted = refl;
 }
 
+-- at the beginning nobody but the student is known, since nobody is
 pub opening_hers : (lab : LabValue) (s : ℕ) → OnlySheIsKnown s (opening lab)
 opening_hers lab s = All-replicate (λ (known : Option Who). is_hers s known ≡ true) lab.sessions None refl
 
 -- ---- runs that no mishap hinders are plain
 
-unless_memory : (st : State) (plain : Outcome) (b : Bool) → (cond b (without_memory st) plain).reply ≢ Refuse refused.Memory → cond b (without_memory st) plain ≡ plain
+unless_memory : (st : State) (plain : Outcome) (b : Bool) → (cond b (without_memory st) plain).reply ≢ Refuse refused.Memory
+    → cond b (without_memory st) plain ≡ plain
 unless_memory st plain true h = absurd (h refl)
 unless_memory st plain false h = refl
 
@@ -171,31 +186,37 @@ unless_journal : (st : State) (plain : Outcome) (b : Bool) → (cond b (halting 
 unless_journal st plain true h = absurd (h refl)
 unless_journal st plain false h = refl
 
-plain_mishap : (lab : LabValue) (st : State) (k : ℕ) (line : List ℕ) (m : Mishap) → (turn m lab st k line).reply ≢ Refuse refused.Memory → (turn m lab st k line).reply ≢ Refuse refused.Journal
+plain_mishap : (lab : LabValue) (st : State) (k : ℕ) (line : List ℕ) (m : Mishap) → (turn m lab st k line).reply ≢ Refuse refused.Memory
+    → (turn m lab st k line).reply ≢ Refuse refused.Journal
     → turn m lab st k line ≡ plain_turn lab st k line
 plain_mishap lab st k line nothing memory journal = refl
 plain_mishap lab st k line while_read memory journal = absurd (memory refl)
 plain_mishap lab st k line later memory journal = unless_memory st (plain_turn lab st k line) (takes_memory (plain_turn lab st k line).reply) memory
 plain_mishap lab st k line sink_failed memory journal = unless_journal st (plain_turn lab st k line) (is_grant (plain_turn lab st k line).reply) journal
 
-plain_there : (lab : LabValue) (st : State) (k : ℕ) (line : List ℕ) (out : Outcome) → Turn lab st k line out → out.reply ≢ Refuse refused.Memory → out.reply ≢ Refuse refused.Journal
+plain_there : (lab : LabValue) (st : State) (k : ℕ) (line : List ℕ) (out : Outcome) → Turn lab st k line out → out.reply ≢ Refuse refused.Memory
+    → out.reply ≢ Refuse refused.Journal
     → out ≡ plain_turn lab st k line
 plain_there lab st k line out (m, e) memory journal =
     e ∙ plain_mishap lab st k line m (λ h. memory (ap (λ (o : Outcome). o.reply) e ∙ h)) (λ h. journal (ap (λ (o : Outcome). o.reply) e ∙ h))
 
+-- a run that nothing hindered has the replies and the end of its plain turns
 pub plain_run : (lab : LabValue) (st : State) (lines : List RequestLine) (rs : List Reply) (end : State) → Run lab st lines rs end → AreUnhindered rs
     → (rs ≡ replies_to lab st lines) × (end ≡ end_of lab st lines)
 plain_run lab st [] [] end run free = (refl, run)
 plain_run lab st [] (r ∷ rs) end run free = absurd run
 plain_run lab st (line ∷ lines) [] end run free = absurd run
 plain_run lab st (line ∷ lines) (r ∷ rs) end (next, here, run) (now, free) =
-    let plain : record { reply = r; state = next } ≡ turn_of lab st line = plain_there lab st line.connection line.request (record { reply = r; state = next }) here now.0 now.1 in
+    let plain : record { reply = r; state = next } ≡ turn_of lab st line =
+    plain_there lab st line.connection line.request (record { reply = r; state = next }) here now.0 now.1 in
     let state : next ≡ (turn_of lab st line).state = ap (λ (o : Outcome). o.state) plain in
     let rest = plain_run lab next lines rs end run free in
     ((λ z. (plain z).reply ∷ (rest.0 ∙ ap (λ (x : State). replies_to lab x lines) state) z), rest.1 ∙ ap (λ (x : State). end_of lab x lines) state)
 
+-- where only the student greets, the same lines are answered by the same bytes in both labs
 pub same_transcripts : (lab other : LabValue) (s : ℕ) (t : Transcript lab) (u : Transcript other) → AreTwins lab other → IsLab lab → IsLab other
-    → Alike lab.roster s (opening_of lab.network) (opening_of other.network) → u.lines ≡ t.lines → OnlySheGreets lab s t.lines → AreUnhindered t.replies → AreUnhindered u.replies
+    → Alike lab.roster s (opening_of lab.network) (opening_of other.network) → u.lines ≡ t.lines → OnlySheGreets lab s t.lines → AreUnhindered t.replies
+    → AreUnhindered u.replies
     → bytes_written t ≡ bytes_written u
 same_transcripts lab other s t u twins is other_is a lines greets free other_free =
     ap (λ (rs : List Reply). concat (output_lines lab t.lines rs)) (plain_run lab (opening lab) t.lines t.replies t.end t.run free).0
@@ -203,6 +224,7 @@ same_transcripts lab other s t u twins is other_is a lines greets free other_fre
     ∙ ap (λ (ls : List RequestLine). concat (output_lines other ls (replies_to other (opening other) ls))) (sym lines)
     ∙ ap (λ (rs : List Reply). concat (output_lines other u.lines rs)) (sym (plain_run other (opening other) u.lines u.replies u.end u.run other_free).0)
 
+-- on a connection of the student, the same lines have the same output while the worlds stay alike
 pub same_on_connection : (lab other : LabValue) (s k : ℕ) (t : Transcript lab) (u : Transcript other) → AreTwins lab other → IsLab lab → IsLab other
     → Alike lab.roster s (opening_of lab.network) (opening_of other.network) → u.lines ≡ t.lines → StayAlike lab other s (opening lab) (opening other) t.lines
     → IsHersThroughout lab s k (opening lab) t.lines → AreUnhindered t.replies → AreUnhindered u.replies

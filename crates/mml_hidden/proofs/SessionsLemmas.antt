@@ -1,5 +1,6 @@
 -- Two sessions of one student, in which the same lines have the same replies.
-use Rattle.std.proofs.Common.{◌≡◌, ℕ, ◌-◌, true, false, List, [], ◌∷◌, ◌++◌, length, take, map, Option, None, Some, Result, Ok, Err, refl, sym, ap, ◌∙◌, subst, arith, length-append, inl, inr}
+use Rattle.std.proofs.Common.{◌≡◌, ℕ, ◌-◌, true, false, List, [], ◌∷◌, ◌++◌, length, take, map, Option, None, Some, Result, Ok, Err, refl, sym, ap, ◌∙◌, subst}
+use Rattle.std.proofs.Common.{arith, length-append, inl, inr}
 use Rattle.std.proofs.Math.Seq.{take-length, take-append_seam}
 use Rattle.std.proofs.lemmas.Bool.{false≢true, eqb-true}
 use Rattle.mml_lab.specs.declared.who.Who.{Who}
@@ -46,7 +47,8 @@ but_last l e =
     let n : length (l ++ e ∷ []) - 1 ≡ length l = omega (arith, length-append l (e ∷ [])) in
     ap (λ k. take k (l ++ e ∷ [])) n ∙ take-append_seam l (e ∷ [])
 
-seen_plainly : (w : World) (l : List Event) (g : Ruling) → take (length (entered l (event_of g)) - length (places_in (reply_of w g))) (entered l (event_of g)) ≡ l
+seen_plainly : (w : World) (l : List Event) (g : Ruling)
+    → take (length (entered l (event_of g)) - length (places_in (reply_of w g))) (entered l (event_of g)) ≡ l
 seen_plainly w l (Denied d) = all_of l (length l - 0) (omega arith)
 seen_plainly w l (Seen s) = all_of l (length l - 0) (omega arith)
 seen_plainly w l (Looked k) = all_of l (length l - 0) (omega arith)
@@ -69,7 +71,8 @@ record IsPlain (lab : LabValue) (x : Who) (c : Command) (r : Reply) (new : Windo
   legal : is_legal_in lab (seen_at r new) ≡ true
   says : r ≡ reply_to lab.ids lab.roster lab.events false (world_in lab (seen_at r new)) x c
 
-plain_from : (lab : LabValue) (ps : List ℕ) (l : List Event) (x : Who) (c : Command) (r : Reply) (new : WindowValue) → is_legal_in lab l ≡ true → Plainly lab l ps (ruling_at lab (world_in lab l) x c) r new → IsPlain lab x c r new
+plain_from : (lab : LabValue) (ps : List ℕ) (l : List Event) (x : Who) (c : Command) (r : Reply) (new : WindowValue) → is_legal_in lab l ≡ true
+    → Plainly lab l ps (ruling_at lab (world_in lab l) x c) r new → IsPlain lab x c r new
 plain_from lab ps l x c r new legal h =
     let g = ruling_at lab (world_in lab l) x c in
     let there : seen_at r new ≡ l =
@@ -79,7 +82,8 @@ plain_from lab ps l x c r new legal h =
       says = h.0 ∙ ap (λ l. reply_to lab.ids lab.roster lab.events false (world_in lab l) x c) (sym there);
     }
   where
-    seen_plainly_at : (g : Ruling) → take (length (entered l (event_of g)) - length (places_in (reply_of (after_ruling (world_in lab l) g) g))) (entered l (event_of g)) ≡ l
+    seen_plainly_at : (g : Ruling)
+        → take (length (entered l (event_of g)) - length (places_in (reply_of (after_ruling (world_in lab l) g) g))) (entered l (event_of g)) ≡ l
     seen_plainly_at g = seen_plainly (after_ruling (world_in lab l) g) l g
 
 plain_told : (lab : LabValue) (old new : WindowValue) (x : Who) (c : Command) (r : Reply) → IsUnhindered r → Told lab old x c r new → IsPlain lab x c r new
@@ -97,7 +101,8 @@ module _ (lab other : LabValue) (is : IsLab lab) (too : IsLab other) (t : AreTwi
       let w = world_in lab (seen_at r one) in
       let v = world_in other (seen_at q two) in
       let in_w : IsWorldOf lab.ids w = record { world = world_is lab is (seen_at r one) p.legal; nodes = nodes_in lab (seen_at r one) is } in
-      let in_v : IsWorldOf lab.ids v = record { world = world_is other too (seen_at q two) k.legal; nodes = ap length t.ids ∙ nodes_in other (seen_at q two) too } in
+      let in_v : IsWorldOf lab.ids v =
+      record { world = world_is other too (seen_at q two) k.legal; nodes = ap length t.ids ∙ nodes_in other (seen_at q two) too } in
       p.says
       ∙ ap (λ x. reply_to lab.ids lab.roster lab.events false w x c) e
       ∙ same_reply_to lab.ids lab.roster lab.events false w v s c in_w in_v a
@@ -129,11 +134,13 @@ module _ (lab other : LabValue) (is : IsLab lab) (too : IsLab other) (t : AreTwi
     settled_both (Some x) requests.Bye e f a h k = answered _ None h k
     settled_both None (requests.Do c) e f a h k = answered _ None h k
     settled_both (Some x) (requests.Do c) e f a h k = (
-      same_told x c r q next.window last.window (she_is x a.hers) (plain_told lab st.window next.window x c r a.first h.1) (plain_told other su.window last.window x c q a.second k.1) a.worlds,
+      same_told x c r q next.window last.window (she_is x a.hers) (plain_told lab st.window next.window x c r a.first h.1)
+          (plain_told other su.window last.window x c q a.second k.1) a.worlds,
       h.0 ∙ e ∙ sym f ∙ sym k.0,
     )
 
-    asked_both : (known : Option Who) (asked : Result Request LineFault) → st.known ≡ known → su.known ≡ known → IsToldAlike lab other s known r q next.window last.window
+    asked_both : (known : Option Who) (asked : Result Request LineFault) → st.known ≡ known → su.known ≡ known
+        → IsToldAlike lab other s known r q next.window last.window
         → Asked lab st asked r next → Asked other su asked q last → IsSame r q next last
     asked_both known (Err fault) e f a h k = (h.0 ∙ sym k.0, ap (λ n. n.known) h.1 ∙ e ∙ sym f ∙ sym (ap (λ n. n.known) k.1))
     asked_both known (Ok asked) e f a h k = settled_both known asked e f a
@@ -141,7 +148,8 @@ module _ (lab other : LabValue) (is : IsLab lab) (too : IsLab other) (t : AreTwi
         (subst (λ x. Settles other su (greeting lab.roster x asked) q last) f
         (subst (λ (x : RosterValue). Settles other su (greeting x su.known asked) q last) (sym t.roster) k))
 
-    turn_both : (line : List ℕ) → st.known ≡ su.known → IsToldAlike lab other s st.known r q next.window last.window → Turn lab st line r next → Turn other su line q last → IsSame r q next last
+    turn_both : (line : List ℕ) → st.known ≡ su.known → IsToldAlike lab other s st.known r q next.window last.window → Turn lab st line r next
+        → Turn other su line q last → IsSame r q next last
     turn_both line e a h k = elim h [
       | inr unread ↦ absurd (a.first.0 unread.0)
       | inl one ↦ elim k [
@@ -152,7 +160,9 @@ module _ (lab other : LabValue) (is : IsLab lab) (too : IsLab other) (t : AreTwi
 
   -- ---- all lines
 
-  pub session_both : (st su : Standing) (lines : List (List ℕ)) (rs qs : List Reply) (end fin : Standing) (one : Run lab st lines rs end) (two : Run other su lines qs fin) → st.known ≡ su.known
+  pub session_both : (st su : Standing) (lines : List (List ℕ)) (rs qs : List Reply) (end fin : Standing) (one : Run lab st lines rs end)
+      (two : Run other su lines qs fin)
+      → st.known ≡ su.known
       → AreToldAlike lab other s st su lines rs qs end fin one two → (rs ≡ qs) × (end.known ≡ fin.known)
   session_both st su [] [] [] end fin one two e a = (refl, ap (λ n. n.known) one ∙ e ∙ sym (ap (λ n. n.known) two))
   session_both st su [] [] (q ∷ qs) end fin one two e a = absurd two

@@ -74,11 +74,14 @@ unreported limit h w (Ok Report) n = absurd n
 unreported limit h w (Ok (Grant e)) n = unless_full (nat_le limit w.place) h e (done_by w e)
 unreported limit h w (Err d) n = refl
 
-pub student_unreported : (ids : List ℕ) (r : RosterValue) (limit : ℕ) (h : Bool) (w : World) (s : ℕ) (k : Command) → is_report (ruling ids r limit h w (who.Student s) k) ≡ false
+-- no command of a student is ruled to be a report
+pub student_unreported : (ids : List ℕ) (r : RosterValue) (limit : ℕ) (h : Bool) (w : World) (s : ℕ) (k : Command)
+    → is_report (ruling ids r limit h w (who.Student s) k) ≡ false
 student_unreported ids r limit h w s k = unreported limit h w (clauses ids r w (who.Student s) k) (no_report ids r w s k)
 
 -- ---- the reply to any other ruling is made of the ruling, the number and the place
 
+-- a ruling other than a report has the same reply in worlds of the same number and place
 pub same_reply_of : (w v : World) (g : Ruling) → is_report g ≡ false → w.number ≡ v.number → w.place ≡ v.place → reply_of w g ≡ reply_of v g
 same_reply_of w v (Denied d) h number place = refl
 same_reply_of w v (Seen s) h number place = refl
@@ -88,13 +91,19 @@ same_reply_of w v Full h number place = refl
 same_reply_of w v Journal h number place = refl
 same_reply_of w v (Granted e d) h number place = λ k. reply_of_done (number k) (place k) d
 
-pub same_reply_to : (ids : List ℕ) (r : RosterValue) (limit : ℕ) (h : Bool) (w v : World) (s : ℕ) (k : Command) → IsWorldOf ids w → IsWorldOf ids v → Alike r s w v
+-- in worlds that are alike for a student, each command of the student has the same reply
+pub same_reply_to : (ids : List ℕ) (r : RosterValue) (limit : ℕ) (h : Bool) (w v : World) (s : ℕ) (k : Command) → IsWorldOf ids w
+    → IsWorldOf ids v → Alike r s w v
     → reply_to ids r limit h w (who.Student s) k ≡ reply_to ids r limit h v (who.Student s) k
 same_reply_to ids r limit h w v s k in_w in_v a =
-    let after : Alike r s (world_after ids r limit h w (who.Student s) k) (world_after ids r limit h v (who.Student s) k) = alike_afterwards ids r limit h w v s k in_w in_v a in
-    same_reply_of (world_after ids r limit h w (who.Student s) k) (world_after ids r limit h v (who.Student s) k) (ruling ids r limit h w (who.Student s) k) (student_unreported ids r limit h w s k) after.number after.place
+    let after : Alike r s (world_after ids r limit h w (who.Student s) k) (world_after ids r limit h v (who.Student s) k) =
+    alike_afterwards ids r limit h w v s k in_w in_v a in
+    same_reply_of (world_after ids r limit h w (who.Student s) k) (world_after ids r limit h v (who.Student s) k) (ruling ids r limit h w (who.Student s) k)
+    (student_unreported ids r limit h w s k) after.number after.place
     ∙ ap (λ (g : Ruling). reply_of (world_after ids r limit h v (who.Student s) k) g) (same_ruling ids r limit h w v s k in_w in_v a)
 
-pub same_line_to : (ids : List ℕ) (r : RosterValue) (limit : ℕ) (h : Bool) (w v : World) (s : ℕ) (k : Command) → IsWorldOf ids w → IsWorldOf ids v → Alike r s w v
+-- and the same line in answer
+pub same_line_to : (ids : List ℕ) (r : RosterValue) (limit : ℕ) (h : Bool) (w v : World) (s : ℕ) (k : Command) → IsWorldOf ids w
+    → IsWorldOf ids v → Alike r s w v
     → line_to ids r limit h w (who.Student s) k ≡ line_to ids r limit h v (who.Student s) k
 same_line_to ids r limit h w v s k in_w in_v a = ap (λ (q : Reply). reply_line ids r q) (same_reply_to ids r limit h w v s k in_w in_v a)

@@ -29,7 +29,8 @@ use Rattle.mml_codec.specs.Greetings.{greeting, admitted}
 use Rattle.mml_codec.specs.Lines.{request_in}
 use Rattle.mml_codec.specs.Replies.{reply_line}
 use Rattle.mml_codec.specs.Rulings.{reply_of}
-use Rattle.mml_hall.specs.Turns.{State, Outcome, Mishap, nothing, while_read, later, sink_failed, turn, known_on, with_known, entered, told, settled, answer_to, plain_turn, takes_memory, without_memory, is_grant, halting, replied}
+use Rattle.mml_hall.specs.Turns.{State, Outcome, Mishap, nothing, while_read, later, sink_failed, turn, known_on, with_known, entered, told, settled, answer_to}
+use Rattle.mml_hall.specs.Turns.{plain_turn, takes_memory, without_memory, is_grant, halting, replied}
 use Rattle.mml_hidden.specs.Twins.{AreTwins, StatesAlike, is_hers}
 use Rattle.mml_hidden.proofs.ToldLemmas.{same_reply_of, student_unreported}
 
@@ -47,19 +48,22 @@ entered_world : (st : State) (o : Option Event) → (entered st o).world ≡ opt
 entered_world st None = refl
 entered_world st (Some e) = refl
 
-still_of : (ids : List ℕ) (r : RosterValue) (w : World) (o : Option Event) → IsWorldOf ids w → ((e : Event) → o ≡ Some e → is_legal r w e ≡ true) → IsWorldOf ids (option_map_or (after w) o w)
+still_of : (ids : List ℕ) (r : RosterValue) (w : World) (o : Option Event) → IsWorldOf ids w → ((e : Event) → o ≡ Some e → is_legal r w e ≡ true)
+    → IsWorldOf ids (option_map_or (after w) o w)
 still_of ids r w None is legal = is
 still_of ids r w (Some e) is legal = record {
   world = after-world w e is.world (legal-possible r w e (legal e refl));
   nodes = is.nodes ∙ sym (size-after w e);
 }
 
-ruled_still : (ids : List ℕ) (r : RosterValue) (limit : ℕ) (h : Bool) (w : World) (x : Who) (c : Command) → IsWorldOf ids w → IsWorldOf ids (after_ruling w (ruling ids r limit h w x c))
+ruled_still : (ids : List ℕ) (r : RosterValue) (limit : ℕ) (h : Bool) (w : World) (x : Who) (c : Command) → IsWorldOf ids w
+    → IsWorldOf ids (after_ruling w (ruling ids r limit h w x c))
 ruled_still ids r limit h w x c is = still_of ids r w (event_of (ruling ids r limit h w x c)) is (λ e k. (legal_event ids r limit h w x c e is.nodes k).0)
 
 told_world : (st : State) (g : Ruling) → (told st g).state.world ≡ after_ruling st.world g
 told_world st g = entered_world st (event_of g)
 
+-- what comes of a ruling leaves who is known
 pub told_greeted : (st : State) (g : Ruling) → (told st g).state.greeted ≡ st.greeted
 told_greeted st g = go (event_of g)
   where
@@ -154,9 +158,11 @@ module _ (lab : LabValue) (s : ℕ) (st su : State) (a : StatesAlike lab s st su
       }
 
   judged_alike : (x : Who) (c : Command) → x ≡ who.Student s
-      → TurnsAlike lab s (told st (ruling lab.ids lab.roster lab.events st.halted st.world x c)) (told su (ruling lab.ids lab.roster lab.events su.halted su.world x c))
+      → TurnsAlike lab s (told st (ruling lab.ids lab.roster lab.events st.halted st.world x c))
+      (told su (ruling lab.ids lab.roster lab.events su.halted su.world x c))
   judged_alike x c e =
-      subst (λ (y : Who). TurnsAlike lab s (told st (ruling lab.ids lab.roster lab.events st.halted st.world y c)) (told su (ruling lab.ids lab.roster lab.events su.halted su.world y c)))
+      subst (λ (y : Who). TurnsAlike lab s (told st (ruling lab.ids lab.roster lab.events st.halted st.world y c))
+      (told su (ruling lab.ids lab.roster lab.events su.halted su.world y c)))
       (sym e) (told_alike c)
 
   she_is : (x : Who) → is_hers s (Some x) ≡ true → x ≡ who.Student s
@@ -184,7 +190,8 @@ module _ (lab : LabValue) (s : ℕ) (st su : State) (a : StatesAlike lab s st su
       → TurnsAlike lab s (answer_to lab st k asked) (answer_to lab su k asked)
   answer_alike k (Err fault) h = record { reply = refl; states = a }
   answer_alike k (Ok q) h =
-      subst (λ (known : Option Who). TurnsAlike lab s (settled lab st k (greeting lab.roster (known_on st k) q)) (settled lab su k (greeting lab.roster known q)))
+      subst
+      (λ (known : Option Who). TurnsAlike lab s (settled lab st k (greeting lab.roster (known_on st k) q)) (settled lab su k (greeting lab.roster known q)))
       (same_known k) (greeted_alike k (known_on st k) q h)
 
   pub plain_alike : (k : ℕ) (line : List ℕ) → is_hers s (known_on st k) ≡ true → TurnsAlike lab s (plain_turn lab st k line) (plain_turn lab su k line)
@@ -208,7 +215,8 @@ module _ (lab : LabValue) (s : ℕ) (st su : State) (a : StatesAlike lab s st su
       go true = x
       go false = y
 
-  pub turn_alike : (mishap : Mishap) (k : ℕ) (line : List ℕ) → is_hers s (known_on st k) ≡ true → TurnsAlike lab s (turn mishap lab st k line) (turn mishap lab su k line)
+  pub turn_alike : (mishap : Mishap) (k : ℕ) (line : List ℕ) → is_hers s (known_on st k) ≡ true
+      → TurnsAlike lab s (turn mishap lab st k line) (turn mishap lab su k line)
   turn_alike nothing k line h = plain_alike k line h
   turn_alike while_read k line h = stays_alike _
   turn_alike later k line h =
@@ -224,7 +232,10 @@ module _ (lab : LabValue) (s : ℕ) (st su : State) (a : StatesAlike lab s st su
   others_settled : (k : ℕ) (known : Option Who) (q : Request)
       → (((settled lab st k (greeting lab.roster known q)).state.greeted ≡ (settled lab su k (greeting lab.roster known q)).state.greeted)
       × ((settled lab st k (greeting lab.roster known q)).state.halted ≡ (settled lab su k (greeting lab.roster known q)).state.halted))
-  others_settled k None q = let t : TurnsAlike lab s (settled lab st k (greeting lab.roster None q)) (settled lab su k (greeting lab.roster None q)) = greeted_alike k None q refl in (t.states.greeted, t.states.halted)
+  others_settled k None q =
+      let t : TurnsAlike lab s (settled lab st k (greeting lab.roster None q)) (settled lab su k (greeting lab.roster None q)) =
+      greeted_alike k None q refl in
+      (t.states.greeted, t.states.halted)
   others_settled k (Some x) (requests.Hello name key) = ((known_alike k (Some x)).greeted, a.halted)
   others_settled k (Some x) requests.Bye = ((known_alike k None).greeted, a.halted)
   others_settled k (Some x) (requests.Do c) = (
@@ -233,15 +244,18 @@ module _ (lab : LabValue) (s : ℕ) (st su : State) (a : StatesAlike lab s st su
   )
 
   others_answer : (k : ℕ) (asked : Result Request LineFault)
-      → (((answer_to lab st k asked).state.greeted ≡ (answer_to lab su k asked).state.greeted) × ((answer_to lab st k asked).state.halted ≡ (answer_to lab su k asked).state.halted))
+      → (((answer_to lab st k asked).state.greeted ≡ (answer_to lab su k asked).state.greeted)
+      × ((answer_to lab st k asked).state.halted ≡ (answer_to lab su k asked).state.halted))
   others_answer k (Err fault) = (a.greeted, a.halted)
   others_answer k (Ok q) =
-      subst (λ (known : Option Who). (((settled lab st k (greeting lab.roster (known_on st k) q)).state.greeted ≡ (settled lab su k (greeting lab.roster known q)).state.greeted)
+      subst (λ (known : Option Who).
+      (((settled lab st k (greeting lab.roster (known_on st k) q)).state.greeted ≡ (settled lab su k (greeting lab.roster known q)).state.greeted)
       × ((settled lab st k (greeting lab.roster (known_on st k) q)).state.halted ≡ (settled lab su k (greeting lab.roster known q)).state.halted)))
       (same_known k) (others_settled k (known_on st k) q)
 
   pub others_plain : (k : ℕ) (line : List ℕ)
-      → (((plain_turn lab st k line).state.greeted ≡ (plain_turn lab su k line).state.greeted) × ((plain_turn lab st k line).state.halted ≡ (plain_turn lab su k line).state.halted))
+      → (((plain_turn lab st k line).state.greeted ≡ (plain_turn lab su k line).state.greeted)
+      × ((plain_turn lab st k line).state.halted ≡ (plain_turn lab su k line).state.halted))
   unfolding plain_turn
   others_plain k line = others_answer k (request_in line)
 
@@ -267,13 +281,16 @@ net_turn lab n while_read st k line = refl
 net_turn lab n later st k line = refl
 net_turn lab n sink_failed st k line = refl
 
+-- in twin labs a line has the same turn from the same state
 pub twin_same : (lab other : LabValue) → AreTwins lab other → (m : Mishap) (st : State) (k : ℕ) (line : List ℕ) → turn m lab st k line ≡ turn m other st k line
 twin_same lab other t m st k line = net_turn lab other.network m st k line ∙ ap (λ (o : LabValue). turn m o st k line) (twin_is lab other t)
 
 module _ (lab other : LabValue) (t : AreTwins lab other) (s : ℕ) (st su : State) (a : StatesAlike lab s st su) where
-  pub twin_turn : (mishap : Mishap) (k : ℕ) (line : List ℕ) → is_hers s (known_on st k) ≡ true → TurnsAlike lab s (turn mishap lab st k line) (turn mishap other su k line)
+  pub twin_turn : (mishap : Mishap) (k : ℕ) (line : List ℕ) → is_hers s (known_on st k) ≡ true
+      → TurnsAlike lab s (turn mishap lab st k line) (turn mishap other su k line)
   twin_turn mishap k line h =
-      subst (λ (o : Outcome). TurnsAlike lab s (turn mishap lab st k line) o) (twin_same lab other t mishap su k line) (turn_alike lab s st su a mishap k line h)
+      subst (λ (o : Outcome). TurnsAlike lab s (turn mishap lab st k line) o) (twin_same lab other t mishap su k line)
+      (turn_alike lab s st su a mishap k line h)
 
   pub twin_line : (mishap : Mishap) (k : ℕ) (line : List ℕ) → is_hers s (known_on st k) ≡ true
       → reply_line lab.ids lab.roster (turn mishap lab st k line).reply ≡ reply_line other.ids other.roster (turn mishap other su k line).reply
@@ -282,5 +299,6 @@ module _ (lab other : LabValue) (t : AreTwins lab other) (s : ℕ) (st su : Stat
   pub twin_others : (k : ℕ) (line : List ℕ) → Alike lab.roster s (plain_turn lab st k line).state.world (plain_turn other su k line).state.world
       → StatesAlike lab s (plain_turn lab st k line).state (plain_turn other su k line).state
   twin_others k line worlds =
-      subst (λ (o : Outcome). Alike lab.roster s (plain_turn lab st k line).state.world o.state.world → StatesAlike lab s (plain_turn lab st k line).state o.state)
+      subst (λ (o : Outcome). Alike lab.roster s (plain_turn lab st k line).state.world o.state.world
+      → StatesAlike lab s (plain_turn lab st k line).state o.state)
       (twin_same lab other t nothing su k line) (others_alike lab s st su a k line) worlds

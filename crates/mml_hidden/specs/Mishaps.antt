@@ -35,14 +35,16 @@ abbrev pub StayAlikeWith : LabValue → LabValue → ℕ → State → State →
 StayAlikeWith lab other s st su [] = Unit {0}
 StayAlikeWith lab other s st su (b ∷ bs) =
     (is_hers s (known_on st b.line.connection) ≡ false
-    → Alike lab.roster s (turn_with lab st b).state.world (turn_with other su b).state.world × ((turn_with lab st b).state.halted ≡ (turn_with other su b).state.halted))
+    → Alike lab.roster s (turn_with lab st b).state.world (turn_with other su b).state.world
+    × ((turn_with lab st b).state.halted ≡ (turn_with other su b).state.halted))
     × StayAlikeWith lab other s (turn_with lab st b).state (turn_with other su b).state bs
 
 -- of lines and the replies to them, the output lines on some of the connections
 abbrev pub written_on_any : LabValue → (ℕ → Bool) → List RequestLine → List Reply → List (List ℕ)
 written_on_any lab some [] rs = []
 written_on_any lab some (line ∷ lines) [] = []
-written_on_any lab some (line ∷ lines) (r ∷ rs) = (if some line.connection then output_line lab line.connection r ∷ [] else []) ++ written_on_any lab some lines rs
+written_on_any lab some (line ∷ lines) (r ∷ rs) =
+    (if some line.connection then output_line lab line.connection r ∷ [] else []) ++ written_on_any lab some lines rs
 
 -- whenever a line comes on one of these connections, it is known as student s, or as nobody yet
 abbrev pub AreHersThroughout : LabValue → ℕ → (ℕ → Bool) → State → List BefallenLine → Type 0

@@ -16,7 +16,7 @@ use Rattle.mml_hidden.specs.Twins.{is_hers}
 abbrev pub seen_at : Reply → WindowValue → List Event
 seen_at r w = take (length w.seen - length (places_in r)) w.seen
 
--- the reply tells no want of memory and no journal that failed
+-- the reply tells neither out of memory nor a journal that failed
 abbrev pub IsUnhindered : Reply → Type 0
 IsUnhindered r = (r ≢ Refuse refused.Memory) × (r ≢ Refuse refused.Journal)
 
@@ -28,7 +28,8 @@ pub record IsToldAlike (lab other : LabValue) (s : ℕ) (known : Option Who) (r 
   pub second : IsUnhindered q
 
 -- so it is at each of the lines
-abbrev pub AreToldAlike : (lab other : LabValue) → ℕ → (st su : Standing) (lines : List (List ℕ)) (rs qs : List Reply) (end fin : Standing) → Run lab st lines rs end → Run other su lines qs fin → Type 0
+abbrev pub AreToldAlike : (lab other : LabValue) → ℕ → (st su : Standing) (lines : List (List ℕ)) (rs qs : List Reply) (end fin : Standing)
+    → Run lab st lines rs end → Run other su lines qs fin → Type 0
 AreToldAlike lab other s st su [] rs qs end fin t u = Unit {0}
 AreToldAlike lab other s st su (line ∷ lines) [] qs end fin t u = Unit {0}
 AreToldAlike lab other s st su (line ∷ lines) (r ∷ rs) [] end fin t u = Unit {0}

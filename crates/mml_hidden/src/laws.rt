@@ -1,6 +1,6 @@
 //! Laws of what a student can't tell. Each is the clause of a function that does nothing.
 ghost use Rattle.std.specs.Prelude.{◌≡◌, ◌↔◌, ◌<◌, ℕ, Bool, List, true, false, length, map};
-ghost use Rattle.mml_rules.specs.declared.registers.Regs.{Regs};
+ghost use Rattle.mml_rules.specs.declared.regs.Regs.{Regs};
 ghost use Rattle.mml_rules.specs.Network.{Network, IsNetwork, configuration_of, with_registers, with_link};
 ghost use Rattle.std.specs.List.{concat};
 ghost use Rattle.mml_lab.specs.declared.who.Who.TheVariants as who;
@@ -18,7 +18,8 @@ ghost use Rattle.mml_codec.specs.Replies.{reply_line};
 ghost use Rattle.mml_codec.specs.declared.reply.Reply.{Reply};
 ghost use Rattle.mml_hall.specs.Turns.{State, Outcome, Mishap, RequestLine, Run, Turn, opening, turn, plain_turn, known_on, is_grant};
 ghost use Rattle.mml_hall.specs.Transcripts.{Transcript, output_lines, bytes_written};
-ghost use Rattle.mml_hidden.specs.Scripted.{replies_to, end_of, written_to, written_on, StayAlike, IsHersThroughout, OnlySheGreets, OnlySheIsKnown, AreUnhindered};
+ghost use Rattle.mml_hidden.specs.Scripted.{replies_to, end_of, written_to, written_on, StayAlike, IsHersThroughout, OnlySheGreets, OnlySheIsKnown};
+ghost use Rattle.mml_hidden.specs.Scripted.{AreUnhindered};
 ghost use Rattle.mml_hidden.specs.CommandReplies.{world_after, reply_to, line_to};
 ghost use Rattle.mml_hidden.specs.Mishaps.{BefallenLine, Befalls, Befell, lines_in, replies_with, end_with, StayAlikeWith, written_on_any, AreHersThroughout};
 ghost use Rattle.mml_session.specs.Turns.{Standing, Run as SessionRun};
@@ -155,7 +156,7 @@ pub fn runs_begin_alike()
     ensures known { (lab : LabValue) (s : ℕ) → OnlySheIsKnown s (opening lab) }
 {}
 
-/// A run in which no reply tells want of memory or a failed journal is that of the plain turns.
+/// A run in which no reply tells out of memory or a failed journal is that of the plain turns.
 pub fn unhindered_runs_are_plain()
     ensures { (lab : LabValue) (st : State) (lines : List RequestLine) (rs : List Reply)
         (end : State) → Run lab st lines rs end → AreUnhindered rs →

@@ -4,9 +4,11 @@ use Rattle.std.proofs.lemmas.Fmt.{decimal_digit}
 use Rattle.mml_serving.specs.Numbers.{Spells}
 use Rattle.mml_host_program.specs.Words.{Names, NamesNone}
 
+-- a text that isn't 0 and spells no number of 16 bits names no port
 pub names_none : (text : List ℕ) → (text ≡ codes "0" → ⊥) → ((n : ℕ) → Spells (2 ^ 16 - 1) text n → ⊥) → NamesNone text
 names_none text other none zero names = other (names.1 ∙ decimal_digit 0 (omega arith))
 names_none text other none (suc n) names = none (suc n) (omega arith, names.0, names.1)
 
+-- the text 0 names port 0
 pub zero_named : (text : List ℕ) → text ≡ codes "0" → Names text 0
 zero_named text is = (omega arith, is ∙ sym (decimal_digit 0 (omega arith)))

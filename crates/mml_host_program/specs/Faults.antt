@@ -1,6 +1,6 @@
--- The faults of the host that those of the crates below are.
-use Rattle.mml_hosting.specs.declared.house.HostFault.{HostFault}
-use Rattle.mml_hosting.specs.declared.house.HostFault.TheVariants as hosting
+-- The errors of the host that those of the crates below are.
+use Rattle.mml_hosting.specs.declared.hosted.HostFault.{HostFault}
+use Rattle.mml_hosting.specs.declared.hosted.HostFault.TheVariants as hosting
 use Rattle.mml_program.specs.declared.fault.Fault.TheVariants as program
 use Rattle.mml_host_program.specs.declared.fault.Fault.{Fault}
 use Rattle.mml_host_program.specs.declared.fault.Fault.TheVariants as fault

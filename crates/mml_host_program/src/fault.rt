@@ -27,7 +27,7 @@ pub enum Fault {
 }
 
 impl Fault {
-    /// The exit status that goes with the fault, as of `mml_server`.
+    /// The exit status that goes with the error, as of `mml_server`.
     pub fn status(&self) -> u8 {
         match self {
             Fault::Common(fault) => fault.status(),
@@ -36,7 +36,7 @@ impl Fault {
         }
     }
 
-    /// Want of memory where a writer met it, whatever the fault was told as.
+    /// Out of memory where a writer met it, whatever the error was told as.
     pub fn or_memory(self, lacked: bool) -> Fault
         ensures memory { lacked ≡ true → result ≡ Fault.Common ProgramFault.Memory }
         ensures other { lacked ≡ false → result ≡ self }

@@ -1,5 +1,5 @@
 //! A host's ports, of whose connections no contract knows what they give and take.
-use crate::socket::{Incoming, Outgoing, SharedSocket, SocketCutOff, SocketReader};
+use crate::shared_socket::{Incoming, Outgoing, SharedSocket, SocketCutOff, SocketReader};
 use crate::state::HostState;
 use mml_hosting::{Arrivals, Bell, Next};
 use std::alloc::Global;

@@ -1,5 +1,5 @@
 -- Sessions one after another.
-use Rattle.std.proofs.Common.{rules, ◌≡◌, ◌∙◌, ap, ℕ, Bool, true, false, ◌&&◌, List, [], ◌∷◌, ◌++◌, map, sym, subst, refl, All, Option}
+use Rattle.std.proofs.Common.{rules, ◌≡◌, ◌∙◌, ap, ℕ, Bool, true, false, ◌&&◌, List, [], ◌∷◌, ◌++◌, map, sym, subst, refl, Option}
 use Rattle.std.proofs.lemmas.List.{map-append}
 use Rattle.std.proofs.lemmas.List.Elements.{All-push}
 use Rattle.mml_lab.specs.Labs.{LabValue}
@@ -13,6 +13,7 @@ chain_more : {S A : Type 0} (P : S → A → A → Type 0) (a mid last : A) (ss 
 chain_more {S} {A} P a mid last [] s so_far one = (last, subst (λ (x : A). P s x last) so_far one, refl)
 chain_more P a mid last (t ∷ ss) s so_far one = (so_far.0, so_far.1, chain_more P so_far.0 mid last ss s so_far.2 one)
 
+-- a session that begins where the ones before it led makes the chain one longer
 pub chain_so : {S A X : Type 0} (P : S → A → A → Type 0) (f : X → S) (a mid last : A) (xs xs' : List X) (x : X) → xs' ≡ xs ++ x ∷ []
     → Chain P a (map f xs) mid → P (f x) mid last → Chain P a (map f xs') last
 chain_so P f a mid last xs xs' x one so_far it = rw (one, map-append f xs (x ∷ [])) (chain_more P a mid last (map f xs) (f x) so_far it)
@@ -40,7 +41,9 @@ module _ {R W X : Type 0} (f : X → ServedSession R W) (xs xs' : List X) (x : X
       (All-push (λ s. is_teachers_bye s.ending ≡ false) (map f xs) (f x) (so_far at) (second desk (is_teachers_bye (f x).ending) at (sym noted ∙ so)))
 
 -- what is known of a session by its connection as it came
-pub served_so : {R W : Type 0} (lab : LabValue) (remaining : R → Option (List ℕ)) (contents : W → Option (List ℕ)) (s t : ServedSession R W) (ends : R × W) (w w' : WindowValue) (wrote : Option (List ℕ))
-    → s ≡ t → t.came.value ≡ ends → contents t.writer ≡ wrote → EndedKnown t.ending.end t.ending.who lab w w' (remaining ends.0) (remaining t.reader) (contents ends.1) wrote
+pub served_so : {R W : Type 0} (lab : LabValue) (remaining : R → Option (List ℕ)) (contents : W → Option (List ℕ)) (s t : ServedSession R W) (ends : R × W)
+    (w w' : WindowValue) (wrote : Option (List ℕ))
+    → s ≡ t → t.came.value ≡ ends → contents t.writer ≡ wrote
+    → EndedKnown t.ending.end t.ending.who lab w w' (remaining ends.0) (remaining t.reader) (contents ends.1) wrote
     → IsServed lab remaining contents s w w'
 served_so lab remaining contents s t ends w w' wrote same came kept h = rw (same, came, kept) h

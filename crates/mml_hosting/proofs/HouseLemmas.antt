@@ -8,8 +8,8 @@ use Rattle.std.proofs.lemmas.List.Folds.{flat_map-map}
 use Rattle.mml_lab.specs.Labs.{LabValue}
 use Rattle.mml_hosting.specs.declared.place.ServedSession.{ServedSession}
 use Rattle.mml_hosting.specs.declared.place.Place.{Place}
-use Rattle.mml_hosting.specs.declared.house.Record.{Record}
-use Rattle.mml_hosting.specs.declared.house.Hosted.{Hosted}
+use Rattle.mml_hosting.specs.declared.hosted.Record.{Record}
+use Rattle.mml_hosting.specs.declared.hosted.Hosted.{Hosted}
 use Rattle.mml_hosting.specs.Places.{IsPlace, IsDismissed, AreGoingOn, is_teachers_bye, came_to}
 use Rattle.mml_window.specs.Logs.{IsLog}
 use Rattle.mml_hosting.specs.Ports.{Attends}
@@ -29,11 +29,13 @@ module _ {H K R W : Type 0} (lab : LabValue) (remaining : R → Option (List ℕ
   pub all_fresh : (ps : List (Place H K)) → All IsUnused ps → All (IsPlace lab remaining contents shows) ps
   all_fresh ps h = λ k d lt. fresh_place _ (h k d lt)
 
-  pub all_led : (ps : List (Place H K)) → All (IsPlace lab remaining contents shows) ps → AllZip (Led lab remaining contents shows) (map record_of ps) (map (λ p. p.window) ps)
+  pub all_led : (ps : List (Place H K)) → All (IsPlace lab remaining contents shows) ps
+      → AllZip (Led lab remaining contents shows) (map record_of ps) (map (λ p. p.window) ps)
   all_led [] h = tt
   all_led (p ∷ ps) h = ((All-head (IsPlace lab remaining contents shows) p ps h).each, all_led ps (All-tail (IsPlace lab remaining contents shows) p ps h))
 
-  pub all_dismissed : (ps : List (Place H K)) → All (IsPlace lab remaining contents shows) ps → All (λ p. p.is_dismissed ≡ true) ps → All (λ r. IsDismissed (sessions_in shows r)) (map record_of ps)
+  pub all_dismissed : (ps : List (Place H K)) → All (IsPlace lab remaining contents shows) ps → All (λ p. p.is_dismissed ≡ true) ps
+      → All (λ r. IsDismissed (sessions_in shows r)) (map record_of ps)
   all_dismissed ps h so = All-map (λ r. IsDismissed (sessions_in shows r)) record_of ps (λ k d lt. (h k d lt).dismissed (so k d lt))
 
 module _ {H K R W : Type 0} (shows : K → ServedSession R W) where
@@ -48,15 +50,19 @@ module _ {H K R W : Type 0} (shows : K → ServedSession R W) where
       → Attends to_come (flat_map (came_to shows) old) (flat_map (came_to shows) new) → Attends to_come [] (flat_map (came_in shows) records)
   attended to_come old new records same fresh h =
       let was : flat_map (λ (p : Place H K). came_to shows p) old ≡ [] = none_came old fresh in
-      let now : flat_map (λ (r : Record K). came_in shows r) (map record_of new) ≡ flat_map (λ (p : Place H K). came_to shows p) new = flat_map-map (λ (r : Record K). came_in shows r) record_of new in
+      let now : flat_map (λ (r : Record K). came_in shows r) (map record_of new) ≡ flat_map (λ (p : Place H K). came_to shows p) new =
+      flat_map-map (λ (r : Record K). came_in shows r) record_of new in
       rw (same, now) (rw was at h)
 
-module _ {S H K R W E : Type 0} (lab : LabValue) (sink : S → Option (List ℕ)) (remaining : R → Option (List ℕ)) (contents : W → Option (List ℕ)) (shows : K → ServedSession R W)
+module _ {S H K R W E : Type 0} (lab : LabValue) (sink : S → Option (List ℕ)) (remaining : R → Option (List ℕ)) (contents : W → Option (List ℕ))
+    (shows : K → ServedSession R W)
     (to_desk to_come : Option (List (R × W))) (desk_old old desks others : List (Place H K)) where
   pub hosted : (r : Result (Hosted S K) E) → length desks ≡ 1 → All IsUnused desk_old → All IsUnused old
       → All (IsPlace lab remaining contents shows) desks → All (IsPlace lab remaining contents shows) others
-      → Attends to_desk (flat_map (came_to shows) desk_old) (flat_map (came_to shows) desks) → Attends to_come (flat_map (came_to shows) old) (flat_map (came_to shows) others)
-      → IfOk r (λ house. IsLog lab sink (map (λ p. p.window) desks ++ map (λ p. p.window) others) house.log) → IfOk r (λ _. All (λ p. p.is_dismissed ≡ true) desks)
+      → Attends to_desk (flat_map (came_to shows) desk_old) (flat_map (came_to shows) desks)
+      → Attends to_come (flat_map (came_to shows) old) (flat_map (came_to shows) others)
+      → IfOk r (λ house. IsLog lab sink (map (λ p. p.window) desks ++ map (λ p. p.window) others) house.log)
+      → IfOk r (λ _. All (λ p. p.is_dismissed ≡ true) desks)
       → IfOk r (λ house. house.desk.items ≡ map record_of desks) → IfOk r (λ house. house.others.items ≡ map record_of others)
       → IfOk r (Hosts lab sink remaining contents shows to_desk to_come)
   hosted (Ok house) one desk_fresh fresh desk_places places at_desk at_port kept dismissed desk_is others_is = record {

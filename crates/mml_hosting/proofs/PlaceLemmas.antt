@@ -8,15 +8,19 @@ use Rattle.mml_hosting.specs.Places.{IsPlace}
 use Rattle.mml_hosting.specs.declared.place.ServedSession.{ServedSession}
 use Rattle.mml_hosting.specs.declared.place.Place.{Place}
 
+-- what holds of each of a list and of one more holds of each of the list with that one
 pub all_more : {X : Type 0} (P : X → Type 0) (xs xs' : List X) (x : X) → xs' ≡ xs ++ x ∷ [] → All P xs → P x → All P xs'
 all_more P xs xs' x one all it = subst (λ (ys : List _). All P ys) (sym one) (All-push P xs x all it)
 
+-- one more in a list adds its own number to the sum
 pub sum_more : {X : Type 0} (f : X → ℕ) (xs xs' : List X) (x : X) → xs' ≡ xs ++ x ∷ [] → sum_by f xs' ≡ sum_by f xs + f x
 sum_more f xs xs' x one = rw one (sum_by_push f xs x)
 
 -- the place is the same but for where its sessions lie
-pub with_room : {H K R W : Type 0} (lab : LabValue) (remaining : R → Option (List ℕ)) (contents : W → Option (List ℕ)) (shows : K → ServedSession R W) (p q : Place H K)
-    → q.window ≡ p.window → q.is_desk ≡ p.is_desk → q.is_dismissed ≡ p.is_dismissed → q.sessions.items ≡ p.sessions.items → IsPlace lab remaining contents shows p → IsPlace lab remaining contents shows q
+pub with_room : {H K R W : Type 0} (lab : LabValue) (remaining : R → Option (List ℕ)) (contents : W → Option (List ℕ)) (shows : K → ServedSession R W)
+    (p q : Place H K)
+    → q.window ≡ p.window → q.is_desk ≡ p.is_desk → q.is_dismissed ≡ p.is_dismissed → q.sessions.items ≡ p.sessions.items
+    → IsPlace lab remaining contents shows p → IsPlace lab remaining contents shows q
 with_room lab remaining contents shows p q window desk dismissed items h = record {
   each = rw (window, items) h.each;
   dismissed = λ so. rw items (h.dismissed (sym dismissed ∙ so));

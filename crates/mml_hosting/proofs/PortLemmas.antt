@@ -1,19 +1,20 @@
 -- What came to a port so far, and where it is.
-use Rattle.std.proofs.Common.{◌≡◌, ◌∙◌, ap, ℕ, ◌+◌, List, [], ◌∷◌, ◌++◌, flat_map, sym, refl, arith, Option}
+use Rattle.std.proofs.Common.{◌≡◌, ◌∙◌, ap, ℕ, ◌+◌, List, [], ◌∷◌, ◌++◌, flat_map, sym, refl, arith, Option, inl, inr}
 use Rattle.std.specs.List.{sum_by}
 use Rattle.std.proofs.lemmas.List.Sums.{sum_by-append, sum_by-cons, sum_by_push}
 use Rattle.std.proofs.lemmas.List.Concat.{flat_map-cons}
 use Rattle.mml_serving.specs.Arriving.{Takes}
 use Rattle.mml_hosting.specs.Places.{came_to}
 use Rattle.mml_hosting.specs.Ports.{Attends}
-use Rattle.mml_hosting.specs.Counting.{count_free, count_busy}
+use Rattle.mml_hosting.specs.Counting.{count_free, count_busy, TakesIn}
 use Rattle.mml_hosting.specs.declared.place.ServedSession.{ServedSession}
 use Rattle.mml_hosting.specs.declared.place.Place.{Place}
-use Rattle.mml_hosting.specs.declared.port.Busy.{Busy}
+use Rattle.mml_hosting.specs.declared.port_serving.Busy.{Busy}
 use Rattle.mml_serving.proofs.ArrivingLemmas.{Takes-nil, Takes-trans}
 
 -- the connections that came are those that the places have beyond their first ones, or will have, and those turned away
-pub record History {H K R W U : Type 0} (shows : K → ServedSession R W) (known now : Option (List (R × W))) (first free : List (Place H K)) (busy : List (Busy H K R W U)) : Type 0 where
+pub record History {H K R W U : Type 0} (shows : K → ServedSession R W) (known now : Option (List (R × W))) (first free : List (Place H K))
+    (busy : List (Busy H K R W U)) : Type 0 where
   pub connections : List (R × W)
   pub turned : List (R × W)
   pub came : Takes known now connections
@@ -28,8 +29,11 @@ module _ {H K R W U : Type 0} (shows : K → ServedSession R W) (known : Option 
     each = λ h. rw none (omega arith);
   }
 
-  module _ (now next : Option (List (R × W))) (free free' : List (Place H K)) (busy busy' : List (Busy H K R W U)) (so_far : History shows known now first free busy) where
-    pub nobody_came : Takes now next [] → ((h : R × W → ℕ) → count_free shows h free' + count_busy shows h busy' ≡ count_free shows h free + count_busy shows h busy) → History shows known next first free' busy'
+  module _ (now next : Option (List (R × W))) (free free' : List (Place H K)) (busy busy' : List (Busy H K R W U))
+      (so_far : History shows known now first free busy) where
+    pub nobody_came : Takes now next []
+        → ((h : R × W → ℕ) → count_free shows h free' + count_busy shows h busy' ≡ count_free shows h free + count_busy shows h busy)
+        → History shows known next first free' busy'
     nobody_came came same = record {
       connections = so_far.connections ++ [];
       turned = so_far.turned;
@@ -38,7 +42,8 @@ module _ {H K R W U : Type 0} (shows : K → ServedSession R W) (known : Option 
     }
 
     module _ (ends : R × W) (came : Takes now next (ends ∷ [])) where
-      pub one_served : ((h : R × W → ℕ) → count_free shows h free' + count_busy shows h busy' ≡ (count_free shows h free + count_busy shows h busy) + h ends) → History shows known next first free' busy'
+      one_served : ((h : R × W → ℕ) → count_free shows h free' + count_busy shows h busy' ≡ (count_free shows h free + count_busy shows h busy) + h ends)
+          → History shows known next first free' busy'
       one_served more = record {
         connections = so_far.connections ++ ends ∷ [];
         turned = so_far.turned;
@@ -46,7 +51,8 @@ module _ {H K R W U : Type 0} (shows : K → ServedSession R W) (known : Option 
         each = λ h. omega (arith, so_far.each h, more h, sum_by_push h so_far.connections ends);
       }
 
-      pub one_turned : ((h : R × W → ℕ) → count_free shows h free' + count_busy shows h busy' ≡ count_free shows h free + count_busy shows h busy) → History shows known next first free' busy'
+      one_turned : ((h : R × W → ℕ) → count_free shows h free' + count_busy shows h busy' ≡ count_free shows h free + count_busy shows h busy)
+          → History shows known next first free' busy'
       one_turned same = record {
         connections = so_far.connections ++ ends ∷ [];
         turned = so_far.turned ++ ends ∷ [];
@@ -54,14 +60,23 @@ module _ {H K R W U : Type 0} (shows : K → ServedSession R W) (known : Option 
         each = λ h. omega (arith, so_far.each h, same h, sum_by_push h so_far.connections ends, sum_by_push h so_far.turned ends);
       }
 
+      pub one_came : TakesIn shows ends free busy free' busy' → History shows known next first free' busy'
+      one_came (inl more) = one_served more
+      one_came (inr same) = one_turned same
+
 sum_flat : {A B : Type 0} (f : A → List B) (h : B → ℕ) (xs : List A) → sum_by h (flat_map f xs) ≡ sum_by (λ x. sum_by h (f x)) xs
 sum_flat f h [] = refl
 sum_flat f h (x ∷ xs) =
-    ap (λ l. sum_by h l) (flat_map-cons f x xs) ∙ sum_by-append h (f x) (flat_map f xs) ∙ ap (λ n. sum_by h (f x) + n) (sum_flat f h xs) ∙ sym (sum_by-cons (λ y. sum_by h (f y)) x xs)
+    ap (λ l. sum_by h l) (flat_map-cons f x xs) ∙ sum_by-append h (f x) (flat_map f xs) ∙ ap (λ n. sum_by h (f x) + n) (sum_flat f h xs)
+    ∙ sym (sum_by-cons (λ y. sum_by h (f y)) x xs)
 
-pub all_attended : {H K R W U : Type 0} (shows : K → ServedSession R W) (known now : Option (List (R × W))) (first free last : List (Place H K)) (busy : List (Busy H K R W U)) → History shows known now first free busy
-    → ((h : R × W → ℕ) → count_free shows h last ≡ count_free shows h free + count_busy shows h busy) → Attends known (flat_map (came_to shows) first) (flat_map (came_to shows) last)
-all_attended {H} {K} shows known now first free last busy so_far joined =
+-- once no place is busy, each connection that came was served once, or turned away
+pub all_attended : {H K R W U : Type 0} (shows : K → ServedSession R W) (known now : Option (List (R × W))) (first free last : List (Place H K))
+    (busy gone : List (Busy H K R W U))
+    → History shows known now first free busy → gone ≡ []
+    → ((h : R × W → ℕ) → count_free shows h last + count_busy shows h gone ≡ count_free shows h free + count_busy shows h busy)
+    → Attends known (flat_map (came_to shows) first) (flat_map (came_to shows) last)
+all_attended {H} {K} shows known now first free last busy gone so_far none joined =
     let came = λ (p : Place H K). came_to shows p in
     record {
       connections = so_far.connections;
@@ -73,5 +88,6 @@ all_attended {H} {K} shows known now first free last busy so_far joined =
           let b = sum_by-append h (flat_map came last) so_far.turned in
           let c = sum_flat came h first in
           let d = sum_flat came h last in
-          omega (arith, so_far.each h, joined h, a, b, c, d);
+          let e = ap (count_busy shows h) none in
+          omega (arith, so_far.each h, joined h, a, b, c, d, e);
     }

@@ -1,13 +1,13 @@
 -- A house through whose windows one connection after another was served.
-use Rattle.std.specs.Prelude.{◌≡◌, ℕ, true, false, List, [], ◌++◌, map, flat_map, length, All, Option}
+use Rattle.std.specs.Prelude.{◌≡◌, ℕ, false, List, [], ◌++◌, map, flat_map, length, All, Option}
 use Rattle.std.specs.List.{AllZip}
 use Rattle.mml_lab.specs.Labs.{LabValue}
 use Rattle.mml_window.specs.Windows.{WindowValue, window}
 use Rattle.mml_window.specs.Logs.{IsLog}
 use Rattle.mml_hosting.specs.declared.place.ServedSession.{ServedSession}
 use Rattle.mml_hosting.specs.declared.place.Place.{Place}
-use Rattle.mml_hosting.specs.declared.house.Record.{Record}
-use Rattle.mml_hosting.specs.declared.house.Hosted.{Hosted}
+use Rattle.mml_hosting.specs.declared.hosted.Record.{Record}
+use Rattle.mml_hosting.specs.declared.hosted.Hosted.{Hosted}
 use Rattle.mml_hosting.specs.Places.{Chain, IsServed, IsDismissed}
 use Rattle.mml_hosting.specs.Ports.{Attends}
 
@@ -36,7 +36,8 @@ Led lab remaining contents shows r w = Chain (IsServed lab remaining contents) (
 -- There is the log of one legal list of the lab, whose places are those that all windows were told, each once; each window has
 -- seen a beginning of it. The sessions of each place, in order, led its window there, and at the desk the last one, and no earlier
 -- one, was ended by the teacher's bye. The connections that came to a port were served, each once, or turned away
-pub record Hosts {S K R W : Type 0} (lab : LabValue) (sink : S → Option (List ℕ)) (remaining : R → Option (List ℕ)) (contents : W → Option (List ℕ)) (shows : K → ServedSession R W)
+pub record Hosts {S K R W : Type 0} (lab : LabValue) (sink : S → Option (List ℕ)) (remaining : R → Option (List ℕ)) (contents : W → Option (List ℕ))
+    (shows : K → ServedSession R W)
     (to_desk to_come : Option (List (R × W))) (house : Hosted S K) : Type 0 where
   pub desk_windows : List WindowValue
   pub windows : List WindowValue

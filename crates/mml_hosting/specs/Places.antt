@@ -47,7 +47,8 @@ IsDismissed {R} {W} ss =
     (before : List (ServedSession R W)) × (s : ServedSession R W) × (ss ≡ before ++ s ∷ []) × (is_teachers_bye s.ending ≡ true) × AreGoingOn before
 
 -- its sessions led its window from having seen nothing to where it is, and at the desk it is noted whether the teacher's bye came
-pub record IsPlace {H K R W : Type 0} (lab : LabValue) (remaining : R → Option (List ℕ)) (contents : W → Option (List ℕ)) (shows : K → ServedSession R W) (p : Place H K) : Type 0 where
+pub record IsPlace {H K R W : Type 0} (lab : LabValue) (remaining : R → Option (List ℕ)) (contents : W → Option (List ℕ)) (shows : K → ServedSession R W)
+    (p : Place H K) : Type 0 where
   pub each : Chain (IsServed lab remaining contents) (window [] []) (sessions_of shows p) p.window
   pub dismissed : p.is_dismissed ≡ true → IsDismissed (sessions_of shows p)
   pub going_on : p.is_desk ≡ true → p.is_dismissed ≡ false → AreGoingOn (sessions_of shows p)

@@ -1,7 +1,11 @@
 -- Connections that came to a port.
-use Rattle.std.specs.Prelude.{◌≡◌, ℕ, List, ◌++◌, Option}
+use Rattle.std.specs.Prelude.{◌≡◌, ℕ, List, ◌++◌, flat_map, length, All, Option}
 use Rattle.std.specs.List.{sum_by}
+use Rattle.mml_lab.specs.Labs.{LabValue}
 use Rattle.mml_serving.specs.Arriving.{Takes}
+use Rattle.mml_hosting.specs.declared.place.ServedSession.{ServedSession}
+use Rattle.mml_hosting.specs.declared.place.Place.{Place}
+use Rattle.mml_hosting.specs.Places.{IsPlace, came_to}
 
 -- whatever is counted in them, both lists have as many
 abbrev pub HaveSame : {A : Type 0} → List A → List A → Type 0
@@ -14,3 +18,10 @@ pub record Attends {C : Type 0} (to_come : Option (List C)) (old new : List C) :
   pub left : Option (List C)
   pub came : Takes to_come left connections
   pub each : HaveSame (old ++ connections) (new ++ turned)
+
+-- as many places as there were, in which the connections that came were served, each once, or they were turned away
+pub record ServesPort {H K R W : Type 0} (lab : LabValue) (remaining : R → Option (List ℕ)) (contents : W → Option (List ℕ)) (shows : K → ServedSession R W)
+    (to_come : Option (List (R × W))) (old new : List (Place H K)) : Type 0 where
+  pub places : All (IsPlace lab remaining contents shows) new
+  pub count : length new ≡ length old
+  pub attends : Attends to_come (flat_map (came_to shows) old) (flat_map (came_to shows) new)

@@ -2,12 +2,12 @@
 //! bye at the desk.
 #![tactic(auto)]
 
-mod arriving;
-mod house;
+mod arrivals;
+mod hosted;
 mod place;
-mod port;
+mod port_serving;
 
-pub use arriving::{Arrivals, Bell, CutOff, Next};
-pub use house::{HostFault, Hosted, Record, serve_host};
+pub use arrivals::{Arrivals, Bell, CutOff, Next};
+pub use hosted::{HostFault, Hosted, Record, serve_host};
 pub use place::{Keep, Place, ServedSession, serve_in};
-pub use port::{BUSY, serve_port};
+pub use port_serving::{BUSY, serve_port};

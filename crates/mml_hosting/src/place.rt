@@ -5,9 +5,8 @@ ghost use Rattle.mml_hosting.specs.Places.{IsPlace, came_to, is_teachers_bye};
 use mml_journal::Sink;
 use mml_lab::Who;
 use mml_serving::HangUp;
-use mml_session::{Ending, Gate, SessionEnd, serve_known};
-use mml_window::{Desk, House, Window};
-use std::alloc::Global;
+use mml_session::{Ending, Gate, SessionEnd, Setting, serve_known};
+use mml_window::{House, Window};
 use std::io::{Read, Write};
 use std::snapshot::Snapshot;
 use std::sync::Wait;
@@ -79,9 +78,7 @@ pub fn serve_in<
     W: Write + HangUp + Drop,
     G: Gate,
 >(
-    rt: &Rt,
-    alloc: Global,
-    desk: &Desk<S, H>,
+    setting: &Setting<'_, Rt, S, H>,
     place: Place<H, K>,
     ends: (R, W),
     gate: &G,
@@ -103,16 +100,7 @@ pub fn serve_in<
         is_dismissed: _,
     } = place;
     let (mut reader, mut writer) = ends;
-    let ending = serve_known(
-        rt,
-        alloc,
-        desk,
-        &mut window,
-        &mut reader,
-        &mut writer,
-        gate,
-        number,
-    );
+    let ending = serve_known(setting, &mut window, &mut reader, &mut writer, gate, number);
     // The place is known to be free before the other side sees the end, and may come again.
     set_mark(marks, number, 1);
     writer.hang_up();

@@ -13,6 +13,7 @@ pub record IsFound {X : Type 0} (p : X → Bool) (xs : List X) (x : X) : Type 0 
 later : {X : Type 0} (p : X → Bool) (y : X) (xs : List X) (x : X) → IsFound p xs x → IsFound p (y ∷ xs) x
 later p y xs x found = let lt = found.within in record { place = suc found.place; within = omega arith; there = found.there; passes = found.passes }
 
+-- what is found stands in the list and passes
 pub find-is : {X : Type 0} (p : X → Bool) (xs : List X) (x : X) → find p xs ≡ Some x → IsFound p xs x
 find-is p [] x e = absurd cc
 find-is p (y ∷ ys) x e = by (p y) refl (find-is p ys x)
@@ -35,9 +36,11 @@ find-some p (y ∷ ys) h = by (p y) refl (find-some p ys)
         let r = rest (sym (ap (λ b. b || list_any p ys) is) ∙ h) in
         (r.0, ap (λ b. cond b (Some y) (find p ys)) is ∙ r.1)
 
+-- where the test is true of some element, there is one that stands in the list and passes
 pub list_any-found : {X : Type 0} (p : X → Bool) (xs : List X) → list_any p xs ≡ true → (x : X) × IsFound p xs x
 list_any-found p xs h = let r = find-some p xs h in (r.0, find-is p xs r.0 r.1)
 
+-- two tests that agree on everything are true of some element of the same lists
 pub list_any-same : {X : Type 0} (p q : X → Bool) (xs : List X) → ((x : X) → p x ≡ q x) → list_any p xs ≡ list_any q xs
 list_any-same p q [] same = refl
 list_any-same p q (x ∷ xs) same = ap (λ b. b || list_any p xs) (same x) ∙ ap (λ b. q x || b) (list_any-same p q xs same)

@@ -1,9 +1,11 @@
 -- The order of identifiers that are all different.
-use Rattle.std.proofs.Common.{◌≡◌, ◌≢◌, ℕ, zero, suc, ◌+◌, ◌<◌, ◌≤◌, Bool, true, false, not, cond, ◌||◌, eqb, ltb, leb, List, [], ◌∷◌, length, get_or, take, Some, None, refl, sym, ap, ◌∙◌, subst, arith, inl, inr}
+use Rattle.std.proofs.Common.{◌≡◌, ◌≢◌, ℕ, zero, suc, ◌+◌, ◌<◌, ◌≤◌, Bool, true, false, not, cond, ◌||◌, eqb, ltb, leb, List, [], ◌∷◌, length, get_or, take}
+use Rattle.std.proofs.Common.{Some, None, refl, sym, ap, ◌∙◌, subst, arith, inl, inr}
 use Rattle.std.specs.Prelude.{position, option_map, IsPermutation, IsSorted, sum_by}
 use Rattle.std.specs.List.{list_any, position_or_len}
 use Rattle.std.specs.Ordering.{nat_cmp}
-use Rattle.std.proofs.lemmas.Bool.{cases_lt, cases_eq, cases_order, eq-eqb, ne_eqb, eqb-true, eqb-false, lt-ltb, ltb-true, ltb-false, leb-true, or_parts, and_parts, false≢true, not-false}
+use Rattle.std.proofs.lemmas.Bool.{cases_lt, cases_eq, cases_order, eq-eqb, ne_eqb, eqb-true, eqb-false, lt-ltb, ltb-true, ltb-false, leb-true, or_parts}
+use Rattle.std.proofs.lemmas.Bool.{and_parts, false≢true, not-false}
 use Rattle.std.proofs.lemmas.List.{get_or_default}
 use Rattle.std.proofs.lemmas.List.Quantifiers.{position-Some}
 use Rattle.std.proofs.lemmas.List.Sums.{sum_by-cons, position_or_len_is, fails_before_first}
@@ -108,7 +110,8 @@ has-put_in_order n q (k ∷ ks) = go (has-put_in_order n q ks) (ltb k n)
     swap true false c = refl
     swap false b c = refl
 
-    go : has q (put_in_order n ks) ≡ (eqb n q || has q ks) → (b : Bool) → has q (cond b (k ∷ put_in_order n ks) (n ∷ k ∷ ks)) ≡ (eqb n q || (eqb k q || has q ks))
+    go : has q (put_in_order n ks) ≡ (eqb n q || has q ks) → (b : Bool)
+        → has q (cond b (k ∷ put_in_order n ks) (n ∷ k ∷ ks)) ≡ (eqb n q || (eqb k q || has q ks))
     go further true = ap (λ b. eqb k q || b) further ∙ swap (eqb k q) (eqb n q) (has q ks)
     go further false = refl
 
@@ -198,14 +201,16 @@ id_parts n h =
     let both = and_parts (ltb 0 n) (leb n MAX_ID) (not-false (is_id n) h) in
     (ltb-true 0 n both.0, leb-true n MAX_ID both.1)
 
--- what a sort makes of identifiers without a fault
-module _ (ns sorted : List ℕ) (moved : IsPermutation ns sorted) (climbs : IsSorted nat_cmp sorted) (differ : first_below (is_again_at ns) (length ns) ≡ None) where
+-- what a sort makes of identifiers without an error
+module _ (ns sorted : List ℕ) (moved : IsPermutation ns sorted) (climbs : IsSorted nat_cmp sorted)
+    (differ : first_below (is_again_at ns) (length ns) ≡ None) where
   different : Differ ns
   different = differ_from ns (none-is (is_again_at ns) (length ns) differ)
 
   rises : Rises sorted
   rises = rises_from sorted
-      (λ q. let once = times-differ q ns different in omega (arith, sym (times-is q ns) ∙ sym (sum_by-IsPermutation (λ n. cond (eqb n q) 1 0) ns sorted moved) ∙ times-is q sorted))
+      (λ q. let once = times-differ q ns different in
+      omega (arith, sym (times-is q ns) ∙ sym (sum_by-IsPermutation (λ n. cond (eqb n q) 1 0) ns sorted moved) ∙ times-is q sorted))
       (climbs_from sorted (λ i j le l. IsNonDecreasingBy-from_sort (λ n. n) sorted climbs i j 0 le l))
 
   pub sorted_is : sorted ≡ in_order ns
@@ -226,7 +231,10 @@ module _ (ns sorted : List ℕ) (moved : IsPermutation ns sorted) (climbs : IsSo
 
 position_at : (id : ℕ) (ids : List ℕ) (k : ℕ) → k < length ids → get_or ids k 0 ≡ id → ((i : ℕ) → i < k → get_or ids i 0 ≢ id) → rank_in ids id ≡ Some k
 position_at id ids k l e before =
-    rw (position_or_len_is (λ n. eqb n id) ids k 0 (omega arith) (λ i less. ne_eqb (get_or ids i 0) id (before i less)) (λ _. eq-eqb (get_or ids k 0) id e), lt-ltb k (length ids) l) refl
+    rw (
+      position_or_len_is (λ n. eqb n id) ids k 0 (omega arith) (λ i less. ne_eqb (get_or ids i 0) id (before i less)) (λ _. eq-eqb (get_or ids k 0) id e),
+      lt-ltb k (length ids) l,
+    ) refl
 
 -- an identifier stands at one place
 pub rank_of_id : (ids : List ℕ) (k id : ℕ) → IsTable ids → k < length ids → id ≡ get_or ids k id → rank_in ids id ≡ Some k
@@ -234,6 +242,7 @@ rank_of_id ids k id t l e =
     let here : get_or ids k 0 ≡ id = get_or_default ids k 0 id l ∙ sym e in
     position_at id ids k l here (λ i less f. let up = t.rising i k less l in omega arith)
 
+-- at the rank of an identifier stands that identifier
 pub id_of_rank : (ids : List ℕ) (id k : ℕ) → rank_in ids id ≡ Some k → get_or ids k 0 ≡ id
 id_of_rank ids id k e = eqb-true (get_or ids k 0) id (position-Some (λ n. eqb n id) ids k 0 e).1
 
@@ -244,18 +253,20 @@ none_passes p (n ∷ ns) h = rw (h 0 (omega arith)) (none_passes p ns (λ i l. h
 position_none : (p : ℕ → Bool) (ns : List ℕ) → position p ns ≡ None → list_any p ns ≡ false
 position_none p ns h = elim (cases_lt (position_or_len p ns) (length ns)) [
   | inl lt ↦
-      let found : Some (position_or_len p ns) ≡ None = sym (ap (λ b. cond b (Some (position_or_len p ns)) None) (lt-ltb (position_or_len p ns) (length ns) lt)) ∙ h in
+      let found : Some (position_or_len p ns) ≡ None =
+      sym (ap (λ b. cond b (Some (position_or_len p ns)) None) (lt-ltb (position_or_len p ns) (length ns) lt)) ∙ h in
       cc
   | inr ge ↦ none_passes p ns (λ i l. fails_before_first p ns i 0 (omega arith))
 ]
 
--- what a list without a fault is
+-- what a list without an error is
 pub record IsSound (ns : List ℕ) : Type 0 where
   pub some : 0 < length ns
   pub few : length ns ≤ MAX_NODES
   pub valid : list_any (λ n. not (is_id n)) ns ≡ false
   pub differ : first_below (is_again_at ns) (length ns) ≡ None
 
+-- in a list without an error each number is an identifier and no number stands twice
 pub sound : (ns : List ℕ) → id_fault ns ≡ None → IsSound ns
 sound ns h =
     let a = both_none (fault_if (eqb (length ns) 0) fault.Empty) _ h in

@@ -11,19 +11,25 @@ put-moves n [] = IsPermutation-refl (n ∷ [])
 put-moves n (k ∷ ks) = by (ltb k n) (put-moves n ks)
   where
     by : (b : Bool) → IsPermutation (n ∷ ks) (put_in_order n ks) → IsPermutation (n ∷ k ∷ ks) (cond b (k ∷ put_in_order n ks) (n ∷ k ∷ ks))
-    by true rest = IsPermutation-trans (n ∷ k ∷ ks) (k ∷ n ∷ ks) (k ∷ put_in_order n ks) (IsPermutation-insert (k ∷ ks) 1 n) (IsPermutation-cons k (n ∷ ks) (put_in_order n ks) rest)
+    by true rest =
+        IsPermutation-trans (n ∷ k ∷ ks) (k ∷ n ∷ ks) (k ∷ put_in_order n ks) (IsPermutation-insert (k ∷ ks) 1 n)
+        (IsPermutation-cons k (n ∷ ks) (put_in_order n ks) rest)
     by false rest = IsPermutation-refl (n ∷ k ∷ ks)
 
+-- a list put in order has the same elements as before
 pub in_order-moves : (ns : List ℕ) → IsPermutation ns (in_order ns)
 unfolding in_order
 in_order-moves [] = IsPermutation-refl []
-in_order-moves (n ∷ ns) = IsPermutation-trans (n ∷ ns) (n ∷ in_order ns) (put_in_order n (in_order ns)) (IsPermutation-cons n ns (in_order ns) (in_order-moves ns)) (put-moves n (in_order ns))
+in_order-moves (n ∷ ns) =
+    IsPermutation-trans (n ∷ ns) (n ∷ in_order ns) (put_in_order n (in_order ns)) (IsPermutation-cons n ns (in_order ns) (in_order-moves ns))
+    (put-moves n (in_order ns))
 
 -- the number is at most each of the list
 abbrev pub AllFrom : ℕ → List ℕ → Type 0
 AllFrom x [] = Unit {0}
 AllFrom x (y ∷ ys) = (x ≤ y) × AllFrom x ys
 
+-- no number of the list is above one that stands after it
 abbrev pub Climbs : List ℕ → Type 0
 Climbs [] = Unit {0}
 Climbs (x ∷ xs) = AllFrom x xs × Climbs xs
@@ -48,6 +54,7 @@ climbs-put n (k ∷ ks) climbs = by (ltb k n) refl (climbs-put n ks climbs.1)
     by true e rest = let less : k < n = ltb-true k n e in (from-put k n ks (omega arith) climbs.0, rest)
     by false e rest = let le : n ≤ k = ltb-false k n e in ((le, from_less n k ks le climbs.0), climbs)
 
+-- a list put in order never falls
 pub climbs-in_order : (ns : List ℕ) → Climbs (in_order ns)
 unfolding in_order
 climbs-in_order [] = tt
@@ -58,6 +65,7 @@ from_at x [] j all lt = absurd (omega arith)
 from_at x (y ∷ ys) zero all lt = all.0
 from_at x (y ∷ ys) (suc j) all lt = from_at x ys j all.1 (omega arith)
 
+-- in a list that never falls, the number at a later index isn't lower
 pub climbs_at : (xs : List ℕ) (i j : ℕ) → Climbs xs → i ≤ j → j < length xs → get_or xs i 0 ≤ get_or xs j 0
 climbs_at [] i j climbs le lt = absurd (omega arith)
 climbs_at (x ∷ xs) zero zero climbs le lt = omega arith
@@ -65,5 +73,6 @@ climbs_at (x ∷ xs) zero (suc j) climbs le lt = from_at x xs j climbs.0 (omega 
 climbs_at (x ∷ xs) (suc i) zero climbs le lt = absurd (omega arith)
 climbs_at (x ∷ xs) (suc i) (suc j) climbs le lt = climbs_at xs i j climbs.1 (omega arith) (omega arith)
 
+-- a list put in order never falls, in the library's words
 pub in_order-climbs : (ns : List ℕ) → IsNonDecreasing (in_order ns)
 in_order-climbs ns = IsNonDecreasingBy-from_default (λ n. n) (in_order ns) 0 (λ i j le lt. climbs_at (in_order ns) i j (climbs-in_order ns) le lt)

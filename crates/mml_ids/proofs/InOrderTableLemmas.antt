@@ -1,4 +1,4 @@
--- Identifiers without a fault, put in order, are a table of the same identifiers.
+-- Identifiers without an error, put in order, are a table of the same identifiers.
 use Rattle.std.proofs.Common.{◌≡◌, ℕ, suc, ◌+◌, ◌≤◌, Bool, true, false, cond, List, get_or, None, refl, ap, ◌∙◌, ◌==◌, add-one, Equal, Greater, arith}
 use Rattle.std.specs.Prelude.{IsSorted}
 use Rattle.std.specs.Ordering.{nat_cmp, is_lt}
@@ -18,10 +18,12 @@ not_less x y le = rw (le-ltb x y le) (either (x == y))
 in_order-sorted : (ns : List ℕ) → IsSorted nat_cmp (in_order ns)
 in_order-sorted ns = λ k d low lt.
     let up = climbs_at (in_order ns) k (suc k) (climbs-in_order ns) (omega arith) (omega arith) in
-    let next : get_or (in_order ns) (k + 1) d ≡ get_or (in_order ns) (suc k) 0 = ap (λ i. get_or (in_order ns) i d) (add-one k) ∙ get_or_default (in_order ns) (suc k) d 0 (omega arith) in
+    let next : get_or (in_order ns) (k + 1) d ≡ get_or (in_order ns) (suc k) 0 =
+    ap (λ i. get_or (in_order ns) i d) (add-one k) ∙ get_or_default (in_order ns) (suc k) d 0 (omega arith) in
     let this : get_or (in_order ns) k d ≡ get_or (in_order ns) k 0 = get_or_default (in_order ns) k d 0 (omega arith) in
     not_less (get_or (in_order ns) (k + 1) d) (get_or (in_order ns) k d) (omega arith)
 
+-- identifiers without an error, put in order, are 1 to 256 identifiers, each below the next
 pub in_order-table : (ns : List ℕ) → id_fault ns ≡ None → IsTable (in_order ns)
 in_order-table ns none =
     let right = sound ns none in

@@ -4,15 +4,18 @@ use Rattle.std.proofs.lemmas.Bool.{cases_lt, lt-ltb, le-ltb}
 use Rattle.std.specs.Prelude.{option_map, nat_lt}
 use Rattle.std.specs.List.{list_any, find, position, position_or_len}
 
+-- a test of what the elements stand for is true of some element, as it is in the list of what they stand for
 pub list_any-map : {X Y : Type 0} (p : Y → Bool) (f : X → Y) (xs : List X) → list_any (λ x. p (f x)) xs ≡ list_any p (map f xs)
 list_any-map p f [] = refl
 list_any-map p f (x ∷ xs) = ap (λ b. p (f x) || b) (list_any-map p f xs)
 
+-- what the first element that passes stands for is the first that passes in the list of what they stand for
 pub find-map : {X Y : Type 0} (p : Y → Bool) (f : X → Y) (xs : List X) → option_map f (find (λ x. p (f x)) xs) ≡ find p (map f xs)
 find-map p f [] = refl
 find-map p f (x ∷ xs) = go (p (f x)) (find-map p f xs)
   where
-    go : (b : Bool) → option_map f (find (λ x. p (f x)) xs) ≡ find p (map f xs) → option_map f (cond b (Some x) (find (λ x. p (f x)) xs)) ≡ cond b (Some (f x)) (find p (map f xs))
+    go : (b : Bool) → option_map f (find (λ x. p (f x)) xs) ≡ find p (map f xs)
+        → option_map f (cond b (Some x) (find (λ x. p (f x)) xs)) ≡ cond b (Some (f x)) (find p (map f xs))
     go true e = refl
     go false e = e
 
@@ -24,13 +27,16 @@ length-mapped : {X Y : Type 0} (f : X → Y) (xs : List X) → length xs ≡ len
 length-mapped f [] = refl
 length-mapped f (x ∷ xs) = rw (length-mapped f xs) refl
 
+-- the place of the first that passes is the same in the list of what the elements stand for
 pub position-map : {X Y : Type 0} (p : Y → Bool) (f : X → Y) (xs : List X) → position (λ x. p (f x)) xs ≡ position p (map f xs)
 position-map p f xs = rw (place-map p f xs, length-mapped f xs) refl
 
+-- two maps, one after the other, are one
 pub map-map : {X Y Z : Type 0} (g : Y → Z) (f : X → Y) (xs : List X) → map (λ x. g (f x)) xs ≡ map g (map f xs)
 map-map g f [] = refl
 map-map g f (x ∷ xs) = ap (λ zs. g (f x) ∷ zs) (map-map g f xs)
 
+-- where the first element passes, its place is 0
 pub position-first : {X : Type 0} (p : X → Bool) (x : X) (xs : List X) → p x ≡ true → position p (x ∷ xs) ≡ Some 0
 position-first p x xs here = rw (here, lt-ltb 0 (suc (length xs)) (omega arith)) refl
 
@@ -44,6 +50,7 @@ shift n m = elim (cases_lt n m) [
 place-later : {X : Type 0} (p : X → Bool) (x : X) (xs : List X) → p x ≡ false → position_or_len p (x ∷ xs) ≡ suc (position_or_len p xs)
 place-later p x xs not_here = rw not_here (omega arith)
 
+-- where the first element doesn't pass, the place is one past that in the rest
 pub position-later : {X : Type 0} (p : X → Bool) (x : X) (xs : List X) → p x ≡ false → position p (x ∷ xs) ≡ option_map suc (position p xs)
 position-later p x xs not_here =
     ap (λ n. cond (nat_lt n (suc (length xs))) (Some n) None) (place-later p x xs not_here) ∙ shift (position_or_len p xs) (length xs)

@@ -1,10 +1,12 @@
 -- What the operations on words do to the sets that they keep.
-use Rattle.std.proofs.Common.{◌≡◌, ◌≢◌, ℕ, zero, suc, ◌+◌, ◌-◌, ◌*◌, ◌/◌, ◌%◌, ◌^◌, ◌<◌, ◌≤◌, Bool, true, false, not, cond, ◌&&◌, eqb, ltb, min, List, get_or, refl, sym, ap, ◌∙◌, subst, arith, inl, inr, w64, bit_and, lit<}
+use Rattle.std.proofs.Common.{◌≡◌, ◌≢◌, ℕ, zero, suc, ◌+◌, ◌-◌, ◌*◌, ◌/◌, ◌%◌, ◌^◌, ◌<◌, ◌≤◌, Bool, true, false, not, cond, ◌&&◌, eqb, ltb, min, List, get_or}
+use Rattle.std.proofs.Common.{refl, sym, ap, ◌∙◌, subst, arith, inl, inr, w64, bit_and, lit<}
 use Rattle.std.proofs.lemmas.Bool.{cases_lt, cases_eq, cases_order, eq-eqb, eqb-true, eqb-false, lt-ltb, le-ltb, ltb-true, and_parts, and_right}
 use Rattle.std.proofs.lemmas.Nat.{pow_pos, ones_le_self, zero_from_ones}
 use Rattle.std.proofs.Math.Nat.{pow-succ', mod-eq_of_lt, div-eq_of_lt-le}
 use Rattle.std.proofs.Math.Arith.{mod-mul}
-use Rattle.std.proofs.lemmas.Nat.Bits.{bit_at_and, bit_at_not, bit_at-lt, bit_at-zero, bit_at_above, bit_at_clear_same, bit_at_clear_other, ones_shl, bit_at_mask_inside, bit_at_mask_below}
+use Rattle.std.proofs.lemmas.Nat.Bits.{bit_at_and, bit_at_not, bit_at-lt, bit_at-zero, bit_at_above, bit_at_clear_same, bit_at_clear_other, ones_shl}
+use Rattle.std.proofs.lemmas.Nat.Bits.{bit_at_mask_inside, bit_at_mask_below}
 use Rattle.std.specs.Int.{bit_at, bit_not}
 use Rattle.std.specs.Prelude.{count_ones}
 use Rattle.std.specs.Ordering.{nat_cmp}
@@ -16,23 +18,20 @@ use Rattle.mml_ids.specs.Sets.{those_below}
 use Rattle.mml_ids.specs.inside.Words.{bit_in, set_of}
 use Rattle.mml_ids.specs.inside.WordsLemmas.{has_empty, has-set_of, same_ranks}
 
+two_bits : (P : ℕ → ℕ → Type 0) → P 0 0 → P 0 1 → P 1 0 → P 1 1 → (x y : ℕ) → x < 2 → y < 2 → P x y
+two_bits P none second first both zero zero a b = none
+two_bits P none second first both zero (suc zero) a b = second
+two_bits P none second first both (suc zero) zero a b = first
+two_bits P none second first both (suc zero) (suc zero) a b = both
+two_bits P none second first both zero (suc (suc y)) a b = absurd (omega arith)
+two_bits P none second first both (suc zero) (suc (suc y)) a b = absurd (omega arith)
+two_bits P none second first both (suc (suc x)) y a b = absurd (omega arith)
+
 and_bits : (x y : ℕ) → x < 2 → y < 2 → eqb (min x y) 1 ≡ (eqb x 1 && eqb y 1)
-and_bits zero zero a b = refl
-and_bits zero (suc zero) a b = refl
-and_bits zero (suc (suc y)) a b = absurd (omega arith)
-and_bits (suc zero) zero a b = refl
-and_bits (suc zero) (suc zero) a b = refl
-and_bits (suc zero) (suc (suc y)) a b = absurd (omega arith)
-and_bits (suc (suc x)) y a b = absurd (omega arith)
+and_bits = two_bits (λ x y. eqb (min x y) 1 ≡ (eqb x 1 && eqb y 1)) refl refl refl refl
 
 and_not_bits : (x y : ℕ) → x < 2 → y < 2 → eqb (min x (1 - y)) 1 ≡ (eqb x 1 && not (eqb y 1))
-and_not_bits zero zero a b = refl
-and_not_bits zero (suc zero) a b = refl
-and_not_bits zero (suc (suc y)) a b = absurd (omega arith)
-and_not_bits (suc zero) zero a b = refl
-and_not_bits (suc zero) (suc zero) a b = refl
-and_not_bits (suc zero) (suc (suc y)) a b = absurd (omega arith)
-and_not_bits (suc (suc x)) y a b = absurd (omega arith)
+and_not_bits = two_bits (λ x y. eqb (min x (1 - y)) 1 ≡ (eqb x 1 && not (eqb y 1))) refl refl refl refl
 
 and_both : (t x y : Bool) → (t && (x && y)) ≡ ((t && x) && (t && y))
 and_both true x y = refl
@@ -50,7 +49,9 @@ each_of_four P a b c d (suc (suc zero)) l = c
 each_of_four P a b c d (suc (suc (suc zero))) l = d
 each_of_four P a b c d (suc (suc (suc (suc w)))) l = absurd (omega arith)
 
-pub set_of-and : (n : ℕ) (a b new : List ℕ) → ((w : ℕ) → 64 * w < n → get_or new w 0 ≡ bit_and (get_or a w 0) (get_or b w 0)) → set_of n new ≡ sets.intersection (set_of n a) (set_of n b)
+-- words that are the and of two others, word by word, keep the intersection of their sets
+pub set_of-and : (n : ℕ) (a b new : List ℕ) → ((w : ℕ) → 64 * w < n → get_or new w 0 ≡ bit_and (get_or a w 0) (get_or b w 0))
+    → set_of n new ≡ sets.intersection (set_of n a) (set_of n b)
 set_of-and n a b new each = same_ranks _ _ (λ q.
     has-set_of n new q
     ∙ bits q
@@ -69,7 +70,9 @@ set_of-and n a b new each = same_ranks _ _ (λ q.
       | inr ge ↦ rw (le-ltb q n ge) refl
     ]
 
-pub set_of-and_not : (n : ℕ) (a b new : List ℕ) → ((w : ℕ) → 64 * w < n → get_or b w 0 < 2 ^ 64) → ((w : ℕ) → 64 * w < n → get_or new w 0 ≡ bit_and (get_or a w 0) (bit_not w64 (get_or b w 0))) → set_of n new ≡ sets.difference (set_of n a) (set_of n b)
+-- words without the bits of others, word by word, keep the difference of their sets
+pub set_of-and_not : (n : ℕ) (a b new : List ℕ) → ((w : ℕ) → 64 * w < n → get_or b w 0 < 2 ^ 64)
+    → ((w : ℕ) → 64 * w < n → get_or new w 0 ≡ bit_and (get_or a w 0) (bit_not w64 (get_or b w 0))) → set_of n new ≡ sets.difference (set_of n a) (set_of n b)
 set_of-and_not n a b new fits each = same_ranks _ _ (λ q.
     has-set_of n new q
     ∙ bits q
@@ -83,7 +86,8 @@ set_of-and_not n a b new fits each = same_ranks _ _ (λ q.
           let x : ℕ = get_or a (q / 64) 0 in
           let y : ℕ = get_or b (q / 64) 0 in
           ap (λ word. ltb q n && eqb (bit_at word (q % 64)) 1) (each (q / 64) (omega arith))
-          ∙ ap (λ bit. ltb q n && eqb bit 1) (bit_at_and x (bit_not w64 y) (q % 64) ∙ ap (min (bit_at x (q % 64))) (bit_at_not w64 y (q % 64) (fits (q / 64) (omega arith)) (omega arith)))
+          ∙ ap (λ bit. ltb q n && eqb bit 1)
+          (bit_at_and x (bit_not w64 y) (q % 64) ∙ ap (min (bit_at x (q % 64))) (bit_at_not w64 y (q % 64) (fits (q / 64) (omega arith)) (omega arith)))
           ∙ ap (λ t. ltb q n && t) (and_not_bits (bit_at x (q % 64)) (bit_at y (q % 64)) (bit_at-lt x (q % 64)) (bit_at-lt y (q % 64)))
       | inr ge ↦ rw (le-ltb q n ge) refl
     ]
@@ -92,12 +96,23 @@ set_of-and_not n a b new fits each = same_ranks _ _ (λ q.
 abbrev pub ones_above : ℕ → ℕ
 ones_above r = bit_and ((2 ^ 64 - 1) * 2 ^ r % 2 ^ 64) (bit_not w64 (1 * 2 ^ r % 2 ^ 64))
 
+-- among the ones above r, the bit at k is set exactly where k is above r
 pub bit-ones_above : (r k : ℕ) → r < 64 → k < 64 → eqb (bit_at (ones_above r) k) 1 ≡ ltb r k
 bit-ones_above r k below lt = elim (cases_order k r) [
   | inl same ↦ rw (same, bit_at_clear_same w64 ((2 ^ 64 - 1) * 2 ^ r % 2 ^ 64) r below, le-ltb r r (omega arith)) refl
   | inr o ↦ elim o [
-    | inl less ↦ rw (bit_at_clear_other w64 ((2 ^ 64 - 1) * 2 ^ r % 2 ^ 64) r below k lt (λ e. omega arith), ones_shl 64 r (omega arith), bit_at_mask_below r 64 k less, le-ltb r k (omega arith)) refl
-    | inr more ↦ rw (bit_at_clear_other w64 ((2 ^ 64 - 1) * 2 ^ r % 2 ^ 64) r below k lt (λ e. omega arith), ones_shl 64 r (omega arith), bit_at_mask_inside r 64 k (omega arith) lt, lt-ltb r k more) refl
+    | inl less ↦ rw (
+      bit_at_clear_other w64 ((2 ^ 64 - 1) * 2 ^ r % 2 ^ 64) r below k lt (λ e. omega arith),
+      ones_shl 64 r (omega arith),
+      bit_at_mask_below r 64 k less,
+      le-ltb r k (omega arith),
+    ) refl
+    | inr more ↦ rw (
+      bit_at_clear_other w64 ((2 ^ 64 - 1) * 2 ^ r % 2 ^ 64) r below k lt (λ e. omega arith),
+      ones_shl 64 r (omega arith),
+      bit_at_mask_inside r 64 k (omega arith) lt,
+      lt-ltb r k more,
+    ) refl
   ]
 ]
 
@@ -109,7 +124,8 @@ ltb_within r w k e = elim (cases_lt (r % 64) k) [
 ]
 
 -- the ranks above r, word by word
-pub has-above : (n : ℕ) (words : List ℕ) (r q : ℕ) → ((w : ℕ) → 64 * w < n → (k : ℕ) → k < 64 → eqb (bit_at (get_or words w 0) k) 1 ≡ ltb r (64 * w + k)) → sets.contains (set_of n words) q ≡ (ltb r q && ltb q n)
+pub has-above : (n : ℕ) (words : List ℕ) (r q : ℕ) → ((w : ℕ) → 64 * w < n → (k : ℕ) → k < 64 → eqb (bit_at (get_or words w 0) k) 1 ≡ ltb r (64 * w + k))
+    → sets.contains (set_of n words) q ≡ (ltb r q && ltb q n)
 has-above n words r q each = has-set_of n words q ∙ elim (cases_lt q n) [
   | inl lt ↦
       let place : 64 * (q / 64) + q % 64 ≡ q = omega arith in
@@ -137,6 +153,7 @@ one_counted =
     let some : count_ones 1 ≡ 0 → ⊥ = λ e. let z = zero_from_ones 1 e in omega arith in
     omega arith
 
+-- a rank that the set lacks makes it longer by one
 pub len-insert_new : (s : FinSet nat_cmp) (k : ℕ) → sets.contains s k ≡ false → sets.len (sets.insert s k) ≡ sets.len s + 1
 len-insert_new s k e = sets.len-insert nat_cmp_total s k ∙ ap (λ c. cond c (sets.len s) (sets.len s + 1)) e
 
@@ -147,7 +164,8 @@ not_yet n words = has-set_of n words n ∙ ap (λ t. t && bit_in words n) (le-lt
 abbrev digit : List ℕ → ℕ → ℕ
 digit words n = bit_at (get_or words (n / 64) 0) (n % 64)
 
-one_more : (n : ℕ) (words : List ℕ) (t : Bool) → bit_in words n ≡ t → sets.len (cond t (sets.insert (set_of n words) n) (set_of n words)) ≡ digit words n + sets.len (set_of n words)
+one_more : (n : ℕ) (words : List ℕ) (t : Bool) → bit_in words n ≡ t
+    → sets.len (cond t (sets.insert (set_of n words) n) (set_of n words)) ≡ digit words n + sets.len (set_of n words)
 one_more n words true e =
     let one : digit words n ≡ 1 = eqb-true (digit words n) 1 e in
     let more = len-insert_new (set_of n words) n (not_yet n words) in omega arith
@@ -164,6 +182,7 @@ len-set_of_step : (n : ℕ) (words : List ℕ) → sets.len (set_of (suc n) word
 unfolding set_of those_below
 len-set_of_step n words = one_more n words (bit_in words n) refl
 
+-- the set of ranks below 0 is empty
 pub len-set_of_none : (words : List ℕ) → sets.len (set_of 0 words) ≡ 0
 unfolding set_of those_below
 len-set_of_none words = sets.len-empty nat_cmp
@@ -189,7 +208,8 @@ len-part words w (suc j) l =
     ∙ omega (arith, len-part words w j (omega arith))
 
 -- each word adds its ones
-pub len-set_of_word : (words : List ℕ) (w : ℕ) → get_or words w 0 < 2 ^ 64 → sets.len (set_of (64 * (w + 1)) words) ≡ count_ones (get_or words w 0) + sets.len (set_of (64 * w) words)
+pub len-set_of_word : (words : List ℕ) (w : ℕ) → get_or words w 0 < 2 ^ 64
+    → sets.len (set_of (64 * (w + 1)) words) ≡ count_ones (get_or words w 0) + sets.len (set_of (64 * w) words)
 len-set_of_word words w fits =
     let next : 64 * (w + 1) ≡ 64 * w + 64 = omega arith in
     ap (λ n. sets.len (set_of n words)) next ∙ len-part words w 64 (omega arith)
@@ -201,12 +221,14 @@ none_of_zeros n words zeros = same_ranks _ _ (λ q. has-set_of n words q ∙ at 
   where
     at : (q : ℕ) → (ltb q n && bit_in words q) ≡ false
     at q = elim (cases_lt q n) [
-      | inl lt ↦ ap (λ b. ltb q n && eqb (bit_at b (q % 64)) 1) (zeros (q / 64) (omega arith)) ∙ ap (λ x. ltb q n && eqb x 1) (bit_at-zero (q % 64)) ∙ and_right (ltb q n) false refl
+      | inl lt ↦ ap (λ b. ltb q n && eqb (bit_at b (q % 64)) 1) (zeros (q / 64) (omega arith)) ∙ ap (λ x. ltb q n && eqb x 1) (bit_at-zero (q % 64))
+          ∙ and_right (ltb q n) false refl
       | inr ge ↦ rw (le-ltb q n ge) refl
     ]
 
 -- the highest one of a word
-pub has-highest : (n : ℕ) (words : List ℕ) (w k : ℕ) → 64 * w + k < n → k < 64 → 2 ^ k ≤ get_or words w 0 → get_or words w 0 < 2 * 2 ^ k → sets.contains (set_of n words) (64 * w + k) ≡ true
+pub has-highest : (n : ℕ) (words : List ℕ) (w k : ℕ) → 64 * w + k < n → k < 64 → 2 ^ k ≤ get_or words w 0 → get_or words w 0 < 2 * 2 ^ k
+    → sets.contains (set_of n words) (64 * w + k) ≡ true
 has-highest n words w k inside below low high =
     let place : (64 * w + k) / 64 ≡ w = omega arith in
     let bit : (64 * w + k) % 64 ≡ k = omega arith in
@@ -218,7 +240,8 @@ has-highest n words w k inside below low high =
     ∙ eq-eqb (bit_at (get_or words w 0) k) 1 (ap (λ x. x % 2) one)
 
 -- where no later word has a one, none is above it
-pub none_above_highest : (n : ℕ) (words : List ℕ) (w k q : ℕ) → get_or words w 0 < 2 * 2 ^ k → ((v : ℕ) → w < v → 64 * v < n → get_or words v 0 ≡ 0) → sets.contains (set_of n words) q ≡ true → q ≤ 64 * w + k
+pub none_above_highest : (n : ℕ) (words : List ℕ) (w k q : ℕ) → get_or words w 0 < 2 * 2 ^ k → ((v : ℕ) → w < v → 64 * v < n → get_or words v 0 ≡ 0)
+    → sets.contains (set_of n words) q ≡ true → q ≤ 64 * w + k
 none_above_highest n words w k q high zeros there =
     let parts = and_parts (ltb q n) (bit_in words q) (sym (has-set_of n words q) ∙ there) in
     let inside : q < n = ltb-true q n parts.0 in
@@ -227,7 +250,8 @@ none_above_highest n words w k q high zeros there =
       | inr le ↦ le
       | inl more ↦ elim (cases_eq (q / 64) w) [
         | inl same ↦
-            let bit : bit_at (get_or words w 0) (q % 64) ≡ 0 = bit_at_above (get_or words w 0) (suc k) (q % 64) (subst (λ x. get_or words w 0 < x) (sym (pow-succ' 2 k)) high) (omega arith) in
+            let bit : bit_at (get_or words w 0) (q % 64) ≡ 0 =
+            bit_at_above (get_or words w 0) (suc k) (q % 64) (subst (λ x. get_or words w 0 < x) (sym (pow-succ' 2 k)) high) (omega arith) in
             let other : digit words q ≡ bit_at (get_or words w 0) (q % 64) = ap (λ x. bit_at (get_or words x 0) (q % 64)) same in
             omega arith
         | inr later ↦ elim (cases_lt w (q / 64)) [
@@ -240,7 +264,8 @@ none_above_highest n words w k q high zeros there =
     ]
 
 -- a one of a word
-pub has-one : (n : ℕ) (words : List ℕ) (w k : ℕ) → 64 * w + k < n → k < 64 → bit_at (get_or words w 0) k ≡ 1 → sets.contains (set_of n words) (64 * w + k) ≡ true
+pub has-one : (n : ℕ) (words : List ℕ) (w k : ℕ) → 64 * w + k < n → k < 64 → bit_at (get_or words w 0) k ≡ 1
+    → sets.contains (set_of n words) (64 * w + k) ≡ true
 has-one n words w k inside below one =
     let place : (64 * w + k) / 64 ≡ w = omega arith in
     let bit : (64 * w + k) % 64 ≡ k = omega arith in
@@ -251,7 +276,8 @@ has-one n words w k inside below one =
     ∙ eq-eqb (bit_at (get_or words w 0) k) 1 one
 
 -- where no earlier word has a one, none is below the lowest of this one
-pub none_below_lowest : (n : ℕ) (words : List ℕ) (w k q : ℕ) → k < 64 → ((i : ℕ) → i < k → bit_at (get_or words w 0) i ≡ 0) → ((v : ℕ) → v < w → get_or words v 0 ≡ 0) → sets.contains (set_of n words) q ≡ true → 64 * w + k ≤ q
+pub none_below_lowest : (n : ℕ) (words : List ℕ) (w k q : ℕ) → k < 64 → ((i : ℕ) → i < k → bit_at (get_or words w 0) i ≡ 0)
+    → ((v : ℕ) → v < w → get_or words v 0 ≡ 0) → sets.contains (set_of n words) q ≡ true → 64 * w + k ≤ q
 none_below_lowest n words w k q below low zeros there =
     let parts = and_parts (ltb q n) (bit_in words q) (sym (has-set_of n words q) ∙ there) in
     let one : digit words q ≡ 1 = eqb-true (digit words q) 1 parts.1 in

@@ -1,8 +1,10 @@
 -- What searches below a number and in a list find.
-use Rattle.std.proofs.Common.{◌≡◌, ℕ, zero, suc, ◌+◌, ◌-◌, ◌<◌, ◌≤◌, Option, Some, None, Bool, true, false, cond, ◌||◌, ◌⊎◌, inl, inr, List, length, get_or, nat_lt, refl, sym, ap, ◌∙◌, subst, arith}
+use Rattle.std.proofs.Common.{◌≡◌, ℕ, zero, suc, ◌+◌, ◌-◌, ◌<◌, ◌≤◌, Option, Some, None, Bool, true, false, cond, ◌||◌, ◌⊎◌, inl, inr, List, length, get_or}
+use Rattle.std.proofs.Common.{nat_lt, refl, sym, ap, ◌∙◌, subst, arith}
 use Rattle.std.specs.List.{position, position_or_len}
 use Rattle.std.proofs.lemmas.List.Sums.{position_or_len_is, fails_before_first}
-use Rattle.std.proofs.lemmas.Bool.{or_cases, or_left, or_right, or_parts, false≢true, cases_order, cases_Bool, lt-ltb, le-ltb, ltb-false, both_ways, false_from_ne_true}
+use Rattle.std.proofs.lemmas.Bool.{or_cases, or_left, or_right, or_parts, false≢true, cases_order, cases_Bool, lt-ltb, le-ltb, ltb-false, both_ways}
+use Rattle.std.proofs.lemmas.Bool.{false_from_ne_true}
 use Rattle.mml_ids.specs.Search.{first_from, first_below, some_below, greatest_below}
 
 one_step : (test : ℕ → Bool) (s n : ℕ) (b : Bool) → test s ≡ b → first_from test s (suc n) ≡ cond b (Some s) (first_from test (s + 1) n)
@@ -12,7 +14,8 @@ none_from : (test : ℕ → Bool) (s n i : ℕ) → first_from test s n ≡ None
 none_from test s zero i none le lt = absurd (omega arith)
 none_from test s (suc n) i none le lt = by (none_from test (s + 1) n i) (test s) refl (cases_order s i)
   where
-    by : (first_from test (s + 1) n ≡ None → s + 1 ≤ i → i < s + 1 + n → test i ≡ false) → (b : Bool) → test s ≡ b → (s ≡ i) ⊎ ((s < i) ⊎ (i < s)) → test i ≡ false
+    by : (first_from test (s + 1) n ≡ None → s + 1 ≤ i → i < s + 1 + n → test i ≡ false) → (b : Bool) → test s ≡ b → (s ≡ i) ⊎ ((s < i) ⊎ (i < s))
+        → test i ≡ false
     by further true e at = let found : Some s ≡ None = sym (one_step test s n true e) ∙ none in absurd cc
     by further false e (inl same) = ap test (sym same) ∙ e
     by further false e (inr (inl before)) = further (sym (one_step test s n false e) ∙ none) (omega arith) (omega arith)
@@ -20,11 +23,13 @@ none_from test s (suc n) i none le lt = by (none_from test (s + 1) n i) (test s)
 
 from_none : (test : ℕ → Bool) (s n : ℕ) → ((i : ℕ) → s ≤ i → i < s + n → test i ≡ false) → first_from test s n ≡ None
 from_none test s zero nowhere = refl
-from_none test s (suc n) nowhere = one_step test s n false (nowhere s (omega arith) (omega arith)) ∙ from_none test (s + 1) n (λ i le lt. nowhere i (omega arith) (omega arith))
+from_none test s (suc n) nowhere =
+    one_step test s n false (nowhere s (omega arith) (omega arith)) ∙ from_none test (s + 1) n (λ i le lt. nowhere i (omega arith) (omega arith))
 
 from_first : (test : ℕ → Bool) (s n k : ℕ) → s ≤ k → k < s + n → test k ≡ true → ((i : ℕ) → s ≤ i → i < k → test i ≡ false) → first_from test s n ≡ Some k
 from_first test s zero k le lt here before = absurd (omega arith)
-from_first test s (suc n) k le lt here before = by (λ le' lt'. from_first test (s + 1) n k le' lt' here (λ i from to. before i (omega arith) to)) (cases_order s k)
+from_first test s (suc n) k le lt here before =
+    by (λ le' lt'. from_first test (s + 1) n k le' lt' here (λ i from to. before i (omega arith) to)) (cases_order s k)
   where
     by : (s + 1 ≤ k → k < s + 1 + n → first_from test (s + 1) n ≡ Some k) → (s ≡ k) ⊎ ((s < k) ⊎ (k < s)) → first_from test s (suc n) ≡ Some k
     by further (inl same) = one_step test s n true (ap test same ∙ here) ∙ ap Some same
@@ -58,15 +63,19 @@ first_of test s (suc n) k found = by (first_of test (s + 1) n k) (test s) refl
         earlier rest i le lt (inr (inl after)) = rest.before i (omega arith) lt
         earlier rest i le lt (inr (inr no_such)) = absurd (omega arith)
 
+-- the first number that passes is below n, passes, and no number before it does
 pub first-is : (test : ℕ → Bool) (n k : ℕ) → first_below test n ≡ Some k → (k < n) × (test k ≡ true) × ((i : ℕ) → i < k → test i ≡ false)
 first-is test n k found = let at = first_of test 0 n k found in let within = at.within in (omega arith, at.here, λ i lt. at.before i (omega arith) lt)
 
+-- a number below n that passes, where none before it does, is the first
 pub first-at : (test : ℕ → Bool) (n k : ℕ) → k < n → test k ≡ true → ((i : ℕ) → i < k → test i ≡ false) → first_below test n ≡ Some k
 first-at test n k lt here before = from_first test 0 n k (omega arith) (omega arith) here (λ i le to. before i to)
 
+-- where the search below n finds none, no number below n passes
 pub none-is : (test : ℕ → Bool) (n : ℕ) → first_below test n ≡ None → (i : ℕ) → i < n → test i ≡ false
 none-is test n none i lt = none_from test 0 n i none (omega arith) (omega arith)
 
+-- where no number below n passes, the search finds none
 pub none-at : (test : ℕ → Bool) (n : ℕ) → ((i : ℕ) → i < n → test i ≡ false) → first_below test n ≡ None
 none-at test n nowhere = from_none test 0 n (λ i le lt. nowhere i (omega arith))
 
@@ -74,25 +83,32 @@ none-at test n nowhere = from_none test 0 n (λ i le lt. nowhere i (omega arith)
 next_step : (bad : ℕ → Bool) (k n m : ℕ) → n ≡ suc m → first_from bad k n ≡ cond (bad k) (Some k) (first_from bad (k + 1) m)
 next_step bad k n m e = rw e
 
+-- a search from k finds k, where k passes
 pub first_here : (bad : ℕ → Bool) (k n : ℕ) → k < n → bad k ≡ true → first_from bad k (n - k) ≡ Some k
 first_here bad k n h e = next_step bad k (n - k) (n - (k + 1)) (omega arith) ∙ rw e
 
+-- a search from k goes on from the next number, where k doesn't pass
 pub first_next : (bad : ℕ → Bool) (k n : ℕ) → k < n → bad k ≡ false → first_from bad (k + 1) (n - (k + 1)) ≡ first_from bad k (n - k)
 first_next bad k n h e = sym (next_step bad k (n - k) (n - (k + 1)) (omega arith) ∙ rw e)
 
+-- a search from n on finds none
 pub first_end : (bad : ℕ → Bool) (k n : ℕ) → n ≤ k → first_from bad k (n - k) ≡ None
 first_end bad k n h = let e : n - k ≡ 0 = omega arith in rw e
 
+-- where no element passes, there is no place to name
 pub position-none : {X : Type 0} (p : X → Bool) (xs : List X) (d : X) → ((k : ℕ) → k < length xs → p (get_or xs k d) ≡ false) → position p xs ≡ None
 position-none p xs d nowhere =
     let e : position_or_len p xs ≡ length xs = position_or_len_is p xs (length xs) d (omega arith) nowhere (λ lt. absurd (omega arith)) in
     rw (e, le-ltb (length xs) (length xs) (omega arith))
 
-pub position-at : {X : Type 0} (p : X → Bool) (xs : List X) (i : ℕ) (d : X) → i < length xs → p (get_or xs i d) ≡ true → ((k : ℕ) → k < i → p (get_or xs k d) ≡ false) → position p xs ≡ Some i
+-- the place of an element that passes, where none before it does
+pub position-at : {X : Type 0} (p : X → Bool) (xs : List X) (i : ℕ) (d : X) → i < length xs → p (get_or xs i d) ≡ true
+    → ((k : ℕ) → k < i → p (get_or xs k d) ≡ false) → position p xs ≡ Some i
 position-at p xs i d lt here before =
     let e : position_or_len p xs ≡ i = position_or_len_is p xs i d (omega arith) before (λ _. here) in
     rw (e, lt-ltb i (length xs) lt)
 
+-- where no place is named, no element passes
 pub position-None : {X : Type 0} (p : X → Bool) (xs : List X) (d : X) → position p xs ≡ None → (k : ℕ) → k < length xs → p (get_or xs k d) ≡ false
 position-None p xs d none k lt = fails_before_first p xs k d (past (nat_lt (position_or_len p xs) (length xs)) refl none)
   where
@@ -101,18 +117,21 @@ position-None p xs d none k lt = fails_before_first p xs k d (past (nat_lt (posi
     past false is none = let end : length xs ≤ position_or_len p xs = ltb-false _ _ is in omega arith
 
 -- the one place at which the test is true
-pub position-only : {X : Type 0} (p : X → Bool) (xs : List X) (i : ℕ) (d : X) → i < length xs → p (get_or xs i d) ≡ true → ((k : ℕ) → k < length xs → p (get_or xs k d) ≡ true → k ≡ i) → position p xs ≡ Some i
+pub position-only : {X : Type 0} (p : X → Bool) (xs : List X) (i : ℕ) (d : X) → i < length xs → p (get_or xs i d) ≡ true
+    → ((k : ℕ) → k < length xs → p (get_or xs k d) ≡ true → k ≡ i) → position p xs ≡ Some i
 position-only p xs i d lt here only = position-at p xs i d lt here (λ k before. not_yet k before (cases_Bool (p (get_or xs k d))))
   where
     not_yet : (k : ℕ) → k < i → (p (get_or xs k d) ≡ true) ⊎ (p (get_or xs k d) ≡ false) → p (get_or xs k d) ≡ false
     not_yet k before (inl yet) = let same : k ≡ i = only k (omega arith) yet in absurd (omega arith)
     not_yet k before (inr not_here) = not_here
 
+-- two tests that are each true where the other is are the same
 pub same_bool : (a b : Bool) → (a ≡ true → b ≡ true) → (b ≡ true → a ≡ true) → a ≡ b
 same_bool true b h k = sym (h refl)
 same_bool false true h k = k refl
 same_bool false false h k = refl
 
+-- where the test is true of some number below n, there is one to name
 pub some_below-find : (n : ℕ) (t : ℕ → Bool) → some_below n t ≡ true → (k : ℕ) × (k < n) × (t k ≡ true)
 some_below-find zero t h = absurd (false≢true h)
 some_below-find (suc n) t h = elim (or_cases (t n) (some_below n t) h) [
@@ -120,6 +139,7 @@ some_below-find (suc n) t h = elim (or_cases (t n) (some_below n t) h) [
   | inr e ↦ let r = some_below-find n t e in (r.0, omega arith, r.2)
 ]
 
+-- where a number below n passes, some does
 pub some_below-at : (n k : ℕ) (t : ℕ → Bool) → k < n → t k ≡ true → some_below n t ≡ true
 some_below-at zero k t l h = absurd (omega arith)
 some_below-at (suc n) k t l h = elim (cases_order k n) [
@@ -130,6 +150,7 @@ some_below-at (suc n) k t l h = elim (cases_order k n) [
   ]
 ]
 
+-- where the test is true of no number below n, each one fails it
 pub some_below-none : (n k : ℕ) (t : ℕ → Bool) → some_below n t ≡ false → k < n → t k ≡ false
 some_below-none zero k t h l = absurd (omega arith)
 some_below-none (suc n) k t h l = elim (cases_order k n) [
@@ -140,11 +161,13 @@ some_below-none (suc n) k t h l = elim (cases_order k n) [
   ]
 ]
 
+-- two tests that agree below n are both true of some number there, or neither is
 pub some_below_same : (n : ℕ) (t u : ℕ → Bool) → ((k : ℕ) → k < n → t k ≡ u k) → some_below n t ≡ some_below n u
 some_below_same zero t u h = refl
 some_below_same (suc n) t u h =
     ap (λ b. b || some_below n t) (h n (omega arith)) ∙ ap (λ b. u n || b) (some_below_same n t u (λ k l. h k (omega arith)))
 
+-- the greatest number that passes is below n and passes
 pub greatest_below-some : (n j : ℕ) (t : ℕ → Bool) → greatest_below n t ≡ Some j → (j < n) × (t j ≡ true)
 greatest_below-some zero j t h = cc
 greatest_below-some (suc n) j t h = go (greatest_below-some n j t) (t n) refl
@@ -159,6 +182,7 @@ greatest_below-some (suc n) j t h = go (greatest_below-some n j t) (t n) refl
         let r = lower below in
         (omega arith, r.1)
 
+-- where there is no greatest number that passes, none below n passes
 pub greatest_below-none : (n k : ℕ) (t : ℕ → Bool) → greatest_below n t ≡ None → k < n → t k ≡ false
 greatest_below-none zero k t h l = absurd (omega arith)
 greatest_below-none (suc n) k t h l = go (greatest_below-none n k t) (t n) refl
@@ -181,6 +205,7 @@ greatest_below_same zero t u h = refl
 greatest_below_same (suc n) t u h =
     ap (λ b. cond b (Some n) (greatest_below n t)) (h n (omega arith)) ∙ ap (cond (u n) (Some n)) (greatest_below_same n t u (λ k l. h k (omega arith)))
 
+-- a number below n that passes, where none above it does, is the greatest
 pub greatest_is : (n j : ℕ) (t : ℕ → Bool) → j < n → t j ≡ true → ((k : ℕ) → j < k → k < n → t k ≡ false) → greatest_below n t ≡ Some j
 greatest_is zero j t l h above = absurd (omega arith)
 greatest_is (suc n) j t l h above = elim (cases_order j n) [
@@ -191,6 +216,7 @@ greatest_is (suc n) j t l h above = elim (cases_order j n) [
   ]
 ]
 
+-- no number above the greatest passes
 pub greatest_above : (n j k : ℕ) (t : ℕ → Bool) → greatest_below n t ≡ Some j → j < k → k < n → t k ≡ false
 greatest_above zero j k t h l q = absurd (omega arith)
 greatest_above (suc n) j k t h l q = go (greatest_above n j k t) (t n) refl
@@ -207,12 +233,15 @@ greatest_above (suc n) j k t h l q = go (greatest_above n j k t) (t n) refl
         ]
 
 -- one search, with two bounds above all that it could find
-pub some_below_alike : (n m : ℕ) (t u : ℕ → Bool) → ((k : ℕ) → t k ≡ u k) → ((k : ℕ) → t k ≡ true → k < n) → ((k : ℕ) → u k ≡ true → k < m) → some_below n t ≡ some_below m u
+pub some_below_alike : (n m : ℕ) (t u : ℕ → Bool) → ((k : ℕ) → t k ≡ u k) → ((k : ℕ) → t k ≡ true → k < n) → ((k : ℕ) → u k ≡ true → k < m)
+    → some_below n t ≡ some_below m u
 some_below_alike n m t u same under_n under_m = same_bool _ _
     (λ h. let r = some_below-find n t h in let e = sym (same r.0) ∙ r.2 in some_below-at m r.0 u (under_m r.0 e) e)
     (λ h. let r = some_below-find m u h in let e = same r.0 ∙ r.2 in some_below-at n r.0 t (under_n r.0 e) e)
 
-pub greatest_below_alike : (n m : ℕ) (t u : ℕ → Bool) → ((k : ℕ) → t k ≡ u k) → ((k : ℕ) → t k ≡ true → k < n) → ((k : ℕ) → u k ≡ true → k < m) → greatest_below n t ≡ greatest_below m u
+-- tests that agree, and pass no number from their bound on, have the same greatest number
+pub greatest_below_alike : (n m : ℕ) (t u : ℕ → Bool) → ((k : ℕ) → t k ≡ u k) → ((k : ℕ) → t k ≡ true → k < n) → ((k : ℕ) → u k ≡ true → k < m)
+    → greatest_below n t ≡ greatest_below m u
 greatest_below_alike n m t u same under_n under_m = go (greatest_below n t) refl
   where
     none : (o : Option ℕ) → greatest_below n t ≡ None → greatest_below m u ≡ o → None ≡ o

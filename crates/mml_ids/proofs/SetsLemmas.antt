@@ -1,5 +1,6 @@
 -- Sets of ranks: their ranks in rising order, one after the other, and a set without one of its ranks.
-use Rattle.std.proofs.Common.{◌≡◌, ◌≢◌, ℕ, zero, suc, ◌+◌, ◌<◌, ◌≤◌, Bool, true, false, cond, eqb, not, ◌&&◌, ◌||◌, List, [], ◌∷◌, ◌++◌, map, filter, sym, refl, ap, ◌∙◌, arith, inl, inr, append-nil, append_assoc, zero-add}
+use Rattle.std.proofs.Common.{◌≡◌, ◌≢◌, ℕ, zero, suc, ◌+◌, ◌<◌, ◌≤◌, Bool, true, false, cond, eqb, not, ◌&&◌, ◌||◌, List, [], ◌∷◌, ◌++◌, map, filter, sym, refl}
+use Rattle.std.proofs.Common.{ap, ◌∙◌, arith, inl, inr, append-nil, append_assoc, zero-add}
 use Rattle.std.proofs.lemmas.Bool.{cases_eq, eq-eqb, ne_eqb, false_from_ne_true}
 use Rattle.std.specs.List.{range_with_len}
 use Rattle.std.proofs.lemmas.List.{map-append}
@@ -22,7 +23,8 @@ same_from t u k (suc n) h =
     ∙ ap (λ xs. cond (u k) (k ∷ xs) xs) (same_from t u (k + 1) n (λ q l. h q (omega arith)))
 
 -- the first that passes comes first, and then what passes without it
-first_passes : (t u : ℕ → Bool) (k n a : ℕ) → k ≤ a → a < k + n → t a ≡ true → u a ≡ false → ((q : ℕ) → q ≢ a → t q ≡ u q) → ((q : ℕ) → q < a → t q ≡ false) → filter t (range_with_len k n) ≡ a ∷ filter u (range_with_len k n)
+first_passes : (t u : ℕ → Bool) (k n a : ℕ) → k ≤ a → a < k + n → t a ≡ true → u a ≡ false → ((q : ℕ) → q ≢ a → t q ≡ u q) → ((q : ℕ) → q < a → t q ≡ false)
+    → filter t (range_with_len k n) ≡ a ∷ filter u (range_with_len k n)
 first_passes t u k zero a from below here gone others before = absurd (omega arith)
 first_passes t u k (suc n) a from below here gone others before = elim (cases_eq k a) [
   | inl e ↦
@@ -37,7 +39,8 @@ first_passes t u k (suc n) a from below here gone others before = elim (cases_eq
 ]
 
 -- the least rank comes first, and then those of the set without it
-pub least_first : (n : ℕ) (s rest : FinSet nat_cmp) (a : ℕ) → sets.contains s a ≡ true → ((q : ℕ) → sets.contains s q ≡ true → a ≤ q) → a < n → rest ≡ sets.remove s a → ranks_in n s ≡ a ∷ ranks_in n rest
+pub least_first : (n : ℕ) (s rest : FinSet nat_cmp) (a : ℕ) → sets.contains s a ≡ true → ((q : ℕ) → sets.contains s q ≡ true → a ≤ q) → a < n
+    → rest ≡ sets.remove s a → ranks_in n s ≡ a ∷ ranks_in n rest
 least_first n s rest a there least below removed = first_passes (sets.contains s) (sets.contains rest) 0 n a (omega arith) (omega arith) there
     (has a ∙ ap (λ b. not b && sets.contains s a) (eq-eqb a a refl))
     (λ q ne. sym (has q ∙ ap (λ b. not b && sets.contains s q) (ne_eqb q a ne)))
@@ -56,13 +59,16 @@ no_ranks n s e = same_from (sets.contains s) (λ q. false) 0 n (λ q l. ap (λ r
 -- ---- what is made of each rank, in a loop that takes out the least
 
 -- what was put, and what is made of the ranks that are left, stays the whole
-pub one_put : {X : Type 0} (f : ℕ → X) (n : ℕ) (left rest : FinSet nat_cmp) (a : ℕ) (held pushed whole : List X) → sets.contains left a ≡ true → ((q : ℕ) → sets.contains left q ≡ true → a ≤ q) → a < n → rest ≡ sets.remove left a
+pub one_put : {X : Type 0} (f : ℕ → X) (n : ℕ) (left rest : FinSet nat_cmp) (a : ℕ) (held pushed whole : List X) → sets.contains left a ≡ true
+    → ((q : ℕ) → sets.contains left q ≡ true → a ≤ q) → a < n → rest ≡ sets.remove left a
     → pushed ≡ held ++ f a ∷ [] → held ++ map f (ranks_in n left) ≡ whole → pushed ++ map f (ranks_in n rest) ≡ whole
 one_put f n left rest a held pushed whole there least below removed put so_far =
     ap (λ xs. xs ++ map f (ranks_in n rest)) put ∙ append_assoc held (f a ∷ []) (map f (ranks_in n rest))
     ∙ sym (ap (λ xs. held ++ map f xs) (least_first n left rest a there least below removed)) ∙ so_far
 
-pub all_put : {X : Type 0} (f : ℕ → X) (n : ℕ) (left : FinSet nat_cmp) (held whole : List X) → left ≡ sets.empty → held ++ map f (ranks_in n left) ≡ whole → held ≡ whole
+-- once no rank is left, what was put is the whole
+pub all_put : {X : Type 0} (f : ℕ → X) (n : ℕ) (left : FinSet nat_cmp) (held whole : List X) → left ≡ sets.empty
+    → held ++ map f (ranks_in n left) ≡ whole → held ≡ whole
 all_put f n left held whole none so_far = sym (append-nil held) ∙ sym (ap (λ xs. held ++ map f xs) (no_ranks n left none)) ∙ so_far
 
 -- ---- one more number below n
@@ -80,6 +86,7 @@ range_more n =
 abbrev pub passing : {X : Type 0} → (ℕ → Bool) → (ℕ → X) → ℕ → List X
 passing t f n = map f (filter t (range_with_len 0 n))
 
+-- one number more below n adds what is made of n, where n passes, at the end
 pub passing_more : {X : Type 0} (t : ℕ → Bool) (f : ℕ → X) (n : ℕ) → passing t f (n + 1) ≡ passing t f n ++ map f (cond (t n) (n ∷ []) [])
 passing_more t f n =
     ap (λ xs. map f (filter t xs)) (range_more n) ∙ ap (map f) (filter-append t (range_with_len 0 n) (n ∷ []))
@@ -87,6 +94,7 @@ passing_more t f n =
 
 -- ---- a set without one of its ranks
 
+-- the set less the set of one rank is the set with that rank removed
 pub without_one : (s : FinSet nat_cmp) (a : ℕ) → sets.difference s (sets.insert sets.empty a) ≡ sets.remove s a
 without_one s a = same_ranks _ _ (λ q.
     sets.contains-difference nat_cmp_total s (sets.insert sets.empty a) q
@@ -100,9 +108,11 @@ without_one s a = same_ranks _ _ (λ q.
     go false true = refl
     go false false = refl
 
+-- a set is longer by one than without one of its ranks
 pub len-remove_one : (s : FinSet nat_cmp) (a : ℕ) → sets.contains s a ≡ true → sets.len s ≡ sets.len (sets.remove s a) + 1
 len-remove_one s a h =
-    ap sets.len (same_ranks s (sets.insert (sets.remove s a) a) (λ q. sym (has_insert (sets.remove s a) a q ∙ ap (λ b. eqb q a || b) (has_remove s a q) ∙ back q)))
+    ap sets.len
+    (same_ranks s (sets.insert (sets.remove s a) a) (λ q. sym (has_insert (sets.remove s a) a q ∙ ap (λ b. eqb q a || b) (has_remove s a q) ∙ back q)))
     ∙ sets.len-insert nat_cmp_total (sets.remove s a) a
     ∙ ap (λ b. cond b (sets.len (sets.remove s a)) (sets.len (sets.remove s a) + 1)) (has_remove s a a ∙ ap (λ b. not b && sets.contains s a) (eq-eqb a a refl))
   where

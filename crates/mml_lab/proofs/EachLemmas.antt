@@ -1,36 +1,42 @@
 -- Reading the values of an array one after the other, as a loop does.
-use Rattle.std.proofs.Common.{◌≡◌, ℕ, ◌+◌, ◌≤◌, ◌<◌, List, [], ◌∷◌, ◌++◌, Bool, true, false, length, drop, get_or, Result, Ok, Err, MatchBool, refl, sym, ap, ◌∙◌, append_assoc}
+use Rattle.std.proofs.Common.{◌≡◌, ℕ, ◌+◌, ◌≤◌, ◌<◌, List, [], ◌∷◌, ◌++◌, Bool, true, false, length, drop, get_or, Result, Ok, Err, MatchBool, refl, sym, ap}
+use Rattle.std.proofs.Common.{◌∙◌, append_assoc}
 use Rattle.std.proofs.lemmas.List.{append-nil, drop_all}
 use Rattle.mml_ids.specs.Gives.{◌>>=◌}
 use Rattle.toml.specs.declared.value.Value.{Value}
 use Rattle.toml.specs.Data.{Data}
 use Rattle.toml.specs.View.{view, items_view}
 use Rattle.toml.proofs.Views.{items_view-drop}
-use Rattle.mml_lab.specs.declared.fault.LabFault.{LabFault}
+use Rattle.mml_lab.specs.declared.lab_fault.LabFault.{LabFault}
 use Rattle.mml_lab.specs.Shape.{each}
 
 -- what was read before, and what is still read
 abbrev pub with_front : {A : Type 0} → List A → Result (List A) LabFault → Result (List A) LabFault
 with_front front read = read >>= λ xs. Ok (front ++ xs)
 
-regroup : {A : Type 0} (front : List A) (x : A) (read : Result (List A) LabFault) → with_front front (read >>= λ xs. Ok (x ∷ xs)) ≡ with_front (front ++ x ∷ []) read
+regroup : {A : Type 0} (front : List A) (x : A) (read : Result (List A) LabFault)
+    → with_front front (read >>= λ xs. Ok (x ∷ xs)) ≡ with_front (front ++ x ∷ []) read
 regroup front x (Ok xs) = ap Ok (simp append_assoc)
 regroup front x (Err e) = refl
 
-pub goes_on : {A : Type 0} (f : Data → Result A LabFault) (vs : List Value) (i : ℕ) (d : Value) (x : A) (front : List A) (total : Result (List A) LabFault) → i < length vs → f (view (get_or vs i d)) ≡ Ok x
+pub goes_on : {A : Type 0} (f : Data → Result A LabFault) (vs : List Value) (i : ℕ) (d : Value) (x : A) (front : List A) (total : Result (List A) LabFault)
+    → i < length vs → f (view (get_or vs i d)) ≡ Ok x
     → with_front front (each f (items_view (drop i vs))) ≡ total → with_front (front ++ x ∷ []) (each f (items_view (drop (i + 1) vs))) ≡ total
 goes_on f vs i d x front total lt h so_far =
     let one : with_front front (each f (items_view (drop i vs))) ≡ with_front (front ++ x ∷ []) (each f (items_view (drop (i + 1) vs))) =
     rw (items_view-drop vs i d lt, h) (regroup front x (each f (items_view (drop (i + 1) vs)))) in
     sym one ∙ so_far
 
--- what follows where an error isn't want of memory
+-- what follows where an error isn't out of memory
 pub weaker : (b : Bool) {P Q : Type 0} → (P → Q) → MatchBool b (Unit {0}) P → MatchBool b (Unit {0}) Q
 weaker true f h = tt
 weaker false f h = f h
 
-pub ends : {A B : Type 0} (g : List A → B) (lost : LabFault → Bool) (e : LabFault) (f : Data → Result A LabFault) (vs : List Value) (i : ℕ) (d : Value) (front : List A) (total : Result (List A) LabFault) → i < length vs
-    → MatchBool (lost e) (Unit {0}) (f (view (get_or vs i d)) ≡ Err e) → with_front front (each f (items_view (drop i vs))) ≡ total → MatchBool (lost e) (Unit {0}) (total ≡ Err e)
+pub ends : {A B : Type 0} (g : List A → B) (lost : LabFault → Bool) (e : LabFault) (f : Data → Result A LabFault) (vs : List Value) (i : ℕ) (d : Value)
+    (front : List A) (total : Result (List A) LabFault)
+    → i < length vs
+    → MatchBool (lost e) (Unit {0}) (f (view (get_or vs i d)) ≡ Err e) → with_front front (each f (items_view (drop i vs))) ≡ total
+    → MatchBool (lost e) (Unit {0}) (total ≡ Err e)
 ends g lost e f vs i d front total lt h so_far = weaker (lost e) (λ (k : f (view (get_or vs i d)) ≡ Err e).
     let one : with_front front (each f (items_view (drop i vs))) ≡ Err e = rw (items_view-drop vs i d lt, k) refl in
     sym so_far ∙ one) h

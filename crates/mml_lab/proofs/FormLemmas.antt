@@ -35,8 +35,10 @@ name_byte b is = by (or_cases (is_ascii_lowercase b || is_ascii_digit b) (b == 4
     by (inr hyphen) = inr (inr (eqb-true b 45 hyphen))
 
 from_name_byte : (b : ℕ) → IsNameByte b → is_name_byte b ≡ true
-from_name_byte b (inl letter) = or_left (is_ascii_lowercase b || is_ascii_digit b) (b == 45) (or_left (is_ascii_lowercase b) (is_ascii_digit b) (from_range 97 122 b letter))
-from_name_byte b (inr (inl digit)) = or_left (is_ascii_lowercase b || is_ascii_digit b) (b == 45) (or_right (is_ascii_lowercase b) (is_ascii_digit b) (from_range 48 57 b digit))
+from_name_byte b (inl letter) =
+    or_left (is_ascii_lowercase b || is_ascii_digit b) (b == 45) (or_left (is_ascii_lowercase b) (is_ascii_digit b) (from_range 97 122 b letter))
+from_name_byte b (inr (inl digit)) =
+    or_left (is_ascii_lowercase b || is_ascii_digit b) (b == 45) (or_right (is_ascii_lowercase b) (is_ascii_digit b) (from_range 48 57 b digit))
 from_name_byte b (inr (inr hyphen)) = or_right (is_ascii_lowercase b || is_ascii_digit b) (b == 45) (eq-eqb b 45 hyphen)
 
 each_passes : (p : ℕ → Bool) (P : ℕ → Type 0) → ((b : ℕ) → p b ≡ true → P b) → (bs : List ℕ) → list_all p bs ≡ true → All P bs
@@ -60,8 +62,11 @@ name-is (b ∷ bs) is =
 
 from_name : (name : List ℕ) → IsName name → is_name name ≡ true
 from_name [] form = let some = form.some in absurd (omega arith)
-from_name (b ∷ bs) form = and_from _ _ (and_from _ _ (from_range 97 122 b form.first) (all_pass is_name_byte IsNameByte from_name_byte bs (All-tail IsNameByte b bs form.bytes))) (le-leb (length (b ∷ bs)) MAX_NAME form.short)
+from_name (b ∷ bs) form =
+    and_from _ _ (and_from _ _ (from_range 97 122 b form.first) (all_pass is_name_byte IsNameByte from_name_byte bs (All-tail IsNameByte b bs form.bytes)))
+    (le-leb (length (b ∷ bs)) MAX_NAME form.short)
 
+-- a name is found of its form exactly where it is
 pub name-means : (name : List ℕ) → (is_name name ≡ true) ↔ IsName name
 name-means name = (name-is name, from_name name)
 
@@ -69,10 +74,17 @@ key-is : (key : List ℕ) → is_key key ≡ true → IsKey key
 key-is key is =
     let length_and_bytes = and_parts (nat_lt 0 (length key) && nat_le (length key) MAX_KEY) (list_all is_ascii_graphic key) is in
     let lengths = and_parts (nat_lt 0 (length key)) (nat_le (length key) MAX_KEY) length_and_bytes.0 in
-    record { some = ltb-true 0 (length key) lengths.0; short = leb-true (length key) MAX_KEY lengths.1; bytes = each_passes is_ascii_graphic (IsInRange 33 126) (in_range 33 126) key length_and_bytes.1 }
+    record {
+      some = ltb-true 0 (length key) lengths.0;
+      short = leb-true (length key) MAX_KEY lengths.1;
+      bytes = each_passes is_ascii_graphic (IsInRange 33 126) (in_range 33 126) key length_and_bytes.1;
+    }
 
 from_key : (key : List ℕ) → IsKey key → is_key key ≡ true
-from_key key form = and_from _ _ (and_from _ _ (lt-ltb 0 (length key) form.some) (le-leb (length key) MAX_KEY form.short)) (all_pass is_ascii_graphic (IsInRange 33 126) (from_range 33 126) key form.bytes)
+from_key key form =
+    and_from _ _ (and_from _ _ (lt-ltb 0 (length key) form.some) (le-leb (length key) MAX_KEY form.short))
+    (all_pass is_ascii_graphic (IsInRange 33 126) (from_range 33 126) key form.bytes)
 
+-- a key is found of its form exactly where it is
 pub key-means : (key : List ℕ) → (is_key key ≡ true) ↔ IsKey key
 key-means key = (key-is key, from_key key)

@@ -1,4 +1,4 @@
--- What a file without a fault is.
+-- What a file without an error is.
 use Rattle.std.proofs.Common.{◌≡◌, ◌≤◌, true, not, ◌∷◌, length, None}
 use Rattle.std.specs.Prelude.{option_map}
 use Rattle.std.specs.List.{position}
@@ -8,11 +8,12 @@ use Rattle.mml_ids.specs.Search.{first_below}
 use Rattle.mml_ids.proofs.GivesLemmas.{both_none, if_none, map_none}
 use Rattle.mml_ids.specs.Ids.{id_fault}
 use Rattle.mml_lab.specs.declared.TheConstants.{MAX_EVENTS, MAX_SESSIONS, MAX_STUDENTS}
-use Rattle.mml_lab.specs.declared.fault.LabFault.TheVariants as fault
-use Rattle.mml_lab.specs.declared.fault.Key.TheVariants as key
+use Rattle.mml_lab.specs.declared.lab_fault.LabFault.TheVariants as fault
+use Rattle.mml_lab.specs.declared.lab_fault.Key.TheVariants as key
 use Rattle.mml_lab.specs.Shape.{NodeSpec, RawSpec}
 use Rattle.mml_lab.specs.Rosters.{is_account, name_twice}
-use Rattle.mml_lab.specs.Labs.{file_ids, lacks_owner, lacks_end, is_loop, is_link_again, points_astray, is_within, are_one_twice, both_fault, ids_fault, forms_fault, no_owner_fault, owner_twice_fault, owners_fault, links_fault, pointers_fault, limits_fault, lab_fault}
+use Rattle.mml_lab.specs.Labs.{file_ids, lacks_owner, lacks_end, is_loop, is_link_again, points_astray, is_within, are_one_twice, both_fault, ids_fault}
+use Rattle.mml_lab.specs.Labs.{forms_fault, no_owner_fault, owner_twice_fault, owners_fault, links_fault, pointers_fault, limits_fault, lab_fault}
 
 pub record IsFaultless (raw : RawSpec) : Type 0 where
   pub single : position (λ (node : NodeSpec). node.both) raw.nodes ≡ None
@@ -29,6 +30,7 @@ pub record IsFaultless (raw : RawSpec) : Type 0 where
   pub sessions : is_within MAX_SESSIONS raw.sessions ≡ true
   pub students : length raw.students ≤ MAX_STUDENTS
 
+-- a file without an error passes every test
 pub faultless : (raw : RawSpec) → lab_fault raw ≡ None → IsFaultless raw
 unfolding lab_fault both_fault ids_fault forms_fault no_owner_fault owner_twice_fault owners_fault links_fault pointers_fault limits_fault
 faultless raw none =

@@ -1,5 +1,6 @@
--- The lab of a file without a fault is a lab.
-use Rattle.std.proofs.Common.{◌≡◌, ℕ, ℤ, pos, negsuc, ◌<◌, ◌≤◌, ◌==◌, Bool, true, false, not, ◌&&◌, ◌||◌, ltb, List, [], length, get_or, map, Option, Some, None, ◌⊎◌, inl, inr, refl, sym, ap, ◌∙◌, subst, arith, All}
+-- The lab of a file without an error is a lab.
+use Rattle.std.proofs.Common.{◌≡◌, ℕ, ℤ, pos, negsuc, ◌<◌, ◌≤◌, ◌==◌, Bool, true, false, not, ◌&&◌, ◌||◌, ltb, List, [], length, get_or, map, Option, Some}
+use Rattle.std.proofs.Common.{None, ◌⊎◌, inl, inr, refl, sym, ap, ◌∙◌, subst, arith, All}
 use Rattle.std.specs.Prelude.{slice_index, unwrap_or, position}
 use Rattle.std.specs.List.{list_any}
 use Rattle.std.specs.Option.{option_and_then, option_map_or}
@@ -15,12 +16,13 @@ use Rattle.std.proofs.lemmas.List.Quantifiers.{position-Some}
 use Rattle.mml_ids.specs.Ids.{in_order, rank_in, IsTable}
 use Rattle.mml_ids.specs.inside.WordsLemmas.{has_empty}
 use Rattle.mml_ids.proofs.IdsLemmas.{id_of_rank}
-use Rattle.mml_rules.specs.declared.registers.Regs.{Regs}
+use Rattle.mml_rules.specs.declared.regs.Regs.{Regs}
 use Rattle.mml_rules.specs.Network.{Network, no_regs, registers_at, configuration_of, IsNetwork}
 use Rattle.mml_lab.specs.declared.TheConstants.{MAX_EVENTS, MAX_SESSIONS}
 use Rattle.mml_lab.specs.Shape.{Account, NodeSpec, RawSpec}
 use Rattle.mml_lab.specs.Rosters.{has_name, no_account, with_owners, IsRoster}
-use Rattle.mml_lab.specs.Labs.{IsLab, number_of, file_ids, joins, is_linked, is_loop, is_within, lacks_owner, points_astray, node_with, place_of, owners_in, owners_with, registers_in, registers_with, neighbours_of, network_in, lab_in}
+use Rattle.mml_lab.specs.Labs.{IsLab, number_of, file_ids, joins, is_linked, is_loop, is_within, lacks_owner, points_astray, node_with, place_of, owners_in}
+use Rattle.mml_lab.specs.Labs.{owners_with, registers_in, registers_with, neighbours_of, network_in, lab_in}
 use Rattle.mml_ids.proofs.MapLemmas.{list_any-map}
 use Rattle.mml_ids.proofs.SearchLemmas.{position-None}
 use Rattle.mml_lab.proofs.RosterMeaningLemmas.{is_roster}
@@ -44,6 +46,7 @@ joins_turned a b link = swap (int_eq link.0 a && int_eq link.1 b) (int_eq link.0
     swap false true = refl
     swap false false = refl
 
+-- a link joins its ends in either order
 pub is_linked_turned : (links : List (ℤ × ℤ)) (a b : ℤ) → is_linked links a b ≡ is_linked links b a
 is_linked_turned links a b = list_any-same (joins a b) (joins b a) links (joins_turned a b)
 
@@ -72,7 +75,8 @@ pub record IsNodeAt (nodes : List NodeSpec) (id : ℕ) (node : NodeSpec) : Type 
   pub named : node.id ≡ pos id
 
 -- a student's name has a place among the students
-pub place-position : (students : List Account) (name : List ℕ) → list_any (has_name name) students ≡ true → position (has_name name) students ≡ Some (place_of students name)
+pub place-position : (students : List Account) (name : List ℕ) → list_any (has_name name) students ≡ true
+    → position (has_name name) students ≡ Some (place_of students name)
 place-position students name some = by (position (has_name name) students) refl
   where
     found : (x : Account) × IsFound (has_name name) students x
@@ -84,16 +88,20 @@ place-position students name some = by (position (has_name name) students) refl
     by (Some k) e = refl
 
 -- each owner is a student
-pub owners-known : (students : List Account) (node : NodeSpec) → lacks_owner students node ≡ false → All (λ name. list_any (has_name name) students ≡ true) node.owners
+pub owners-known : (students : List Account) (node : NodeSpec) → lacks_owner students node ≡ false
+    → All (λ name. list_any (has_name name) students ≡ true) node.owners
 owners-known students node right k d lt = by (cases_Bool (list_any (has_name (get_or node.owners k d)) students))
   where
-    by : (list_any (has_name (get_or node.owners k d)) students ≡ true) ⊎ (list_any (has_name (get_or node.owners k d)) students ≡ false) → list_any (has_name (get_or node.owners k d)) students ≡ true
+    by : (list_any (has_name (get_or node.owners k d)) students ≡ true) ⊎ (list_any (has_name (get_or node.owners k d)) students ≡ false)
+        → list_any (has_name (get_or node.owners k d)) students ≡ true
     by (inl known) = known
-    by (inr unknown) = absurd (both_ways (lacks_owner students node) right (list_any_at (λ name. not (list_any (has_name name) students)) node.owners k d lt (ap not unknown)))
+    by (inr unknown) =
+        absurd (both_ways (lacks_owner students node) right (list_any_at (λ name. not (list_any (has_name name) students)) node.owners k d lt (ap not unknown)))
 
 owners-in : (students : List Account) (node : NodeSpec) → lacks_owner students node ≡ false → All (λ s. s < length students) (owners_in students node)
 owners-in students node right = All-map (λ s. s < length students) (place_of students) node.owners
-    (λ k d lt. let name = get_or node.owners k d in (position-Some (has_name name) students (place_of students name) no_account (place-position students name (owners-known students node right k d lt))).0)
+    (λ k d lt. let name = get_or node.owners k d in
+    (position-Some (has_name name) students (place_of students name) no_account (place-position students name (owners-known students node right k d lt))).0)
 
 module _ (raw : RawSpec) (right : IsFaultless raw) where
   abbrev pub ids : List ℕ
@@ -118,14 +126,16 @@ module _ (raw : RawSpec) (right : IsFaultless raw) where
 
   pub linked-in : (i j : ℕ) → i < length ids
       → (configuration_of net).linked i j ≡ (ltb j (length ids) && is_linked raw.links (pos (slice_index ids i)) (pos (slice_index ids j)))
-  linked-in i j lt = ap (λ s. sets.contains s j) (get_or-map (neighbours_of ids raw.links) ids i 0 sets.empty lt) ∙ has-neighbours_of ids raw.links (slice_index ids i) j
+  linked-in i j lt =
+      ap (λ s. sets.contains s j) (get_or-map (neighbours_of ids raw.links) ids i 0 sets.empty lt) ∙ has-neighbours_of ids raw.links (slice_index ids i) j
 
   linked-past : (i j : ℕ) → length ids ≤ i → (configuration_of net).linked i j ≡ false
   linked-past i j past =
       let long = length-map ids (neighbours_of ids raw.links) in
       ap (λ s. sets.contains s j) (get_or_past (map (neighbours_of ids raw.links) ids) i sets.empty (omega arith)) ∙ has_empty j
 
-  both_in : (i j : ℕ) → (configuration_of net).linked i j ≡ true → (i < length ids) × (j < length ids) × (is_linked raw.links (pos (slice_index ids i)) (pos (slice_index ids j)) ≡ true)
+  both_in : (i j : ℕ) → (configuration_of net).linked i j ≡ true
+      → (i < length ids) × (j < length ids) × (is_linked raw.links (pos (slice_index ids i)) (pos (slice_index ids j)) ≡ true)
   both_in i j holds = elim (cases_lt i (length ids)) [
     | inl lt ↦
         let parts = and_parts (ltb j (length ids)) (is_linked raw.links (pos (slice_index ids i)) (pos (slice_index ids j))) (sym (linked-in i j lt) ∙ holds) in
@@ -133,7 +143,8 @@ module _ (raw : RawSpec) (right : IsFaultless raw) where
     | inr past ↦ absurd (both_ways ((configuration_of net).linked i j) (linked-past i j past) holds)
   ]
 
-  from_in : (i j : ℕ) → i < length ids → j < length ids → is_linked raw.links (pos (slice_index ids i)) (pos (slice_index ids j)) ≡ true → (configuration_of net).linked i j ≡ true
+  from_in : (i j : ℕ) → i < length ids → j < length ids → is_linked raw.links (pos (slice_index ids i)) (pos (slice_index ids j)) ≡ true
+      → (configuration_of net).linked i j ≡ true
   from_in i j in_i in_j holds = linked-in i j in_i ∙ and_from _ _ (lt-ltb j (length ids) in_j) holds
 
   symmetric : (i j : ℕ) → (configuration_of net).linked i j ≡ true → (configuration_of net).linked j i ≡ true
@@ -141,7 +152,9 @@ module _ (raw : RawSpec) (right : IsFaultless raw) where
 
   not_itself : (i : ℕ) → (configuration_of net).linked i i ≡ false
   not_itself i = elim (cases_Bool ((configuration_of net).linked i i)) [
-    | inl holds ↦ let b = both_in i i holds in absurd (both_ways (is_linked raw.links (pos (slice_index ids i)) (pos (slice_index ids i))) (no_loop raw.links (pos (slice_index ids i)) right.loops) b.2)
+    | inl holds ↦ let b = both_in i i holds in
+        absurd
+        (both_ways (is_linked raw.links (pos (slice_index ids i)) (pos (slice_index ids i))) (no_loop raw.links (pos (slice_index ids i)) right.loops) b.2)
     | inr apart ↦ apart
   ]
 
@@ -153,15 +166,20 @@ module _ (raw : RawSpec) (right : IsFaultless raw) where
     | inl lt ↦
         let n = node_at i lt in
         let node = n.0 in
-        let regs : registers_at net.registers i ≡ registers_in ids node = registers-in i lt ∙ ap (λ (o : Option NodeSpec). option_map_or (registers_in ids) o no_regs) n.1.found in
-        let kept : points_astray raw.links node ≡ false = ap (points_astray raw.links) (sym n.1.stands.there) ∙ position-None (points_astray raw.links) raw.nodes node right.pointers n.1.stands.place n.1.stands.within in
+        let regs : registers_at net.registers i ≡ registers_in ids node =
+        registers-in i lt ∙ ap (λ (o : Option NodeSpec). option_map_or (registers_in ids) o no_regs) n.1.found in
+        let kept : points_astray raw.links node ≡ false =
+        ap (points_astray raw.links) (sym n.1.stands.there)
+        ∙ position-None (points_astray raw.links) raw.nodes node right.pointers n.1.stands.place n.1.stands.within in
         by i lt node n.1.named node.p (ap (λ (r : Regs). r.p) (sym regs) ∙ points) kept
     | inr past ↦
         let long = length-map ids (registers_with ids raw.nodes) in
-        let none : None ≡ Some j = sym (ap (λ (r : Regs). r.p) (get_or_past (map (registers_with ids raw.nodes) ids) i no_regs (omega arith))) ∙ points in absurd cc
+        let none : None ≡ Some j =
+        sym (ap (λ (r : Regs). r.p) (get_or_past (map (registers_with ids raw.nodes) ids) i no_regs (omega arith))) ∙ points in absurd cc
   ]
     where
-      by : (i : ℕ) → i < length ids → (node : NodeSpec) → node.id ≡ pos (slice_index ids i) → (o : Option ℤ) → option_and_then (λ p. rank_in ids (number_of p)) o ≡ Some j
+      by : (i : ℕ) → i < length ids → (node : NodeSpec) → node.id ≡ pos (slice_index ids i) → (o : Option ℤ)
+          → option_and_then (λ p. rank_in ids (number_of p)) o ≡ Some j
           → option_map_or (λ p. not (is_linked raw.links node.id p)) o false ≡ false → (configuration_of net).linked i j ≡ true
       by i lt node named None rank kept = absurd cc
       by i lt node named (Some z) rank kept =
@@ -183,18 +201,25 @@ module _ (raw : RawSpec) (right : IsFaultless raw) where
   }
 
   pub owners-within : All (All (λ s. s < length raw.students)) (map (owners_with raw.students raw.nodes) ids)
-  owners-within = All-map (All (λ s. s < length raw.students)) (owners_with raw.students raw.nodes) ids (All-from_get_or (λ id. All (λ s. s < length raw.students) (owners_with raw.students raw.nodes id)) ids 0 (λ i lt.
+  owners-within =
+      All-map (All (λ s. s < length raw.students)) (owners_with raw.students raw.nodes) ids
+      (All-from_get_or (λ id. All (λ s. s < length raw.students) (owners_with raw.students raw.nodes id)) ids 0 (λ i lt.
       let n = node_at i lt in
       let node = n.0 in
-      let owned : lacks_owner raw.students node ≡ false = ap (lacks_owner raw.students) (sym n.1.stands.there) ∙ position-None (lacks_owner raw.students) raw.nodes node right.owners n.1.stands.place n.1.stands.within in
-      subst (λ (o : Option NodeSpec). All (λ s. s < length raw.students) (option_map_or (owners_in raw.students) o [])) (sym n.1.found) (owners-in raw.students node owned)))
+      let owned : lacks_owner raw.students node ≡ false =
+      ap (lacks_owner raw.students) (sym n.1.stands.there)
+      ∙ position-None (lacks_owner raw.students) raw.nodes node right.owners n.1.stands.place n.1.stands.within in
+      subst (λ (o : Option NodeSpec). All (λ s. s < length raw.students) (option_map_or (owners_in raw.students) o [])) (sym n.1.found)
+      (owners-in raw.students node owned)))
 
   pub roster : IsRoster (with_owners raw.teacher raw.students (map (owners_with raw.students raw.nodes) ids))
   roster = is_roster raw.teacher raw.students (map (owners_with raw.students raw.nodes) ids) right.students right.forms right.names owners-within
 
+-- a number that is found within its limit is from 1 to the greatest
 pub within : (greatest : ℕ) (z : ℤ) → is_within greatest z ≡ true → (0 < number_of z) × (number_of z ≤ greatest)
 within greatest z holds = let parts = and_parts (ltb 0 (number_of z)) _ holds in (ltb-true 0 (number_of z) parts.0, leb-true (number_of z) greatest parts.1)
 
+-- the lab of a file without an error is lawful
 pub lab_in-lab : (raw : RawSpec) → IsFaultless raw → IsLab (lab_in raw)
 unfolding lab_in network_in
 lab_in-lab raw right = record {

@@ -1,5 +1,6 @@
 -- What the definitions of a lab mean.
-use Rattle.std.proofs.Common.{◌≡◌, ◌≢◌, ◌↔◌, ℕ, ℤ, pos, zero, suc, ◌<◌, ◌==◌, Bool, true, false, not, ◌&&◌, ◌||◌, ltb, List, [], ◌∷◌, length, get_or, take, map, Option, Some, None, Result, Ok, Err, ◌⊎◌, inl, inr, refl, sym, ap, ◌∙◌, subst, arith, All, Contains}
+use Rattle.std.proofs.Common.{◌≡◌, ◌≢◌, ◌↔◌, ℕ, ℤ, pos, zero, suc, ◌<◌, ◌==◌, Bool, true, false, not, ◌&&◌, ◌||◌, ltb, List, [], ◌∷◌, length, get_or, take, map}
+use Rattle.std.proofs.Common.{Option, Some, None, Result, Ok, Err, ◌⊎◌, inl, inr, refl, sym, ap, ◌∙◌, subst, arith, All, Contains}
 use Rattle.std.specs.Prelude.{slice_index, slice_get, position, unwrap_or}
 use Rattle.std.specs.List.{list_any, Any}
 use Rattle.std.specs.Option.{option_and_then, option_map_or}
@@ -12,13 +13,14 @@ use Rattle.std.proofs.lemmas.List.Sorted.{list_any-IsPermutation}
 use Rattle.mml_ids.specs.Gives.{◌>>=◌, unless_fault}
 use Rattle.mml_ids.specs.Ids.{in_order, rank_in, is_again_at}
 use Rattle.mml_ids.proofs.IdsLemmas.{rank_of_id, sound}
-use Rattle.mml_rules.specs.declared.registers.Regs.{Regs}
+use Rattle.mml_rules.specs.declared.regs.Regs.{Regs}
 use Rattle.mml_rules.specs.Network.{no_regs, registers_at, configuration_of}
 use Rattle.mml_lab.specs.declared.who.Who.TheVariants as who
-use Rattle.mml_lab.specs.declared.fault.LabFault.{LabFault}
+use Rattle.mml_lab.specs.declared.lab_fault.LabFault.{LabFault}
 use Rattle.mml_lab.specs.Shape.{NodeSpec, RawSpec, spelled}
 use Rattle.mml_lab.specs.Rosters.{RosterValue, has_name, with_owners, owns, owners_of, name_of}
-use Rattle.mml_lab.specs.Labs.{LabValue, IsLab, number_of, file_ids, is_node, joins, is_linked, is_loop, is_link_again, lacks_owner, lacks_end, points_astray, node_with, registers_in, place_of, owners_in, owners_with, lab_in, lab_fault, lab_of}
+use Rattle.mml_lab.specs.Labs.{LabValue, IsLab, number_of, file_ids, is_node, joins, is_linked, is_loop, is_link_again, lacks_owner, lacks_end, points_astray}
+use Rattle.mml_lab.specs.Labs.{node_with, registers_in, place_of, owners_in, owners_with, lab_in, lab_fault, lab_of}
 use Rattle.mml_lab.specs.LabMeaning.{Joins, HasLink, HasNode}
 use Rattle.mml_ids.proofs.MapLemmas.{list_any-map}
 use Rattle.mml_ids.proofs.SearchLemmas.{position-None}
@@ -29,6 +31,7 @@ use Rattle.mml_lab.proofs.LabFaultLemmas.{IsFaultless, faultless}
 use Rattle.mml_ids.proofs.FindLemmas.{list_any-found}
 use Rattle.mml_lab.proofs.LabInLemmas.{positive, lab_in-lab, node_at, IsNodeAt, linked-in, registers-in, net, table, roster, place-position, owners-known}
 
+-- a link is found to join two numbers exactly where it does
 pub joins-means : (a b : ℤ) (link : ℤ × ℤ) → (joins a b link ≡ true) ↔ Joins a b link
 joins-means a b link = (there, back)
   where
@@ -55,6 +58,7 @@ any_means p P means xs = (
 pub linked-means : (raw : RawSpec) (a b : ℤ) → (is_linked raw.links a b ≡ true) ↔ HasLink raw a b
 linked-means raw a b = any_means (joins a b) (Joins a b) (joins-means a b) raw.links
 
+-- a node is found in a file exactly where the file has it
 pub node-means : (raw : RawSpec) (id : ℤ) → (is_node raw.nodes id ≡ true) ↔ HasNode raw id
 node-means raw id = any_means (λ node. int_eq node.id id) (λ node. node.id ≡ id) (λ node. Decides-int_eq node.id id) raw.nodes
 
@@ -66,6 +70,7 @@ ends-are raw right = λ k d lt.
     let parts = and_parts (is_node raw.nodes link.0) (is_node raw.nodes link.1) both in
     ((node-means raw link.0).0 parts.0, (node-means raw link.1).0 parts.1)
 
+-- in a file without an error no link has one node at both ends
 pub ends-differ : (raw : RawSpec) → IsFaultless raw → All (λ link. link.0 ≢ link.1) raw.links
 ends-differ raw right = λ k d lt same.
     let link : ℤ × ℤ = get_or raw.links k d in
@@ -77,12 +82,16 @@ slice_get-is [] k x e = absurd cc
 slice_get-is (y ∷ ys) zero x e = let same : y ≡ x = cc in (omega arith, same)
 slice_get-is (y ∷ ys) (suc k) x e = let r = slice_get-is ys k x e in (omega (arith, r.0), r.1)
 
-pub links-once : (raw : RawSpec) (i j : ℕ) (link again : ℤ × ℤ) → IsFaultless raw → i < j → slice_get raw.links i ≡ Some link → slice_get raw.links j ≡ Some again → ¬ Joins again.0 again.1 link
+-- in a file without an error no two links join the same nodes
+pub links-once : (raw : RawSpec) (i j : ℕ) (link again : ℤ × ℤ) → IsFaultless raw → i < j → slice_get raw.links i ≡ Some link
+    → slice_get raw.links j ≡ Some again → ¬ Joins again.0 again.1 link
 links-once raw i j link again right less first second joined =
     let at_i = slice_get-is raw.links i link first in
     let at_j = slice_get-is raw.links j again second in
-    let apart : option_map_or (λ l. is_linked (take j raw.links) l.0 l.1) (slice_get raw.links j) false ≡ false = none-is (is_link_again raw.links) (length raw.links) right.once j at_j.0 in
-    let none : is_linked (take j raw.links) again.0 again.1 ≡ false = sym (ap (λ (o : Option (ℤ × ℤ)). option_map_or (λ l. is_linked (take j raw.links) l.0 l.1) o false) second) ∙ apart in
+    let apart : option_map_or (λ l. is_linked (take j raw.links) l.0 l.1) (slice_get raw.links j) false ≡ false =
+    none-is (is_link_again raw.links) (length raw.links) right.once j at_j.0 in
+    let none : is_linked (take j raw.links) again.0 again.1 ≡ false =
+    sym (ap (λ (o : Option (ℤ × ℤ)). option_map_or (λ l. is_linked (take j raw.links) l.0 l.1) o false) second) ∙ apart in
     let short : length (take j raw.links) ≡ j = length-take-le j raw.links (omega (arith, at_j.0)) in
     both_ways (is_linked (take j raw.links) again.0 again.1) none
     (list_any_at (joins again.0 again.1) (take j raw.links) i link (omega arith)
@@ -99,7 +108,8 @@ module _ (raw : RawSpec) (right : IsFaultless raw) where
         (n.1.stands.place, n.0, n.1.stands.within, n.1.stands.there, n.1.named ∙ ap pos here),
     λ node. let some : list_any (λ n. n == id) ids ≡ true = sym (list_any-map (λ n. n == id) (λ node. number_of node.id) raw.nodes
         ∙ list_any-IsPermutation (λ n. n == id) (file_ids raw.nodes) ids (in_order-moves (file_ids raw.nodes)))
-        ∙ list_any-from_Any (λ (n : NodeSpec). number_of n.id == id) raw.nodes (node.0, node.1, node.2, node.3, eq-eqb (number_of node.1.id) id (ap number_of node.4)) in
+        ∙ list_any-from_Any (λ (n : NodeSpec). number_of n.id == id) raw.nodes
+        (node.0, node.1, node.2, node.3, eq-eqb (number_of node.1.id) id (ap number_of node.4)) in
         let a = Any-from_list_any (λ n. n == id) ids some in
         (a.0, a.2, get_or_default ids a.0 id a.1 a.2 ∙ a.3 ∙ eqb-true a.1 id a.4),
   )
@@ -110,13 +120,15 @@ module _ (raw : RawSpec) (right : IsFaultless raw) where
       let ns : List ℕ = file_ids raw.nodes in
       let long : length ns ≡ length raw.nodes = length-map raw.nodes (λ node. number_of node.id) in
       let apart : is_again_at ns k ≡ false = none-is (is_again_at ns) (length ns) (sound ns right.ids).differ k (omega arith) in
-      let first : get_or ns j 0 ≡ number_of x.id = get_or-map (λ node. number_of node.id) raw.nodes j x 0 (omega arith) ∙ ap (λ (n : NodeSpec). number_of n.id) at_j in
+      let first : get_or ns j 0 ≡ number_of x.id =
+      get_or-map (λ node. number_of node.id) raw.nodes j x 0 (omega arith) ∙ ap (λ (n : NodeSpec). number_of n.id) at_j in
       let second : get_or ns k 0 ≡ number_of y.id = get_or-map (λ node. number_of node.id) raw.nodes k y 0 lt ∙ ap (λ (n : NodeSpec). number_of n.id) at_k in
       let short : length (take k ns) ≡ k = length-take-le k ns (omega arith) in
       both_ways (is_again_at ns k) apart (list_any_at (λ n. n == slice_index ns k) (take k ns) j 0 (omega arith)
       (eq-eqb (get_or (take k ns) j 0) (get_or ns k 0) (get_or-take k ns j 0 less ∙ first ∙ same ∙ sym second)))
 
-  pub node_is : (i : ℕ) (node : NodeSpec) → i < length ids → Contains raw.nodes node → node.id ≡ pos (slice_index ids i) → node_with raw.nodes (slice_index ids i) ≡ Some node
+  pub node_is : (i : ℕ) (node : NodeSpec) → i < length ids → Contains raw.nodes node → node.id ≡ pos (slice_index ids i)
+      → node_with raw.nodes (slice_index ids i) ≡ Some node
   node_is i node lt stands named = n.1.found ∙ ap Some (by (cases_order n.1.stands.place stands.0))
     where
       n : (x : NodeSpec) × IsNodeAt raw.nodes (slice_index ids i) x
@@ -126,14 +138,18 @@ module _ (raw : RawSpec) (right : IsFaultless raw) where
       same = ap number_of (n.1.named ∙ sym named)
 
       by : (n.1.stands.place ≡ stands.0) ⊎ ((n.1.stands.place < stands.0) ⊎ (stands.0 < n.1.stands.place)) → n.0 ≡ node
-      by (inl here) = sym n.1.stands.there ∙ get_or_default raw.nodes n.1.stands.place n.0 node n.1.stands.within ∙ ap (λ k. get_or raw.nodes k node) here ∙ stands.2
+      by (inl here) =
+          sym n.1.stands.there ∙ get_or_default raw.nodes n.1.stands.place n.0 node n.1.stands.within ∙ ap (λ k. get_or raw.nodes k node) here ∙ stands.2
       by (inr (inl less)) = absurd (one_place n.1.stands.place stands.0 n.0 node less stands.1 n.1.stands.there stands.2 same)
       by (inr (inr less)) = absurd (one_place stands.0 n.1.stands.place node n.0 less n.1.stands.within stands.2 n.1.stands.there (sym same))
 
-  registers-are : (i : ℕ) (node : NodeSpec) → i < length ids → Contains raw.nodes node → node.id ≡ pos (slice_index ids i) → registers_at (net raw right).registers i ≡ registers_in ids node
-  registers-are i node lt stands named = registers-in raw right i lt ∙ ap (λ (o : Option NodeSpec). option_map_or (registers_in ids) o no_regs) (node_is i node lt stands named)
+  registers-are : (i : ℕ) (node : NodeSpec) → i < length ids → Contains raw.nodes node → node.id ≡ pos (slice_index ids i)
+      → registers_at (net raw right).registers i ≡ registers_in ids node
+  registers-are i node lt stands named =
+      registers-in raw right i lt ∙ ap (λ (o : Option NodeSpec). option_map_or (registers_in ids) o no_regs) (node_is i node lt stands named)
 
-  pub links-are : (i j : ℕ) → i < length ids → j < length ids → ((configuration_of (net raw right)).linked i j ≡ true) ↔ HasLink raw (pos (slice_index ids i)) (pos (slice_index ids j))
+  pub links-are : (i j : ℕ) → i < length ids → j < length ids
+      → ((configuration_of (net raw right)).linked i j ≡ true) ↔ HasLink raw (pos (slice_index ids i)) (pos (slice_index ids j))
   links-are i j in_i in_j =
       let is = linked-in raw right i j in_i in
       let near = linked-means raw (pos (slice_index ids i)) (pos (slice_index ids j)) in (
@@ -141,11 +157,14 @@ module _ (raw : RawSpec) (right : IsFaultless raw) where
         λ link. is ∙ and_from _ _ (lt-ltb j (length ids) in_j) (near.1 link),
       )
 
-  pub m-is : (i : ℕ) (node : NodeSpec) → i < length ids → Contains raw.nodes node → node.id ≡ pos (slice_index ids i) → (configuration_of (net raw right)).m i ≡ node.m
+  pub m-is : (i : ℕ) (node : NodeSpec) → i < length ids → Contains raw.nodes node → node.id ≡ pos (slice_index ids i)
+      → (configuration_of (net raw right)).m i ≡ node.m
   m-is i node lt stands named = ap (λ (r : Regs). r.m) (registers-are i node lt stands named)
 
-  pub p-null : (i : ℕ) (node : NodeSpec) → i < length ids → Contains raw.nodes node → node.id ≡ pos (slice_index ids i) → node.p ≡ None → (configuration_of (net raw right)).p i ≡ None
-  p-null i node lt stands named null = ap (λ (r : Regs). r.p) (registers-are i node lt stands named) ∙ ap (option_and_then (λ p. rank_in ids (number_of p))) null
+  pub p-null : (i : ℕ) (node : NodeSpec) → i < length ids → Contains raw.nodes node → node.id ≡ pos (slice_index ids i) → node.p ≡ None
+      → (configuration_of (net raw right)).p i ≡ None
+  p-null i node lt stands named null =
+      ap (λ (r : Regs). r.p) (registers-are i node lt stands named) ∙ ap (option_and_then (λ p. rank_in ids (number_of p))) null
 
   -- an end of a link has a rank
   rank_at : (z : ℤ) → HasNode raw z → (j : ℕ) × (j < length ids) × (rank_in ids (number_of z) ≡ Some j) × (z ≡ pos (slice_index ids j))
@@ -167,8 +186,10 @@ module _ (raw : RawSpec) (right : IsFaultless raw) where
   pub p-is : (i : ℕ) (node : NodeSpec) (z : ℤ) → i < length ids → Contains raw.nodes node → node.id ≡ pos (slice_index ids i) → node.p ≡ Some z
       → (j : ℕ) × ((configuration_of (net raw right)).p i ≡ Some j) × (z ≡ pos (slice_index ids j)) × ((configuration_of (net raw right)).linked i j ≡ true)
   p-is i node z lt stands named points =
-      let kept : points_astray raw.links node ≡ false = ap (points_astray raw.links) (sym stands.2) ∙ position-None (points_astray raw.links) raw.nodes node right.pointers stands.0 stands.1 in
-      let linked : is_linked raw.links node.id z ≡ true = not-false _ (ap (λ (o : Option ℤ). option_map_or (λ p. not (is_linked raw.links node.id p)) o false) (sym points) ∙ kept) in
+      let kept : points_astray raw.links node ≡ false =
+      ap (points_astray raw.links) (sym stands.2) ∙ position-None (points_astray raw.links) raw.nodes node right.pointers stands.0 stands.1 in
+      let linked : is_linked raw.links node.id z ≡ true =
+      not-false _ (ap (λ (o : Option ℤ). option_map_or (λ p. not (is_linked raw.links node.id p)) o false) (sym points) ∙ kept) in
       let link = (linked-means raw node.id z).0 linked in
       let ends = ends-are raw right link.0 link.1 link.2 in
       let target : HasNode raw z = elim link.4 [
@@ -199,7 +220,9 @@ module _ (raw : RawSpec) (right : IsFaultless raw) where
       owned = ap (lacks_owner raw.students) (sym stands.2) ∙ position-None (lacks_owner raw.students) raw.nodes node right.owners stands.0 stands.1
 
       theirs : owners_of members i ≡ owners_in raw.students node
-      theirs = get_or-map (owners_with raw.students raw.nodes) ids i 0 [] lt ∙ ap (λ (o : Option NodeSpec). option_map_or (owners_in raw.students) o []) (node_is i node lt stands named)
+      theirs =
+          get_or-map (owners_with raw.students raw.nodes) ids i 0 [] lt
+          ∙ ap (λ (o : Option NodeSpec). option_map_or (owners_in raw.students) o []) (node_is i node lt stands named)
 
       test : owns members (who.Student s) i ≡ list_any (λ name. place_of raw.students name == s) node.owners
       test = ap (list_any (λ o. o == s)) theirs ∙ sym (list_any-map (λ o. o == s) (place_of raw.students) node.owners)
@@ -208,8 +231,10 @@ module _ (raw : RawSpec) (right : IsFaultless raw) where
       there holds =
           let found = list_any-found (λ name. place_of raw.students name == s) node.owners (sym test ∙ holds) in
           let at = found.1.place in
-          let known : list_any (has_name found.0) raw.students ≡ true = ap (λ n. list_any (has_name n) raw.students) (sym found.1.there) ∙ owners-known raw.students node owned at found.0 found.1.within in
-          let place : position (has_name found.0) raw.students ≡ Some s = place-position raw.students found.0 known ∙ ap Some (eqb-true (place_of raw.students found.0) s found.1.passes) in
+          let known : list_any (has_name found.0) raw.students ≡ true =
+          ap (λ n. list_any (has_name n) raw.students) (sym found.1.there) ∙ owners-known raw.students node owned at found.0 found.1.within in
+          let place : position (has_name found.0) raw.students ≡ Some s =
+          place-position raw.students found.0 known ∙ ap Some (eqb-true (place_of raw.students found.0) s found.1.passes) in
           let same : name ≡ found.0 = name_of_student members found.0 s place in
           (at, found.1.within, get_or_default node.owners at name found.0 found.1.within ∙ found.1.there ∙ sym same)
 
@@ -219,6 +244,7 @@ module _ (raw : RawSpec) (right : IsFaultless raw) where
           test ∙ list_any_at (λ name. place_of raw.students name == s) node.owners among.0 name among.1
           (ap (λ n. place_of raw.students n == s) among.2 ∙ eq-eqb (place_of raw.students name) s is)
 
+-- a lab that bytes spell is lawful
 pub lawful : (bytes : List ℕ) (lab : LabValue) → lab_of bytes ≡ Ok lab → IsLab lab
 unfolding lab_of
 lawful bytes lab = by (spelled bytes)

@@ -1,5 +1,6 @@
--- A network has as many links as its file, where the file has no fault.
-use Rattle.std.proofs.Common.{◌≡◌, ◌≢◌, ℕ, ℤ, pos, zero, suc, ◌+◌, ◌<◌, ◌≤◌, ◌==◌, ◌⊎◌, Bool, true, false, ◌||◌, ◌&&◌, List, length, get_or, take, Option, refl, sym, ap, ◌∙◌, subst, arith, inl, inr, add-one}
+-- A network has as many links as its file, where the file has no error.
+use Rattle.std.proofs.Common.{◌≡◌, ◌≢◌, ℕ, ℤ, pos, zero, suc, ◌+◌, ◌<◌, ◌≤◌, ◌==◌, ◌⊎◌, Bool, true, false, ◌||◌, ◌&&◌, List, length, get_or, take, Option, refl}
+use Rattle.std.proofs.Common.{sym, ap, ◌∙◌, subst, arith, inl, inr, add-one}
 use Rattle.std.specs.Prelude.{slice_index}
 use Rattle.std.specs.List.{list_any}
 use Rattle.std.specs.Option.{option_map_or}
@@ -51,7 +52,8 @@ same_rank ids rises i j in_i in_j z at_i at_j =
     ]
 
 -- a link joins no other two ranks
-joins_one : (ids : List ℕ) → IsTable ids → (link : Link) (a b i j : ℕ) → JoinsRanks ids link a b → i < length ids → j < i → Joins (end_of ids i) (end_of ids j) link → (i ≡ a) × (j ≡ b)
+joins_one : (ids : List ℕ) → IsTable ids → (link : Link) (a b i j : ℕ) → JoinsRanks ids link a b → i < length ids → j < i
+    → Joins (end_of ids i) (end_of ids j) link → (i ≡ a) × (j ≡ b)
 joins_one ids rises link a b i j ranks lt below there = by ranks.joined there
   where
     in_a : a < length ids
@@ -81,22 +83,31 @@ or_true true = refl
 or_true false = refl
 
 -- one link more joins two ranks more
-one_link : (ids : List ℕ) → IsTable ids → (links : List Link) (k : ℕ) (link : Link) (a b : ℕ) → k < length links → get_or links k link ≡ link → JoinsRanks ids link a b → is_linked (take k links) link.0 link.1 ≡ false
+one_link : (ids : List ℕ) → IsTable ids → (links : List Link) (k : ℕ) (link : Link) (a b : ℕ) → k < length links → get_or links k link ≡ link
+    → JoinsRanks ids link a b → is_linked (take k links) link.0 link.1 ≡ false
     → pairs_below (near ids (take (k + 1) links)) (length ids) ≡ pairs_below (near ids (take k links)) (length ids) + 1
 one_link ids rises links k link a b lt here ranks apart =
     pairs_one (length ids) a b (near ids (take k links)) (near ids (take (k + 1) links)) ranks.within ranks.less (off ranks.joined)
-    (more a b ∙ ap (λ x. near ids (take k links) a b || x) ((joins-means (end_of ids a) (end_of ids b) link).1 ranks.joined) ∙ or_true (near ids (take k links) a b))
-    (λ i j in_i below other. sym (more i j ∙ ap (λ x. near ids (take k links) i j || x) (elsewhere i j in_i below other (cases_Bool (joins (end_of ids i) (end_of ids j) link))) ∙ or_false (near ids (take k links) i j)))
+    (more a b ∙ ap (λ x. near ids (take k links) a b || x) ((joins-means (end_of ids a) (end_of ids b) link).1 ranks.joined)
+    ∙ or_true (near ids (take k links) a b))
+    (λ i j in_i below other.
+    sym (more i j ∙ ap (λ x. near ids (take k links) i j || x) (elsewhere i j in_i below other (cases_Bool (joins (end_of ids i) (end_of ids j) link)))
+    ∙ or_false (near ids (take k links) i j)))
   where
     more : (i j : ℕ) → near ids (take (k + 1) links) i j ≡ (near ids (take k links) i j || joins (end_of ids i) (end_of ids j) link)
-    more i j = list_any_more (joins (end_of ids i) (end_of ids j)) links k link lt ∙ ap (λ l. near ids (take k links) i j || joins (end_of ids i) (end_of ids j) l) here
+    more i j =
+        list_any_more (joins (end_of ids i) (end_of ids j)) links k link lt
+        ∙ ap (λ l. near ids (take k links) i j || joins (end_of ids i) (end_of ids j) l) here
 
     off : Joins (end_of ids a) (end_of ids b) link → near ids (take k links) a b ≡ false
     off (inl p) = (λ t. is_linked (take k links) (sym p.0 t) (sym p.1 t)) ∙ apart
     off (inr p) = is_linked_turned (take k links) (end_of ids a) (end_of ids b) ∙ (λ t. is_linked (take k links) (sym p.0 t) (sym p.1 t)) ∙ apart
 
-    elsewhere : (i j : ℕ) → i < length ids → j < i → ¬ ((i ≡ a) × (j ≡ b)) → (joins (end_of ids i) (end_of ids j) link ≡ true) ⊎ (joins (end_of ids i) (end_of ids j) link ≡ false) → joins (end_of ids i) (end_of ids j) link ≡ false
-    elsewhere i j in_i below other (inl holds) = absurd (other (joins_one ids rises link a b i j ranks in_i below ((joins-means (end_of ids i) (end_of ids j) link).0 holds)))
+    elsewhere : (i j : ℕ) → i < length ids → j < i → ¬ ((i ≡ a) × (j ≡ b))
+        → (joins (end_of ids i) (end_of ids j) link ≡ true) ⊎ (joins (end_of ids i) (end_of ids j) link ≡ false)
+        → joins (end_of ids i) (end_of ids j) link ≡ false
+    elsewhere i j in_i below other (inl holds) =
+        absurd (other (joins_one ids rises link a b i j ranks in_i below ((joins-means (end_of ids i) (end_of ids j) link).0 holds)))
     elsewhere i j in_i below other (inr apart) = apart
 
 module _ (raw : RawSpec) (right : IsFaultless raw) where
@@ -108,7 +119,8 @@ module _ (raw : RawSpec) (right : IsFaultless raw) where
       let n = number_of z in
       let some : list_any (λ k. k == n) ids ≡ true = sym (list_any-map (λ k. k == n) (λ x. number_of x.id) raw.nodes
       ∙ list_any-IsPermutation (λ k. k == n) (file_ids raw.nodes) ids (in_order-moves (file_ids raw.nodes)))
-      ∙ list_any-from_Any (λ (x : NodeSpec). number_of x.id == n) raw.nodes (node.0, node.1, node.2, node.3, eq-eqb (number_of node.1.id) n (ap number_of node.4)) in
+      ∙ list_any-from_Any (λ (x : NodeSpec). number_of x.id == n) raw.nodes
+      (node.0, node.1, node.2, node.3, eq-eqb (number_of node.1.id) n (ap number_of node.4)) in
       let a = Any-from_list_any (λ k. k == n) ids some in
       let here : slice_index ids a.0 ≡ n = get_or_default ids a.0 0 a.1 a.2 ∙ a.3 ∙ eqb-true a.1 n a.4 in
       (a.0, a.2, positive z (slice_index ids a.0) (sym here) ((table raw right).positive a.0 a.2))

@@ -10,6 +10,7 @@ abbrev pub pairs_below : (ℕ → ℕ → Bool) → ℕ → ℕ
 pairs_below test zero = 0
 pairs_below test (suc n) = pairs_below test n + count_below n (test n)
 
+-- links are counted as the pairs of numbers that are linked
 pub links_below-pairs : (c : Configuration) (n : ℕ) → links_below c n ≡ pairs_below c.linked n
 links_below-pairs c zero = refl
 links_below-pairs c (suc n) = ap (λ k. k + count_below n (c.linked n)) (links_below-pairs c n)
@@ -39,6 +40,7 @@ count_one (suc n) k s t lt off on same = elim (cases_eq k n) [
       omega (arith, rest, last)
 ]
 
+-- two tests that agree on the pairs below n count the same
 pub pairs_same : (n : ℕ) (s t : ℕ → ℕ → Bool) → ((i j : ℕ) → i < n → j < i → s i j ≡ t i j) → pairs_below s n ≡ pairs_below t n
 pairs_same zero s t same = refl
 pairs_same (suc n) s t same =
@@ -47,7 +49,8 @@ pairs_same (suc n) s t same =
     omega (arith, rest, last)
 
 -- the second test is true of the pair of a and b and the first is not, and they agree elsewhere
-pub pairs_one : (n a b : ℕ) (s t : ℕ → ℕ → Bool) → a < n → b < a → s a b ≡ false → t a b ≡ true → ((i j : ℕ) → i < n → j < i → ¬ ((i ≡ a) × (j ≡ b)) → s i j ≡ t i j) → pairs_below t n ≡ pairs_below s n + 1
+pub pairs_one : (n a b : ℕ) (s t : ℕ → ℕ → Bool) → a < n → b < a → s a b ≡ false → t a b ≡ true
+    → ((i j : ℕ) → i < n → j < i → ¬ ((i ≡ a) × (j ≡ b)) → s i j ≡ t i j) → pairs_below t n ≡ pairs_below s n + 1
 pairs_one zero a b s t lt less off on same = absurd (omega arith)
 pairs_one (suc n) a b s t lt less off on same = elim (cases_eq a n) [
   | inl here ↦
@@ -61,6 +64,7 @@ pairs_one (suc n) a b s t lt less off on same = elim (cases_eq a n) [
       omega (arith, rest, last)
 ]
 
+-- a test that no pair passes counts none
 pub no_pairs : (n : ℕ) → pairs_below (λ i j. false) n ≡ 0
 no_pairs zero = refl
 no_pairs (suc n) = let rest = no_pairs n in let last = nothing n in omega (arith, rest, last)

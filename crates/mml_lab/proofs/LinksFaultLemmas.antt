@@ -1,5 +1,6 @@
--- The fault of a link that stands twice.
-use Rattle.std.proofs.Common.{◌≡◌, ◌≢◌, ◌↔◌, ℕ, ℤ, pos, ◌<◌, Bool, true, false, not, ◌&&◌, List, ◌∷◌, length, get_or, take, Option, Some, None, refl, sym, ap, ◌∙◌, arith, inl, inr, ◌⊎◌}
+-- The error of a link that stands twice.
+use Rattle.std.proofs.Common.{◌≡◌, ◌≢◌, ◌↔◌, ℕ, ℤ, pos, ◌<◌, Bool, true, false, not, ◌&&◌, List, ◌∷◌, length, get_or, take, Option, Some, None, refl, sym, ap}
+use Rattle.std.proofs.Common.{◌∙◌, arith, inl, inr, ◌⊎◌}
 use Rattle.std.specs.Prelude.{option_map, slice_get}
 use Rattle.std.specs.List.{position}
 use Rattle.std.specs.Option.{option_map_or}
@@ -10,14 +11,13 @@ use Rattle.std.proofs.lemmas.List.{get_or-take, length-take, length-take-le}
 use Rattle.std.proofs.lemmas.List.Folds.{list_any_at}
 use Rattle.mml_ids.specs.Gives.{first_fault, fault_if}
 use Rattle.mml_ids.specs.Search.{first_below}
-use Rattle.mml_ids.specs.declared.id_table.IdFault.{IdFault}
-use Rattle.mml_lab.specs.declared.fault.LabFault.{LabFault}
-use Rattle.mml_lab.specs.declared.fault.LabFault.TheVariants as fault
-use Rattle.mml_lab.specs.declared.fault.Key.{Key}
-use Rattle.mml_lab.specs.declared.fault.Key.TheVariants as key
+use Rattle.mml_lab.specs.declared.lab_fault.LabFault.{LabFault}
+use Rattle.mml_lab.specs.declared.lab_fault.LabFault.TheVariants as fault
+use Rattle.mml_lab.specs.declared.lab_fault.Key.TheVariants as key
 use Rattle.mml_lab.specs.Shape.{RawSpec}
 use Rattle.mml_lab.specs.Rosters.{name_twice}
-use Rattle.mml_lab.specs.Labs.{is_node, joins, is_linked, lacks_end, is_loop, is_link_again, both_fault, ids_fault, forms_fault, no_owner_fault, owner_twice_fault, owners_fault, links_fault, pointers_fault, limits_fault, lab_fault}
+use Rattle.mml_lab.specs.Labs.{is_node, joins, is_linked, lacks_end, is_loop, is_link_again, both_fault, ids_fault, forms_fault, no_owner_fault}
+use Rattle.mml_lab.specs.Labs.{owner_twice_fault, owners_fault, links_fault, pointers_fault, limits_fault, lab_fault}
 use Rattle.mml_lab.specs.LabMeaning.{JoinNodes, IsLinkAgain, IsFirstLinkAgain}
 use Rattle.mml_ids.proofs.SearchLemmas.{position-none, position-None}
 use Rattle.mml_ids.proofs.SearchLemmas.{first-is, first-at, none-is, none-at}
@@ -59,7 +59,8 @@ again-means links k = (there (slice_get links k) refl, back)
         let before : twice.earlier < k = twice.before in
         let within : k < length links = slice_get_within links k twice.again twice.second in
         let short : length (take k links) ≡ k = length-take-le k links (omega arith) in
-        let here : get_or (take k links) twice.earlier twice.link ≡ twice.link = get_or-take k links twice.earlier twice.link before ∙ get_or_from_slice_get links twice.earlier twice.link twice.link twice.first in
+        let here : get_or (take k links) twice.earlier twice.link ≡ twice.link =
+        get_or-take k links twice.earlier twice.link before ∙ get_or_from_slice_get links twice.earlier twice.link twice.link twice.first in
         ap (λ (o : Option Link). option_map_or (λ l. is_linked (take k links) l.0 l.1) o false) twice.second
         ∙ list_any_at (joins twice.again.0 twice.again.1) (take k links) twice.earlier twice.link (omega arith)
         (ap (joins twice.again.0 twice.again.1) here ∙ (joins-means twice.again.0 twice.again.1 twice.link).1 twice.joins)
@@ -78,12 +79,14 @@ first-means : (links : List Link) (k : ℕ) → (first_below (is_link_again link
 first-means links k = (
   λ found. let at = first-is (is_link_again links) (length links) k found in
       record { again = (again-means links k).0 at.1; first = λ j less. (not_again links j).0 (at.2 j less) },
-  λ is. first-at (is_link_again links) (length links) k (slice_get_within links k is.again.again is.again.second) ((again-means links k).1 is.again) (λ j less. (not_again links j).1 (is.first j less)),
+  λ is. first-at (is_link_again links) (length links) k (slice_get_within links k is.again.again is.again.second) ((again-means links k).1 is.again)
+      (λ j less. (not_again links j).1 (is.first j less)),
 )
 
 none-means : (links : List Link) → (first_below (is_link_again links) (length links) ≡ None) ↔ ((k : ℕ) → ¬ IsLinkAgain links k)
 none-means links = (
-  λ none k twice. both_ways (is_link_again links k) (none-is (is_link_again links) (length links) none k (slice_get_within links k twice.again twice.second)) ((again-means links k).1 twice),
+  λ none k twice. both_ways (is_link_again links k) (none-is (is_link_again links) (length links) none k (slice_get_within links k twice.again twice.second))
+      ((again-means links k).1 twice),
   λ never. none-at (is_link_again links) (length links) (λ k lt. (not_again links k).1 (never k)),
 )
 
@@ -116,7 +119,8 @@ join-means raw = (λ none. there none.0 none.1, back)
           let link : Link = get_or raw.links k no_link in
           let ends = join.nodes k no_link lt in
           kept (is_node raw.nodes link.0 && is_node raw.nodes link.1) (and_from _ _ ((node-means raw link.0).1 ends.0) ((node-means raw link.1).1 ends.1))),
-      position-none is_loop raw.links no_link (λ k lt. apart (get_or raw.links k no_link) (join.different k no_link lt) (cases_Bool (is_loop (get_or raw.links k no_link)))),
+      position-none is_loop raw.links no_link
+          (λ k lt. apart (get_or raw.links k no_link) (join.different k no_link lt) (cases_Bool (is_loop (get_or raw.links k no_link)))),
     )
 
 abbrev first_of_three : Option ℕ → Option ℕ → Option ℕ → Option LabFault
@@ -137,6 +141,7 @@ all_none (Some j) b c e = absurd cc
 three : (a b c d : Option ℕ) → a ≡ None → b ≡ None → c ≡ d → first_of_three a b c ≡ option_map fault.LinkTwice d
 three a b c d no_a no_b is = rw (no_a, no_b, is) refl
 
+-- the error is a link twice exactly where all links join different nodes and it is the first that stood before
 pub twice-fault : (raw : RawSpec) (k : ℕ) → (links_fault raw.nodes raw.links ≡ Some (fault.LinkTwice k)) ↔ (JoinNodes raw × IsFirstLinkAgain raw.links k)
 unfolding links_fault
 twice-fault raw k = (
@@ -144,6 +149,7 @@ twice-fault raw k = (
   λ is. let none = (join-means raw).1 is.0 in three _ _ _ (Some k) none.0 none.1 ((first-means raw.links k).1 is.1),
 )
 
+-- links are without an error exactly where they all join different nodes and none stands twice
 pub twice-none : (raw : RawSpec) → (links_fault raw.nodes raw.links ≡ None) ↔ (JoinNodes raw × ((k : ℕ) → ¬ IsLinkAgain raw.links k))
 unfolding links_fault
 twice-none raw = (
@@ -173,45 +179,24 @@ module _ (f : LabFault) where
   not_if false g apart e = absurd cc
 
 module _ (k : ℕ) where
-  not_both : (x : ℕ) → fault.BothOwners x ≢ fault.LinkTwice k
-  not_both x e = absurd cc
-
-  not_id : (x : IdFault) → fault.Id x ≢ fault.LinkTwice k
-  not_id x e = absurd cc
-
-  not_name : (x : ℕ) → fault.Name x ≢ fault.LinkTwice k
-  not_name x e = absurd cc
-
-  not_name_twice : (x : ℕ) → fault.NameTwice x ≢ fault.LinkTwice k
-  not_name_twice x e = absurd cc
-
-  not_owner : (x : ℕ) → fault.NoOwner x ≢ fault.LinkTwice k
-  not_owner x e = absurd cc
-
-  not_owner_twice : (x : ℕ) → fault.OwnerTwice x ≢ fault.LinkTwice k
-  not_owner_twice x e = absurd cc
-
-  not_pointer : (x : ℕ) → fault.BadPointer x ≢ fault.LinkTwice k
-  not_pointer x e = absurd cc
-
-  not_limit : (x : Key) → fault.Limit x ≢ fault.LinkTwice k
-  not_limit x e = absurd cc
-
   told : (raw : RawSpec) → lab_fault raw ≡ Some (fault.LinkTwice k) → links_fault raw.nodes raw.links ≡ Some (fault.LinkTwice k)
   unfolding lab_fault both_fault ids_fault forms_fault no_owner_fault owner_twice_fault owners_fault pointers_fault limits_fault
   told raw found =
       let f = fault.LinkTwice k in
-      let after_both = skip f (both_fault raw.nodes) _ (not_mapped f fault.BothOwners not_both _) found in
-      let after_ids = skip f (ids_fault raw.nodes) _ (not_mapped f fault.Id not_id _) after_both in
-      let after_forms = skip f (forms_fault (raw.teacher ∷ raw.students)) _ (not_mapped f fault.Name not_name _) after_ids in
-      let after_names = skip f (name_twice (raw.teacher ∷ raw.students)) _ (not_mapped f fault.NameTwice not_name_twice _) after_forms in
-      let after_owners = skip f (owners_fault raw.students raw.nodes) _ (in_neither f (option_map fault.NoOwner _) _ (not_mapped f fault.NoOwner not_owner _) (not_mapped f fault.OwnerTwice not_owner_twice _)) after_names in
+      let after_both = skip f (both_fault raw.nodes) _ (not_mapped f fault.BothOwners (λ x e. absurd cc) _) found in
+      let after_ids = skip f (ids_fault raw.nodes) _ (not_mapped f fault.Id (λ x e. absurd cc) _) after_both in
+      let after_forms = skip f (forms_fault (raw.teacher ∷ raw.students)) _ (not_mapped f fault.Name (λ x e. absurd cc) _) after_ids in
+      let after_names = skip f (name_twice (raw.teacher ∷ raw.students)) _ (not_mapped f fault.NameTwice (λ x e. absurd cc) _) after_forms in
+      let after_owners = skip f (owners_fault raw.students raw.nodes) _ (in_neither f (option_map fault.NoOwner _) _
+      (not_mapped f fault.NoOwner (λ x e. absurd cc) _) (not_mapped f fault.OwnerTwice (λ x e. absurd cc) _)) after_names in
       keep f (links_fault raw.nodes raw.links) _
-      (in_neither f (pointers_fault raw.links raw.nodes) (limits_fault raw.events raw.sessions (length raw.students)) (not_mapped f fault.BadPointer not_pointer _)
-      (in_neither f (fault_if _ (fault.Limit key.Events)) _ (not_if f _ (fault.Limit key.Events) (not_limit key.Events))
-      (in_neither f (fault_if _ (fault.Limit key.Sessions)) _ (not_if f _ (fault.Limit key.Sessions) (not_limit key.Sessions))
-      (not_if f _ (fault.Limit key.Student) (not_limit key.Student)))))
+      (in_neither f (pointers_fault raw.links raw.nodes) (limits_fault raw.events raw.sessions (length raw.students))
+      (not_mapped f fault.BadPointer (λ x e. absurd cc) _)
+      (in_neither f (fault_if _ (fault.Limit key.Events)) _ (not_if f _ (fault.Limit key.Events) (λ e. absurd cc))
+      (in_neither f (fault_if _ (fault.Limit key.Sessions)) _ (not_if f _ (fault.Limit key.Sessions) (λ e. absurd cc))
+      (not_if f _ (fault.Limit key.Student) (λ e. absurd cc)))))
       after_owners
 
+-- a file whose error is a link twice has there the first link that stood before
 pub twice-told : (raw : RawSpec) (k : ℕ) → lab_fault raw ≡ Some (fault.LinkTwice k) → IsFirstLinkAgain raw.links k
 twice-told raw k found = ((twice-fault raw k).0 (told k raw found)).1

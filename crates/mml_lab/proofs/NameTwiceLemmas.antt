@@ -1,5 +1,6 @@
 -- The first name that stands before it already, met student after student.
-use Rattle.std.proofs.Common.{◌≡◌, ℕ, suc, ◌+◌, ◌-◌, ◌<◌, ◌≤◌, List, [], ◌∷◌, ◌++◌, length, get_or, take, map, Option, Some, None, Bool, true, false, cond, ◌||◌, Ok, Err, refl, sym, ap, ◌∙◌, arith, string_bytes, String, Global, is_some, true≢false, append-nil, length-append}
+use Rattle.std.proofs.Common.{◌≡◌, ℕ, suc, ◌+◌, ◌-◌, ◌<◌, ◌≤◌, List, [], ◌∷◌, ◌++◌, length, get_or, take, map, Option, Some, None, Bool, true, false, cond}
+use Rattle.std.proofs.Common.{◌||◌, Ok, Err, refl, sym, ap, ◌∙◌, arith, string_bytes, String, Global, is_some, true≢false, append-nil, length-append}
 use Rattle.std.specs.Prelude.{bytes_eq, slice_index_or}
 use Rattle.std.specs.List.{list_any}
 use Rattle.std.specs.Map.{lookup}
@@ -7,10 +8,10 @@ use Rattle.std.proofs.lemmas.List.{length-map}
 use Rattle.mml_ids.specs.Gives.{unless_fault}
 use Rattle.mml_ids.specs.Search.{first_from, first_below}
 use Rattle.mml_ids.proofs.SearchLemmas.{first_here, first_next, first_end}
-use Rattle.mml_lab.specs.declared.raw.Account.{Account as KeptAccount}
-use Rattle.mml_lab.specs.declared.fault.LabFault.TheVariants as fault
+use Rattle.mml_lab.specs.declared.raw_lab.Account.{Account as KeptAccount}
+use Rattle.mml_lab.specs.declared.lab_fault.LabFault.TheVariants as fault
 use Rattle.mml_lab.specs.Shape.{Account}
-use Rattle.mml_lab.specs.Raw.{account_view, entry_view}
+use Rattle.mml_lab.specs.inside.Raw.{account_view, entry_view}
 use Rattle.mml_lab.specs.Rosters.{has_name, no_account, is_name_again, name_twice}
 use Rattle.mml_lab.proofs.StudentNamedLemmas.{Entry}
 
@@ -39,41 +40,55 @@ lookup_any name (e ∷ es) = at_head (bytes_eq name (string_bytes e.0)) e.1 _ _ 
     at_head false v o r e = e
 
 -- the test at the account after those before
-again_at : (teacher : Account) (before : List Account) (a : Account) (after : List Account) → is_name_again (teacher ∷ before ++ a ∷ after) (suc (length before)) ≡ (bytes_eq a.name teacher.name || list_any (has_name a.name) before)
+again_at : (teacher : Account) (before : List Account) (a : Account) (after : List Account)
+    → is_name_again (teacher ∷ before ++ a ∷ after) (suc (length before)) ≡ (bytes_eq a.name teacher.name || list_any (has_name a.name) before)
 again_at teacher before a after =
     let here : slice_index_or (teacher ∷ before ++ a ∷ after) (suc (length before)) no_account ≡ a = at_middle before a after no_account in
     let front : take (suc (length before)) (teacher ∷ before ++ a ∷ after) ≡ teacher ∷ before = ap (λ zs. teacher ∷ zs) (take_middle before (a ∷ after)) in
     ap (λ (b : Account). list_any (has_name b.name) (take (suc (length before)) (teacher ∷ before ++ a ∷ after))) here ∙ ap (list_any (has_name a.name)) front
 
 -- the test at a student, by the map of those before
-pub taken_at : (teacher : KeptAccount) (all done rest : List KeptAccount) (x : KeptAccount) (es : List Entry) (t name : List ℕ) (r b : Bool) → done ++ x ∷ rest ≡ all → map entry_view es ≡ map account_view done → t ≡ string_bytes teacher.name → name ≡ string_bytes x.name
+pub taken_at : (teacher : KeptAccount) (all done rest : List KeptAccount) (x : KeptAccount) (es : List Entry) (t name : List ℕ) (r b : Bool)
+    → done ++ x ∷ rest ≡ all → map entry_view es ≡ map account_view done → t ≡ string_bytes teacher.name → name ≡ string_bytes x.name
     → r ≡ is_taken t es name → r ≡ b → is_name_again (account_view teacher ∷ map account_view all) (length done + 1) ≡ b
 taken_at teacher all done rest x es t name r b parts seen same_teacher same is at =
-    let accounts : map account_view all ≡ map account_view done ++ account_view x ∷ map account_view rest = ap (map account_view) (sym parts) ∙ map-append account_view done (x ∷ rest) in
+    let accounts : map account_view all ≡ map account_view done ++ account_view x ∷ map account_view rest =
+    ap (map account_view) (sym parts) ∙ map-append account_view done (x ∷ rest) in
     let place : length done + 1 ≡ suc (length (map account_view done)) = omega (arith, length-map done account_view) in
-    let here : is_name_again (account_view teacher ∷ map account_view all) (length done + 1) ≡ (bytes_eq (string_bytes x.name) (string_bytes teacher.name) || list_any (has_name (string_bytes x.name)) (map account_view done)) =
+    let here : is_name_again (account_view teacher ∷ map account_view all) (length done + 1)
+    ≡ (bytes_eq (string_bytes x.name) (string_bytes teacher.name) || list_any (has_name (string_bytes x.name)) (map account_view done)) =
     rw (accounts, place) (again_at (account_view teacher) (map account_view done) (account_view x) (map account_view rest)) in
-    let before : list_any (has_name (string_bytes x.name)) (map account_view done) ≡ is_some (lookup (λ k. bytes_eq (string_bytes x.name) (string_bytes k)) es) = ap (list_any (has_name (string_bytes x.name))) (sym seen) ∙ sym (lookup_any (string_bytes x.name) es) in
-    here ∙ ap (λ t. bytes_eq (string_bytes x.name) (string_bytes teacher.name) || t) before ∙ ap (is_taken (string_bytes teacher.name) es) (sym same) ∙ ap (λ u. is_taken u es name) (sym same_teacher) ∙ sym is ∙ at
+    let before : list_any (has_name (string_bytes x.name)) (map account_view done)
+    ≡ is_some (lookup (λ k. bytes_eq (string_bytes x.name) (string_bytes k)) es) =
+    ap (list_any (has_name (string_bytes x.name))) (sym seen) ∙ sym (lookup_any (string_bytes x.name) es) in
+    here ∙ ap (λ t. bytes_eq (string_bytes x.name) (string_bytes teacher.name) || t) before ∙ ap (is_taken (string_bytes teacher.name) es) (sym same)
+    ∙ ap (λ u. is_taken u es name) (sym same_teacher) ∙ sym is ∙ at
 
 -- nothing stands before the teacher
-pub teacher_first : (accounts : List Account) → 0 < length accounts → first_from (is_name_again accounts) 1 (length accounts - 1) ≡ first_below (is_name_again accounts) (length accounts)
+pub teacher_first : (accounts : List Account) → 0 < length accounts
+    → first_from (is_name_again accounts) 1 (length accounts - 1) ≡ first_below (is_name_again accounts) (length accounts)
 teacher_first accounts some = first_next (is_name_again accounts) 0 (length accounts) some refl ∙ ap (first_from (is_name_again accounts) 0) (omega arith)
 
-pub next_at : (accounts : List Account) (k j : ℕ) → j ≡ k + 1 → k < length accounts → is_name_again accounts k ≡ false → first_from (is_name_again accounts) k (length accounts - k) ≡ first_below (is_name_again accounts) (length accounts)
+pub next_at : (accounts : List Account) (k j : ℕ) → j ≡ k + 1 → k < length accounts → is_name_again accounts k ≡ false
+    → first_from (is_name_again accounts) k (length accounts - k) ≡ first_below (is_name_again accounts) (length accounts)
     → first_from (is_name_again accounts) j (length accounts - j) ≡ first_below (is_name_again accounts) (length accounts)
 next_at accounts k j e lt fresh so_far = rw e (first_next (is_name_again accounts) k (length accounts) lt fresh ∙ so_far)
 
-pub is_within : (teacher : Account) (all done rest : List KeptAccount) (x : KeptAccount) → done ++ x ∷ rest ≡ all → length done + 1 < length (teacher ∷ map account_view all)
+pub is_within : (teacher : Account) (all done rest : List KeptAccount) (x : KeptAccount) → done ++ x ∷ rest ≡ all
+    → length done + 1 < length (teacher ∷ map account_view all)
 is_within teacher all done rest x parts = let whole = ap length parts in omega (arith, length-map all account_view, length-append done (x ∷ rest))
 
-pub fault_at : {X : Type 0} (accounts : List Account) (x : X) (k : ℕ) → k < length accounts → is_name_again accounts k ≡ true → first_from (is_name_again accounts) k (length accounts - k) ≡ first_below (is_name_again accounts) (length accounts)
+pub fault_at : {X : Type 0} (accounts : List Account) (x : X) (k : ℕ) → k < length accounts → is_name_again accounts k ≡ true
+    → first_from (is_name_again accounts) k (length accounts - k) ≡ first_below (is_name_again accounts) (length accounts)
     → unless_fault (name_twice accounts) x ≡ Err (fault.NameTwice k)
 fault_at accounts x k lt again so_far =
-    let found : first_below (is_name_again accounts) (length accounts) ≡ Some k = sym so_far ∙ first_here (is_name_again accounts) k (length accounts) lt again in
+    let found : first_below (is_name_again accounts) (length accounts) ≡ Some k =
+    sym so_far ∙ first_here (is_name_again accounts) k (length accounts) lt again in
     rw found
 
-pub no_fault : {X : Type 0} (accounts : List Account) (x : X) (k : ℕ) → length accounts ≤ k → first_from (is_name_again accounts) k (length accounts - k) ≡ first_below (is_name_again accounts) (length accounts) → unless_fault (name_twice accounts) x ≡ Ok x
+pub no_fault : {X : Type 0} (accounts : List Account) (x : X) (k : ℕ) → length accounts ≤ k
+    → first_from (is_name_again accounts) k (length accounts - k) ≡ first_below (is_name_again accounts) (length accounts)
+    → unless_fault (name_twice accounts) x ≡ Ok x
 no_fault accounts x k le so_far =
     let none : first_below (is_name_again accounts) (length accounts) ≡ None = sym so_far ∙ first_end (is_name_again accounts) k (length accounts) le in
     rw none
@@ -87,10 +102,12 @@ second_false true b h = absurd (true≢false h)
 second_false false b h = h
 
 -- a name that isn't taken has no entry
-pub absent : (teacher : List ℕ) (es : List Entry) (name : List ℕ) (k : String Global) (r : Bool) → string_bytes k ≡ name → r ≡ is_taken teacher es name → r ≡ false → lookup (λ q. bytes_eq (string_bytes k) (string_bytes q)) es ≡ None
+pub absent : (teacher : List ℕ) (es : List Entry) (name : List ℕ) (k : String Global) (r : Bool) → string_bytes k ≡ name → r ≡ is_taken teacher es name
+    → r ≡ false → lookup (λ q. bytes_eq (string_bytes k) (string_bytes q)) es ≡ None
 absent teacher es name k r same is at = rw same (none_from_is_some _ (second_false (bytes_eq name teacher) _ (sym is ∙ at)))
 
-pub one_more : (done : List KeptAccount) (x : KeptAccount) (es new : List Entry) (n v : String Global) → map entry_view es ≡ map account_view done → new ≡ es ++ (n, v) ∷ [] → entry_view (n, v) ≡ account_view x → map entry_view new ≡ map account_view (done ++ x ∷ [])
+pub one_more : (done : List KeptAccount) (x : KeptAccount) (es new : List Entry) (n v : String Global) → map entry_view es ≡ map account_view done
+    → new ≡ es ++ (n, v) ∷ [] → entry_view (n, v) ≡ account_view x → map entry_view new ≡ map account_view (done ++ x ∷ [])
 one_more done x es new n v seen more last =
     ap (map entry_view) more ∙ map-append entry_view es ((n, v) ∷ []) ∙ rw (seen, last) (sym (map-append account_view done (x ∷ [])))
 
@@ -101,9 +118,11 @@ nothing_left (x ∷ xs) h = absurd (omega arith)
 -- the map holds the students so far, and no name of theirs stands before it
 pub record IsSoFar (teacher : KeptAccount) (all done : List KeptAccount) (es : List Entry) : Type 0 where
   pub seen : map entry_view es ≡ map account_view done
-  pub none : first_from (is_name_again (account_view teacher ∷ map account_view all)) (length done + 1) (length (account_view teacher ∷ map account_view all) - (length done + 1))
+  pub none : first_from (is_name_again (account_view teacher ∷ map account_view all)) (length done + 1)
+      (length (account_view teacher ∷ map account_view all) - (length done + 1))
       ≡ first_below (is_name_again (account_view teacher ∷ map account_view all)) (length (account_view teacher ∷ map account_view all))
 
+-- an empty map holds the students so far, before the first
 pub at_start : (teacher : KeptAccount) (all : List KeptAccount) (es : List Entry) → es ≡ [] → IsSoFar teacher all [] es
 at_start teacher all es empty = record {
   seen = ap (map entry_view) empty;
@@ -111,23 +130,32 @@ at_start teacher all es empty = record {
 }
 
 module _ (teacher : KeptAccount) (all done rest : List KeptAccount) (x : KeptAccount) (es : List Entry) (t name : List ℕ) (r : Bool) where
-  pub at_fault : (n : ℕ) → IsSoFar teacher all done es → done ++ x ∷ rest ≡ all → n ≡ length es → t ≡ string_bytes teacher.name → name ≡ string_bytes x.name → r ≡ is_taken t es name → r ≡ true
+  pub at_fault : (n : ℕ) → IsSoFar teacher all done es → done ++ x ∷ rest ≡ all → n ≡ length es → t ≡ string_bytes teacher.name → name ≡ string_bytes x.name
+      → r ≡ is_taken t es name → r ≡ true
       → unless_fault (name_twice (account_view teacher ∷ map account_view all)) (map account_view all) ≡ Err (fault.NameTwice (n + 1))
   at_fault n so_far parts count same_teacher same is at =
-      let again : is_name_again (account_view teacher ∷ map account_view all) (length done + 1) ≡ true = taken_at teacher all done rest x es t name r true parts so_far.seen same_teacher same is at in
+      let again : is_name_again (account_view teacher ∷ map account_view all) (length done + 1) ≡ true =
+      taken_at teacher all done rest x es t name r true parts so_far.seen same_teacher same is at in
       let place : n + 1 ≡ length done + 1 = omega (arith, ap length so_far.seen, length-map es entry_view, length-map done account_view) in
-      rw place (fault_at (account_view teacher ∷ map account_view all) (map account_view all) (length done + 1) (is_within (account_view teacher) all done rest x parts) again so_far.none)
+      rw place (fault_at (account_view teacher ∷ map account_view all) (map account_view all)
+      (length done + 1) (is_within (account_view teacher) all done rest x parts) again so_far.none)
 
-  pub at_next : (new : List Entry) → IsSoFar teacher all done es → done ++ x ∷ rest ≡ all → new ≡ es ++ (x.name, x.key) ∷ [] → t ≡ string_bytes teacher.name → name ≡ string_bytes x.name → r ≡ is_taken t es name → r ≡ false → IsSoFar teacher all (done ++ x ∷ []) new
+  pub at_next : (new : List Entry) → IsSoFar teacher all done es → done ++ x ∷ rest ≡ all → new ≡ es ++ (x.name, x.key) ∷ [] → t ≡ string_bytes teacher.name
+      → name ≡ string_bytes x.name → r ≡ is_taken t es name → r ≡ false → IsSoFar teacher all (done ++ x ∷ []) new
   at_next new so_far parts more same_teacher same is at =
-      let fresh : is_name_again (account_view teacher ∷ map account_view all) (length done + 1) ≡ false = taken_at teacher all done rest x es t name r false parts so_far.seen same_teacher same is at in
+      let fresh : is_name_again (account_view teacher ∷ map account_view all) (length done + 1) ≡ false =
+      taken_at teacher all done rest x es t name r false parts so_far.seen same_teacher same is at in
       record {
         seen = one_more done x es new x.name x.key so_far.seen more refl;
-        none = next_at (account_view teacher ∷ map account_view all) (length done + 1) (length (done ++ x ∷ []) + 1) (omega (arith, length-append done (x ∷ []))) (is_within (account_view teacher) all done rest x parts) fresh so_far.none;
+        none = next_at (account_view teacher ∷ map account_view all) (length done + 1) (length (done ++ x ∷ []) + 1)
+            (omega (arith, length-append done (x ∷ []))) (is_within (account_view teacher) all done rest x parts) fresh so_far.none;
       }
 
-pub at_end : (teacher : KeptAccount) (all done rest : List KeptAccount) (es : List Entry) → IsSoFar teacher all done es → done ++ rest ≡ all → length rest ≡ 0 → unless_fault (name_twice (account_view teacher ∷ map account_view all)) (map account_view all) ≡ Ok (map entry_view es)
+-- once no student is left, no name stood twice and the map holds all students
+pub at_end : (teacher : KeptAccount) (all done rest : List KeptAccount) (es : List Entry) → IsSoFar teacher all done es → done ++ rest ≡ all → length rest ≡ 0
+    → unless_fault (name_twice (account_view teacher ∷ map account_view all)) (map account_view all) ≡ Ok (map entry_view es)
 at_end teacher all done rest es so_far parts nothing =
     let whole : done ≡ all = sym (append-nil done) ∙ ap (λ zs. done ++ zs) (sym (nothing_left rest nothing)) ∙ parts in
     let count : length (account_view teacher ∷ map account_view all) ≤ length done + 1 = omega (arith, ap length whole, length-map all account_view) in
-    no_fault (account_view teacher ∷ map account_view all) (map account_view all) (length done + 1) count so_far.none ∙ ap Ok (sym (so_far.seen ∙ ap (map account_view) whole))
+    no_fault (account_view teacher ∷ map account_view all) (map account_view all) (length done + 1) count so_far.none
+    ∙ ap Ok (sym (so_far.seen ∙ ap (map account_view) whole))

@@ -1,5 +1,6 @@
 -- The rows of neighbours, as links are put into them one after the other.
-use Rattle.std.proofs.Common.{◌≡◌, ℕ, ℤ, pos, negsuc, ◌+◌, ◌<◌, ◌≤◌, Bool, true, false, ◌&&◌, ◌||◌, eqb, ltb, List, [], length, get_or, set, take, map, Option, Some, None, ◌⊎◌, refl, sym, ap, ◌∙◌, subst, inl, inr, arith}
+use Rattle.std.proofs.Common.{◌≡◌, ℕ, ℤ, pos, negsuc, ◌+◌, ◌<◌, ◌≤◌, Bool, true, false, ◌&&◌, ◌||◌, eqb, ltb, List, [], length, get_or, set, take, map, Option}
+use Rattle.std.proofs.Common.{Some, None, ◌⊎◌, refl, sym, ap, ◌∙◌, subst, inl, inr, arith}
 use Rattle.std.specs.Prelude.{slice_index, replicate}
 use Rattle.std.specs.Ordering.{nat_cmp, int_eq}
 use Rattle.std.specs.FinSet as sets
@@ -21,6 +22,7 @@ use Rattle.mml_lab.specs.Labs.{number_of, joins, is_linked, neighbours_of}
 abbrev pub Rows : Type 0
 Rows = List (FinSet nat_cmp)
 
+-- a row into which b is put has b besides what it had, and all other rows are as before
 pub inserted : (rows : Rows) (a b : ℕ) (old new : FinSet nat_cmp) → a < length rows → old ≡ get_or rows a old → new ≡ sets.insert old b → (i q : ℕ)
     → sets.contains (neighbours_at (set rows a new) i) q ≡ (sets.contains (neighbours_at rows i) q || (eqb a i && eqb b q))
 inserted rows a b old new lt here is i q = elim (cases_eq i a) [
@@ -62,10 +64,12 @@ end_at ids table z i lt = same_bool (int_eq z (pos id)) (holds (rank_in ids (num
 
 pub joins_at : (ids : List ℕ) → IsTable ids → (link : ℤ × ℤ) (i q : ℕ) → i < length ids → q < length ids
     → joins (pos (slice_index ids i)) (pos (slice_index ids q)) link
-    ≡ ((holds (rank_in ids (number_of link.0)) i && holds (rank_in ids (number_of link.1)) q) || (holds (rank_in ids (number_of link.1)) i && holds (rank_in ids (number_of link.0)) q))
+    ≡ ((holds (rank_in ids (number_of link.0)) i && holds (rank_in ids (number_of link.1)) q)
+    || (holds (rank_in ids (number_of link.1)) i && holds (rank_in ids (number_of link.0)) q))
 joins_at ids table link i q in_i in_q =
     rw (end_at ids table link.0 i in_i, end_at ids table link.1 q in_q, end_at ids table link.0 q in_q, end_at ids table link.1 i in_i)
-    (ap (λ b. (holds (rank_in ids (number_of link.0)) i && holds (rank_in ids (number_of link.1)) q) || b) (swap_and (holds (rank_in ids (number_of link.0)) q) (holds (rank_in ids (number_of link.1)) i)))
+    (ap (λ b. (holds (rank_in ids (number_of link.0)) i && holds (rank_in ids (number_of link.1)) q) || b)
+    (swap_and (holds (rank_in ids (number_of link.0)) q) (holds (rank_in ids (number_of link.1)) i)))
   where
     swap_and : (a b : Bool) → (a && b) ≡ (b && a)
     swap_and true true = refl
@@ -74,7 +78,8 @@ joins_at ids table link i q in_i in_q =
     swap_and false false = refl
 
 -- which ranks are a node's neighbours
-pub has-neighbours_of : (ids : List ℕ) (links : List (ℤ × ℤ)) (id q : ℕ) → sets.contains (neighbours_of ids links id) q ≡ (ltb q (length ids) && is_linked links (pos id) (pos (slice_index ids q)))
+pub has-neighbours_of : (ids : List ℕ) (links : List (ℤ × ℤ)) (id q : ℕ)
+    → sets.contains (neighbours_of ids links id) q ≡ (ltb q (length ids) && is_linked links (pos id) (pos (slice_index ids q)))
 unfolding neighbours_of
 has-neighbours_of ids links id q = has-those_below (length ids) (λ rank. is_linked links (pos id) (pos (slice_index ids rank))) q
 
@@ -83,6 +88,7 @@ pub record AreRows (ids : List ℕ) (links : List (ℤ × ℤ)) (rows : Rows) : 
   pub size : length rows ≡ length ids
   pub members : (i q : ℕ) → i < length ids → sets.contains (neighbours_at rows i) q ≡ sets.contains (neighbours_of ids links (slice_index ids i)) q
 
+-- empty rows are those of no link
 pub no_rows : (ids : List ℕ) (rows : Rows) → rows ≡ replicate (length ids) (sets.empty {R = nat_cmp}) → AreRows ids [] rows
 no_rows ids rows is = record {
   size = ap length is ∙ length-replicate (length ids) sets.empty;
@@ -91,9 +97,12 @@ no_rows ids rows is = record {
       ∙ sym (has-neighbours_of ids [] (slice_index ids i) q ∙ and_right (ltb q (length ids)) false refl);
 }
 
-pub one_more : (ids : List ℕ) → IsTable ids → (links : List (ℤ × ℤ)) (k : ℕ) (link : ℤ × ℤ) (rows new : Rows) → k < length links → link ≡ get_or links k link → length new ≡ length rows
+-- with each end of the next link put into the row of the other, the rows are those of one link more
+pub one_more : (ids : List ℕ) → IsTable ids → (links : List (ℤ × ℤ)) (k : ℕ) (link : ℤ × ℤ) (rows new : Rows) → k < length links → link ≡ get_or links k link
+    → length new ≡ length rows
     → ((i q : ℕ) → sets.contains (neighbours_at new i) q ≡ (sets.contains (neighbours_at rows i) q
-    || ((holds (rank_in ids (number_of link.0)) i && holds (rank_in ids (number_of link.1)) q) || (holds (rank_in ids (number_of link.1)) i && holds (rank_in ids (number_of link.0)) q))))
+    || ((holds (rank_in ids (number_of link.0)) i && holds (rank_in ids (number_of link.1)) q)
+    || (holds (rank_in ids (number_of link.1)) i && holds (rank_in ids (number_of link.0)) q))))
     → AreRows ids (take k links) rows → AreRows ids (take (k + 1) links) new
 one_more ids table links k link rows new lt is long step so_far = record {
   size = long ∙ so_far.size;
@@ -102,7 +111,9 @@ one_more ids table links k link rows new lt is long step so_far = record {
 }
   where
     near : ℕ → ℕ → Bool
-    near i q = (holds (rank_in ids (number_of link.0)) i && holds (rank_in ids (number_of link.1)) q) || (holds (rank_in ids (number_of link.1)) i && holds (rank_in ids (number_of link.0)) q)
+    near i q =
+        (holds (rank_in ids (number_of link.0)) i && holds (rank_in ids (number_of link.1)) q)
+        || (holds (rank_in ids (number_of link.1)) i && holds (rank_in ids (number_of link.0)) q)
 
     beyond : (z : ℤ) (q : ℕ) → length ids ≤ q → holds (rank_in ids (number_of z)) q ≡ false
     beyond z q past = by (rank_in ids (number_of z)) refl
@@ -112,17 +123,21 @@ one_more ids table links k link rows new lt is long step so_far = record {
         by (Some k) e = let found = position-Some (λ n. eqb n (number_of z)) ids k 0 e in ne_eqb k q (λ same. absurd (omega (arith, found.0)))
 
     none : (i q : ℕ) → length ids ≤ q → near i q ≡ false
-    none i q past = rw (beyond link.0 q past, beyond link.1 q past, and_right (holds (rank_in ids (number_of link.0)) i) false refl) (and_right (holds (rank_in ids (number_of link.1)) i) false refl)
+    none i q past =
+        rw (beyond link.0 q past, beyond link.1 q past, and_right (holds (rank_in ids (number_of link.0)) i) false refl)
+        (and_right (holds (rank_in ids (number_of link.1)) i) false refl)
 
     at : (i q : ℕ) → i < length ids → (q < length ids) ⊎ (length ids ≤ q)
         → ((ltb q (length ids) && is_linked (take k links) (pos (slice_index ids i)) (pos (slice_index ids q))) || near i q)
         ≡ (ltb q (length ids) && is_linked (take (k + 1) links) (pos (slice_index ids i)) (pos (slice_index ids q)))
     at i q in_i (inl in_q) = rw (lt-ltb q (length ids) in_q)
         (sym (list_any_more (joins (pos (slice_index ids i)) (pos (slice_index ids q))) links k link lt
-        ∙ ap (λ l. is_linked (take k links) (pos (slice_index ids i)) (pos (slice_index ids q)) || joins (pos (slice_index ids i)) (pos (slice_index ids q)) l) (sym is)
+        ∙ ap (λ l. is_linked (take k links) (pos (slice_index ids i)) (pos (slice_index ids q)) || joins (pos (slice_index ids i)) (pos (slice_index ids q)) l)
+        (sym is)
         ∙ ap (λ b. is_linked (take k links) (pos (slice_index ids i)) (pos (slice_index ids q)) || b) (joins_at ids table link i q in_i in_q)))
     at i q in_i (inr past) = rw (le-ltb q (length ids) past) (none i q past)
 
+-- the rows of all links hold each node's neighbours
 pub all_rows : (ids : List ℕ) (links : List (ℤ × ℤ)) (rows : Rows) → AreRows ids links rows → rows ≡ map (neighbours_of ids links) ids
 all_rows ids links rows are = same_lists rows (map (neighbours_of ids links) ids) (are.size ∙ sym (length-map ids (neighbours_of ids links)))
     (λ i d lt. let in_i : i < length ids = omega (arith, are.size) in

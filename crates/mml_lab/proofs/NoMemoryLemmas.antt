@@ -1,19 +1,20 @@
--- No bytes spell want of memory: neither a file without its keys nor one with a fault.
+-- No bytes spell out of memory: neither a file without its keys nor one with an error.
 use Rattle.std.proofs.Common.{◌≢◌, ℕ, List, ◌∷◌, length, Bool, true, false, cond, ◌&&◌, Option, Some, None, Result, Ok, Err, subst}
 use Rattle.std.specs.Prelude.{codes, ok_or, nat_lt, nat_le}
 use Rattle.toml.specs.Data.{Data, Items, no_items, item, Members, get_member, as_str, as_integer, as_bool, as_table, as_array}
 use Rattle.mml_ids.specs.Gives.{◌>>=◌, unless_fault}
 use Rattle.mml_ids.specs.declared.id_table.IdFault.TheVariants as id
 use Rattle.mml_lab.specs.declared.TheConstants.{MAX_OWNERS}
-use Rattle.mml_lab.specs.declared.fault.LabFault.{LabFault}
-use Rattle.mml_lab.specs.declared.fault.LabFault.TheVariants as fault
-use Rattle.mml_lab.specs.declared.fault.Key.{Key}
-use Rattle.mml_lab.specs.declared.fault.Key.TheVariants as key
-use Rattle.mml_lab.specs.Shape.{need, of_kind, needed, optional, optional_of, each, account_in, student_of, names_of, owner_names, node_of, two_of, link_of, links_of, teacher_of, students_of, nodes_of, raw_of, table_in, spelled}
+use Rattle.mml_lab.specs.declared.lab_fault.LabFault.{LabFault}
+use Rattle.mml_lab.specs.declared.lab_fault.LabFault.TheVariants as fault
+use Rattle.mml_lab.specs.declared.lab_fault.Key.{Key}
+use Rattle.mml_lab.specs.declared.lab_fault.Key.TheVariants as key
+use Rattle.mml_lab.specs.Shape.{need, of_kind, needed, optional, optional_of, each, account_in, student_of, names_of, owner_names, node_of, two_of, link_of}
+use Rattle.mml_lab.specs.Shape.{links_of, teacher_of, students_of, nodes_of, raw_of, table_in, spelled}
 use Rattle.mml_lab.specs.Labs.{LabValue, lab_fault, lab_in, lab_of}
 use Rattle.mml_lab.proofs.LabOfLemmas.{TellsOfFile, OfFault, lab_fault-tells}
 
--- if the result is a fault, it is not want of memory
+-- if the result is an error, it is not out of memory
 abbrev OfResult : {A : Type 0} → Result A LabFault → Type 0
 OfResult (Ok x) = Unit {0}
 OfResult (Err f) = TellsOfFile f
@@ -34,7 +35,8 @@ kind : {A : Type 0} (place : Key) (f : Data → Option A) (value : Data) → OfR
 kind place f value = or_fault (f value) (fault.WrongKind place) tt
 
 there : {A : Type 0} (place : Key) (name : List ℕ) (f : Data → Option A) (members : Members) → OfResult (needed place name f members)
-there place name f members = then (need place name members) (λ value. of_kind place f value) (or_fault (get_member name members) (fault.Missing place) tt) (kind place f)
+there place name f members =
+    then (need place name members) (λ value. of_kind place f value) (or_fault (get_member name members) (fault.Missing place) tt) (kind place f)
 
 may_lack : {A : Type 0} (read : Data → Result A LabFault) (o : Option Data) → ((value : Data) → OfResult (read value)) → OfResult (optional read o)
 may_lack read None h = tt
@@ -45,7 +47,8 @@ may_lack_kind place f o = may_lack (of_kind place f) o (kind place f)
 
 in_turn : {A : Type 0} (f : Data → Result A LabFault) (items : Items) → ((value : Data) → OfResult (f value)) → OfResult (each f items)
 in_turn f no_items h = tt
-in_turn f (item first rest) h = then (f first) (λ x. each f rest >>= λ xs. Ok (x ∷ xs)) (h first) (λ x. then (each f rest) (λ xs. Ok (x ∷ xs)) (in_turn f rest h) (λ xs. tt))
+in_turn f (item first rest) h =
+    then (f first) (λ x. each f rest >>= λ xs. Ok (x ∷ xs)) (h first) (λ x. then (each f rest) (λ xs. Ok (x ∷ xs)) (in_turn f rest h) (λ xs. tt))
 
 account : (name_place key_place : Key) (members : Members) → OfResult (account_in name_place key_place members)
 unfolding account_in
@@ -66,7 +69,8 @@ node : (value : Data) → OfResult (node_of value)
 unfolding node_of
 node value = then (of_kind key.Node as_table value) _ (kind key.Node as_table value) (λ table.
     then (needed key.NodeId (codes "id") as_integer table) _ (there key.NodeId (codes "id") as_integer table) (λ id.
-    then (optional_of key.NodeOwner as_str (get_member (codes "owner") table)) _ (may_lack_kind key.NodeOwner as_str (get_member (codes "owner") table)) (λ owner.
+    then (optional_of key.NodeOwner as_str (get_member (codes "owner") table)) _
+    (may_lack_kind key.NodeOwner as_str (get_member (codes "owner") table)) (λ owner.
     then (optional names_of (get_member (codes "owners") table)) _ (may_lack names_of (get_member (codes "owners") table) names) (λ owners.
     then (ok_or (owner_names owner owners) (fault.Missing key.NodeOwner)) _ (or_fault (owner_names owner owners) (fault.Missing key.NodeOwner) tt) (λ told.
     then (optional_of key.NodeP as_integer (get_member (codes "p") table)) _ (may_lack_kind key.NodeP as_integer (get_member (codes "p") table)) (λ p.
@@ -85,11 +89,15 @@ links (Some value) = then (of_kind key.Links as_array value) _ (kind key.Links a
 
 teacher : (members : Members) → OfResult (teacher_of members)
 unfolding teacher_of
-teacher members = then (needed key.Teacher (codes "teacher") as_table members) _ (there key.Teacher (codes "teacher") as_table members) (λ table. account key.TeacherName key.TeacherKey table)
+teacher members =
+    then (needed key.Teacher (codes "teacher") as_table members) _ (there key.Teacher (codes "teacher") as_table members)
+    (λ table. account key.TeacherName key.TeacherKey table)
 
 students : (members : Members) → OfResult (students_of members)
 unfolding students_of
-students members = then (needed key.Student (codes "student") as_array members) _ (there key.Student (codes "student") as_array members) (λ items. in_turn student_of items student)
+students members =
+    then (needed key.Student (codes "student") as_array members) _ (there key.Student (codes "student") as_array members)
+    (λ items. in_turn student_of items student)
 
 nodes : (members : Members) → OfResult (nodes_of members)
 unfolding nodes_of
@@ -114,10 +122,13 @@ unless (Some f) lab h = h
 
 lab : (bytes : List ℕ) → OfResult (lab_of bytes)
 unfolding lab_of
-lab bytes = then (spelled bytes) (λ raw. unless_fault (lab_fault raw) (lab_in raw)) (file bytes) (λ raw. unless (lab_fault raw) (lab_in raw) (lab_fault-tells raw))
+lab bytes =
+    then (spelled bytes) (λ raw. unless_fault (lab_fault raw) (lab_in raw)) (file bytes) (λ raw. unless (lab_fault raw) (lab_in raw) (lab_fault-tells raw))
 
+-- no bytes are refused because memory ran out
 pub spells_no_memory : (bytes : List ℕ) → lab_of bytes ≢ Err fault.Memory
 spells_no_memory bytes is = subst OfResult is (lab bytes)
 
+-- nor because it ran out for the identifiers
 pub spells_no_memory_of_ids : (bytes : List ℕ) → lab_of bytes ≢ Err (fault.Id id.Memory)
 spells_no_memory_of_ids bytes is = subst OfResult is (lab bytes)

@@ -1,29 +1,31 @@
 -- What the values that were read stand for, under the tests of a lab.
-use Rattle.std.proofs.Common.{◌≡◌, ℕ, ℤ, List, [], ◌∷◌, Bool, true, false, cond, ◌||◌, map, Some, None, Ok, Err, MatchBool, refl, String, Global, string_bytes}
+use Rattle.std.proofs.Common.{◌≡◌, ℕ, List, [], ◌∷◌, Bool, true, false, cond, ◌||◌, map, Some, None, Ok, Err, MatchBool, refl, String, Global, string_bytes}
 use Rattle.std.specs.Prelude.{option_map, is_some, bytes_eq, ◌==◌}
 use Rattle.std.specs.List.{list_any, find}
 use Rattle.std.specs.Map.{lookup}
-use Rattle.std.specs.Ordering.{int_eq}
 use Rattle.mml_ids.specs.Gives.{Faults, unless_fault}
-use Rattle.mml_ids.specs.Ids.{id_fault, in_order, is_memory}
+use Rattle.mml_ids.specs.Ids.{id_fault, in_order, is_id_memory}
 use Rattle.mml_ids.specs.declared.id_table.IdFault.{IdFault}
 use Rattle.mml_ids.specs.declared.id_table.IdFault.TheVariants as id
-use Rattle.mml_lab.specs.declared.raw.RawNode.{RawNode}
-use Rattle.mml_lab.specs.Shape.{NodeSpec, is_memory as lab_is_memory}
-use Rattle.mml_lab.specs.Raw.{node_view, entry_view}
+use Rattle.mml_lab.specs.declared.raw_lab.RawNode.{RawNode}
+use Rattle.mml_lab.specs.Shape.{NodeSpec, is_lab_memory}
+use Rattle.mml_lab.specs.inside.Raw.{node_view, entry_view}
 use Rattle.mml_lab.specs.Rosters.{has_name}
 use Rattle.mml_lab.specs.Faults.{id_fault_as}
-use Rattle.mml_lab.specs.Labs.{number_of, file_ids, is_node, node_with, ids_fault}
-use Rattle.mml_ids.proofs.MapLemmas.{list_any-map, find-map, map-map}
+use Rattle.mml_lab.specs.Labs.{number_of, file_ids, node_with, ids_fault}
+use Rattle.mml_ids.proofs.MapLemmas.{find-map, map-map}
 
+-- the identifiers that were read are those of the file's nodes
 pub file_ids-read : (nodes : List RawNode) → map (λ node. number_of node.id) nodes ≡ file_ids (map node_view nodes)
 file_ids-read nodes = map-map (λ node. number_of node.id) node_view nodes
 
+-- the node that was read with an identifier stands for the file's node with it
 pub node_with-read : (nodes : List RawNode) (id : ℕ) → option_map node_view (find (λ node. number_of node.id == id) nodes) ≡ node_with (map node_view nodes) id
 node_with-read nodes id = find-map (λ node. number_of node.id == id) node_view nodes
 
 -- the map of students has a name exactly where some student has it
-pub some-lookup : (name : List ℕ) (entries : List (String Global × String Global)) → is_some (lookup (λ k. bytes_eq name (string_bytes k)) entries) ≡ list_any (has_name name) (map entry_view entries)
+pub some-lookup : (name : List ℕ) (entries : List (String Global × String Global))
+    → is_some (lookup (λ k. bytes_eq name (string_bytes k)) entries) ≡ list_any (has_name name) (map entry_view entries)
 some-lookup name [] = refl
 some-lookup name (e ∷ es) = go (bytes_eq name (string_bytes e.0)) (some-lookup name es)
   where
@@ -32,13 +34,15 @@ some-lookup name (e ∷ es) = go (bytes_eq name (string_bytes e.0)) (some-lookup
     go true h = refl
     go false h = h
 
+-- identifiers without an error, put in order, are the file's table
 pub table_ok : (nodes : List NodeSpec) (ids table : List ℕ) → ids ≡ file_ids nodes → id_fault ids ≡ None → table ≡ in_order ids
     → unless_fault (ids_fault nodes) (in_order (file_ids nodes)) ≡ Ok table
 unfolding ids_fault
 table_ok nodes ids table same sound ordered = rw (← same, sound, ordered) refl
 
-pub table_fault : (nodes : List NodeSpec) (ids : List ℕ) (e : IdFault) → ids ≡ file_ids nodes → Faults is_memory e (id_fault ids)
-    → MatchBool (lab_is_memory (id_fault_as e)) (Unit {0}) (unless_fault (ids_fault nodes) (in_order (file_ids nodes)) ≡ Err (id_fault_as e))
+-- the error of the identifiers is the file's, unless memory ran out
+pub table_fault : (nodes : List NodeSpec) (ids : List ℕ) (e : IdFault) → ids ≡ file_ids nodes → Faults is_id_memory e (id_fault ids)
+    → MatchBool (is_lab_memory (id_fault_as e)) (Unit {0}) (unless_fault (ids_fault nodes) (in_order (file_ids nodes)) ≡ Err (id_fault_as e))
 unfolding ids_fault
 table_fault nodes ids id.Empty same found = rw (← same, found) refl
 table_fault nodes ids id.TooMany same found = rw (← same, found) refl

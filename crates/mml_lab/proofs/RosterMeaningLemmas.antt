@@ -1,5 +1,6 @@
 -- What the roster's definitions mean.
-use Rattle.std.proofs.Common.{◌≡◌, ◌↔◌, ◌==◌, ℕ, suc, ◌<◌, ◌≤◌, List, ◌∷◌, length, get_or, take, Option, Some, None, Bool, true, false, cond, not, ◌⊎◌, inl, inr, refl, sym, ap, ◌∙◌, arith, true≢false, All, Contains}
+use Rattle.std.proofs.Common.{◌≡◌, ◌↔◌, ◌==◌, ℕ, suc, ◌<◌, ◌≤◌, List, ◌∷◌, length, get_or, take, Option, Some, None, Bool, true, false, cond, not, ◌⊎◌, inl}
+use Rattle.std.proofs.Common.{inr, refl, sym, ap, ◌∙◌, arith, true≢false, All, Contains}
 use Rattle.std.specs.Prelude.{bytes_eq}
 use Rattle.std.specs.List.{position}
 use Rattle.std.specs.Option.{option_map}
@@ -12,9 +13,10 @@ use Rattle.mml_ids.specs.Search.{first_below}
 use Rattle.mml_lab.specs.declared.TheConstants.{MAX_STUDENTS}
 use Rattle.mml_lab.specs.declared.who.Who.{Who}
 use Rattle.mml_lab.specs.declared.who.Who.TheVariants as who
-use Rattle.mml_lab.specs.declared.fault.LabFault.TheVariants as fault
+use Rattle.mml_lab.specs.declared.lab_fault.LabFault.TheVariants as fault
 use Rattle.mml_lab.specs.Shape.{Account}
-use Rattle.mml_lab.specs.Rosters.{RosterValue, IsRoster, IsPrincipal, principal, owns, owners_of, name_of, account_of, student_named, with_owners, is_account, has_name, has_name_and_key, no_account, is_name_again, name_twice}
+use Rattle.mml_lab.specs.Rosters.{RosterValue, IsRoster, IsPrincipal, principal, owns, owners_of, name_of, account_of, student_named, with_owners, is_account}
+use Rattle.mml_lab.specs.Rosters.{has_name, has_name_and_key, no_account, is_name_again, name_twice}
 use Rattle.mml_lab.specs.RosterMeaning.{IsKnownAs, IsFirstAgain, AreDistinctBelow, name_at}
 use Rattle.mml_ids.proofs.SearchLemmas.{position-only, position-None}
 use Rattle.mml_lab.proofs.StudentNamedLemmas.{student_is}
@@ -42,7 +44,8 @@ found_is_known r name key w found = by (has_name_and_key name key r.teacher) ref
         let both = has_both name key (get_or r.students t no_account) at.1 in
         record { member = at.0; named = both.0; keyed = both.1 }
 
-    by : (b : Bool) → has_name_and_key name key r.teacher ≡ b → (w : Who) → cond b (Some who.Teacher) (option_map who.Student (position (has_name_and_key name key) r.students)) ≡ Some w → IsKnownAs r w name key
+    by : (b : Bool) → has_name_and_key name key r.teacher ≡ b → (w : Who)
+        → cond b (Some who.Teacher) (option_map who.Student (position (has_name_and_key name key) r.students)) ≡ Some w → IsKnownAs r w name key
     by true is who.Teacher found = let both = has_both name key r.teacher is in record { member = tt; named = both.0; keyed = both.1 }
     by true is (who.Student t) found = absurd cc
     by false is w found = student (position (has_name_and_key name key) r.students) refl w found
@@ -53,22 +56,29 @@ known_is_found r name key (who.Student s) roster known = by (cases_Bool (has_nam
   where
     only : (k : ℕ) → k < length r.students → has_name_and_key name key (get_or r.students k no_account) ≡ true → k ≡ s
     only k lt both =
-        let same : who.Student k ≡ who.Student s = roster.differ (who.Student k) (who.Student s) lt known.member ((has_both name key (get_or r.students k no_account) both).0 ∙ sym known.named) in
+        let same : who.Student k ≡ who.Student s =
+        roster.differ (who.Student k) (who.Student s) lt known.member ((has_both name key (get_or r.students k no_account) both).0 ∙ sym known.named) in
         cc
 
     by : (has_name_and_key name key r.teacher ≡ true) ⊎ (has_name_and_key name key r.teacher ≡ false) → principal r name key ≡ Some (who.Student s)
     by (inl both) =
-        let same : who.Teacher ≡ who.Student s = roster.differ who.Teacher (who.Student s) tt known.member ((has_both name key r.teacher both).0 ∙ sym known.named) in
+        let same : who.Teacher ≡ who.Student s =
+        roster.differ who.Teacher (who.Student s) tt known.member ((has_both name key r.teacher both).0 ∙ sym known.named) in
         absurd cc
     by (inr other) =
-        let here : position (has_name_and_key name key) r.students ≡ Some s = position-only (has_name_and_key name key) r.students s no_account known.member (from_both name key (get_or r.students s no_account) known.named known.keyed) only in
+        let here : position (has_name_and_key name key) r.students ≡ Some s =
+        position-only (has_name_and_key name key) r.students s no_account known.member
+        (from_both name key (get_or r.students s no_account) known.named known.keyed) only in
         rw (other, here)
 
+-- the one who is found by a name and a key is the one who takes part under them
 pub principal-one : (r : RosterValue) (name key : List ℕ) (w : Who) → IsRoster r → (principal r name key ≡ Some w) ↔ IsKnownAs r w name key
 principal-one r name key w roster = (found_is_known r name key w, known_is_found r name key w roster)
 
+-- nobody is found by a name and a key exactly where nobody takes part under them
 pub principal-nobody : (r : RosterValue) (name key : List ℕ) → IsRoster r → (principal r name key ≡ None) ↔ ((w : Who) → ¬ IsKnownAs r w name key)
-principal-nobody r name key roster = ((λ none w known. absurd (apart w (sym none ∙ known_is_found r name key w roster known))), λ nobody. by (principal r name key) refl nobody)
+principal-nobody r name key roster =
+    ((λ none w known. absurd (apart w (sym none ∙ known_is_found r name key w roster known))), λ nobody. by (principal r name key) refl nobody)
   where
     apart : (w : Who) → ◌≡◌ {A = Option Who} None (Some w) → ⊥
     apart w e = cc
@@ -79,6 +89,7 @@ principal-nobody r name key roster = ((λ none w known. absurd (apart w (sym non
 
 -- ---- owners
 
+-- a student is found to own a node exactly where listed among its owners
 pub owns-student : (r : RosterValue) (s i : ℕ) → (owns r (who.Student s) i ≡ true) ↔ Contains (owners_of r i) s
 owns-student r s i = (
   (λ is. let any = Any-from_list_any (λ o. o == s) (owners_of r i) is in among any.0 any.1 any.2 any.3 any.4),
@@ -90,25 +101,33 @@ owns-student r s i = (
 
 -- ---- names
 
+-- a student is found by the student's own name
 pub student_of_name : (r : RosterValue) (s : ℕ) → IsRoster r → s < length r.students → student_named r (name_of r (who.Student s)) ≡ Some s
-student_of_name r s roster lt = position-only (has_name (name_of r (who.Student s))) r.students s no_account lt ((bytes_eq-Decides (name_of r (who.Student s)) (name_of r (who.Student s))).1 refl) only
+student_of_name r s roster lt =
+    position-only (has_name (name_of r (who.Student s))) r.students s no_account lt
+    ((bytes_eq-Decides (name_of r (who.Student s)) (name_of r (who.Student s))).1 refl) only
   where
     only : (k : ℕ) → k < length r.students → has_name (name_of r (who.Student s)) (get_or r.students k no_account) ≡ true → k ≡ s
     only k in_k named =
-        let same : who.Student k ≡ who.Student s = roster.differ (who.Student k) (who.Student s) in_k lt (sym ((bytes_eq-Decides (name_of r (who.Student s)) (get_or r.students k no_account).name).0 named)) in
+        let same : who.Student k ≡ who.Student s =
+        roster.differ (who.Student k) (who.Student s) in_k lt
+        (sym ((bytes_eq-Decides (name_of r (who.Student s)) (get_or r.students k no_account).name).0 named)) in
         cc
 
+-- the student who is found by a name has that name
 pub name_of_student : (r : RosterValue) (name : List ℕ) (s : ℕ) → student_named r name ≡ Some s → name_of r (who.Student s) ≡ name
 name_of_student r name s found = (student_is r name s found).1
 
 -- ---- the first name that stands before
 
-again_means : (accounts : List Account) (k : ℕ) → k < length accounts → is_name_again accounts k ≡ true → (j : ℕ) × (j < k) × (name_at accounts j ≡ name_at accounts k)
+again_means : (accounts : List Account) (k : ℕ) → k < length accounts → is_name_again accounts k ≡ true
+    → (j : ℕ) × (j < k) × (name_at accounts j ≡ name_at accounts k)
 again_means accounts k within is =
     let any = Any-from_list_any (has_name (name_at accounts k)) (take k accounts) is in
     there any.0 any.1 any.2 any.3 any.4
   where
-    there : (j : ℕ) (a : Account) → j < length (take k accounts) → get_or (take k accounts) j a ≡ a → has_name (name_at accounts k) a ≡ true → (j : ℕ) × (j < k) × (name_at accounts j ≡ name_at accounts k)
+    there : (j : ℕ) (a : Account) → j < length (take k accounts) → get_or (take k accounts) j a ≡ a → has_name (name_at accounts k) a ≡ true
+        → (j : ℕ) × (j < k) × (name_at accounts j ≡ name_at accounts k)
     there j a lt at named =
         let before : j < k = omega (arith, length-take-le k accounts) in
         let here : get_or accounts j no_account ≡ a = get_or_default accounts j no_account a (omega arith) ∙ sym (get_or-take k accounts j a before) ∙ at in
@@ -116,7 +135,8 @@ again_means accounts k within is =
 
 is_again : (accounts : List Account) (j k : ℕ) → j < k → k < length accounts → name_at accounts j ≡ name_at accounts k → is_name_again accounts k ≡ true
 is_again accounts j k lt within same =
-    let named : has_name (name_at accounts k) (get_or (take k accounts) j no_account) ≡ true = rw (get_or-take k accounts j no_account lt) ((bytes_eq-Decides (name_at accounts k) (name_at accounts j)).1 (sym same)) in
+    let named : has_name (name_at accounts k) (get_or (take k accounts) j no_account) ≡ true =
+    rw (get_or-take k accounts j no_account lt) ((bytes_eq-Decides (name_at accounts k) (name_at accounts j)).1 (sym same)) in
     list_any_at (has_name (name_at accounts k)) (take k accounts) j no_account (omega (arith, length-take-le k accounts)) named
 
 -- up to n no name stands before, exactly where the first n differ
@@ -130,13 +150,16 @@ differ-fresh accounts n le differ k lt = by (cases_Bool (is_name_again accounts 
     by (inl again) = let earlier = again_means accounts k (omega arith) again in absurd (differ earlier.0 k earlier.1 lt earlier.2)
     by (inr fresh) = fresh
 
+-- the error is a name twice exactly where it is the first name that stood before
 pub name_twice-fault : (accounts : List Account) (k : ℕ) → (name_twice accounts ≡ Some (fault.NameTwice k)) ↔ IsFirstAgain accounts k
 name_twice-fault accounts k = (
   λ found.
       let at = first-is (is_name_again accounts) (length accounts) k (below (first_below (is_name_again accounts) (length accounts)) found) in
       record { within = at.0; again = again_means accounts k at.0 at.1; first = fresh-differ accounts k (omega arith) at.2 },
   λ first.
-      let here : first_below (is_name_again accounts) (length accounts) ≡ Some k = first-at (is_name_again accounts) (length accounts) k first.within (is_again accounts first.again.0 k first.again.1 first.within first.again.2) (differ-fresh accounts k (omega arith) first.first) in
+      let here : first_below (is_name_again accounts) (length accounts) ≡ Some k =
+      first-at (is_name_again accounts) (length accounts) k first.within (is_again accounts first.again.0 k first.again.1 first.within first.again.2)
+      (differ-fresh accounts k (omega arith) first.first) in
       ap (option_map fault.NameTwice) here,
 )
   where
@@ -144,9 +167,11 @@ name_twice-fault accounts k = (
     below None e = absurd cc
     below (Some j) e = let same : j ≡ k = cc in ap Some same
 
+-- no name is found twice exactly where all names differ
 pub name_twice-none : (accounts : List Account) → (name_twice accounts ≡ None) ↔ AreDistinctBelow accounts (length accounts)
 name_twice-none accounts = (
-  λ none. fresh-differ accounts (length accounts) (omega arith) (none-is (is_name_again accounts) (length accounts) (below (first_below (is_name_again accounts) (length accounts)) none)),
+  λ none. fresh-differ accounts (length accounts) (omega arith)
+      (none-is (is_name_again accounts) (length accounts) (below (first_below (is_name_again accounts) (length accounts)) none)),
   λ differ. ap (option_map fault.NameTwice) (none-at (is_name_again accounts) (length accounts) (differ-fresh accounts (length accounts) (omega arith) differ)),
 )
   where
@@ -156,7 +181,8 @@ name_twice-none accounts = (
 
 -- ---- a roster of accounts that have their forms and differ
 
-same_place : (accounts : List Account) → AreDistinctBelow accounts (length accounts) → (j k : ℕ) → j < length accounts → k < length accounts → name_at accounts j ≡ name_at accounts k → j ≡ k
+same_place : (accounts : List Account) → AreDistinctBelow accounts (length accounts) → (j k : ℕ) → j < length accounts → k < length accounts
+    → name_at accounts j ≡ name_at accounts k → j ≡ k
 same_place accounts differ j k in_j in_k same = by (cases_order j k)
   where
     by : (j ≡ k) ⊎ ((j < k) ⊎ (k < j)) → j ≡ k
@@ -164,7 +190,9 @@ same_place accounts differ j k in_j in_k same = by (cases_order j k)
     by (inr (inl lt)) = absurd (differ j k lt in_k same)
     by (inr (inr lt)) = absurd (differ k j lt in_j (sym same))
 
-pub is_roster : (teacher : Account) (students : List Account) (owners : List (List ℕ)) → length students ≤ MAX_STUDENTS → position (λ a. not (is_account a)) (teacher ∷ students) ≡ None → name_twice (teacher ∷ students) ≡ None → All (All (λ s. s < length students)) owners
+-- accounts of their forms, each name once, and owners who are students make a lawful roster
+pub is_roster : (teacher : Account) (students : List Account) (owners : List (List ℕ)) → length students ≤ MAX_STUDENTS
+    → position (λ a. not (is_account a)) (teacher ∷ students) ≡ None → name_twice (teacher ∷ students) ≡ None → All (All (λ s. s < length students)) owners
     → IsRoster (with_owners teacher students owners)
 is_roster teacher students owners few formed twice owned = record {
   few = few;
@@ -177,10 +205,12 @@ is_roster teacher students owners few formed twice owned = record {
     form who.Teacher member = not-false _ (position-None (λ a. not (is_account a)) (teacher ∷ students) no_account formed 0 (omega arith))
     form (who.Student s) member = not-false _ (position-None (λ a. not (is_account a)) (teacher ∷ students) no_account formed (suc s) (omega arith))
 
-    one_place : (j k : ℕ) → j < length (teacher ∷ students) → k < length (teacher ∷ students) → name_at (teacher ∷ students) j ≡ name_at (teacher ∷ students) k → j ≡ k
+    one_place : (j k : ℕ) → j < length (teacher ∷ students) → k < length (teacher ∷ students)
+        → name_at (teacher ∷ students) j ≡ name_at (teacher ∷ students) k → j ≡ k
     one_place = same_place (teacher ∷ students) ((name_twice-none (teacher ∷ students)).0 twice)
 
-    differ : (a b : Who) → IsPrincipal (with_owners teacher students owners) a → IsPrincipal (with_owners teacher students owners) b → name_of (with_owners teacher students owners) a ≡ name_of (with_owners teacher students owners) b → a ≡ b
+    differ : (a b : Who) → IsPrincipal (with_owners teacher students owners) a → IsPrincipal (with_owners teacher students owners) b
+        → name_of (with_owners teacher students owners) a ≡ name_of (with_owners teacher students owners) b → a ≡ b
     differ who.Teacher who.Teacher in_a in_b same = refl
     differ who.Teacher (who.Student t) in_a in_b same = let no_such : 0 ≡ suc t = one_place 0 (suc t) (omega arith) (omega arith) same in absurd (omega arith)
     differ (who.Student s) who.Teacher in_a in_b same = let no_such : suc s ≡ 0 = one_place (suc s) 0 (omega arith) (omega arith) same in absurd (omega arith)

@@ -1,10 +1,10 @@
--- The faults of identifiers among those of a lab.
+-- The errors of identifiers among those of a lab.
 use Rattle.mml_ids.specs.declared.id_table.IdFault.{IdFault}
 use Rattle.mml_ids.specs.declared.id_table.IdFault.TheVariants as id
-use Rattle.mml_lab.specs.declared.fault.LabFault.{LabFault}
-use Rattle.mml_lab.specs.declared.fault.LabFault.TheVariants as fault
+use Rattle.mml_lab.specs.declared.lab_fault.LabFault.{LabFault}
+use Rattle.mml_lab.specs.declared.lab_fault.LabFault.TheVariants as fault
 
--- want of memory is no fault of the identifiers
+-- out of memory is no error of the identifiers
 abbrev pub id_fault_as : IdFault → LabFault
 id_fault_as id.Empty = fault.Id id.Empty
 id_fault_as id.TooMany = fault.Id id.TooMany

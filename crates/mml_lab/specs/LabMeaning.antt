@@ -26,7 +26,7 @@ pub record IsNodeOf (raw : RawSpec) (lab : LabValue) (rank : ℕ) (node : NodeSp
   pub stands : Contains raw.nodes node
   pub named : node.id ≡ pos (id_at lab rank)
 
--- bytes spell that file, it has no fault, and the lab is the one in it
+-- bytes spell that file, it has no error, and the lab is the one in it
 pub record IsLabOfFile (bytes : List ℕ) (raw : RawSpec) (lab : LabValue) : Type 0 where
   pub spells : spelled bytes ≡ Ok raw
   pub faultless : lab_fault raw ≡ None

@@ -1,5 +1,6 @@
--- The lab that a file spells, and the first fault of one that spells none.
-use Rattle.std.specs.Prelude.{◌≡◌, ℕ, zero, suc, ℤ, pos, negsuc, ◌+◌, ◌<◌, ◌≤◌, Bool, false, not, ◌&&◌, ◌||◌, nat_lt, nat_le, List, [], ◌∷◌, length, map, take, slice_index, position, bytes_eq, Option, option_map, unwrap_or, ◌==◌, Result}
+-- The lab that a file spells, and the first error of one that spells none.
+use Rattle.std.specs.Prelude.{◌≡◌, ℕ, zero, suc, ℤ, pos, negsuc, ◌+◌, ◌<◌, ◌≤◌, Bool, false, not, ◌&&◌, ◌||◌, nat_lt, nat_le, List, [], ◌∷◌, length, map, take}
+use Rattle.std.specs.Prelude.{slice_index, position, bytes_eq, Option, option_map, unwrap_or, ◌==◌, Result}
 use Rattle.std.specs.List.{list_any, find, slice_get}
 use Rattle.std.specs.Option.{option_map_or, option_and_then}
 use Rattle.std.specs.Ordering.{nat_cmp, int_eq}
@@ -8,13 +9,13 @@ use Rattle.mml_ids.specs.Gives.{first_fault, fault_if, unless_fault, ◌>>=◌}
 use Rattle.mml_ids.specs.Search.{first_below, count_below}
 use Rattle.mml_ids.specs.Sets.{those_below}
 use Rattle.mml_ids.specs.Ids.{id_fault, in_order, rank_in, IsTable}
-use Rattle.mml_rules.specs.declared.registers.Regs.{Regs}
+use Rattle.mml_rules.specs.declared.regs.Regs.{Regs}
 use Rattle.mml_rules.specs.Configuration.{Configuration}
 use Rattle.mml_rules.specs.Network.{Network, no_regs, configuration_of, IsNetwork}
 use Rattle.mml_lab.specs.declared.TheConstants.{MAX_EVENTS, MAX_SESSIONS, MAX_STUDENTS}
-use Rattle.mml_lab.specs.declared.fault.LabFault.{LabFault}
-use Rattle.mml_lab.specs.declared.fault.LabFault.TheVariants as fault
-use Rattle.mml_lab.specs.declared.fault.Key.TheVariants as key
+use Rattle.mml_lab.specs.declared.lab_fault.LabFault.{LabFault}
+use Rattle.mml_lab.specs.declared.lab_fault.LabFault.TheVariants as fault
+use Rattle.mml_lab.specs.declared.lab_fault.Key.TheVariants as key
 use Rattle.mml_lab.specs.Shape.{Account, NodeSpec, RawSpec, spelled}
 use Rattle.mml_lab.specs.Rosters.{RosterValue, IsRoster, is_account, has_name, name_twice, with_owners}
 
@@ -118,7 +119,7 @@ limits_fault events sessions students = first_fault (fault_if (not (is_within MA
     (first_fault (fault_if (not (is_within MAX_SESSIONS sessions)) (fault.Limit key.Sessions))
     (fault_if (nat_lt MAX_STUDENTS students) (fault.Limit key.Student)))
 
--- the first fault: each test goes over the whole file before the next
+-- the first error: each test goes over the whole file before the next
 unfoldable pub lab_fault : RawSpec → Option LabFault
 lab_fault raw = first_fault (both_fault raw.nodes)
     (first_fault (ids_fault raw.nodes)
@@ -141,7 +142,7 @@ neighbours_of ids links id = those_below (length ids) (λ rank. is_linked links 
 abbrev pub registers_in : List ℕ → NodeSpec → Regs
 registers_in ids node = record { p = option_and_then (λ p. rank_in ids (number_of p)) node.p; m = node.m }
 
--- the place of that name among the students; 0 where none has it, which is a fault
+-- the place of that name among the students; 0 where none has it, which is an error
 abbrev pub place_of : List Account → List ℕ → ℕ
 place_of students name = unwrap_or (position (has_name name) students) 0
 
@@ -161,7 +162,7 @@ owners_with students nodes id = option_map_or (owners_in students) (node_with no
 unfoldable pub network_in : List ℕ → RawSpec → Network
 network_in ids raw = record { neighbours = map (neighbours_of ids raw.links) ids; registers = map (registers_with ids raw.nodes) ids }
 
--- the lab of a file that has no fault
+-- the lab of a file that has no error
 unfoldable pub lab_in : RawSpec → LabValue
 lab_in raw = let ids = in_order (file_ids raw.nodes) in record {
   ids = ids;
@@ -171,7 +172,7 @@ lab_in raw = let ids = in_order (file_ids raw.nodes) in record {
   sessions = number_of raw.sessions;
 }
 
--- the lab that bytes spell, or the first fault
+-- the lab that bytes spell, or the first error
 unfoldable pub lab_of : List ℕ → Result LabValue LabFault
 lab_of bytes = spelled bytes >>= λ raw. unless_fault (lab_fault raw) (lab_in raw)
 

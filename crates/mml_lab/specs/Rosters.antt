@@ -1,13 +1,14 @@
 -- Who takes part in a lab, under which name and key, and who owns each node.
-use Rattle.std.specs.Prelude.{◌≡◌, ◌==◌, ℕ, ◌<◌, ◌≤◌, nat_lt, nat_le, Bool, false, ◌&&◌, ◌||◌, IsTrue, List, [], ◌∷◌, length, take, position, slice_index_or, All, Option, Some, option_map, if◌then◌else◌, bytes_eq}
+use Rattle.std.specs.Prelude.{◌≡◌, ◌==◌, ℕ, ◌<◌, ◌≤◌, nat_lt, nat_le, Bool, false, ◌&&◌, ◌||◌, IsTrue, List, [], ◌∷◌, length, take, position, slice_index_or}
+use Rattle.std.specs.Prelude.{All, Option, Some, option_map, if◌then◌else◌, bytes_eq}
 use Rattle.std.specs.List.{list_any, list_all}
 use Rattle.std.specs.Char.{is_ascii_lowercase, is_ascii_digit, is_ascii_graphic}
 use Rattle.mml_ids.specs.Search.{first_below}
 use Rattle.mml_lab.specs.declared.TheConstants.{MAX_STUDENTS, MAX_NAME, MAX_KEY}
 use Rattle.mml_lab.specs.declared.who.Who.{Who}
 use Rattle.mml_lab.specs.declared.who.Who.TheVariants as who
-use Rattle.mml_lab.specs.declared.fault.LabFault.{LabFault}
-use Rattle.mml_lab.specs.declared.fault.LabFault.TheVariants as fault
+use Rattle.mml_lab.specs.declared.lab_fault.LabFault.{LabFault}
+use Rattle.mml_lab.specs.declared.lab_fault.LabFault.TheVariants as fault
 use Rattle.mml_lab.specs.Shape.{Account}
 
 -- the teacher, the students in the file's order, and for each rank the students who own the node

@@ -1,20 +1,21 @@
 -- What a TOML table spells as a lab, or the first key that is missing or of the wrong kind.
-use Rattle.std.specs.Prelude.{ℕ, ℤ, Bool, true, false, ◌&&◌, nat_lt, nat_le, codes, List, [], ◌∷◌, length, Option, Some, None, option_map, is_some, Result, Ok, Err, ok_or}
+use Rattle.std.specs.Prelude.{ℕ, ℤ, Bool, true, false, ◌&&◌, nat_lt, nat_le, codes, List, [], ◌∷◌, length, Option, Some, None, option_map, is_some, Result, Ok}
+use Rattle.std.specs.Prelude.{Err, ok_or}
 use Rattle.std.specs.Prelude.{if◌then◌else◌}
 use Rattle.std.specs.Str.{is_utf8}
 use Rattle.toml.specs.Parse.{parse_document}
 use Rattle.mml_ids.specs.Gives.{◌>>=◌}
 use Rattle.toml.specs.Data.{Data, Items, no_items, item, Members, get_member, as_str, as_integer, as_bool, as_table, as_array}
 use Rattle.mml_lab.specs.declared.TheConstants.{MAX_OWNERS}
-use Rattle.mml_lab.specs.declared.fault.LabFault.{LabFault}
-use Rattle.mml_lab.specs.declared.fault.LabFault.TheVariants as fault
-use Rattle.mml_lab.specs.declared.fault.Key.{Key}
-use Rattle.mml_lab.specs.declared.fault.Key.TheVariants as key
+use Rattle.mml_lab.specs.declared.lab_fault.LabFault.{LabFault}
+use Rattle.mml_lab.specs.declared.lab_fault.LabFault.TheVariants as fault
+use Rattle.mml_lab.specs.declared.lab_fault.Key.{Key}
+use Rattle.mml_lab.specs.declared.lab_fault.Key.TheVariants as key
 
 -- a growth was refused, of which a definition says nothing
-abbrev pub is_memory : LabFault → Bool
-is_memory fault.Memory = true
-is_memory _ = false
+abbrev pub is_lab_memory : LabFault → Bool
+is_lab_memory fault.Memory = true
+is_lab_memory _ = false
 
 -- the value under a key that has to be there
 abbrev pub need : Key → List ℕ → Members → Result Data LabFault
@@ -42,7 +43,7 @@ abbrev pub or_false : Option Bool → Bool
 or_false None = false
 or_false (Some b) = b
 
--- each value in order, up to the first fault
+-- each value in order, up to the first error
 abbrev pub each : {A : Type 0} → (Data → Result A LabFault) → Items → Result (List A) LabFault
 each f no_items = Ok []
 each f (item first rest) = f first >>= λ x. each f rest >>= λ xs. Ok (x ∷ xs)

@@ -2,10 +2,10 @@
 ghost use Rattle.std.specs.Prelude.{◌≡◌, ◌∷◌, ◌<◌, not, position, map, length, IfSome};
 ghost use Rattle.std.specs.List.{list_all};
 ghost use Rattle.std.specs.Char.{is_ascii_graphic};
-ghost use Rattle.mml_lab.specs.Raw.{account_view};
+ghost use Rattle.mml_lab.specs.inside.Raw.{account_view};
 ghost use Rattle.mml_lab.specs.Rosters.{is_name_byte, is_name, is_key, is_account};
 
-use crate::raw::Account;
+use crate::raw_lab::Account;
 use crate::{MAX_KEY, MAX_NAME};
 
 fn is_name_byte(byte: u8) -> bool

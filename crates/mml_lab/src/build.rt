@@ -1,20 +1,20 @@
-//! The lab of a file without a fault.
+//! The lab of a file without an error.
 ghost use Rattle.std.specs.Prelude.{◌≡◌, ◌≤◌, ◌==◌, map, length, IfOk, IfErr, option_copied, string_bytes, Ok};
 ghost use Rattle.std.specs.List.{find};
 ghost use Rattle.mml_ids.specs.Gives.{Gives};
 ghost use Rattle.mml_lab.specs.declared.TheConstants.{MAX_STUDENTS};
-ghost use Rattle.mml_lab.specs.Shape.{is_memory};
-ghost use Rattle.mml_lab.specs.Raw.{node_view, entry_view};
+ghost use Rattle.mml_lab.specs.Shape.{is_lab_memory};
+ghost use Rattle.mml_lab.specs.inside.Raw.{node_view, entry_view};
 ghost use Rattle.mml_lab.specs.Labs.{IsLab, number_of, registers_in, registers_with, place_of, owners_in, owners_with, node_with};
 ghost use Rattle.mml_lab.specs.inside.Checks.{lab_from};
 ghost use Rattle.mml_lab.specs.inside.ChecksView.{checked_view};
-ghost use Rattle.mml_lab.specs.declared.fault.LabFault.TheVariants.{Memory};
+ghost use Rattle.mml_lab.specs.declared.lab_fault.LabFault.TheVariants.{Memory};
 
 use crate::checks::{Checked, number_of};
-use crate::fault::LabFault;
 use crate::lab::Lab;
+use crate::lab_fault::LabFault;
 use crate::links::rank_at;
-use crate::raw::RawNode;
+use crate::raw_lab::RawNode;
 use crate::roster::Roster;
 use crate::who::Student;
 use indexmap::IndexMap;
@@ -26,7 +26,7 @@ use std::alloc::Global;
 #[tactic(auto, unfolding(crate::specs::inside::Checks::lab_from))]
 pub(crate) fn build(alloc: Global, checked: Checked) -> Result<Lab, LabFault>
     requires { IsLab (lab_from (checked_view checked)) }
-    ensures { Gives is_memory (λ lab. lab) result (Ok (lab_from (checked_view checked))) }
+    ensures { Gives is_lab_memory (λ lab. lab) result (Ok (lab_from (checked_view checked))) }
 {
     let (registers, owners) = parts(alloc, &checked)?;
     let Checked {

@@ -1,19 +1,20 @@
-//! The faults between what a file spells and a lab.
+//! The errors between what a file spells and a lab.
 ghost use Rattle.std.specs.Prelude.{◌≡◌, ◌∷◌, not, position, map, length, string_bytes, IfOk};
 ghost use Rattle.std.specs.List.{list_any};
 ghost use Rattle.mml_ids.specs.Gives.{Gives, unless_fault};
 ghost use Rattle.mml_ids.specs.Ids.{in_order};
-ghost use Rattle.mml_lab.specs.Shape.{is_memory};
-ghost use Rattle.mml_lab.specs.Raw.{account_view, node_view, entry_view, raw_view};
+ghost use Rattle.mml_lab.specs.Shape.{is_lab_memory};
+ghost use Rattle.mml_lab.specs.inside.Raw.{account_view, node_view, entry_view, raw_view};
 ghost use Rattle.mml_lab.specs.Rosters.{has_name};
-ghost use Rattle.mml_lab.specs.Labs.{number_of, file_ids, lacks_owner, are_one_twice, is_within, both_fault, ids_fault, forms_fault, no_owner_fault, owner_twice_fault, owners_fault, limits_fault};
+ghost use Rattle.mml_lab.specs.Labs.{number_of, file_ids, lacks_owner, are_one_twice, is_within, both_fault, ids_fault, forms_fault, no_owner_fault};
+ghost use Rattle.mml_lab.specs.Labs.{owner_twice_fault, owners_fault, limits_fault};
 ghost use Rattle.mml_lab.specs.inside.Checks.{limits_in, identified, enrolled, joined, checked};
 ghost use Rattle.mml_lab.specs.inside.ChecksView.{checked_view, found_view};
 
 use crate::accounts::first_malformed;
-use crate::fault::{Key, LabFault};
+use crate::lab_fault::{Key, LabFault};
 use crate::links::{neighbours, pointers_fault};
-use crate::raw::{Account, RawLab, RawNode};
+use crate::raw_lab::{Account, RawLab, RawNode};
 use crate::roster::students_map;
 use crate::{MAX_EVENTS, MAX_SESSIONS, MAX_STUDENTS};
 use indexmap::IndexMap;
@@ -27,7 +28,7 @@ pub(crate) fn number_of(number: i64) -> u64
     u64::try_from(number).unwrap_or(0)
 }
 
-/// What is known of a file without a fault: its nodes' identifiers, who takes part, and for each node its neighbours.
+/// What is known of a file without an error: its nodes' identifiers, who takes part, and for each node its neighbours.
 #[derive(Drop)]
 pub struct Checked {
     pub ids: IdTable,
@@ -39,9 +40,9 @@ pub struct Checked {
     pub sessions: u8,
 }
 
-/// Goes through the faults in the order of `LabFault`.
+/// Goes through the errors in the order of `LabFault`.
 pub(crate) fn check(alloc: Global, raw: RawLab) -> Result<Checked, LabFault>
-    ensures { Gives is_memory checked_view result (checked (raw_view raw)) }
+    ensures { Gives is_lab_memory checked_view result (checked (raw_view raw)) }
 {
     let RawLab {
         events,
@@ -76,7 +77,7 @@ pub(crate) fn check(alloc: Global, raw: RawLab) -> Result<Checked, LabFault>
     })
 }
 
-/// What a file without a fault has beside its teacher and its nodes.
+/// What a file without an error has beside its teacher and its nodes.
 #[derive(Drop)]
 struct Found {
     ids: IdTable,
@@ -93,7 +94,7 @@ struct Bounds {
     sessions: i64,
 }
 
-/// Goes through the faults with the parts of a file. Its teacher and its nodes stay with the caller.
+/// Goes through the errors with the parts of a file. Its teacher and its nodes stay with the caller.
 #[tactic(auto, unfolding(crate::specs::inside::Checks::checked))]
 fn gather(
     alloc: Global,
@@ -103,7 +104,7 @@ fn gather(
     links: &[(i64, i64)],
     bounds: Bounds,
 ) -> Result<Found, LabFault>
-    ensures { Gives is_memory (found_view teacher.now nodes.now) result (checked (record {
+    ensures { Gives is_lab_memory (found_view teacher.now nodes.now) result (checked (record {
       events = bounds.events;
       sessions = bounds.sessions;
       teacher = account_view teacher.now;
@@ -128,7 +129,7 @@ fn gather(
 /// The table of the identifiers, if no node has both keys of its owners.
 #[tactic(auto, unfolding(crate::specs::inside::Checks::identified))]
 fn identify(alloc: Global, nodes: &[RawNode]) -> Result<IdTable, LabFault>
-    ensures { Gives is_memory (λ ids. ids) result (identified (map node_view nodes.now)) }
+    ensures { Gives is_lab_memory (λ ids. ids) result (identified (map node_view nodes.now)) }
 {
     unless(both_fault(nodes))?;
     id_table(alloc, nodes)
@@ -141,7 +142,7 @@ fn enrol(
     teacher: &Account,
     students: Vec<Account>,
 ) -> Result<IndexMap<String, String>, LabFault>
-    ensures { Gives is_memory (λ m. map entry_view m.entries) result
+    ensures { Gives is_lab_memory (λ m. map entry_view m.entries) result
         (enrolled (account_view teacher.now) (map account_view students.items)) }
 {
     unless(forms_fault(teacher, &students))?;
@@ -157,7 +158,7 @@ fn join(
     nodes: &[RawNode],
     links: &[(i64, i64)],
 ) -> Result<Vec<NodeSet>, LabFault>
-    ensures { Gives is_memory (λ rows. rows.items) result
+    ensures { Gives is_lab_memory (λ rows. rows.items) result
         (joined ids.now (map entry_view students.now.entries) (map node_view nodes.now) links.now) }
 {
     unless(owners_fault(students, nodes))?;
@@ -172,9 +173,9 @@ fn count(students: &IndexMap<String, String>) -> usize
     students.len()
 }
 
-/// Ends where there is a fault.
+/// Ends where there is an error.
 fn unless(fault: Option<LabFault>) -> Result<(), LabFault>
-    ensures { Gives is_memory (λ u. u) result (unless_fault fault tt) }
+    ensures { Gives is_lab_memory (λ u. u) result (unless_fault fault tt) }
 {
     match fault {
         Some(fault) => Err(fault),
@@ -200,7 +201,7 @@ fn first_with_both(nodes: &[RawNode]) -> Option<usize>
 
 /// The nodes' identifiers.
 fn id_table(alloc: Global, nodes: &[RawNode]) -> Result<IdTable, LabFault>
-    ensures { Gives is_memory (λ ids. ids) result
+    ensures { Gives is_lab_memory (λ ids. ids) result
         (unless_fault (ids_fault (map node_view nodes.now))
         (in_order (file_ids (map node_view nodes.now)))) }
 {
@@ -305,7 +306,7 @@ fn is_within(greatest: u64, number: i64) -> bool
 
 /// The numbers of events and sessions, within their limits.
 fn limits(events: i64, sessions: i64, students: usize) -> Result<(u64, u8), LabFault>
-    ensures { Gives is_memory (λ e. e) result
+    ensures { Gives is_lab_memory (λ e. e) result
         (limits_in events sessions students) }
 {
     unless(limits_fault(events, sessions, students))?;

@@ -28,7 +28,7 @@ impl Model for Lab {
 
     ghost coded = { Prim.hlevel (codes, node_set_code) };
 
-    ghost use Rattle.mml_lab.specs.LabView.{lab_view, IsLabInside};
+    ghost use Rattle.mml_lab.specs.inside.LabView.{lab_view, IsLabInside};
 
     ghost view = { lab_view };
 

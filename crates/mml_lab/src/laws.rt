@@ -5,7 +5,7 @@ ghost use Rattle.mml_ids.specs.declared.id_table.IdFault.TheVariants as id;
 ghost use Rattle.mml_rules.specs.Network.{configuration_of};
 ghost use Rattle.mml_lab.specs.declared.TheConstants.{MAX_NAME, MAX_KEY, MAX_EVENTS, MAX_SESSIONS, MAX_STUDENTS, MAX_OWNERS};
 ghost use Rattle.mml_lab.specs.declared.who.Who.{Who};
-ghost use Rattle.mml_lab.specs.declared.fault.LabFault.TheVariants as fault;
+ghost use Rattle.mml_lab.specs.declared.lab_fault.LabFault.TheVariants as fault;
 ghost use Rattle.mml_lab.specs.Shape.{Account, NodeSpec, RawSpec};
 ghost use Rattle.mml_lab.specs.Labs.{LabValue, IsLab, lab_fault, lab_in, lab_of, link_count, links_fault};
 ghost use Rattle.mml_lab.specs.LabMeaning.{Joins, HasLink, HasNode, IsNodeOf, IsLabOfFile, JoinNodes, IsLinkAgain, IsFirstLinkAgain, id_at};
@@ -41,7 +41,7 @@ pub fn forms_mean_facts()
     ensures key { (key : List ℕ) → (is_key key ≡ true) ↔ IsKey key }
 {}
 
-/// The fault of a name that stands twice comes exactly where there is one, and tells the first.
+/// The error of a name that stands twice comes exactly where there is one, and tells the first.
 pub fn name_twice_is_the_first()
     ensures fault { (accounts : List Account) (k : ℕ) →
         (name_twice accounts ≡ Some (fault.NameTwice k)) ↔ IsFirstAgain accounts k }
@@ -49,7 +49,7 @@ pub fn name_twice_is_the_first()
         (name_twice accounts ≡ None) ↔ AreDistinctBelow accounts (length accounts) }
 {}
 
-/// Each link of a file without a fault joins two nodes that differ, and no two links join the same.
+/// Each link of a file without an error joins two nodes that differ, and no two links join the same.
 pub fn links_join_two_nodes()
     ensures nodes { (raw : RawSpec) → lab_fault raw ≡ None →
         All (λ link. HasNode raw link.0 × HasNode raw link.1) raw.links }
@@ -60,7 +60,7 @@ pub fn links_join_two_nodes()
         ¬ Joins again.0 again.1 link }
 {}
 
-/// The fault of a link that stands twice comes exactly where there is one, and tells the first.
+/// The error of a link that stands twice comes exactly where there is one, and tells the first.
 pub fn link_twice_is_the_first()
     ensures fault { (raw : RawSpec) (k : ℕ) →
         (links_fault raw.nodes raw.links ≡ Some (fault.LinkTwice k))
@@ -87,7 +87,7 @@ pub fn links_are_those_of_the_file()
         ↔ HasLink raw (pos (id_at (lab_in raw) i)) (pos (id_at (lab_in raw) j)) }
 {}
 
-/// The network of a file without a fault has as many links as the file.
+/// The network of a file without an error has as many links as the file.
 pub fn links_are_counted()
     ensures { (raw : RawSpec) → lab_fault raw ≡ None →
         link_count (lab_in raw).network ≡ length raw.links }
@@ -142,13 +142,13 @@ pub fn labs_are_lawful()
     ensures { (bytes : List ℕ) (lab : LabValue) → lab_of bytes ≡ Ok lab → IsLab lab }
 {}
 
-/// Bytes are read as a lab exactly where they spell a file without a fault, and the lab is that of the file.
+/// Bytes are read as a lab exactly where they spell a file without an error, and the lab is that of the file.
 pub fn labs_are_those_of_files()
     ensures { (bytes : List ℕ) (lab : LabValue) →
         (lab_of bytes ≡ Ok lab) ↔ ((raw : RawSpec) × IsLabOfFile bytes raw lab) }
 {}
 
-/// No bytes spell want of memory, told as such or of identifiers, and it is no fault of a file.
+/// No bytes spell out of memory, told as such or of identifiers, and it is no error of a file.
 pub fn want_of_memory_is_no_fault()
     ensures identifiers { (raw : RawSpec) → lab_fault raw ≢ Some (fault.Id id.Memory) }
     ensures file { (raw : RawSpec) → lab_fault raw ≢ Some fault.Memory }

@@ -4,19 +4,19 @@
 mod accounts;
 mod build;
 mod checks;
-mod fault;
 mod lab;
+mod lab_fault;
+mod lab_reading;
 pub mod laws;
 mod links;
-mod raw;
-mod reading;
+mod raw_lab;
 mod roster;
 mod who;
 
 pub use accounts::is_name;
-pub use fault::{Key, LabFault};
 pub use lab::Lab;
-pub use reading::read_lab;
+pub use lab_fault::{Key, LabFault};
+pub use lab_reading::read_lab;
 pub use roster::Roster;
 pub use who::{Student, Who};
 

@@ -5,14 +5,14 @@ ghost use Rattle.std.specs.FinSet as set;
 ghost use Rattle.mml_ids.specs.Gives.{Gives};
 ghost use Rattle.mml_rules.specs.Configuration.{holds};
 ghost use Rattle.mml_rules.specs.Network.{neighbours_at};
-ghost use Rattle.mml_lab.specs.Shape.{is_memory};
-ghost use Rattle.mml_lab.specs.Raw.{node_view};
+ghost use Rattle.mml_lab.specs.Shape.{is_lab_memory};
+ghost use Rattle.mml_lab.specs.inside.Raw.{node_view};
 ghost use Rattle.mml_lab.specs.Labs.{number_of, is_loop};
 ghost use Rattle.mml_lab.specs.inside.Checks.{rank_at, lacks_rank, are_near, rows_in, linked_in, points_past, past_fault};
 
 use crate::checks::number_of;
-use crate::fault::LabFault;
-use crate::raw::RawNode;
+use crate::lab_fault::LabFault;
+use crate::raw_lab::RawNode;
 use mml_ids::{IdTable, NodeSet, Rank};
 use std::alloc::Global;
 
@@ -23,7 +23,7 @@ pub(crate) fn neighbours(
     ids: &IdTable,
     links: &[(i64, i64)],
 ) -> Result<Vec<NodeSet>, LabFault>
-    ensures { Gives is_memory (λ rows. rows.items) result (linked_in ids.now links.now) }
+    ensures { Gives is_lab_memory (λ rows. rows.items) result (linked_in ids.now links.now) }
 {
     if let Some(index) = first_without_end(ids, links) {
         return Err(LabFault::LinkEnd(index));
@@ -68,7 +68,7 @@ fn is_loop(link: (i64, i64)) -> bool
 /// The rows of neighbours, or the first link whose ends, in either order, are those of one before it.
 fn rows(alloc: Global, ids: &IdTable, links: &[(i64, i64)]) -> Result<Vec<NodeSet>, LabFault>
     requires { position (lacks_rank ids.now) links.now ≡ None }
-    ensures { Gives is_memory (λ rows. rows.items) result (rows_in ids.now links.now) }
+    ensures { Gives is_lab_memory (λ rows. rows.items) result (rows_in ids.now links.now) }
 {
     let mut rows = vec![in alloc; NodeSet::empty(); ids.len() as usize]?;
     for index in 0..links.len() {

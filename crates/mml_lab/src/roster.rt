@@ -1,14 +1,16 @@
-ghost use Rattle.std.specs.Prelude.{◌≡◌, ◌<◌, ◌≤◌, [], ◌∷◌, length, map, position, slice_index_or, string_bytes, Some, None, IfSome, IsTrue, ◌&&◌, ◌||◌, is_some, bytes_eq};
+ghost use Rattle.std.specs.Prelude.{◌≡◌, ◌<◌, ◌≤◌, [], ◌∷◌, length, map, position, slice_index_or, string_bytes, Some, None, IfSome, IsTrue, ◌&&◌, ◌||◌};
+ghost use Rattle.std.specs.Prelude.{is_some, bytes_eq};
 ghost use Rattle.std.specs.Map.{lookup};
 ghost use Rattle.mml_ids.specs.Gives.{Gives, unless_fault};
 ghost use Rattle.mml_lab.specs.declared.who.Who.TheVariants.{Student as AStudent};
 ghost use Rattle.mml_lab.specs.declared.TheConstants.{MAX_NAME};
-ghost use Rattle.mml_lab.specs.Shape.{is_memory};
-ghost use Rattle.mml_lab.specs.Raw.{account_view, entry_view};
-ghost use Rattle.mml_lab.specs.Rosters.{principal, student_named, owns, name_of, is_name, has_name_and_key, no_account, name_twice, with_owners, IsPrincipal, IsRoster};
+ghost use Rattle.mml_lab.specs.Shape.{is_lab_memory};
+ghost use Rattle.mml_lab.specs.inside.Raw.{account_view, entry_view};
+ghost use Rattle.mml_lab.specs.Rosters.{principal, student_named, owns, name_of, is_name, has_name_and_key, no_account, name_twice, with_owners, IsPrincipal};
+ghost use Rattle.mml_lab.specs.Rosters.{IsRoster};
 
-use crate::fault::LabFault;
-use crate::raw::Account;
+use crate::lab_fault::LabFault;
+use crate::raw_lab::Account;
 use crate::who::{Student, Who};
 use indexmap::IndexMap;
 use mml_ids::Rank;
@@ -30,7 +32,7 @@ impl Model for Roster {
 
     ghost Value = { RosterValue };
 
-    ghost use Rattle.mml_lab.specs.RosterView.{roster_view, IsRosterInside};
+    ghost use Rattle.mml_lab.specs.inside.RosterView.{roster_view, IsRosterInside};
 
     ghost view = { roster_view };
 
@@ -164,7 +166,7 @@ pub(crate) fn students_map(
     teacher: &Account,
     students: Vec<Account>,
 ) -> Result<IndexMap<String, String>, LabFault>
-    ensures { Gives is_memory (λ m. map entry_view m.entries) result
+    ensures { Gives is_lab_memory (λ m. map entry_view m.entries) result
         (unless_fault (name_twice (account_view teacher.now ∷ map account_view students.items))
         (map account_view students.items)) }
 {
@@ -180,7 +182,7 @@ fn fill(
     students: Vec<Account>,
 ) -> Result<(), LabFault>
     requires { found.old.entries ≡ [] }
-    ensures { Gives is_memory (λ _. map entry_view found.new.entries) result
+    ensures { Gives is_lab_memory (λ _. map entry_view found.new.entries) result
         (unless_fault (name_twice (account_view teacher.now ∷ map account_view students.items))
         (map account_view students.items)) }
 {

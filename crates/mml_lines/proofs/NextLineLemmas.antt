@@ -7,7 +7,7 @@ use Rattle.mml_lines.specs.declared.lines.Step.{Step}
 use Rattle.mml_lines.specs.declared.lines.TheConstants.{READ_SIZE}
 use Rattle.mml_lines.specs.Finding.{HasLine}
 use Rattle.mml_lines.specs.LinesOf.{IsWithinLimit}
-use Rattle.mml_lines.specs.LinesView.{IsReadNoFurther}
+use Rattle.mml_lines.specs.inside.LinesView.{IsReadNoFurther}
 
 -- of a line that is at the front, by places in what is held
 pub line_says : (ending : Option Step) (limit start len : ℕ) (held : List ℕ) → HasLine len limit (drop start held) → IsReadNoFurther limit (drop start held)
@@ -17,6 +17,8 @@ line_says None limit start len held line front =
     let size : start + len - start ≡ len = omega arith in
     rw size (
       (line.3, omega (arith, length-take len (drop start held))),
-      lt_of_not-le (λ long. let before : len < length (drop start held) - READ_SIZE = omega (arith, length-drop start held, length-drop (start + len + 1) held) in
-          front.0 len (omega (arith, length-take (length (drop start held) - READ_SIZE) (drop start held))) (get_or-take (length (drop start held) - READ_SIZE) (drop start held) len 0 before ∙ line.2)),
+      lt_of_not-le
+          (λ long. let before : len < length (drop start held) - READ_SIZE = omega (arith, length-drop start held, length-drop (start + len + 1) held) in
+          front.0 len (omega (arith, length-take (length (drop start held) - READ_SIZE) (drop start held)))
+          (get_or-take (length (drop start held) - READ_SIZE) (drop start held) len 0 before ∙ line.2)),
     )

@@ -1,5 +1,6 @@
 -- Lines that go out together, over several steps.
-use Rattle.std.proofs.Common.{◌≡◌, ℕ, zero, suc, ◌+◌, ◌-◌, ◌<◌, ◌≤◌, arith, List, [], ◌∷◌, ◌++◌, length, take, drop, map, refl, sym, ◌∙◌, ap, append_assoc, append-nil, length-append, length-take, length-drop, Option, subst, Result, Ok, Err, OnOk, IfErr, cond}
+use Rattle.std.proofs.Common.{◌≡◌, ℕ, zero, suc, ◌+◌, ◌-◌, ◌<◌, ◌≤◌, arith, List, [], ◌∷◌, ◌++◌, length, take, drop, map, refl, sym, ◌∙◌, ap, append_assoc}
+use Rattle.std.proofs.Common.{append-nil, length-append, length-take, length-drop, Option, subst, Result, Ok, Err, OnOk, IfErr, cond}
 use Rattle.std.specs.Prelude.{nat_lt, ⊤}
 use Rattle.std.specs.List.{concat}
 use Rattle.std.proofs.lemmas.List.Folds.{concat-append}
@@ -8,10 +9,11 @@ use Rattle.std.proofs.lemmas.Bool.{le-ltb, lt-ltb}
 use Rattle.std.proofs.lemmas.List.{take-append-le, drop-append-le, take-append-drop}
 use Rattle.std.proofs.KnownBytes.{Appends-nil, Appends-trans, Appends-kept}
 use Rattle.std.specs.Io.KnownBytes.{Appends, Keeps}
-use Rattle.mml_lines.specs.declared.writing.WriteFault.{WriteFault}
-use Rattle.mml_lines.specs.OutgoingView.{parted, total}
+use Rattle.mml_lines.specs.declared.write_fault.WriteFault.{WriteFault}
+use Rattle.mml_lines.specs.inside.OutgoingView.{parted, total}
 use Rattle.mml_lines.specs.Sending.{BreaksOff, Sends, part_in}
 
+-- where nothing went out, all lines are held
 pub nothing_sent : (a : Option (List ℕ)) (lines : List (List ℕ)) → Sends a a lines lines
 nothing_sent a lines = ([], refl, Appends-nil a)
 
@@ -32,7 +34,8 @@ pub sends_before : (a b : Option (List ℕ)) (lines held more : List (List ℕ))
 sends_before a b lines held more h = (h.0, ap (λ t. t ++ more) h.1 ∙ append_assoc h.0 held more, h.2)
 
 -- what was held goes on to be sent, and more after it
-pub sends_more : (a b c : Option (List ℕ)) (lines held more left : List (List ℕ)) → Sends a b lines held → Sends b c (held ++ more) left → Sends a c (lines ++ more) left
+pub sends_more : (a b c : Option (List ℕ)) (lines held more left : List (List ℕ)) → Sends a b lines held → Sends b c (held ++ more) left
+    → Sends a c (lines ++ more) left
 sends_more a b c lines held more left h k = sends_on a b c (lines ++ more) (held ++ more) left (sends_before a b lines held more h) k
 
 -- where none is held, all are out
@@ -59,7 +62,9 @@ breaks_on f a b c lines held h k =
           (Appends-trans a b c (concat h.0) (take k.0 (concat held)) h.2 k.3),
     )
 
-pub breaks_more : (f : WriteFault) (a b c : Option (List ℕ)) (lines held more : List (List ℕ)) → Sends a b lines held → BreaksOff f b c (held ++ more) → BreaksOff f a c (lines ++ more)
+-- what breaks off the held lines and more breaks off all lines and more, of which the first are out
+pub breaks_more : (f : WriteFault) (a b c : Option (List ℕ)) (lines held more : List (List ℕ)) → Sends a b lines held → BreaksOff f b c (held ++ more)
+    → BreaksOff f a c (lines ++ more)
 breaks_more f a b c lines held more h k = breaks_on f a b c (lines ++ more) (held ++ more) (sends_before a b lines held more h) k
 
 part_none : (ns : List ℕ) → part_in ns 0 ≡ 0
@@ -83,7 +88,8 @@ breaks_before f a b lines more h =
     )
 
 -- one line breaks off
-pub breaks_in : (f : WriteFault) (a b : Option (List ℕ)) (line : List ℕ) → f.written < length line → Appends a b (take f.written line) → BreaksOff f a b (line ∷ [])
+pub breaks_in : (f : WriteFault) (a b : Option (List ℕ)) (line : List ℕ) → f.written < length line → Appends a b (take f.written line)
+    → BreaksOff f a b (line ∷ [])
 breaks_in f a b line short h = (
   f.written,
   omega (arith, short, length-append line []),
@@ -106,7 +112,8 @@ breaks_after f a b lines none h =
     part_end (x ∷ ls) =
         let size = length-append x (concat ls) in
         let back : length (x ++ concat ls) - length x ≡ length (concat ls) = omega (arith, size) in
-        ap (λ b. cond b (length (x ++ concat ls)) (part_in (map length ls) (length (x ++ concat ls) - length x))) (le-ltb (length (x ++ concat ls)) (length x) (omega (arith, size)))
+        ap (λ b. cond b (length (x ++ concat ls)) (part_in (map length ls) (length (x ++ concat ls) - length x)))
+        (le-ltb (length (x ++ concat ls)) (length x) (omega (arith, size)))
         ∙ (ap (λ n. part_in (map length ls) n) back ∙ part_end ls)
 
 -- the parts of bytes are the bytes
@@ -132,10 +139,12 @@ parts_longer (n ∷ ns) bytes line e =
     ∙ (ap (λ (t : List ℕ). take n bytes ∷ parted (ns ++ length line ∷ []) t) (drop-append-le n bytes line front)
     ∙ ap (λ t. take n bytes ∷ t) (parts_longer ns (drop n bytes) line (omega (arith, e, length-drop n bytes))))
 
+-- one length more adds to the total
 pub total_longer : (ns : List ℕ) (n : ℕ) → total (ns ++ n ∷ []) ≡ total ns + n
 total_longer [] n = omega arith
 total_longer (m ∷ ns) n = omega (arith, total_longer ns n)
 
+-- a line put behind the held bytes in two parts is one held line more
 pub held_more : (ns ns' bytes bytes' front rest : List ℕ) (lines : List (List ℕ)) → lines ≡ parted ns bytes → total ns ≡ length bytes
     → ns' ≡ ns ++ (length front + length rest) ∷ [] → bytes' ≡ (bytes ++ front) ++ rest → parted ns' bytes' ≡ lines ++ (front ++ rest) ∷ []
 held_more ns ns' bytes bytes' front rest lines e whole size grown =
@@ -144,9 +153,11 @@ held_more ns ns' bytes bytes' front rest lines e whole size grown =
     ap (λ (t : List ℕ). parted t bytes') size' ∙ (ap (λ (t : List ℕ). parted (ns ++ length (front ++ rest) ∷ []) t) grown'
     ∙ (parts_longer ns bytes (front ++ rest) whole ∙ ap (λ t. t ++ (front ++ rest) ∷ []) (sym e)))
 
+-- the held lines together are the held bytes
 pub held_whole : (ns bytes : List ℕ) (lines : List (List ℕ)) → lines ≡ parted ns bytes → total ns ≡ length bytes → concat lines ≡ bytes
 held_whole ns bytes lines e whole = ap concat e ∙ parts_whole ns bytes whole
 
+-- where some of the held bytes went out and not all, the lines are broken off there
 pub breaks_held : (written out : ℕ) (a b : Option (List ℕ)) (ns bytes : List ℕ) (lines : List (List ℕ)) → lines ≡ parted ns bytes → total ns ≡ length bytes
     → out < length bytes → written ≡ part_in ns out → Appends a b (take out bytes) → BreaksOff (record { written = written }) a b lines
 breaks_held written out a b ns bytes lines e whole short counted h =
@@ -163,13 +174,16 @@ pub sends_kept : (a b c : Option (List ℕ)) (lines : List (List ℕ)) → Sends
 sends_kept a b c lines h kept = (h.0, h.1, Appends-kept a b c (concat h.0) h.2 kept)
 
 -- a line that is longer than all the room
-pub put_through : (r : Result ⊤ WriteFault) (a b c : Option (List ℕ)) (lines held held' : List (List ℕ)) (line : List ℕ) → Sends a b lines [] → held ≡ [] → held' ≡ held
+pub put_through : (r : Result ⊤ WriteFault) (a b c : Option (List ℕ)) (lines held held' : List (List ℕ)) (line : List ℕ) → Sends a b lines []
+    → held ≡ [] → held' ≡ held
     → OnOk r (Appends b c line) → OnOk r (Sends a c (lines ++ line ∷ []) held')
 put_through (Ok done) a b c lines held held' line h none same ok =
     rw (same, none) (sends_more a b c lines [] (line ∷ []) [] h (all_sent b c (line ∷ []) line (append-nil line) ok))
 put_through (Err fault) a b c lines held held' line h none same ok = tt
 
+-- where a write of the last line stops before its end, and all lines before it are out, the lines are broken off there
 pub put_short : (r : Result ⊤ WriteFault) (a b c : Option (List ℕ)) (lines : List (List ℕ)) (line : List ℕ) → Sends a b lines []
-    → IfErr r (λ fault. fault.written < length line) → IfErr r (λ fault. Appends b c (take fault.written line)) → IfErr r (λ fault. BreaksOff fault a c (lines ++ line ∷ []))
+    → IfErr r (λ fault. fault.written < length line) → IfErr r (λ fault. Appends b c (take fault.written line))
+    → IfErr r (λ fault. BreaksOff fault a c (lines ++ line ∷ []))
 put_short (Ok done) a b c lines line h short err = tt
 put_short (Err fault) a b c lines line h short err = breaks_more fault a b c lines [] (line ∷ []) h (breaks_in fault b c line short err)

@@ -14,7 +14,7 @@ ending_of TooLong = Some TooLong
 ending_of End = Some End
 ending_of ReadFault = Some ReadFault
 
--- the bytes that the answer took: the line with its byte 10
+-- the bytes that the answer took: the line with its newline
 abbrev pub bytes_taken : Step → List ℕ → List ℕ
 bytes_taken Line line = ended line
 bytes_taken TooLong line = []
@@ -22,8 +22,8 @@ bytes_taken End line = []
 bytes_taken ReadFault line = []
 
 -- what the answer says of the line, or of what comes next: nothing is read once that is known, so no more is held after
--- it than one read brought in; both an end and a read fault need a read, by what was held, and only where all reads were
--- made a fault comes without one
+-- it than one read brought in; both an end and a read error need a read, by what was held, and only where all reads were
+-- made an error comes without one
 abbrev pub Says : Step → LinesState → LinesState → Option (List ℕ) → Type 0
 Says Line old new left = IsWithinLimit new.limit new.line × (length new.unread < READ_SIZE)
 Says TooLong old new left = IsTooLong new.limit new.unread × (length new.unread ≤ new.limit + READ_SIZE)

@@ -5,10 +5,10 @@ mod counted;
 pub mod laws;
 mod lines;
 mod outgoing;
-mod reading;
-mod writing;
+mod whole_reading;
+mod write_fault;
 
 pub use lines::{Lines, MAX_LIMIT, MAX_READS, READ_SIZE, Step};
 pub use outgoing::{OUTGOING_BYTES, OUTGOING_LINES, Outgoing};
-pub use reading::{WholeFault, read_whole};
-pub use writing::{WriteFault, put_all};
+pub use whole_reading::{WholeFault, read_whole};
+pub use write_fault::{WriteFault, put_all};

@@ -4,7 +4,7 @@ ghost use Rattle.std.specs.Prelude.{◌≡◌, ◌<◌, ◌++◌, ◌∷◌, [],
 ghost use Rattle.std.specs.Io.KnownBytes.{Appends};
 ghost use Rattle.mml_lines.specs.Sending.{BreaksOff, Sends, part_in};
 
-use crate::writing::{WriteFault, put_all};
+use crate::write_fault::{WriteFault, put_all};
 use mml_ids::Memory;
 use std::alloc::Global;
 use std::io::Write;
@@ -30,7 +30,7 @@ impl Model for Outgoing {
 
     ghost Value = { List (List ℕ) };
 
-    ghost use Rattle.mml_lines.specs.OutgoingView.{outgoing_view, IsOutgoingInside};
+    ghost use Rattle.mml_lines.specs.inside.OutgoingView.{outgoing_view, IsOutgoingInside};
 
     ghost view = { outgoing_view };
 

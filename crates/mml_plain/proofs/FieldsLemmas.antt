@@ -5,8 +5,8 @@ use Rattle.std.proofs.lemmas.Slice.Eq.{bytes_eq-Decides}
 use Rattle.serde_json.specs.Data.{Data, object, Members, put}
 use Rattle.serde_json.specs.Find.{get_member, as_str, as_bool, as_number, as_u64}
 use Rattle.serde_json.proofs.Views.{get_member-put, get_member-put_other}
-use Rattle.mml_plain.specs.declared.value.PlainValue.{PlainValue}
-use Rattle.mml_plain.specs.declared.value.PlainValue.TheVariants.{Null, Truth, Number, Text}
+use Rattle.mml_plain.specs.declared.plain_value.PlainValue.{PlainValue}
+use Rattle.mml_plain.specs.declared.plain_value.PlainValue.TheVariants.{Null, Truth, Number, Text}
 use Rattle.mml_plain.specs.declared.fields.Fields.{Fields}
 use Rattle.mml_plain.specs.LookUps.{as_register}
 use Rattle.mml_plain.specs.Holds.{Holds}

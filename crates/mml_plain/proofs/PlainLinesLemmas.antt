@@ -176,9 +176,11 @@ module _ (depth : ℕ) (some : 0 < depth) where
   plain_refused (Token.null ∷ ts) e = rw value_is (leaf_refused json.null refl ts)
   plain_refused (Token.bad ∷ ts) e = rw value_is
 
+-- the members that the tokens of a plain object spell are those of the value that is read
 pub read_is : (text : List ℕ) (ms : Members) → plain_object (tokens text) ≡ Some ms → read text ≡ Some (object ms)
 read_is text ms e = plain_read 127 (omega arith) (tokens text) ms e
 
+-- a line whose tokens spell no plain object isn't plain
 pub is_plain-refused : (line : List ℕ) → plain_object (tokens line) ≡ None → is_plain line ≡ false
 unfolding is_plain
 is_plain-refused line e = rw (plain_refused 127 (omega arith) (tokens line) e) (and-false (is_utf8 line))
@@ -187,6 +189,7 @@ no_text : (line : List ℕ) (b : Bool) → is_utf8 line ≡ b → (IsUtf8 line �
 no_text line false e h = refl
 no_text line true e h = absurd (h (IsUtf8-from_is_utf8 line e))
 
+-- a line that isn't UTF-8 isn't plain
 pub is_plain-no_text : (line : List ℕ) → (IsUtf8 line → ⊥) → is_plain line ≡ false
 unfolding is_plain
 is_plain-no_text line h = rw (no_text line (is_utf8 line) refl h)

@@ -2,8 +2,8 @@
 use Rattle.std.specs.Prelude.{ℕ, List, Bool, codes, bytes_eq, if◌then◌else◌, Option, Some, None}
 use Rattle.std.specs.Borrow.{Bor}
 use Rattle.serde_json.specs.Data.{Data, null, boolean, number, unsigned, string}
-use Rattle.mml_plain.specs.declared.value.PlainValue.{PlainValue}
-use Rattle.mml_plain.specs.declared.value.PlainValue.TheVariants.{Null, Truth, Number, Text}
+use Rattle.mml_plain.specs.declared.plain_value.PlainValue.{PlainValue}
+use Rattle.mml_plain.specs.declared.plain_value.PlainValue.TheVariants.{Null, Truth, Number, Text}
 use Rattle.mml_plain.specs.declared.fields.Fields.{Fields}
 
 -- the data that a plain value is

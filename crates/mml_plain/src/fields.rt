@@ -6,7 +6,7 @@ ghost use Rattle.mml_plain.specs.Holds.{Holds};
 ghost use Rattle.mml_plain.specs.Fields.{with};
 ghost use Rattle.mml_plain.specs.LookUps.{register_at};
 
-use crate::value::PlainValue;
+use crate::plain_value::PlainValue;
 use serde_json::Value;
 
 /// What the keys of a request name in an object. A key that isn't there, or that names another kind

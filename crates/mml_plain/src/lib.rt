@@ -6,10 +6,10 @@
 #![tactic(auto)]
 
 mod fields;
-mod reading;
-mod scratch;
-mod value;
+mod line_scratch;
+mod plain_reading;
+mod plain_value;
 
 pub use fields::Fields;
-pub use reading::read_plain;
-pub use scratch::LineScratch;
+pub use line_scratch::LineScratch;
+pub use plain_reading::read_plain;

@@ -1,5 +1,6 @@
 -- What a student can't see changes nothing for the student.
-use Rattle.std.proofs.Common.{◌≡◌, ℕ, ◌+◌, ◌<◌, ◌==◌, Bool, true, false, cond, ◌&&◌, ◌||◌, List, [], ◌∷◌, length, map, Option, None, Some, is_none, option_map, Result, Ok, Err, refl, sym, ap, nat_le, ◌∙◌, subst, nat_le, arith, inl, inr, slice_set, filter}
+use Rattle.std.proofs.Common.{◌≡◌, ℕ, ◌+◌, ◌<◌, ◌==◌, Bool, true, false, cond, ◌&&◌, ◌||◌, List, [], ◌∷◌, length, map, Option, None, Some, is_none, option_map}
+use Rattle.std.proofs.Common.{Result, Ok, Err, refl, sym, ap, nat_le, ◌∙◌, subst, nat_le, arith, inl, inr, slice_set, filter}
 use Rattle.std.specs.List.{range_with_len}
 use Rattle.std.specs.Result.{IfOk}
 use Rattle.std.proofs.lemmas.Bool.{cases_eq}
@@ -51,11 +52,13 @@ filter_alike : {X Y : Type 0} (t : X → Bool) (f g : X → Y) (xs : List X) →
 filter_alike t f g [] h = refl
 filter_alike t f g (x ∷ xs) h = go (t x) (h x) (filter_alike t f g xs h)
   where
-    go : (b : Bool) → (b ≡ true → f x ≡ g x) → map f (filter t xs) ≡ map g (filter t xs) → map f (cond b (x ∷ filter t xs) (filter t xs)) ≡ map g (cond b (x ∷ filter t xs) (filter t xs))
+    go : (b : Bool) → (b ≡ true → f x ≡ g x) → map f (filter t xs) ≡ map g (filter t xs)
+        → map f (cond b (x ∷ filter t xs) (filter t xs)) ≡ map g (cond b (x ∷ filter t xs) (filter t xs))
     go true e rest = λ k. e refl k ∷ rest k
     go false e rest = rest
 
-module _ (ids : List ℕ) (r : RosterValue) (limit : ℕ) (is_halted : Bool) (s : ℕ) (w v : World) (in_w : IsWorldOf ids w) (in_v : IsWorldOf ids v) (a : Alike r s w v) where
+module _ (ids : List ℕ) (r : RosterValue) (limit : ℕ) (is_halted : Bool) (s : ℕ) (w v : World) (in_w : IsWorldOf ids w) (in_v : IsWorldOf ids v)
+    (a : Alike r s w v) where
   abbrev c : Configuration
   c = configuration w
 
@@ -122,7 +125,8 @@ module _ (ids : List ℕ) (r : RosterValue) (limit : ℕ) (is_halted : Bool) (s 
   same_near : (i : ℕ) → owns r x i ≡ true → near w i ≡ near v i
   unfolding near
   same_near i own =
-      filter_alike (c.linked i) (λ j. (j, registers_at w.network.registers j)) (λ j. (j, registers_at v.network.registers j)) (range_with_len 0 (size w)) (λ j n. ap (λ q. (j, q)) (a.near i j own n))
+      filter_alike (c.linked i) (λ j. (j, registers_at w.network.registers j)) (λ j. (j, registers_at v.network.registers j)) (range_with_len 0 (size w))
+      (λ j n. ap (λ q. (j, q)) (a.near i j own n))
       ∙ (λ k. map (λ j. (j, registers_at v.network.registers j)) (filter (λ j. a.links i j own k) (range_with_len 0 (same_size k))))
 
   same_look : (i : ℕ) → owns r x i ≡ true → look_of w i ≡ look_of v i
@@ -160,11 +164,13 @@ module _ (ids : List ℕ) (r : RosterValue) (limit : ℕ) (is_halted : Bool) (s 
 
   -- what the leave tells is the same, and the worlds afterwards are alike
   abbrev Keeps : Leave → Type 0
-  Keeps l = (told limit is_halted w l ≡ told limit is_halted v l) × Alike r s (after_ruling w (told limit is_halted w l)) (after_ruling v (told limit is_halted v l))
+  Keeps l =
+      (told limit is_halted w l ≡ told limit is_halted v l) × Alike r s (after_ruling w (told limit is_halted w l)) (after_ruling v (told limit is_halted v l))
 
   -- the event takes place in both worlds or in neither
   entered : (b h : Bool) (g k : Ruling) → g ≡ k → Alike r s (after_ruling w g) (after_ruling v k) →
-      (cond b Full (cond h Journal g) ≡ cond b Full (cond h Journal k)) × Alike r s (after_ruling w (cond b Full (cond h Journal g))) (after_ruling v (cond b Full (cond h Journal k)))
+      (cond b Full (cond h Journal g) ≡ cond b Full (cond h Journal k))
+      × Alike r s (after_ruling w (cond b Full (cond h Journal g))) (after_ruling v (cond b Full (cond h Journal k)))
   entered true h g k e l = (refl, a)
   entered false true g k e l = (refl, a)
   entered false false g k e l = (e, l)
@@ -174,7 +180,8 @@ module _ (ids : List ℕ) (r : RosterValue) (limit : ℕ) (is_halted : Bool) (s 
       let e = event.Grant s i q in
       let g = Granted e (done_by w e) in
       let k = Granted e (done_by v e) in
-      subst (λ b. (cond (nat_le limit w.place) Full (cond is_halted Journal g) ≡ cond b Full (cond is_halted Journal k)) × Alike r s (after_ruling w (cond (nat_le limit w.place) Full (cond is_halted Journal g))) (after_ruling v (cond b Full (cond is_halted Journal k))))
+      subst (λ b. (cond (nat_le limit w.place) Full (cond is_halted Journal g) ≡ cond b Full (cond is_halted Journal k))
+      × Alike r s (after_ruling w (cond (nat_le limit w.place) Full (cond is_halted Journal g))) (after_ruling v (cond b Full (cond is_halted Journal k))))
       (ap (nat_le limit) a.place)
       (entered (nat_le limit w.place) is_halted g k refl (choosing_alike i (Some q) l))
 
@@ -198,7 +205,9 @@ module _ (ids : List ℕ) (r : RosterValue) (limit : ℕ) (is_halted : Bool) (s 
   keeps _ = tt
 
   abbrev Same : Result Leave Denial → Result Leave Denial → Type 0
-  Same p q = (ruled limit is_halted w p ≡ ruled limit is_halted v q) × Alike r s (after_ruling w (ruled limit is_halted w p)) (after_ruling v (ruled limit is_halted v q))
+  Same p q =
+      (ruled limit is_halted w p ≡ ruled limit is_halted v q)
+      × Alike r s (after_ruling w (ruled limit is_halted w p)) (after_ruling v (ruled limit is_halted v q))
 
   same : (p q : Result Leave Denial) → p ≡ q → IfOk p Keeps → Same p q
   same (Ok l) q e h = subst (Same (Ok l)) e h
@@ -207,8 +216,13 @@ module _ (ids : List ℕ) (r : RosterValue) (limit : ℕ) (is_halted : Bool) (s 
   both : (k : Command) → Same (clauses ids r w x k) (clauses ids r v x k)
   both k = same _ _ (same_clauses k) (keeps k)
 
-pub same_ruling : (ids : List ℕ) (r : RosterValue) (limit : ℕ) (is_halted : Bool) (w v : World) (s : ℕ) (k : Command) → IsWorldOf ids w → IsWorldOf ids v → Alike r s w v → ruling ids r limit is_halted w (who.Student s) k ≡ ruling ids r limit is_halted v (who.Student s) k
+-- in worlds that are alike for a student, each command of the student is ruled on alike
+pub same_ruling : (ids : List ℕ) (r : RosterValue) (limit : ℕ) (is_halted : Bool) (w v : World) (s : ℕ) (k : Command) → IsWorldOf ids w → IsWorldOf ids v
+    → Alike r s w v → ruling ids r limit is_halted w (who.Student s) k ≡ ruling ids r limit is_halted v (who.Student s) k
 same_ruling ids r limit is_halted w v s k in_w in_v a = (both ids r limit is_halted s w v in_w in_v a k).0
 
-pub alike_afterwards : (ids : List ℕ) (r : RosterValue) (limit : ℕ) (is_halted : Bool) (w v : World) (s : ℕ) (k : Command) → IsWorldOf ids w → IsWorldOf ids v → Alike r s w v → Alike r s (after_ruling w (ruling ids r limit is_halted w (who.Student s) k)) (after_ruling v (ruling ids r limit is_halted v (who.Student s) k))
+-- and the worlds are alike for the student afterwards too
+pub alike_afterwards : (ids : List ℕ) (r : RosterValue) (limit : ℕ) (is_halted : Bool) (w v : World) (s : ℕ) (k : Command) → IsWorldOf ids w → IsWorldOf ids v
+    → Alike r s w v
+    → Alike r s (after_ruling w (ruling ids r limit is_halted w (who.Student s) k)) (after_ruling v (ruling ids r limit is_halted v (who.Student s) k))
 alike_afterwards ids r limit is_halted w v s k in_w in_v a = (both ids r limit is_halted s w v in_w in_v a k).1

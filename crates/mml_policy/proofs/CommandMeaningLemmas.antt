@@ -1,9 +1,11 @@
 -- When each command but a move is granted or shown.
-use Rattle.std.proofs.Common.{◌≡◌, ℕ, zero, suc, ◌==◌, Bool, true, not, ◌||◌, List, [], ◌∷◌, Option, None, Some, is_some, Result, Ok, Err, refl, sym, ap, inl, inr, ◌⊎◌, arith}
+use Rattle.std.proofs.Common.{◌≡◌, ℕ, zero, suc, ◌==◌, Bool, true, not, ◌||◌, List, [], ◌∷◌, Option, None, Some, is_some, Result, Ok, Err, refl, sym, ap, inl}
+use Rattle.std.proofs.Common.{inr, ◌⊎◌, arith}
 use Rattle.std.specs.Prelude.{◌↔◌}
 use Rattle.std.specs.List.{list_any}
 use Rattle.std.specs.Option.{ok_or}
 use Rattle.std.proofs.lemmas.Bool.{or_cases, or_left, or_right, eqb-false, ne_eqb, not-true, not_from_false}
+use Rattle.mml_ids.specs.Gives.{◌>>=◌, ◌>>◌, need}
 use Rattle.mml_ids.proofs.GivesLemmas.{bind-ok, bind-from, need-ok, need-from}
 use Rattle.mml_rules.specs.declared.rule.Rule.{Rule}
 use Rattle.mml_rules.specs.Configuration.{IsLawful}
@@ -16,7 +18,7 @@ use Rattle.mml_board.specs.World.{World, configuration, chosen_at}
 use Rattle.mml_board.specs.Events.{is_any_chosen, may_point}
 use Rattle.mml_policy.specs.declared.command.Command.TheVariants as command
 use Rattle.mml_policy.specs.declared.denial.Denial.{Denial}
-use Rattle.mml_policy.specs.declared.denial.Denial.TheVariants.{Hidden, NotOwner, NoNode, BadRegister}
+use Rattle.mml_policy.specs.declared.denial.Denial.TheVariants.{Hidden, NotOwner, NotTeacher, NoNode, BadRegister, Loop, Linked, NotLinked}
 use Rattle.mml_policy.specs.declared.verdict.Verdict.TheVariants as verdicts
 use Rattle.mml_policy.specs.declared.verdict.Leave.{Leave}
 use Rattle.mml_policy.specs.declared.verdict.Leave.TheVariants.{See, Look, Grant}
@@ -24,6 +26,7 @@ use Rattle.mml_policy.specs.Visible.{is_teacher, is_visible}
 use Rattle.mml_policy.specs.Clauses.{node, pointer}
 use Rattle.mml_policy.specs.Verdicts.{clauses, settled, verdict}
 use Rattle.mml_policy.specs.Meaning.{MaySee, MayLook, MayClose, MayFault, MayLink, MayCut, MayRelease, IsNamed, IsRegister}
+use Rattle.mml_policy.specs.Denied.{IsAskedOfBoth}
 use Rattle.mml_policy.proofs.ClausesLemmas.{node-ok}
 use Rattle.mml_policy.proofs.VerdictLemmas.{settled-grant}
 use Rattle.mml_policy.proofs.VisibleLemmas.{teacher_is, visible_means}
@@ -32,6 +35,7 @@ pub some-value : {A : Type 0} (o : Option A) → is_some o ≡ true → (x : A) 
 some-value None h = absurd (grind arith)
 some-value (Some x) h = (x, refl)
 
+-- where some move is chosen, there is a node that has it
 pub chosen-some : (chosen : List (Option Rule)) → list_any is_some chosen ≡ true → (i : ℕ) × (q : Rule) × (chosen_at chosen i ≡ Some q)
 chosen-some [] h = absurd (grind arith)
 chosen-some (o ∷ os) h = elim (or_cases (is_some o) (list_any is_some os) h) [
@@ -39,6 +43,7 @@ chosen-some (o ∷ os) h = elim (or_cases (is_some o) (list_any is_some os) h) [
   | inr later ↦ let found = chosen-some os later in (suc found.0, found.1, found.2)
 ]
 
+-- where a node has a chosen move, some move is chosen
 pub some-chosen : (chosen : List (Option Rule)) (i : ℕ) (q : Rule) → chosen_at chosen i ≡ Some q → list_any is_some chosen ≡ true
 some-chosen [] i q h = absurd (grind arith)
 some-chosen (o ∷ os) zero q h = or_left (is_some o) (list_any is_some os) (ap is_some h)
@@ -51,23 +56,55 @@ settled-show (Err d) h = absurd (grind arith)
 event-same : (f e : Event) → (let s : Result Leave Denial = Ok (Grant f) in s ≡ Ok (Grant e)) → e ≡ f
 event-same f e h = grind arith
 
+-- the pointer that a step found is the one that is named
 pub named-is : (ids : List ℕ) (p q : Option ℕ) → pointer ids p BadRegister ≡ Ok q → IsNamed ids p q
 named-is ids None q h = grind arith
 named-is ids (Some id) q h =
     let b = bind-ok (node ids id BadRegister) _ q h in
     (b.0, node-ok ids id BadRegister b.0 b.1, let e : (let s : Result (Option ℕ) Denial = Ok (Some b.0) in s ≡ Ok q) = b.2 in grind arith)
 
+-- a pointer that is named is found
 pub named-from : (ids : List ℕ) (p q : Option ℕ) → IsNamed ids p q → pointer ids p BadRegister ≡ Ok q
 named-from ids None q h = ap Ok (sym h)
 named-from ids (Some id) q h = bind-from (node ids id BadRegister) _ (Ok q) h.0 (ap (λ o. ok_or o BadRegister) h.1) (ap Ok (sym h.2))
 
+-- a pointer that passes is null or to a neighbour
 pub register-is : (w : World) (i : ℕ) (q : Option ℕ) → may_point (configuration w) i q ≡ true → IsRegister w i q
 register-is w i None h = tt
 register-is w i (Some j) h = h
 
+-- a pointer that is null or to a neighbour passes
 pub register-from : (w : World) (i : ℕ) (q : Option ℕ) → IsRegister w i q → may_point (configuration w) i q ≡ true
 register-from w i None h = refl
 register-from w i (Some j) h = h
+
+-- what comes next of a link and of a cut, once both nodes are found
+abbrev pub link_at : World → ℕ → ℕ → Result Leave Denial
+link_at w a b = need (not (a == b)) Loop >> (need (not ((configuration w).linked a b)) Linked >> Ok (Grant (event.Link a b)))
+
+abbrev pub cut_at : World → ℕ → ℕ → Result Leave Denial
+cut_at w a b = need ((configuration w).linked a b) NotLinked >> Ok (Grant (event.Cut a b))
+
+module _ (ids : List ℕ) (x : Who) (first second : ℕ) (rest : ℕ → ℕ → Result Leave Denial) where
+  -- what the teacher asks of two nodes
+  abbrev pub asked_of_both : Result Leave Denial
+  asked_of_both = need (is_teacher x) NotTeacher >> (node ids first NoNode >>= (λ a. node ids second NoNode >>= rest a))
+
+  -- where both are there, what comes next
+  pub both_ends : (a b : ℕ) (v : Result Leave Denial) → IsAskedOfBoth ids x first second a b → rest a b ≡ v → asked_of_both ≡ v
+  both_ends a b v asked e = need-from (is_teacher x) _ _ _ (ap is_teacher asked.teacher) (
+      bind-from (node ids first NoNode) _ _ a (ap (λ o. ok_or o NoNode) asked.node_a) (
+      bind-from (node ids second NoNode) _ _ b (ap (λ o. ok_or o NoNode) asked.node_b) e))
+
+  -- where it is granted, both are there
+  pub both_found : (l : Leave) → asked_of_both ≡ Ok l → (a : ℕ) × (b : ℕ) × IsAskedOfBoth ids x first second a b × (rest a b ≡ Ok l)
+  both_found l h =
+      let one = need-ok (is_teacher x) _ _ _ h in
+      let two = bind-ok (node ids first NoNode) _ _ one.1 in
+      let three = bind-ok (node ids second NoNode) _ _ two.2 in
+      let asked : IsAskedOfBoth ids x first second two.0 three.0 =
+      record { teacher = teacher_is x one.0; node_a = node-ok ids first NoNode two.0 two.1; node_b = node-ok ids second NoNode three.0 three.1 } in
+      (two.0, three.0, asked, three.2)
 
 module _ (ids : List ℕ) (r : RosterValue) (w : World) (x : Who) where
   to_see : (id : ℕ) → IsLawful (configuration w) → verdict ids r w x (command.See id) ≡ verdicts.Show → MaySee ids r w x id
@@ -129,15 +166,26 @@ module _ (ids : List ℕ) (r : RosterValue) (w : World) (x : Who) where
   pub close_means : (e : Event) → (verdict ids r w x command.Close ≡ verdicts.Grant e) ↔ ((x ≡ who.Teacher) × MayClose w e)
   close_means e = (to_close e, from_close e)
 
-  to_fault : (id : ℕ) (p : Option ℕ) (m : Bool) (e : Event) → verdict ids r w x (command.Fault id p m) ≡ verdicts.Grant e → (x ≡ who.Teacher) × MayFault ids w id p m e
+  to_fault : (id : ℕ) (p : Option ℕ) (m : Bool) (e : Event) → verdict ids r w x (command.Fault id p m) ≡ verdicts.Grant e
+      → (x ≡ who.Teacher) × MayFault ids w id p m e
   to_fault id p m e h =
       let one = need-ok (is_teacher x) _ _ _ (settled-grant (clauses ids r w x (command.Fault id p m)) e h) in
       let two = bind-ok (node ids id NoNode) _ _ one.1 in
       let three = bind-ok (pointer ids p BadRegister) _ _ two.2 in
-      let four = need-ok (may_point (configuration w) two.0 three.0) _ _ _ three.2 in
-      (teacher_is x one.0, record { i = two.0; q = three.0; node = node-ok ids id NoNode two.0 two.1; named = named-is ids p three.0 three.1; register = register-is w two.0 three.0 four.0; granted = event-same _ e four.1 })
+      let four = need-ok (may_point (configuration w) two.0 three.0) _ _ _ three.2 in (
+        teacher_is x one.0,
+        record {
+          i = two.0;
+          q = three.0;
+          node = node-ok ids id NoNode two.0 two.1;
+          named = named-is ids p three.0 three.1;
+          register = register-is w two.0 three.0 four.0;
+          granted = event-same _ e four.1;
+        },
+      )
 
-  from_fault : (id : ℕ) (p : Option ℕ) (m : Bool) (e : Event) → (x ≡ who.Teacher) × MayFault ids w id p m e → verdict ids r w x (command.Fault id p m) ≡ verdicts.Grant e
+  from_fault : (id : ℕ) (p : Option ℕ) (m : Bool) (e : Event) → (x ≡ who.Teacher) × MayFault ids w id p m e
+      → verdict ids r w x (command.Fault id p m) ≡ verdicts.Grant e
   from_fault id p m e f =
       let may = f.1 in
       ap settled (
@@ -147,61 +195,57 @@ module _ (ids : List ℕ) (r : RosterValue) (w : World) (x : Who) where
       need-from (may_point (configuration w) may.i may.q) _ _ _ (register-from w may.i may.q may.register) (
       ap (λ e. Ok (Grant e)) (sym may.granted))))))
 
-  pub fault_means : (id : ℕ) (p : Option ℕ) (m : Bool) (e : Event) → (verdict ids r w x (command.Fault id p m) ≡ verdicts.Grant e) ↔ ((x ≡ who.Teacher) × MayFault ids w id p m e)
+  pub fault_means : (id : ℕ) (p : Option ℕ) (m : Bool) (e : Event)
+      → (verdict ids r w x (command.Fault id p m) ≡ verdicts.Grant e) ↔ ((x ≡ who.Teacher) × MayFault ids w id p m e)
   fault_means id p m e = (to_fault id p m e, from_fault id p m e)
 
   to_link : (first second : ℕ) (e : Event) → verdict ids r w x (command.Link first second) ≡ verdicts.Grant e → (x ≡ who.Teacher) × MayLink ids w first second e
   to_link first second e h =
-      let one = need-ok (is_teacher x) _ _ _ (settled-grant (clauses ids r w x (command.Link first second)) e h) in
-      let two = bind-ok (node ids first NoNode) _ _ one.1 in
-      let three = bind-ok (node ids second NoNode) _ _ two.2 in
-      let four = need-ok (not (two.0 == three.0)) _ _ _ three.2 in
-      let five = need-ok (not ((configuration w).linked two.0 three.0)) _ _ _ four.1 in (
-        teacher_is x one.0,
+      let (a, b, asked, found) = both_found ids x first second (link_at w) _ (settled-grant (clauses ids r w x (command.Link first second)) e h) in
+      let two = need-ok (not (a == b)) _ _ _ found in
+      let one = need-ok (not ((configuration w).linked a b)) _ _ _ two.1 in (
+        asked.teacher,
         record {
-          a = two.0;
-          b = three.0;
-          node_a = node-ok ids first NoNode two.0 two.1;
-          node_b = node-ok ids second NoNode three.0 three.1;
-          different = eqb-false two.0 three.0 (not-true _ four.0);
-          apart = not-true _ five.0;
-          granted = event-same _ e five.1;
+          a = a;
+          b = b;
+          node_a = asked.node_a;
+          node_b = asked.node_b;
+          different = eqb-false a b (not-true _ two.0);
+          apart = not-true _ one.0;
+          granted = event-same _ e one.1;
         },
       )
 
-  from_link : (first second : ℕ) (e : Event) → (x ≡ who.Teacher) × MayLink ids w first second e → verdict ids r w x (command.Link first second) ≡ verdicts.Grant e
+  from_link : (first second : ℕ) (e : Event) → (x ≡ who.Teacher) × MayLink ids w first second e
+      → verdict ids r w x (command.Link first second) ≡ verdicts.Grant e
   from_link first second e f =
       let may = f.1 in
       ap settled (
-      need-from (is_teacher x) _ _ _ (ap is_teacher f.0) (
-      bind-from (node ids first NoNode) _ _ may.a (ap (λ o. ok_or o NoNode) may.node_a) (
-      bind-from (node ids second NoNode) _ _ may.b (ap (λ o. ok_or o NoNode) may.node_b) (
+      both_ends ids x first second (link_at w) may.a may.b _ (record { teacher = f.0; node_a = may.node_a; node_b = may.node_b }) (
       need-from (not (may.a == may.b)) _ _ _ (not_from_false _ (ne_eqb may.a may.b may.different)) (
       need-from (not ((configuration w).linked may.a may.b)) _ _ _ (not_from_false _ may.apart) (
-      ap (λ e. Ok (Grant e)) (sym may.granted)))))))
+      ap (λ e. Ok (Grant e)) (sym may.granted)))))
 
-  pub link_means : (first second : ℕ) (e : Event) → (verdict ids r w x (command.Link first second) ≡ verdicts.Grant e) ↔ ((x ≡ who.Teacher) × MayLink ids w first second e)
+  pub link_means : (first second : ℕ) (e : Event)
+      → (verdict ids r w x (command.Link first second) ≡ verdicts.Grant e) ↔ ((x ≡ who.Teacher) × MayLink ids w first second e)
   link_means first second e = (to_link first second e, from_link first second e)
 
   to_cut : (first second : ℕ) (e : Event) → verdict ids r w x (command.Cut first second) ≡ verdicts.Grant e → (x ≡ who.Teacher) × MayCut ids w first second e
   to_cut first second e h =
-      let one = need-ok (is_teacher x) _ _ _ (settled-grant (clauses ids r w x (command.Cut first second)) e h) in
-      let two = bind-ok (node ids first NoNode) _ _ one.1 in
-      let three = bind-ok (node ids second NoNode) _ _ two.2 in
-      let four = need-ok ((configuration w).linked two.0 three.0) _ _ _ three.2 in
-      (teacher_is x one.0, record { a = two.0; b = three.0; node_a = node-ok ids first NoNode two.0 two.1; node_b = node-ok ids second NoNode three.0 three.1; linked = four.0; granted = event-same _ e four.1 })
+      let (a, b, asked, found) = both_found ids x first second (cut_at w) _ (settled-grant (clauses ids r w x (command.Cut first second)) e h) in
+      let one = need-ok ((configuration w).linked a b) _ _ _ found in
+      (asked.teacher, record { a = a; b = b; node_a = asked.node_a; node_b = asked.node_b; linked = one.0; granted = event-same _ e one.1 })
 
   from_cut : (first second : ℕ) (e : Event) → (x ≡ who.Teacher) × MayCut ids w first second e → verdict ids r w x (command.Cut first second) ≡ verdicts.Grant e
   from_cut first second e f =
       let may = f.1 in
       ap settled (
-      need-from (is_teacher x) _ _ _ (ap is_teacher f.0) (
-      bind-from (node ids first NoNode) _ _ may.a (ap (λ o. ok_or o NoNode) may.node_a) (
-      bind-from (node ids second NoNode) _ _ may.b (ap (λ o. ok_or o NoNode) may.node_b) (
+      both_ends ids x first second (cut_at w) may.a may.b _ (record { teacher = f.0; node_a = may.node_a; node_b = may.node_b }) (
       need-from ((configuration w).linked may.a may.b) _ _ _ may.linked (
-      ap (λ e. Ok (Grant e)) (sym may.granted))))))
+      ap (λ e. Ok (Grant e)) (sym may.granted))))
 
-  pub cut_means : (first second : ℕ) (e : Event) → (verdict ids r w x (command.Cut first second) ≡ verdicts.Grant e) ↔ ((x ≡ who.Teacher) × MayCut ids w first second e)
+  pub cut_means : (first second : ℕ) (e : Event)
+      → (verdict ids r w x (command.Cut first second) ≡ verdicts.Grant e) ↔ ((x ≡ who.Teacher) × MayCut ids w first second e)
   cut_means first second e = (to_cut first second e, from_cut first second e)
 
   to_release : (id : ℕ) (e : Event) → verdict ids r w x (command.Release id) ≡ verdicts.Grant e → (x ≡ who.Teacher) × MayRelease ids w id e

@@ -1,7 +1,9 @@
 -- Why each of the teacher's commands is denied.
-use Rattle.std.proofs.Common.{◌≡◌, ◌≢◌, ◌↔◌, ℕ, ◌==◌, Bool, true, false, not, List, Option, None, Some, is_some, Result, Ok, Err, refl, sym, ap, ◌∙◌, subst, inl, inr, arith}
+use Rattle.std.proofs.Common.{◌≡◌, ◌≢◌, ◌↔◌, ℕ, ◌==◌, Bool, true, false, not, List, Option, None, Some, is_some, Result, Ok, Err, refl, sym, ap, ◌∙◌, subst}
+use Rattle.std.proofs.Common.{inl, inr, arith}
 use Rattle.std.specs.List.{list_any}
 use Rattle.std.specs.Option.{ok_or}
+use Rattle.std.specs.Result.{IfErr}
 use Rattle.std.proofs.lemmas.Bool.{both_ways, false_from_ne_true, eqb-true, eqb-false, eq-eqb, ne_eqb, not-true, not-false, not_from_true, not_from_false}
 use Rattle.std.proofs.lemmas.Result.{IfErr-at_err}
 use Rattle.mml_ids.specs.Ids.{rank_in}
@@ -26,15 +28,18 @@ use Rattle.mml_policy.specs.Verdicts.{clauses, settled, verdict}
 use Rattle.mml_policy.specs.Meaning.{IsNamed, IsRegister}
 use Rattle.mml_policy.specs.Denied.{IsAskedOf, IsAskedOfBoth, DeniesClose, DeniesFault, LacksAnEnd, DeniesLink, DeniesCut, DeniesRelease, DeniesReport}
 use Rattle.mml_policy.proofs.ClausesLemmas.{node-ok, node-err}
-use Rattle.mml_policy.proofs.CommandMeaningLemmas.{chosen-some, some-chosen, named-is, named-from, register-is, register-from}
+use Rattle.mml_policy.proofs.CommandMeaningLemmas.{chosen-some, some-chosen, named-is, named-from, register-is, register-from, link_at, cut_at}
+use Rattle.mml_policy.proofs.CommandMeaningLemmas.{asked_of_both, both_ends}
 use Rattle.mml_policy.proofs.VerdictLemmas.{settled-deny}
 use Rattle.mml_policy.proofs.VisibleLemmas.{teacher_is}
 
 -- ---- the step that fails
 
+-- a condition that doesn't hold ends the chain with its error
 pub need-fails : {B E : Type 0} (b : Bool) (e : E) (t : Result B E) → b ≡ false → (need b e >> t) ≡ Err e
 need-fails b e t h = ap (λ c. need c e >> t) h
 
+-- a step that fails ends the chain with its error
 pub bind-fails : {A B E : Type 0} (s : Result A E) (f : A → Result B E) (e : E) → s ≡ Err e → (s >>= f) ≡ Err e
 bind-fails s f e h = ap (λ t. t >>= f) h
 
@@ -52,7 +57,8 @@ none_chosen chosen h i = go (chosen_at chosen i) refl
     go (Some q) e = absurd (both_ways (list_any is_some chosen) h (some-chosen chosen i q e))
 
 from_none_chosen : (chosen : List (Option Rule)) → ((i : ℕ) → chosen_at chosen i ≡ None) → list_any is_some chosen ≡ false
-from_none_chosen chosen h = false_from_ne_true (list_any is_some chosen) (λ t. let found = chosen-some chosen t in let none = h found.0 in let there = found.2 in absurd cc)
+from_none_chosen chosen h =
+    false_from_ne_true (list_any is_some chosen) (λ t. let found = chosen-some chosen t in let none = h found.0 in let there = found.2 in absurd cc)
 
 no_choice : (o : Option Rule) → is_some o ≡ false → o ≡ None
 no_choice None h = refl
@@ -62,7 +68,8 @@ no_pointer : (ids : List ℕ) (p : Option ℕ) (d : Denial) → pointer ids p Ba
 no_pointer ids None d h = absurd (grind arith)
 no_pointer ids (Some id) d h = go (rank_in ids id) refl h
   where
-    go : (o : Option ℕ) → rank_in ids id ≡ o → (ok_or o BadRegister >>= (λ j. let s : Result (Option ℕ) Denial = Ok (Some j) in s)) ≡ Err d → (d ≡ BadRegister) × ((q : Option ℕ) → ¬ IsNamed ids (Some id) q)
+    go : (o : Option ℕ) → rank_in ids id ≡ o → (ok_or o BadRegister >>= (λ j. let s : Result (Option ℕ) Denial = Ok (Some j) in s)) ≡ Err d
+        → (d ≡ BadRegister) × ((q : Option ℕ) → ¬ IsNamed ids (Some id) q)
     go None e h = ((grind arith), (λ q k. let there = k.1 in absurd cc))
     go (Some j) e h = absurd (grind arith)
 
@@ -70,6 +77,20 @@ same_pointer : (p q : Option ℕ) → (let s : Result (Option ℕ) Denial = Ok p
 same_pointer p q e = grind arith
 
 module _ (ids : List ℕ) (r : RosterValue) (w : World) (x : Who) where
+  -- who isn't the teacher, whatever comes next
+  not_teachers : (rest : Result Leave Denial) → x ≢ who.Teacher → (need (is_teacher x) NotTeacher >> rest) ≡ Err NotTeacher
+  not_teachers rest h = need-fails (is_teacher x) _ rest (from_no_teacher x h)
+
+  module _ (id : ℕ) (rest : ℕ → Result Leave Denial) where
+    -- where the node isn't there, whatever comes next
+    no_node : (x ≡ who.Teacher) × (rank_in ids id ≡ None) → (need (is_teacher x) NotTeacher >> (node ids id NoNode >>= rest)) ≡ Err NoNode
+    no_node h = need-from (is_teacher x) _ _ _ (ap is_teacher h.0) (bind-fails (node ids id NoNode) _ _ (ap (λ o. ok_or o NoNode) h.1))
+
+    -- where it is there, what comes next
+    at_node : (i : ℕ) (v : Result Leave Denial) → IsAskedOf ids x id i → rest i ≡ v → (need (is_teacher x) NotTeacher >> (node ids id NoNode >>= rest)) ≡ v
+    at_node i v asked e =
+        need-from (is_teacher x) _ _ _ (ap is_teacher asked.teacher) (bind-from (node ids id NoNode) _ _ i (ap (λ o. ok_or o NoNode) asked.node) e)
+
   -- ---- a close
 
   close_to : (d : Denial) → verdict ids r w x command.Close ≡ verdicts.Deny d → DeniesClose w x d
@@ -78,7 +99,7 @@ module _ (ids : List ℕ) (r : RosterValue) (w : World) (x : Who) where
       need-deny (DeniesClose w x) (is_any_chosen w) _ _ (λ none. (teacher_is x t, none_chosen w.chosen none)) (λ _. tt)))
 
   close_from : (d : Denial) → DeniesClose w x d → verdict ids r w x command.Close ≡ verdicts.Deny d
-  close_from NotTeacher h = ap settled (need-fails (is_teacher x) _ _ (from_no_teacher x h))
+  close_from NotTeacher h = ap settled (not_teachers _ h)
   close_from Empty h = ap settled (
       need-from (is_teacher x) _ _ _ (ap is_teacher h.0) (
       need-fails (is_any_chosen w) _ _ (from_none_chosen w.chosen h.1)))
@@ -93,7 +114,8 @@ module _ (ids : List ℕ) (r : RosterValue) (w : World) (x : Who) where
     abbrev why_no_fault : Denial → Type 0
     why_no_fault = DeniesFault ids w x id p
 
-    unfit : (i : ℕ) (q : Option ℕ) → pointer ids p BadRegister ≡ Ok q → may_point (configuration w) i q ≡ false → (q : Option ℕ) → IsNamed ids p q → ¬ IsRegister w i q
+    unfit : (i : ℕ) (q : Option ℕ) → pointer ids p BadRegister ≡ Ok q → may_point (configuration w) i q ≡ false → (q : Option ℕ) → IsNamed ids p q
+        → ¬ IsRegister w i q
     unfit i q found fails other named fits =
         let same : q ≡ other = same_pointer q other (sym found ∙ named-from ids p other named) in
         both_ways (may_point (configuration w) i q) fails (ap (may_point (configuration w) i) same ∙ register-from w i other fits)
@@ -102,7 +124,8 @@ module _ (ids : List ℕ) (r : RosterValue) (w : World) (x : Who) where
     abbrev with_register : ℕ → Option ℕ → Result Leave Denial
     with_register i q = need (may_point (configuration w) i q) BadRegister >> Ok (Grant (event.Fault i (record { p = q; m = m })))
 
-    no_register : (i : ℕ) → ((q : Option ℕ) → IsNamed ids p q → ¬ IsRegister w i q) → (s : Result (Option ℕ) Denial) → pointer ids p BadRegister ≡ s → (pointer ids p BadRegister >>= with_register i) ≡ Err BadRegister
+    no_register : (i : ℕ) → ((q : Option ℕ) → IsNamed ids p q → ¬ IsRegister w i q) → (s : Result (Option ℕ) Denial) → pointer ids p BadRegister ≡ s
+        → (pointer ids p BadRegister >>= with_register i) ≡ Err BadRegister
     no_register i none (Ok q) e = bind-from (pointer ids p BadRegister) (with_register i) _ q e (need-fails (may_point (configuration w) i q) _ _
         (false_from_ne_true (may_point (configuration w) i q) (λ fits. none q (named-is ids p q e) (register-is w i q fits))))
     no_register i none (Err d) e = bind-fails (pointer ids p BadRegister) (with_register i) BadRegister (e ∙ ap Err (no_pointer ids p d e).0)
@@ -110,20 +133,17 @@ module _ (ids : List ℕ) (r : RosterValue) (w : World) (x : Who) where
     fault_to : (d : Denial) → verdict ids r w x (command.Fault id p m) ≡ verdicts.Deny d → why_no_fault d
     fault_to d h = IfErr-at_err why_no_fault (settled-deny (clauses ids r w x (command.Fault id p m)) d h)
         (need-deny why_no_fault (is_teacher x) _ _ (no_teacher x) (λ t.
-        bind-deny why_no_fault (node ids id NoNode) _ (λ d h. let e = node-err ids id NoNode d h in subst why_no_fault (sym e.1) (teacher_is x t, e.0)) (λ i there.
+        bind-deny why_no_fault (node ids id NoNode) _ (λ d h. let e = node-err ids id NoNode d h in
+        subst why_no_fault (sym e.1) (teacher_is x t, e.0)) (λ i there.
         let asked : IsAskedOf ids x id i = record { teacher = teacher_is x t; node = node-ok ids id NoNode i there } in
-        bind-deny why_no_fault (pointer ids p BadRegister) _ (λ d h. let e = no_pointer ids p d h in subst why_no_fault (sym e.0) (i, asked, λ q named fits. e.1 q named)) (λ q found.
+        bind-deny why_no_fault (pointer ids p BadRegister) _ (λ d h. let e = no_pointer ids p d h in
+        subst why_no_fault (sym e.0) (i, asked, λ q named fits. e.1 q named)) (λ q found.
         need-deny why_no_fault (may_point (configuration w) i q) _ _ (λ fails. (i, asked, unfit i q found fails)) (λ _. tt)))))
 
     fault_from : (d : Denial) → why_no_fault d → verdict ids r w x (command.Fault id p m) ≡ verdicts.Deny d
-    fault_from NotTeacher h = ap settled (need-fails (is_teacher x) _ _ (from_no_teacher x h))
-    fault_from NoNode h = ap settled (
-        need-from (is_teacher x) _ _ _ (ap is_teacher h.0) (
-        bind-fails (node ids id NoNode) _ _ (ap (λ o. ok_or o NoNode) h.1)))
-    fault_from BadRegister h = ap settled (
-        need-from (is_teacher x) _ _ _ (ap is_teacher h.1.teacher) (
-        bind-from (node ids id NoNode) _ _ h.0 (ap (λ o. ok_or o NoNode) h.1.node) (
-        no_register h.0 h.2 (pointer ids p BadRegister) refl)))
+    fault_from NotTeacher h = ap settled (not_teachers _ h)
+    fault_from NoNode h = ap settled (no_node id _ h)
+    fault_from BadRegister h = ap settled (at_node id _ h.0 _ h.1 (no_register h.0 h.2 (pointer ids p BadRegister) refl))
     fault_from d h = absurd h
 
     pub fault_denied : (d : Denial) → (verdict ids r w x (command.Fault id p m) ≡ verdicts.Deny d) ↔ DeniesFault ids w x id p d
@@ -132,25 +152,30 @@ module _ (ids : List ℕ) (r : RosterValue) (w : World) (x : Who) where
   -- ---- a link and a cut
 
   module _ (first second : ℕ) where
-    both : (a b : ℕ) → is_teacher x ≡ true → node ids first NoNode ≡ Ok a → node ids second NoNode ≡ Ok b → IsAskedOfBoth ids x first second a b
-    both a b t one two = record { teacher = teacher_is x t; node_a = node-ok ids first NoNode a one; node_b = node-ok ids second NoNode b two }
+    -- what holds of each error that what is asked of two nodes may end in
+    both_deny : (why : Denial → Type 0) (rest : ℕ → ℕ → Result Leave Denial) → (x ≢ who.Teacher → why NotTeacher) → (LacksAnEnd ids x first second → why NoNode)
+        → ((a b : ℕ) → IsAskedOfBoth ids x first second a b → IfErr (rest a b) why) → IfErr (asked_of_both ids x first second rest) why
+    both_deny why rest alone lacks found =
+        need-deny why (is_teacher x) _ _ (λ student. alone (no_teacher x student)) (λ t.
+        bind-deny why (node ids first NoNode) _ (λ d h. let e = node-err ids first NoNode d h in
+        subst why (sym e.1) (lacks (teacher_is x t, inl e.0))) (λ a one.
+        bind-deny why (node ids second NoNode) _ (λ d h. let e = node-err ids second NoNode d h in
+        subst why (sym e.1) (lacks (teacher_is x t, inr e.0))) (λ b two.
+        found a b (record { teacher = teacher_is x t; node_a = node-ok ids first NoNode a one; node_b = node-ok ids second NoNode b two }))))
 
     -- where an end isn't there, whatever comes next
-    no_end : (rest : ℕ → ℕ → Result Leave Denial) → LacksAnEnd ids x first second → (need (is_teacher x) NotTeacher >> (node ids first NoNode >>= (λ a. node ids second NoNode >>= rest a))) ≡ Err NoNode
+    no_end : (rest : ℕ → ℕ → Result Leave Denial) → LacksAnEnd ids x first second
+        → asked_of_both ids x first second rest ≡ Err NoNode
     no_end rest h = need-from (is_teacher x) _ _ _ (ap is_teacher h.0) (elim h.1 [
       | inl none ↦ bind-fails (node ids first NoNode) _ _ (ap (λ o. ok_or o NoNode) none)
       | inr none ↦ at (rank_in ids first) refl none
     ])
       where
-        at : (o : Option ℕ) → rank_in ids first ≡ o → rank_in ids second ≡ None → (node ids first NoNode >>= (λ a. node ids second NoNode >>= rest a)) ≡ Err NoNode
+        at : (o : Option ℕ) → rank_in ids first ≡ o → rank_in ids second ≡ None
+            → (node ids first NoNode >>= (λ a. node ids second NoNode >>= rest a)) ≡ Err NoNode
         at None e none = bind-fails (node ids first NoNode) _ _ (ap (λ o. ok_or o NoNode) e)
-        at (Some a) e none = bind-from (node ids first NoNode) _ _ a (ap (λ o. ok_or o NoNode) e) (bind-fails (node ids second NoNode) _ _ (ap (λ o. ok_or o NoNode) none))
-
-    -- where both are there, what comes next
-    both_ends : (rest : ℕ → ℕ → Result Leave Denial) (a b : ℕ) (v : Result Leave Denial) → IsAskedOfBoth ids x first second a b → rest a b ≡ v → (need (is_teacher x) NotTeacher >> (node ids first NoNode >>= (λ a. node ids second NoNode >>= rest a))) ≡ v
-    both_ends rest a b v asked e = need-from (is_teacher x) _ _ _ (ap is_teacher asked.teacher) (
-        bind-from (node ids first NoNode) _ _ a (ap (λ o. ok_or o NoNode) asked.node_a) (
-        bind-from (node ids second NoNode) _ _ b (ap (λ o. ok_or o NoNode) asked.node_b) e))
+        at (Some a) e none =
+            bind-from (node ids first NoNode) _ _ a (ap (λ o. ok_or o NoNode) e) (bind-fails (node ids second NoNode) _ _ (ap (λ o. ok_or o NoNode) none))
 
     abbrev why_no_link : Denial → Type 0
     why_no_link = DeniesLink ids w x first second
@@ -160,19 +185,22 @@ module _ (ids : List ℕ) (r : RosterValue) (w : World) (x : Who) where
 
     link_to : (d : Denial) → verdict ids r w x (command.Link first second) ≡ verdicts.Deny d → why_no_link d
     link_to d h = IfErr-at_err why_no_link (settled-deny (clauses ids r w x (command.Link first second)) d h)
-        (need-deny why_no_link (is_teacher x) _ _ (no_teacher x) (λ t.
-        bind-deny why_no_link (node ids first NoNode) _ (λ d h. let e = node-err ids first NoNode d h in subst why_no_link (sym e.1) (teacher_is x t, inl e.0)) (λ a one.
-        bind-deny why_no_link (node ids second NoNode) _ (λ d h. let e = node-err ids second NoNode d h in subst why_no_link (sym e.1) (teacher_is x t, inr e.0)) (λ b two.
-        need-deny why_no_link (not (a == b)) _ _ (λ same. looped a b (eqb-true a b (not-false _ same)) (both a b t one two)) (λ apart.
-        need-deny why_no_link (not ((configuration w).linked a b)) _ _ (λ linked. (a, b, both a b t one two, eqb-false a b (not-true _ apart), not-false _ linked)) (λ _. tt))))))
+        (both_deny why_no_link (link_at w) (λ alone. alone) (λ lacks. lacks) (λ a b asked.
+        need-deny why_no_link (not (a == b)) _ _ (λ same. looped a b (eqb-true a b (not-false _ same)) asked) (λ apart.
+        need-deny why_no_link (not ((configuration w).linked a b)) _ _
+        (λ linked. (a, b, asked, eqb-false a b (not-true _ apart), not-false _ linked)) (λ _. tt))))
 
     link_from : (d : Denial) → why_no_link d → verdict ids r w x (command.Link first second) ≡ verdicts.Deny d
-    link_from NotTeacher h = ap settled (need-fails (is_teacher x) _ _ (from_no_teacher x h))
-    link_from NoNode h = ap settled (no_end (λ a b. need (not (a == b)) Loop >> (need (not ((configuration w).linked a b)) Linked >> Ok (Grant (event.Link a b)))) h)
-    link_from Loop h = ap settled (both_ends (λ a b. need (not (a == b)) Loop >> (need (not ((configuration w).linked a b)) Linked >> Ok (Grant (event.Link a b)))) h.0 h.0 _ h.1
-        (need-fails (not (h.0 == h.0)) _ _ (not_from_true _ (eq-eqb h.0 h.0 refl))))
-    link_from Linked h = ap settled (both_ends (λ a b. need (not (a == b)) Loop >> (need (not ((configuration w).linked a b)) Linked >> Ok (Grant (event.Link a b)))) h.0 h.1 _ h.2
-        (need-from (not (h.0 == h.1)) _ _ _ (not_from_false _ (ne_eqb h.0 h.1 h.3)) (need-fails (not ((configuration w).linked h.0 h.1)) _ _ (not_from_true _ h.4))))
+    link_from NotTeacher h = ap settled (not_teachers _ h)
+    link_from NoNode h = ap settled (no_end (link_at w) h)
+    link_from Loop h =
+        ap settled
+        (both_ends ids x first second (link_at w) h.0 h.0 _ h.1 (need-fails (not (h.0 == h.0)) _ _ (not_from_true _ (eq-eqb h.0 h.0 refl))))
+    link_from Linked h =
+        ap settled
+        (both_ends ids x first second (link_at w) h.0 h.1 _ h.2
+        (need-from (not (h.0 == h.1)) _ _ _ (not_from_false _ (ne_eqb h.0 h.1 h.3))
+        (need-fails (not ((configuration w).linked h.0 h.1)) _ _ (not_from_true _ h.4))))
     link_from d h = absurd h
 
     pub link_denied : (d : Denial) → (verdict ids r w x (command.Link first second) ≡ verdicts.Deny d) ↔ DeniesLink ids w x first second d
@@ -183,16 +211,14 @@ module _ (ids : List ℕ) (r : RosterValue) (w : World) (x : Who) where
 
     cut_to : (d : Denial) → verdict ids r w x (command.Cut first second) ≡ verdicts.Deny d → why_no_cut d
     cut_to d h = IfErr-at_err why_no_cut (settled-deny (clauses ids r w x (command.Cut first second)) d h)
-        (need-deny why_no_cut (is_teacher x) _ _ (no_teacher x) (λ t.
-        bind-deny why_no_cut (node ids first NoNode) _ (λ d h. let e = node-err ids first NoNode d h in subst why_no_cut (sym e.1) (teacher_is x t, inl e.0)) (λ a one.
-        bind-deny why_no_cut (node ids second NoNode) _ (λ d h. let e = node-err ids second NoNode d h in subst why_no_cut (sym e.1) (teacher_is x t, inr e.0)) (λ b two.
-        need-deny why_no_cut ((configuration w).linked a b) _ _ (λ free. (a, b, both a b t one two, free)) (λ _. tt)))))
+        (both_deny why_no_cut (cut_at w) (λ alone. alone) (λ lacks. lacks) (λ a b asked.
+        need-deny why_no_cut ((configuration w).linked a b) _ _ (λ free. (a, b, asked, free)) (λ _. tt)))
 
     cut_from : (d : Denial) → why_no_cut d → verdict ids r w x (command.Cut first second) ≡ verdicts.Deny d
-    cut_from NotTeacher h = ap settled (need-fails (is_teacher x) _ _ (from_no_teacher x h))
-    cut_from NoNode h = ap settled (no_end (λ a b. need ((configuration w).linked a b) NotLinked >> Ok (Grant (event.Cut a b))) h)
-    cut_from NotLinked h = ap settled (both_ends (λ a b. need ((configuration w).linked a b) NotLinked >> Ok (Grant (event.Cut a b))) h.0 h.1 _ h.2
-        (need-fails ((configuration w).linked h.0 h.1) _ _ h.3))
+    cut_from NotTeacher h = ap settled (not_teachers _ h)
+    cut_from NoNode h = ap settled (no_end (cut_at w) h)
+    cut_from NotLinked h =
+        ap settled (both_ends ids x first second (cut_at w) h.0 h.1 _ h.2 (need-fails ((configuration w).linked h.0 h.1) _ _ h.3))
     cut_from d h = absurd h
 
     pub cut_denied : (d : Denial) → (verdict ids r w x (command.Cut first second) ≡ verdicts.Deny d) ↔ DeniesCut ids w x first second d
@@ -207,18 +233,15 @@ module _ (ids : List ℕ) (r : RosterValue) (w : World) (x : Who) where
     release_to : (d : Denial) → verdict ids r w x (command.Release id) ≡ verdicts.Deny d → why_no_release d
     release_to d h = IfErr-at_err why_no_release (settled-deny (clauses ids r w x (command.Release id)) d h)
         (need-deny why_no_release (is_teacher x) _ _ (no_teacher x) (λ t.
-        bind-deny why_no_release (node ids id NoNode) _ (λ d h. let e = node-err ids id NoNode d h in subst why_no_release (sym e.1) (teacher_is x t, e.0)) (λ i there.
-        need-deny why_no_release (is_some (chosen_at w.chosen i)) _ _ (λ none. (i, record { teacher = teacher_is x t; node = node-ok ids id NoNode i there }, no_choice (chosen_at w.chosen i) none)) (λ _. tt))))
+        bind-deny why_no_release (node ids id NoNode) _ (λ d h. let e = node-err ids id NoNode d h in
+        subst why_no_release (sym e.1) (teacher_is x t, e.0)) (λ i there.
+        need-deny why_no_release (is_some (chosen_at w.chosen i)) _ _
+        (λ none. (i, record { teacher = teacher_is x t; node = node-ok ids id NoNode i there }, no_choice (chosen_at w.chosen i) none)) (λ _. tt))))
 
     release_from : (d : Denial) → why_no_release d → verdict ids r w x (command.Release id) ≡ verdicts.Deny d
-    release_from NotTeacher h = ap settled (need-fails (is_teacher x) _ _ (from_no_teacher x h))
-    release_from NoNode h = ap settled (
-        need-from (is_teacher x) _ _ _ (ap is_teacher h.0) (
-        bind-fails (node ids id NoNode) _ _ (ap (λ o. ok_or o NoNode) h.1)))
-    release_from NotChosen h = ap settled (
-        need-from (is_teacher x) _ _ _ (ap is_teacher h.1.teacher) (
-        bind-from (node ids id NoNode) _ _ h.0 (ap (λ o. ok_or o NoNode) h.1.node) (
-        need-fails (is_some (chosen_at w.chosen h.0)) _ _ (ap is_some h.2))))
+    release_from NotTeacher h = ap settled (not_teachers _ h)
+    release_from NoNode h = ap settled (no_node id _ h)
+    release_from NotChosen h = ap settled (at_node id _ h.0 _ h.1 (need-fails (is_some (chosen_at w.chosen h.0)) _ _ (ap is_some h.2)))
     release_from d h = absurd h
 
     pub release_denied : (d : Denial) → (verdict ids r w x (command.Release id) ≡ verdicts.Deny d) ↔ DeniesRelease ids w x id d
@@ -229,7 +252,7 @@ module _ (ids : List ℕ) (r : RosterValue) (w : World) (x : Who) where
       (need-deny (DeniesReport x) (is_teacher x) _ _ (no_teacher x) (λ _. tt))
 
   report_from : (d : Denial) → DeniesReport x d → verdict ids r w x command.Report ≡ verdicts.Deny d
-  report_from NotTeacher h = ap settled (need-fails (is_teacher x) _ _ (from_no_teacher x h))
+  report_from NotTeacher h = ap settled (not_teachers _ h)
   report_from d h = absurd h
 
   pub report_denied : (d : Denial) → (verdict ids r w x command.Report ≡ verdicts.Deny d) ↔ DeniesReport x d

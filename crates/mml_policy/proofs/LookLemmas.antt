@@ -2,7 +2,7 @@
 use Rattle.std.proofs.Common.{◌≡◌, ℕ, zero, suc, ◌+◌, Bool, true, false, ◌⊎◌, inl, inr, [], refl, sym, subst, add-one}
 use Rattle.std.specs.List.{All}
 use Rattle.std.proofs.lemmas.List.Elements.{All-nil, All-cons, All-append}
-use Rattle.mml_rules.specs.declared.registers.Regs.{Regs}
+use Rattle.mml_rules.specs.declared.regs.Regs.{Regs}
 use Rattle.mml_rules.specs.Configuration.{IsLawful}
 use Rattle.mml_rules.specs.Network.{registers_at}
 use Rattle.mml_lab.specs.declared.who.Who.{Who}
@@ -20,14 +20,18 @@ near_more : (P : ℕ × Regs → Type 0) (w : World) (i n : ℕ) (b : Bool) → 
 near_more P w i n true e each so_far =
     subst (All P) (sym (passing_with ((configuration w).linked i) (λ j. (j, registers_at w.network.registers j)) n e))
     (All-append P _ _ so_far (All-cons P (n, registers_at w.network.registers n) [] (each n e) (All-nil P)))
-near_more P w i n false e each so_far = subst (All P) (sym (passing_without ((configuration w).linked i) (λ j. (j, registers_at w.network.registers j)) n e)) so_far
+near_more P w i n false e each so_far =
+    subst (All P) (sym (passing_without ((configuration w).linked i) (λ j. (j, registers_at w.network.registers j)) n e)) so_far
 
 -- what holds of each neighbour holds of all that are near
-near_all_hold : (P : ℕ × Regs → Type 0) (w : World) (i n : ℕ) → ((j : ℕ) → (configuration w).linked i j ≡ true → P (j, registers_at w.network.registers j)) → All P (near_below w i n)
+near_all_hold : (P : ℕ × Regs → Type 0) (w : World) (i n : ℕ) → ((j : ℕ) → (configuration w).linked i j ≡ true → P (j, registers_at w.network.registers j))
+    → All P (near_below w i n)
 near_all_hold P w i zero each = All-nil P
-near_all_hold P w i (suc n) each = subst (λ k. All P (near_below w i k)) (add-one n) (near_more P w i n ((configuration w).linked i n) refl each (near_all_hold P w i n each))
+near_all_hold P w i (suc n) each =
+    subst (λ k. All P (near_below w i k)) (add-one n) (near_more P w i n ((configuration w).linked i n) refl each (near_all_hold P w i n each))
 
-near_hold : (P : ℕ × Regs → Type 0) (w : World) (i : ℕ) → ((j : ℕ) → (configuration w).linked i j ≡ true → P (j, registers_at w.network.registers j)) → All P (near w i)
+near_hold : (P : ℕ × Regs → Type 0) (w : World) (i : ℕ) → ((j : ℕ) → (configuration w).linked i j ≡ true → P (j, registers_at w.network.registers j))
+    → All P (near w i)
 unfolding near
 near_hold P w i each = near_all_hold P w i (size w) each
 
@@ -41,6 +45,7 @@ visible_here : (r : RosterValue) (w : World) (x : Who) (i : ℕ) → IsLawful (c
 visible_here r w x i lawful (inl teacher) = from_fact r (configuration w) x i lawful (inl teacher)
 visible_here r w x i lawful (inr own) = from_fact r (configuration w) x i lawful (inr (inl own))
 
+-- a look by the teacher or by the node's owner shows only what is visible to them
 pub shows_visible : (r : RosterValue) (w : World) (x : Who) (i : ℕ) → IsLawful (configuration w) → (x ≡ who.Teacher) ⊎ (owns r x i ≡ true)
     → ShowsWhatIsVisible r w x (look_of w i)
 shows_visible r w x i lawful may = record {

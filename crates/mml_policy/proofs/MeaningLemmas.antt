@@ -46,6 +46,7 @@ some-is : {A : Type 0} (o : Option A) → is_none o ≡ false → (x : A) × (o 
 some-is None h = absurd (grind arith)
 some-is (Some x) h = (x, refl)
 
+-- the rule that a step found is the one that is asked for
 pub asked_is : (ids : List ℕ) (a : Asked) (d : Denial) (q : Rule) → rule_of ids a d ≡ Ok q → IsAsked ids a q
 asked_is ids asked.Update d q h = grind arith
 asked_is ids (asked.Marriage id) d q h =
@@ -66,11 +67,13 @@ ok-same p q e = grind arith
 asked_once : (ids : List ℕ) (a : Asked) (p q : Rule) → rule_of ids a Guard ≡ Ok p → IsAsked ids a q → p ≡ q
 asked_once ids a p q h k = ok-same p q (sym h ∙ asked_from ids a Guard q k)
 
+-- where no rule was found the denial is that of the guard, and no rule is asked for
 pub no_rule : (ids : List ℕ) (a : Asked) (d : Denial) → rule_of ids a Guard ≡ Err d → (d ≡ Guard) × ((q : Rule) → ¬ IsAsked ids a q)
 no_rule ids asked.Update d h = absurd (grind arith)
 no_rule ids (asked.Marriage id) d h = go (rank_in ids id) refl h
   where
-    go : (o : Option ℕ) → rank_in ids id ≡ o → (ok_or o Guard >>= (λ j. let r : Result Rule Denial = Ok (rules.Marriage j) in r)) ≡ Err d → (d ≡ Guard) × ((q : Rule) → ¬ IsAsked ids (asked.Marriage id) q)
+    go : (o : Option ℕ) → rank_in ids id ≡ o → (ok_or o Guard >>= (λ j. let r : Result Rule Denial = Ok (rules.Marriage j) in r)) ≡ Err d
+        → (d ≡ Guard) × ((q : Rule) → ¬ IsAsked ids (asked.Marriage id) q)
     go None e h = ((grind arith), (λ q k. none_some k.0 (sym e ∙ k.1)))
     go (Some j) e h = absurd (grind arith)
 no_rule ids asked.Seduction d h = absurd (grind arith)
@@ -154,7 +157,8 @@ module _ (ids : List ℕ) (r : RosterValue) (w : World) (x : Who) (id : ℕ) (a 
       bind-deny why (rule_of ids a Guard) _ (λ d h.
       let e = no_rule ids a d h in
       subst why (sym e.0) (record { s = s; i = i; own = own; current = current; free = none-is _ free; unfit = λ q k. e.1 q k.0 })) (λ q rule.
-      need-deny why (guard (configuration w) i q) _ _ (λ fails. record { s = s; i = i; own = own; current = current; free = none-is _ free; unfit = no_guard i q rule fails }) (λ _. tt)))))))
+      need-deny why (guard (configuration w) i q) _ _
+      (λ fails. record { s = s; i = i; own = own; current = current; free = none-is _ free; unfit = no_guard i q rule fails }) (λ _. tt)))))))
 
   pub move_denied : (d : Denial) → verdict ids r w x (command.Move id a at) ≡ verdicts.Deny d → why d
   move_denied d h = IfErr-at_err why (settled-deny (clauses ids r w x (command.Move id a at)) d h) reasons

@@ -67,7 +67,9 @@ module _ (ids : List ℕ) (r : RosterValue) (w : World) (x : Who) (id : ℕ) (a 
 
   from_why : (d : Denial) → why d → verdict ids r w x (command.Move id a at) ≡ verdicts.Deny d
   from_why NotOwner h = ap settled (no_owner h)
-  from_why (Stale n) h = ap settled (past_owner h.s h.i _ h.own (need-fails (at == w.number) (Stale w.number) _ (ne_eqb at w.number h.late))) ∙ ap (λ n. verdicts.Deny (Stale n)) (sym h.told)
+  from_why (Stale n) h =
+      ap settled (past_owner h.s h.i _ h.own (need-fails (at == w.number) (Stale w.number) _ (ne_eqb at w.number h.late)))
+      ∙ ap (λ n. verdicts.Deny (Stale n)) (sym h.told)
   from_why Chosen h = ap settled (past_owner h.s h.i _ h.own (
       need-from (at == w.number) _ _ _ (eq-eqb at w.number h.current) (
       need-fails (is_none (chosen_at w.chosen h.i)) _ _ (ap is_none h.chosen.1))))

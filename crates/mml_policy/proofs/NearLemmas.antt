@@ -3,14 +3,16 @@ use Rattle.std.proofs.Common.{◌≡◌, ℕ, ◌+◌, [], ◌∷◌, ◌++◌, 
 use Rattle.std.specs.Ordering.{nat_cmp}
 use Rattle.std.specs.FinSet.{FinSet}
 use Rattle.mml_ids.proofs.SetsLemmas.{ranks_in, passing, passing_more}
-use Rattle.mml_rules.specs.declared.registers.Regs.{Regs}
+use Rattle.mml_rules.specs.declared.regs.Regs.{Regs}
 use Rattle.mml_rules.specs.Network.{neighbours_at, registers_at}
 use Rattle.mml_board.specs.World.{World, size}
 use Rattle.mml_policy.specs.Shown.{near}
 
+-- a number that passes has what is made of it put at the end
 pub passing_with : {X : Type 0} (t : ℕ → Bool) (f : ℕ → X) (n : ℕ) → t n ≡ true → passing t f (n + 1) ≡ passing t f n ++ f n ∷ []
 passing_with t f n e = passing_more t f n ∙ ap (λ b. passing t f n ++ map f (cond b (n ∷ []) [])) e
 
+-- a number that doesn't pass adds nothing
 pub passing_without : {X : Type 0} (t : ℕ → Bool) (f : ℕ → X) (n : ℕ) → t n ≡ false → passing t f (n + 1) ≡ passing t f n
 passing_without t f n e = passing_more t f n ∙ ap (λ b. passing t f n ++ map f (cond b (n ∷ []) [])) e ∙ append-nil (passing t f n)
 

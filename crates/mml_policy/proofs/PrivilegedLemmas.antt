@@ -17,13 +17,17 @@ use Rattle.mml_policy.specs.Asking.{id_of, asked_of}
 use Rattle.mml_policy.specs.Verdicts.{verdict}
 use Rattle.mml_policy.proofs.AskingLemmas.{granted_iff}
 
-pub privileged_granted : (ids : List ℕ) (r : RosterValue) (w : World) (i : ℕ) → IsTable ids → IsWorldOf ids w → i < size w → is_privileged (configuration w) i ≡ true → chosen_at w.chosen i ≡ None
+-- a privileged node without a chosen move has a move that each of its owners is granted
+pub privileged_granted : (ids : List ℕ) (r : RosterValue) (w : World) (i : ℕ) → IsTable ids → IsWorldOf ids w → i < size w
+    → is_privileged (configuration w) i ≡ true → chosen_at w.chosen i ≡ None
     → (rule : Rule) × (enabled_kind (configuration w) i ≡ Some (kind_of rule))
-    × ((s : ℕ) → owns r (who.Student s) i ≡ true → verdict ids r w (who.Student s) (command.Move (id_of ids i) (asked_of ids rule) w.number) ≡ verdicts.Grant (event.Grant s i rule))
+    × ((s : ℕ) → owns r (who.Student s) i ≡ true
+    → verdict ids r w (who.Student s) (command.Move (id_of ids i) (asked_of ids rule) w.number) ≡ verdicts.Grant (event.Grant s i rule))
 privileged_granted ids r w i table of lt privileged none =
     let lawful = of.world.network.lawful in
     let move = (privileged-means (configuration w) i lawful).0 privileged in (
       move.0,
       guard-kind (configuration w) i move.0 lawful move.1,
-      λ s owner. (granted_iff ids table w of r (event.Grant s i move.0)).0 (and_from _ _ owner (and_from _ _ (lt-ltb i (size w) lt) (and_from _ _ (ap is_none none) move.1))),
+      λ s owner. (granted_iff ids table w of r (event.Grant s i move.0)).0
+          (and_from _ _ owner (and_from _ _ (lt-ltb i (size w) lt) (and_from _ _ (ap is_none none) move.1))),
     )

@@ -16,13 +16,15 @@ use Rattle.mml_policy.specs.Verdicts.{clauses}
 use Rattle.mml_policy.specs.Rulings.{ruled, ruling, event_of}
 use Rattle.mml_policy.proofs.VerdictLemmas.{IsFine, fine}
 
-unless_full : (b h : Bool) (limit place : ℕ) (e f : Event) (w : World) → nat_le limit place ≡ b → event_of (cond b Full (cond h Journal (Granted e (done_by w e)))) ≡ Some f
+unless_full : (b h : Bool) (limit place : ℕ) (e f : Event) (w : World) → nat_le limit place ≡ b
+    → event_of (cond b Full (cond h Journal (Granted e (done_by w e)))) ≡ Some f
     → (e ≡ f) × (place < limit) × (h ≡ false)
 unless_full true h limit place e f w n k = absurd (grind arith)
 unless_full false true limit place e f w n k = absurd (grind arith)
 unless_full false false limit place e f w n k = ((grind arith), leb-false limit place n, refl)
 
-taken : (ids : List ℕ) (r : RosterValue) (limit : ℕ) (is_halted : Bool) (w : World) (s : Result Leave Denial) (e : Event) → IfOk s (IsFine ids r w) → event_of (ruled limit is_halted w s) ≡ Some e
+taken : (ids : List ℕ) (r : RosterValue) (limit : ℕ) (is_halted : Bool) (w : World) (s : Result Leave Denial) (e : Event) → IfOk s (IsFine ids r w)
+    → event_of (ruled limit is_halted w s) ≡ Some e
     → (is_legal r w e ≡ true) × (w.place < limit) × (is_halted ≡ false)
 taken ids r limit is_halted w (Ok (See i)) e h k = absurd (grind arith)
 taken ids r limit is_halted w (Ok (Look i)) e h k = absurd (grind arith)
@@ -32,6 +34,7 @@ taken ids r limit is_halted w (Ok (Grant f)) e h k =
     (subst (λ x. is_legal r w x ≡ true) found.0 h, found.1, found.2)
 taken ids r limit is_halted w (Err d) e h k = absurd (grind arith)
 
+-- an event that takes place is legal, within the limit, and not after the journal halted
 pub legal_event : (ids : List ℕ) (r : RosterValue) (limit : ℕ) (is_halted : Bool) (w : World) (x : Who) (c : Command) (e : Event) → length ids ≡ size w
     → event_of (ruling ids r limit is_halted w x c) ≡ Some e → (is_legal r w e ≡ true) × (w.place < limit) × (is_halted ≡ false)
 legal_event ids r limit is_halted w x c e same k = taken ids r limit is_halted w (clauses ids r w x c) e (fine ids r w x same c) k

@@ -32,7 +32,8 @@ shows_nothing true halted w e s h = cc
 shows_nothing false true w e s h = cc
 shows_nothing false false w e s h = cc
 
-seen : (limit : ℕ) (halted : Bool) (w : World) (found : Result Leave Denial) (s : TheSee.See) → ruled limit halted w found ≡ Seen s → (i : ℕ) × (found ≡ Ok (See i)) × (s ≡ see_of w i)
+seen : (limit : ℕ) (halted : Bool) (w : World) (found : Result Leave Denial) (s : TheSee.See) → ruled limit halted w found ≡ Seen s
+    → (i : ℕ) × (found ≡ Ok (See i)) × (s ≡ see_of w i)
 seen limit halted w (Ok (See i)) s h = let same : s ≡ see_of w i = cc in (i, refl, same)
 seen limit halted w (Ok (Look i)) s h = absurd cc
 seen limit halted w (Ok Report) s h = absurd cc
@@ -43,14 +44,20 @@ one_node : (i j : ℕ) → (let r : Result Leave Denial = Ok (See i) in r ≡ Ok
 one_node i j h = cc
 
 module _ (ids : List ℕ) (r : RosterValue) (limit : ℕ) (halted : Bool) (w : World) (x : Who) (lawful : IsLawful (configuration w)) where
-  to_seen : (id : ℕ) (s : TheSee.See) → ruling ids r limit halted w x (command.See id) ≡ Seen s → (i : ℕ) × (rank_in ids id ≡ Some i) × IsVisible r (configuration w) x i × (s ≡ see_of w i)
+  to_seen : (id : ℕ) (s : TheSee.See) → ruling ids r limit halted w x (command.See id) ≡ Seen s
+      → (i : ℕ) × (rank_in ids id ≡ Some i) × IsVisible r (configuration w) x i × (s ≡ see_of w i)
   to_seen id s h =
       let shown = seen limit halted w (clauses ids r w x (command.See id)) s h in
       let one = bind-ok (node ids id Hidden) _ _ shown.1 in
-      let two = need-ok (is_visible r (configuration w) x one.0) _ _ _ one.2 in
-      (one.0, node-ok ids id Hidden one.0 one.1, (visible_means r (configuration w) x one.0 lawful).0 two.0, shown.2 ∙ ap (see_of w) (one_node one.0 shown.0 two.1))
+      let two = need-ok (is_visible r (configuration w) x one.0) _ _ _ one.2 in (
+        one.0,
+        node-ok ids id Hidden one.0 one.1,
+        (visible_means r (configuration w) x one.0 lawful).0 two.0,
+        shown.2 ∙ ap (see_of w) (one_node one.0 shown.0 two.1),
+      )
 
-  from_seen : (id : ℕ) (s : TheSee.See) → (i : ℕ) × (rank_in ids id ≡ Some i) × IsVisible r (configuration w) x i × (s ≡ see_of w i) → ruling ids r limit halted w x (command.See id) ≡ Seen s
+  from_seen : (id : ℕ) (s : TheSee.See) → (i : ℕ) × (rank_in ids id ≡ Some i) × IsVisible r (configuration w) x i × (s ≡ see_of w i)
+      → ruling ids r limit halted w x (command.See id) ≡ Seen s
   from_seen id s f =
       ap (ruled limit halted w)
       (bind-from (node ids id Hidden) _ (Ok (See f.0)) f.0 (ap (λ o. ok_or o Hidden) f.1) (
@@ -63,9 +70,11 @@ module _ (ids : List ℕ) (r : RosterValue) (limit : ℕ) (halted : Bool) (w : W
 
   hidden_at : (id : ℕ) (o : Option ℕ) → rank_in ids id ≡ o → ¬ MaySee ids r w x id → clauses ids r w x (command.See id) ≡ Err Hidden
   hidden_at id None e none = rw e refl
-  hidden_at id (Some i) e none = bind-from (node ids id Hidden) _ (Err Hidden) i (ap (λ o. ok_or o Hidden) e) (by (cases_Bool (is_visible r (configuration w) x i)))
+  hidden_at id (Some i) e none =
+      bind-from (node ids id Hidden) _ (Err Hidden) i (ap (λ o. ok_or o Hidden) e) (by (cases_Bool (is_visible r (configuration w) x i)))
     where
-      by : (is_visible r (configuration w) x i ≡ true) ⊎ (is_visible r (configuration w) x i ≡ false) → (need (is_visible r (configuration w) x i) Hidden >> Ok (See i)) ≡ Err Hidden
+      by : (is_visible r (configuration w) x i ≡ true) ⊎ (is_visible r (configuration w) x i ≡ false)
+          → (need (is_visible r (configuration w) x i) Hidden >> Ok (See i)) ≡ Err Hidden
       by (inl is) = absurd (none (i, e, (visible_means r (configuration w) x i lawful).0 is))
       by (inr other) = ap (λ b. need b Hidden >> Ok (See i)) other
 

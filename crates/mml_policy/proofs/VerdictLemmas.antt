@@ -1,5 +1,6 @@
 -- What a verdict grants is legal, and what it shows is there; acts alone are granted.
-use Rattle.std.proofs.Common.{◌≡◌, ℕ, ◌<◌, ◌==◌, Bool, true, false, not, ◌||◌, List, length, is_some, is_none, Result, Ok, Err, refl, sym, ap, ◌∙◌, arith, subst}
+use Rattle.std.proofs.Common.{◌≡◌, ℕ, ◌<◌, ◌==◌, Bool, true, false, not, ◌||◌, List, length, is_some, is_none, Result, Ok, Err, refl, sym, ap, ◌∙◌, arith}
+use Rattle.std.proofs.Common.{subst}
 use Rattle.std.specs.Result.{IfOk}
 use Rattle.std.proofs.lemmas.Bool.{and_from, lt-ltb}
 use Rattle.std.proofs.lemmas.Result.{IfOk-at_ok}
@@ -24,6 +25,7 @@ use Rattle.mml_policy.specs.Verdicts.{clauses, settled, verdict}
 use Rattle.mml_ids.proofs.GivesLemmas.{bind-if, need-if}
 use Rattle.mml_policy.proofs.ClausesLemmas.{node_there, student-ok}
 
+-- a verdict that grants an event comes of leave for that event
 pub settled-grant : (s : Result Leave Denial) (e : Event) → settled s ≡ verdicts.Grant e → s ≡ Ok (Grant e)
 settled-grant (Ok (See i)) e h = absurd (grind arith)
 settled-grant (Ok (Look i)) e h = absurd (grind arith)
@@ -31,6 +33,7 @@ settled-grant (Ok Report) e h = absurd (grind arith)
 settled-grant (Ok (Grant f)) e h = grind arith
 settled-grant (Err d) e h = absurd (grind arith)
 
+-- a verdict that denies comes of clauses that end in that denial
 pub settled-deny : (s : Result Leave Denial) (d : Denial) → settled s ≡ verdicts.Deny d → s ≡ Err d
 settled-deny (Ok (See i)) d h = absurd (grind arith)
 settled-deny (Ok (Look i)) d h = absurd (grind arith)
@@ -38,6 +41,7 @@ settled-deny (Ok Report) d h = absurd (grind arith)
 settled-deny (Ok (Grant e)) d h = absurd (grind arith)
 settled-deny (Err f) d h = grind arith
 
+-- what may be shown is a node, and what may happen is legal
 abbrev pub IsFine : List ℕ → RosterValue → World → Leave → Type 0
 IsFine ids r w (See i) = i < length ids
 IsFine ids r w (Look i) = i < length ids
@@ -48,6 +52,7 @@ IsFine ids r w (Grant e) = is_legal r w e ≡ true
 node_is : (ids : List ℕ) (w : World) (i : ℕ) → length ids ≡ size w → i < length ids → is_node w i ≡ true
 node_is ids w i same there = lt-ltb i (size w) (omega (arith, same, there))
 
+-- one who owns a node, and is a student, owns it as that student
 pub owner_is : (r : RosterValue) (x : Who) (s i : ℕ) → x ≡ who.Student s → owns r x i ≡ true → owns r (who.Student s) i ≡ true
 owner_is r x s i e h = ap (λ y. owns r y i) (sym e) ∙ h
 
@@ -58,6 +63,7 @@ is_event (Look i) = false
 is_event Report = false
 is_event (Grant e) = true
 
+-- leave is for an event exactly where b is true
 abbrev pub IsEvent : Bool → Leave → Type 0
 IsEvent b l = is_event l ≡ b
 
@@ -90,8 +96,11 @@ module _ (ids : List ℕ) (r : RosterValue) (w : World) (x : Who) where
       need-if act (at == w.number) _ _ (λ current.
       need-if act (is_none (chosen_at w.chosen i)) _ _ (λ free.
       bind-if act (rule_of ids a Guard) _ (λ q rule.
-      need-if act (guard (configuration w) i q) _ _ (λ g.
-      (refl, λ same. and_from _ _ (owner_is r x s i (student-ok x _ s is) owner) (and_from _ _ (node_is ids w i same (node_there ids id _ i there)) (and_from _ _ free g))))))))))
+      need-if act (guard (configuration w) i q) _ _ (λ g. (
+        refl,
+        λ same. and_from _ _ (owner_is r x s i (student-ok x _ s is) owner)
+            (and_from _ _ (node_is ids w i same (node_there ids id _ i there)) (and_from _ _ free g)),
+      ))))))))
   good command.Close =
       need-if act (is_teacher x) _ _ (λ _.
       need-if act (is_any_chosen w) _ _ (λ some. (refl, λ same. some)))
@@ -106,8 +115,11 @@ module _ (ids : List ℕ) (r : RosterValue) (w : World) (x : Who) where
       bind-if act (node ids first NoNode) _ (λ a a_there.
       bind-if act (node ids second NoNode) _ (λ b b_there.
       need-if act (not (a == b)) _ _ (λ apart.
-      need-if act (not ((configuration w).linked a b)) _ _ (λ loose.
-      (refl, λ same. and_from _ _ (and_from _ _ (node_is ids w a same (node_there ids first _ a a_there)) (node_is ids w b same (node_there ids second _ b b_there))) (and_from _ _ apart loose)))))))
+      need-if act (not ((configuration w).linked a b)) _ _ (λ loose. (
+        refl,
+        λ same. and_from _ _ (and_from _ _ (node_is ids w a same (node_there ids first _ a a_there)) (node_is ids w b same (node_there ids second _ b b_there)))
+            (and_from _ _ apart loose),
+      ))))))
   good (command.Cut first second) =
       need-if act (is_teacher x) _ _ (λ _.
       bind-if act (node ids first NoNode) _ (λ a a_there.
@@ -121,7 +133,8 @@ module _ (ids : List ℕ) (r : RosterValue) (w : World) (x : Who) where
 
   -- acts alone are given leave to an event
   pub of_kind : (c : Command) (b : Bool) → is_act c ≡ b → IfOk (clauses ids r w x c) (IsEvent b)
-  of_kind c b h = subst (λ b. IfOk (clauses ids r w x c) (IsEvent b)) h (both_of (Good ids r w (is_act c)) (IsEvent (is_act c)) (clauses ids r w x c) (λ l k. k.0) (good c))
+  of_kind c b h =
+      subst (λ b. IfOk (clauses ids r w x c) (IsEvent b)) h (both_of (Good ids r w (is_act c)) (IsEvent (is_act c)) (clauses ids r w x c) (λ l k. k.0) (good c))
 
   module _ (same : length ids ≡ size w) where
     pub fine : (c : Command) → IfOk (clauses ids r w x c) (IsFine ids r w)

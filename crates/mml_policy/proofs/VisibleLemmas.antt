@@ -14,10 +14,12 @@ use Rattle.mml_lab.specs.declared.who.Who.TheVariants as who
 use Rattle.mml_lab.specs.Rosters.{RosterValue, owns}
 use Rattle.mml_policy.specs.Visible.{is_teacher, owns_neighbour, is_visible, IsVisible}
 
+-- one who owns a node linked to i is found to own a neighbour of it
 pub owner_found : (r : RosterValue) (c : Configuration) (x : Who) (i j : ℕ) → j < c.size → (c.linked i j && owns r x j) ≡ true → owns_neighbour r c x i ≡ true
 unfolding owns_neighbour
 owner_found r c x i j within e = some_below-at c.size j (λ j. c.linked i j && owns r x j) within e
 
+-- whoever is found to be the teacher is
 pub teacher_is : (x : Who) → is_teacher x ≡ true → x ≡ who.Teacher
 teacher_is who.Teacher h = refl
 teacher_is (who.Student s) h = absurd (false≢true h)
@@ -35,18 +37,22 @@ to_fact r c x i h = elim (or_cases (is_teacher x || owns r x i) (owns_neighbour 
       inr (inr (found.0, both.0, both.1))
 ]
 
+-- a node that is visible is found visible
 pub from_fact : (r : RosterValue) (c : Configuration) (x : Who) (i : ℕ) → IsLawful c → IsVisible r c x i → is_visible r c x i ≡ true
 from_fact r c x i l v = elim v [
   | inl t ↦ or_left (is_teacher x || owns r x i) (owns_neighbour r c x i) (or_left (is_teacher x) (owns r x i) (ap is_teacher t))
   | inr o ↦ elim o [
     | inl own ↦ or_left (is_teacher x || owns r x i) (owns_neighbour r c x i) (or_right (is_teacher x) (owns r x i) own)
-    | inr near ↦ or_right (is_teacher x || owns r x i) (owns_neighbour r c x i) (owner_found r c x i near.0 (l.in_range i near.0 near.1).1 (and_from (c.linked i near.0) (owns r x near.0) near.1 near.2))
+    | inr near ↦ or_right (is_teacher x || owns r x i) (owns_neighbour r c x i)
+        (owner_found r c x i near.0 (l.in_range i near.0 near.1).1 (and_from (c.linked i near.0) (owns r x near.0) near.1 near.2))
   ]
 ]
 
+-- a node is found visible exactly where it is
 pub visible_means : (r : RosterValue) (c : Configuration) (x : Who) (i : ℕ) → IsLawful c → (is_visible r c x i ≡ true) ↔ IsVisible r c x i
 visible_means r c x i l = (to_fact r c x i, from_fact r c x i l)
 
+-- one who owns no node linked to i is found to own no neighbour of it
 pub no_owner : (r : RosterValue) (c : Configuration) (x : Who) (i : ℕ) → ((j : ℕ) → c.linked i j ≡ true → owns r x j ≡ false) → false ≡ owns_neighbour r c x i
 unfolding owns_neighbour
 no_owner r c x i none = sym (false_from_ne_true (some_below c.size (λ j. c.linked i j && owns r x j)) (λ h.
@@ -55,8 +61,10 @@ no_owner r c x i none = sym (false_from_ne_true (some_below c.size (λ j. c.link
     both_ways (owns r x found.0) (none found.0 both.0) both.1))
 
 -- one more is looked at
-pub none_yet : (left rest : FinSet nat_cmp) (a j : ℕ) (test : ℕ → Bool) → rest ≡ sets.remove left a → test a ≡ false → (sets.contains left j ≡ false → test j ≡ false) → sets.contains rest j ≡ false → test j ≡ false
+pub none_yet : (left rest : FinSet nat_cmp) (a j : ℕ) (test : ℕ → Bool) → rest ≡ sets.remove left a → test a ≡ false
+    → (sets.contains left j ≡ false → test j ≡ false) → sets.contains rest j ≡ false → test j ≡ false
 none_yet left rest a j test removed here before gone = elim (cases_eq j a) [
   | inl e ↦ ap test e ∙ here
-  | inr ne ↦ before (sym (ap (λ b. not b && sets.contains left j) (ne_eqb j a ne)) ∙ sym (has_remove left a j) ∙ sym (ap (λ s. sets.contains s j) removed) ∙ gone)
+  | inr ne ↦
+      before (sym (ap (λ b. not b && sets.contains left j) (ne_eqb j a ne)) ∙ sym (has_remove left a j) ∙ sym (ap (λ s. sets.contains s j) removed) ∙ gone)
 ]

@@ -10,7 +10,8 @@ use Rattle.mml_lab.specs.declared.who.Who.TheVariants as who
 use Rattle.mml_lab.specs.Rosters.{RosterValue, owns, owners_of}
 use Rattle.mml_policy.specs.Visible.{is_teacher, owns_neighbour, is_visible}
 
-module _ (f : ℕ → ℕ) (c d : Configuration) (r s : RosterValue) (names : IsRenamed f c d) (owners : (j : ℕ) → j < c.size → owners_of s (f j) ≡ owners_of r j) where
+module _ (f : ℕ → ℕ) (c d : Configuration) (r s : RosterValue) (names : IsRenamed f c d)
+    (owners : (j : ℕ) → j < c.size → owners_of s (f j) ≡ owners_of r j) where
   owner_named : (x : Who) (j : ℕ) → j < c.size → owns s x (f j) ≡ owns r x j
   owner_named who.Teacher j j_in = refl
   owner_named (who.Student t) j j_in = ap (list_any (λ o. o == t)) (owners j j_in)

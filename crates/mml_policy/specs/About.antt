@@ -1,7 +1,7 @@
 -- What comes of a command names nodes of the lab.
 use Rattle.std.specs.Prelude.{ℕ, ◌<◌, List, length, IfSome}
 use Rattle.std.specs.List.{All}
-use Rattle.mml_rules.specs.declared.registers.Regs.{Regs}
+use Rattle.mml_rules.specs.declared.regs.Regs.{Regs}
 use Rattle.mml_board.specs.declared.done.Done.{Done}
 use Rattle.mml_board.specs.declared.done.Done.TheVariants as done
 use Rattle.mml_policy.specs.declared.see.See.{See}

@@ -21,23 +21,23 @@ clause_of denial.Linked = 4
 clause_of denial.NotLinked = 3
 clause_of denial.NotChosen = 3
 
-abbrev pub name_of : Denial → List ℕ
-name_of denial.NotGreeted = codes "not-greeted"
-name_of denial.Greeted = codes "greeted"
-name_of denial.Unknown = codes "unknown"
-name_of denial.Hidden = codes "hidden"
-name_of denial.NotOwner = codes "not-owner"
-name_of (denial.Stale at) = codes "stale"
-name_of denial.Chosen = codes "chosen"
-name_of denial.Guard = codes "guard"
-name_of denial.NotTeacher = codes "not-teacher"
-name_of denial.Empty = codes "empty"
-name_of denial.NoNode = codes "no-node"
-name_of denial.BadRegister = codes "bad-register"
-name_of denial.Loop = codes "loop"
-name_of denial.Linked = codes "linked"
-name_of denial.NotLinked = codes "not-linked"
-name_of denial.NotChosen = codes "not-chosen"
+abbrev pub denial_name : Denial → List ℕ
+denial_name denial.NotGreeted = codes "not-greeted"
+denial_name denial.Greeted = codes "greeted"
+denial_name denial.Unknown = codes "unknown"
+denial_name denial.Hidden = codes "hidden"
+denial_name denial.NotOwner = codes "not-owner"
+denial_name (denial.Stale at) = codes "stale"
+denial_name denial.Chosen = codes "chosen"
+denial_name denial.Guard = codes "guard"
+denial_name denial.NotTeacher = codes "not-teacher"
+denial_name denial.Empty = codes "empty"
+denial_name denial.NoNode = codes "no-node"
+denial_name denial.BadRegister = codes "bad-register"
+denial_name denial.Loop = codes "loop"
+denial_name denial.Linked = codes "linked"
+denial_name denial.NotLinked = codes "not-linked"
+denial_name denial.NotChosen = codes "not-chosen"
 
 abbrev pub text_of : Denial → List ℕ
 text_of denial.NotGreeted = codes "say hello first"

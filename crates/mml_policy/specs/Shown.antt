@@ -1,7 +1,7 @@
 -- What is shown of a node.
 use Rattle.std.specs.Prelude.{ℕ, List, map, filter, option_map}
 use Rattle.std.specs.List.{range_with_len}
-use Rattle.mml_rules.specs.declared.registers.Regs.{Regs}
+use Rattle.mml_rules.specs.declared.regs.Regs.{Regs}
 use Rattle.mml_rules.specs.Network.{registers_at}
 use Rattle.mml_rules.specs.Rules.{kind_of, enabled_kind}
 use Rattle.mml_board.specs.World.{World, size, configuration, chosen_at}

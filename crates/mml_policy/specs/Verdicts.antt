@@ -10,7 +10,8 @@ use Rattle.mml_board.specs.Events.{is_any_chosen, may_point}
 use Rattle.mml_policy.specs.declared.command.Command.{Command}
 use Rattle.mml_policy.specs.declared.command.Command.TheVariants as command
 use Rattle.mml_policy.specs.declared.denial.Denial.{Denial}
-use Rattle.mml_policy.specs.declared.denial.Denial.TheVariants.{Hidden, NotOwner, Stale, Chosen, Guard, NotTeacher, Empty, NoNode, BadRegister, Loop, Linked, NotLinked, NotChosen}
+use Rattle.mml_policy.specs.declared.denial.Denial.TheVariants.{Hidden, NotOwner, Stale, Chosen, Guard, NotTeacher, Empty, NoNode, BadRegister, Loop, Linked}
+use Rattle.mml_policy.specs.declared.denial.Denial.TheVariants.{NotLinked, NotChosen}
 use Rattle.mml_policy.specs.declared.verdict.Verdict.{Verdict}
 use Rattle.mml_policy.specs.declared.verdict.Verdict.TheVariants as verdicts
 use Rattle.mml_policy.specs.declared.verdict.Leave.{Leave}

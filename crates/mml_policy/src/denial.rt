@@ -1,5 +1,5 @@
 ghost use Rattle.std.specs.Prelude.{◌≡◌};
-ghost use Rattle.mml_policy.specs.Denials.{clause_of, name_of, text_of};
+ghost use Rattle.mml_policy.specs.Denials.{clause_of, denial_name, text_of};
 
 /// Why a request is denied: the first clause that doesn't hold.
 #[derive(Clone, Copy, Debug, PartialEq, Eq)]
@@ -65,7 +65,7 @@ impl Denial {
 
     /// The word that a program reads.
     pub fn name(self) -> &'static str
-        ensures { result.now ≡ name_of self }
+        ensures { result.now ≡ denial_name self }
     {
         match self {
             Denial::NotGreeted => "not-greeted",

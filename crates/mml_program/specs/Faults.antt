@@ -1,10 +1,10 @@
--- The faults of the program that those of the crates below are.
+-- The errors of the program that those of the crates below are.
 use Rattle.mml_hall.specs.declared.script.ScriptFault.{ScriptFault}
 use Rattle.mml_hall.specs.declared.script.ScriptFault.TheVariants as script
 use Rattle.mml_serving.specs.declared.serving.ServeFault.{ServeFault}
 use Rattle.mml_serving.specs.declared.serving.ServeFault.TheVariants as serving
-use Rattle.mml_files.specs.declared.fault.JournalFileFault.{JournalFileFault}
-use Rattle.mml_files.specs.declared.fault.JournalFileFault.TheVariants as file
+use Rattle.mml_files.specs.declared.journal_file_fault.JournalFileFault.{JournalFileFault}
+use Rattle.mml_files.specs.declared.journal_file_fault.JournalFileFault.TheVariants as file
 use Rattle.mml_program.specs.declared.fault.Fault.{Fault}
 use Rattle.mml_program.specs.declared.fault.Fault.TheVariants as fault
 

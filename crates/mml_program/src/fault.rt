@@ -3,7 +3,7 @@ ghost use Rattle.std.specs.Prelude.{◌≡◌, ◌≢◌, ◌⊎◌, true, false
 ghost use Rattle.std.specs.IoError.{error_kind};
 ghost use Rattle.mml_program.specs.declared.fault.Fault.TheVariants.{Memory};
 
-use crate::refusal::{AuditRefusal, LabRefusal};
+use crate::lab_refusal::{AuditRefusal, LabRefusal};
 use mml_files::JournalFileFault;
 use mml_hall::{AuditFault, ScriptFault};
 use mml_lab::LabFault;
@@ -63,9 +63,9 @@ pub enum Fault {
 }
 
 impl Fault {
-    /// The exit status that goes with the fault: 1 where the words aren't understood, 2 where lab,
+    /// The exit status that goes with the error: 1 where the words aren't understood, 2 where lab,
     /// script or number of connections is refused, 3 where an audit says no, 4 where a read, a write,
-    /// the journal or the network failed, 5 for want of memory or of a reader's place.
+    /// the journal or the network failed, 5 where memory or a reader's place is lacking.
     pub fn status(&self) -> u8 {
         match self {
             Fault::CommandLine => 1,
@@ -85,7 +85,7 @@ impl Fault {
 }
 
 impl Fault {
-    /// Want of memory where a reader or a writer met it, whatever the fault was told as.
+    /// Out of memory where a reader or a writer met it, whatever the error was told as.
     pub fn or_memory(self, lacked: bool) -> Fault
         ensures memory { lacked ≡ true → result ≡ Fault.Memory }
         ensures other { lacked ≡ false → result ≡ self }
@@ -94,7 +94,7 @@ impl Fault {
     }
 }
 
-/// Want of memory where an error of a read or write says so, and else the other fault.
+/// Out of memory where an error of a read or write says so, and else the other error.
 pub fn memory_or(error: &IoError, other: Fault) -> Fault
     ensures memory { error_kind error.now ≡ ErrorKind.OutOfMemory → result ≡ Fault.Memory }
     ensures either { (result ≡ other) ⊎ (result ≡ Fault.Memory) }

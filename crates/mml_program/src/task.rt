@@ -1,15 +1,15 @@
 //! From the words to the work.
-ghost use Rattle.std.specs.Prelude.{◌≡◌, ◌<◌, ◌≤◌, ◌-◌, ◌^◌, IfOk};
+ghost use Rattle.std.specs.Prelude.{◌<◌, ◌≤◌, ◌-◌, ◌^◌};
 ghost use Rattle.mml_journal.specs.Taken.{IsFresh};
 
-use crate::answering::{answer_script, write_audit, write_size};
 use crate::built_in::BUILT_IN;
 use crate::fault::{Fault, memory_or};
-use crate::files::{begin_journal, read_file, read_journal};
+use crate::files::{begin_journal_with, read_file, read_journal};
+use crate::script_answering::{answer_script, write_audit, write_size};
 use crate::words::{ScriptTask, ServeTask, Task, read_words};
 use mml_ends::{Retrying, hold_streams};
 use mml_files::OpenJournal;
-use mml_journal::{FileSink, NullSink, Sink};
+use mml_journal::{NullSink, Sink};
 use mml_lab::{Lab, read_lab};
 use mml_serving::{ServeFault, serve_on, write_listening};
 use mml_session::NoGate;
@@ -88,40 +88,14 @@ fn script_file<R: Files<File = File> + Print + AllocGlobal>(
     let lab = lab_of(rt, task.lab)?;
     match task.journal {
         Some(path) => {
-            let ScriptFiles { script, sink } = script_files(rt, task, path)?;
+            let journal = OpenJournal::open(rt, path, &[task.lab, task.script])?;
+            let script = read_file(rt, task.script, Fault::ReadScript);
+            let (script, sink) = begin_journal_with(rt, journal, script)?;
             answer_lines(rt, lab, script.as_slice(), sink)
         }
         None => {
             let script = read_file(rt, task.script, Fault::ReadScript)?;
             answer_lines(rt, lab, script.as_slice(), NullSink::new())
-        }
-    }
-}
-
-// A script that was read, and the journal that was begun for it.
-#[derive(Drop)]
-struct ScriptFiles {
-    script: Vec<u8>,
-    sink: FileSink,
-}
-
-// Reads the script and begins the journal, which is left as it was where the script can't be read.
-fn script_files<R: Files<File = File> + AllocGlobal>(
-    rt: &R,
-    task: ScriptTask<'_>,
-    journal: &str,
-) -> Result<ScriptFiles, Fault>
-    ensures unfailed { IfOk result (λ files. files.sink ≡ 0) }
-{
-    let journal = OpenJournal::open(rt, journal, &[task.lab, task.script])?;
-    match read_file(rt, task.script, Fault::ReadScript) {
-        Ok(script) => {
-            let sink = begin_journal(rt, journal)?;
-            Ok(ScriptFiles { script, sink })
-        }
-        Err(fault) => {
-            journal.let_go(rt);
-            Err(fault)
         }
     }
 }
@@ -174,7 +148,8 @@ fn serve_file<
     }
     match task.journal {
         Some(path) => {
-            let ServeFiles { listener, sink } = serve_files(rt, task, path)?;
+            let journal = OpenJournal::open(rt, path, &[task.lab])?;
+            let (listener, sink) = begin_journal_with(rt, journal, listen(rt, port))?;
             let service = Service {
                 listener,
                 port,
@@ -199,32 +174,6 @@ struct Service {
     listener: TcpListener,
     port: u16,
     connections: u8,
-}
-
-// A port that was taken, and the journal that was begun for its connections.
-#[derive(Drop)]
-struct ServeFiles {
-    listener: TcpListener,
-    sink: FileSink,
-}
-
-// Takes the port and begins the journal, which is left as it was where the port can't be had.
-fn serve_files<
-    R: Files<File = File> + Net<Listener = TcpListener, Stream = TcpStream> + AllocGlobal,
->(rt: &R, task: ServeTask<'_>, journal: &str) -> Result<ServeFiles, Fault>
-    ensures unfailed { IfOk result (λ files. files.sink ≡ 0) }
-{
-    let journal = OpenJournal::open(rt, journal, &[task.lab])?;
-    match listen(rt, task.port.get()) {
-        Ok(listener) => {
-            let sink = begin_journal(rt, journal)?;
-            Ok(ServeFiles { listener, sink })
-        }
-        Err(fault) => {
-            journal.let_go(rt);
-            Err(fault)
-        }
-    }
 }
 
 // Says on which port it listens, and serves so many of the connections that come.

@@ -52,6 +52,7 @@ guard-kind c i Rule.Abandonment l h =
     let a = and_parts (m_is_right c i) (points_in_vain c i) h in
     kind-choose c i ∙ chosen_abandonment _ _ _ _ _ a.0 (vain-some c i a.1) a.1
 
+-- at a node that isn't privileged, no rule's guard holds
 pub idle-guard : (c : Configuration) (i : ℕ) (r : Rule) → IsLawful c → is_privileged c i ≡ false → guard c i r ≡ false
 idle-guard c i r l h = false_from_ne_true (guard c i r) (λ g.
     both_ways (is_privileged c i) h (ap is_some (guard-kind c i r l g)))
@@ -76,5 +77,6 @@ kind-guard c i k h =
     go true false v false true es ep ev eu eb e = (Rule.Seduction, some-path e, and_from _ _ es (and_from _ _ (null ep) (and_from _ _ (ap not eu) eb)))
     go true false v false false es ep ev eu eb e = cc
 
+-- two rules whose guards hold at one node are of one kind
 pub one-kind : (c : Configuration) (i : ℕ) (r s : Rule) → IsLawful c → guard c i r ≡ true → guard c i s ≡ true → kind_of r ≡ kind_of s
 one-kind c i r s l g h = some-path (sym (guard-kind c i r l g) ∙ guard-kind c i s l h)

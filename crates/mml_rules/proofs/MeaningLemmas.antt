@@ -15,12 +15,14 @@ use Rattle.mml_rules.proofs.ConfigurationLemmas.{holds-true, holds-from}
 use Rattle.mml_rules.proofs.RulesLemmas.{suitor-from, suitor-find, none-null, null-none}
 use Rattle.mml_rules.proofs.EnabledKindLemmas.{guard-kind, kind-guard}
 
+-- tests that are found equal are equal
 pub beq-true : (a b : Bool) → beq a b ≡ true → a ≡ b
 beq-true true true h = refl
 beq-true false false h = refl
 beq-true true false h = absurd (false≢true h)
 beq-true false true h = absurd (false≢true h)
 
+-- equal tests are found equal
 pub beq-same : (a b : Bool) → a ≡ b → beq a b ≡ true
 beq-same true true h = refl
 beq-same false false h = refl
@@ -43,6 +45,7 @@ married-back c i l h =
     some_below-at c.size h.0 (λ j. c.linked i j && (holds (c.p i) j && holds (c.p j) i)) (l.in_range i h.0 h.1).1
     (and_from _ _ h.1 (and_from _ _ (holds-from (c.p i) h.0 h.2) (holds-from (c.p h.0) i h.3)))
 
+-- a node is found married exactly where it is married
 pub married-means : (c : Configuration) (i : ℕ) → IsLawful c → (is_married c i ≡ true) ↔ IsMarried c i
 married-means c i l = (married-to c i, married-back c i l)
 
@@ -54,6 +57,7 @@ right-to c i l h =
 right-back : (c : Configuration) (i : ℕ) → IsLawful c → IsMRight c i → m_is_right c i ≡ true
 right-back c i l h = beq-same _ _ (same_bool (c.m i) (is_married c i) (λ m. married-back c i l (h.0 m)) (λ k. h.1 (married-to c i k)))
 
+-- m is found right exactly where it is right
 pub right-means : (c : Configuration) (i : ℕ) → IsLawful c → (m_is_right c i ≡ true) ↔ IsMRight c i
 right-means c i l = (right-to c i l, right-back c i l)
 
@@ -65,6 +69,7 @@ suitor-to c i h = suitor-find c i h
 suitor-back : (c : Configuration) (i : ℕ) → IsLawful c → HasSuitor c i → has_suitor c i ≡ true
 suitor-back c i l h = suitor-from c i h.0 l h.1 h.2
 
+-- a suitor is found exactly where there is one
 pub suitor-means : (c : Configuration) (i : ℕ) → IsLawful c → (has_suitor c i ≡ true) ↔ HasSuitor c i
 suitor-means c i l = (suitor-to c i, suitor-back c i l)
 
@@ -78,6 +83,7 @@ candidate-to c i j h =
 candidate-back : (c : Configuration) (i j : ℕ) → IsCandidate c i j → is_candidate c i j ≡ true
 candidate-back c i j h = and_from _ _ h.0 (and_from _ _ (lt-ltb i j h.1) (and_from _ _ (null-none (c.p j) h.2) (ap not h.3)))
 
+-- a candidate is found exactly where it is one
 pub candidate-means : (c : Configuration) (i j : ℕ) → (is_candidate c i j ≡ true) ↔ IsCandidate c i j
 candidate-means c i j = (candidate-to c i j, candidate-back c i j)
 
@@ -103,6 +109,7 @@ greatest-back c i j l h =
     greatest_is c.size j (is_candidate c i) (candidate_in c i j l h.0) (candidate-back c i j h.0) (λ k above below.
     false_from_ne_true (is_candidate c i k) (λ a. let least = h.1 k (candidate-to c i k a) in absurd (omega arith)))
 
+-- the candidate that is found is the greatest one, and only that one
 pub greatest-means : (c : Configuration) (i j : ℕ) → IsLawful c → (greatest_candidate c i ≡ Some j) ↔ IsGreatestCandidate c i j
 greatest-means c i j l = (greatest-to c i j l, greatest-back c i j l)
 
@@ -117,6 +124,7 @@ none-back c i l h = go (greatest_candidate c i) refl
     go None e = e
     go (Some j) e = absurd (h j (greatest-to c i j l e).0)
 
+-- no candidate is found exactly where there is none
 pub no_greatest-means : (c : Configuration) (i : ℕ) → IsLawful c → (greatest_candidate c i ≡ None) ↔ ((j : ℕ) → ¬ IsCandidate c i j)
 no_greatest-means c i l = (λ h j. none-to c i j l h, none-back c i l)
 
@@ -160,6 +168,7 @@ vain-back c i h =
       | inr lt ↦ or_right (c.m h.0) (nat_lt h.0 i) (lt-ltb h.0 i lt)
     ])
 
+-- a pointer is found in vain exactly where it is in vain
 pub vain-means : (c : Configuration) (i : ℕ) → (points_in_vain c i ≡ true) ↔ PointsInVain c i
 vain-means c i = (vain-to c i, vain-back c i)
 
@@ -187,6 +196,7 @@ guard-back c i Rule.Seduction l h =
     (and_from _ _ (ap not (false_from_ne_true (has_suitor c i) (λ s. h.2 (suitor-to c i s)))) (some-back c i h.3.0 l h.3.1)))
 guard-back c i Rule.Abandonment l h = and_from _ _ (right-back c i l h.0) (vain-back c i h.1)
 
+-- a rule's guard holds exactly where the rule may be applied
 pub guard-means : (c : Configuration) (i : ℕ) (r : Rule) → IsLawful c → (guard c i r ≡ true) ↔ MayApply c i r
 guard-means c i r l = (guard-to c i r l, guard-back c i r l)
 
@@ -197,5 +207,6 @@ privileged-to c i h = go (enabled_kind c i) refl h
     go None e s = absurd (false≢true s)
     go (Some k) e s = let g = kind-guard c i k e in (g.0, g.2)
 
+-- a node is found privileged exactly where the guard of some rule holds there
 pub privileged-means : (c : Configuration) (i : ℕ) → IsLawful c → (is_privileged c i ≡ true) ↔ ((r : Rule) × (guard c i r ≡ true))
 privileged-means c i l = (privileged-to c i, λ g. ap is_some (guard-kind c i g.0 l g.1))

@@ -6,7 +6,7 @@ use Rattle.std.specs.FinSet as sets
 use Rattle.std.specs.FinSet.{FinSet}
 use Rattle.std.specs.Ordering.{nat_cmp}
 use Rattle.mml_ids.specs.inside.WordsLemmas.{has_insert, has_remove}
-use Rattle.mml_rules.specs.declared.registers.Regs.{Regs}
+use Rattle.mml_rules.specs.declared.regs.Regs.{Regs}
 use Rattle.mml_rules.specs.Configuration.{holds}
 use Rattle.mml_rules.specs.Network.{Network, neighbours_at, registers_at, configuration_of, IsNetwork, with_neighbour, without_neighbour, unpointed}
 use Rattle.mml_rules.specs.Network.{with_registers, with_link, without_link}
@@ -18,6 +18,7 @@ neighbours_at-set neighbours a i s l = elim (cases_eq i a) [
   | inr ne ↦ rw (get_or-set_other, ne_eqb i a ne) refl
 ]
 
+-- registers that are set stand at their node, and all others are as before
 pub registers_at-set : (registers : List Regs) (a i : ℕ) (r : Regs) → a < length registers
     → registers_at (set registers a r) i ≡ cond (eqb i a) r (registers_at registers i)
 registers_at-set registers a i r l = elim (cases_eq i a) [
@@ -37,6 +38,7 @@ has-with_neighbour neighbours a b i j l =
     go true e = has_insert (neighbours_at neighbours a) b j ∙ ap (λ k. eqb j b || sets.contains (neighbours_at neighbours k) j) (sym (eqb-true i a e))
     go false e = refl
 
+-- without b among the neighbours of a, every other neighbour is as before
 pub has-without_neighbour : (neighbours : List (FinSet nat_cmp)) (a b i j : ℕ) → a < length neighbours
     → sets.contains (neighbours_at (without_neighbour neighbours a b) i) j ≡ (not (eqb i a && eqb j b) && sets.contains (neighbours_at neighbours i) j)
 has-without_neighbour neighbours a b i j l =
@@ -48,12 +50,15 @@ has-without_neighbour neighbours a b i j l =
     go true e = has_remove (neighbours_at neighbours a) b j ∙ ap (λ k. not (eqb j b) && sets.contains (neighbours_at neighbours k) j) (sym (eqb-true i a e))
     go false e = refl
 
+-- a neighbour more leaves the number of rows
 pub length-with_neighbour : (neighbours : List (FinSet nat_cmp)) (a b : ℕ) → length (with_neighbour neighbours a b) ≡ length neighbours
 length-with_neighbour neighbours a b = length-set neighbours a (sets.insert (neighbours_at neighbours a) b)
 
+-- a neighbour less leaves the number of rows
 pub length-without_neighbour : (neighbours : List (FinSet nat_cmp)) (a b : ℕ) → length (without_neighbour neighbours a b) ≡ length neighbours
 length-without_neighbour neighbours a b = length-set neighbours a (sets.remove (neighbours_at neighbours a) b)
 
+-- a pointer taken back leaves the number of nodes
 pub length-unpointed : (registers : List Regs) (a b : ℕ) → length (unpointed registers a b) ≡ length registers
 length-unpointed registers a b = go (holds (registers_at registers a).p b)
   where
@@ -61,6 +66,7 @@ length-unpointed registers a b = go (holds (registers_at registers a).p b)
     go true = length-set registers a _
     go false = refl
 
+-- a lawful network stays one where a node's new pointer, if it has one, leads to a neighbour
 pub with_registers-lawful : (n : Network) (i : ℕ) (r : Regs) → IsNetwork n → i < length n.registers
     → ((j : ℕ) → r.p ≡ Some j → sets.contains (neighbours_at n.neighbours i) j ≡ true) → IsNetwork (with_registers n i r)
 with_registers-lawful n i r w l ok = record {
@@ -78,24 +84,29 @@ with_registers-lawful n i r w l ok = record {
     go k j true e h = subst (λ z. sets.contains (neighbours_at n.neighbours z) j ≡ true) (sym (eqb-true k i e)) (ok j h)
     go k j false e h = w.lawful.to_linked k j h
 
+-- after a link of a and b these two are linked, and all others as before
 pub linked-with_link : (n : Network) (a b i j : ℕ) → a < length n.neighbours → b < length n.neighbours
     → (configuration_of (with_link n a b)).linked i j ≡ ((eqb i b && eqb j a) || ((eqb i a && eqb j b) || (configuration_of n).linked i j))
 linked-with_link n a b i j la lb =
     has-with_neighbour (with_neighbour n.neighbours a b) b a i j (omega (arith, length-with_neighbour n.neighbours a b))
     ∙ ap (λ x. (eqb i b && eqb j a) || x) (has-with_neighbour n.neighbours a b i j la)
 
+-- after a cut of a and b these two aren't linked, and all others are as before
 pub linked-without_link : (n : Network) (a b i j : ℕ) → a < length n.neighbours → b < length n.neighbours
     → (configuration_of (without_link n a b)).linked i j ≡ (not (eqb i b && eqb j a) && (not (eqb i a && eqb j b) && (configuration_of n).linked i j))
 linked-without_link n a b i j la lb =
     has-without_neighbour (without_neighbour n.neighbours a b) b a i j (omega (arith, length-without_neighbour n.neighbours a b))
     ∙ ap (λ x. not (eqb i b && eqb j a) && x) (has-without_neighbour n.neighbours a b i j la)
 
+-- a pair of numbers that is found equal to another is that pair
 pub both_are : (i a j b : ℕ) → (eqb i a && eqb j b) ≡ true → (i ≡ a) × (j ≡ b)
 both_are i a j b h = let x = and_parts (eqb i a) (eqb j b) h in (eqb-true i a x.0, eqb-true j b x.1)
 
+-- equal pairs of numbers are found equal
 pub are_both : (i a j b : ℕ) → i ≡ a → j ≡ b → (eqb i a && eqb j b) ≡ true
 are_both i a j b e f = and_from _ _ (eq-eqb i a e) (eq-eqb j b f)
 
+-- a lawful network stays one with a link between two different nodes
 pub with_link-lawful : (n : Network) (a b : ℕ) → IsNetwork n → a < length n.registers → b < length n.registers → (a ≡ b → ⊥) → IsNetwork (with_link n a b)
 with_link-lawful n a b w la lb apart = record {
   rows = length-with_neighbour (with_neighbour n.neighbours a b) b a ∙ length-with_neighbour n.neighbours a b ∙ w.rows;
@@ -165,6 +176,7 @@ pointer_left registers a b i j l = go (holds (registers_at registers a).p b) ref
         holds-is : (o : Option ℕ) (x : ℕ) → o ≡ Some x → holds o x ≡ true
         holds-is o x f = ap (λ z. holds z x) f ∙ eq-eqb x x refl
 
+-- a lawful network stays one without a link and the pointers over it
 pub without_link-lawful : (n : Network) (a b : ℕ) → IsNetwork n → a < length n.registers → b < length n.registers → IsNetwork (without_link n a b)
 without_link-lawful n a b w la lb = record {
   rows = length-without_neighbour (without_neighbour n.neighbours a b) b a ∙ length-without_neighbour n.neighbours a b ∙ w.rows ∙ sym size;
@@ -216,6 +228,10 @@ network_is m n e f = λ k. record { neighbours = sym e k; registers = sym f k }
 pub linked_is_lawful : (n m : Network) (a b : ℕ) → IsNetwork n → a < length n.registers → b < length n.registers → (a ≡ b → ⊥)
     → m.neighbours ≡ with_neighbour (with_neighbour n.neighbours a b) b a → m.registers ≡ n.registers → IsNetwork m
 linked_is_lawful n m a b w la lb apart e f = subst (λ x. IsNetwork x) (network_is m (with_link n a b) e f) (with_link-lawful n a b w la lb apart)
+
+-- a node of a network is one of the network that it is equal to
+pub node_within : (n m : Network) (a : ℕ) → n ≡ m → a < length m.registers → a < length n.registers
+node_within n m a e l = subst (λ (x : Network). a < length x.registers) (sym e) l
 
 -- what is written in the place of a network with one link less
 pub cut_is_lawful : (n m : Network) (a b : ℕ) → IsNetwork n → a < length n.registers → b < length n.registers

@@ -9,6 +9,7 @@ use Rattle.mml_rules.specs.Rules.{is_married, has_suitor, is_candidate, greatest
 use Rattle.mml_ids.proofs.SearchLemmas.{some_below-find, some_below-at, greatest_below-some, greatest_below-none}
 use Rattle.mml_rules.proofs.ConfigurationLemmas.{holds-true, holds-from}
 
+-- a married node and some other one point at each other
 pub married-partner : (c : Configuration) (i : ℕ) → is_married c i ≡ true → (j : ℕ) × (c.p i ≡ Some j) × (c.p j ≡ Some i)
 unfolding is_married
 married-partner c i h =
@@ -17,6 +18,7 @@ married-partner c i h =
     let b = and_parts (holds (c.p i) r.0) (holds (c.p r.0) i) a.1 in
     (r.0, holds-true (c.p i) r.0 b.0, holds-true (c.p r.0) i b.1)
 
+-- of two nodes that point at each other, the first is married
 pub married-from : (c : Configuration) (i j : ℕ) → IsLawful c → c.p i ≡ Some j → c.p j ≡ Some i → is_married c i ≡ true
 unfolding is_married
 married-from c i j l a b =
@@ -46,6 +48,7 @@ married-at c i j l a = go (holds (c.p j) i) refl
 pub pointee_in : (c : Configuration) (i j : ℕ) → IsLawful c → c.p i ≡ Some j → j < c.size
 pointee_in c i j l h = (l.in_range i j (l.to_linked i j h)).1
 
+-- a node that points at i is a suitor of i
 pub suitor_at : (c : Configuration) (i k : ℕ) (o : Option ℕ) → IsLawful c → o ≡ c.p k → holds o i ≡ true → true ≡ has_suitor c i
 unfolding has_suitor
 suitor_at c i k o l p h =
@@ -53,27 +56,33 @@ suitor_at c i k o l p h =
     let linked : c.linked i k ≡ true = l.symmetric k i (l.to_linked k i points) in
     sym (some_below-at c.size k (λ k. c.linked i k && holds (c.p k) i) (l.in_range i k linked).1 (and_from _ _ linked (holds-from (c.p k) i points)))
 
+-- where no node points at i, it has no suitor
 pub no_suitor : (c : Configuration) (i n : ℕ) → c.size ≤ n → ((k : ℕ) → k < n → holds (c.p k) i ≡ false) → false ≡ has_suitor c i
 unfolding has_suitor
 no_suitor c i n all h = sym (false_from_ne_true (some_below c.size (λ k. c.linked i k && holds (c.p k) i)) (λ s.
     let r = some_below-find c.size (λ k. c.linked i k && holds (c.p k) i) s in
     both_ways (holds (c.p r.0) i) (h r.0 (omega arith)) (and_parts (c.linked i r.0) (holds (c.p r.0) i) r.2).1))
 
+-- a register that is found null is null
 pub none-null : (o : Option ℕ) → is_none o ≡ true → o ≡ None
 none-null None h = refl
 none-null (Some x) h = absurd (false≢true h)
 
+-- a register that is null is found null
 pub null-none : (o : Option ℕ) → o ≡ None → is_none o ≡ true
 null-none o h = ap is_none h
 
+-- a register that isn't found to point is null
 pub some-null : (o : Option ℕ) → is_some o ≡ false → is_none o ≡ true
 some-null None h = refl
 some-null (Some x) h = sym h
 
+-- a null register isn't found to point
 pub null-some : (o : Option ℕ) → is_none o ≡ true → is_some o ≡ false
 null-some None h = refl
 null-some (Some x) h = absurd (false≢true h)
 
+-- a node that points in vain points at some node
 pub vain-some : (c : Configuration) (i : ℕ) → points_in_vain c i ≡ true → is_some (c.p i) ≡ true
 vain-some c i h = go (c.p i) h
   where
@@ -81,11 +90,13 @@ vain-some c i h = go (c.p i) h
     go None e = absurd (false≢true e)
     go (Some j) e = refl
 
+-- a linked node that points at i makes it a node with a suitor
 pub suitor-from : (c : Configuration) (i k : ℕ) → IsLawful c → c.linked i k ≡ true → c.p k ≡ Some i → has_suitor c i ≡ true
 unfolding has_suitor
 suitor-from c i k l linked h =
     some_below-at c.size k (λ k. c.linked i k && holds (c.p k) i) (l.in_range i k linked).1 (and_from _ _ linked (holds-from (c.p k) i h))
 
+-- a node with a suitor is linked to a node that points at it
 pub suitor-find : (c : Configuration) (i : ℕ) → has_suitor c i ≡ true → (k : ℕ) × (c.linked i k ≡ true) × (c.p k ≡ Some i)
 unfolding has_suitor
 suitor-find c i h =
@@ -93,10 +104,12 @@ suitor-find c i h =
     let a = and_parts (c.linked i r.0) (holds (c.p r.0) i) r.2 in
     (r.0, a.0, holds-true (c.p r.0) i a.1)
 
+-- the greatest candidate is a candidate
 pub greatest-is : (c : Configuration) (i j : ℕ) → greatest_candidate c i ≡ Some j → is_candidate c i j ≡ true
 unfolding greatest_candidate
 greatest-is c i j h = (greatest_below-some c.size j (is_candidate c i) h).1
 
+-- where there is no greatest candidate, no node is one
 pub greatest-none : (c : Configuration) (i j : ℕ) → greatest_candidate c i ≡ None → j < c.size → is_candidate c i j ≡ false
 unfolding greatest_candidate
 greatest-none c i j h l = greatest_below-none c.size j (is_candidate c i) h l

@@ -7,12 +7,15 @@ use Rattle.mml_rules.specs.Rules.{m_is_right, guard, effect, registers_of, moved
 use Rattle.mml_rules.specs.Matching.{IsMatching}
 use Rattle.mml_rules.proofs.RulesLemmas.{greatest-is}
 
+-- no node is in two pairs, in whatever configuration
 pub matching : (c : Configuration) → IsMatching c
 matching c i j k a b = let e : Some j ≡ Some k = sym a.0 ∙ b.0 in cc
 
+-- a node whose move is chosen has the registers that its rule writes
 pub step-chosen : (c : Configuration) (chosen : ℕ → Option Rule) (i : ℕ) (r : Rule) → chosen i ≡ Some r → registers_of (step c chosen) i ≡ effect c i r
 step-chosen c chosen i r h = ap (λ o. record { p = (moved c i o).p; m = (moved c i o).m }) h
 
+-- a node without a chosen move keeps its registers
 pub step-other : (c : Configuration) (chosen : ℕ → Option Rule) (i : ℕ) → chosen i ≡ None → registers_of (step c chosen) i ≡ registers_of c i
 step-other c chosen i h = ap (λ o. record { p = (moved c i o).p; m = (moved c i o).m }) h
 
@@ -32,6 +35,7 @@ pub moved-linked : (c : Configuration) (i j : ℕ) (o : Option Rule) → IsLawfu
 moved-linked c i j None l h e = l.to_linked i j e
 moved-linked c i j (Some r) l h e = effect-linked c i j r l (h r refl) e
 
+-- a step whose guards all hold leaves the configuration lawful
 pub step-lawful : (c : Configuration) (chosen : ℕ → Option Rule) → IsLawful c → AllHold c chosen → IsLawful (step c chosen)
 step-lawful c chosen l h = record {
   in_range = l.in_range;

@@ -3,13 +3,13 @@
 
 pub mod laws;
 mod network;
-mod registers;
+mod regs;
 mod rule;
 mod rules;
 mod scene;
 
 pub use network::Network;
-pub use registers::Regs;
+pub use regs::Regs;
 pub use rule::{Kind, Rule, kind_of};
 pub use rules::{effect, enabled, guard, married};
 pub use scene::Scene;

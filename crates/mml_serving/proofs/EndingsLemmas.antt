@@ -1,12 +1,11 @@
 -- How houses come to no good end.
-use Rattle.std.proofs.Common.{◌≡◌, ℕ, List, length, Option, sym, subst, ap}
+use Rattle.std.proofs.Common.{◌≡◌, ℕ, List, length, Option, subst}
 use Rattle.std.proofs.KnownBytes.{Appends-nil}
 use Rattle.mml_lab.specs.Labs.{LabValue}
 use Rattle.mml_board.specs.World.{World}
 use Rattle.mml_window.specs.declared.log.Log.{Log}
 use Rattle.mml_window.specs.declared.log.Astray.{Astray}
 use Rattle.mml_window.specs.Books.{BookValue, IsBook}
-use Rattle.mml_window.specs.Lists.{world_in}
 use Rattle.mml_window.specs.Logs.{IsAstray}
 use Rattle.mml_window.specs.Tallies.{IsEachOnce, told_of}
 use Rattle.mml_window.specs.Windows.{WindowValue}
@@ -14,11 +13,12 @@ use Rattle.mml_serving.specs.declared.connection.EndedSession.{EndedSession}
 use Rattle.mml_serving.specs.declared.serving.ServeFault.{ServeFault}
 use Rattle.mml_serving.specs.declared.serving.ServeFault.TheVariants as fault
 use Rattle.mml_serving.specs.Closings.{IsCutShort, LacksLastLine, done_line}
-use Rattle.mml_serving.specs.Endings.{EndsAstray, EndsBadly, EndsEarly, EndsLogged, EndsWithout, WentAstray}
+use Rattle.mml_serving.specs.Endings.{EndsBadly, EndsEarly, EndsWithout, WentAstray}
 use Rattle.mml_serving.specs.Serving.{ServesHouse, ServesWindows}
 
 -- the list from which the windows went astray is the book's
-pub went_astray : {S : Type 0} (lab : LabValue) (sink : S → Option (List ℕ)) (b : BookValue S) (windows : List WindowValue) (astray : Astray) → IsBook lab sink b
+pub went_astray : {S : Type 0} (lab : LabValue) (sink : S → Option (List ℕ)) (b : BookValue S) (windows : List WindowValue) (astray : Astray)
+    → IsBook lab sink b
     → astray.found ≡ length b.events → IsAstray windows astray → WentAstray lab windows
 went_astray lab sink b windows astray book found is = record {
   events = b.events;
@@ -39,7 +39,8 @@ module _ {R W : Type 0} (lab : LabValue) (remaining : R → Option (List ℕ)) (
 
   module _ {S : Type 0} (sink : S → Option (List ℕ)) where
     -- nothing is written where there is no log
-    pub badly_early : (wrote : Option (List ℕ)) (f : ServeFault) → EndsEarly lab remaining contents to_come count f → EndsBadly lab sink remaining contents to_come count wrote wrote f
+    pub badly_early : (wrote : Option (List ℕ)) (f : ServeFault) → EndsEarly lab remaining contents to_come count f
+        → EndsBadly lab sink remaining contents to_come count wrote wrote f
     badly_early wrote fault.Memory early = Appends-nil wrote
     badly_early wrote fault.Place early = Appends-nil wrote
     badly_early wrote fault.Accept early = Appends-nil wrote
@@ -48,8 +49,10 @@ module _ {R W : Type 0} (lab : LabValue) (remaining : R → Option (List ℕ)) (
     badly_early wrote fault.Write early = absurd early
 
     -- where there is one, the last line says why
-    pub badly_logged : (sessions : List (EndedSession R W)) (log : Log S) → ServesHouse lab sink remaining contents to_come count sessions log → (wrote wrote' : Option (List ℕ)) (f : ServeFault)
-        → LacksLastLine log.halted wrote wrote' (done_line (length log.events) log.board.number) f → EndsBadly lab sink remaining contents to_come count wrote wrote' f
+    pub badly_logged : (sessions : List (EndedSession R W)) (log : Log S) → ServesHouse lab sink remaining contents to_come count sessions log
+        → (wrote wrote' : Option (List ℕ)) (f : ServeFault)
+        → LacksLastLine log.halted wrote wrote' (done_line (length log.events) log.board.number) f
+        → EndsBadly lab sink remaining contents to_come count wrote wrote' f
     badly_logged sessions log serves wrote wrote' fault.Memory lacks = lacks.1
     badly_logged sessions log serves wrote wrote' fault.Place lacks = absurd lacks
     badly_logged sessions log serves wrote wrote' fault.Accept lacks = absurd lacks

@@ -1,5 +1,6 @@
 -- Connections that came and were served, one more at a time.
-use Rattle.std.proofs.Common.{◌≡◌, ◌≤◌, ℕ, ◌+◌, List, [], ◌∷◌, ◌++◌, All, ap, drop, map, length, length-append, length-drop, arith, refl, subst, sym, Option, IfOk, Result, Ok, Err}
+use Rattle.std.proofs.Common.{◌≡◌, ◌≤◌, ℕ, ◌+◌, List, [], ◌∷◌, ◌++◌, All, ap, drop, map, length, length-append, length-drop, arith, refl, subst, sym, Option}
+use Rattle.std.proofs.Common.{IfOk, Result, Ok, Err}
 use Rattle.std.proofs.lemmas.List.{map-append, length-map}
 use Rattle.std.proofs.lemmas.List.Elements.{All-drop}
 use Rattle.mml_lab.specs.Labs.{LabValue}
@@ -33,13 +34,15 @@ module _ {H R W : Type 0} (f : H → Connection R W) (hs hs' : List H) (h : H) (
   pub numbered_so : (n : ℕ) (c : Connection R W) → f h ≡ c → c.number ≡ n + length hs → Numbered n (map f hs) → Numbered n (map f hs')
   numbered_so n c it at so_far = rw (one, map-append f hs (h ∷ []), it) (numbered_more n (map f hs) c so_far (rw (length-map hs f) at))
 
-  pub came_so : (known a b : Option (List (R × W))) (c : Connection R W) → f h ≡ c → Takes known a (map ends (map f hs)) → Takes a b (ends c ∷ []) → Takes known b (map ends (map f hs'))
+  pub came_so : (known a b : Option (List (R × W))) (c : Connection R W) → f h ≡ c → Takes known a (map ends (map f hs)) → Takes a b (ends c ∷ [])
+      → Takes known b (map ends (map f hs'))
   came_so known a b c it so_far next =
       rw (one, map-append f hs (h ∷ []), map-append ends (map f hs) (f h ∷ []), it) (Takes-trans known a b (map ends (map f hs)) (ends c ∷ []) so_far next)
 
 module _ {R W : Type 0} (lab : LabValue) (remaining : R → Option (List ℕ)) (contents : W → Option (List ℕ)) (to_come : Option (List (R × W))) (count : ℕ) where
   -- all threads were joined
-  pub all_came : {X E : Type 0} (sessions : X → List (EndedSession R W)) (windows : X → List WindowValue) (left : Option (List (R × W))) (cs : List (Connection R W)) (r : Result X E)
+  pub all_came : {X E : Type 0} (sessions : X → List (EndedSession R W)) (windows : X → List WindowValue) (left : Option (List (R × W)))
+      (cs : List (Connection R W)) (r : Result X E)
       → Takes to_come left (map ends cs) → length cs ≡ count → Numbered 1 cs → IfOk r (λ p. Each (IsServed lab remaining contents) cs (sessions p) (windows p))
       → IfOk r (λ p. ServesAll lab remaining contents to_come count (sessions p) (windows p))
   all_came sessions windows left cs (Ok p) came all numbered served =
@@ -56,9 +59,12 @@ each_long P (a ∷ us) [] ws h = absurd h
 each_long P (a ∷ us) (b ∷ vs) [] h = absurd h
 
 -- so many windows were used, and the others stayed as they were
-pub serves_windows : {R W : Type 0} (lab : LabValue) (remaining : R → Option (List ℕ)) (contents : W → Option (List ℕ)) (to_come : Option (List (R × W))) (count : ℕ)
-    (sessions : List (EndedSession R W)) (used unused fresh : List WindowValue) (n : ℕ) → ServesAll lab remaining contents to_come count sessions used → n ≡ count → unused ≡ drop n fresh
-    → length fresh ≡ lab.sessions → count ≤ lab.sessions → All (λ w. w ≡ window [] []) fresh → ServesWindows lab remaining contents to_come count sessions (used ++ unused)
+pub serves_windows : {R W : Type 0} (lab : LabValue) (remaining : R → Option (List ℕ)) (contents : W → Option (List ℕ))
+    (to_come : Option (List (R × W))) (count : ℕ)
+    (sessions : List (EndedSession R W)) (used unused fresh : List WindowValue) (n : ℕ) → ServesAll lab remaining contents to_come count sessions used
+    → n ≡ count → unused ≡ drop n fresh
+    → length fresh ≡ lab.sessions → count ≤ lab.sessions → All (λ w. w ≡ window [] []) fresh
+    → ServesWindows lab remaining contents to_come count sessions (used ++ unused)
 serves_windows lab remaining contents to_come count sessions used unused fresh n each so_many rest whole few idle = record {
   used = used;
   unused = unused;

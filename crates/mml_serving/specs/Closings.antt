@@ -18,7 +18,7 @@ done_line events number = concat (codes "done: " ∷ decimal events ∷ codes " 
 abbrev pub Closes : LabValue → Option (List ℕ) → Option (List ℕ) → Type 0
 Closes lab wrote wrote' = (l : List Event) × (is_legal_in lab l ≡ true) × Appends wrote wrote' (done_line (length l) (world_in lab l).number)
 
--- nothing of a text was written, for want of memory, or a front of it, where the writer failed
+-- nothing of a text was written, because memory ran out, or a front of it, where the writer failed
 abbrev pub IsCutShort : Option (List ℕ) → Option (List ℕ) → List ℕ → ServeFault → Type 0
 IsCutShort wrote wrote' text fault.Memory = Appends wrote wrote' []
 IsCutShort wrote wrote' text fault.Write = (n : ℕ) × (n < length text) × Appends wrote wrote' (take n text)

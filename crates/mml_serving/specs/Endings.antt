@@ -20,14 +20,15 @@ pub record WentAstray (lab : LabValue) (windows : List WindowValue) : Type 0 whe
   pub few : length events ≤ lab.events
   pub places : ¬ (IsEachOnce (length events) (told_of windows))
 
--- these windows leave no log, for want of memory, or since they went astray
+-- these windows leave no log, since memory ran out or they went astray
 abbrev pub EndsWithout : LabValue → List WindowValue → ServeFault → Type 0
 EndsWithout lab windows fault.Memory = Unit {0}
 EndsWithout lab windows fault.Astray = WentAstray lab windows
 EndsWithout lab windows _ = ⊥
 
 -- the connections were served, and the windows went astray
-pub record EndsAstray {R W : Type 0} (lab : LabValue) (remaining : R → Option (List ℕ)) (contents : W → Option (List ℕ)) (to_come : Option (List (R × W))) (count : ℕ) : Type 0 where
+pub record EndsAstray {R W : Type 0} (lab : LabValue) (remaining : R → Option (List ℕ)) (contents : W → Option (List ℕ)) (to_come : Option (List (R × W)))
+    (count : ℕ) : Type 0 where
   pub sessions : List (EndedSession R W)
   pub windows : List WindowValue
   pub serves : ServesWindows lab remaining contents to_come count sessions windows

@@ -37,7 +37,8 @@ Numbered n [] = ⊤
 Numbered n (c ∷ cs) = (c.number ≡ n) × Numbered (n + 1) cs
 
 -- the first so many connections to come were numbered from 1, and each was served to an end, through a window that had seen nothing
-pub record ServesAll {R W : Type 0} (lab : LabValue) (remaining : R → Option (List ℕ)) (contents : W → Option (List ℕ)) (to_come : Option (List (R × W))) (count : ℕ)
+pub record ServesAll {R W : Type 0} (lab : LabValue) (remaining : R → Option (List ℕ)) (contents : W → Option (List ℕ))
+    (to_come : Option (List (R × W))) (count : ℕ)
     (sessions : List (EndedSession R W)) (windows : List WindowValue) : Type 0 where
   pub connections : List (Connection R W)
   pub left : Option (List (R × W))
@@ -48,7 +49,8 @@ pub record ServesAll {R W : Type 0} (lab : LabValue) (remaining : R → Option (
 
 -- they were served through windows of the house; with those through which nobody was served, and which have seen nothing, these are
 -- all: as many as the lab has sessions
-pub record ServesWindows {R W : Type 0} (lab : LabValue) (remaining : R → Option (List ℕ)) (contents : W → Option (List ℕ)) (to_come : Option (List (R × W))) (count : ℕ)
+pub record ServesWindows {R W : Type 0} (lab : LabValue) (remaining : R → Option (List ℕ)) (contents : W → Option (List ℕ))
+    (to_come : Option (List (R × W))) (count : ℕ)
     (sessions : List (EndedSession R W)) (windows : List WindowValue) : Type 0 where
   pub used : List WindowValue
   pub unused : List WindowValue
@@ -69,6 +71,6 @@ abbrev pub is_for_memory : SessionEnd → Bool
 is_for_memory end.Memory = true
 is_for_memory _ = false
 
--- neither did the session end for want of memory, nor a read or a write of its socket fail for it
+-- neither did the session end because memory ran out, nor a read or a write of its socket fail for it
 abbrev pub had_memory : EndedSession Socket Socket → Bool
 had_memory s = not (is_for_memory s.end) && (not s.connection.reader.end.lacked_memory && not s.connection.writer.end.lacked_memory)

@@ -1,3 +1,8 @@
+ghost use Rattle.std.specs.Prelude.{◌≡◌};
+ghost use Rattle.std.specs.List.{list_all};
+ghost use Rattle.mml_serving.specs.Serving.{had_memory};
+
+use crate::socket::Socket;
 use mml_session::SessionEnd;
 
 /// The two ends of a connection, with the number by which a gate knows it.
@@ -13,4 +18,20 @@ pub struct Connection<R: Drop, W: Drop> {
 pub struct EndedSession<R: Drop, W: Drop> {
     pub end: SessionEnd,
     pub connection: Connection<R, W>,
+}
+
+/// Whether no session of a socket ended because memory ran out, and none of its calls failed for it.
+pub(crate) fn all_had_memory(sessions: &[EndedSession<Socket, Socket>]) -> bool
+    ensures { result ≡ list_all had_memory sessions.now }
+{
+    sessions.iter().all(|session| had_memory(session))
+}
+
+fn had_memory(session: &EndedSession<Socket, Socket>) -> bool
+    ensures { result ≡ had_memory session.now }
+{
+    let connection = &session.connection;
+    !matches!(session.end, SessionEnd::Memory)
+        && !connection.reader.end.lacked_memory
+        && !connection.writer.end.lacked_memory
 }

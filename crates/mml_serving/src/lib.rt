@@ -2,15 +2,17 @@
 //! line.
 #![tactic(auto)]
 
-mod arriving;
+mod announcing;
+mod arrivals;
 mod connection;
-mod numbers;
+mod number_words;
 mod seating;
 mod serving;
 mod socket;
 
-pub use arriving::{Arrivals, HangUp, LetGo};
+pub use announcing::{write_last, write_listening};
+pub use arrivals::{Arrivals, HangUp, LetGo};
 pub use connection::{Connection, EndedSession};
-pub use numbers::{read_connections, read_port};
-pub use serving::{ServeFault, ServedHouse, serve_arrivals, serve_on, write_last, write_listening};
+pub use number_words::{read_connections, read_port};
+pub use serving::{ServeFault, ServedHouse, end_for, serve_arrivals, serve_on};
 pub use socket::Socket;

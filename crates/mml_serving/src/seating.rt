@@ -5,10 +5,10 @@ ghost use Rattle.mml_window.specs.Windows.{window};
 ghost use Rattle.mml_serving.specs.Arriving.{Takes};
 ghost use Rattle.mml_serving.specs.Serving.{Each, IsServed, ServesAll, ends};
 
-use crate::arriving::{Arrivals, HangUp, LetGo};
+use crate::arrivals::{Arrivals, HangUp, LetGo};
 use crate::connection::{Connection, EndedSession};
 use mml_journal::Sink;
-use mml_session::{Gate, serve_one};
+use mml_session::{Gate, Setting, serve_one};
 use mml_window::{Desk, House, Window};
 use std::alloc::Global;
 use std::io::{ErrorKind, Read, Write};
@@ -34,7 +34,7 @@ struct Seat<H: House, R: Drop, W: Drop> {
 }
 
 /// Serves so many connections, and gives back their windows and how their sessions ended, in the order
-/// in which they came. All threads have ended when it returns, after a fault too.
+/// in which they came. All threads have ended when it returns, after an error too.
 pub(crate) fn serve_all<
     Rt: Threads + Wait + Sync,
     S: Sink + Send + Drop,
@@ -44,9 +44,7 @@ pub(crate) fn serve_all<
     A: Arrivals<R, W> + Drop,
     G: Gate + Sync,
 >(
-    rt: &Rt,
-    alloc: Global,
-    desk: &Desk<S, H>,
+    setting: &Setting<'_, Rt, S, H>,
     windows: Vec<Window<H>>,
     arrivals: A,
     connections: u8,
@@ -57,6 +55,9 @@ pub(crate) fn serve_all<
     ensures { IfOk result (λ parts. ServesAll H.lab R.remaining W.contents
         (A.to_come arrivals) connections parts.1.items parts.0.items) }
 {
+    let rt = setting.rt;
+    let alloc = setting.alloc;
+    let desk = setting.desk;
     thread::scope(
         thread::scope_env(),
         rt,
@@ -147,7 +148,7 @@ fn accept<R: Read + Drop, W: Write + Drop, A: Arrivals<R, W>>(
     }
 }
 
-// Want of memory where the kind says so.
+// Out of memory where the kind says so.
 fn accept_fault(kind: ErrorKind) -> SeatingFault
     ensures memory { kind ≡ ErrorKind.OutOfMemory → result ≡ SeatingFault.Memory }
     ensures other { kind ≢ ErrorKind.OutOfMemory → result ≡ SeatingFault.Accept }

@@ -1,25 +1,21 @@
 //! A server from the opening of its house to its last line.
 ghost use Rattle.std.specs.Prelude.{◌≡◌, ◌<◌, ◌≤◌, ◌+◌, ◌-◌, ◌^◌, ◌++◌, Err, false, length, IfOk, IfErr, OnOk};
-ghost use Rattle.std.specs.List.{list_all};
 ghost use Rattle.std.specs.Io.KnownBytes.{Appends};
-ghost use Rattle.mml_ids.specs.Pieces.{joined};
 ghost use Rattle.mml_journal.specs.Taken.{IsFresh};
 ghost use Rattle.mml_window.specs.Houses.{house_of};
 ghost use Rattle.mml_window.specs.Lists.{world_in};
 ghost use Rattle.mml_window.specs.Logs.{IsLog};
-ghost use Rattle.mml_serving.specs.Closings.{Closes, IsCutShort, LacksLastLine, done_line, listening_line};
+ghost use Rattle.mml_serving.specs.Closings.{Closes, done_line};
 ghost use Rattle.mml_serving.specs.Endings.{EndsBadly, EndsEarly, EndsWithout};
-ghost use Rattle.mml_serving.specs.Serving.{ServesHouse, had_memory};
+ghost use Rattle.mml_serving.specs.Serving.{ServesHouse};
 
-use crate::arriving::{Arrivals, HangUp, LetGo};
-use crate::connection::EndedSession;
+use crate::announcing::write_last;
+use crate::arrivals::{Arrivals, HangUp, LetGo};
+use crate::connection::{EndedSession, all_had_memory};
 use crate::seating::{SeatingFault, serve_all};
-use crate::socket::Socket;
-use mml_ids::{Piece, put};
 use mml_journal::Sink;
 use mml_lab::Lab;
-use mml_lines::put_all;
-use mml_session::{Gate, SessionEnd};
+use mml_session::{Gate, Setting};
 use mml_window::{Blank, Brand, Desk, House, HouseFault, Log, Window, open_house};
 use std::alloc::Global;
 use std::io::Write;
@@ -53,7 +49,7 @@ pub enum ServeFault {
 }
 
 /// Serves so many connections of a listener in a house of the lab, and then writes how many events
-/// there were and to which configuration they led. After a fault of accepting, those connected before
+/// there were and to which configuration they led. After an error of accepting, those connected before
 /// are served to their ends all the same. What the connections are answered is what `serve_arrivals`
 /// says; but what a socket gives and takes no contract knows.
 pub fn serve_on<Rt: Threads + Wait + Sync, S: Sink + Send + Drop, G: Gate + Sync, W: Write>(
@@ -78,22 +74,6 @@ pub fn serve_on<Rt: Threads + Wait + Sync, S: Sink + Send + Drop, G: Gate + Sync
     } else {
         Err(ServeFault::Memory)
     }
-}
-
-// Whether no session of a socket ended for want of memory, and none of its calls failed for it.
-fn all_had_memory(sessions: &[EndedSession<Socket, Socket>]) -> bool
-    ensures { result ≡ list_all had_memory sessions.now }
-{
-    sessions.iter().all(|session| had_memory(session))
-}
-
-fn had_memory(session: &EndedSession<Socket, Socket>) -> bool
-    ensures { result ≡ had_memory session.now }
-{
-    let connection = &session.connection;
-    !matches!(session.end, SessionEnd::Memory)
-        && !connection.reader.end.lacked_memory
-        && !connection.writer.end.lacked_memory
 }
 
 /// Serves the first so many connections that arrive, each as it comes, in a thread of its own and
@@ -176,7 +156,12 @@ fn in_house<
     let Ok(unused) = windows.split_off(usize::from(connections)) else {
         return end_for(ServeFault::Memory, rt, alloc, desk);
     };
-    match serve_all(rt, alloc, &desk, windows, arrivals, connections, gate) {
+    let setting = Setting {
+        rt,
+        alloc,
+        desk: &desk,
+    };
+    match serve_all(&setting, windows, arrivals, connections, gate) {
         Ok((windows, sessions)) => match end_house(rt, alloc, desk, windows, unused) {
             Ok(log) => Ok(ServedHouse { log, sessions }),
             Err(fault) => Err(fault),
@@ -186,13 +171,13 @@ fn in_house<
     }
 }
 
-// Ends a house after a fault, of which nothing else is told.
-fn end_for<Rt: Wait, S: Sink + Drop, H: House, T>(
-    fault: ServeFault,
+/// Ends a house after an error, of which nothing else is told.
+pub fn end_for<Rt: Wait, S: Sink + Drop, H: House, T, F>(
+    fault: F,
     rt: &Rt,
     alloc: Global,
     desk: Desk<S, H>,
-) -> Result<T, ServeFault>
+) -> Result<T, F>
     ensures { result ≡ Err fault }
 {
     let _ = desk.finish(rt, Vec::new(alloc));
@@ -219,76 +204,5 @@ fn end_house<Rt: Wait, S: Sink + Drop, H: House>(
     match desk.finish(rt, windows) {
         Ok(log) => Ok(log),
         Err(_) => Err(ServeFault::Astray),
-    }
-}
-
-/// Writes the first line, which names the port.
-pub fn write_listening<W: Write>(alloc: Global, port: u16, writer: &mut W) -> Result<(), ServeFault>
-    ensures { OnOk result
-        (Appends (W.contents writer.old) (W.contents writer.new) (listening_line port)) }
-{
-    let pieces = [
-        Piece::Text("listening on port "),
-        Piece::Number(port as u64),
-        Piece::Text("\n"),
-    ];
-    write_pieces(alloc, &pieces, writer)
-}
-
-/// Writes the last line, unless the journal was halted.
-pub fn write_last<S, W: Write>(
-    alloc: Global,
-    log: &Log<S>,
-    writer: &mut W,
-) -> Result<(), ServeFault>
-    ensures unhalted { OnOk result (log.now.halted ≡ false) }
-    ensures told { OnOk result (Appends (W.contents writer.old) (W.contents writer.new)
-        (done_line (length log.now.events) log.now.board.number)) }
-    ensures lacking { IfErr result (LacksLastLine log.now.halted (W.contents writer.old)
-        (W.contents writer.new) (done_line (length log.now.events) log.now.board.number)) }
-{
-    if log.halted {
-        return Err(ServeFault::Halted);
-    }
-    let events = log.events.as_slice().len() as u64;
-    write_done(alloc, events, log.board.number(), writer)
-}
-
-// Writes the last line of so many events.
-fn write_done<W: Write>(
-    alloc: Global,
-    events: u64,
-    number: u64,
-    writer: &mut W,
-) -> Result<(), ServeFault>
-    ensures told { OnOk result
-        (Appends (W.contents writer.old) (W.contents writer.new) (done_line events number)) }
-    ensures cut { IfErr result
-        (IsCutShort (W.contents writer.old) (W.contents writer.new) (done_line events number)) }
-{
-    let pieces = [
-        Piece::Text("done: "),
-        Piece::Number(events),
-        Piece::Text(" events, configuration "),
-        Piece::Number(number),
-        Piece::Text("\n"),
-    ];
-    write_pieces(alloc, &pieces, writer)
-}
-
-// Writes a text in one go.
-fn write_pieces<W: Write>(alloc: Global, pieces: &[Piece], writer: &mut W) -> Result<(), ServeFault>
-    ensures told { OnOk result
-        (Appends (W.contents writer.old) (W.contents writer.new) (joined pieces.now)) }
-    ensures cut { IfErr result
-        (IsCutShort (W.contents writer.old) (W.contents writer.new) (joined pieces.now)) }
-{
-    let mut text = Vec::new(alloc);
-    if put(&mut text, pieces).is_err() {
-        return Err(ServeFault::Memory);
-    }
-    match put_all(writer, &text) {
-        Ok(()) => Ok(()),
-        Err(_) => Err(ServeFault::Write),
     }
 }

@@ -1,5 +1,5 @@
 //! One end of a connection over a socket.
-use crate::arriving::{HangUp, LetGo};
+use crate::arrivals::{HangUp, LetGo};
 use mml_ends::Retrying;
 use std::io;
 use std::io::{Error, ErrorKind, Read, Write};

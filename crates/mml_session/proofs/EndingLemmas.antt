@@ -1,6 +1,6 @@
 -- What has been answered so far, and how it ends.
-use Rattle.std.proofs.Common.{◌≡◌, ℕ, List, [], take, refl, sym, ◌∙◌, ap, append-nil, Option, Some, None, subst}
-use Rattle.std.proofs.KnownBytes.{Appends-nil, Appends-trans, Consumes-nil, Consumes-trans}
+use Rattle.std.proofs.Common.{◌≡◌, ℕ, List, [], take, refl, sym, ◌∙◌, ap, append-nil, Option, subst}
+use Rattle.std.proofs.KnownBytes.{Appends-nil, Appends-trans, Consumes-trans}
 use Rattle.std.specs.Io.KnownBytes.{Consumes, Appends, prepend_known}
 use Rattle.mml_lab.specs.Labs.{LabValue}
 use Rattle.mml_lines.specs.LinesOf.{ended}
@@ -11,8 +11,8 @@ use Rattle.mml_session.specs.declared.session.SessionEnd.TheVariants as ends
 use Rattle.mml_session.specs.declared.session.Next.{Next}
 use Rattle.mml_session.specs.declared.session.Next.TheVariants as next
 use Rattle.mml_session.specs.Turns.{Standing}
-use Rattle.mml_session.specs.Talks.{Talk, newcomer, bytes_read, bytes_written, line_read, line_written}
-use Rattle.mml_session.specs.Ends.{AllAnswered, EndedKnown, IsView}
+use Rattle.mml_session.specs.Talks.{Talk, LineTurn, newcomer, bytes_read, bytes_written, line_read, line_written}
+use Rattle.mml_session.specs.Ends.{AllAnswered, LastAnswered, EndedKnown, IsView}
 use Rattle.mml_session.specs.Serving.{ServesNext}
 use Rattle.mml_session.proofs.LongerLemmas.{longer, read_longer, written_longer, empty, end_longer}
 
@@ -55,7 +55,8 @@ module _ (lab : LabValue) (old : WindowValue) where
       }
 
   -- what was answered so far is what was answered
-  abbrev all_so : (st after : Standing) (input a b wrote c d : Option (List ℕ)) → AnsweredSoFar st input a wrote c → after ≡ st → Consumes a b [] → Appends c d []
+  abbrev all_so : (st after : Standing) (input a b wrote c d : Option (List ℕ)) → AnsweredSoFar st input a wrote c → after ≡ st → Consumes a b []
+      → Appends c d []
       → AllAnswered lab old after.window input b wrote d
   all_so st after input a b wrote c d so same taken none = record {
     talk = so.talk;
@@ -64,12 +65,26 @@ module _ (lab : LabValue) (old : WindowValue) where
     appended = still wrote c d (bytes_written so.talk) so.appended none;
   }
 
+  -- and a line more, of whose reply's line so much is out
+  abbrev last_so : (sent : List ℕ → List ℕ) (st after : Standing) (input a b wrote c d : Option (List ℕ)) (so : AnsweredSoFar st input a wrote c)
+      (t : LineTurn lab so.talk.end after)
+      → Consumes a b (line_read t) → Appends c d (sent (line_written t)) → LastAnswered sent lab old after.window input b wrote d
+  last_so sent st after input a b wrote c d so t taken put = record {
+    talk = so.talk;
+    after = after;
+    last = t;
+    stands = refl;
+    consumed = Consumes-trans input a b (bytes_read so.talk) (line_read t) so.consumed taken;
+    appended = Appends-trans wrote c d (bytes_written so.talk) (sent (line_written t)) so.appended put;
+  }
+
   -- who was known there
   knew : (st : Standing) {input left wrote wrote' : Option (List ℕ)} (so : AnsweredSoFar st input left wrote wrote') → so.talk.end.known ≡ st.known
   knew st so = ap (λ (t : Standing). t.known) so.stands
 
   pub ended_so : (st after : Standing) (end : SessionEnd) (input a left wrote c d : Option (List ℕ)) (held : List ℕ)
-      → AnsweredSoFar st input a wrote c → ServesNext (next.Ended end) lab st after a held left c d → EndedKnown end st.known lab old after.window input left wrote d
+      → AnsweredSoFar st input a wrote c → ServesNext (next.Ended end) lab st after a held left c d
+      → EndedKnown end st.known lab old after.window input left wrote d
   ended_so st after ends.End input a left wrote c d held so serves =
       ((held, all_so st after input a (prepend_known held left) wrote c d so serves.0 serves.1 serves.4, serves.2, serves.3), knew st so)
   ended_so st after ends.TooLong input a left wrote c d held so serves =
@@ -94,37 +109,8 @@ module _ (lab : LabValue) (old : WindowValue) where
     knew st so,
   )
   ended_so st after ends.Bye input a left wrote c d held so serves =
-      let one = from_end st so.talk.end after (next.Ended ends.Bye) a left c d held so.stands serves in (
-        (
-          held,
-          record {
-            talk = so.talk;
-            after = after;
-            last = one.0;
-            stands = refl;
-            consumed = Consumes-trans input a (prepend_known held left) (bytes_read so.talk) (line_read one.0) so.consumed one.2;
-            appended = Appends-trans wrote c d (bytes_written so.talk) (line_written one.0) so.appended one.4;
-          },
-          one.1,
-          one.3,
-        ),
-        knew st so,
-      )
+      let one = from_end st so.talk.end after (next.Ended ends.Bye) a left c d held so.stands serves in
+      ((held, last_so (λ line. line) st after input a (prepend_known held left) wrote c d so one.0 one.2 one.4, one.1, one.3), knew st so)
   ended_so st after ends.WriteFault input a left wrote c d held so serves =
-      let one = from_end st so.talk.end after (next.Ended ends.WriteFault) a left c d held so.stands serves in (
-        (
-          held,
-          one.1,
-          record {
-            talk = so.talk;
-            after = after;
-            last = one.0;
-            stands = refl;
-            consumed = Consumes-trans input a (prepend_known held left) (bytes_read so.talk) (line_read one.0) so.consumed one.3;
-            appended = Appends-trans wrote c d (bytes_written so.talk) (take one.1 (line_written one.0)) so.appended one.5;
-          },
-          one.2,
-          one.4,
-        ),
-        knew st so,
-      )
+      let one = from_end st so.talk.end after (next.Ended ends.WriteFault) a left c d held so.stands serves in
+      ((held, one.1, last_so (take one.1) st after input a (prepend_known held left) wrote c d so one.0 one.3 one.5, one.2, one.4), knew st so)

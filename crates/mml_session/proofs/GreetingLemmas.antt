@@ -30,6 +30,7 @@ judged r (Some x) requests.Bye who c e = absurd (cc e)
 judged r None (requests.Do d) who c e = absurd (cc e)
 judged r (Some x) (requests.Do d) who c e = (cc e, cc e)
 
+-- a window that is closed has seen nothing more, and was asked only to show something
 pub closed_so : (told : Result Reply Closed) (r : RosterValue) (known : Option Who) (request : Request) (who : Who) (c : Command) (old new : WindowValue)
     → LeftToJudge who c ≡ greeting r known request → IfErr told (λ _. (new ≡ old) × (is_act c ≡ false))
     → IfErr told (λ _. (known ≡ known) × (new ≡ old) × AsksToSee known request)
@@ -47,6 +48,7 @@ plain_admitted : (found : Option Who) → IsPlain (admitted found)
 plain_admitted None = (refl, refl)
 plain_admitted (Some who) = (refl, refl)
 
+-- the reply of a greeting is short and names no place
 pub plain_greeting : (r : RosterValue) (known : Option Who) (request : Request) → IsPlain (greeting r known request)
 plain_greeting r None (requests.Hello name key) = plain_admitted (principal r name key)
 plain_greeting r (Some who) (requests.Hello name key) = (refl, refl)

@@ -29,7 +29,8 @@ abbrev pub empty : (lab : LabValue) (st : Standing) → Talk lab st
 empty lab st = record { lines = []; replies = []; end = st; each = tt; goes_on = tt; run = refl }
 
 -- the talk with one more line
-unfoldable pub longer : (lab : LabValue) (st : Standing) (t : Talk lab st) (after : Standing) (s : LineTurn lab t.end after) → is_bye s.reply ≡ false → Talk lab st
+unfoldable pub longer : (lab : LabValue) (st : Standing) (t : Talk lab st) (after : Standing) (s : LineTurn lab t.end after)
+    → is_bye s.reply ≡ false → Talk lab st
 longer lab st t after s goes_on = record {
   lines = t.lines ++ s.line ∷ [];
   replies = t.replies ++ s.reply ∷ [];
@@ -39,16 +40,19 @@ longer lab st t after s goes_on = record {
   run = longer_run lab st t.end after t.lines t.replies s.line s.reply t.run s.turn;
 }
 
+-- a talk with one line more has taken that line too
 pub read_longer : (lab : LabValue) (st : Standing) (t : Talk lab st) (after : Standing) (s : LineTurn lab t.end after) (goes_on : is_bye s.reply ≡ false)
     → bytes_read (longer lab st t after s goes_on) ≡ bytes_read t ++ line_read s
 unfolding longer
 read_longer lab st t after s goes_on = longer_flat ended t.lines s.line
 
+-- and its reply's line was written after the others
 pub written_longer : (lab : LabValue) (st : Standing) (t : Talk lab st) (after : Standing) (s : LineTurn lab t.end after) (goes_on : is_bye s.reply ≡ false)
     → bytes_written (longer lab st t after s goes_on) ≡ bytes_written t ++ line_written s
 unfolding longer
 written_longer lab st t after s goes_on = longer_flat (reply_line lab.ids lab.roster) t.replies s.reply
 
+-- and it leads to where that line led
 pub end_longer : (lab : LabValue) (st : Standing) (t : Talk lab st) (after : Standing) (s : LineTurn lab t.end after) (goes_on : is_bye s.reply ≡ false)
     → (longer lab st t after s goes_on).end ≡ after
 unfolding longer

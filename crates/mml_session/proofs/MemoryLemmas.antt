@@ -1,4 +1,4 @@
--- Where the line of a reply that isn't short can't be written, want of memory is told in its place.
+-- Where the line of a reply that isn't short can't be written, out of memory is told in its place.
 use Rattle.std.proofs.Common.{◌≡◌, ◌⊎◌, ℕ, true, false, true≢false, List, [], ◌++◌, refl, sym, ap, ◌∙◌, subst, inl, inr, append-nil, Result, Ok, Err}
 use Rattle.mml_lab.specs.declared.who.Who.{Who}
 use Rattle.mml_lab.specs.Labs.{LabValue}
@@ -33,7 +33,8 @@ stays : (l : List Event) (ps : List ℕ) (r q : Reply) (new : WindowValue) → H
 stays l ps r q new at same none = (at.0, at.1 ∙ (ap (λ (x : Reply). ps ++ places_in x) same ∙ (ap (λ xs. ps ++ xs) none ∙ append-nil ps)))
 
 long_refused : (w : World) (l : List Event) (ps : List ℕ) (r : Reply) (new : WindowValue) (ruled : Ruling) → is_short r ≡ false
-    → r ≡ reply_of (after_ruling w ruled) ruled → HasSeen (entered l (event_of ruled)) (ps ++ places_in r) new → MayRefuse ruled refused.Memory new.refused × HasSeen l ps new
+    → r ≡ reply_of (after_ruling w ruled) ruled → HasSeen (entered l (event_of ruled)) (ps ++ places_in r) new
+    → MayRefuse ruled refused.Memory new.refused × HasSeen l ps new
 long_refused w l ps r new (Denied d) long same at = long_not_short r (replies.Deny d) long same refl
 long_refused w l ps r new (Seen s) long same at = long_not_short r (replies.See s) long same refl
 long_refused w l ps r new (Looked k) long same at = (tt, stays l ps r (replies.Look k) new at same refl)
@@ -44,25 +45,31 @@ long_refused w l ps r new (Granted e done) long same at =
     let v = after_ruling w (Granted e done) in long_not_short r (reply_of_done v.number v.place done) long same (short_done v.number v.place done)
 
 module _ (lab : LabValue) where
-  told_memory : (old new : WindowValue) (who : Who) (c : Command) (r : Reply) → is_short r ≡ false → Told lab old who c r new → Told lab old who c (replies.Refuse refused.Memory) new
+  told_memory : (old new : WindowValue) (who : Who) (c : Command) (r : Reply) → is_short r ≡ false → Told lab old who c r new
+      → Told lab old who c (replies.Refuse refused.Memory) new
   told_memory old new who c r long t = record { list = t.list; later = t.later; legal = t.legal; says = inr (says t.says) }
     where
-      says : Plainly lab t.list old.places (ruling_at lab (world_in lab t.list) who c) r new ⊎ Refuses t.list old.places (ruling_at lab (world_in lab t.list) who c) r new
+      says : Plainly lab t.list old.places (ruling_at lab (world_in lab t.list) who c) r new
+          ⊎ Refuses t.list old.places (ruling_at lab (world_in lab t.list) who c) r new
           → Refuses t.list old.places (ruling_at lab (world_in lab t.list) who c) (replies.Refuse refused.Memory) new
       says (inl p) =
           let k = long_refused (world_in lab t.list) t.list old.places r new (ruling_at lab (world_in lab t.list) who c) long p.0 p.1 in
           (refused.Memory, refl, k.0, k.1)
       says (inr q) = long_not_short r (replies.Refuse q.0) long q.1 refl
 
-  settles_memory : (st next : Standing) (g : Greeting) (r : Reply) → IsPlain g → is_short r ≡ false → Settles lab st g r next → Settles lab st g (replies.Refuse refused.Memory) next
+  settles_memory : (st next : Standing) (g : Greeting) (r : Reply) → IsPlain g → is_short r ≡ false → Settles lab st g r next
+      → Settles lab st g (replies.Refuse refused.Memory) next
   settles_memory st next (Answered q x) r plain long h = long_not_short r q long h.0 plain.0
   settles_memory st next (LeftToJudge who c) r plain long h = (h.0, told_memory st.window next.window who c r long h.1)
 
-  asked_memory : (st next : Standing) (asked : Result Request LineFault) (r : Reply) → is_short r ≡ false → Asked lab st asked r next → Asked lab st asked (replies.Refuse refused.Memory) next
+  asked_memory : (st next : Standing) (asked : Result Request LineFault) (r : Reply) → is_short r ≡ false → Asked lab st asked r next
+      → Asked lab st asked (replies.Refuse refused.Memory) next
   asked_memory st next (Err fault) r long h = long_not_short r (replies.Refuse (refusal_of fault)) long h.0 refl
-  asked_memory st next (Ok request) r long h = settles_memory st next (greeting lab.roster st.known request) r (plain_greeting lab.roster st.known request) long h
+  asked_memory st next (Ok request) r long h =
+      settles_memory st next (greeting lab.roster st.known request) r (plain_greeting lab.roster st.known request) long h
 
-  turn_memory : (st next : Standing) (line : List ℕ) (r : Reply) → is_short r ≡ false → Turn lab st line r next → Turn lab st line (replies.Refuse refused.Memory) next
+  turn_memory : (st next : Standing) (line : List ℕ) (r : Reply) → is_short r ≡ false → Turn lab st line r next
+      → Turn lab st line (replies.Refuse refused.Memory) next
   turn_memory st next line r long (inl h) = inl (asked_memory st next (request_in line) r long h)
   turn_memory st next line r long (inr h) = long_not_short r (replies.Refuse refused.Memory) long h.0 refl
 

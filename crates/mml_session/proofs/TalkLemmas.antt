@@ -1,5 +1,6 @@
 -- What a talk leaves in its window, and which lines it answers.
-use Rattle.std.proofs.Common.{◌≡◌, ◌⊎◌, ℕ, suc, List, [], ◌∷◌, ◌++◌, length, flat_map, refl, sym, ◌∙◌, ap, append_assoc, append-nil, subst, inl, inr, Option, Some, None, Result, Ok, Err, All}
+use Rattle.std.proofs.Common.{◌≡◌, ◌⊎◌, ℕ, suc, List, [], ◌∷◌, ◌++◌, length, flat_map, refl, sym, ◌∙◌, ap, append_assoc, append-nil, subst, inl, inr, Option}
+use Rattle.std.proofs.Common.{Some, None, Result, Ok, Err, All}
 use Rattle.std.specs.List.{AllByRecursion}
 use Rattle.std.proofs.lemmas.List.Elements.{All-nil, All-cons}
 use mathlib.Core.List.{IsPrefix}
@@ -45,7 +46,9 @@ module _ (lab : LabValue) where
   told_on : (old new : WindowValue) (who : Who) (c : Command) (r : Reply) → Told lab old who c r new → WentOn old new r
   told_on old new who c r t = on t.says
     where
-      on : Plainly lab t.list old.places (ruling_at lab (world_in lab t.list) who c) r new ⊎ Refuses t.list old.places (ruling_at lab (world_in lab t.list) who c) r new → WentOn old new r
+      on : Plainly lab t.list old.places (ruling_at lab (world_in lab t.list) who c) r new
+          ⊎ Refuses t.list old.places (ruling_at lab (world_in lab t.list) who c) r new
+          → WentOn old new r
       on (inl p) = record {
         places = p.1.1;
         seen = subst (IsPrefix old.seen) (sym p.1.0) (entered_on old.seen t.list (event_of (ruling_at lab (world_in lab t.list) who c)) t.later);
@@ -107,9 +110,11 @@ all_unbroken : (limit : ℕ) (ls : List (List ℕ)) → AllByRecursion (IsWithin
 all_unbroken limit [] each = All-nil IsUnbroken
 all_unbroken limit (l ∷ ls) each = All-cons IsUnbroken l ls each.0.0 (all_unbroken limit ls each.1)
 
+-- the lines of what a talk took and of more are its own, and then those of what follows
 pub first_lines : (lab : LabValue) (st : Standing) (t : Talk lab st) (rest : List ℕ) → lines_of (bytes_read t ++ rest) ≡ t.lines ++ lines_of rest
 first_lines lab st t rest = lines_first t.lines rest (all_unbroken MAX_REQUEST t.lines t.each)
 
+-- where no newline follows, they are its own alone
 pub all_lines : (lab : LabValue) (st : Standing) (t : Talk lab st) (rest : List ℕ) → IsUnbroken rest → lines_of (bytes_read t ++ rest) ≡ t.lines
 all_lines lab st t rest unbroken =
     first_lines lab st t rest ∙ (ap (λ (ls : List (List ℕ)). t.lines ++ ls) (no_line rest unbroken) ∙ append-nil t.lines)

@@ -1,5 +1,5 @@
 -- What the window's answer to a command says of the reply.
-use Rattle.std.proofs.Common.{◌≡◌, ◌⊎◌, ℕ, List, [], ◌∷◌, ◌++◌, refl, sym, ap, ◌∙◌, subst, inl, inr, append-nil, Option, Result, Ok, Err, IfOk}
+use Rattle.std.proofs.Common.{◌≡◌, ◌⊎◌, ℕ, List, [], ◌++◌, refl, sym, ap, ◌∙◌, subst, inl, inr, append-nil, Option, Result, Ok, Err, IfOk}
 use Rattle.mml_lab.specs.declared.who.Who.{Who}
 use Rattle.mml_lab.specs.Labs.{LabValue}
 use Rattle.mml_board.specs.declared.event.Event.{Event}
@@ -27,6 +27,7 @@ use Rattle.mml_window.specs.Windows.{WindowValue, HasSeen, window_with}
 use Rattle.mml_window.proofs.ListLemmas.{world-one_more}
 use Rattle.mml_session.specs.Turns.{Told, Plainly, Refuses, Settles, standing}
 
+-- the reply to what the window granted tells it
 pub granted_told : (lab : LabValue) (old new : WindowValue) (who : Who) (c : Command) (place number : ℕ) (done : Done)
     → Answers lab old who c (Granted place number done) new → Told lab old who c (reply_of_done number place done) new
 granted_told lab old new who c place number done answers =
@@ -42,7 +43,10 @@ granted_told lab old new who c place number done answers =
       says = inl (subst (λ (ruled : Ruling). Plainly lab l old.places ruled (reply_of_done number place done) new) (sym takes.ruled) (
         ap (λ n. reply_of_done n place done) (takes.numbered ∙ ap (λ (w : World). w.number) world)
             ∙ ap (λ p. reply_of_done next.number p done) (takes.placed ∙ ap (λ (w : World). w.place) world),
-        (ap (λ (w : WindowValue). w.seen) answers.3.2, ap (λ (w : WindowValue). w.places) answers.3.2 ∙ ap (λ ps. old.places ++ ps) (ap as_list (sym (place_of_done number place done)))),
+        (
+          ap (λ (w : WindowValue). w.seen) answers.3.2,
+          ap (λ (w : WindowValue). w.places) answers.3.2 ∙ ap (λ ps. old.places ++ ps) (ap as_list (sym (place_of_done number place done))),
+        ),
       ));
     }
 
@@ -53,22 +57,40 @@ has_seen l ps new is = (ap (λ (w : WindowValue). w.seen) is, ap (λ (w : Window
 seen_so : (l : List Event) (ps : List ℕ) (new : WindowValue) {why : Option Refusal} → new ≡ window_with l ps why → HasSeen l (ps ++ []) new
 seen_so l ps new is = (ap (λ (w : WindowValue). w.seen) is, ap (λ (w : WindowValue). w.places) is ∙ sym (append-nil ps))
 
+-- the reply to what the window denied tells it
 pub denied_told : (lab : LabValue) (old new : WindowValue) (who : Who) (c : Command) (d : Denial)
     → Answers lab old who c (Denied d) new → Told lab old who c (replies.Deny d) new
 denied_told lab old new who c d answers = record {
   list = answers.0;
   later = answers.1;
   legal = answers.2;
-  says = inl (subst (λ (ruled : Ruling). Plainly lab answers.0 old.places ruled (replies.Deny d) new) (sym answers.3.0) (refl, seen_so answers.0 old.places new answers.3.1));
+  says = inl (subst (λ (ruled : Ruling). Plainly lab answers.0 old.places ruled (replies.Deny d) new) (sym answers.3.0) (
+    refl,
+    seen_so answers.0 old.places new answers.3.1,
+  ));
 }
 
 -- an act that is refused is told as the ruling itself, or as the refusal in its place
-refused_says : (lab : LabValue) (l : List Event) (ps : List ℕ) (who : Who) (c : Command) (why : Refusal) (new : WindowValue) → Says lab l ps who c (Refused why) new
-    → Plainly lab l ps (ruling_at lab (world_in lab l) who c) (replies.Refuse (refusal_for why)) new ⊎ Refuses l ps (ruling_at lab (world_in lab l) who c) (replies.Refuse (refusal_for why)) new
-refused_says lab l ps who c Full new h = inl (subst (λ (ruled : Ruling). Plainly lab l ps ruled (replies.Refuse refused.Full) new) (sym h.0) (refl, seen_so l ps new h.2))
-refused_says lab l ps who c Journal new h = inr (subst (λ (ruled : Ruling). Refuses l ps ruled (replies.Refuse refused.Journal) new) (sym h.0.2) (refused.Journal, refl, ap (λ (w : WindowValue). w.refused) h.1, has_seen l ps new h.1))
-refused_says lab l ps who c Memory new h = inr (subst (λ (ruled : Ruling). Refuses l ps ruled (replies.Refuse refused.Memory) new) (sym h.0.2) (refused.Memory, refl, ap (λ (w : WindowValue). w.refused) h.1, has_seen l ps new h.1))
+refused_says : (lab : LabValue) (l : List Event) (ps : List ℕ) (who : Who) (c : Command) (why : Refusal) (new : WindowValue)
+    → Says lab l ps who c (Refused why) new
+    → Plainly lab l ps (ruling_at lab (world_in lab l) who c) (replies.Refuse (refusal_for why)) new
+    ⊎ Refuses l ps (ruling_at lab (world_in lab l) who c) (replies.Refuse (refusal_for why)) new
+refused_says lab l ps who c Full new h =
+    inl (subst (λ (ruled : Ruling). Plainly lab l ps ruled (replies.Refuse refused.Full) new) (sym h.0) (refl, seen_so l ps new h.2))
+refused_says lab l ps who c Journal new h = inr (subst (λ (ruled : Ruling). Refuses l ps ruled (replies.Refuse refused.Journal) new) (sym h.0.2) (
+  refused.Journal,
+  refl,
+  ap (λ (w : WindowValue). w.refused) h.1,
+  has_seen l ps new h.1,
+))
+refused_says lab l ps who c Memory new h = inr (subst (λ (ruled : Ruling). Refuses l ps ruled (replies.Refuse refused.Memory) new) (sym h.0.2) (
+  refused.Memory,
+  refl,
+  ap (λ (w : WindowValue). w.refused) h.1,
+  has_seen l ps new h.1,
+))
 
+-- the reply to what the window refused tells it
 pub refused_told : (lab : LabValue) (old new : WindowValue) (who : Who) (c : Command) (why : Refusal)
     → Answers lab old who c (Refused why) new → Told lab old who c (replies.Refuse (refusal_for why)) new
 refused_told lab old new who c why answers = record {
@@ -79,7 +101,8 @@ refused_told lab old new who c why answers = record {
 }
 
 -- what the window tells settles a command that is left to judge
-pub settled_so : (lab : LabValue) (told : Result Reply Closed) (g : Greeting) (who : Who) (c : Command) (known : Option Who) (old new : WindowValue) → LeftToJudge who c ≡ g
+pub settled_so : (lab : LabValue) (told : Result Reply Closed) (g : Greeting) (who : Who) (c : Command) (known : Option Who) (old new : WindowValue)
+    → LeftToJudge who c ≡ g
     → IfOk told (λ r. Told lab old who c r new) → IfOk told (λ r. Settles lab (standing known old) g r (standing known new))
 settled_so lab (Ok r) g who c known old new left h = subst (λ (x : Greeting). Settles lab (standing known old) x r (standing known new)) left (refl, h)
 settled_so lab (Err fault) g who c known old new left h = tt

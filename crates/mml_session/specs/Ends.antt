@@ -72,7 +72,8 @@ Ended end.Closed lab old new input left wrote wrote' =
 Ended end.Memory lab old new input left wrote wrote' = (new ≡ old) × Consumes input left [] × Appends wrote wrote' []
 
 -- who was known when that was answered: before its last line, where it ended by one
-abbrev pub Knew : (end : SessionEnd) (who : Option Who) (lab : LabValue) (old new : WindowValue) (input left wrote wrote' : Option (List ℕ)) → Ended end lab old new input left wrote wrote' → Type 0
+abbrev pub Knew : (end : SessionEnd) (who : Option Who) (lab : LabValue) (old new : WindowValue) (input left wrote wrote' : Option (List ℕ))
+    → Ended end lab old new input left wrote wrote' → Type 0
 Knew end.Bye who lab old new input left wrote wrote' e = e.1.talk.end.known ≡ who
 Knew end.End who lab old new input left wrote wrote' e = e.1.talk.end.known ≡ who
 Knew end.ReadFault who lab old new input left wrote wrote' e = e.1.talk.end.known ≡ who
@@ -82,5 +83,7 @@ Knew end.Closed who lab old new input left wrote wrote' e = e.1.talk.end.known �
 Knew end.Memory who lab old new input left wrote wrote' e = who ≡ None
 
 -- the same, and who was known
-abbrev pub EndedKnown : SessionEnd → Option Who → LabValue → WindowValue → WindowValue → Option (List ℕ) → Option (List ℕ) → Option (List ℕ) → Option (List ℕ) → Type 0
-EndedKnown end who lab old new input left wrote wrote' = (e : Ended end lab old new input left wrote wrote') × Knew end who lab old new input left wrote wrote' e
+abbrev pub EndedKnown : SessionEnd → Option Who → LabValue → WindowValue → WindowValue → Option (List ℕ) → Option (List ℕ) → Option (List ℕ)
+    → Option (List ℕ) → Type 0
+EndedKnown end who lab old new input left wrote wrote' =
+    (e : Ended end lab old new input left wrote wrote') × Knew end who lab old new input left wrote wrote' e

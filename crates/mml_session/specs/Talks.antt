@@ -29,7 +29,7 @@ pub record LineTurn (lab : LabValue) (st after : Standing) : Type 0 where
   pub short : IsWithinLimit MAX_REQUEST line
   pub turn : Turn lab st line reply after
 
--- the bytes of the lines, each with its byte 10
+-- the bytes of the lines, each with its newline
 abbrev pub bytes_read : {lab : LabValue} {st : Standing} → Talk lab st → List ℕ
 bytes_read t = flat_map ended t.lines
 

@@ -9,21 +9,20 @@ ghost use Rattle.mml_session.specs.Turns.{Told, Settles, Turn, standing};
 ghost use Rattle.mml_session.specs.Ends.{IsView};
 ghost use Rattle.mml_session.specs.Asking.{AsksToSee};
 
+use crate::setting::Setting;
 use mml_codec::{
     Greeting, LineScratch, Refused, Reply, Request, greet, read_request_with, reply_of_done,
 };
 use mml_journal::Sink;
 use mml_lab::Who;
 use mml_policy::Command;
-use mml_window::{Answer, Closed, Desk, House, SightFault, Window};
+use mml_window::{Answer, Closed, House, SightFault, Window};
 use std::alloc::Global;
 use std::sync::Wait;
 
 /// Answers a line, unless it asks a window that is closed.
 pub(crate) fn answer<Rt: Wait, S: Sink + Drop, H: House>(
-    rt: &Rt,
-    alloc: Global,
-    desk: &Desk<S, H>,
+    setting: &Setting<'_, Rt, S, H>,
     window: &mut Window<H>,
     known: &mut Option<Who>,
     line: &[u8],
@@ -37,17 +36,15 @@ pub(crate) fn answer<Rt: Wait, S: Sink + Drop, H: House>(
     ensures closed { IfErr result (λ _. (known.new ≡ known.old) × (window.new ≡ window.old)
         × IsView (standing known.old window.old) line.now) }
 {
-    match read_request_with(alloc, line, scratch) {
-        Ok(request) => settle(rt, alloc, desk, window, known, request),
+    match read_request_with(setting.alloc, line, scratch) {
+        Ok(request) => settle(setting, window, known, request),
         Err(fault) => Ok(Reply::Refuse(fault.refusal())),
     }
 }
 
 /// Greets, says bye, or asks the window.
 fn settle<Rt: Wait, S: Sink + Drop, H: House>(
-    rt: &Rt,
-    alloc: Global,
-    desk: &Desk<S, H>,
+    setting: &Setting<'_, Rt, S, H>,
     window: &mut Window<H>,
     known: &mut Option<Who>,
     request: Request,
@@ -65,15 +62,13 @@ fn settle<Rt: Wait, S: Sink + Drop, H: House>(
             *known = now;
             Ok(reply)
         }
-        Greeting::LeftToJudge { who, command } => obey(rt, alloc, desk, window, who, &command),
+        Greeting::LeftToJudge { who, command } => obey(setting, window, who, &command),
     }
 }
 
 /// The window's reply to a command: views are asked of what is published, and acts of the desk.
 fn obey<Rt: Wait, S: Sink + Drop, H: House>(
-    rt: &Rt,
-    alloc: Global,
-    desk: &Desk<S, H>,
+    setting: &Setting<'_, Rt, S, H>,
     window: &mut Window<H>,
     who: Who,
     command: &Command,
@@ -86,14 +81,14 @@ fn obey<Rt: Wait, S: Sink + Drop, H: House>(
 {
     match command {
         Command::See { node } => see(window, who, *node),
-        Command::Look { node } => look(alloc, window, who, *node),
-        Command::Report => report(alloc, window, who),
+        Command::Look { node } => look(setting.alloc, window, who, *node),
+        Command::Report => report(setting.alloc, window, who),
         Command::Move { .. }
         | Command::Close
         | Command::Fault { .. }
         | Command::Link { .. }
         | Command::Cut { .. }
-        | Command::Release { .. } => Ok(ask(rt, alloc, desk, window, who, command)),
+        | Command::Release { .. } => Ok(ask(setting, window, who, command)),
     }
 }
 
@@ -146,9 +141,7 @@ fn report<H: House>(alloc: Global, window: &mut Window<H>, who: Who) -> Result<R
 
 /// The reply to an act, for which alone the lock is taken.
 fn ask<Rt: Wait, S: Sink + Drop, H: House>(
-    rt: &Rt,
-    alloc: Global,
-    desk: &Desk<S, H>,
+    setting: &Setting<'_, Rt, S, H>,
     window: &mut Window<H>,
     who: Who,
     command: &Command,
@@ -157,7 +150,8 @@ fn ask<Rt: Wait, S: Sink + Drop, H: House>(
     ensures told { Told H.lab window.old who command.now result window.new }
     ensures about { IsAbout H.lab.ids H.lab.roster result }
 {
-    match desk.ask(rt, alloc, window, who, command) {
+    let desk = setting.desk;
+    match desk.ask(setting.rt, setting.alloc, window, who, command) {
         Answer::Granted {
             place,
             number,

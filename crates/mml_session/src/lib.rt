@@ -5,6 +5,8 @@ mod answering;
 mod gate;
 pub mod laws;
 mod session;
+mod setting;
 
 pub use gate::{Gate, NoGate, Point};
 pub use session::{Ending, SessionEnd, serve_known, serve_one};
+pub use setting::Setting;

@@ -1,7 +1,7 @@
-ghost use Rattle.std.specs.Prelude.{◌≡◌, ◌<◌, ◌≤◌, None, IfSome, vec_capacity};
+ghost use Rattle.std.specs.Prelude.{◌≡◌, ◌<◌, ◌≤◌, None, IfOk, IfSome, vec_capacity};
 ghost use Rattle.std.specs.Io.KnownBytes.{prepend_known};
 ghost use Rattle.mml_lines.specs.LinesOf.{IsWithinLimit};
-ghost use Rattle.mml_lines.specs.LinesState.{bytes_ahead};
+ghost use Rattle.mml_lines.specs.LinesState.{bytes_ahead, fresh};
 ghost use Rattle.mml_lab.specs.Rosters.{IsPrincipal};
 ghost use Rattle.mml_session.specs.Turns.{standing, is_bye};
 ghost use Rattle.mml_session.specs.Ends.{Ended, EndedKnown};
@@ -9,7 +9,9 @@ ghost use Rattle.mml_session.specs.Serving.{SendsReply, ServesLine, ServesNext, 
 
 use crate::answering::answer;
 use crate::gate::{Gate, Point};
+use crate::setting::Setting;
 use mml_codec::{LineScratch, MAX_REQUEST, REPLY_ROOM, Reply, tell_reply};
+use mml_ids::Memory;
 use mml_journal::Sink;
 use mml_lab::Who;
 use mml_lines::{Lines, Step, put_all};
@@ -29,7 +31,7 @@ pub enum SessionEnd {
     ReadFault,
     /// A write failed, or took nothing.
     WriteFault,
-    /// More bytes than a request may have came without byte 10.
+    /// More bytes than a request may have came without a newline.
     TooLong,
     /// The window shows nothing any more.
     Closed,
@@ -62,14 +64,13 @@ pub fn serve_one<Rt: Wait, S: Sink + Drop, H: House, R: Read, W: Write, G: Gate>
     ensures untouched { result ≡ SessionEnd.Memory →
         (reader.new ≡ reader.old) × (writer.new ≡ writer.old) }
 {
-    serve_known(rt, alloc, desk, window, reader, writer, gate, connection).end
+    let setting = Setting { rt, alloc, desk };
+    serve_known(&setting, window, reader, writer, gate, connection).end
 }
 
 /// The same, and tells who was known at the end.
 pub fn serve_known<Rt: Wait, S: Sink + Drop, H: House, R: Read, W: Write, G: Gate>(
-    rt: &Rt,
-    alloc: Global,
-    desk: &Desk<S, H>,
+    setting: &Setting<'_, Rt, S, H>,
     window: &mut Window<H>,
     reader: &mut R,
     writer: &mut W,
@@ -82,45 +83,46 @@ pub fn serve_known<Rt: Wait, S: Sink + Drop, H: House, R: Read, W: Write, G: Gat
     ensures untouched { result.end ≡ SessionEnd.Memory →
         (reader.new ≡ reader.old) × (writer.new ≡ writer.old) }
 {
-    let Ok(mut lines) = Lines::new(alloc, MAX_REQUEST) else {
-        return unserved();
+    let Ok(mut session) = Session::new(setting.alloc, connection) else {
+        return Ending {
+            end: SessionEnd::Memory,
+            who: None,
+        };
     };
-    let Ok(mut out) = Vec::with_capacity(alloc, REPLY_ROOM) else {
-        return unserved();
-    };
-    let Ok(mut scratch) = LineScratch::new(alloc, MAX_REQUEST) else {
-        return unserved();
-    };
-    let mut known = None;
     loop {
-        let who = known;
-        match serve_next(
-            rt,
-            alloc,
-            desk,
-            window,
-            &mut known,
-            &mut lines,
-            &mut scratch,
-            &mut out,
-            reader,
-            writer,
-            gate,
-            connection,
-        ) {
+        let who = session.known;
+        match serve_next(setting, &mut session, window, reader, writer, gate) {
             Next::Served => (),
             Next::Ended(end) => return Ending { end, who },
         }
     }
 }
 
-// How a session ends before anything is read.
-fn unserved() -> Ending
-    ensures { (result.end ≡ SessionEnd.Memory) × (result.who ≡ None) }
-{
-    Ending {
-        end: SessionEnd::Memory,
-        who: None,
+// What a session holds: who is known on its connection, the lines that come, and room for reading one
+// and for its reply.
+#[derive(Drop)]
+struct Session {
+    connection: u8,
+    known: Option<Who>,
+    lines: Lines,
+    scratch: LineScratch,
+    reply: Vec<u8>,
+}
+
+impl Session {
+    // Reserves all that the session ever needs. Nobody is known.
+    fn new(alloc: Global, connection: u8) -> Result<Session, Memory>
+        ensures nobody { IfOk result (λ session. session.known ≡ None) }
+        ensures lines { IfOk result (λ session. session.lines ≡ fresh MAX_REQUEST) }
+        ensures room { IfOk result (λ session. REPLY_ROOM ≤ vec_capacity session.reply) }
+    {
+        Ok(Session {
+            connection,
+            known: None,
+            lines: Lines::new(alloc, MAX_REQUEST)?,
+            scratch: LineScratch::new(alloc, MAX_REQUEST)?,
+            reply: Vec::with_capacity(alloc, REPLY_ROOM)?,
+        })
     }
 }
 
@@ -133,50 +135,35 @@ enum Next {
 
 // Reads the next line, answers it and writes the reply.
 fn serve_next<Rt: Wait, S: Sink + Drop, H: House, R: Read, W: Write, G: Gate>(
-    rt: &Rt,
-    alloc: Global,
-    desk: &Desk<S, H>,
+    setting: &Setting<'_, Rt, S, H>,
+    session: &mut Session,
     window: &mut Window<H>,
-    known: &mut Option<Who>,
-    lines: &mut Lines,
-    scratch: &mut LineScratch,
-    out: &mut Vec<u8>,
     reader: &mut R,
     writer: &mut W,
     gate: &G,
-    connection: u8,
 ) -> Next
-    requires going { lines.old.ending ≡ None }
-    requires limit { lines.old.limit ≡ MAX_REQUEST }
-    requires room { REPLY_ROOM ≤ vec_capacity out.old }
-    requires principal { IfSome known.old (IsPrincipal H.lab.roster) }
-    ensures going { result ≡ Next.Served → lines.new.ending ≡ None }
-    ensures limit { lines.new.limit ≡ MAX_REQUEST }
-    ensures room { REPLY_ROOM ≤ vec_capacity out.new }
-    ensures principal { IfSome known.new (IsPrincipal H.lab.roster) }
+    requires going { session.old.lines.ending ≡ None }
+    requires limit { session.old.lines.limit ≡ MAX_REQUEST }
+    requires room { REPLY_ROOM ≤ vec_capacity session.old.reply }
+    requires principal { IfSome session.old.known (IsPrincipal H.lab.roster) }
+    ensures going { result ≡ Next.Served → session.new.lines.ending ≡ None }
+    ensures limit { session.new.lines.limit ≡ MAX_REQUEST }
+    ensures room { REPLY_ROOM ≤ vec_capacity session.new.reply }
+    ensures principal { IfSome session.new.known (IsPrincipal H.lab.roster) }
     // Each line brings the end nearer, since there is a most of reads.
-    ensures progress { result ≡ Next.Served → bytes_ahead lines.new < bytes_ahead lines.old }
-    ensures serves { ServesNext result H.lab (standing known.old window.old)
-        (standing known.new window.new)
-        (prepend_known lines.old.unread (R.remaining reader.old))
-        lines.new.unread (R.remaining reader.new)
+    ensures progress { result ≡ Next.Served →
+        bytes_ahead session.new.lines < bytes_ahead session.old.lines }
+    ensures serves { ServesNext result H.lab (standing session.old.known window.old)
+        (standing session.new.known window.new)
+        (prepend_known session.old.lines.unread (R.remaining reader.old))
+        session.new.lines.unread (R.remaining reader.new)
         (W.contents writer.old) (W.contents writer.new) }
 {
-    match lines.next(reader) {
+    match session.lines.next(reader) {
         Step::Line => {
-            gate.pass(connection, Point::Line);
-            let said = serve_line(
-                rt,
-                alloc,
-                desk,
-                window,
-                known,
-                lines.bytes(),
-                scratch,
-                out,
-                writer,
-            );
-            go_on(said, gate, connection)
+            gate.pass(session.connection, Point::Line);
+            let said = serve_line(setting, session, window, writer);
+            go_on(said, gate, session.connection)
         }
         Step::TooLong => Next::Ended(SessionEnd::TooLong),
         Step::End => Next::Ended(SessionEnd::End),
@@ -213,29 +200,34 @@ enum Said {
     Unwritten(usize),
 }
 
-// Answers a line and writes the reply, if it has one.
+// Answers the line that was read last and writes the reply, if it has one.
 fn serve_line<Rt: Wait, S: Sink + Drop, H: House, W: Write>(
-    rt: &Rt,
-    alloc: Global,
-    desk: &Desk<S, H>,
+    setting: &Setting<'_, Rt, S, H>,
+    session: &mut Session,
     window: &mut Window<H>,
-    known: &mut Option<Who>,
-    line: &[u8],
-    scratch: &mut LineScratch,
-    out: &mut Vec<u8>,
     writer: &mut W,
 ) -> Result<Said, Closed>
-    requires line { IsWithinLimit MAX_REQUEST line.now }
-    requires room { REPLY_ROOM ≤ vec_capacity out.old }
-    requires principal { IfSome known.old (IsPrincipal H.lab.roster) }
-    ensures room { REPLY_ROOM ≤ vec_capacity out.new }
-    ensures principal { IfSome known.new (IsPrincipal H.lab.roster) }
-    ensures serves { ServesLine result H.lab (standing known.old window.old)
-        (standing known.new window.new) line.now (W.contents writer.old) (W.contents writer.new) }
+    requires line { IsWithinLimit MAX_REQUEST session.old.lines.line }
+    requires room { REPLY_ROOM ≤ vec_capacity session.old.reply }
+    requires principal { IfSome session.old.known (IsPrincipal H.lab.roster) }
+    ensures lines { session.new.lines ≡ session.old.lines }
+    ensures room { REPLY_ROOM ≤ vec_capacity session.new.reply }
+    ensures principal { IfSome session.new.known (IsPrincipal H.lab.roster) }
+    ensures serves { ServesLine result H.lab (standing session.old.known window.old)
+        (standing session.new.known window.new) session.old.lines.line
+        (W.contents writer.old) (W.contents writer.new) }
 {
-    let reply = answer(rt, alloc, desk, window, known, line, scratch)?;
-    let told = tell_reply(alloc, window.ids(), window.roster(), reply, out);
-    Ok(send(&told, out, writer))
+    let line = session.lines.bytes();
+    let reply = answer(
+        setting,
+        window,
+        &mut session.known,
+        line,
+        &mut session.scratch,
+    )?;
+    let out = &mut session.reply;
+    let told = tell_reply(setting.alloc, window.ids(), window.roster(), reply, out);
+    Ok(send(&told, &session.reply, writer))
 }
 
 // Writes the line of a reply.

@@ -45,10 +45,12 @@ moves_paid r w (e ∷ es) k legal steps =
     let rest = moves_paid r (after w e) es (after-world w e k possible.1) here.1 of_steps.1 in
     omega (arith, first, rest)
 
+-- all potentials of a network together are 2 for each link and 3 for each node at the most
 pub network_most : (n : Network) → IsNetwork n → whole_potential (configuration_of n) ≤ 2 * link_count n + 3 * length n.registers
 unfolding link_count
 network_most n k = whole_most (configuration_of n) k.lawful
 
+-- over grants, releases and closes, 2 moves for each link and 3 for each node are applied at the most
 pub moves_bounded : (r : RosterValue) (w : World) (es : List Event) → IsWorld w → is_legal_list r w es ≡ true → list_all is_of_step es ≡ true
     → applied_over w es ≤ 2 * link_count w.network + 3 * size w
 moves_bounded r w es k legal steps =
@@ -58,6 +60,7 @@ moves_bounded r w es k legal steps =
 
 -- ---- each close applies a move
 
+-- a close where some move is chosen applies one at least
 pub close_moves : (w : World) → IsWorld w → is_any_chosen w ≡ true → 1 ≤ chosen_count w
 unfolding chosen_count
 close_moves w k any =
@@ -78,6 +81,7 @@ closes_fewer r w (e ∷ es) k legal =
     one event.Close p = close_moves w k p
     one _ p = omega arith
 
+-- over grants, releases and closes, there are 2 closes for each link and 3 for each node at the most
 pub closes_bounded : (r : RosterValue) (w : World) (es : List Event) → IsWorld w → is_legal_list r w es ≡ true → list_all is_of_step es ≡ true
     → count_closes es ≤ 2 * link_count w.network + 3 * size w
 closes_bounded r w es k legal steps =

@@ -48,6 +48,7 @@ cut (suc k) w (e ∷ es) full less = go (cut k (after w e) es full.1) (cut (suc 
         let rounds = rest.4 in
         (e ∷ rest.0, rest.1, rest.2, ap (λ z. e ∷ z) rest.3, (e ∷ rounds.0, rounds.1, ap (λ z. e ∷ z) rounds.2, longer_round w e rounds.0 rounds.3, rounds.4))
 
+-- where closes find all privileged nodes chosen, there are at most 4 for each two nodes, and 1 for one left over
 pub closes_few : (r : RosterValue) (w : World) (es : List Event) → IsWorld w → is_legal_list r w es ≡ true → list_all is_of_step es ≡ true
     → ClosesFull w es → count_closes es ≤ rounds_for (size w)
 closes_few r w es k legal of_step full = elim (cases_lt (rounds_for (size w)) (count_closes es)) [

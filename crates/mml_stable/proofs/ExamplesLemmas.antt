@@ -7,7 +7,7 @@ use Rattle.std.specs.Ordering.{nat_cmp}
 use Rattle.std.specs.FinSet as sets
 use Rattle.std.proofs.lemmas.Bool.{and_parts, and_from, both_ways, eqb-true, ltb-true, leb-true, false≢true}
 use Rattle.mml_ids.specs.Search.{count_below}
-use Rattle.mml_rules.specs.declared.registers.Regs.{Regs}
+use Rattle.mml_rules.specs.declared.regs.Regs.{Regs}
 use Rattle.mml_rules.specs.declared.rule.Rule.{Rule}
 use Rattle.mml_rules.specs.Configuration.{Configuration}
 use Rattle.mml_rules.specs.Network.{Network, neighbours_at, registers_at, configuration_of, IsNetwork, with_link}
@@ -146,6 +146,7 @@ points_over (suc (suc zero)) j e = let at : 0 ≡ j = cc in subst (λ j. links 2
 points_over (suc (suc (suc zero))) j e = let at : 2 ≡ j = cc in subst (λ j. links 3 j ≡ true) at refl
 points_over (suc (suc (suc (suc i)))) j e = absurd cc
 
+-- the triangle with a tail is a lawful world
 pub world : IsWorld triangle_world
 world = record {
   network = record {
@@ -162,6 +163,7 @@ world = record {
   hold = hold-none 4 (configuration triangle_world);
 }
 
+-- its potentials are 20 together
 pub triangle_potential : whole_potential (configuration triangle_world) ≡ 20
 unfolding potential whole_potential is_married
 triangle_potential = ap (λ linked. whole_potential (shape linked triangle_world.network.registers)) same_links
@@ -172,6 +174,7 @@ one_owner : All (λ s. s < 1) (0 ∷ [])
 one_owner zero d lt = omega arith
 one_owner (suc k) d lt = absurd (omega arith)
 
+-- the roster of the one student is lawful
 pub roster : IsRoster sole_owner
 roster = record {
   few = omega arith;
@@ -215,9 +218,11 @@ run : (is_legal_list sole_owner triangle_world twenty_moves ≡ true) × (applie
 run = sound sole_owner triangle_world twenty_moves 20 owns_all
     (subst (λ linked. tells linked triangle_world.network.registers triangle_world.chosen twenty_moves 20 ≡ true) (sym same_links) told)
 
+-- the list of twenty moves is legal there
 pub legal : is_legal_list sole_owner triangle_world twenty_moves ≡ true
 legal = run.0
 
+-- its closes apply 20 moves
 pub applied : applied_over triangle_world twenty_moves ≡ 20
 applied = run.1
 
@@ -226,5 +231,6 @@ pub four : link_count triangle_world.network ≡ 4
 unfolding link_count
 four = ap (λ linked. links_below (shape linked triangle_world.network.registers) 4) same_links
 
+-- as many as the bound: 2 for each link and 3 for each node
 pub as_many : applied_over triangle_world twenty_moves ≡ 2 * link_count triangle_world.network + 3 * size triangle_world
 as_many = omega (arith, applied, four)

@@ -21,16 +21,20 @@ use Rattle.mml_stable.specs.Reports.{is_stable}
 pub record IsQuiet (c : Configuration) (i : ℕ) : Type 0 where
   pub only : (r : Rule) → guard c i r ≡ true → kind_of r ≡ Kind.Seduction
 
+-- a node that isn't privileged is quiet
 pub idle-quiet : (c : Configuration) (i : ℕ) → IsLawful c → is_privileged c i ≡ false → IsQuiet c i
 idle-quiet c i l h = record { only = λ r g. absurd (both_ways (guard c i r) (idle-guard c i r l h) g) }
 
+-- at a quiet node m is right
 pub quiet-settled : (c : Configuration) (i : ℕ) → IsQuiet c i → c.m i ≡ is_married c i
 quiet-settled c i q =
     beq-true _ _ (not-false _ (false_from_ne_true (not (m_is_right c i)) (λ g. let e : Kind.Update ≡ Kind.Seduction = q.only Rule.Update g in cc)))
 
+-- at a node that isn't privileged m is right
 pub idle-settled : (c : Configuration) (i : ℕ) → IsLawful c → is_privileged c i ≡ false → c.m i ≡ is_married c i
 idle-settled c i l h = quiet-settled c i (idle-quiet c i l h)
 
+-- a quiet node that isn't married points at no node but a higher one with m false
 pub quiet-vain : (c : Configuration) (i j : ℕ) → IsLawful c → IsQuiet c i → c.p i ≡ Some j → is_married c i ≡ false → (c.m j ≡ false) × (i < j)
 quiet-vain c i j l q p free =
     let right : m_is_right c i ≡ true = beq-same _ _ (quiet-settled c i q) in
@@ -81,6 +85,7 @@ may_seduce c a b l linked lt quiet pa pb mb =
     some-best None e f = absurd (both_ways (is_candidate c a b) (greatest-none c a b e (l.in_range a b linked).1) f)
     some-best (Some x) e f = refl
 
+-- the lower of two linked nodes that both point nowhere is privileged, where m is false at the higher one
 pub no_open_link : (c : Configuration) (a b : ℕ) → IsLawful c → c.linked a b ≡ true → a < b → is_privileged c a ≡ false → c.p a ≡ None → c.p b ≡ None
     → c.m b ≡ false → ⊥
 no_open_link c a b l linked lt idle pa pb mb =
@@ -126,6 +131,7 @@ stable-means c = (to, from)
     from s = ap not (false_from_ne_true (some_below c.size (is_privileged c)) (λ e.
         let r = some_below-find c.size (is_privileged c) e in both_ways (is_privileged c r.0) (s r.0 r.1) r.2))
 
+-- where no node is privileged, m is true exactly at the married nodes
 pub stable-m : (c : Configuration) (i : ℕ) → IsLawful c → IsStable c → i < c.size → (c.m i ≡ true) ↔ IsMarried c i
 stable-m c i l s i_in =
     let right = idle-settled c i l (s i i_in) in

@@ -23,6 +23,7 @@ pub record Marries (c : Configuration) (i j : ℕ) : Type 0 where
   pub linked : c.linked i j ≡ true
   pub suitor : c.p j ≡ Some i
 
+-- a node that may marry points nowhere, its m is right, and its partner is linked to it and points at it
 pub marries : (c : Configuration) (i j : ℕ) → guard c i (Rule.Marriage j) ≡ true → Marries c i j
 marries c i j h =
     let x = and_parts (m_is_right c i) (is_none (c.p i) && (c.linked i j && holds (c.p j) i)) h in
@@ -38,6 +39,7 @@ pub record Seduces (c : Configuration) (i j : ℕ) : Type 0 where
   pub free : c.p j ≡ None
   pub m : c.m j ≡ false
 
+-- a node that may seduce has m right and points nowhere; its greatest candidate is higher, and points nowhere too
 pub seduces : (c : Configuration) (i j : ℕ) → guard c i Rule.Seduction ≡ true → greatest_candidate c i ≡ Some j → Seduces c i j
 seduces c i j h e =
     let x = and_parts (m_is_right c i) (is_none (c.p i) && (not (has_suitor c i) && is_some (greatest_candidate c i))) h in
@@ -47,6 +49,7 @@ seduces c i j h e =
     let d = and_parts (is_none (c.p j)) (not (c.m j)) b.1 in
     record { right = beq-true _ _ x.0; null = none-null (c.p i) y.0; linked = a.0; higher = ltb-true i j b.0; free = none-null (c.p j) d.0; m = not-true _ d.1 }
 
+-- a node that may seduce has a greatest candidate
 pub seduced : (c : Configuration) (i : ℕ) → guard c i Rule.Seduction ≡ true → (j : ℕ) × (greatest_candidate c i ≡ Some j)
 seduced c i h =
     let x = and_parts (m_is_right c i) (is_none (c.p i) && (not (has_suitor c i) && is_some (greatest_candidate c i))) h in
@@ -62,6 +65,7 @@ pub record Abandons (c : Configuration) (i j : ℕ) : Type 0 where
   pub unanswered : holds (c.p j) i ≡ false
   pub vain : (c.m j ≡ true) ⊎ (j < i)
 
+-- a node that may abandon has m right, and the one it points at doesn't point back, and has m true or is lower
 pub abandons : (c : Configuration) (i j : ℕ) → guard c i Rule.Abandonment ≡ true → c.p i ≡ Some j → Abandons c i j
 abandons c i j h e =
     let x = and_parts (m_is_right c i) (points_in_vain c i) h in
@@ -74,6 +78,7 @@ abandons c i j h e =
       vain = elim (or_cases (c.m j) (nat_lt j i) y.1) [ inl m ↦ inl m | inr lt ↦ inr (ltb-true j i lt) ];
     }
 
+-- a node that may abandon points at some node
 pub abandoned : (c : Configuration) (i : ℕ) → guard c i Rule.Abandonment ≡ true → (j : ℕ) × (c.p i ≡ Some j)
 abandoned c i h = go (c.p i) refl (and_parts (m_is_right c i) (points_in_vain c i) h).1
   where
@@ -99,6 +104,7 @@ marries_lower (Some (Rule.Marriage j)) k i = (j == i) && nat_lt i k
 marries_lower (Some Rule.Seduction) k i = false
 marries_lower (Some Rule.Abandonment) k i = false
 
+-- a marriage that is charged to a lower node is one with that node
 pub marries_lower-means : (o : Option Rule) (k i : ℕ) → marries_lower o k i ≡ true → (o ≡ Some (Rule.Marriage i)) × (i < k)
 marries_lower-means None k i e = absurd (false≢true e)
 marries_lower-means (Some Rule.Update) k i e = absurd (false≢true e)
@@ -110,6 +116,7 @@ marries_lower-means (Some Rule.Abandonment) k i e = absurd (false≢true e)
 
 -- ---- what a move does
 
+-- where an update may be applied, m is wrong
 pub updates : (c : Configuration) (i : ℕ) → guard c i Rule.Update ≡ true → c.m i ≡ not (is_married c i)
 updates c i h = beq-false (c.m i) (is_married c i) (not-true _ h)
 
@@ -119,6 +126,7 @@ pub record Makes (c : Configuration) (i j : ℕ) : Type 0 where
   pub null : c.p i ≡ None
   pub partner : (c.p j ≡ Some i) ⊎ ((i < j) × (c.p j ≡ None) × (c.m j ≡ false))
 
+-- where a move makes a pointer, the node pointed nowhere, its m is right, and it now points at a suitor or a candidate
 pub makes : (c : Configuration) (i j : ℕ) (o : Option Rule) → Holds c i o → holds (c.p i) j ≡ false → (moved c i o).p ≡ Some j → Makes c i j
 makes c i j None h off e = absurd (both_ways (holds (c.p i) j) off (holds-from (c.p i) j e))
 makes c i j (Some Rule.Update) h off e = absurd (both_ways (holds (c.p i) j) off (holds-from (c.p i) j e))

@@ -9,15 +9,17 @@ use Rattle.mml_rules.specs.Configuration.{Configuration, IsLawful, holds}
 use Rattle.mml_rules.specs.Rules.{enabled_kind, is_married}
 use Rattle.mml_rules.proofs.RulesLemmas.{pointee_in}
 use Rattle.mml_board.specs.World.{World, IsWorld, size, configuration}
-use Rattle.mml_stable.specs.declared.stability.Report.{Report}
+use Rattle.mml_stable.specs.declared.stability_report.Report.{Report}
 use Rattle.mml_stable.specs.Reports.{each_below, listed_if, pair_at, is_free, privileged_at, is_open, open_link, open_links_at, report_of, IsPairOf}
 use Rattle.mml_stable.specs.Reports.{IsOpenLinkOf, NamesNodes}
 use Rattle.mml_stable.proofs.WalkLemmas.{certified}
 
+-- a list of one element or none has what the element has where it is listed
 pub all_listed : {X : Type 0} (P : X → Type 0) (b : Bool) (x : X) → (b ≡ true → P x) → All P (listed_if b x)
 all_listed P true x h = All-cons P x [] (h refl) (All-nil P)
 all_listed P false x h = All-nil P
 
+-- what holds in the list of each number below n holds in all these lists together
 pub all_below : {X : Type 0} (P : X → Type 0) (n : ℕ) (f : ℕ → List X) → ((i : ℕ) → i < n → All P (f i)) → All P (each_below n f)
 all_below P zero f h = All-nil P
 all_below P (suc n) f h = All-append P (each_below n f) (f n) (all_below P n f (λ i l. h i (omega (arith, l)))) (h n (omega arith))
@@ -54,6 +56,7 @@ module _ (w : World) (is : IsWorld w) where
         all_listed (IsOpenLinkOf c.size) (is_open c a b) (open_link c a b) (link_names a b la lb)));
   }
 
+-- a report of a lawful world names nodes of that world
 pub named : {E : Type 0} (w : World) (told : Result Report E) → IsWorld w → IfOk told (λ r. r ≡ report_of w) → IfOk told (NamesNodes (size w))
 named w (Ok r) is e = subst (NamesNodes (size w)) (sym e) (report_names w is)
 named w (Err fault) is e = tt

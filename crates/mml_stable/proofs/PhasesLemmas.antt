@@ -24,6 +24,7 @@ pub record Brings (P Q : Configuration → Type 0) (i : ℕ) : Type 0 where
 
 -- ---- while no more nodes are married
 
+-- no step ends it while no more nodes are married
 abbrev pub CalmStays : (Configuration → Type 0) → Type 0
 CalmStays P = (c : Configuration) (chosen : ℕ → Option Rule) → IsLawful c → AllHold c chosen → Calm c chosen → P c → P (step c chosen)
 
@@ -37,6 +38,7 @@ pub record CalmBrings (P Q : Configuration → Type 0) (i : ℕ) : Type 0 where
 abbrev pub Within : ℕ → (Configuration → Type 0) → Configuration → Type 0
 Within k P c = (k + 2 ≤ married_count c) ⊎ ((k ≤ married_count c) × P c)
 
+-- what stays while no more nodes are married, stays until two more are
 pub calm_stays : (k : ℕ) (P : Configuration → Type 0) → CalmStays P → Stays (Within k P)
 calm_stays k P stays c chosen l h p =
     let kept = married_kept c chosen l h in
@@ -48,6 +50,7 @@ calm_stays k P stays c chosen l h p =
       ]
     ]
 
+-- what a turn brings while no more nodes are married, it brings unless two more are
 pub calm_brings : (k : ℕ) (P Q : Configuration → Type 0) (i : ℕ) → CalmBrings P Q i → Brings (Within k P) (Within k Q) i
 calm_brings k P Q i b = record { stays = stays; idle = idle; moves = moves }
   where
@@ -77,9 +80,11 @@ calm_brings k P Q i b = record { stays = stays; idle = idle; moves = moves }
 abbrev pub Any : Configuration → Type 0
 Any c = Unit {0}
 
+-- what says nothing is ended by no step
 pub any_stays : Stays Any
 any_stays c chosen l h p = tt
 
+-- after its turn a node has m false, unless it is married
 pub modest_brings : (i : ℕ) → Brings Any (Modest i) i
 modest_brings i = record {
   stays = λ c chosen l h p q. modest_stays c chosen l h i q;
@@ -87,6 +92,7 @@ modest_brings i = record {
   moves = λ c chosen r l h p e. modest_moves c chosen l h i r e;
 }
 
+-- no step makes m true at a node that isn't married, where it was true at none
 pub modest_each : Stays (Each Modest)
 modest_each c chosen l h p i lt = modest_stays c chosen l h i (p i lt)
 
@@ -98,6 +104,7 @@ pub record IsSettled (c : Configuration) : Type 0 where
   pub modest : Each Modest c
   pub upward : Each Upward c
 
+-- no step ends that a configuration is settled
 pub settled_stays : Stays IsSettled
 settled_stays c chosen l h p = record { modest = modest_each c chosen l h p.modest; upward = upward_each c chosen l h p.upward }
 
@@ -112,9 +119,11 @@ pub record IsHopeful (c : Configuration) : Type 0 where
   pub aware : Each Aware c
   pub hopeful : Each Hopeful c
 
+-- so a settled one stays so while no more nodes are married
 pub settled_calm : CalmStays IsSettled
 settled_calm c chosen l h calm p = settled_stays c chosen l h p
 
+-- an aware configuration stays so while no more nodes are married
 pub aware_calm : CalmStays IsAware
 aware_calm c chosen l h calm p = record { settled = settled_stays c chosen l h p.settled; aware = λ i lt. aware_stays c chosen l h calm i (p.aware i lt) }
 
@@ -130,6 +139,7 @@ pub record IsReady (a b : ℕ) (c : Configuration) : Type 0 where
   pub before : IsHopeful c
   pub link : IsOpen a b c
 
+-- two linked nodes that aren't married stay so while no more nodes are married
 pub ready_calm : (a b : ℕ) → CalmStays (IsReady a b)
 ready_calm a b c chosen l h calm p = record { before = hopeful_calm c chosen l h calm p.before; link = open_stays c chosen l h calm a b p.link }
 
@@ -138,14 +148,17 @@ pub record IsWooed (s t : ℕ) (c : Configuration) : Type 0 where
   pub before : IsHopeful c
   pub pair : IsCourted s t c
 
+-- a node that points nowhere and has a suitor keeps it while no more nodes are married
 pub wooed_calm : (s t : ℕ) → CalmStays (IsWooed s t)
 wooed_calm s t c chosen l h calm p =
     let k = p.before.settled in
     record { before = hopeful_calm c chosen l h calm p.before; pair = courted_kept c chosen l h calm k.modest k.upward s t p.pair }
 
+-- what holds nowhere
 abbrev pub Never : Configuration → Type 0
 Never c = ⊥
 
+-- where only married nodes have m true, after its turn a node points at no lower one, unless it is married
 pub upward_brings : (i : ℕ) → Brings (Each Modest) (λ c. i < c.size → Upward i c) i
 upward_brings i = record {
   stays = λ c chosen l h p q lt. upward_stays c chosen l h i (q lt);
@@ -153,6 +166,7 @@ upward_brings i = record {
   moves = λ c chosen r l h p e lt. upward_moves c chosen l h i r (p i lt) e;
 }
 
+-- after its turn a married node has m true, while no more nodes are married
 pub aware_brings : (i : ℕ) → CalmBrings IsSettled (λ c. i < c.size → Aware i c) i
 aware_brings i = record {
   stays = λ c chosen l h calm p q lt. aware_stays c chosen l h calm i (q lt);
@@ -160,6 +174,7 @@ aware_brings i = record {
   moves = λ c chosen r l h calm p e lt. aware_moves c chosen l h calm i r e;
 }
 
+-- after its turn an unmarried node points at no married one, while no more nodes are married
 pub hopeful_brings : (i : ℕ) → CalmBrings IsAware (λ c. i < c.size → Hopeful i c) i
 hopeful_brings i = record {
   stays = λ c chosen l h calm p q lt. hopeful_stays c chosen l h calm i (q lt);
@@ -167,6 +182,7 @@ hopeful_brings i = record {
   moves = λ c chosen r l h calm p e lt. hopeful_moves c chosen l h calm i r (p.settled.modest i lt) e;
 }
 
+-- after the turn of the lower of two linked nodes that aren't married, some node that isn't married points at one
 pub courting_brings : (a b : ℕ) → CalmBrings (IsReady a b) IsCourting a
 courting_brings a b = record {
   stays = λ c chosen l h calm p q. let k = p.before.settled in courting_stays c chosen l h calm k.modest k.upward p.before.hopeful q;
@@ -174,6 +190,7 @@ courting_brings a b = record {
   moves = λ c chosen r l h calm p e. let k = p.before.settled in courting_moves c chosen l h calm k.modest k.upward p.before.hopeful a b p.link r e;
 }
 
+-- a node with a suitor has no turn without more nodes being married
 pub wedding_brings : (s t : ℕ) → CalmBrings (IsWooed s t) Never t
 wedding_brings s t = record {
   stays = λ c chosen l h calm p q. q;
@@ -189,6 +206,7 @@ pub record IsDawning (a b : ℕ) (c : Configuration) : Type 0 where
   pub lone : IsLone c
   pub either : IsRising c ⊎ IsFacing a b c
 
+-- a dawning configuration stays so while no more nodes are married
 pub dawning_calm : (a b : ℕ) → CalmStays (IsDawning a b)
 dawning_calm a b c chosen l h calm p = record {
   modest = modest_each c chosen l h p.modest;
@@ -199,6 +217,7 @@ dawning_calm a b c chosen l h calm p = record {
   ];
 }
 
+-- and there, after the lower node's turn, a pointer leads upwards
 pub dawning_brings : (a b : ℕ) → CalmBrings (IsDawning a b) IsRising a
 dawning_brings a b = record {
   stays = λ c chosen l h calm p q. rising_stays c chosen l h calm p.modest p.lone q;

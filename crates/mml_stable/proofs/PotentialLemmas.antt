@@ -1,7 +1,7 @@
 -- In a step each node's potential falls by what is charged to it: its own move, but for a marriage with a lower node, and a marriage of a higher node with it.
 use Rattle.std.proofs.Common.{◌≡◌, ℕ, ◌+◌, ◌<◌, ◌≤◌, Bool, true, false, cond, not, inl, inr, Option, None, Some, sym, refl, ap, ◌∙◌, subst, arith, nat_lt}
 use Rattle.std.specs.Option.{option_map_or}
-use Rattle.std.proofs.lemmas.Bool.{and_parts, and_from, both_ways, false≢true, ltb-true, lt-ltb, false_from_ne_true, cases_Bool, cases_order}
+use Rattle.std.proofs.lemmas.Bool.{and_parts, and_from, both_ways, false≢true, ltb-true, lt-ltb, cases_Bool, cases_order}
 use Rattle.mml_ids.specs.Search.{some_below, count_below}
 use Rattle.mml_ids.proofs.SearchLemmas.{some_below-find, some_below-none}
 use Rattle.mml_rules.specs.declared.rule.Rule.{Rule}
@@ -10,7 +10,7 @@ use Rattle.mml_rules.specs.Rules.{is_married, moved, step, AllHold}
 use Rattle.mml_rules.proofs.ConfigurationLemmas.{holds-true, holds-from}
 use Rattle.mml_rules.proofs.RulesLemmas.{married-null, married-at, married-from}
 use Rattle.mml_rules.proofs.StepLemmas.{step-lawful}
-use Rattle.mml_stable.proofs.StepLemmas.{step-keeps, step-married, moved-m}
+use Rattle.mml_stable.proofs.StepLemmas.{step-keeps, step-married, step-free, moved-m}
 use Rattle.mml_stable.specs.Potential.{sum_below, points_down, own_part, is_above, link_part, potential}
 use Rattle.mml_stable.proofs.PartsLemmas.{IsMoved, IsStep, own_kept, own_updated, own_abandoned, link_kept, link_fell, link_answered}
 use Rattle.mml_stable.proofs.SumsLemmas.{sum_kept, sum_fell, count_none, count_one_at_most}
@@ -35,9 +35,6 @@ module _ (c : Configuration) (chosen : ℕ → Option Rule) (l : IsLawful c) (h 
 
   married : (i : ℕ) → is_married c i ≡ true → is_married next i ≡ true
   married i e = step-married c chosen l h i e
-
-  free : (i : ℕ) → is_married next i ≡ false → is_married c i ≡ false
-  free i e = false_from_ne_true (is_married c i) (λ m. both_ways (is_married next i) e (married i m))
 
   m_moved : (i : ℕ) → IsMoved (is_married c i) (c.m i) (next.m i)
   m_moved i = moved-m c i (chosen i) (h i)
@@ -82,8 +79,8 @@ module _ (c : Configuration) (chosen : ℕ → Option Rule) (l : IsLawful c) (h 
 
   m_found : (j : ℕ) → next.m j ≡ true → is_married next j ≡ false → (c.m j ≡ true) × (is_married c j ≡ false)
   m_found j m e = elim (m_moved j) [
-    | inl same ↦ (sym same ∙ m, free j e)
-    | inr changed ↦ absurd (both_ways (is_married c j) (free j e) (sym changed.0 ∙ m))
+    | inl same ↦ (sym same ∙ m, step-free c chosen l h j e)
+    | inr changed ↦ absurd (both_ways (is_married c j) (step-free c chosen l h j e) (sym changed.0 ∙ m))
   ]
 
   m_off : (j : ℕ) → is_married c j ≡ false → c.m j ≡ false → next.m j ≡ false

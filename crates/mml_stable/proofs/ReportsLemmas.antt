@@ -8,6 +8,8 @@ use Rattle.std.specs.Ordering.{nat_cmp}
 use Rattle.std.specs.FinSet as sets
 use Rattle.std.specs.FinSet.{FinSet}
 use Rattle.mml_ids.specs.Search.{some_below, count_below}
+use Rattle.mml_ids.specs.Sets.{those_below}
+use Rattle.mml_ids.specs.inside.WordsLemmas.{has-those_below}
 use Rattle.mml_ids.proofs.SetsLemmas.{ranks_in, passing, passing_more}
 use Rattle.mml_rules.specs.Configuration.{Configuration, IsLawful}
 use Rattle.mml_stable.specs.Reports.{each_below, listed_if, is_free, is_open, open_link, open_links_at}
@@ -27,6 +29,11 @@ pub links_of_ends : (c : Configuration) (a : ℕ) (ends : FinSet nat_cmp) → ((
 links_of_ends c a ends same =
     ap (map (open_link c a)) (filter_agree (sets.contains ends) (is_open c a) same (range_with_len 0 c.size))
     ∙ listed_below (is_open c a) (open_link c a) c.size
+
+-- the set of the free nodes has each node that is free
+pub has_free : (c : Configuration) (free : FinSet nat_cmp) (a : ℕ) → a < c.size → free ≡ those_below c.size (is_free c) → sets.contains free a ≡ is_free c a
+has_free c free a l e =
+    ap (λ s. sets.contains s a) e ∙ has-those_below c.size (is_free c) a ∙ ap (λ t. t && is_free c a) (lt-ltb a c.size l)
 
 -- both ends of an open link are nodes
 pub greater_end : (c : Configuration) (a b : ℕ) → IsLawful c → is_open c a b ≡ true → b < c.size

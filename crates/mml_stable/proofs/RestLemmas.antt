@@ -23,12 +23,14 @@ use Rattle.mml_stable.specs.Rest.{EachHasOwner, IsOver}
 
 -- ---- what is chosen
 
+-- where no move is chosen, none is chosen for any one node
 pub none_chosen : (xs : List (Option Rule)) (i : ℕ) → list_any is_some xs ≡ false → chosen_at xs i ≡ None
 none_chosen [] i e = refl
 none_chosen (Some r ∷ xs) i e = absurd (false≢true (sym e))
 none_chosen (None ∷ xs) zero e = refl
 none_chosen (None ∷ xs) (suc i) e = none_chosen xs i e
 
+-- where a move is chosen for a node, some move is chosen
 pub any_chosen : (xs : List (Option Rule)) (i : ℕ) → is_some (chosen_at xs i) ≡ true → list_any is_some xs ≡ true
 any_chosen [] i e = absurd (false≢true e)
 any_chosen (Some r ∷ xs) i e = refl
@@ -37,6 +39,7 @@ any_chosen (None ∷ xs) (suc i) e = any_chosen xs i e
 
 -- ---- a privileged node may move
 
+-- a privileged node for which no move is chosen has a rule that may be granted to each of its owners
 pub may_move : (r : RosterValue) (w : World) (i : ℕ) → IsWorld w → i < size w → is_privileged (configuration w) i ≡ true → chosen_at w.chosen i ≡ None
     → (rule : Rule) × ((s : ℕ) → owns r (who.Student s) i ≡ true → is_legal r w (event.Grant s i rule) ≡ true)
 may_move r w i k lt privileged none =
@@ -72,11 +75,13 @@ stable_impossible w (event.Fault i registers) k stable of_step = absurd (false�
 stable_impossible w (event.Link a b) k stable of_step = absurd (false≢true of_step)
 stable_impossible w (event.Cut a b) k stable of_step = absurd (false≢true of_step)
 
+-- where no node is privileged, no grant, release or close is legal
 pub stable_final : (r : RosterValue) (w : World) (e : Event) → IsWorld w → IsStable (configuration w) → is_of_step e ≡ true → is_legal r w e ≡ false
 stable_final r w e k stable of_step = and_right (is_asked_by_owner r e) (is_possible w e) (stable_impossible w e k stable of_step)
 
 -- ---- a run that is over
 
+-- a node with an owner is owned by some student
 pub first_owner : (r : RosterValue) (i : ℕ) → 0 < length (owners_of r i) → (s : ℕ) × (owns r (who.Student s) i ≡ true)
 first_owner r i some = go (owners_of r i) refl some
   where
@@ -90,10 +95,12 @@ over_stable r w k owned over i lt = false_from_ne_true (is_privileged (configura
     let owner = first_owner r i (owned i lt) in
     both_ways (is_legal r w (event.Grant owner.0 i move.0)) (over.no_grant owner.0 i move.0) (move.1 owner.0 owner.1))
 
+-- events leave the number of nodes
 pub same_size : (w : World) (es : List Event) → size (world_of w es) ≡ size w
 same_size w [] = refl
 same_size w (e ∷ es) = same_size (after w e) es ∙ size-after w e
 
+-- a run that is over has ended where no node is privileged and each link has an end in a pair
 pub ended : (r : RosterValue) (w : World) (es : List Event) → IsWorld w → EachHasOwner r (size w) → is_legal_list r w es ≡ true → IsOver r (world_of w es)
     → IsStable (configuration (world_of w es)) × IsMaximal (configuration (world_of w es))
 ended r w es k owned legal over =

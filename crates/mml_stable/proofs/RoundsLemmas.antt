@@ -345,6 +345,7 @@ some_rounds zero lt = absurd (omega arith)
 some_rounds (suc zero) lt = omega arith
 some_rounds (suc (suc n)) lt = omega arith
 
+-- after 4 rounds for each two nodes, and 1 for one left over, no node is privileged
 pub rounds_end : (r : RosterValue) (w : World) (es : List Event) (k : ℕ) → IsRun r w es → rounds_for (size w) ≤ k → Rounds k w es → EndsStable w es
 rounds_end r w es k run room rounds = elim (cases_lt 0 (size w)) [
   | inr none ↦ λ i lt. let same = same_size w es in absurd (omega (arith, none, same, lt))
@@ -360,11 +361,13 @@ rounds_end r w es k run room rounds = elim (cases_lt 0 (size w)) [
       omega (arith, all, room, is)) u.rounds)
 ]
 
+-- that is two rounds for each node at the most
 pub most_rounds : (n : ℕ) → rounds_for n ≤ 2 * n
 most_rounds zero = omega arith
 most_rounds (suc zero) = omega arith
 most_rounds (suc (suc n)) = let rest = most_rounds n in omega (arith, rest)
 
+-- for an even number of nodes it is two rounds for each
 pub for_even : (k : ℕ) → rounds_for (2 * k) ≡ 4 * k
 for_even zero = refl
 for_even (suc k) =
@@ -373,6 +376,7 @@ for_even (suc k) =
     let all = ap rounds_for next in
     omega (arith, rest, all)
 
+-- for an odd number of nodes it is one round less than two for each
 pub for_odd : (k : ℕ) → rounds_for (2 * k + 1) ≡ 4 * k + 1
 for_odd zero = refl
 for_odd (suc k) =
@@ -381,6 +385,7 @@ for_odd (suc k) =
     let all = ap rounds_for next in
     omega (arith, rest, all)
 
+-- after two rounds for each node no node is privileged, and each link has an end in a pair
 pub rounds_bounded : (r : RosterValue) (w : World) (es : List Event) → IsWorld w → is_legal_list r w es ≡ true → list_all is_of_step es ≡ true
     → Rounds (2 * size w) w es
     → IsStable (configuration (world_of w es)) × IsMaximal (configuration (world_of w es))
@@ -403,6 +408,7 @@ last_round : (w : World) (es : List Event) → IsStable (configuration (world_of
 last_round w [] stable i lt = ap not (stable i lt)
 last_round w (e ∷ es) stable i lt = or_right _ _ (or_right _ _ (last_round (after w e) es stable i (omega (arith, lt, size-after w e))))
 
+-- events that end where no node is privileged are as many rounds as one likes
 pub stable_rounds : (k : ℕ) (w : World) (es : List Event) → IsStable (configuration (world_of w es)) → Rounds k w es
 stable_rounds zero w es stable = tt
 stable_rounds (suc k) w es stable = (es, [], sym (append-nil es), last_round w es stable, stable_rounds k (world_of w es) [] stable)

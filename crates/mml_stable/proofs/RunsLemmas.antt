@@ -43,6 +43,7 @@ changes_paid r i w (e ∷ es) k legal steps =
     let rest = changes_paid r i (after w e) es (after-world w e k possible.1) here.1 of_steps.1 in
     omega (arith, first, rest)
 
+-- over grants, releases and closes m changes at most twice at a node
 pub twice_at_most : (r : RosterValue) (w : World) (es : List Event) (i : ℕ) → IsWorld w → is_legal_list r w es ≡ true → list_all is_of_step es ≡ true
     → changes_of_m i w es ≤ 2
 twice_at_most r w es i k legal steps =

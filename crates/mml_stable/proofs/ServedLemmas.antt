@@ -25,9 +25,11 @@ pub record IsRun (r : RosterValue) (w : World) (es : List Event) : Type 0 where
   pub legal : is_legal_list r w es ≡ true
   pub of_step : list_all is_of_step es ≡ true
 
+-- the first event of a run is legal
 pub first_legal : (r : RosterValue) (w : World) (e : Event) (es : List Event) → IsRun r w (e ∷ es) → is_legal r w e ≡ true
 first_legal r w e es k = (and_parts (is_legal r w e) (is_legal_list r (after w e) es) k.legal).0
 
+-- the first event of a run is a grant, a release or a close
 pub first_of_step : (r : RosterValue) (w : World) (e : Event) (es : List Event) → IsRun r w (e ∷ es) → is_of_step e ≡ true
 first_of_step r w e es k = (and_parts (is_of_step e) (list_all is_of_step es) k.of_step).0
 
@@ -53,6 +55,7 @@ run_parts r w (e ∷ es) fs k =
       rest.1,
     )
 
+-- a run ends in a lawful world
 pub run_end : (r : RosterValue) (w : World) (es : List Event) → IsRun r w es → IsWorld (world_of w es)
 run_end r w [] k = k.world
 run_end r w (e ∷ es) k = run_end r (after w e) es (run_on r w e es k)
@@ -71,6 +74,7 @@ stays_after P stays w (event.Release i) k of_step p = p
 stays_after P stays w event.Close k of_step p = subst P (sym (closed-step w k.choices)) (stays (configuration w) (chosen_at w.chosen) k.network.lawful k.hold p)
 stays_after P stays w _ k of_step p = absurd (false≢true of_step)
 
+-- what no step ends, no run ends
 pub stays_over : (P : Configuration → Type 0) → Stays P → (r : RosterValue) (w : World) (es : List Event) → IsRun r w es → P (configuration w)
     → P (configuration (world_of w es))
 stays_over P stays r w [] k p = p

@@ -8,7 +8,7 @@ use Rattle.mml_rules.specs.Rules.{is_married, has_suitor, greatest_candidate, m_
 use Rattle.mml_rules.proofs.ConfigurationLemmas.{holds-true}
 use Rattle.mml_rules.proofs.RulesLemmas.{married-null, married-at, married-from, suitor-from, pointee_in}
 use Rattle.mml_rules.proofs.StepLemmas.{step-lawful}
-use Rattle.mml_stable.proofs.StepLemmas.{step-married, moved-m}
+use Rattle.mml_stable.proofs.StepLemmas.{step-free, moved-m}
 use Rattle.mml_stable.proofs.MatchingLemmas.{idle-quiet, idle-settled, quiet-vain, quiet-alone, no_open_link}
 use Rattle.mml_stable.proofs.MovesLemmas.{updates, marries, seduces, seduced, abandons, abandoned, makes}
 use Rattle.mml_stable.proofs.PotentialLemmas.{suitor_kept}
@@ -32,6 +32,7 @@ Aware i c = is_married c i ≡ true → c.m i ≡ true
 abbrev pub Hopeful : ℕ → Configuration → Type 0
 Hopeful i c = is_married c i ≡ false → (j : ℕ) → c.p i ≡ Some j → is_married c j ≡ false
 
+-- it is so of each node
 abbrev pub Each : (ℕ → Configuration → Type 0) → Configuration → Type 0
 Each P c = (i : ℕ) → i < c.size → P i c
 
@@ -74,6 +75,7 @@ pub record IsFacing (a b : ℕ) (c : Configuration) : Type 0 where
 
 -- ---- moves
 
+-- no truth value is its own opposite
 pub self : (b : Bool) → b ≡ not b → ⊥
 self true e = false≢true (sym e)
 self false e = false≢true e
@@ -112,24 +114,30 @@ climb (suc n) x y c l upward hopeful room free e = go (λ z. climb n y z c l upw
         let up = upward x range.0 free y e in
         further z (omega (arith, up)) (hopeful x range.0 free y e) f
 
+-- where free nodes point only upwards and at free ones, and one does point, some node that points nowhere has a suitor
 pub courted : (c : Configuration) → IsLawful c → Each Upward c → Each Hopeful c → IsCourting c → (s : ℕ) × (t : ℕ) × IsCourted s t c
 courted c l upward hopeful k = climb c.size k.who k.whom c l upward hopeful (omega arith) k.free k.points
 
 -- ---- where no rule may be applied at i
 
+-- a node that isn't privileged has m false, unless it is married
 pub modest_idle : (c : Configuration) (i : ℕ) → IsLawful c → is_privileged c i ≡ false → Modest i c
 modest_idle c i l idle free = idle-settled c i l idle ∙ free
 
+-- a node that isn't privileged points at no lower one, unless it is married
 pub upward_idle : (c : Configuration) (i : ℕ) → IsLawful c → is_privileged c i ≡ false → Upward i c
 upward_idle c i l idle free j e = (quiet-vain c i j l (idle-quiet c i l idle) e free).1
 
+-- a married node that isn't privileged has m true
 pub aware_idle : (c : Configuration) (i : ℕ) → IsLawful c → is_privileged c i ≡ false → Aware i c
 aware_idle c i l idle on = idle-settled c i l idle ∙ on
 
+-- where married nodes have m true, an unmarried node that isn't privileged points at no married one
 pub hopeful_idle : (c : Configuration) (i : ℕ) → IsLawful c → Each Aware c → is_privileged c i ≡ false → Hopeful i c
 hopeful_idle c i l aware idle free j e = false_from_ne_true (is_married c j) (λ on.
     both_ways (c.m j) (quiet-vain c i j l (idle-quiet c i l idle) e free).0 (aware j (pointee_in c i j l e) on))
 
+-- of two linked nodes that aren't married, one points at a node, where the lower one isn't privileged
 pub courting_idle : (c : Configuration) (a b : ℕ) → IsLawful c → Each Modest c → IsOpen a b c → is_privileged c a ≡ false → IsCourting c
 courting_idle c a b l modest k idle = go (c.p a) (c.p b) refl refl
   where
@@ -138,9 +146,11 @@ courting_idle c a b l modest k idle = go (c.p a) (c.p b) refl refl
     go None (Some y) e f = record { who = b; whom = y; free = k.high; points = f }
     go None None e f = absurd (no_open_link c a b l k.linked k.up idle e f (modest b (l.in_range a b k.linked).1 k.high))
 
+-- a node that points nowhere and has a suitor is privileged
 pub courted_idle : (c : Configuration) (s t : ℕ) → IsLawful c → IsCourted s t c → is_privileged c t ≡ false → ⊥
 courted_idle c s t l k idle = quiet-alone c s t l k.suitor k.null (idle-quiet c t l idle)
 
+-- where no node is married, one that points nowhere and faces a higher one that points nowhere else is privileged
 pub facing_idle : (c : Configuration) (a b : ℕ) → IsLawful c → Each Modest c → IsLone c → IsFacing a b c → is_privileged c a ≡ false → ⊥
 facing_idle c a b l modest lone k idle = elim k.either [
   | inl null ↦ no_open_link c a b l k.linked k.up idle k.null null (modest b (l.in_range a b k.linked).1 (lone b))
@@ -154,11 +164,8 @@ module _ (c : Configuration) (chosen : ℕ → Option Rule) (l : IsLawful c) (h 
   abbrev next : Configuration
   next = step c chosen
 
-  lawful : IsLawful next
-  lawful = step-lawful c chosen l h
-
   free_before : (i : ℕ) → is_married next i ≡ false → is_married c i ≡ false
-  free_before i e = false_from_ne_true (is_married c i) (λ m. both_ways (is_married next i) e (step-married c chosen l h i m))
+  free_before = step-free c chosen l h
 
   -- m stays, or was wrong and becomes right
   m_moved : (i : ℕ) → (next.m i ≡ c.m i) ⊎ ((next.m i ≡ is_married c i) × (c.m i ≡ not (is_married c i)))
@@ -182,7 +189,8 @@ module _ (c : Configuration) (chosen : ℕ → Option Rule) (l : IsLawful c) (h 
           | inr o ↦ elim o [
             | inl up ↦ up
             | inr down ↦ absurd
-                (both_ways (is_married next i) free (married-from next i j lawful to (suitor_stays i j suitor (made.right ∙ married-null c i made.null) down)))
+                (both_ways (is_married next i) free (married-from next i j (step-lawful c chosen l h) to
+                (suitor_stays i j suitor (made.right ∙ married-null c i made.null) down)))
           ]
         ]
       ]
@@ -297,7 +305,7 @@ module _ (c : Configuration) (chosen : ℕ → Option Rule) (l : IsLawful c) (h 
             let range = l.in_range j t (l.to_linked j t m.suitor) in
             let alone = courted_free c j t l (record { suitor = m.suitor; null = k.null }) in
             let up = upward j range.0 alone t m.suitor in
-            both_ways (is_married next t) (free_after t free) (married-from next t j lawful to (suitor_stays t j m.suitor off up))
+            both_ways (is_married next t) (free_after t free) (married-from next t j (step-lawful c chosen l h) to (suitor_stays t j m.suitor off up))
         by_rule Rule.Seduction g to =
             let x = and_parts (m_is_right c t) (is_none (c.p t) && (not (has_suitor c t) && is_some (greatest_candidate c t))) g in
             let y = and_parts (is_none (c.p t)) (not (has_suitor c t) && is_some (greatest_candidate c t)) x.1 in

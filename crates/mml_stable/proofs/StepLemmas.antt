@@ -3,7 +3,7 @@ use Rattle.std.proofs.Common.{◌≡◌, ℕ, ◌≤◌, ◌+◌, Bool, true, fa
 use Rattle.std.proofs.Common.{refl, ap, ◌∙◌, arith, nat_lt}
 use Rattle.std.specs.Bool.{beq}
 use Rattle.std.specs.Option.{option_map_or}
-use Rattle.std.proofs.lemmas.Bool.{and_parts, not-true, both_ways, false≢true}
+use Rattle.std.proofs.lemmas.Bool.{and_parts, not-true, both_ways, false≢true, false_from_ne_true}
 use Rattle.mml_rules.specs.declared.rule.Rule.{Rule}
 use Rattle.mml_rules.specs.Configuration.{Configuration, IsLawful, holds}
 use Rattle.mml_rules.specs.Rules.{is_married, has_suitor, greatest_candidate, m_is_right, points_in_vain, guard, effect, moved, step, AllHold}
@@ -12,6 +12,7 @@ use Rattle.mml_rules.proofs.ConfigurationLemmas.{holds-from}
 use Rattle.mml_rules.proofs.RulesLemmas.{married-partner, married-from, none-null}
 use Rattle.mml_rules.proofs.StepLemmas.{step-lawful}
 
+-- tests that are found different are opposites
 pub beq-false : (a b : Bool) → beq a b ≡ false → a ≡ not b
 beq-false true true h = absurd (false≢true (sym h))
 beq-false false false h = absurd (false≢true (sym h))
@@ -39,6 +40,7 @@ moved-keeps : (c : Configuration) (i j : ℕ) (o : Option Rule) → ((r : Rule) 
 moved-keeps c i j None h a b = a
 moved-keeps c i j (Some r) h a b = answered-keeps c i j r a b (h r refl)
 
+-- a step keeps every pair
 pub step-keeps : (c : Configuration) (chosen : ℕ → Option Rule) → AllHold c chosen → (i j : ℕ) → IsPair c i j → IsPair (step c chosen) i j
 step-keeps c chosen h i j e = (moved-keeps c i j (chosen i) (h i) e.0 e.1, moved-keeps c j i (chosen j) (h j) e.1 e.0)
 
@@ -64,6 +66,7 @@ weighed false true false y h e = elim e [ inl a ↦ absurd (false≢true (sym a)
 weighed true false false y h e = omega arith
 weighed true false true y h e = elim e [ inl a ↦ absurd (false≢true a) | inr a ↦ absurd (false≢true a.0) ]
 
+-- a move leaves m as it was, or makes it right where it was wrong
 pub moved-m : (c : Configuration) (i : ℕ) (o : Option Rule) → ((r : Rule) → o ≡ Some r → guard c i r ≡ true)
     → ((moved c i o).m ≡ c.m i) ⊎ (((moved c i o).m ≡ is_married c i) × (c.m i ≡ not (is_married c i)))
 moved-m c i None h = inl refl
@@ -72,6 +75,7 @@ moved-m c i (Some (Rule.Marriage j)) h = inl refl
 moved-m c i (Some Rule.Seduction) h = inl refl
 moved-m c i (Some Rule.Abandonment) h = inl refl
 
+-- a step leaves a married node married
 pub step-married : (c : Configuration) (chosen : ℕ → Option Rule) → IsLawful c → AllHold c chosen → (i : ℕ) → is_married c i ≡ true
     → is_married (step c chosen) i ≡ true
 step-married c chosen l h i e =
@@ -79,12 +83,18 @@ step-married c chosen l h i e =
     let k = step-keeps c chosen h i r.0 (r.1, r.2) in
     married-from (step c chosen) i r.0 (step-lawful c chosen l h) k.0 k.1
 
+-- a node that is free after a step was free before
+pub step-free : (c : Configuration) (chosen : ℕ → Option Rule) → IsLawful c → AllHold c chosen → (i : ℕ) → is_married (step c chosen) i ≡ false
+    → is_married c i ≡ false
+step-free c chosen l h i e = false_from_ne_true (is_married c i) (λ m. both_ways (is_married (step c chosen) i) e (step-married c chosen l h i m))
+
 -- each change of m at a step is paid for
 pub step-weight : (c : Configuration) (chosen : ℕ → Option Rule) → IsLawful c → AllHold c chosen → (i : ℕ)
     → change (c.m i) ((step c chosen).m i) + weight ((step c chosen).m i) (is_married (step c chosen) i) ≤ weight (c.m i) (is_married c i)
 step-weight c chosen l h i =
     weighed (c.m i) ((step c chosen).m i) (is_married c i) (is_married (step c chosen) i) (step-married c chosen l h i) (moved-m c i (chosen i) (h i))
 
+-- a node's weight is 2 at the most
 pub weight_at_most : (m x : Bool) → weight m x ≤ 2
 weight_at_most true true = omega arith
 weight_at_most true false = omega arith

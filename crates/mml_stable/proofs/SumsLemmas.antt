@@ -4,6 +4,7 @@ use Rattle.std.proofs.lemmas.Bool.{cases_order, false_from_ne_true}
 use Rattle.mml_ids.specs.Search.{count_below}
 use Rattle.mml_stable.specs.Potential.{sum_below}
 
+-- a sum is at most another where each of its terms is
 pub sum_kept : (n : ℕ) (f g : ℕ → ℕ) → ((j : ℕ) → j < n → f j ≤ g j) → sum_below n f ≤ sum_below n g
 sum_kept zero f g le = omega arith
 sum_kept (suc n) f g le =
@@ -57,6 +58,7 @@ sum_parts (suc n) t u f le =
     one true u k le = omega arith
     one false u k le = omega arith
 
+-- where no number below n passes, none is counted
 pub count_none : (n : ℕ) (t : ℕ → Bool) → ((j : ℕ) → j < n → t j ≡ false) → count_below n t ≡ 0
 count_none zero t off = refl
 count_none (suc n) t off =
@@ -75,6 +77,7 @@ count_one_at_most (suc n) k t only = go (count_one_at_most n k t only) (t n) ref
         let none = count_none n t (λ j lt. false_from_ne_true (t j) (λ h. let here = only j h in let there = only n e in omega arith)) in
         omega (arith, none)
 
+-- two tests that agree below n count the same
 pub count_same : (n : ℕ) (s t : ℕ → Bool) → ((j : ℕ) → j < n → s j ≡ t j) → count_below n s ≡ count_below n t
 count_same zero s t same = refl
 count_same (suc n) s t same =
@@ -94,18 +97,22 @@ pub one_column : (R : ℕ → ℕ → Bool) (r n : ℕ)
 one_column R zero n = refl
 one_column R (suc r) n = let rest = one_column R r n in omega (arith, rest)
 
+-- pairs are as many, whether counted by their first number or by their second
 pub sum_turned : (R : ℕ → ℕ → Bool) (r n : ℕ) → sum_below r (λ i. count_below n (R i)) ≡ sum_below n (λ k. count_below r (λ i. R i k))
 sum_turned R r zero = sum_zero r
 sum_turned R r (suc n) = let rest = sum_turned R r n in let last = one_column R r n in omega (arith, rest, last)
 
+-- numbers that are sums of two add up to both sums together
 pub sum_split : (n : ℕ) (f g : ℕ → ℕ) → sum_below n (λ i. f i + g i) ≡ sum_below n f + sum_below n g
 sum_split zero f g = refl
 sum_split (suc n) f g = let rest = sum_split n f g in omega (arith, rest)
 
+-- 1 for each number that passes, and 0 for the others, sums up to how many pass
 pub sum_of_tests : (n : ℕ) (t : ℕ → Bool) → sum_below n (λ i. cond (t i) 1 0) ≡ count_below n t
 sum_of_tests zero t = refl
 sum_of_tests (suc n) t = let rest = sum_of_tests n t in omega (arith, rest)
 
+-- where some number below n passes, one at least is counted
 pub count_some : (n i : ℕ) (t : ℕ → Bool) → i < n → t i ≡ true → 1 ≤ count_below n t
 count_some zero i t lt on = absurd (omega arith)
 count_some (suc n) i t lt on = elim (cases_order i n) [

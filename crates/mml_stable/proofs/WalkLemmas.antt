@@ -46,6 +46,7 @@ climb-ends c l (suc n) i room i_in free = go (climb-ends c l n) (is_privileged c
               from = elim r.from [ inl s ↦ inr (i, subst (λ x. c.p i ≡ Some x) (sym s) p) | inr y ↦ inr y ];
             }
 
+-- the walk from a node that isn't married, or has m false, ends at that node or where another points
 pub top-ends : (c : Configuration) → IsLawful c → (i : ℕ) → i < c.size → (is_married c i ≡ false) ⊎ (c.m i ≡ false) → EndsAt c i (top c i)
 unfolding top
 top-ends c l i i_in free = climb-ends c l c.size i (omega arith) i_in free
@@ -136,13 +137,16 @@ pub climb_stops : (c : Configuration) (n i : ℕ) → is_privileged c i ≡ true
 climb_stops c zero i h = refl
 climb_stops c (suc n) i h = ap (λ b. cond b i (climb c n (unwrap_or (c.p i) i))) h
 
+-- a climb stays at a node that isn't privileged and points nowhere
 pub climb_null : (c : Configuration) (n i : ℕ) → is_privileged c i ≡ false → c.p i ≡ None → climb c n i ≡ i
 climb_null c zero i h p = refl
 climb_null c (suc n) i h p = rw (h, p) (climb_null c n i h p)
 
+-- a climb goes on from a node that isn't privileged to the one where it points
 pub climb_onward : (c : Configuration) (n m i j : ℕ) → m ≡ n + 1 → is_privileged c i ≡ false → c.p i ≡ Some j → climb c m i ≡ climb c n j
 climb_onward c n m i j e h p = ap (λ k. climb c k i) (e ∙ add-one n) ∙ rw (h, p) refl
 
+-- where a climb stays at a node, and comes to where the walk ends, the walk ends at that node
 pub top_is : (c : Configuration) (i n x : ℕ) → climb c n x ≡ climb c c.size i → climb c n x ≡ x → x ≡ top c i
 unfolding top
 top_is c i n x e stays = sym stays ∙ e

@@ -49,6 +49,7 @@ all_charged chosen n =
     let counted = sum_of_tests n (moves chosen) in
     omega (arith, split, turned, joined, each, counted)
 
+-- in a step all potentials together fall by the number of moves at the least
 pub whole_fell : (c : Configuration) (chosen : ℕ → Option Rule) → IsLawful c → AllHold c chosen
     → whole_potential (step c chosen) + count_below c.size (moves chosen) ≤ whole_potential c
 unfolding whole_potential
@@ -103,6 +104,7 @@ counted_above c (suc n) l =
     (λ i lt. and_on (c.linked i n) (nat_lt i n) (lt-ltb i n lt) ∙ same_bool _ _ (λ e. l.symmetric i n e) (λ e. l.symmetric n i e)) in
     omega (arith, rest, columns, top, turned)
 
+-- all potentials together are 2 for each link and 3 for each node at the most
 pub whole_most : (c : Configuration) → IsLawful c → whole_potential c ≤ 2 * links_below c c.size + 3 * c.size
 unfolding whole_potential
 whole_most c l =

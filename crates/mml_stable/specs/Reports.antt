@@ -6,7 +6,7 @@ use Rattle.mml_rules.specs.Configuration.{Configuration, holds}
 use Rattle.mml_rules.specs.Rules.{is_married, enabled_kind, is_privileged}
 use Rattle.mml_board.specs.World.{World, configuration}
 use Rattle.mml_stable.specs.declared.open_link.OpenLink.{OpenLink}
-use Rattle.mml_stable.specs.declared.stability.Report.{Report}
+use Rattle.mml_stable.specs.declared.stability_report.Report.{Report}
 use Rattle.mml_stable.specs.Walk.{certificate}
 
 -- what is listed for 0, for 1, and so on below n

@@ -6,9 +6,9 @@ mod certificate;
 pub mod laws;
 mod open_link;
 mod reporting;
-mod stability;
+mod stability_report;
 
 pub use certificate::certify;
 pub use open_link::OpenLink;
 pub use reporting::report;
-pub use stability::Report;
+pub use stability_report::Report;

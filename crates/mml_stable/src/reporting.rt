@@ -7,7 +7,7 @@ ghost use Rattle.mml_stable.specs.Reports.{report_of, NamesNodes};
 
 use crate::certificate::certify;
 use crate::open_link::OpenLink;
-use crate::stability::Report;
+use crate::stability_report::Report;
 use mml_board::Board;
 use mml_ids::{Items, Memory, NodeSet, Rank};
 use mml_rules::{Kind, Scene, married};

@@ -52,7 +52,7 @@ fn fault_of(alloc: Global, ids: &[u64]) -> Option<IdFault> {
     IdTable::new(alloc, ids).err()
 }
 
-// Identifiers, and their fault.
+// Identifiers, and their error.
 const FAULTS: &[(&[u64], Option<IdFault>)] = &[
     (&[], Some(IdFault::Empty)),
     (&[5, 70000], Some(IdFault::OutOfRange(1))),
@@ -62,7 +62,7 @@ const FAULTS: &[(&[u64], Option<IdFault>)] = &[
     (&[65536, 1], Some(IdFault::OutOfRange(0))),
 ];
 
-/// The first row of these with another fault.
+/// The first row of these with another error.
 fn first_other_fault(alloc: Global) -> Option<usize> {
     for (row, (ids, fault)) in FAULTS.iter().enumerate() {
         if fault_of(alloc, ids) != *fault {
@@ -77,7 +77,7 @@ fn faults_of_identifiers(rt: HostRuntime) {
     assert_eq!(rt; first_other_fault(rt.alloc()), None);
 }
 
-/// The fault of the 256 greatest identifiers and these.
+/// The error of the 256 greatest identifiers and these.
 fn fault_of_many(alloc: Global, more: &[u64]) -> Result<Option<IdFault>, AllocError> {
     let mut ids: Vec<u64> = (65280..=65535u64).collect(alloc)?;
     ids.extend_from_slice(more)?;

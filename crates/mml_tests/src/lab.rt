@@ -73,7 +73,7 @@ fn shown(alloc: Global, lab: &Lab) -> Result<String, AllocError> {
     Ok(text)
 }
 
-/// What a document is read as: a lab or a fault.
+/// What a document is read as: a lab or an error.
 fn told(alloc: Global, parts: &[&[u8]]) -> Result<String, AllocError> {
     let document = parts.concat(alloc)?;
     match read_lab(alloc, document.as_slice()) {
@@ -85,6 +85,20 @@ fn told(alloc: Global, parts: &[&[u8]]) -> Result<String, AllocError> {
 /// Whether a document is read as that.
 fn is_told(alloc: Global, parts: &[&[u8]], wanted: &str) -> Result<bool, AllocError> {
     Ok(told(alloc, parts)?.as_str() == wanted)
+}
+
+/// The first row of these that is read as something else, behind the people and what links come before it.
+fn first_other(
+    alloc: Global,
+    links: &[u8],
+    rows: &[(&[u8], &str)],
+) -> Result<Option<usize>, AllocError> {
+    for (row, (part, wanted)) in rows.iter().enumerate() {
+        if !is_told(alloc, &[PEOPLE, links, *part], wanted)? {
+            return Ok(Some(row));
+        }
+    }
+    Ok(None)
 }
 
 const PEOPLE: &[u8] = br#"
@@ -153,19 +167,9 @@ node = [{ id = 1, owner = "ana", p = 2, m = true }, { id = 2, owner = "ana", p =
     ),
 ];
 
-/// The first row of these that is read as something else.
-fn first_other_network(alloc: Global) -> Result<Option<usize>, AllocError> {
-    for (row, (network, wanted)) in NETWORKS.iter().enumerate() {
-        if !is_told(alloc, &[PEOPLE, *network], wanted)? {
-            return Ok(Some(row));
-        }
-    }
-    Ok(None)
-}
-
 #[test]
 fn reads_networks(rt: HostRuntime) {
-    assert_eq!(rt; first_other_network(rt.alloc()), Ok(None));
+    assert_eq!(rt; first_other(rt.alloc(), b"".as_slice(), NETWORKS), Ok(None));
 }
 
 const GREATEST: &str = r#"

@@ -118,64 +118,43 @@ fn told(alloc: Global, nodes: &[Spelled; 4], index: u64) -> Result<String, Alloc
     Ok(text)
 }
 
+// What is told of a node at which that is enabled, of one that isn't married.
+const NOTHING: &str = "None false:";
+
+const SEDUCES_2: &str = "Some(Seduction) false: Seduction Some(2) false";
+
+const SEDUCES_3: &str = "Some(Seduction) false: Seduction Some(3) false";
+
+const MARRIES_0: &str = "Some(Marriage) false: Marriage Some(0) false";
+
+const MARRIES_1: &str = "Some(Marriage) false: Marriage Some(1) false";
+
+const MARRIES_2: &str = "Some(Marriage) false: Marriage Some(2) false";
+
+const ABANDONS: &str = "Some(Abandonment) false: Abandonment None false";
+
+const BELIEVES_0: &str = "Some(Update) false: Update Some(0) false";
+
+const DOUBTS: &str = "Some(Update) false: Update None false";
+
 // The registers of the nodes, one of them, and what is told of it.
 const CASES: &[([Spelled; 4], u64, &str)] = &[
     // The greatest candidate is seduced; a married one is none, and a leaf has none above it.
-    (
-        [FREE, FREE, FREE, BELIEVES],
-        0,
-        "Some(Seduction) false: Seduction Some(2) false",
-    ),
-    (
-        [FREE, FREE, FREE, FREE],
-        0,
-        "Some(Seduction) false: Seduction Some(3) false",
-    ),
-    ([FREE, FREE, FREE, FREE], 3, "None false:"),
+    ([FREE, FREE, FREE, BELIEVES], 0, SEDUCES_2),
+    ([FREE, FREE, FREE, FREE], 0, SEDUCES_3),
+    ([FREE, FREE, FREE, FREE], 3, NOTHING),
     // A suitor is married and nobody seduced, be the suitor higher or lower.
-    (
-        [FREE, FREE, TO_0, FREE],
-        0,
-        "Some(Marriage) false: Marriage Some(2) false",
-    ),
-    (
-        [FREE, TO_0, FREE, FREE],
-        0,
-        "Some(Marriage) false: Marriage Some(1) false",
-    ),
-    (
-        [TO_1, FREE, FREE, FREE],
-        1,
-        "Some(Marriage) false: Marriage Some(0) false",
-    ),
+    ([FREE, FREE, TO_0, FREE], 0, MARRIES_2),
+    ([FREE, TO_0, FREE, FREE], 0, MARRIES_1),
+    ([TO_1, FREE, FREE, FREE], 1, MARRIES_0),
     // A higher suitor gives up; a lower one waits for a free node, and leaves a married one.
-    (
-        [FREE, TO_0, FREE, FREE],
-        1,
-        "Some(Abandonment) false: Abandonment None false",
-    ),
-    ([TO_1, FREE, FREE, FREE], 0, "None false:"),
-    (
-        [TO_1, BELIEVES, FREE, FREE],
-        0,
-        "Some(Abandonment) false: Abandonment None false",
-    ),
+    ([FREE, TO_0, FREE, FREE], 1, ABANDONS),
+    ([TO_1, FREE, FREE, FREE], 0, NOTHING),
+    ([TO_1, BELIEVES, FREE, FREE], 0, ABANDONS),
     // Only its own m bars a node from marriage.
-    (
-        [FREE, TO_0_BELIEVES, FREE, FREE],
-        0,
-        "Some(Marriage) false: Marriage Some(1) false",
-    ),
-    (
-        [FREE, TO_0_BELIEVES, FREE, FREE],
-        1,
-        "Some(Update) false: Update Some(0) false",
-    ),
-    (
-        [BELIEVES, TO_0, FREE, FREE],
-        0,
-        "Some(Update) false: Update None false",
-    ),
+    ([FREE, TO_0_BELIEVES, FREE, FREE], 0, MARRIES_1),
+    ([FREE, TO_0_BELIEVES, FREE, FREE], 1, BELIEVES_0),
+    ([BELIEVES, TO_0, FREE, FREE], 0, DOUBTS),
     // A married node writes it down.
     ([TO_1_BELIEVES, TO_0, FREE, FREE], 0, "None true:"),
     (

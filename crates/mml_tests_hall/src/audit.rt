@@ -16,7 +16,7 @@ fn passed(alloc: Global, board: &Board) -> Result<String, AllocError> {
     format!(in alloc; "{events} events, configuration {number}, {is_stable}")
 }
 
-/// What is told of the board that an audit leaves, or the fault.
+/// What is told of the board that an audit leaves, or the error.
 fn told(alloc: Global, lab: &Lab, text: &[u8]) -> Result<String, AllocError> {
     match audit(alloc, lab, text) {
         Ok(board) => passed(alloc, &board),

@@ -26,7 +26,7 @@ fn fault_of<R: Read, W: Write>(
     Ok(run_script(alloc, lab, reader, writer, NullSink::new()).err())
 }
 
-/// Whether that is written in answer to a script, and then that is its fault.
+/// Whether that is written in answer to a script, and then that is its error.
 fn is_told(
     alloc: Global,
     script: &[u8],
@@ -43,7 +43,7 @@ const MALFORMED: &str = "1 {\"refuse\":\"malformed\"}\n";
 
 const BAD_FIRST_LINE: Option<ScriptFault> = Some(ScriptFault::BadLine(1));
 
-// A script, what is written, and its fault.
+// A script, what is written, and its error.
 const SCRIPTS: &[(&str, &str, Option<ScriptFault>)] = &[
     ("", "", None),
     (GREETING, GREETING_REPLIES, None),
@@ -51,7 +51,7 @@ const SCRIPTS: &[(&str, &str, Option<ScriptFault>)] = &[
     ("1 \n", MALFORMED, None),
     ("1  {\"do\":\"dance\"}\n", MALFORMED, None),
     ("4 {\"do\":\"bye\"}\n", "4 {\"ok\":\"bye\"}\n", None),
-    // Bytes after the last byte 10 are no line.
+    // Bytes after the last newline are no line.
     (
         "4 {\"do\":\"bye\"}\n4 {\"do\":\"bye\"}",
         "4 {\"ok\":\"bye\"}\n",
@@ -99,12 +99,12 @@ fn long_bye(alloc: Global, len: usize, end: &[u8]) -> Result<Vec<u8>, AllocError
     Ok(script)
 }
 
-// How long a bye is, what ends its line, what is written, and the fault.
+// How long a bye is, what ends its line, what is written, and the error.
 const LONG_BYES: &[(usize, &str, &str, Option<ScriptFault>)] = &[
     (4096, "\n", "1 {\"ok\":\"bye\"}\n", None),
     (4097, "\n", "", BAD_FIRST_LINE),
     (4098, "\n", "", BAD_FIRST_LINE),
-    // 4099 bytes without byte 10 may stand at the end, and no more.
+    // 4099 bytes without a newline may stand at the end, and no more.
     (4097, "", "", None),
     (4098, "", "", BAD_FIRST_LINE),
 ];

@@ -3,7 +3,7 @@
 #![tactic(auto)]
 
 #[cfg(test)]
-mod houses;
+mod acts;
 #[cfg(test)]
 mod races;
 #[cfg(test)]

@@ -7,10 +7,12 @@ ghost use Rattle.mml_journal.specs.Taken.{IsFresh};
 
 use mml_fakes::labs::PATH_OF_THREE;
 use mml_fakes::meeting::Meeting;
+use mml_fakes::scripts::{CHOSEN, CLOSED, EMPTY, GRANTED};
+use mml_fakes_houses::Together;
 use mml_journal::{MemorySink, Sink};
 use mml_lab::read_lab;
 use mml_serving::{ServedHouse, serve_arrivals};
-use mml_session::{Gate, Point, SessionEnd};
+use mml_session::{Gate, SessionEnd};
 use std::alloc::Global;
 use std::sync::Wait;
 use std::test::Fail;
@@ -111,19 +113,7 @@ const TESS_CLOSES: &str = r#"{"do":"hello","key":"chalk","name":"tess"}
 {"do":"bye"}
 "#;
 
-const GRANTED: &str = r#"{"at":0,"node":1,"ok":"move","place":1,"rule":"seduction"}
-"#;
-
 const SECOND_GRANTED: &str = r#"{"at":0,"node":2,"ok":"move","place":1,"rule":"seduction"}
-"#;
-
-const CHOSEN: &str = r#"{"clause":3,"deny":"chosen","text":"this node is already chosen"}
-"#;
-
-const CLOSED: &str = r#"{"at":1,"moved":[1],"ok":"close","place":2}
-"#;
-
-const EMPTY: &str = r#"{"clause":2,"deny":"empty","text":"no node is chosen"}
 "#;
 
 const ANA_JOURNAL: &str = "1 0 grant ana 1 seduction\n";
@@ -238,19 +228,6 @@ fn told_in_order<R: Threads + Wait + Sync>(rt: &R, alloc: Global) -> Result<(boo
 fn a_line_is_judged_when_its_gate_lets_it_go(rt: HostRuntime) -> Result<(), Fail> {
     assert_eq!(rt; told_in_order(&rt, rt.alloc())?, (true, true));
     Ok(())
-}
-
-/// Sessions that meet at their first line and at their first reply.
-#[derive(Drop)]
-struct Together(Meeting);
-
-impl Gate for Together {
-    fn pass(&self, _connection: u8, point: Point) {
-        match point {
-            Point::Line => self.0.line(),
-            Point::Told => self.0.reply(),
-        }
-    }
 }
 
 const HELLO: &str = "{\"do\":\"hello\",\"key\":\"chalk\",\"name\":\"tess\"}\n";

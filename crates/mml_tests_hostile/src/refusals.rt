@@ -17,7 +17,7 @@ use std::test::Fail;
 /// More requests than any call here makes.
 const MOST: usize = 100_000;
 
-/// Whether the built-in lab's reading is the lab or want of memory, and how often it was refused.
+/// Whether the built-in lab's reading is the lab or out of memory, and how often it was refused.
 fn told_of_reading(alloc: Global, is_there: bool) -> (bool, usize) {
     for nth in 1..MOST {
         refuse(alloc, nth);
@@ -41,7 +41,7 @@ fn refusals_of_a_lab_are_memory(rt: HostRuntime) {
     assert_eq!(rt; (is_right, refused > 0), (true, is_there));
 }
 
-/// Whether a journal's audit is passed or want of memory, and how often it was refused.
+/// Whether a journal's audit is passed or out of memory, and how often it was refused.
 fn told_of_audits(alloc: Global, lab: &Lab, is_there: bool) -> (bool, usize) {
     for nth in 1..MOST {
         refuse(alloc, nth);

@@ -1,12 +1,11 @@
 //! Houses whose sinks fail, asked for the acts of a stored run.
 mod drips;
 
-use crate::houses::{
-    ACTS, Ending, Visit, act, asker, ending_of, first_lines, number_before, visit_path,
-};
-use mml_fakes::scripts::TEN_LINES;
+use crate::acts::{ACTS, act, asker, number_before};
+use mml_fakes::scripts::{TEN_LINES, first_lines};
+use mml_fakes_houses::{Ending, Pair, Seat, Visit, ending_of, has_journal, visit_path};
 use mml_journal::{MemorySink, Sink};
-use mml_window::{Answer, Astray, Desk, House, Log, Refusal, Window};
+use mml_window::{Answer, House, Refusal};
 use std::alloc::Global;
 use std::sync::Wait;
 use std::test::Fail;
@@ -22,17 +21,11 @@ fn is_wanted(answer: &Answer, place: u64, last: u64) -> bool {
 
 /// Whether each act is granted before the last line, and denied or refused from there on, while the
 /// number stays.
-fn plays<S: Sink + Drop, H: House, R: Wait>(
-    rt: &R,
-    alloc: Global,
-    desk: &Desk<S, H>,
-    window: &mut Window<H>,
-    last: u64,
-) -> bool {
+fn plays<S: Sink + Drop, H: House, R: Wait>(seat: &mut Seat<'_, S, H, R>, last: u64) -> bool {
     for place in 1..=ACTS {
-        let answer = desk.ask(rt, alloc, window, asker(place), &act(place));
+        let answer = seat.ask(asker(place), &act(place));
         let number = number_before(last.min(place.saturating_add(1)));
-        if !is_wanted(&answer, place, last) || window.number() != Ok(number) {
+        if !is_wanted(&answer, place, last) || seat.window.number() != Ok(number) {
             return false;
         }
     }
@@ -48,14 +41,8 @@ struct Acts {
 impl<S: Sink + Drop> Visit<S> for Acts {
     type Told = bool;
 
-    fn visit<H: House, R: Wait>(
-        &self,
-        rt: &R,
-        alloc: Global,
-        desk: &Desk<S, H>,
-        window: &mut Window<H>,
-    ) -> bool {
-        plays(rt, alloc, desk, window, self.last)
+    fn visit<H: House, R: Wait>(self, seats: &mut Pair<'_, S, H, R>) -> bool {
+        plays(&mut seats.one, self.last)
     }
 }
 
@@ -68,20 +55,12 @@ pub fn ending_at(last: u64) -> Ending {
     }
 }
 
-/// Whether a house ended so, with the lines before the last.
-fn has_lines(end: &Result<Log<MemorySink>, Astray>, last: u64) -> bool {
-    let lines = first_lines(TEN_LINES, last.saturating_sub(1));
-    match end {
-        Ok(log) => log.sink.bytes() == lines.as_bytes(),
-        Err(_) => false,
-    }
-}
-
 /// Whether all that holds of a sink in memory whose put of that number fails.
 fn stops_at<R: Wait>(rt: &R, alloc: Global, put: u64) -> Result<bool, Fail> {
     let sink = MemorySink::new(alloc, Some(put));
-    let (plays, end) = visit_path(rt, alloc, sink, &Acts { last: put })?;
-    Ok(plays == Some(true) && ending_of(&end) == ending_at(put) && has_lines(&end, put))
+    let (plays, end) = visit_path(rt, alloc, sink, Acts { last: put })?;
+    let lines = first_lines(TEN_LINES, put.saturating_sub(1));
+    Ok(plays == Some(true) && ending_of(&end) == ending_at(put) && has_journal(&end, lines))
 }
 
 /// The first put that fails with something else left. One more than there are doesn't fail.

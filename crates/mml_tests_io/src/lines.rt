@@ -195,7 +195,7 @@ fn a_line_may_come_byte_by_byte(rt: HostRuntime) -> Result<(), Fail> {
     Ok(())
 }
 
-/// What comes of so many bytes and a byte 10 at the greatest limit, and how long the line is.
+/// What comes of so many bytes and a newline at the greatest limit, and how long the line is.
 fn at_the_greatest_limit(alloc: Global, len: usize) -> Result<(Step, usize), Fail> {
     let mut text = vec![in alloc; b'x'; len]?;
     text.push(b'\n')?;

@@ -46,7 +46,7 @@ fn is_size_told(alloc: Global) -> Result<bool, Fail> {
     Ok(fault.is_none() && out.as_slice() == wanted)
 }
 
-// Whether the fault is told of a writer that fails at once.
+// Whether the error is told of a writer that fails at once.
 fn fails_at_a_write(alloc: Global) -> Result<bool, Fail> {
     let mut writer = failing_after(alloc, 0, 1);
     Ok(size_to(alloc, &mut writer)? == Some(Fault::Write))
@@ -123,7 +123,7 @@ fn first_other(alloc: Global) -> Result<Option<usize>, Fail> {
     Ok(None)
 }
 
-// A write or a flush that fails is told in the place of a good end and of the fault that would be told
+// A write or a flush that fails is told in the place of a good end and of the error that would be told
 // after it.
 #[test]
 fn failures_of_a_writer_are_told(rt: HostRuntime) -> Result<(), Fail> {
@@ -160,7 +160,7 @@ fn size_fault_of_memory(alloc: Global) -> Result<Option<Fault>, Fail> {
     size_to(alloc, &mut writer)
 }
 
-// Want of memory that an error carries is told as such, wherever it comes from.
+// Out of memory that an error carries is told as such, wherever it comes from.
 #[test]
 fn want_of_memory_is_told(rt: HostRuntime) -> Result<(), Fail> {
     assert_eq!(rt; size_fault_of_memory(rt.alloc())?, Some(Fault::Memory));

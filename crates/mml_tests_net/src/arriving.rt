@@ -101,7 +101,7 @@ fn connections_are_left_in_the_order_in_which_they_came(rt: HostRuntime) -> Resu
     Ok(())
 }
 
-/// Whether it is a fault that of two connections one comes.
+/// Whether it is an error that of two connections one comes.
 fn is_one_refused<R: Threads + Wait + Sync + AllocGlobal>(
     rt: &R,
     writer: &mut FakeWriter,

@@ -1,11 +1,11 @@
-//! Fault lines and statuses.
+//! Error lines and statuses.
 use mml_ids::IdFault;
 use mml_lab::LabFault;
 use mml_program::{AuditRefusal, Fault, LabRefusal};
 use std::alloc::{AllocError, Global};
 use std::test::Fail;
 
-// A fault, and its status and line.
+// An error, and its status and line.
 type Row = (Fault, &'static str);
 
 const REFUSED: &[Row] = &[
@@ -61,7 +61,7 @@ fn is_told(alloc: Global, fault: &Fault, wanted: &str) -> Result<bool, AllocErro
     Ok(told.as_str() == wanted)
 }
 
-// The first fault with another status or line.
+// The first error with another status or line.
 fn first_other(alloc: Global, rows: &[Row]) -> Result<Option<&'static str>, AllocError> {
     for (fault, wanted) in rows {
         if !is_told(alloc, fault, wanted)? {

@@ -5,7 +5,7 @@ use std::rt::Files;
 use std::test::Fail;
 use std::{env, fs, process};
 
-// Whether a file that can't be read is told by the fault that goes with it.
+// Whether a file that can't be read is told by the error that goes with it.
 fn is_told<R: Files + AllocGlobal>(rt: &R, path: &str) -> bool {
     let lab = read_file(rt, path, Fault::ReadLab).err();
     let script = read_file(rt, path, Fault::ReadScript).err();
@@ -34,7 +34,7 @@ fn path_of_process(rt: &HostRuntime) -> Result<PathBuf, Fail> {
     Ok(folder.join(rt.alloc(), name.as_str())?)
 }
 
-// How many bytes are read of a file, or its fault.
+// How many bytes are read of a file, or its error.
 fn length_of(rt: &HostRuntime, path: &str, fault: Fault) -> Result<usize, Fault> {
     let bytes = read_file(rt, path, fault)?;
     Ok(bytes.len())

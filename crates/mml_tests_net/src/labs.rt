@@ -1,4 +1,4 @@
-//! What `check` says of lab files: the size of a lab, or the line of its first fault.
+//! What `check` says of lab files: the size of a lab, or the line of its first error.
 use mml_lab::{Lab, LabFault, read_lab};
 use mml_program::{BUILT_IN, Fault, write_size};
 use std::alloc::{AllocError, Global};

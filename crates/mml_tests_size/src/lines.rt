@@ -4,7 +4,7 @@ use mml_lines::{Lines, MAX_LIMIT, Step, put_all};
 use std::alloc::Global;
 use std::test::Fail;
 
-/// What comes of so many digits and a byte 10 at the greatest limit, and whether the line is these.
+/// What comes of so many digits and a newline at the greatest limit, and whether the line is these.
 fn at_the_greatest_limit(alloc: Global, len: usize) -> Result<(Step, bool), Fail> {
     let digits = "0123456789".repeat(alloc, 6554)?;
     let (line, _) = digits.as_bytes().split_at(len.min(digits.len()));

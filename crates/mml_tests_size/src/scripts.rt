@@ -38,7 +38,7 @@ fn a_long_greeting_is_answered(rt: HostRuntime) -> Result<(), Fail> {
     Ok(())
 }
 
-// How many reads of a whole buffer are good, how many of 600 byes are answered then, and the fault.
+// How many reads of a whole buffer are good, how many of 600 byes are answered then, and the error.
 const BUFFERS: [(usize, usize, Option<ScriptFault>); 5] = [
     (0, 0, Some(ScriptFault::Read)),
     (1, 273, Some(ScriptFault::Read)),

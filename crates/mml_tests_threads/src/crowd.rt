@@ -6,9 +6,9 @@ mod replay;
 ghost use Rattle.std.specs.Prelude.{◌≡◌, ◌+◌, ◌≤◌, length, IfSome};
 ghost use Rattle.mml_window.specs.Houses.{house_of};
 
-use crate::houses::{give_back, student};
 use mml_board::Event;
 use mml_fakes::cycles::cycle;
+use mml_fakes_houses::{give_back, student};
 use mml_hall::audit;
 use mml_journal::MemorySink;
 use mml_lab::{Lab, Who, read_lab};

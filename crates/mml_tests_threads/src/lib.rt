@@ -4,10 +4,6 @@
 #[cfg(test)]
 mod crowd;
 #[cfg(test)]
-mod houses;
-#[cfg(test)]
-mod meeting;
-#[cfg(test)]
 mod sessions;
 #[cfg(test)]
 mod windows;

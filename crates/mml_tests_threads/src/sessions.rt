@@ -1,71 +1,47 @@
 //! One session: how it ends, and what stands then.
 mod races;
 
-ghost use Rattle.std.specs.Prelude.{◌≡◌, ◌≤◌, length};
-ghost use Rattle.mml_window.specs.Houses.{house_of};
-
-use crate::houses::{Ending, ending_of, give_back, open_path};
+use mml_fakes::scripts::{ANA_MOVES, ANA_WELCOME};
 use mml_fakes::{FakeReader, FakeWriter};
+use mml_fakes_houses::{Ending, Pair, Visit, ending_of, visit_path};
 use mml_journal::MemorySink;
-use mml_session::{NoGate, SessionEnd, serve_one};
-use mml_window::{Blank, Brand, Desk, House, Window};
+use mml_session::SessionEnd;
+use mml_window::House;
 use std::alloc::{AllocError, Global};
 use std::io::{Read, Write};
 use std::sync::Wait;
 use std::test::Fail;
 
-const SCRIPT: &str = r#"{"do":"hello","key":"a-key","name":"ana"}
-{"at":0,"do":"move","node":1,"rule":"seduction"}
-"#;
-
-const WELCOME: &str = r#"{"ok":"hello","who":"ana"}
-"#;
-
 const REPLIES: &str = r#"{"ok":"hello","who":"ana"}
 {"at":0,"node":1,"ok":"move","place":1,"rule":"seduction"}
 "#;
 
-/// How a session over the last of these windows ends.
-fn serve_last<H: House, R: Wait, In: Read, Out: Write>(
-    rt: &R,
-    alloc: Global,
-    desk: &Desk<MemorySink, H>,
-    windows: &mut Vec<Window<H>>,
-    reader: &mut In,
-    writer: &mut Out,
-) -> Option<SessionEnd>
-    ensures { length windows.new.items ≤ length windows.old.items }
-{
-    let mut window = windows.pop()?;
-    let end = serve_one(rt, alloc, desk, &mut window, reader, writer, &NoGate, 1);
-    give_back(windows, window);
-    Some(end)
+/// A session between a reader and a writer.
+#[derive(Drop)]
+struct Session<'a, In: Read, Out: Write> {
+    reader: &'a mut In,
+    writer: &'a mut Out,
+}
+
+impl<'a, In: Read, Out: Write> Visit<MemorySink> for Session<'a, In, Out> {
+    type Told = SessionEnd;
+
+    fn visit<H: House, R: Wait>(self, seats: &mut Pair<'_, MemorySink, H, R>) -> SessionEnd {
+        let Session { reader, writer } = self;
+        seats.one.serve(reader, writer)
+    }
 }
 
 /// How a session ends, if there is a window for it, and then its house.
-fn serve_in<H: House, R: Wait, In: Read, Out: Write>(
-    rt: &R,
-    alloc: Global,
-    blank: Blank<MemorySink>,
-    reader: &mut In,
-    writer: &mut Out,
-) -> Result<(Option<SessionEnd>, Ending), Fail>
-    requires { blank ≡ house_of H.name H.lab }
-{
-    let (desk, mut windows) = blank.start::<H>(alloc)?;
-    let end = serve_last(rt, alloc, &desk, &mut windows, reader, writer);
-    let ending = ending_of(&desk.finish(rt, windows));
-    Ok((end, ending))
-}
-
 fn serve<R: Wait, In: Read, Out: Write>(
     rt: &R,
     alloc: Global,
     reader: &mut In,
     writer: &mut Out,
 ) -> Result<(Option<SessionEnd>, Ending), Fail> {
-    let blank = open_path(rt, alloc, None)?;
-    serve_in::<Brand, _, _, _>(rt, alloc, blank, reader, writer)
+    let sink = MemorySink::new(alloc, None);
+    let (told, end) = visit_path(rt, alloc, sink, Session { reader, writer })?;
+    Ok((told, ending_of(&end)))
 }
 
 /// So many events, and none of them a close.
@@ -155,14 +131,14 @@ fn nothing_is_read_after_a_bye(rt: HostRuntime) -> Result<(), Fail> {
 fn tells_a_write<R: Wait>(rt: &R, alloc: Global, good: usize) -> Result<bool, Fail> {
     let mut writer = FakeWriter::failing_after(good, alloc);
     writer.step = 1;
-    let (end, ending) = serve(rt, alloc, &mut SCRIPT.as_bytes(), &mut writer)?;
+    let (end, ending) = serve(rt, alloc, &mut ANA_MOVES.as_bytes(), &mut writer)?;
     let (out, rest) = REPLIES.as_bytes().split_at(good.min(REPLIES.len()));
     let wanted = if rest.is_empty() {
         SessionEnd::End
     } else {
         SessionEnd::WriteFault
     };
-    let events = if good < WELCOME.len() { 0 } else { 1 };
+    let events = if good < ANA_WELCOME.len() { 0 } else { 1 };
     Ok(end == Some(wanted) && writer.taken.as_slice() == out && ending == after(events))
 }
 
@@ -185,15 +161,15 @@ fn failed_writes_are_told(rt: HostRuntime) -> Result<(), Fail> {
 /// Whether a reader that fails after so many bytes ends the session, where exactly the lines that it
 /// gave were answered.
 fn tells_a_read<R: Wait>(rt: &R, alloc: Global, good: usize) -> Result<bool, Fail> {
-    let mut reader = FakeReader::failing_after(good, SCRIPT.as_bytes());
+    let mut reader = FakeReader::failing_after(good, ANA_MOVES.as_bytes());
     let mut writer = FakeWriter::patient(alloc);
     let (end, ending) = serve(rt, alloc, &mut reader, &mut writer)?;
     let welcomed = good > 41;
-    let moved = good == SCRIPT.len();
+    let moved = good == ANA_MOVES.len();
     let wanted = if moved {
         REPLIES
     } else if welcomed {
-        WELCOME
+        ANA_WELCOME
     } else {
         ""
     };
@@ -206,7 +182,7 @@ fn tells_a_read<R: Wait>(rt: &R, alloc: Global, good: usize) -> Result<bool, Fai
 
 /// The first number of good reads after which something else is told.
 fn first_untold_read<R: Wait>(rt: &R, alloc: Global) -> Result<Option<usize>, Fail> {
-    for good in 0..=SCRIPT.len() {
+    for good in 0..=ANA_MOVES.len() {
         if !tells_a_read(rt, alloc, good)? {
             return Ok(Some(good));
         }

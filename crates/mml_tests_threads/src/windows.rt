@@ -2,33 +2,28 @@
 mod failing_sink;
 mod seats;
 
-ghost use Rattle.std.specs.Prelude.{◌≡◌, ◌≤◌, length};
+ghost use Rattle.std.specs.Prelude.{◌≡◌, length};
 ghost use Rattle.mml_window.specs.Houses.{house_of};
 
-use crate::houses::{
-    Ending, ending_of, give_back, has_journal, open_path, seduction, student, take_two,
-};
 use mml_board::Done;
+use mml_fakes_houses::{
+    Ending, Pair, Seat, Visit, ending_of, has_journal, is_first_close, open_path, seduction,
+    student, visit_windows,
+};
 use mml_ids::{Memory, Rank};
 use mml_journal::MemorySink;
 use mml_lab::Who;
 use mml_policy::{Command, Denial};
 use mml_rules::Kind;
-use mml_window::{Answer, Astray, Blank, Brand, Desk, House, Window};
+use mml_window::{Answer, Astray, Blank, Brand, House};
 use std::alloc::Global;
 use std::sync::Wait;
 use std::test::Fail;
 
 /// Whether a move of node 1 and the close after it are granted, at places 1 and 2.
-fn plays<H: House, R: Wait>(
-    rt: &R,
-    alloc: Global,
-    desk: &Desk<MemorySink, H>,
-    teacher: &mut Window<H>,
-    ana: &mut Window<H>,
-) -> bool {
-    let granted = desk.ask(rt, alloc, ana, student(0), &seduction(1, 0));
-    let closed = desk.ask(rt, alloc, teacher, Who::Teacher, &Command::Close);
+fn plays<H: House, R: Wait>(seats: &mut Pair<'_, MemorySink, H, R>) -> bool {
+    let granted = seats.two.ask(student(0), &seduction(1, 0));
+    let closed = seats.one.ask(Who::Teacher, &Command::Close);
     is_first_move(&granted) && is_first_close(&closed)
 }
 
@@ -43,29 +38,18 @@ fn is_first_move(answer: &Answer) -> bool {
     }
 }
 
-fn is_first_close(answer: &Answer) -> bool {
-    match answer {
-        Answer::Granted {
-            place: 2,
-            number: 1,
-            done: Done::Close { moved },
-        } => moved.len() == 1 && moved.has(Rank::at(0)),
-        _ => false,
-    }
-}
-
 /// Whether each view of the teacher's window is of configuration 1, in which node 1 points at node 2.
-fn sees_the_close<H: House>(alloc: Global, teacher: &mut Window<H>) -> bool {
-    let number = teacher.number() == Ok(1);
-    let see = match teacher.see(Who::Teacher, 1) {
+fn sees_the_close<H: House, R: Wait>(teacher: &mut Seat<'_, MemorySink, H, R>) -> bool {
+    let number = teacher.window.number() == Ok(1);
+    let see = match teacher.window.see(Who::Teacher, 1) {
         Ok(see) => see.at == 1 && see.regs.p == Some(Rank::at(1)),
         Err(_) => false,
     };
-    let look = match teacher.look(alloc, student(0), 1) {
+    let look = match teacher.window.look(teacher.alloc, student(0), 1) {
         Ok(look) => look.at == 1 && look.regs.p == Some(Rank::at(1)),
         Err(_) => false,
     };
-    let report = match teacher.report(alloc, Who::Teacher) {
+    let report = match teacher.window.report(teacher.alloc, Who::Teacher) {
         Ok(report) => report.at == 1 && report.free.as_slice().len() == 3,
         Err(_) => false,
     };
@@ -73,52 +57,28 @@ fn sees_the_close<H: House>(alloc: Global, teacher: &mut Window<H>) -> bool {
 }
 
 /// Whether a window that has asked nothing since meets the close, and its move is told to be stale.
-fn meets_the_close<H: House, R: Wait>(
-    rt: &R,
-    alloc: Global,
-    desk: &Desk<MemorySink, H>,
-    ana: &mut Window<H>,
-) -> bool {
-    let number = ana.number() == Ok(1);
-    let answer = desk.ask(rt, alloc, ana, student(0), &seduction(1, 0));
+fn meets_the_close<H: House, R: Wait>(ana: &mut Seat<'_, MemorySink, H, R>) -> bool {
+    let number = ana.window.number() == Ok(1);
+    let answer = ana.ask(student(0), &seduction(1, 0));
     number && matches!(answer, Answer::Denied(Denial::Stale(1)))
 }
 
-/// Whether all of this holds of two windows.
-fn holds<H: House, R: Wait>(
-    rt: &R,
-    alloc: Global,
-    desk: &Desk<MemorySink, H>,
-    teacher: &mut Window<H>,
-    ana: &mut Window<H>,
-) -> bool {
-    plays(rt, alloc, desk, teacher, ana)
-        && sees_the_close(alloc, teacher)
-        && meets_the_close(rt, alloc, desk, ana)
-}
+/// A move of ana's and a close of the teacher's, who sits at the first window.
+#[derive(Clone, Copy)]
+struct MoveAndClose;
 
-/// The same of two of these, of which both come back or not the student's.
-fn holds_in<H: House, R: Wait>(
-    rt: &R,
-    alloc: Global,
-    desk: &Desk<MemorySink, H>,
-    windows: &mut Vec<Window<H>>,
-    with_both: bool,
-) -> Option<bool>
-    ensures { length windows.new.items ≤ length windows.old.items }
-{
-    let (mut teacher, mut ana) = take_two(windows)?;
-    let holds = holds(rt, alloc, desk, &mut teacher, &mut ana);
-    let mut are_back = give_back(windows, teacher);
-    if with_both {
-        are_back = give_back(windows, ana) && are_back;
+impl Visit<MemorySink> for MoveAndClose {
+    /// Whether both are granted, and then seen through both windows.
+    type Told = bool;
+
+    fn visit<H: House, R: Wait>(self, seats: &mut Pair<'_, MemorySink, H, R>) -> bool {
+        plays(seats) && sees_the_close(&mut seats.one) && meets_the_close(&mut seats.two)
     }
-    Some(holds && are_back)
 }
 
 const JOURNAL: &str = "1 0 grant ana 1 seduction\n2 0 close\n";
 
-/// The same of a house, how it ends, and whether it has its journal.
+/// Whether it holds of a house, how that ends with all windows or all but ana's, and whether it has its journal.
 fn in_house<H: House, R: Wait>(
     rt: &R,
     alloc: Global,
@@ -128,7 +88,10 @@ fn in_house<H: House, R: Wait>(
     requires { blank ≡ house_of H.name H.lab }
 {
     let (desk, mut windows) = blank.start::<H>(alloc)?;
-    let holds = holds_in(rt, alloc, &desk, &mut windows, with_both);
+    let holds = visit_windows(rt, alloc, &desk, &mut windows, MoveAndClose);
+    if !with_both {
+        windows.pop();
+    }
     let end = desk.finish(rt, windows);
     Ok((holds, ending_of(&end), has_journal(&end, JOURNAL)))
 }

@@ -14,7 +14,7 @@ use Rattle.mml_policy.specs.declared.see.See.{See}
 use Rattle.mml_policy.specs.declared.look.Look.{Look}
 use Rattle.mml_policy.specs.About.{IsSeen, IsLookedAt, IsRuled}
 use Rattle.mml_policy.proofs.AboutLemmas.{ruled_is}
-use Rattle.mml_stable.specs.declared.stability.Report.{Report}
+use Rattle.mml_stable.specs.declared.stability_report.Report.{Report}
 use Rattle.mml_stable.specs.Reports.{NamesNodes, report_of}
 use Rattle.mml_stable.proofs.NamedLemmas.{report_names}
 use Rattle.mml_window.specs.declared.answer.Answer.{Answer}
@@ -36,25 +36,31 @@ module _ (lab : LabValue) (is : IsLab lab) where
   }) legal
 
   -- what is ruled at a legal list
-  ruled_there : (l : List Event) (who : Who) (command : Command) (r : Ruling) → is_legal_in lab l ≡ true → ruling_at lab (world_in lab l) who command ≡ r → IsRuled lab.ids r
+  ruled_there : (l : List Event) (who : Who) (command : Command) (r : Ruling) → is_legal_in lab l ≡ true → ruling_at lab (world_in lab l) who command ≡ r
+      → IsRuled lab.ids r
   ruled_there l who command r legal same =
       subst (IsRuled lab.ids) same (ruled_is lab.ids lab.roster (world_in lab l) (world_is l legal) (sym (nodes_in lab l is)) lab.events false who command)
 
-  pub seen_is : (old new : WindowValue) (who : Who) (command : Command) (r : Result See SightFault) → Tells Seen lab old who command r new → IfOk r (IsSeen lab.ids)
+  pub seen_is : (old new : WindowValue) (who : Who) (command : Command) (r : Result See SightFault) → Tells Seen lab old who command r new
+      → IfOk r (IsSeen lab.ids)
   seen_is old new who command (Ok s) t = ruled_there new.seen who command (Seen s) t.1.legal t.0
   seen_is old new who command (Err fault) t = tt
 
-  pub looked_at_is : (old new : WindowValue) (who : Who) (command : Command) (r : Result Look SightFault) → Tells Looked lab old who command r new → IfOk r (IsLookedAt lab.ids)
+  pub looked_at_is : (old new : WindowValue) (who : Who) (command : Command) (r : Result Look SightFault) → Tells Looked lab old who command r new
+      → IfOk r (IsLookedAt lab.ids)
   looked_at_is old new who command (Ok s) t = ruled_there new.seen who command (Looked s) t.1.legal t.0
   looked_at_is old new who command (Err fault) t = tt
 
-  pub report_is : (shown : Report → Ruling) (old new : WindowValue) (who : Who) (command : Command) (r : Result Report SightFault) → Tells shown lab old who command r new → IfOk r (λ told. told ≡ report_of (world_in lab new.seen))
+  pub report_is : (shown : Report → Ruling) (old new : WindowValue) (who : Who) (command : Command) (r : Result Report SightFault)
+      → Tells shown lab old who command r new → IfOk r (λ told. told ≡ report_of (world_in lab new.seen))
       → IfOk r (NamesNodes (length lab.ids))
   report_is shown old new who command (Ok s) t told =
-      subst (NamesNodes (length lab.ids)) (sym told) (subst (λ n. NamesNodes n (report_of (world_in lab new.seen))) (sym (nodes_in lab new.seen is)) (report_names (world_in lab new.seen) (world_is new.seen t.1.legal)))
+      subst (NamesNodes (length lab.ids)) (sym told) (subst (λ n. NamesNodes n (report_of (world_in lab new.seen))) (sym (nodes_in lab new.seen is))
+      (report_names (world_in lab new.seen) (world_is new.seen t.1.legal)))
   report_is shown old new who command (Err fault) t told = tt
 
-  pub answered_is : {S : Type 0} (failures : S → ℕ) (old new : BookValue S) (who : Who) (command : Command) (answer : Answer) → is_legal_in lab old.events ≡ true → Decides lab failures old who command answer new → IsAnswered lab.ids answer
+  pub answered_is : {S : Type 0} (failures : S → ℕ) (old new : BookValue S) (who : Who) (command : Command) (answer : Answer)
+      → is_legal_in lab old.events ≡ true → Decides lab failures old who command answer new → IsAnswered lab.ids answer
   answered_is failures old new who command (Denied d) legal h = tt
   answered_is failures old new who command (Refused why) legal h = tt
   answered_is failures old new who command (Granted place number done) legal h = ruled_there old.events who command _ legal h.1.ruled

@@ -13,6 +13,7 @@ climbs_push : (low : ℕ) (ps : List ℕ) (high p : ℕ) → high < p → Climbs
 climbs_push low [] high p lt c = (omega arith, le_refl p)
 climbs_push low (q ∷ ps) high p lt c = (c.0, climbs_push q ps high p lt c.1)
 
+-- climbing places are no more than the numbers between their bounds
 pub climbs_count : (low : ℕ) (ps : List ℕ) (high : ℕ) → Climbs low ps high → low + length ps ≤ high
 climbs_count low [] high c = omega arith
 climbs_count low (p ∷ ps) high c = omega (arith, c.0, climbs_count p ps high c.1)
@@ -22,5 +23,7 @@ pub climbs_on : (ps : List ℕ) (xs ys : List Event) → IsPrefix xs ys → Clim
 climbs_on ps xs ys pre c = climbs_more 0 ps (length xs) (length ys) (prefix_length xs ys pre) c
 
 -- the next place is above all that were granted
-pub climbs_next : (ps : List ℕ) (xs : List Event) (e : Event) (p : ℕ) → p ≡ length xs + 1 → Climbs 0 ps (length xs) → Climbs 0 (ps ++ p ∷ []) (length (xs ++ e ∷ []))
-climbs_next ps xs e p is c = climbs_more 0 (ps ++ p ∷ []) p (length (xs ++ e ∷ [])) (omega (arith, length-append xs (e ∷ []))) (climbs_push 0 ps (length xs) p (omega arith) c)
+pub climbs_next : (ps : List ℕ) (xs : List Event) (e : Event) (p : ℕ) → p ≡ length xs + 1 → Climbs 0 ps (length xs)
+    → Climbs 0 (ps ++ p ∷ []) (length (xs ++ e ∷ []))
+climbs_next ps xs e p is c =
+    climbs_more 0 (ps ++ p ∷ []) p (length (xs ++ e ∷ [])) (omega (arith, length-append xs (e ∷ []))) (climbs_push 0 ps (length xs) p (omega arith) c)

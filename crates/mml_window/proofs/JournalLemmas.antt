@@ -36,8 +36,10 @@ line_taken lab l e (Some bytes) new j more = subst (TellsJournal lab (l ++ e ∷
     ([], ap (λ t. t ++ next_line lab.ids lab.roster (world_in lab l) e) (whole lab l bytes j) ∙ sym (text-one_more lab l e) ∙ sym (append-nil _), refl)
 
 -- a part of its line was taken
-pub line_torn : (lab : LabValue) (l : List Event) (e : Event) → is_legal lab.roster (world_in lab l) e ≡ true → (n : ℕ) → n < length (next_line lab.ids lab.roster (world_in lab l) e)
-    → (old new : Option (List ℕ)) → TellsJournal lab l false old → new ≡ with_more old (take n (next_line lab.ids lab.roster (world_in lab l) e)) → TellsJournal lab l true new
+pub line_torn : (lab : LabValue) (l : List Event) (e : Event) → is_legal lab.roster (world_in lab l) e ≡ true → (n : ℕ)
+    → n < length (next_line lab.ids lab.roster (world_in lab l) e)
+    → (old new : Option (List ℕ)) → TellsJournal lab l false old → new ≡ with_more old (take n (next_line lab.ids lab.roster (world_in lab l) e))
+    → TellsJournal lab l true new
 line_torn lab l e legal n part None new j more = subst (TellsJournal lab l true) (sym more) tt
 line_torn lab l e legal n part (Some bytes) new j more = subst (TellsJournal lab l true) (sym more) (
   take n (next_line lab.ids lab.roster (world_in lab l) e),

@@ -1,25 +1,41 @@
 -- How often a place stands among the places of windows, as cursors move over them.
-use Rattle.std.proofs.Common.{◌≡◌, ◌≢◌, ◌⊎◌, ℕ, zero, suc, ◌+◌, ◌<◌, ◌≤◌, ◌&&◌, Bool, true, false, List, [], ◌∷◌, ◌++◌, length, take, drop, set, get_or, replicate, add-one, refl, sym, ap, ◌∙◌, subst, ⊎_elim, inl, inr, arith, append_assoc, append-nil, cond, leb, eqb, leb-true, leb-false, length-append}
+use Rattle.std.proofs.Common.{◌≡◌, ◌≢◌, ◌⊎◌, ℕ, zero, suc, ◌+◌, ◌<◌, ◌≤◌, ◌&&◌, Bool, true, false, List, [], ◌∷◌, ◌++◌, length, take, drop, set, get_or}
+use Rattle.std.proofs.Common.{replicate, add-one, refl, sym, ap, ◌∙◌, subst, ⊎_elim, inl, inr, arith, append_assoc, append-nil, cond, leb, eqb, leb-true}
+use Rattle.std.proofs.Common.{leb-false, length-append}
 use Rattle.std.specs.Prelude.{MatchBool}
 use Rattle.std.proofs.lemmas.Bool.{ne_eqb, lt-ltb, lt-leb, le-leb}
 use Rattle.std.proofs.lemmas.Bool.Decides.{eqb_tells}
 use Rattle.std.proofs.lemmas.List.{take_more, drop_more}
 use Rattle.mml_window.specs.Climbing.{Climbs}
 use Rattle.mml_window.specs.Windows.{WindowValue}
-use Rattle.mml_window.specs.Tallies.{times, told_of, once_to, IsEachOnce}
+use Rattle.mml_window.specs.Tallies.{times, told_of, once_to}
 use Rattle.mml_window.specs.inside.Cursors.{left_of, IsStuck}
 
 pub times_skip : (p q : ℕ) (qs : List ℕ) → (p ≡ q → ⊥) → times p (q ∷ qs) ≡ times p qs
 times_skip p q qs differ = ap (λ (b : Bool). cond b (suc (times p qs)) (times p qs)) (ne_eqb p q differ)
 
 pub times_hit : (p q : ℕ) (qs : List ℕ) → p ≡ q → times p (q ∷ qs) ≡ suc (times p qs)
-times_hit p q qs is = ⊎_elim (λ (t : (eqb p q ≡ true) × (p ≡ q)). ap (λ (b : Bool). cond b (suc (times p qs)) (times p qs)) t.0) (λ (t : (eqb p q ≡ false) × (p ≢ q)). absurd (t.1 is)) (eqb_tells p q)
+times_hit p q qs is =
+    ⊎_elim (λ (t : (eqb p q ≡ true) × (p ≡ q)). ap (λ (b : Bool). cond b (suc (times p qs)) (times p qs)) t.0)
+    (λ (t : (eqb p q ≡ false) × (p ≢ q)). absurd (t.1 is)) (eqb_tells p q)
 
 pub times_append : (p : ℕ) (xs ys : List ℕ) → times p (xs ++ ys) ≡ times p xs + times p ys
 times_append p [] ys = omega arith
 times_append p (x ∷ xs) ys = ⊎_elim
-    (λ (t : (eqb p x ≡ true) × (p ≡ x)). let e : times p (x ∷ xs) ≡ suc (times p xs) = times_hit p x xs t.1 in let f : times p (x ∷ (xs ++ ys)) ≡ suc (times p (xs ++ ys)) = times_hit p x (xs ++ ys) t.1 in let h : times p (xs ++ ys) ≡ times p xs + times p ys = times_append p xs ys in omega (arith, e, f, h))
-    (λ (t : (eqb p x ≡ false) × (p ≢ x)). let e : times p (x ∷ xs) ≡ times p xs = times_skip p x xs t.1 in let f : times p (x ∷ (xs ++ ys)) ≡ times p (xs ++ ys) = times_skip p x (xs ++ ys) t.1 in let h : times p (xs ++ ys) ≡ times p xs + times p ys = times_append p xs ys in omega (arith, e, f, h))
+    (λ (t : (eqb p x ≡ true) × (p ≡ x)). let e : times p (x ∷ xs) ≡ suc (times p xs) =
+    times_hit p x xs t.1 in
+    let f : times p (x ∷ (xs ++ ys)) ≡ suc (times p (xs ++ ys)) =
+    times_hit p x (xs ++ ys) t.1 in
+    let h : times p (xs ++ ys) ≡ times p xs + times p ys =
+    times_append p xs ys in
+    omega (arith, e, f, h))
+    (λ (t : (eqb p x ≡ false) × (p ≢ x)). let e : times p (x ∷ xs) ≡ times p xs =
+    times_skip p x xs t.1 in
+    let f : times p (x ∷ (xs ++ ys)) ≡ times p (xs ++ ys) =
+    times_skip p x (xs ++ ys) t.1 in
+    let h : times p (xs ++ ys) ≡ times p xs + times p ys =
+    times_append p xs ys in
+    omega (arith, e, f, h))
     (eqb_tells p x)
 
 less_or_not : (a b : ℕ) → (a < b) ⊎ (b ≤ a)
@@ -54,13 +70,16 @@ stuck_before place q qs high differ c some =
     (λ (l : place ≤ q). absurd (omega (arith, some, e, climbs_below q qs high place l c.1)))
     (less_or_not q place)
 
-pub stuck_at : (place : ℕ) (ps : List ℕ) (high n q : ℕ) → Climbs 0 ps high → drop n ps ≡ q ∷ drop (n + 1) ps → (q ≡ place → ⊥) → IsStuck place (drop n ps)
-stuck_at place ps high n q c is differ =
-    subst (IsStuck place) (sym is) (stuck_before place q (drop (n + 1) ps) high differ (subst (λ (l : List ℕ). Climbs 0 l high) is (climbs_drop 0 ps high n c)))
-
 -- the place at a cursor is the first that is left
 pub next_at : (ps : List ℕ) (n q : ℕ) → n < length ps → q ≡ get_or ps n q → drop n ps ≡ q ∷ drop (n + 1) ps
 next_at ps n q lt is = drop_more ps n q lt ∙ ap (λ x. x ∷ drop (n + 1) ps) (sym is)
+
+-- where a window's next place isn't this one, a smaller one comes before it, if this one is left
+pub stuck_at : (place : ℕ) (ps : List ℕ) (high n q : ℕ) → Climbs 0 ps high → n < length ps → q ≡ get_or ps n q → (q ≡ place → ⊥) → IsStuck place (drop n ps)
+stuck_at place ps high n q c lt is differ =
+    let next = next_at ps n q lt is in
+    let climbs = subst (λ (l : List ℕ). Climbs 0 l high) next (climbs_drop 0 ps high n c) in
+    subst (IsStuck place) (sym next) (stuck_before place q (drop (n + 1) ps) high differ climbs)
 
 none_behind : (ps : List ℕ) (n : ℕ) → length ps ≤ n → drop n ps ≡ []
 none_behind [] zero le = refl
@@ -73,10 +92,12 @@ some_behind [] n lt = absurd (omega arith)
 some_behind (p ∷ ps) zero lt = let h : times p (p ∷ ps) ≡ suc (times p ps) = times_hit p p ps refl in (p, omega (arith, h))
 some_behind (p ∷ ps) (suc n) lt = some_behind ps n (omega arith)
 
+-- a cursor is past the places exactly where none of them is left
 pub at_end : (b : Bool) (ps : List ℕ) (n : ℕ) → leb (length ps) n ≡ b → MatchBool b (drop n ps ≡ []) ((p : ℕ) × (0 < times p (drop n ps)))
 at_end true ps n is = none_behind ps n (leb-true (length ps) n is)
 at_end false ps n is = some_behind ps n (leb-false (length ps) n is)
 
+-- where two parts of what is left have a smaller place beside this one, so do they together
 pub stuck_append : (place : ℕ) (xs ys : List ℕ) → IsStuck place xs → IsStuck place ys → IsStuck place (xs ++ ys)
 stuck_append place xs ys f h some = ⊎_elim
     (λ (l : 0 < times place xs). let t = f l in (t.0, t.1, t.2, omega (arith, t.3, times_append t.0 xs ys)))
@@ -84,13 +105,18 @@ stuck_append place xs ys f h some = ⊎_elim
     (less_or_not 0 (times place xs))
 
 -- one window and its cursor more
-left_suc : (ws : List WindowValue) (cs : List ℕ) (i : ℕ) (w : WindowValue) → i < length ws → i < length cs → left_of (take (suc i) ws) (take (suc i) cs) ≡ left_of (take i ws) (take i cs) ++ drop (get_or cs i 0) (get_or ws i w).places
+left_suc : (ws : List WindowValue) (cs : List ℕ) (i : ℕ) (w : WindowValue) → i < length ws → i < length cs
+    → left_of (take (suc i) ws) (take (suc i) cs) ≡ left_of (take i ws) (take i cs) ++ drop (get_or cs i 0) (get_or ws i w).places
 left_suc [] cs i w lw lc = absurd (omega arith)
 left_suc (v ∷ ws) [] i w lw lc = absurd (omega arith)
 left_suc (v ∷ ws) (c ∷ cs) zero w lw lc = append-nil (drop c v.places)
-left_suc (v ∷ ws) (c ∷ cs) (suc i) w lw lc = ap (λ (l : List ℕ). drop c v.places ++ l) (left_suc ws cs i w (omega arith) (omega arith)) ∙ sym (append_assoc (drop c v.places) (left_of (take i ws) (take i cs)) (drop (get_or cs i 0) (get_or ws i w).places))
+left_suc (v ∷ ws) (c ∷ cs) (suc i) w lw lc =
+    ap (λ (l : List ℕ). drop c v.places ++ l) (left_suc ws cs i w (omega arith) (omega arith))
+    ∙ sym (append_assoc (drop c v.places) (left_of (take i ws) (take i cs)) (drop (get_or cs i 0) (get_or ws i w).places))
 
-pub left_more : (ws : List WindowValue) (cs : List ℕ) (i : ℕ) (w : WindowValue) → i < length ws → i < length cs → left_of (take (i + 1) ws) (take (i + 1) cs) ≡ left_of (take i ws) (take i cs) ++ drop (get_or cs i 0) (get_or ws i w).places
+-- what is left of one window more, from its cursor on, comes behind what is left of the others
+left_more : (ws : List WindowValue) (cs : List ℕ) (i : ℕ) (w : WindowValue) → i < length ws → i < length cs
+    → left_of (take (i + 1) ws) (take (i + 1) cs) ≡ left_of (take i ws) (take i cs) ++ drop (get_or cs i 0) (get_or ws i w).places
 left_more ws cs i w lw lc = ap (λ k. left_of (take k ws) (take k cs)) (add-one i) ∙ left_suc ws cs i w lw lc
 
 -- cursors behind the last window play no part
@@ -102,23 +128,52 @@ left_all (w ∷ ws) [] (suc n) is = refl
 left_all (w ∷ ws) (c ∷ cs) (suc n) is = ap (λ (l : List ℕ). drop c w.places ++ l) (left_all ws cs n (omega (arith, is)))
 
 -- what one window has left is left
-pub left_among : (p : ℕ) (ws : List WindowValue) (cs : List ℕ) (i : ℕ) (w : WindowValue) → i < length ws → i < length cs → times p (drop (get_or cs i 0) (get_or ws i w).places) ≤ times p (left_of ws cs)
+left_among : (p : ℕ) (ws : List WindowValue) (cs : List ℕ) (i : ℕ) (w : WindowValue) → i < length ws → i < length cs
+    → times p (drop (get_or cs i 0) (get_or ws i w).places) ≤ times p (left_of ws cs)
 left_among p [] cs i w lw lc = absurd (omega arith)
 left_among p (v ∷ ws) [] i w lw lc = absurd (omega arith)
 left_among p (v ∷ ws) (c ∷ cs) zero w lw lc = omega (arith, times_append p (drop c v.places) (left_of ws cs))
-left_among p (v ∷ ws) (c ∷ cs) (suc i) w lw lc = omega (arith, times_append p (drop c v.places) (left_of ws cs), left_among p ws cs i w (omega arith) (omega arith))
+left_among p (v ∷ ws) (c ∷ cs) (suc i) w lw lc =
+    omega (arith, times_append p (drop c v.places) (left_of ws cs), left_among p ws cs i w (omega arith) (omega arith))
 
 -- one cursor moves on over this place
-pub left_moved : (p place : ℕ) (ws : List WindowValue) (cs : List ℕ) (i : ℕ) (w : WindowValue) → i < length ws → i < length cs → drop (get_or cs i 0) (get_or ws i w).places ≡ place ∷ drop (get_or cs i 0 + 1) (get_or ws i w).places
+left_moved : (p place : ℕ) (ws : List WindowValue) (cs : List ℕ) (i : ℕ) (w : WindowValue) → i < length ws → i < length cs
+    → drop (get_or cs i 0) (get_or ws i w).places ≡ place ∷ drop (get_or cs i 0 + 1) (get_or ws i w).places
     → times p (left_of ws cs) ≡ times p (place ∷ []) + times p (left_of ws (set cs i (get_or cs i 0 + 1)))
 left_moved p place [] cs i w lw lc is = absurd (omega arith)
 left_moved p place (v ∷ ws) [] i w lw lc is = absurd (omega arith)
 left_moved p place (v ∷ ws) (c ∷ cs) zero w lw lc is =
-    let a : times p (drop c v.places) ≡ times p (place ∷ []) + times p (drop (c + 1) v.places) = ap (times p) is ∙ times_append p (place ∷ []) (drop (c + 1) v.places) in
+    let a : times p (drop c v.places) ≡ times p (place ∷ []) + times p (drop (c + 1) v.places) =
+    ap (times p) is ∙ times_append p (place ∷ []) (drop (c + 1) v.places) in
     omega (arith, a, times_append p (drop c v.places) (left_of ws cs), times_append p (drop (c + 1) v.places) (left_of ws cs))
 left_moved p place (v ∷ ws) (c ∷ cs) (suc i) w lw lc is =
     let a = left_moved p place ws cs i w (omega arith) (omega arith) is in
     omega (arith, a, times_append p (drop c v.places) (left_of ws cs), times_append p (drop c v.places) (left_of ws (set cs i (get_or cs i 0 + 1))))
+
+-- a window stands at this index, and a cursor for it
+pub record Stands (ws : List WindowValue) (cs : List ℕ) (i : ℕ) (w : WindowValue) : Type 0 where
+  pub is : get_or ws i w ≡ w
+  pub window : i < length ws
+  pub cursor : i < length cs
+
+module _ (ws : List WindowValue) (cs : List ℕ) (i : ℕ) (w : WindowValue) (at : Stands ws cs i w) where
+  -- what is left of this window comes behind what is left of those before it
+  pub window_more : left_of (take (i + 1) ws) (take (i + 1) cs) ≡ left_of (take i ws) (take i cs) ++ drop (get_or cs i 0) w.places
+  window_more =
+      left_more ws cs i w at.window at.cursor
+      ∙ ap (λ (v : WindowValue). left_of (take i ws) (take i cs) ++ drop (get_or cs i 0) v.places) at.is
+
+  -- what is left of this window is left
+  pub window_among : (p : ℕ) → times p (drop (get_or cs i 0) w.places) ≤ times p (left_of ws cs)
+  window_among p =
+      omega (arith, left_among p ws cs i w at.window at.cursor, ap (λ (v : WindowValue). times p (drop (get_or cs i 0) v.places)) at.is)
+
+  -- its cursor moves on over this place
+  pub window_moved : (p place : ℕ) → drop (get_or cs i 0) w.places ≡ place ∷ drop (get_or cs i 0 + 1) w.places
+      → times p (left_of ws cs) ≡ times p (place ∷ []) + times p (left_of ws (set cs i (get_or cs i 0 + 1)))
+  window_moved p place next =
+      left_moved p place ws cs i w at.window at.cursor
+      (subst (λ (v : WindowValue). drop (get_or cs i 0) v.places ≡ place ∷ drop (get_or cs i 0 + 1) v.places) (sym at.is) next)
 
 -- no place is counted off yet
 pub left_first : (ws : List WindowValue) (n : ℕ) → length ws ≤ n → left_of ws (replicate n 0) ≡ told_of ws
@@ -131,8 +186,11 @@ told_push [] w = append-nil w.places
 told_push (v ∷ ws) w = ap (λ (l : List ℕ). v.places ++ l) (told_push ws w) ∙ sym (append_assoc v.places (told_of ws) w.places)
 
 -- the places of one window more
-pub told_more : (ws : List WindowValue) (i : ℕ) (w : WindowValue) → i < length ws → length (told_of (take (i + 1) ws)) ≡ length (told_of (take i ws)) + length (get_or ws i w).places
-told_more ws i w lt = ap (λ (l : List WindowValue). length (told_of l)) (take_more ws i w lt) ∙ ap length (told_push (take i ws) (get_or ws i w)) ∙ length-append (told_of (take i ws)) (get_or ws i w).places
+pub told_more : (ws : List WindowValue) (i : ℕ) (w : WindowValue) → i < length ws
+    → length (told_of (take (i + 1) ws)) ≡ length (told_of (take i ws)) + length (get_or ws i w).places
+told_more ws i w lt =
+    ap (λ (l : List WindowValue). length (told_of l)) (take_more ws i w lt) ∙ ap length (told_push (take i ws) (get_or ws i w))
+    ∙ length-append (told_of (take i ws)) (get_or ws i w).places
 
 once_within : (n p : ℕ) → 0 < p → p ≤ n → once_to n p ≡ 1
 once_within n p pos le =
@@ -150,20 +208,29 @@ once_more : (n p : ℕ) → once_to (n + 1) p ≡ once_to n p + times p ((n + 1)
 once_more n zero = let e : times 0 ((n + 1) ∷ []) ≡ 0 = times_skip 0 (n + 1) [] (λ is. omega (arith, is)) in omega (arith, e)
 once_more n (suc p) = ⊎_elim
     (λ (l : n < suc p). ⊎_elim
-    (λ (m : n + 1 < suc p). let e : times (suc p) ((n + 1) ∷ []) ≡ 0 = times_skip (suc p) (n + 1) [] (λ is. omega (arith, is)) in omega (arith, e, once_above (n + 1) (suc p) m, once_above n (suc p) l))
-    (λ (m : suc p ≤ n + 1). let e : times (suc p) ((n + 1) ∷ []) ≡ 1 = times_hit (suc p) (n + 1) [] (omega (arith, l, m)) in omega (arith, e, once_within (n + 1) (suc p) (omega arith) m, once_above n (suc p) l))
+    (λ (m : n + 1 < suc p). let e : times (suc p) ((n + 1) ∷ []) ≡ 0 =
+    times_skip (suc p) (n + 1) [] (λ is. omega (arith, is)) in
+    omega (arith, e, once_above (n + 1) (suc p) m, once_above n (suc p) l))
+    (λ (m : suc p ≤ n + 1). let e : times (suc p) ((n + 1) ∷ []) ≡ 1 =
+    times_hit (suc p) (n + 1) [] (omega (arith, l, m)) in
+    omega (arith, e, once_within (n + 1) (suc p) (omega arith) m, once_above n (suc p) l))
     (less_or_not (n + 1) (suc p)))
-    (λ (l : suc p ≤ n). let e : times (suc p) ((n + 1) ∷ []) ≡ 0 = times_skip (suc p) (n + 1) [] (λ is. omega (arith, is)) in omega (arith, e, once_within (n + 1) (suc p) (omega arith) (omega arith), once_within n (suc p) (omega arith) l))
+    (λ (l : suc p ≤ n). let e : times (suc p) ((n + 1) ∷ []) ≡ 0 =
+    times_skip (suc p) (n + 1) [] (λ is. omega (arith, is)) in
+    omega (arith, e, once_within (n + 1) (suc p) (omega arith) (omega arith), once_within n (suc p) (omega arith) l))
     (less_or_not n (suc p))
 
 -- the first n places are counted off, and these are left
 abbrev pub IsCounted : ℕ → List ℕ → List ℕ → Type 0
 IsCounted n all left = (p : ℕ) → times p all ≡ once_to n p + times p left
 
+-- before any place is counted off, all are left
 pub counted_none : (all left : List ℕ) → left ≡ all → IsCounted 0 all left
 counted_none all left is zero = omega (arith, ap (times 0) is)
 counted_none all left is (suc p) = omega (arith, ap (times (suc p)) is, once_above 0 (suc p) (omega arith))
 
 at_most_once : (n p : ℕ) → once_to n p ≤ 1
 at_most_once n zero = omega arith
-at_most_once n (suc p) = ⊎_elim (λ (l : n < suc p). omega (arith, once_above n (suc p) l)) (λ (l : suc p ≤ n). omega (arith, once_within n (suc p) (omega arith) l)) (less_or_not n (suc p))
+at_most_once n (suc p) =
+    ⊎_elim (λ (l : n < suc p). omega (arith, once_above n (suc p) l)) (λ (l : suc p ≤ n). omega (arith, once_within n (suc p) (omega arith) l))
+    (less_or_not n (suc p))

@@ -44,7 +44,8 @@ Lets lab failures old e done (Denied d) new = ⊥
 Lets lab failures old e done (Refused Full) new = ⊥
 Lets lab failures old e done (Refused Journal) new = Halts failures old new
 Lets lab failures old e done (Refused Memory) new = new ≡ old
-Lets lab failures old e done (Granted place number d) new = (d ≡ done) × (place ≡ length old.events + 1) × (number ≡ (world_in lab new.events).number) × Grows failures old new e
+Lets lab failures old e done (Granted place number d) new =
+    (d ≡ done) × (place ≡ length old.events + 1) × (number ≡ (world_in lab new.events).number) × Grows failures old new e
 
 -- why an act was refused, if it was
 abbrev pub refused_by : Answer → Option Refusal

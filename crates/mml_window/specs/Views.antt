@@ -2,12 +2,9 @@
 use Rattle.std.specs.Prelude.{◌≡◌, ℕ, Result, Ok, Err}
 use Rattle.mml_lab.specs.declared.who.Who.{Who}
 use Rattle.mml_lab.specs.Labs.{LabValue}
-use Rattle.mml_policy.specs.declared.see.See.{See}
-use Rattle.mml_policy.specs.declared.look.Look.{Look}
 use Rattle.mml_policy.specs.declared.command.Command.{Command}
-use Rattle.mml_policy.specs.declared.command.Command.TheVariants as command
 use Rattle.mml_policy.specs.declared.ruling.Ruling.{Ruling}
-use Rattle.mml_policy.specs.declared.ruling.Ruling.TheVariants.{Denied, Seen, Looked}
+use Rattle.mml_policy.specs.declared.ruling.Ruling.TheVariants.{Denied}
 use Rattle.mml_window.specs.declared.sight.SightFault.{SightFault}
 use Rattle.mml_window.specs.declared.sight.SightFault.TheVariants as fault
 use Rattle.mml_window.specs.declared.sight.Closed.{Closed}
@@ -19,7 +16,7 @@ abbrev pub TellsNumber : LabValue → WindowValue → Result ℕ Closed → Wind
 TellsNumber lab old (Ok n) new = (n ≡ (world_in lab new.seen).number) × SeesOn lab old new
 TellsNumber lab old (Err closed) new = new ≡ old
 
--- what is ruled is shown, or it is denied; want of memory says that it would be shown
+-- what is ruled is shown, or it is denied; out of memory says that it would be shown
 abbrev pub Shows : {A : Type 0} → (A → Ruling) → Ruling → Result A SightFault → Type 0
 Shows shown r (Ok x) = r ≡ shown x
 Shows shown r (Err (fault.Denied d)) = r ≡ Denied d

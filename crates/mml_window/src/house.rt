@@ -1,6 +1,6 @@
 use crate::published::Published;
-use crate::rule::{Kept, View};
-use left_right::reader::Reader;
+use crate::seeing::{Kept, View};
+use left_right::reader::{Reader, Reading};
 use left_right::writer::Writer;
 use mml_board::Event;
 pub use std::marker::Brand;
@@ -27,6 +27,9 @@ impl House for Brand {
 
 /// A reader's place at what a house publishes.
 pub(crate) type Place<H> = Reader<Published, View, Kept<H>>;
+
+/// A reader that has entered, with what it reads.
+pub(crate) type Entered<H> = Reading<Published, View, Kept<H>>;
 
 /// What publishes for a house.
 pub(crate) type Press<H> = Writer<Published, Event, View, Kept<H>>;

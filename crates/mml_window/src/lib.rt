@@ -10,7 +10,7 @@ mod log;
 mod looking;
 mod press;
 mod published;
-mod rule;
+mod seeing;
 mod showing;
 mod sight;
 mod tally;

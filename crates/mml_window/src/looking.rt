@@ -1,14 +1,23 @@
 //! How a reader looks at what is published.
-ghost use Rattle.std.specs.Prelude.{◌≡◌, ◌+◌, ◌≤◌, ◌++◌, ◌∷◌, [], true, length};
+ghost use Rattle.std.specs.Prelude.{◌≡◌, ◌+◌, ◌≤◌, ◌++◌, ◌∷◌, [], true, length, IfOk, IfErr};
 ghost use mathlib.Core.List.{IsPrefix};
 ghost use Rattle.left_right.specs.Sides.{view};
 ghost use Rattle.mml_window.specs.Lists.{is_legal_in, world_in};
-ghost use Rattle.mml_window.specs.Rule.{viewer};
+ghost use Rattle.mml_window.specs.Rule.{viewer, Saw};
 
-use crate::house::{House, Place};
-use crate::rule::Seeing;
+use crate::house::{Entered, House, Place};
+use crate::seeing::Seeing;
 use mml_board::{Board, Event};
 use std::sync::Wait;
+
+/// Lets a reader enter what is published, unless the writer is gone.
+pub(crate) fn enter<H: House>(reader: Place<H>) -> Result<Entered<H>, Place<H>>
+    ensures saw { IfOk result (λ reading.
+        Saw H.lab (view reader.place) reading.part.value (view reading.place)) }
+    ensures same { IfErr result (λ same. view same.place ≡ view reader.place) }
+{
+    reader.enter_as::<Seeing<H>>()
+}
 
 /// Lets a reader look until it sees this board.
 pub(crate) fn look_for_board<H: House, R: Wait>(rt: &R, reader: Place<H>, board: &Board) -> Place<H>
@@ -19,7 +28,7 @@ pub(crate) fn look_for_board<H: House, R: Wait>(rt: &R, reader: Place<H>, board:
 {
     let mut reader = reader;
     'looks: for _ in rt.forever() {
-        match reader.enter_as::<Seeing<H>>() {
+        match enter(reader) {
             Ok(reading) => {
                 let found = reading.get().board.is_same(board);
                 reader = reading.leave();
@@ -47,7 +56,7 @@ pub(crate) fn look_for_event<H: House, R: Wait>(
 {
     let mut reader = reader;
     'looks: for _ in rt.forever() {
-        match reader.enter_as::<Seeing<H>>() {
+        match enter(reader) {
             Ok(reading) => {
                 let found = reading.get().ends_in(place, event);
                 reader = reading.leave();
@@ -74,7 +83,7 @@ pub(crate) fn look_for_all<H: House, R: Wait>(
 {
     let mut reader = reader;
     'looks: for _ in rt.forever() {
-        match reader.enter_as::<Seeing<H>>() {
+        match enter(reader) {
             Ok(reading) => {
                 let found = reading.get().has_all(events);
                 reader = reading.leave();

@@ -17,9 +17,8 @@ ghost use Rattle.mml_window.specs.Tallies.{times};
 ghost use Rattle.mml_window.specs.inside.Cursors.{IsStuck};
 
 use crate::house::{House, Place, Press};
-use crate::looking::{look_for_all, look_for_board, look_for_event};
+use crate::looking::{enter, look_for_all, look_for_board, look_for_event};
 use crate::press::new_place;
-use crate::rule::Seeing;
 use crate::showing::{look_at, report_at, see_at};
 use crate::sight::{Closed, SightFault};
 use mml_board::Event;
@@ -265,7 +264,7 @@ fn read_number<H: House>(reader: Place<H>) -> (Place<H>, Result<u64, Closed>)
     ensures few { length (view reader.place).seen ≤ H.lab.events
         → length (view result.0.place).seen ≤ H.lab.events }
 {
-    match reader.enter_as::<Seeing<H>>() {
+    match enter(reader) {
         Ok(reading) => {
             let number = reading.get().board.number();
             (reading.leave(), Ok(number))
@@ -288,7 +287,7 @@ fn read_see<H: House>(
         → length (view result.0.place).seen ≤ H.lab.events }
 {
     let _nodes = lab.node_count();
-    match reader.enter_as::<Seeing<H>>() {
+    match enter(reader) {
         Ok(reading) => {
             let see = see_at(&reading.get().board, lab, who, node);
             (reading.leave(), see)
@@ -311,7 +310,7 @@ fn read_look<H: House>(
         → length (view result.0.place).seen ≤ H.lab.events }
 {
     let _nodes = lab.node_count();
-    match reader.enter_as::<Seeing<H>>() {
+    match enter(reader) {
         Ok(reading) => {
             let look = look_at(alloc, &reading.get().board, lab, who, node);
             (reading.leave(), look)
@@ -334,7 +333,7 @@ fn read_report<H: House>(
         → length (view result.0.place).seen ≤ H.lab.events }
 {
     let _nodes = lab.node_count();
-    match reader.enter_as::<Seeing<H>>() {
+    match enter(reader) {
         Ok(reading) => {
             let report = report_at(alloc, &reading.get().board, lab, who);
             (reading.leave(), report)

@@ -1,5 +1,5 @@
 -- How a board keeps its world.
-use Rattle.std.specs.Prelude.{◌≡◌, ℕ, ◌<◌, ◌≤◌, true, Option, None, Some, if◌then◌else◌, List, length, map, slice_index_or}
+use Rattle.std.specs.Prelude.{◌≡◌, ℕ, ◌<◌, ◌≤◌, ◌+◌, true, Option, None, Some, if◌then◌else◌, List, length, map, slice_index_or}
 use Rattle.std.specs.List.{range_with_len}
 use Rattle.std.specs.FinSet as set
 use Rattle.std.specs.FinSet.{FinSet}
@@ -23,6 +23,12 @@ moves_of chosen granted = map (λ i. if set.contains chosen i then Some (granted
 
 abbrev pub world_in : Network → FinSet nat_cmp → List Granted → ℕ → ℕ → World
 world_in network chosen granted number place = record { network = network; chosen = moves_of chosen granted; number = number; place = place }
+
+-- the next configuration: no chosen move, and the next number and place
+pub record IsCounted (old_number old_place : ℕ) (chosen : FinSet nat_cmp) (new_number new_place : ℕ) : Type 0 where
+  pub none : chosen ≡ set.empty
+  pub number : new_number ≡ old_number + 1
+  pub place : new_place ≡ old_place + 1
 
 -- the chosen nodes are nodes, and what is kept for each is the effect of its move
 pub record IsKept (w : World) (chosen : FinSet nat_cmp) (granted : List Granted) : Type 0 where

@@ -13,8 +13,8 @@ use Rattle.mml_board.specs.inside.Kept.{IsKept}
 abbrev pub is_privileged_node : Configuration → ℕ → Bool
 is_privileged_node c j = nat_lt j c.size && is_privileged c j
 
-unfoldable pub privileged_nodes : Configuration → FinSet nat_cmp
-privileged_nodes c = those_below c.size (is_privileged c)
+unfoldable pub privileged_set : Configuration → FinSet nat_cmp
+privileged_set c = those_below c.size (is_privileged c)
 
 -- neither j nor a neighbour of it was changed
 pub record IsUntouched (c : Configuration) (changed : FinSet nat_cmp) (j : ℕ) : Type 0 where
@@ -24,4 +24,4 @@ pub record IsUntouched (c : Configuration) (changed : FinSet nat_cmp) (j : ℕ) 
 -- the world is kept, and the monitor has the privileged nodes
 pub record IsBoard (w : World) (chosen : FinSet nat_cmp) (granted : List Granted) (privileged : FinSet nat_cmp) : Type 0 where
   pub kept : IsKept w chosen granted
-  pub monitor : privileged ≡ privileged_nodes (configuration w)
+  pub monitor : privileged ≡ privileged_set (configuration w)

@@ -3,7 +3,7 @@ use Rattle.std.specs.Prelude.{◌≡◌, ℕ, ◌<◌, ◌&&◌, nat_lt, is_none
 use Rattle.std.specs.FinSet as set
 use Rattle.std.specs.FinSet.{FinSet}
 use Rattle.std.specs.Ordering.{nat_cmp}
-use Rattle.mml_rules.specs.declared.registers.Regs.{Regs}
+use Rattle.mml_rules.specs.declared.regs.Regs.{Regs}
 use Rattle.mml_rules.specs.Configuration.{holds}
 use Rattle.mml_rules.specs.Network.{neighbours_at, registers_at, with_neighbour, without_neighbour}
 

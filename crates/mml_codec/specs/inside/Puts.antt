@@ -1,7 +1,7 @@
 -- Texts that are put in parts.
-use Rattle.std.specs.Prelude.{◌≡◌, ℕ, ◌+◌, ◌<◌, ◌≤◌, ◌++◌, List, [], ◌∷◌, length, map, Vec, vec_capacity, Option, None, Some, OnOk, OnErr, Result, codes, decimal}
+use Rattle.std.specs.Prelude.{ℕ, ◌+◌, ◌++◌, List, [], ◌∷◌, map, Option, None, Some, codes}
+use Rattle.std.specs.Prelude.{decimal}
 use Rattle.std.specs.List.{concat}
-use Rattle.std.specs.declared.alloc.Global.{Global}
 use Rattle.mml_policy.specs.declared.denial.Denial.{Denial}
 use Rattle.mml_policy.specs.declared.look.Look.{Look}
 use Rattle.mml_policy.specs.Denials.{clause_of, text_of}
@@ -15,7 +15,7 @@ number_front None = codes "{"
 number_front (Some at) = concat (codes "{\"at\":" ∷ decimal at ∷ codes "," ∷ [])
 
 unfoldable pub deny_parts : Denial → List ℕ
-deny_parts d = number_front (current_number d) ++ concat (codes "\"clause\":" ∷ decimal (clause_of d) ∷ codes ",\"deny\":\"" ∷ denials.name_of d
+deny_parts d = number_front (current_number d) ++ concat (codes "\"clause\":" ∷ decimal (clause_of d) ∷ codes ",\"deny\":\"" ∷ denials.denial_name d
     ∷ codes "\",\"text\":\"" ∷ text_of d ∷ codes "\"}" ∷ [])
 
 -- what stands before the nodes that are linked to the one that is looked at, and what after them

@@ -5,8 +5,9 @@ use Rattle.mml_hall.specs.Halls.{HallValue}
 use Rattle.mml_hall.specs.Journals.{Journals}
 use Rattle.mml_hall.specs.Scripts.{Finished, Stopped}
 
--- all lines were answered, or a fault came
-abbrev pub EndsScript : {S : Type 0} → (S → Option (List ℕ)) → (S → ℕ) → Result ⊤ ScriptFault → HallValue S → HallValue S → Option (List ℕ) → Option (List ℕ) → Option (List ℕ) → Option (List ℕ) → Type 0
+-- all lines were answered, or an error came
+abbrev pub EndsScript : {S : Type 0} → (S → Option (List ℕ)) → (S → ℕ) → Result ⊤ ScriptFault → HallValue S → HallValue S → Option (List ℕ) → Option (List ℕ)
+    → Option (List ℕ) → Option (List ℕ) → Type 0
 EndsScript contents failures (Ok done) opened hall input left wrote wrote' =
     Finished (Journals contents failures opened.lab opened.sink) hall opened.lab input left wrote wrote'
 EndsScript contents failures (Err fault) opened hall input left wrote wrote' =

@@ -1,14 +1,15 @@
--- Which ranks the words keep.
-use Rattle.std.proofs.Common.{◌≡◌, ℕ, zero, suc, ◌<◌, ◌≤◌, ◌+◌, ◌≢◌, Bool, true, false, not, cond, ◌&&◌, ◌||◌, eqb, ltb, List, length, get_or, set, sym, refl, ap, ◌∙◌, subst, arith, inl, inr, get_or-set_same, get_or-set_other, length-set}
-use Rattle.std.proofs.lemmas.Bool.{cases_order, cases_eq, and_right, eq-eqb, ne_eqb, eqb-true, eqb-false, lt-ltb, le-ltb}
+-- Which ranks the words keep. It stands here, since the contract of a set's type cites `words_back`.
+use Rattle.std.proofs.Common.{◌≡◌, ℕ, zero, suc, ◌<◌, ◌≤◌, ◌+◌, ◌≢◌, Bool, true, false, not, cond, ◌&&◌, ◌||◌, eqb, ltb, List, length, get_or, set, sym, refl}
+use Rattle.std.proofs.Common.{ap, ◌∙◌, subst, arith, inl, inr, get_or-set_same, get_or-set_other, length-set}
+use Rattle.std.proofs.lemmas.Bool.{cases_order, cases_eq, eq-eqb, ne_eqb, eqb-true, eqb-false, lt-ltb, le-ltb}
 use Rattle.std.specs.Cmp.{nat_cmp_total, unsigned_tied}
 use Rattle.std.specs.Ordering.{nat_cmp}
 use Rattle.std.specs.FinSet as sets
 use Rattle.std.specs.FinSet.{FinSet, nat_cmp-IsAntisymmetric}
 use Rattle.std.specs.Int.{bit_at}
-use Rattle.std.proofs.Common.{◌-◌, ◌*◌, ◌^◌, ◌/◌, ◌%◌, lit<, add-one, replicate}
+use Rattle.std.proofs.Common.{◌-◌, ◌*◌, ◌^◌, ◌/◌, ◌%◌, lit<, add-one}
 use Rattle.std.proofs.lemmas.List.FromFn.{fill_by_all}
-use Rattle.std.proofs.lemmas.Nat.Bits.{same_from_bits_below, bit_at_cat_low, bit_at_cat_high, bit_at-lt, bit_at-zero}
+use Rattle.std.proofs.lemmas.Nat.Bits.{same_from_bits_below, bit_at_cat_low, bit_at_cat_high, bit_at-lt}
 use Rattle.std.proofs.lemmas.Grind.{pow_more}
 use Rattle.mml_ids.specs.Sets.{those_below}
 use Rattle.mml_ids.specs.inside.Words.{bit_in, set_of, ones_at, word_of, words_of, AreWords}
@@ -43,10 +44,13 @@ has-those_below zero t q = has_empty q ∙ ap (λ b. b && t q) (sym (le-ltb q 0 
 has-those_below (suc n) t q =
     added (t n) (those_below n t) n q ∙ ap (λ b. (t n && eqb q n) || b) (has-those_below n t q) ∙
     elim (cases_order q n) [
-      | inl same ↦ at_last (t n) (eqb q n) (ltb q n) (ltb q (suc n)) (t q) (eq-eqb q n same) (le-ltb q n (omega arith)) (lt-ltb q (suc n) (omega arith)) (ap t (sym same))
+      | inl same ↦ at_last (t n) (eqb q n) (ltb q n) (ltb q (suc n)) (t q) (eq-eqb q n same) (le-ltb q n (omega arith)) (lt-ltb q (suc n) (omega arith))
+          (ap t (sym same))
       | inr o ↦ elim o [
-        | inl lt ↦ at_other (t n) (eqb q n) (ltb q n) (ltb q (suc n)) (t q) (ne_eqb q n (λ e. omega arith)) (lt-ltb q (suc n) (omega arith) ∙ sym (lt-ltb q n lt))
-        | inr gt ↦ at_other (t n) (eqb q n) (ltb q n) (ltb q (suc n)) (t q) (ne_eqb q n (λ e. omega arith)) (le-ltb q (suc n) (omega arith) ∙ sym (le-ltb q n (omega arith)))
+        | inl lt ↦
+            at_other (t n) (eqb q n) (ltb q n) (ltb q (suc n)) (t q) (ne_eqb q n (λ e. omega arith)) (lt-ltb q (suc n) (omega arith) ∙ sym (lt-ltb q n lt))
+        | inr gt ↦ at_other (t n) (eqb q n) (ltb q n) (ltb q (suc n)) (t q) (ne_eqb q n (λ e. omega arith))
+            (le-ltb q (suc n) (omega arith) ∙ sym (le-ltb q n (omega arith)))
       ]
     ]
 
@@ -69,7 +73,8 @@ ones_below (suc n) t = subst (λ k. cond (t n) 1 0 * 2 ^ n + ones_at n t < 2 ^ k
 ones_bit : (n k : ℕ) (t : ℕ → Bool) → k < n → bit_at (ones_at n t) k ≡ cond (t k) 1 0
 ones_bit zero k t l = absurd (omega arith)
 ones_bit (suc n) k t l = elim (cases_order k n) [
-  | inl e ↦ subst (λ x. bit_at (ones_at (suc n) t) x ≡ cond (t x) 1 0) (sym e) (bit_at_cat_high (cond (t n) 1 0) n (ones_at n t) n (ones_below n t) (omega arith) ∙ top (t n))
+  | inl e ↦ subst (λ x. bit_at (ones_at (suc n) t) x ≡ cond (t x) 1 0) (sym e)
+      (bit_at_cat_high (cond (t n) 1 0) n (ones_at n t) n (ones_below n t) (omega arith) ∙ top (t n))
   | inr o ↦ elim o [
     | inl lt ↦ bit_at_cat_low (cond (t n) 1 0) n (ones_at n t) k lt ∙ ones_bit n k t lt
     | inr gt ↦ absurd (omega arith)
@@ -103,7 +108,8 @@ unfolding words_of
 words_back n words e h = sym (fill_by_all (word_of (set_of (64 * n) words)) words n 0 e (λ w l. sym (word_back (64 * n) words w (omega arith) (h w l))))
 
 -- another word at the place of r, with the same bits but for that of r
-bits_beside : (words : List ℕ) (new r q : ℕ) → r / 64 < length words → ((i : ℕ) → i < 64 → i ≢ r % 64 → bit_at new i ≡ bit_at (get_or words (r / 64) 0) i) → q ≢ r → bit_in (set words (r / 64) new) q ≡ bit_in words q
+bits_beside : (words : List ℕ) (new r q : ℕ) → r / 64 < length words → ((i : ℕ) → i < 64 → i ≢ r % 64 → bit_at new i ≡ bit_at (get_or words (r / 64) 0) i)
+    → q ≢ r → bit_in (set words (r / 64) new) q ≡ bit_in words q
 bits_beside words new r q l there ne = elim (cases_eq (q / 64) (r / 64)) [
   | inl e ↦
       let other : q % 64 ≢ r % 64 = λ f. ne (omega arith) in
@@ -117,13 +123,16 @@ bits_beside words new r q l there ne = elim (cases_eq (q / 64) (r / 64)) [
 bit_here : (words : List ℕ) (new r : ℕ) → r / 64 < length words → bit_in (set words (r / 64) new) r ≡ eqb (bit_at new (r % 64)) 1
 bit_here words new r l = ap (λ x. eqb (bit_at x (r % 64)) 1) (get_or-set_same words (r / 64) new 0 l)
 
-pub set_of-set : (n : ℕ) (words : List ℕ) (new r : ℕ) → r < n → r / 64 < length words → bit_at new (r % 64) ≡ 1 → ((i : ℕ) → i < 64 → i ≢ r % 64 → bit_at new i ≡ bit_at (get_or words (r / 64) 0) i) → set_of n (set words (r / 64) new) ≡ sets.insert (set_of n words) r
-set_of-set n words new r l in_words here there = same_ranks _ _ (λ q. has-set_of n (set words (r / 64) new) q ∙ at q ∙ sym (has_insert (set_of n words) r q ∙ ap (λ b. eqb q r || b) (has-set_of n words q)))
+pub set_of-set : (n : ℕ) (words : List ℕ) (new r : ℕ) → r < n → r / 64 < length words → bit_at new (r % 64) ≡ 1
+    → ((i : ℕ) → i < 64 → i ≢ r % 64 → bit_at new i ≡ bit_at (get_or words (r / 64) 0) i) → set_of n (set words (r / 64) new) ≡ sets.insert (set_of n words) r
+set_of-set n words new r l in_words here there =
+    same_ranks _ _ (λ q. has-set_of n (set words (r / 64) new) q ∙ at q ∙ sym (has_insert (set_of n words) r q ∙ ap (λ b. eqb q r || b) (has-set_of n words q)))
   where
     at : (q : ℕ) → (ltb q n && bit_in (set words (r / 64) new) q) ≡ (eqb q r || (ltb q n && bit_in words q))
     at q = elim (cases_eq q r) [
       | inl e ↦
-          ap (λ x. ltb x n && bit_in (set words (r / 64) new) x) e ∙ ap (λ b. b && bit_in (set words (r / 64) new) r) (lt-ltb r n l) ∙ bit_here words new r in_words ∙ ap (λ x. eqb x 1) here
+          ap (λ x. ltb x n && bit_in (set words (r / 64) new) x) e ∙ ap (λ b. b && bit_in (set words (r / 64) new) r) (lt-ltb r n l)
+          ∙ bit_here words new r in_words ∙ ap (λ x. eqb x 1) here
           ∙ sym (ap (λ b. b || (ltb q n && bit_in words q)) (eq-eqb q r e))
       | inr ne ↦ ap (λ b. ltb q n && b) (bits_beside words new r q in_words there ne) ∙ sym (ap (λ b. b || (ltb q n && bit_in words q)) (ne_eqb q r ne))
     ]
@@ -132,7 +141,8 @@ pub put_words : (n : ℕ) (words : List ℕ) (p new : ℕ) → AreWords n words 
 put_words n words p new a l h = record {
   count = length-set words p new ∙ a.count;
   each = λ w lw. elim (cases_eq w p) [
-    | inl e ↦ subst (λ x. get_or (set words p new) x 0 < 2 ^ 64) (sym e) (subst (λ x. x < 2 ^ 64) (sym (get_or-set_same words p new 0 (omega (arith, a.count)))) h)
+    | inl e ↦
+        subst (λ x. get_or (set words p new) x 0 < 2 ^ 64) (sym e) (subst (λ x. x < 2 ^ 64) (sym (get_or-set_same words p new 0 (omega (arith, a.count)))) h)
     | inr ne ↦ subst (λ x. x < 2 ^ 64) (sym (get_or-set_other words p w new 0 ne)) (a.each w lw)
   ];
 }

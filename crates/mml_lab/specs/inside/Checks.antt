@@ -9,11 +9,12 @@ use Rattle.mml_ids.specs.Gives.{unless_fault, ◌>>=◌}
 use Rattle.mml_ids.specs.Search.{first_below}
 use Rattle.mml_ids.specs.Ids.{in_order, rank_in}
 use Rattle.mml_rules.specs.Network.{neighbours_at}
-use Rattle.mml_lab.specs.declared.fault.LabFault.{LabFault}
-use Rattle.mml_lab.specs.declared.fault.LabFault.TheVariants as fault
+use Rattle.mml_lab.specs.declared.lab_fault.LabFault.{LabFault}
+use Rattle.mml_lab.specs.declared.lab_fault.LabFault.TheVariants as fault
 use Rattle.mml_lab.specs.Shape.{Account, NodeSpec, RawSpec}
 use Rattle.mml_lab.specs.Rosters.{name_twice, with_owners}
-use Rattle.mml_lab.specs.Labs.{LabValue, number_of, file_ids, is_loop, is_link_again, neighbours_of, registers_with, owners_with, both_fault, ids_fault, forms_fault, owners_fault, limits_fault}
+use Rattle.mml_lab.specs.Labs.{LabValue, number_of, file_ids, is_loop, is_link_again, neighbours_of, registers_with, owners_with, both_fault, ids_fault}
+use Rattle.mml_lab.specs.Labs.{forms_fault, owners_fault, limits_fault}
 
 -- the rank of the node that an integer of the file names
 unfoldable pub rank_at : List ℕ → ℤ → Option ℕ
@@ -49,7 +50,7 @@ past_fault ids rows nodes = option_map fault.BadPointer (position (points_past i
 abbrev pub limits_in : ℤ → ℤ → ℕ → Result (ℕ × ℕ) LabFault
 limits_in events sessions students = unless_fault (limits_fault events sessions students) (number_of events, number_of sessions)
 
--- what is known of a file without a fault
+-- what is known of a file without an error
 pub record Checked : Type 0 where
   pub ids : List ℕ
   pub teacher : Account

@@ -1,10 +1,10 @@
 -- What a file that was checked stands for.
 use Rattle.std.specs.Prelude.{List, map}
-use Rattle.mml_lab.specs.declared.raw.Account.{Account}
-use Rattle.mml_lab.specs.declared.raw.RawNode.{RawNode}
+use Rattle.mml_lab.specs.declared.raw_lab.Account.{Account}
+use Rattle.mml_lab.specs.declared.raw_lab.RawNode.{RawNode}
 use Rattle.mml_lab.specs.declared.checks.Checked.{Checked as KeptChecked}
 use Rattle.mml_lab.specs.declared.checks.Found.{Found}
-use Rattle.mml_lab.specs.Raw.{account_view, entry_view, node_view}
+use Rattle.mml_lab.specs.inside.Raw.{account_view, entry_view, node_view}
 use Rattle.mml_lab.specs.inside.Checks.{Checked}
 
 abbrev pub checked_view : KeptChecked → Checked

@@ -1,16 +1,8 @@
 //! The owners of a node: one or two, under either key.
-use super::is_told;
-use std::alloc::{AllocError, Global};
+use super::first_other;
 
-const HEAD: &[u8] = br#"
-events = 100
-sessions = 4
-teacher = { name = "tess", key = "chalk" }
-student = [
-  { name = "ana", key = "a-key" },
-  { name = "ben", key = "b-key" },
-  { name = "cyd", key = "c-key" },
-]
+// Two nodes, the first of ana.
+const LINKS: &[u8] = br#"
 links = [[1, 2]]
 [[node]]
 id = 1
@@ -72,17 +64,7 @@ const OWNERS: &[(&[u8], &str)] = &[
     ),
 ];
 
-/// The first row of these that is read as something else.
-fn first_other(alloc: Global) -> Result<Option<usize>, AllocError> {
-    for (row, (owners, wanted)) in OWNERS.iter().enumerate() {
-        if !is_told(alloc, &[HEAD, *owners], wanted)? {
-            return Ok(Some(row));
-        }
-    }
-    Ok(None)
-}
-
 #[test]
 fn reads_owners(rt: HostRuntime) {
-    assert_eq!(rt; first_other(rt.alloc()), Ok(None));
+    assert_eq!(rt; first_other(rt.alloc(), LINKS, OWNERS), Ok(None));
 }

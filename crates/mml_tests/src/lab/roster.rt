@@ -8,18 +8,8 @@ const LAB: &[u8] = br#"
 events = 100
 sessions = 4
 teacher = { name = "tess", key = "chalk" }
-
-[[node]]
-id = 7
-owner = "ben"
-
-[[student]]
-name = "ana"
-key = "a-key"
-
-[[student]]
-name = "ben"
-key = "b-key"
+node = [{ id = 7, owner = "ben" }]
+student = [{ name = "ana", key = "a-key" }, { name = "ben", key = "b-key" }]
 "#;
 
 // A name and a key; whether they greet, and the place of the student with that name.

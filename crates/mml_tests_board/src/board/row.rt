@@ -1,37 +1,16 @@
 //! What happens in a row of three, told after each event.
-ghost use Rattle.std.specs.Prelude.{◌<◌, length};
-
-use crate::board::{board_of, grant};
+use crate::board::{board_of, grant, told};
 use mml_board::{Board, Event};
 use mml_ids::Rank;
 use mml_rules::{Regs, Rule, Scene};
 use std::alloc::{AllocError, Global};
 use std::test::Fail;
 
-/// The number, the place, how many nodes are privileged and how many chosen, and for each node p, m
-/// and the enabled rule.
-fn told(alloc: Global, board: &Board) -> Result<String, AllocError> {
-    let (number, place) = (board.number(), board.place());
-    let (privileged, chosen) = (board.privileged_count(), board.chosen_set().len());
-    let mut text = format!(in alloc; "{number} {place} {privileged} {chosen}")?;
-    for index in 0..board.size() {
-        push_node(&mut text, board, Rank::at(index))?;
-    }
-    Ok(text)
-}
-
-fn push_node(text: &mut String, board: &Board, node: Rank) -> Result<(), AllocError>
-    requires { node < length board.now.network.registers }
-{
-    let regs = board.regs(node);
-    let p = regs.p.map(Rank::index);
-    let kind = board.enabled(node);
-    write!(text, "; {p:?} {} {kind:?}", regs.m)
-}
-
 // Three nodes in a row.
 const ROW: &str =
-    "events = 100\nsessions = 1\nlinks = [[1, 2], [2, 3]]\n[teacher]\nname = \"t\"\nkey = \"t\"\n[[student]]\nname = \"s\"\nkey = \"s\"\n[[node]]\nid = 1\nowner = \"s\"\n[[node]]\nid = 2\nowner = \"s\"\n[[node]]\nid = 3\nowner = \"s\"\n";
+    "events = 100\nsessions = 1\nlinks = [[1, 2], [2, 3]]\n[teacher]\nname = \"t\"\nkey = \"t\"\n\
+     [[student]]\nname = \"s\"\nkey = \"s\"\n\
+     [[node]]\nid = 1\nowner = \"s\"\n[[node]]\nid = 2\nowner = \"s\"\n[[node]]\nid = 3\nowner = \"s\"\n";
 
 /// An event, if there is one, and what is told after it.
 type Part = (Option<Event>, &'static str);
@@ -107,7 +86,7 @@ fn follows(alloc: Global, board: &mut Board, story: &[Part]) -> Result<bool, All
         if let Some(event) = event {
             board.absorb_event(event);
         }
-        let told = told(alloc, board)?;
+        let told = told(alloc, board, false)?;
         if told.as_str() != *expected {
             follows = false;
         }

@@ -18,7 +18,7 @@ fn after_last_line(bytes: &[u8]) -> usize {
 }
 
 /// Whether a writer that takes one byte a write, and so many in all, gets the beginning of what is
-/// wanted, and the fault tells how much of the line at hand it got.
+/// wanted, and the error tells how much of the line at hand it got.
 fn tells_a_write(alloc: Global, good: usize, refusal: Refusal) -> Result<bool, Fail> {
     let replies = FIRST_LOOK_REPLIES.as_bytes();
     let (out, rest) = replies.split_at(good.min(replies.len()));
@@ -54,7 +54,7 @@ fn failed_writes_are_told(rt: HostRuntime) -> Result<(), Fail> {
 }
 
 /// Whether a reader that gives one byte a read, and fails after so many, ends a script with that
-/// fault, where exactly the lines that it gave were answered and it was asked for no more.
+/// error, where exactly the lines that it gave were answered and it was asked for no more.
 fn tells_a_read(alloc: Global, good: usize, wanted: Option<ScriptFault>) -> Result<bool, Fail> {
     let script = GREETING.as_bytes();
     let (given, rest) = script.split_at(good.min(script.len()));
@@ -71,7 +71,7 @@ fn tells_a_read(alloc: Global, good: usize, wanted: Option<ScriptFault>) -> Resu
     )
 }
 
-/// The first number of good reads after which the fault isn't told.
+/// The first number of good reads after which the error isn't told.
 fn first_untold_read(alloc: Global) -> Result<Option<usize>, Fail> {
     for good in 0..=GREETING.len() {
         if !tells_a_read(alloc, good, Some(ScriptFault::Read))? {

@@ -145,7 +145,7 @@ fn tells_a_flush(alloc: Global, good: usize) -> Result<bool, Fail> {
     )
 }
 
-/// The first number of good flushes after which the fault isn't told.
+/// The first number of good flushes after which the error isn't told.
 fn first_untold_flush(alloc: Global) -> Result<Option<usize>, Fail> {
     for good in 0..4 {
         if !tells_a_flush(alloc, good)? {
@@ -162,7 +162,7 @@ fn failed_flushes_are_told(rt: HostRuntime) -> Result<(), Fail> {
 }
 
 /// Whether a writer that takes seven bytes a write, and so many writes, has the front of the replies,
-/// and the fault tells how much of the first line that isn't wholly out it has.
+/// and the error tells how much of the first line that isn't wholly out it has.
 fn tells_a_write(alloc: Global, good: usize) -> Result<bool, Fail> {
     let replies = FIRST_LOOK_REPLIES.as_bytes();
     let mut writer = FakeWriter::failing_after(good, alloc);
@@ -174,7 +174,7 @@ fn tells_a_write(alloc: Global, good: usize) -> Result<bool, Fail> {
     Ok(fault == Some(ScriptFault::Write { written }) && replies.starts_with(out))
 }
 
-/// The first number of good writes after which the fault isn't told.
+/// The first number of good writes after which the error isn't told.
 fn first_untold_write(alloc: Global) -> Result<Option<usize>, Fail> {
     for good in 0..FIRST_LOOK_REPLIES.len() / 7 {
         if !tells_a_write(alloc, good)? {

@@ -1,37 +1,12 @@
 //! Scripts over sinks in memory: what is refused once a put has failed, and what the sink has then.
-use mml_fakes::FakeWriter;
 use mml_fakes::labs::PATH_OF_THREE;
-use mml_fakes::scripts::{GREETINGS, TEN_ACTS, TEN_GRANTS, TEN_LINES, WELCOMES};
+use mml_fakes::scripts::{GREETINGS, TEN_ACTS, TEN_GRANTS, TEN_LINES, WELCOMES, first_lines};
+use mml_fakes::{Drip, FakeWriter};
 use mml_hall::{Hall, run_script};
-use mml_journal::{MemorySink, Sink, SinkFault};
+use mml_journal::{MemorySink, Sink};
 use mml_lab::read_lab;
 use std::alloc::Global;
 use std::test::Fail;
-
-/// A sink that takes one byte a put, and after so many fails for good.
-#[derive(Drop)]
-struct Drip {
-    bytes: Vec<u8>,
-    left: usize,
-    failures: u64,
-}
-
-impl Sink for Drip {
-    ghost use Rattle.std.specs.Prelude.{None};
-
-    ghost contents = { λ _. None };
-
-    ghost failures = { λ s. s.failures };
-
-    fn put(&mut self, bytes: &[u8]) -> Result<usize, SinkFault> {
-        if self.left == 0 || self.bytes.push(bytes[0]).is_err() {
-            self.failures += 1;
-            return Err(SinkFault);
-        }
-        self.left -= 1;
-        Ok(1)
-    }
-}
 
 /// The hall that a script leaves over a sink in memory that may fail at a put.
 fn run(
@@ -109,25 +84,13 @@ fn nothing_is_granted_after_a_failed_put(rt: HostRuntime) -> Result<(), Fail> {
     Ok(())
 }
 
-/// The first lines of a text, so many.
-fn first_lines(text: &str, count: usize) -> &str {
-    let mut rest = text;
-    for _ in 0..count {
-        match rest.split_once('\n') {
-            Some((_, after)) => rest = after,
-            None => return text,
-        }
-    }
-    text.strip_suffix(rest).unwrap_or(text)
-}
-
 /// Whether a line denies, or tells that the journal takes no line.
 fn is_refused(line: &str) -> bool {
     line.ends_with("{\"refuse\":\"journal\"}") || line.contains("\"deny\":")
 }
 
 /// What stands between the replies to these many acts and what is then told of the journal.
-fn between<'a>(alloc: Global, told: &'a str, granted: usize) -> Result<Option<&'a str>, Fail> {
+fn between<'a>(alloc: Global, told: &'a str, granted: u64) -> Result<Option<&'a str>, Fail> {
     let before = format!(in alloc; "{WELCOMES}{}", first_lines(TEN_GRANTS, granted))?;
     let after = format!(in alloc;
         "journal:\n{}{granted} events, place {granted}, halted: true",
@@ -139,8 +102,8 @@ fn between<'a>(alloc: Global, told: &'a str, granted: usize) -> Result<Option<&'
 
 /// Whether a sink that fails at this put leaves the acts before it granted, with their lines, and all
 /// later ones refused.
-fn stops_at(alloc: Global, script: &str, put: usize) -> Result<bool, Fail> {
-    let told = told(alloc, script, Some(put as u64))?;
+fn stops_at(alloc: Global, script: &str, put: u64) -> Result<bool, Fail> {
+    let told = told(alloc, script, Some(put))?;
     match between(alloc, told.as_str(), put.saturating_sub(1))? {
         Some(rest) => Ok(are_refused(rest)),
         None => Ok(false),
@@ -154,9 +117,9 @@ fn are_refused(lines: &str) -> bool {
 }
 
 /// The first put that fails with something else left.
-fn first_put_told_otherwise(alloc: Global) -> Result<Option<usize>, Fail> {
+fn first_put_told_otherwise(alloc: Global) -> Result<Option<u64>, Fail> {
     let script = format!(in alloc; "{GREETINGS}{TEN_ACTS}")?;
-    for put in 1..=10usize {
+    for put in 1..=10u64 {
         if !stops_at(alloc, script.as_str(), put)? {
             return Ok(Some(put));
         }
@@ -201,11 +164,7 @@ fn run_dripping(
     writer: &mut FakeWriter,
 ) -> Result<Hall<Drip>, Fail> {
     let lab = read_lab(alloc, PATH_OF_THREE.as_bytes())?;
-    let sink = Drip {
-        bytes: Vec::new(alloc),
-        left: puts,
-        failures: 0,
-    };
+    let sink = Drip::failing_after(puts, alloc);
     Ok(run_script(alloc, lab, &mut script.as_bytes(), writer, sink)?)
 }
 

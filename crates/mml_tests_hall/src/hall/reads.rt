@@ -81,7 +81,7 @@ const HELLO: &str = "{\"do\":\"hello\",\"key\":\"chalk\",\"name\":\"tess\"}";
 
 const WELCOME: &str = "{\"ok\":\"hello\",\"who\":\"tess\"}";
 
-/// Whether a script over a lab has these replies, and then that fault.
+/// Whether a script over a lab has these replies, and then that error.
 fn is_answered(
     alloc: Global,
     lab: &str,
@@ -95,7 +95,7 @@ fn is_answered(
 }
 
 /// Whether a hello of the teacher on each connection up to a number is answered over a lab of 16 on the
-/// first 16, and then there is that fault.
+/// first 16, and then there is that error.
 fn are_hellos_answered(
     alloc: Global,
     connections: u8,

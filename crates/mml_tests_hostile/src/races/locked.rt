@@ -2,6 +2,7 @@
 use super::steps::{Hold, Steps};
 use super::{ANA_MOVES, end_with, serve_over};
 use mml_fakes::labs::PATH_OF_THREE;
+use mml_fakes::scripts::GRANTED;
 use mml_journal::{Sink, SinkFault};
 use mml_session::{Point, SessionEnd};
 use std::alloc::Global;
@@ -65,9 +66,6 @@ const CYD_LOOKS: &str = r#"{"do":"hello","key":"c-key","name":"cyd"}
 {"do":"bye"}
 "#;
 
-const ANA: &str = r#"{"at":0,"node":1,"ok":"move","place":1,"rule":"seduction"}
-"#;
-
 const BEN: &str = r#"{"at":0,"node":2,"ok":"move","place":2,"rule":"seduction"}
 "#;
 
@@ -89,7 +87,7 @@ fn told_of_a_slow_put<R: Threads + Wait + Sync>(
     };
     let scripts = [ANA_MOVES, BEN_MOVES, CYD_LOOKS];
     let ended = serve_over(rt, alloc, PATH_OF_THREE, sink, &scripts, &steps)?;
-    let are_answered = end_with(&ended, SessionEnd::Bye, &[ANA, BEN, CYD])
+    let are_answered = end_with(&ended, SessionEnd::Bye, &[GRANTED, BEN, CYD])
         && ended.log.sink.bytes.as_slice() == JOURNAL.as_bytes();
     Ok((are_answered, steps.were_led()))
 }

@@ -1,10 +1,9 @@
 //! The lines of a stored run, each answered with each of its requests for memory refused in turn.
 use super::MOST;
 use super::library::{is_there, refuse, was_none_refused};
-use crate::houses::first_lines;
 use mml_codec::{JOURNAL_LINE, MEMORY_LINE, write_reply};
 use mml_fakes::labs::PATH_OF_THREE;
-use mml_fakes::scripts::{GREETINGS, TEN_ACTS, TEN_GRANTS, TEN_LINES, WELCOMES};
+use mml_fakes::scripts::{GREETINGS, TEN_ACTS, TEN_GRANTS, TEN_LINES, WELCOMES, first_lines};
 use mml_hall::Hall;
 use mml_journal::{MemorySink, NullSink, Sink};
 use mml_lab::read_lab;
@@ -44,8 +43,8 @@ fn answered<S: Sink>(
     Some((out, was_none))
 }
 
-/// How often a request was refused until it got its reply, each time for want of memory that was met, with
-/// board and events as before; or nothing, where it was answered otherwise.
+/// How often a request was refused until it got its reply, each time out of memory that was met,
+/// with board and events as before; or nothing, where it was answered otherwise.
 fn refusals_of(
     alloc: Global,
     hall: &mut Hall<NullSink>,
@@ -125,9 +124,9 @@ const GRANTED: &str = "{\"at\":0,\"node\":1,\"ok\":\"move\",\"place\":1,\"rule\"
 #[derive(Clone, Copy, Debug, PartialEq, Eq)]
 enum Grant {
     Made,
-    /// Want of memory, with the hall as before.
+    /// Out of memory, with the hall as before.
     Refused,
-    /// The sink's own want of memory, which halts.
+    /// The sink's own out of memory, which halts.
     Halted,
 }
 

@@ -1,9 +1,10 @@
 //! The acts of a stored run, asked for through a window, each with each of its requests refused in turn.
 use super::MOST;
-use super::library::{is_there, refuse, was_none_refused};
-use crate::houses::{ACTS, Ending, Visit, act, asker, ending_of, number_before, visit_path};
+use super::library::{Nth, is_there};
+use crate::acts::{ACTS, act, asker, number_before};
+use mml_fakes_houses::{Ending, Pair, Seat, Visit, ending_of, visit_path};
 use mml_journal::NullSink;
-use mml_window::{Answer, Desk, House, Refusal, Window};
+use mml_window::{Answer, House, Refusal};
 use std::alloc::Global;
 use std::sync::Wait;
 use std::test::Fail;
@@ -16,7 +17,7 @@ fn is_granted(answer: &Answer, place: u64) -> bool {
     }
 }
 
-/// Whether an answer is want of memory.
+/// Whether an answer is out of memory.
 fn is_memory(answer: &Answer) -> bool {
     match answer {
         Answer::Refused(refusal) => *refusal == Refusal::Memory,
@@ -24,45 +25,27 @@ fn is_memory(answer: &Answer) -> bool {
     }
 }
 
-/// How often an act was refused until it was granted, each time for want of memory that was met and with
-/// the number as before; or nothing, where it was answered otherwise.
+/// How often an act was refused until it was granted, each time out of memory that was met,
+/// with the number as before; or nothing, where it was answered otherwise.
 fn refusals_of<H: House, R: Wait>(
-    rt: &R,
-    alloc: Global,
-    desk: &Desk<NullSink, H>,
-    window: &mut Window<H>,
+    seat: &mut Seat<'_, NullSink, H, R>,
     place: u64,
     is_there: bool,
 ) -> Option<usize> {
     for nth in 1..MOST {
-        refuse(alloc, nth);
-        let answer = desk.ask(rt, alloc, window, asker(place), &act(place));
-        let is_last = was_none_refused(alloc, is_there);
+        let refusal = Nth { nth, is_there };
+        refusal.refuse(seat.alloc);
+        let answer = seat.ask(asker(place), &act(place));
+        let is_last = refusal.was_none_refused(seat.alloc);
         if is_granted(&answer, place) {
             return Some(nth - 1);
         }
-        let is_kept = window.number() == Ok(number_before(place));
+        let is_kept = seat.window.number() == Ok(number_before(place));
         if is_last || !is_kept || !is_memory(&answer) {
             return None;
         }
     }
     None
-}
-
-/// How often all acts were refused, each until it was granted.
-fn refusals_of_all<H: House, R: Wait>(
-    rt: &R,
-    alloc: Global,
-    desk: &Desk<NullSink, H>,
-    window: &mut Window<H>,
-    is_there: bool,
-) -> Option<usize> {
-    let mut refused = 0usize;
-    for place in 1..=ACTS {
-        let more = refusals_of(rt, alloc, desk, window, place, is_there)?;
-        refused = refused.saturating_add(more);
-    }
-    Some(refused)
 }
 
 /// All acts, each with its requests refused in turn.
@@ -72,16 +55,16 @@ struct Acts {
 }
 
 impl Visit<NullSink> for Acts {
+    /// How often all acts were refused, each until it was granted.
     type Told = Option<usize>;
 
-    fn visit<H: House, R: Wait>(
-        &self,
-        rt: &R,
-        alloc: Global,
-        desk: &Desk<NullSink, H>,
-        window: &mut Window<H>,
-    ) -> Option<usize> {
-        refusals_of_all(rt, alloc, desk, window, self.is_there)
+    fn visit<H: House, R: Wait>(self, seats: &mut Pair<'_, NullSink, H, R>) -> Option<usize> {
+        let mut refused = 0usize;
+        for place in 1..=ACTS {
+            let more = refusals_of(&mut seats.one, place, self.is_there)?;
+            refused = refused.saturating_add(more);
+        }
+        Some(refused)
     }
 }
 
@@ -91,7 +74,7 @@ fn told_of_acts<R: Wait>(
     alloc: Global,
     is_there: bool,
 ) -> Result<(Option<usize>, Ending), Fail> {
-    let (refused, end) = visit_path(rt, alloc, NullSink::new(), &Acts { is_there })?;
+    let (refused, end) = visit_path(rt, alloc, NullSink::new(), Acts { is_there })?;
     Ok((refused.flatten(), ending_of(&end)))
 }
 
@@ -113,26 +96,18 @@ fn refusals_of_an_act_lose_nothing(rt: HostRuntime) -> Result<(), Fail> {
 
 /// The first act with that request refused, and then another one, for which none is.
 #[derive(Clone, Copy)]
-struct Instead {
-    nth: usize,
-    is_there: bool,
-}
+struct Instead(Nth);
 
 impl Visit<NullSink> for Instead {
     /// Whether the first was granted, where the other then has the next place.
     type Told = Option<bool>;
 
-    fn visit<H: House, R: Wait>(
-        &self,
-        rt: &R,
-        alloc: Global,
-        desk: &Desk<NullSink, H>,
-        window: &mut Window<H>,
-    ) -> Option<bool> {
-        refuse(alloc, self.nth);
-        let first = desk.ask(rt, alloc, window, asker(1), &act(1));
-        let was_none = was_none_refused(alloc, self.is_there);
-        let second = desk.ask(rt, alloc, window, asker(2), &act(2));
+    fn visit<H: House, R: Wait>(self, seats: &mut Pair<'_, NullSink, H, R>) -> Option<bool> {
+        let (Instead(refusal), seat) = (self, &mut seats.one);
+        refusal.refuse(seat.alloc);
+        let first = seat.ask(asker(1), &act(1));
+        let was_none = refusal.was_none_refused(seat.alloc);
+        let second = seat.ask(asker(2), &act(2));
         let was_granted = is_granted(&first, 1);
         let is_told = was_granted || (is_memory(&first) && !was_none);
         let is_next = is_granted(&second, if was_granted { 2 } else { 1 });
@@ -144,7 +119,7 @@ impl Visit<NullSink> for Instead {
 /// were granted are events.
 fn told_of_another<R: Wait>(rt: &R, alloc: Global, is_there: bool) -> Result<Option<usize>, Fail> {
     for nth in 1..MOST {
-        let (told, end) = visit_path(rt, alloc, NullSink::new(), &Instead { nth, is_there })?;
+        let (told, end) = visit_path(rt, alloc, NullSink::new(), Instead(Nth { nth, is_there }))?;
         let Some(was_granted) = told.flatten() else {
             return Ok(None);
         };

@@ -43,3 +43,22 @@ pub fn was_none_refused(alloc: Global, is_there: bool) -> bool {
     refuse(alloc, 0);
     was_none
 }
+
+/// Which request for memory is refused of those that follow, and whether the library is there.
+#[derive(Clone, Copy)]
+pub struct Nth {
+    pub nth: usize,
+    pub is_there: bool,
+}
+
+impl Nth {
+    /// Has it refused.
+    pub fn refuse(self, alloc: Global) {
+        refuse(alloc, self.nth);
+    }
+
+    /// Whether none was refused since then. From here on none is.
+    pub fn was_none_refused(self, alloc: Global) -> bool {
+        was_none_refused(alloc, self.is_there)
+    }
+}

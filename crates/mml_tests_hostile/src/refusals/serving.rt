@@ -1,47 +1,24 @@
 //! Houses that are opened and started, and sessions, each with each of its requests for memory refused in
 //! turn.
-ghost use Rattle.std.specs.Prelude.{◌≡◌};
-ghost use Rattle.mml_window.specs.Houses.{house_of};
-
 use super::MOST;
-use super::library::{is_there, refuse, was_none_refused};
-use crate::houses::{Ending, Visit, ending_of, visit_path};
+use super::library::{Nth, is_there, refuse, was_none_refused};
 use mml_codec::MEMORY_LINE;
 use mml_fakes::FakeReader;
 use mml_fakes::labs::PATH_OF_THREE;
+use mml_fakes_houses::{Ending, Pair, Visit, ending_of, shown_at_start, visit_path};
 use mml_journal::NullSink;
 use mml_lab::{Lab, read_lab};
-use mml_session::{NoGate, SessionEnd, serve_one};
-use mml_window::{Blank, Brand, Desk, House, HouseFault, Window, open_house};
+use mml_session::SessionEnd;
+use mml_window::{Brand, House, HouseFault, open_house};
 use std::alloc::Global;
 use std::sync::Wait;
 use std::test::Fail;
 
-/// How many windows show the beginning.
-fn count_shown<H: House>(windows: &mut [Window<H>]) -> usize {
-    let mut shown = 0usize;
-    for window in windows.iter_mut() {
-        if window.number() == Ok(0) {
-            shown = shown.saturating_add(1);
-        }
-    }
-    shown
-}
-
-/// How many windows of a house show its beginning, or nothing where memory was wanted to start it.
-fn shown_at_start<H: House, R: Wait>(rt: &R, alloc: Global, blank: Blank<NullSink>) -> Option<usize>
-    requires { blank ≡ house_of H.name H.lab }
-{
-    let (desk, mut windows) = blank.start::<H>(alloc).ok()?;
-    let shown = count_shown(&mut windows);
-    let _ = desk.finish(rt, windows);
-    Some(shown)
-}
-
-/// The same of a house of that lab; nothing where there was no reader's place either.
+/// How many windows of a house of that lab show its beginning, or nothing where memory or a reader's place
+/// was wanted to open and start it.
 fn shown_of<R: Wait>(rt: &R, alloc: Global, lab: Lab) -> Option<usize> {
     match open_house(rt, alloc, lab, NullSink::new()) {
-        Ok(blank) => shown_at_start::<Brand, _>(rt, alloc, blank),
+        Ok(blank) => shown_at_start::<_, Brand, _>(rt, alloc, blank).ok(),
         Err(HouseFault::Memory) => None,
         Err(HouseFault::Place) => None,
     }
@@ -113,36 +90,19 @@ struct Served {
 
 /// A session of which that request is refused.
 #[derive(Clone, Copy)]
-struct Session {
-    nth: usize,
-    is_there: bool,
-}
+struct Session(Nth);
 
 impl Visit<NullSink> for Session {
     type Told = Option<Served>;
 
-    fn visit<H: House, R: Wait>(
-        &self,
-        rt: &R,
-        alloc: Global,
-        desk: &Desk<NullSink, H>,
-        window: &mut Window<H>,
-    ) -> Option<Served> {
-        let mut replies = Vec::with_capacity(alloc, 1000).ok()?;
+    fn visit<H: House, R: Wait>(self, seats: &mut Pair<'_, NullSink, H, R>) -> Option<Served> {
+        let (Session(refusal), seat) = (self, &mut seats.one);
+        let mut replies = Vec::with_capacity(seat.alloc, 1000).ok()?;
         let mut reader = FakeReader::failing_after(usize::MAX, SCRIPT.as_bytes());
         reader.step = usize::MAX;
-        refuse(alloc, self.nth);
-        let end = serve_one(
-            rt,
-            alloc,
-            desk,
-            window,
-            &mut reader,
-            &mut replies,
-            &NoGate,
-            1,
-        );
-        let was_none = was_none_refused(alloc, self.is_there);
+        refusal.refuse(seat.alloc);
+        let end = seat.serve(&mut reader, &mut replies);
+        let was_none = refusal.was_none_refused(seat.alloc);
         Some(Served {
             end,
             reads: reader.reads,
@@ -157,7 +117,7 @@ impl Visit<NullSink> for Session {
 enum Became {
     /// All lines have their plain replies.
     Plain,
-    /// One reply tells want of memory.
+    /// One reply tells out of memory.
     Refused,
     /// It ended before anything was read.
     Unserved,
@@ -199,7 +159,7 @@ fn session_with<R: Wait>(
     nth: usize,
     is_there: bool,
 ) -> Result<Option<(Became, bool)>, Fail> {
-    let (served, end) = visit_path(rt, alloc, NullSink::new(), &Session { nth, is_there })?;
+    let (served, end) = visit_path(rt, alloc, NullSink::new(), Session(Nth { nth, is_there }))?;
     let Some(Some(served)) = served else {
         return Ok(None);
     };

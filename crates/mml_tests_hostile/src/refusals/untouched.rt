@@ -1,11 +1,12 @@
 //! Calls that take no memory: a view of a node, the number, and acts that are denied, over the limit of
 //! events, or asked for once the journal is halted.
 use super::library::{is_there, refuse, was_none_made};
-use crate::houses::{Visit, act, asker, visit_lab};
+use crate::acts::{act, asker};
 use mml_fakes::labs::PATH_OF_THREE;
+use mml_fakes_houses::{Pair, Seat, Visit, visit_lab};
 use mml_journal::MemorySink;
 use mml_lab::Who;
-use mml_window::{Answer, Desk, House, Refusal, Window};
+use mml_window::{Answer, House, Refusal};
 use std::alloc::Global;
 use std::sync::Wait;
 use std::test::Fail;
@@ -13,17 +14,14 @@ use std::test::Fail;
 /// Whether an act is answered by this refusal, or denied where none is wanted, and no memory is taken
 /// for it or, if the library isn't there, this isn't known.
 fn takes_none<H: House, R: Wait>(
-    rt: &R,
-    alloc: Global,
-    desk: &Desk<MemorySink, H>,
-    window: &mut Window<H>,
+    seat: &mut Seat<'_, MemorySink, H, R>,
     place: u64,
     wanted: Option<Refusal>,
     is_there: bool,
 ) -> bool {
-    refuse(alloc, 0);
-    let answer = desk.ask(rt, alloc, window, asker(place), &act(place));
-    let is_none = was_none_made(alloc) == is_there;
+    refuse(seat.alloc, 0);
+    let answer = seat.ask(asker(place), &act(place));
+    let is_none = was_none_made(seat.alloc) == is_there;
     match answer {
         Answer::Granted { .. } => false,
         Answer::Denied(_) => is_none && wanted.is_none(),
@@ -32,30 +30,14 @@ fn takes_none<H: House, R: Wait>(
 }
 
 /// Whether a view of a node and the number take none.
-fn views_take_none<H: House>(alloc: Global, window: &mut Window<H>, is_there: bool) -> bool {
-    refuse(alloc, 0);
-    let number = window.number();
-    let see = window.see(Who::Teacher, 2);
-    was_none_made(alloc) == is_there && number == Ok(0) && see.is_ok()
-}
-
-/// Whether, once the first act was granted, the same again and the second take none.
-fn acts_take_none<H: House, R: Wait>(
-    rt: &R,
-    alloc: Global,
-    desk: &Desk<MemorySink, H>,
-    window: &mut Window<H>,
-    wanted: Refusal,
+fn views_take_none<H: House, R: Wait>(
+    seat: &mut Seat<'_, MemorySink, H, R>,
     is_there: bool,
 ) -> bool {
-    let first = desk.ask(rt, alloc, window, asker(1), &act(1));
-    // The put that fails isn't one of those that are asked for later.
-    let second = desk.ask(rt, alloc, window, asker(2), &act(2));
-    matches!(first, Answer::Granted { .. })
-        && matches!(second, Answer::Refused(_))
-        && takes_none(rt, alloc, desk, window, 1, None, is_there)
-        && takes_none(rt, alloc, desk, window, 2, Some(wanted), is_there)
-        && views_take_none(alloc, window, is_there)
+    refuse(seat.alloc, 0);
+    let number = seat.window.number();
+    let see = seat.window.see(Who::Teacher, 2);
+    was_none_made(seat.alloc) == is_there && number == Ok(0) && see.is_ok()
 }
 
 /// The first act, and what is asked for after it.
@@ -66,16 +48,19 @@ struct Asked {
 }
 
 impl Visit<MemorySink> for Asked {
+    /// Whether, once the first act was granted, the same again and the second take none.
     type Told = bool;
 
-    fn visit<H: House, R: Wait>(
-        &self,
-        rt: &R,
-        alloc: Global,
-        desk: &Desk<MemorySink, H>,
-        window: &mut Window<H>,
-    ) -> bool {
-        acts_take_none(rt, alloc, desk, window, self.wanted, self.is_there)
+    fn visit<H: House, R: Wait>(self, seats: &mut Pair<'_, MemorySink, H, R>) -> bool {
+        let (seat, is_there) = (&mut seats.one, self.is_there);
+        let first = seat.ask(asker(1), &act(1));
+        // The put that fails isn't one of those that are asked for later.
+        let second = seat.ask(asker(2), &act(2));
+        matches!(first, Answer::Granted { .. })
+            && matches!(second, Answer::Refused(_))
+            && takes_none(seat, 1, None, is_there)
+            && takes_none(seat, 2, Some(self.wanted), is_there)
+            && views_take_none(seat, is_there)
     }
 }
 
@@ -94,7 +79,7 @@ fn told_of<R: Wait>(
         alloc,
         file.as_str(),
         MemorySink::new(alloc, fail_at),
-        &Asked { wanted, is_there },
+        Asked { wanted, is_there },
     )?;
     Ok(hold)
 }

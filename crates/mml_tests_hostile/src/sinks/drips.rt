@@ -1,40 +1,15 @@
 //! A sink that takes one byte a put, over a house, and the audit of what it has.
 use super::{Acts, ending_at};
-use crate::houses::{ending_of, visit_path};
+use mml_fakes::Drip;
 use mml_fakes::labs::PATH_OF_THREE;
 use mml_fakes::scripts::TEN_LINES;
+use mml_fakes_houses::{ending_of, visit_path};
 use mml_hall::{AuditFault, audit};
-use mml_journal::{Sink, SinkFault};
 use mml_lab::{Lab, read_lab};
 use mml_window::{Astray, Log};
 use std::alloc::Global;
 use std::sync::Wait;
 use std::test::Fail;
-
-/// Takes one byte a put, and after so many fails for good.
-#[derive(Drop)]
-struct Drip {
-    bytes: Vec<u8>,
-    left: usize,
-    failures: u64,
-}
-
-impl Sink for Drip {
-    ghost use Rattle.std.specs.Prelude.{None};
-
-    ghost contents = { λ _. None };
-
-    ghost failures = { λ s. s.failures };
-
-    fn put(&mut self, bytes: &[u8]) -> Result<usize, SinkFault> {
-        if self.left == 0 || self.bytes.push(bytes[0]).is_err() {
-            self.failures += 1;
-            return Err(SinkFault);
-        }
-        self.left -= 1;
-        Ok(1)
-    }
-}
 
 /// Whether a house ended with these bytes, and asked its sink for nothing after one failed put.
 fn has_dripped(end: &Result<Log<Drip>, Astray>, wanted: &[u8]) -> bool {
@@ -67,13 +42,9 @@ fn drips<R: Wait>(rt: &R, alloc: Global, puts: usize) -> Result<bool, Fail> {
     let lab = read_lab(alloc, PATH_OF_THREE.as_bytes())?;
     let (wanted, _) = TEN_LINES.as_bytes().split_at(puts.min(TEN_LINES.len()));
     let is_audited = is_audited(alloc, &lab, wanted);
-    let sink = Drip {
-        bytes: Vec::new(alloc),
-        left: puts,
-        failures: 0,
-    };
+    let sink = Drip::failing_after(puts, alloc);
     let last = ended_lines(wanted).saturating_add(1);
-    let (plays, end) = visit_path(rt, alloc, sink, &Acts { last })?;
+    let (plays, end) = visit_path(rt, alloc, sink, Acts { last })?;
     let is_ended = ending_of(&end) == ending_at(last) && has_dripped(&end, wanted);
     Ok(is_audited && is_ended && plays == Some(true))
 }

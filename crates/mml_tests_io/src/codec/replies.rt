@@ -28,15 +28,15 @@ fn greeting(alloc: Global, lab: &Lab, name: &str, key: &str) -> Result<String, F
     }
 }
 
+const LONG_NAME: &str = "b-0123456789-0123456789-01234567";
+
+const LONG_WELCOME: &str = "{\"ok\":\"hello\",\"who\":\"b-0123456789-0123456789-01234567\"}\n";
+
 // Name, key and the line.
 const GREETINGS: &[(&str, &str, &str)] = &[
     ("tess", "chalk", "{\"ok\":\"hello\",\"who\":\"tess\"}\n"),
     ("ana", "a-key", "{\"ok\":\"hello\",\"who\":\"ana\"}\n"),
-    (
-        "b-0123456789-0123456789-01234567",
-        "b-key",
-        "{\"ok\":\"hello\",\"who\":\"b-0123456789-0123456789-01234567\"}\n",
-    ),
+    (LONG_NAME, "b-key", LONG_WELCOME),
     ("ana", "b-key", "{\"ok\":\"bye\"}\n"),
 ];
 

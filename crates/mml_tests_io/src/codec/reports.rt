@@ -57,7 +57,8 @@ const WORLDS: &[(&str, &[(u64, &str)], &str)] = &[
             (9, ""),
             (40, ""),
         ],
-        "{\"at\":0,\"free\":[9,40,65535],\"ok\":\"report\",\"open\":[[9,40,9,\"seduction\"],[9,65535,9,\"seduction\"]],\"pairs\":[[3,5]],\"privileged\":[[5,\"update\"],[9,\"seduction\"]],\"stable\":false}\n",
+        "{\"at\":0,\"free\":[9,40,65535],\"ok\":\"report\",\"open\":[[9,40,9,\"seduction\"],[9,65535,9,\"seduction\"]],\
+         \"pairs\":[[3,5]],\"privileged\":[[5,\"update\"],[9,\"seduction\"]],\"stable\":false}\n",
     ),
     (
         "[3, 5]",
@@ -67,7 +68,8 @@ const WORLDS: &[(&str, &[(u64, &str)], &str)] = &[
     (
         "[3, 5]",
         &[(3, ""), (5, "p = 3")],
-        "{\"at\":0,\"free\":[3,5],\"ok\":\"report\",\"open\":[[3,5,3,\"marriage\"]],\"pairs\":[],\"privileged\":[[3,\"marriage\"],[5,\"abandonment\"]],\"stable\":false}\n",
+        "{\"at\":0,\"free\":[3,5],\"ok\":\"report\",\"open\":[[3,5,3,\"marriage\"]],\
+         \"pairs\":[],\"privileged\":[[3,\"marriage\"],[5,\"abandonment\"]],\"stable\":false}\n",
     ),
 ];
 

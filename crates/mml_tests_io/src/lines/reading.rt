@@ -5,7 +5,7 @@ use std::alloc::Global;
 use std::io::ErrorKind;
 use std::test::Fail;
 
-/// The bytes, or the fault, of a reader that gives one byte a read and fails after so many reads.
+/// The bytes, or the error, of a reader that gives one byte a read and fails after so many reads.
 fn told(alloc: Global, input: &[u8], good: usize, kind: ErrorKind) -> Result<String, Fail> {
     let mut reader = FakeReader::failing_after(good, input);
     reader.kind = kind;

@@ -1,4 +1,4 @@
-//! Clients that go away, and servers that end with a fault.
+//! Clients that go away, and servers that end with an error.
 use super::{
     BUILT_IN, GRANTED, HELLO_TEACHER, MOVE, Served, are_served_so, clients, is_served_so, listener,
     serve_streams,
@@ -91,7 +91,7 @@ const REFUSED: &str = "{\"ok\":\"hello\",\"who\":\"ana\"}
 {\"refuse\":\"journal\"}
 ";
 
-// Whether a server ended with that fault and without its last line, and its client was served to its
+// Whether a server ended with that error and without its last line, and its client was served to its
 // end.
 fn is_ended_so(served: &Served, fault: ServeFault, reply: &str) -> bool {
     let replied = served.replies.iter().any(|found| found.as_str() == reply);

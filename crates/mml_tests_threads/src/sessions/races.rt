@@ -2,11 +2,12 @@
 ghost use Rattle.std.specs.Prelude.{◌≡◌, ◌+◌, ◌≤◌, length};
 ghost use Rattle.mml_window.specs.Houses.{house_of};
 
-use crate::houses::{Ending, ending_of, give_back, has_journal, take_two};
-use crate::meeting::Together;
 use mml_fakes::labs::PATH_OF_THREE;
 use mml_fakes::meeting::Meeting;
-use mml_fakes::scripts::{FIRST_LOOK, FIRST_LOOK_REPLIES};
+use mml_fakes::scripts::{
+    ANA_MOVES, CHOSEN, CLOSED, EMPTY, FIRST_LOOK, FIRST_LOOK_REPLIES, GRANTED,
+};
+use mml_fakes_houses::{Ending, Together, ending_of, give_back, has_journal, take_two};
 use mml_journal::MemorySink;
 use mml_lab::read_lab;
 use mml_session::{Gate, NoGate, SessionEnd, serve_one};
@@ -26,28 +27,12 @@ student = [{ name = "ana", key = "a-key" }, { name = "ben", key = "b-key" }]
 node = [{ id = 1, owners = ["ana", "ben"] }, { id = 2, owner = "ben" }]
 "#;
 
-const ANA_MOVES: &str = r#"{"do":"hello","key":"a-key","name":"ana"}
-{"at":0,"do":"move","node":1,"rule":"seduction"}
-"#;
-
 const BEN_MOVES: &str = r#"{"do":"hello","key":"b-key","name":"ben"}
 {"at":0,"do":"move","node":1,"rule":"seduction"}
 "#;
 
 const TESS_CLOSES: &str = r#"{"do":"hello","key":"chalk","name":"tess"}
 {"do":"close"}
-"#;
-
-const GRANTED: &str = r#"{"at":0,"node":1,"ok":"move","place":1,"rule":"seduction"}
-"#;
-
-const CHOSEN: &str = r#"{"clause":3,"deny":"chosen","text":"this node is already chosen"}
-"#;
-
-const CLOSED: &str = r#"{"at":1,"moved":[1],"ok":"close","place":2}
-"#;
-
-const EMPTY: &str = r#"{"clause":2,"deny":"empty","text":"no node is chosen"}
 "#;
 
 /// What is asked before the two begin, and by each of them.
@@ -124,11 +109,11 @@ fn serve_both<H: House + Send + Sync, R: Threads + Wait + Sync>(
     rt: &R,
     alloc: Global,
     desk: &Desk<MemorySink, H>,
-    one: Window<H>,
-    two: Window<H>,
+    windows: (Window<H>, Window<H>),
     scripts: Scripts<'_>,
     gate: &Together,
 ) -> (Served<H>, Served<H>) {
+    let (one, two) = windows;
     join(
         rt,
         move || -> Served<H> { serve(rt, alloc, desk, one, scripts.first, gate) },
@@ -158,7 +143,7 @@ fn race_at<H: House + Send + Sync, R: Threads + Wait + Sync>(
     let (one, two) = take_two(windows)?;
     let Served { window: one, .. } = serve(rt, alloc, desk, one, scripts.before, &NoGate);
     let gate = Together(Meeting::of(2));
-    let (first, second) = serve_both(rt, alloc, desk, one, two, scripts, &gate);
+    let (first, second) = serve_both(rt, alloc, desk, (one, two), scripts, &gate);
     let (first, first_end) = leave(windows, first);
     let (second, second_end) = leave(windows, second);
     let are_ended = (first_end, second_end) == (SessionEnd::End, SessionEnd::End);

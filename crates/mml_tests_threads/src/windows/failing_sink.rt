@@ -1,14 +1,16 @@
 //! A house whose sink fails at its second line.
-ghost use Rattle.std.specs.Prelude.{◌≡◌, ◌≤◌, length};
+ghost use Rattle.std.specs.Prelude.{◌≡◌};
 ghost use Rattle.mml_window.specs.Houses.{house_of};
 
-use crate::houses::{Ending, ending_of, give_back, has_journal, open_path, seduction, student};
+use mml_fakes_houses::{
+    Ending, Pair, Seat, Visit, ending_of, has_journal, open_path, seduction, student, visit_path,
+};
 use mml_ids::{Memory, Rank};
 use mml_journal::MemorySink;
 use mml_lab::Who;
 use mml_policy::{Command, Denial, Look};
 use mml_rules::Kind;
-use mml_window::{Answer, Astray, Blank, Book, Brand, Desk, House, Refusal, Window};
+use mml_window::{Answer, Astray, Blank, Book, Brand, House, Refusal};
 use std::alloc::Global;
 use std::sync::Wait;
 use std::test::Fail;
@@ -26,17 +28,12 @@ fn is_chosen(answer: &Answer) -> bool {
 }
 
 /// Whether the first move is granted, and all that would be granted after it is refused.
-fn refuses_from_the_second<H: House, R: Wait>(
-    rt: &R,
-    alloc: Global,
-    desk: &Desk<MemorySink, H>,
-    window: &mut Window<H>,
-) -> bool {
-    let first = desk.ask(rt, alloc, window, student(0), &seduction(1, 0));
-    let second = desk.ask(rt, alloc, window, student(1), &seduction(2, 0));
-    let again = desk.ask(rt, alloc, window, student(1), &seduction(2, 0));
-    let close = desk.ask(rt, alloc, window, Who::Teacher, &Command::Close);
-    let denied = desk.ask(rt, alloc, window, student(0), &seduction(1, 0));
+fn refuses_from_the_second<H: House, R: Wait>(seat: &mut Seat<'_, MemorySink, H, R>) -> bool {
+    let first = seat.ask(student(0), &seduction(1, 0));
+    let second = seat.ask(student(1), &seduction(2, 0));
+    let again = seat.ask(student(1), &seduction(2, 0));
+    let close = seat.ask(Who::Teacher, &Command::Close);
+    let denied = seat.ask(student(0), &seduction(1, 0));
     is_first(&first)
         && is_refused(&second)
         && is_refused(&again)
@@ -52,41 +49,31 @@ fn is_unmoved(look: &Look) -> bool {
         && look.near.as_slice().len() == 2
 }
 
-fn sees_unmoved<H: House>(alloc: Global, window: &mut Window<H>) -> bool {
-    match window.look(alloc, student(1), 2) {
+fn sees_unmoved<H: House, R: Wait>(seat: &mut Seat<'_, MemorySink, H, R>) -> bool {
+    match seat.window.look(seat.alloc, student(1), 2) {
         Ok(look) => is_unmoved(&look),
         Err(_) => false,
     }
 }
 
-/// Whether both hold through one of these windows.
-fn holds_in<H: House, R: Wait>(
-    rt: &R,
-    alloc: Global,
-    desk: &Desk<MemorySink, H>,
-    windows: &mut Vec<Window<H>>,
-) -> Option<bool>
-    ensures { length windows.new.items ≤ length windows.old.items }
-{
-    let mut window = windows.pop()?;
-    let refuses = refuses_from_the_second(rt, alloc, desk, &mut window);
-    let sees = sees_unmoved(alloc, &mut window);
-    Some(give_back(windows, window) && refuses && sees)
+/// Moves at one window before the sink fails and after it.
+#[derive(Clone, Copy)]
+struct Moves;
+
+impl Visit<MemorySink> for Moves {
+    /// Whether both hold.
+    type Told = bool;
+
+    fn visit<H: House, R: Wait>(self, seats: &mut Pair<'_, MemorySink, H, R>) -> bool {
+        refuses_from_the_second(&mut seats.one) && sees_unmoved(&mut seats.one)
+    }
 }
 
 /// The same of a house, how it ends, and whether it has its journal.
-fn in_house<H: House, R: Wait>(
-    rt: &R,
-    alloc: Global,
-    blank: Blank<MemorySink>,
-) -> Result<(Option<bool>, Ending, bool), Memory>
-    requires { blank ≡ house_of H.name H.lab }
-{
-    let (desk, mut windows) = blank.start::<H>(alloc)?;
-    let holds = holds_in(rt, alloc, &desk, &mut windows);
-    let end = desk.finish(rt, windows);
+fn told_of_moves<R: Wait>(rt: &R, alloc: Global) -> Result<(Option<bool>, Ending, bool), Fail> {
+    let (hold, end) = visit_path(rt, alloc, MemorySink::new(alloc, Some(2)), Moves)?;
     let has_journal = has_journal(&end, "1 0 grant ana 1 seduction\n");
-    Ok((holds, ending_of(&end), has_journal))
+    Ok((hold, ending_of(&end), has_journal))
 }
 
 /// Whether a book decides the same.
@@ -127,8 +114,7 @@ fn the_book_decides_the_same(rt: HostRuntime) -> Result<(), Fail> {
 
 #[test]
 fn a_failed_line_halts_the_house(rt: HostRuntime) -> Result<(), Fail> {
-    let blank = open_path(&rt, rt.alloc(), Some(2))?;
-    let found = in_house::<Brand, _>(&rt, rt.alloc(), blank)?;
+    let found = told_of_moves(&rt, rt.alloc())?;
     let wanted = Ending::Log {
         events: 1,
         number: 0,

@@ -1,15 +1,17 @@
 //! As many windows as the lab has sessions, each with a reader's place from the start and until the house
 //! ends.
-ghost use Rattle.std.specs.Prelude.{◌≡◌, ◌≤◌, length};
+ghost use Rattle.std.specs.Prelude.{◌≡◌, length};
 ghost use Rattle.mml_window.specs.Houses.{house_of};
 
-use crate::houses::{Ending, ending_of, give_back, open_path, seduction, student, take_two};
 use mml_fakes::cycles::cycle;
+use mml_fakes_houses::{
+    Ending, Pair, Visit, ending_of, open_path, seduction, shown_at_start, student, visit_windows,
+};
 use mml_ids::Memory;
 use mml_journal::MemorySink;
 use mml_lab::{Who, read_lab};
 use mml_policy::Command;
-use mml_window::{Answer, Blank, Brand, Closed, Desk, House, SightFault, Window, open_house};
+use mml_window::{Answer, Blank, Brand, Closed, House, SightFault, Window, open_house};
 use std::alloc::Global;
 use std::sync::Wait;
 use std::test::Fail;
@@ -25,33 +27,20 @@ fn numbers<H: House>(windows: &mut [Window<H>]) -> [Result<u64, Closed>; 4] {
     numbers
 }
 
-/// Whether two windows ask in turn for a move and a close.
-fn grants_through_two<H: House, R: Wait>(
-    rt: &R,
-    alloc: Global,
-    desk: &Desk<MemorySink, H>,
-    one: &mut Window<H>,
-    two: &mut Window<H>,
-) -> bool {
-    let moved = desk.ask(rt, alloc, one, student(0), &seduction(1, 0));
-    let closed = desk.ask(rt, alloc, two, Who::Teacher, &Command::Close);
-    matches!(moved, Answer::Granted { place: 1, .. })
-        && matches!(closed, Answer::Granted { place: 2, .. })
-}
+/// A move and a close, asked for in turn at two windows.
+#[derive(Clone, Copy)]
+struct InTurn;
 
-/// Whether two of these windows ask so, and come back.
-fn grants_in<H: House, R: Wait>(
-    rt: &R,
-    alloc: Global,
-    desk: &Desk<MemorySink, H>,
-    windows: &mut Vec<Window<H>>,
-) -> Option<bool>
-    ensures { length windows.new.items ≤ length windows.old.items }
-{
-    let (mut one, mut two) = take_two(windows)?;
-    let grants = grants_through_two(rt, alloc, desk, &mut one, &mut two);
-    let is_back = give_back(windows, one);
-    Some(give_back(windows, two) && is_back && grants)
+impl Visit<MemorySink> for InTurn {
+    /// Whether both are granted.
+    type Told = bool;
+
+    fn visit<H: House, R: Wait>(self, seats: &mut Pair<'_, MemorySink, H, R>) -> bool {
+        let moved = seats.one.ask(student(0), &seduction(1, 0));
+        let closed = seats.two.ask(Who::Teacher, &Command::Close);
+        matches!(moved, Answer::Granted { place: 1, .. })
+            && matches!(closed, Answer::Granted { place: 2, .. })
+    }
 }
 
 /// The numbers of four windows before two others grant, whether these do, and the numbers after it.
@@ -72,7 +61,7 @@ fn in_house<H: House, R: Wait>(
 {
     let (desk, mut windows) = blank.start::<H>(alloc)?;
     let before = numbers(&mut windows);
-    let grants = grants_in(rt, alloc, &desk, &mut windows);
+    let grants = visit_windows(rt, alloc, &desk, &mut windows, InTurn);
     let after = numbers(&mut windows);
     Ok((before, grants, after, ending_of(&desk.finish(rt, windows))))
 }
@@ -90,36 +79,12 @@ fn windows_that_only_view_meet_what_others_granted(rt: HostRuntime) -> Result<()
     Ok(())
 }
 
-/// How many windows show configuration 0.
-fn count_shown<H: House>(windows: &mut [Window<H>]) -> usize {
-    let mut shown = 0usize;
-    for window in windows.iter_mut() {
-        if window.number() == Ok(0) {
-            shown = shown.saturating_add(1);
-        }
-    }
-    shown
-}
-
-fn shown_at_start<H: House, R: Wait>(
-    rt: &R,
-    alloc: Global,
-    blank: Blank<MemorySink>,
-) -> Result<usize, Memory>
-    requires { blank ≡ house_of H.name H.lab }
-{
-    let (desk, mut windows) = blank.start::<H>(alloc)?;
-    let shown = count_shown(&mut windows);
-    let _ = desk.finish(rt, windows);
-    Ok(shown)
-}
-
 /// How many windows show the opening configuration of a lab with so many sessions.
 fn shown_of<R: Wait>(rt: &R, alloc: Global, sessions: u64) -> Result<usize, Fail> {
     let file = cycle(alloc, 3, 100, sessions)?;
     let lab = read_lab(alloc, file.as_bytes())?;
     let blank = open_house(rt, alloc, lab, MemorySink::new(alloc, None))?;
-    Ok(shown_at_start::<Brand, _>(rt, alloc, blank)?)
+    Ok(shown_at_start::<_, Brand, _>(rt, alloc, blank)?)
 }
 
 #[test]

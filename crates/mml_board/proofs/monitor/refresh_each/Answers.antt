@@ -15,9 +15,14 @@ loop-node-preserved c =
     let test : c.is_some-is_privileged.result ≡ is_privileged d c.in-Some.node = c.is_some-is_privileged.ensures ∙ ap (λ o. is_some o) c.enabled.ensures in
     record {
       left = λ j h. c.loop-node.invariant.left j (in_remove c.loop-node.left c.in-Some.node j (sym (ap (λ t. sets.contains t j) c.in-Some.ensures.rest) ∙ h));
-      looked = one_refreshed c.args.privileged c.loop-node.privileged c.put-privileged.result c.args.nodes c.loop-node.left _ (is_privileged_node d) c.in-Some.node c.is_some-is_privileged.result
-          (node_test d c.in-Some.node c.is_some-is_privileged.result (c.requires c.in-Some.node there) test) c.put-privileged.ensures c.in-Some.ensures.rest there c.loop-node.invariant.looked;
+      looked =
+          one_refreshed c.args.privileged c.loop-node.privileged c.put-privileged.result c.args.nodes c.loop-node.left _
+          (is_privileged_node d) c.in-Some.node c.is_some-is_privileged.result
+          (node_test d c.in-Some.node c.is_some-is_privileged.result (c.requires c.in-Some.node there) test) c.put-privileged.ensures c.in-Some.ensures.rest
+          there c.loop-node.invariant.looked;
     }
 
 pub returns : goal.returns
-returns c = all_refreshed c.args.privileged c.loop-node.privileged c.args.nodes c.loop-node.left (is_privileged_node (configuration_of c.args.network.now)) c.in_default.ensures.none c.loop-node.invariant.looked
+returns c =
+    all_refreshed c.args.privileged c.loop-node.privileged c.args.nodes c.loop-node.left
+    (is_privileged_node (configuration_of c.args.network.now)) c.in_default.ensures.none c.loop-node.invariant.looked

@@ -7,7 +7,8 @@ use Rattle.mml_board.proofs.monitor.refresh_each.Given as goal
 abbrev pub invariant-loop-node : goal.invariant-loop-node
 invariant-loop-node l = record {
   left : (j : ℕ) → sets.contains l.left j ≡ true → sets.contains l.fn.nodes j ≡ true;
-  looked : (j : ℕ) → sets.contains l.privileged j ≡ cond (sets.contains l.left j) (sets.contains l.initial.privileged j) (cond (sets.contains l.fn.nodes j) (is_privileged_node (configuration_of l.network) j) (sets.contains l.initial.privileged j));
+  looked : (j : ℕ) → sets.contains l.privileged j ≡ cond (sets.contains l.left j) (sets.contains l.initial.privileged j)
+      (cond (sets.contains l.fn.nodes j) (is_privileged_node (configuration_of l.network) j) (sets.contains l.initial.privileged j));
 }
 
 abbrev pub decreases-loop-node : goal.decreases-loop-node

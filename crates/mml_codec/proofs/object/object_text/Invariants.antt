@@ -8,5 +8,6 @@ use Rattle.mml_codec.proofs.object.object_text.Given as goal
 abbrev pub invariant-loop-member : goal.invariant-loop-member
 invariant-loop-member l = record {
   before : l.writer.before ≡ [];
-  tokens : l.writer.tokens ++ members_tokens (members_outline (members_of (map (λ m. (m.0.now, field_view m.1)) (drop l.member-index l.members)))) ≡ json_tokens (outline (object_of (map (λ m. (m.0.now, field_view m.1)) l.members)));
+  tokens : l.writer.tokens ++ members_tokens (members_outline (members_of (map (λ m. (m.0.now, field_view m.1)) (drop l.member-index l.members))))
+      ≡ json_tokens (outline (object_of (map (λ m. (m.0.now, field_view m.1)) l.members)));
 }

@@ -3,7 +3,8 @@ use Rattle.mml_hall.proofs.script_line.connection_of.Goals as goal
 
 pub returns-in-Some-Some : goal.returns-in-Some-Some
 returns-in-Some-Some c = λ n rest some few e.
-    two_digits c.args.line.now rest n c.in-Some-Some.tens c.in-Some-Some.units few e c.in-Some-Some.ensures.digit.2 c.in-Some-Some.ensures'.digit.2 c.in-Some-Some.ensures'.digit.0
+    two_digits c.args.line.now rest n c.in-Some-Some.tens c.in-Some-Some.units few e c.in-Some-Some.ensures.digit.2 c.in-Some-Some.ensures'.digit.2
+    c.in-Some-Some.ensures'.digit.0
 
 pub returns-in-Some-None : goal.returns-in-Some-None
 returns-in-Some-None c = λ n rest some few e.

@@ -1,4 +1,4 @@
-use Rattle.std.proofs.Common.{◌≡◌, ◌∙◌, ap, Bool, ◌&&◌, []}
+use Rattle.std.proofs.Common.{◌≡◌, ◌&&◌, []}
 use Rattle.mml_window.specs.Windows.{window}
 use Rattle.mml_hosting.specs.Places.{IsServed, is_teachers_bye}
 use Rattle.mml_hosting.proofs.ChainLemmas.{chain_so, dismissed_so, going_on_so, served_so}
@@ -15,10 +15,16 @@ returns-clause-place g c =
     let was = place.sessions.items in
     let now = c.push_reserved.new.self.items in
     let put = c.push_reserved.ensures.items in
-    let noted : c.is_dismissed_by-is_dismissed.result ≡ (place.is_desk && is_teachers_bye (shows c.keep.result).ending) = rw same c.is_dismissed_by-is_dismissed.ensures in
+    let noted : c.is_dismissed_by-is_dismissed.result ≡ (place.is_desk && is_teachers_bye (shows c.keep.result).ending) =
+    rw same c.is_dismissed_by-is_dismissed.ensures in
     record {
       each = chain_so (IsServed lab remaining contents) shows (window [] []) place.window _ was now c.keep.result put c.requires.place.each
-          (served_so lab remaining contents (shows c.keep.result) _ c.args.ends _ _ _ same c.of-came.ensures c.hang_up.ensures c.serve_known-ending.ensures.ended);
-      dismissed = dismissed_so shows was now c.keep.result put place.is_desk c.is_dismissed_by-is_dismissed.result noted (λ at. c.requires.place.going_on at c.requires.open);
-      going_on = going_on_so shows was now c.keep.result put place.is_desk c.is_dismissed_by-is_dismissed.result noted (λ at. c.requires.place.going_on at c.requires.open);
+          (served_so lab remaining contents
+          (shows c.keep.result) _ c.args.ends _ _ _ same c.of-came.ensures c.hang_up.ensures c.serve_known-ending.ensures.ended);
+      dismissed =
+          dismissed_so shows was now c.keep.result put place.is_desk c.is_dismissed_by-is_dismissed.result noted
+          (λ at. c.requires.place.going_on at c.requires.open);
+      going_on =
+          going_on_so shows was now c.keep.result put place.is_desk c.is_dismissed_by-is_dismissed.result noted
+          (λ at. c.requires.place.going_on at c.requires.open);
     }

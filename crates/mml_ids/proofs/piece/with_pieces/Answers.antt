@@ -10,7 +10,9 @@ loop-whole-preserved c =
     let room = room_of-next ps c.loop-whole.whole c.index-pieces-whole.result c.index-pieces-whole.is inside in
     record {
       bound = omega (arith, inside);
-      text = joined-next c.args.text.items c.loop-whole.text.items c.with_piece-text.result.items ps c.loop-whole.whole c.index-pieces-whole.result c.index-pieces-whole.is inside c.loop-whole.invariant.text c.with_piece-text.ensures.text;
+      text =
+          joined-next c.args.text.items c.loop-whole.text.items c.with_piece-text.result.items ps c.loop-whole.whole c.index-pieces-whole.result
+          c.index-pieces-whole.is inside c.loop-whole.invariant.text c.with_piece-text.ensures.text;
       grows = omega (arith, c.loop-whole.invariant.grows, c.with_piece-text.ensures.grows);
       capacity = search rules;
     }

@@ -1,5 +1,5 @@
 use Rattle.std.proofs.Common.{◌≡◌, map, take, string_bytes}
-use Rattle.mml_lab.specs.Raw.{entry_view}
+use Rattle.mml_lab.specs.inside.Raw.{entry_view}
 use Rattle.mml_lab.specs.Labs.{place_of}
 use Rattle.mml_lab.proofs.build.owners_in.Given as goal
 

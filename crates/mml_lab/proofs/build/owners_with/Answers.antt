@@ -2,7 +2,7 @@ use Rattle.std.proofs.Common.{◌∙◌, ap, map, [], Option, Result, Ok, Err, s
 use Rattle.std.specs.Prelude.{option_map, IfOk}
 use Rattle.std.specs.Option.{option_map_or}
 use Rattle.mml_lab.specs.Shape.{NodeSpec}
-use Rattle.mml_lab.specs.Raw.{node_view, entry_view}
+use Rattle.mml_lab.specs.inside.Raw.{node_view, entry_view}
 use Rattle.mml_lab.specs.Labs.{place_of, owners_in}
 use Rattle.mml_ids.proofs.MapLemmas.{map-map}
 use Rattle.mml_lab.proofs.RawLemmas.{node_with-read}
@@ -16,7 +16,9 @@ pub returns-in-Some-clause-ok : goal.returns-in-Some-clause-ok
 returns-in-Some-clause-ok c =
     let students = map entry_view c.args.students.now.entries in
     let found = ap (option_map node_view) c.in-Some.ensures ∙ node_with-read c.args.nodes.now c.args.id in
-    let read = ap (map (λ name. place_of students (string_bytes name))) c.deref.ensures.value ∙ map-map (place_of students) string_bytes c.in-Some.node.now.owners.items in
+    let read =
+    ap (map (λ name. place_of students (string_bytes name))) c.deref.ensures.value
+    ∙ map-map (place_of students) string_bytes c.in-Some.node.now.owners.items in
     if_ok c.owners_in.result c.owners_in.ensures.ok (λ owners is. is ∙ read ∙ ap (λ (o : Option NodeSpec). option_map_or (owners_in students) o []) found)
 
 pub returns-in-None-clause-ok : goal.returns-in-None-clause-ok

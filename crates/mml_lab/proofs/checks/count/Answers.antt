@@ -1,6 +1,6 @@
 use Rattle.std.proofs.Common.{◌∙◌, sym}
 use Rattle.std.proofs.lemmas.List.{length-map}
-use Rattle.mml_lab.specs.Raw.{entry_view}
+use Rattle.mml_lab.specs.inside.Raw.{entry_view}
 use Rattle.mml_lab.proofs.checks.count.Goals as goal
 
 pub returns : goal.returns

@@ -1,15 +1,17 @@
 use Rattle.std.proofs.Common.{◌∙◌, ap, option_map}
-use Rattle.mml_lab.specs.declared.fault.LabFault.TheVariants as fault
+use Rattle.mml_lab.specs.declared.lab_fault.LabFault.TheVariants as fault
 use Rattle.mml_lab.specs.Shape.{NodeSpec}
-use Rattle.mml_lab.specs.Raw.{node_view}
+use Rattle.mml_lab.specs.inside.Raw.{node_view}
 use Rattle.mml_lab.specs.Labs.{are_one_twice, owner_twice_fault}
 use Rattle.mml_ids.proofs.MapLemmas.{position-map}
 use Rattle.mml_lab.proofs.checks.owner_twice_fault.Goals as goal
 
 pub returns-in-Some : goal.returns-in-Some
 unfolding owner_twice_fault
-returns-in-Some c = ap (option_map fault.OwnerTwice) (c.in-Some.ensures ∙ position-map (λ (node : NodeSpec). are_one_twice node.owners) node_view c.args.nodes.now)
+returns-in-Some c =
+    ap (option_map fault.OwnerTwice) (c.in-Some.ensures ∙ position-map (λ (node : NodeSpec). are_one_twice node.owners) node_view c.args.nodes.now)
 
 pub returns-in-None : goal.returns-in-None
 unfolding owner_twice_fault
-returns-in-None c = ap (option_map fault.OwnerTwice) (c.in-None.ensures ∙ position-map (λ (node : NodeSpec). are_one_twice node.owners) node_view c.args.nodes.now)
+returns-in-None c =
+    ap (option_map fault.OwnerTwice) (c.in-None.ensures ∙ position-map (λ (node : NodeSpec). are_one_twice node.owners) node_view c.args.nodes.now)

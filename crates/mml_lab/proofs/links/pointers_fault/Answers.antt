@@ -1,6 +1,6 @@
 use Rattle.std.proofs.Common.{◌∙◌, ap, option_map}
-use Rattle.mml_lab.specs.declared.fault.LabFault.TheVariants as fault
-use Rattle.mml_lab.specs.Raw.{node_view}
+use Rattle.mml_lab.specs.declared.lab_fault.LabFault.TheVariants as fault
+use Rattle.mml_lab.specs.inside.Raw.{node_view}
 use Rattle.mml_lab.specs.inside.Checks.{points_past, past_fault}
 use Rattle.mml_ids.proofs.MapLemmas.{position-map}
 use Rattle.mml_lab.proofs.links.pointers_fault.Goals as goal

@@ -16,7 +16,8 @@ pub returns-then-is_taken : goal.returns-then-is_taken
 returns-then-is_taken c =
     let at = c.loop-student.invariant in
     let parts = ap (λ zs. c.loop-student.yielded ++ zs) (sym c.in-Some.ensures.steps.0) ∙ at.left in
-    at_fault c.args.teacher.now c.args.students.items c.loop-student.yielded (into_iter_items c.next.new.self) c.in-Some.student c.loop-student.found.entries c.as_str.result.now c.as_str-in-loop-student.result.now c.is_taken.result
+    at_fault c.args.teacher.now c.args.students.items c.loop-student.yielded (into_iter_items c.next.new.self) c.in-Some.student c.loop-student.found.entries
+    c.as_str.result.now c.as_str-in-loop-student.result.now c.is_taken.result
     c.len.result at.so_far parts c.len.ensures.len c.as_str.ensures.value c.as_str-in-loop-student.ensures.value c.is_taken.ensures c.if-is_taken.true
 
 pub loop-student-preserved : goal.loop-student-preserved
@@ -24,12 +25,17 @@ loop-student-preserved c =
     let at = c.loop-student.invariant in
     let steps : into_iter_items c.loop-student.student-iterator ≡ c.in-Some.student ∷ into_iter_items c.next.new.self = c.in-Some.ensures.steps.0 in
     let parts = ap (λ zs. c.loop-student.yielded ++ zs) (sym steps) ∙ at.left in
-    let new = insert_entry-new string_eq c.loop-student.found c.in-Some.student.name c.in-Some.student.key (absent c.as_str.result.now c.loop-student.found.entries c.as_str-in-loop-student.result.now c.in-Some.student.name c.is_taken.result (sym c.as_str-in-loop-student.ensures.value) c.is_taken.ensures c.if-is_taken.false) in
+    let new =
+    insert_entry-new string_eq c.loop-student.found c.in-Some.student.name c.in-Some.student.key
+    (absent c.as_str.result.now c.loop-student.found.entries c.as_str-in-loop-student.result.now c.in-Some.student.name c.is_taken.result
+    (sym c.as_str-in-loop-student.ensures.value) c.is_taken.ensures c.if-is_taken.false) in
     record {
       left = append_assoc c.loop-student.yielded (c.in-Some.student ∷ []) (into_iter_items c.next.new.self) ∙ parts;
       counted = let was = at.counted in let gone = c.in-Some.ensures.steps.1 in let short = ap length steps in omega arith;
-      so_far = at_next c.args.teacher.now c.args.students.items c.loop-student.yielded (into_iter_items c.next.new.self) c.in-Some.student c.loop-student.found.entries c.as_str.result.now c.as_str-in-loop-student.result.now c.is_taken.result
-          c.insert.new.self.entries at.so_far parts (c.in_ok-insert.ensures.entries ∙ new) c.as_str.ensures.value c.as_str-in-loop-student.ensures.value c.is_taken.ensures c.if-is_taken.false;
+      so_far = at_next c.args.teacher.now c.args.students.items c.loop-student.yielded (into_iter_items c.next.new.self) c.in-Some.student
+          c.loop-student.found.entries c.as_str.result.now c.as_str-in-loop-student.result.now c.is_taken.result
+          c.insert.new.self.entries at.so_far parts
+          (c.in_ok-insert.ensures.entries ∙ new) c.as_str.ensures.value c.as_str-in-loop-student.ensures.value c.is_taken.ensures c.if-is_taken.false;
     }
 
 pub loop-student-preserved-in_ok-insert : goal.loop-student-preserved-in_ok-insert
@@ -37,15 +43,21 @@ loop-student-preserved-in_ok-insert c =
     let at = c.loop-student.invariant in
     let steps : into_iter_items c.loop-student.student-iterator ≡ c.in-Some.student ∷ into_iter_items c.next.new.self = c.in-Some.ensures.steps.0 in
     let parts = ap (λ zs. c.loop-student.yielded ++ zs) (sym steps) ∙ at.left in
-    let new = insert_entry-new string_eq c.loop-student.found c.in-Some.student.name c.in-Some.student.key (absent c.as_str.result.now c.loop-student.found.entries c.as_str-in-loop-student.result.now c.in-Some.student.name c.is_taken.result (sym c.as_str-in-loop-student.ensures.value) c.is_taken.ensures c.if-is_taken.false) in
+    let new =
+    insert_entry-new string_eq c.loop-student.found c.in-Some.student.name c.in-Some.student.key
+    (absent c.as_str.result.now c.loop-student.found.entries c.as_str-in-loop-student.result.now c.in-Some.student.name c.is_taken.result
+    (sym c.as_str-in-loop-student.ensures.value) c.is_taken.ensures c.if-is_taken.false) in
     record {
       left = append_assoc c.loop-student.yielded (c.in-Some.student ∷ []) (into_iter_items c.next.new.self) ∙ parts;
       counted = let was = at.counted in let gone = c.in-Some.ensures.steps.1 in let short = ap length steps in omega arith;
-      so_far = at_next c.args.teacher.now c.args.students.items c.loop-student.yielded (into_iter_items c.next.new.self) c.in-Some.student c.loop-student.found.entries c.as_str.result.now c.as_str-in-loop-student.result.now c.is_taken.result
-          c.insert.new.self.entries at.so_far parts (c.in_ok-insert.ensures.entries ∙ new) c.as_str.ensures.value c.as_str-in-loop-student.ensures.value c.is_taken.ensures c.if-is_taken.false;
+      so_far = at_next c.args.teacher.now c.args.students.items c.loop-student.yielded (into_iter_items c.next.new.self) c.in-Some.student
+          c.loop-student.found.entries c.as_str.result.now c.as_str-in-loop-student.result.now c.is_taken.result
+          c.insert.new.self.entries at.so_far parts
+          (c.in_ok-insert.ensures.entries ∙ new) c.as_str.ensures.value c.as_str-in-loop-student.ensures.value c.is_taken.ensures c.if-is_taken.false;
     }
 
 pub returns : goal.returns
 returns c =
     let at = c.loop-student.invariant in
-    at_end c.args.teacher.now c.args.students.items c.loop-student.yielded (into_iter_items c.loop-student.student-iterator) c.loop-student.found.entries at.so_far at.left (sym at.counted ∙ c.in-None.ensures.steps.0)
+    at_end c.args.teacher.now c.args.students.items c.loop-student.yielded
+    (into_iter_items c.loop-student.student-iterator) c.loop-student.found.entries at.so_far at.left (sym at.counted ∙ c.in-None.ensures.steps.0)

@@ -1,7 +1,7 @@
 use Rattle.std.proofs.Common.{◌∙◌, ◌<◌, ℕ, List, ◌++◌, ◌∷◌, [], map, ap, sym}
 use Rattle.std.specs.FinSet as sets
 use Rattle.mml_ids.proofs.SetsLemmas.{ranks_in, one_put, all_put}
-use Rattle.mml_rules.specs.declared.registers.Regs.{Regs}
+use Rattle.mml_rules.specs.declared.regs.Regs.{Regs}
 use Rattle.mml_board.specs.World.{size}
 use Rattle.mml_board.proofs.KeptLemmas.{in_remove}
 use Rattle.mml_policy.specs.Shown.{near}
@@ -11,7 +11,8 @@ use Rattle.mml_policy.proofs.look.near.Goals as goal
 pub loop-other-init : goal.loop-other-init
 loop-other-init c = record {
   within = λ j h. (c.size-size.ensures.lawful.in_range c.args.node j (ap (λ s. sets.contains s j) (sym c.neighbours-left.ensures) ∙ h)).1;
-  so_far = ap (λ (xs : List (ℕ × Regs)). xs ++ map (shown c.args.board.now) (ranks_in (size c.args.board.now) c.neighbours-left.result)) c.new-near.ensures.items
+  so_far =
+      ap (λ (xs : List (ℕ × Regs)). xs ++ map (shown c.args.board.now) (ranks_in (size c.args.board.now) c.neighbours-left.result)) c.new-near.ensures.items
       ∙ near-is c.args.board.now c.args.node c.neighbours-left.result c.neighbours-left.ensures;
 }
 
@@ -29,4 +30,6 @@ loop-other-preserved c =
     }
 
 pub returns : goal.returns
-returns c = all_put (shown c.args.board.now) (size c.args.board.now) c.loop-other.left c.loop-other.near.items (near c.args.board.now c.args.node) c.in_default.ensures.none c.loop-other.invariant.so_far
+returns c =
+    all_put (shown c.args.board.now) (size c.args.board.now) c.loop-other.left c.loop-other.near.items
+    (near c.args.board.now c.args.node) c.in_default.ensures.none c.loop-other.invariant.so_far

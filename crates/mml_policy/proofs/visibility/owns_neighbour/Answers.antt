@@ -13,7 +13,8 @@ returns-then-owns c =
     let other = c.in-Some.other in
     let linked : (configuration c.args.board.now).linked c.args.node other ≡ true = c.loop-other.invariant.linked other c.in-Some.ensures.member in
     let within : other < length c.args.board.now.network.registers = (c.size-size.ensures.lawful.in_range c.args.node other linked).1 in
-    sym (owner_found c.args.roster.now (configuration c.args.board.now) c.args.who c.args.node other within (and_from _ _ linked (sym c.owns.ensures ∙ c.if-owns.true)))
+    sym (owner_found c.args.roster.now (configuration c.args.board.now) c.args.who c.args.node other within
+    (and_from _ _ linked (sym c.owns.ensures ∙ c.if-owns.true)))
 
 pub loop-other-preserved : goal.loop-other-preserved
 loop-other-preserved c =
@@ -22,7 +23,9 @@ loop-other-preserved c =
     let not_owned : owns c.args.roster.now c.args.who other ≡ false = sym c.owns.ensures ∙ c.if-owns.false in
     record {
       linked = λ j h. c.loop-other.invariant.linked j (in_remove left other j (ap (λ s. sets.contains s j) (sym c.in-Some.ensures.rest) ∙ h));
-      none = λ j linked gone. none_yet left _ other j (owns c.args.roster.now c.args.who) c.in-Some.ensures.rest not_owned (c.loop-other.invariant.none j linked) gone;
+      none =
+          λ j linked gone.
+          none_yet left _ other j (owns c.args.roster.now c.args.who) c.in-Some.ensures.rest not_owned (c.loop-other.invariant.none j linked) gone;
     }
 
 pub returns : goal.returns

@@ -8,13 +8,17 @@ use Rattle.mml_serving.proofs.serving.in_house.Goals as goal
 
 pub serve_all-requires-clause-fresh : goal.serve_all-requires-clause-fresh
 serve_all-requires-clause-fresh g c = λ _ _.
-    subst (λ (ws : List WindowValue). All (λ w. w ≡ window [] []) ws) (sym c.in-Ok-split_off.ensures.items) (All-take (λ w. w ≡ window [] []) c.from.result c.in-Ok.windows.items c.in-Ok.ensures.windows)
+    subst (λ (ws : List WindowValue). All (λ w. w ≡ window [] []) ws) (sym c.in-Ok-split_off.ensures.items)
+    (All-take (λ w. w ≡ window [] []) c.from.result c.in-Ok.windows.items c.in-Ok.ensures.windows)
 
 pub end_house-requires : goal.end_house-requires
 end_house-requires g c =
     let all = c.in-Ok-serve_all.ensures in
-    let served : length c.in-Ok-serve_all.windows.items ≡ length all.connections = each_long (IsServed g.H.House.lab g.R.Read.remaining g.W.Write.contents) all.connections c.in-Ok-serve_all.sessions.items c.in-Ok-serve_all.windows.items all.served in
-    let rest : length c.in-Ok-split_off.unused.items ≡ length (drop c.from.result c.in-Ok.windows.items) = ap (λ (ws : List WindowValue). length ws) c.in-Ok-split_off.ensures.tail in
+    let served : length c.in-Ok-serve_all.windows.items ≡ length all.connections =
+    each_long (IsServed g.H.House.lab g.R.Read.remaining g.W.Write.contents) all.connections c.in-Ok-serve_all.sessions.items
+    c.in-Ok-serve_all.windows.items all.served in
+    let rest : length c.in-Ok-split_off.unused.items ≡ length (drop c.from.result c.in-Ok.windows.items) =
+    ap (λ (ws : List WindowValue). length ws) c.in-Ok-split_off.ensures.tail in
     record {
       few = omega (arith, served, all.all, c.requires.few, rest, length-drop c.from.result c.in-Ok.windows.items, c.from.ensures, c.in-Ok.ensures.count);
     }
@@ -22,7 +26,8 @@ end_house-requires g c =
 pub returns-in-Ok-end_house-clause-served : goal.returns-in-Ok-end_house-clause-served
 returns-in-Ok-end_house-clause-served g c = record {
   windows = _;
-  serves = serves_windows g.H.House.lab g.R.Read.remaining g.W.Write.contents (g.A.Arrivals.to_come c.args.arrivals) c.args.connections c.in-Ok-serve_all.sessions.items c.in-Ok-serve_all.windows.items c.in-Ok-split_off.unused.items c.in-Ok.windows.items
+  serves = serves_windows g.H.House.lab g.R.Read.remaining g.W.Write.contents (g.A.Arrivals.to_come c.args.arrivals) c.args.connections
+      c.in-Ok-serve_all.sessions.items c.in-Ok-serve_all.windows.items c.in-Ok-split_off.unused.items c.in-Ok.windows.items
       c.from.result c.in-Ok-serve_all.ensures c.from.ensures c.in-Ok-split_off.ensures.tail c.in-Ok.ensures.count c.requires.few c.in-Ok.ensures.windows;
   kept = c.in-Ok-end_house.ensures.log;
 }
@@ -30,6 +35,7 @@ returns-in-Ok-end_house-clause-served g c = record {
 pub returns-in-Ok-serve_all-clause-early : goal.returns-in-Ok-serve_all-clause-early
 returns-in-Ok-serve_all-clause-early g c =
     early_so g.H.House.lab g.R.Read.remaining g.W.Write.contents (g.A.Arrivals.to_come c.args.arrivals) c.args.connections c.in-Ok-serve_all.sessions.items _
-    (serves_windows g.H.House.lab g.R.Read.remaining g.W.Write.contents (g.A.Arrivals.to_come c.args.arrivals) c.args.connections c.in-Ok-serve_all.sessions.items c.in-Ok-serve_all.windows.items c.in-Ok-split_off.unused.items c.in-Ok.windows.items
+    (serves_windows g.H.House.lab g.R.Read.remaining g.W.Write.contents (g.A.Arrivals.to_come c.args.arrivals) c.args.connections
+    c.in-Ok-serve_all.sessions.items c.in-Ok-serve_all.windows.items c.in-Ok-split_off.unused.items c.in-Ok.windows.items
     c.from.result c.in-Ok-serve_all.ensures c.from.ensures c.in-Ok-split_off.ensures.tail c.in-Ok.ensures.count c.requires.few c.in-Ok.ensures.windows)
     c.in-Err.fault c.in-Err.ensures.without

@@ -9,7 +9,8 @@ use Rattle.mml_session.proofs.answering.ask.Goals as goal
 pub returns-in-Granted-clause-told : goal.returns-in-Granted-clause-told
 returns-in-Granted-clause-told g c =
     subst (λ (r : Reply). Told g.H.House.lab c.args.window.now c.args.who c.args.command.now r c.ask.new.window) (sym c.reply_of_done.ensures)
-    (granted_told g.H.House.lab c.args.window.now c.ask.new.window c.args.who c.args.command.now c.in-Granted.place c.in-Granted.number c.in-Granted.done c.in-Granted.ensures.answers)
+    (granted_told g.H.House.lab c.args.window.now c.ask.new.window c.args.who c.args.command.now c.in-Granted.place c.in-Granted.number c.in-Granted.done
+    c.in-Granted.ensures.answers)
 
 pub returns-in-Denied-clause-told : goal.returns-in-Denied-clause-told
 returns-in-Denied-clause-told g c =

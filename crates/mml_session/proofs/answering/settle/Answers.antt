@@ -12,5 +12,6 @@ returns-in-LeftToJudge-clause-settles g c =
 
 pub returns-in-LeftToJudge-clause-closed : goal.returns-in-LeftToJudge-clause-closed
 returns-in-LeftToJudge-clause-closed g c =
-    closed_so c.obey.result c.roster.result.now c.args.known.now c.args.request c.in-LeftToJudge.who c.in-LeftToJudge.command c.args.window.now c.obey.new.window
+    closed_so c.obey.result c.roster.result.now c.args.known.now c.args.request c.in-LeftToJudge.who c.in-LeftToJudge.command c.args.window.now
+    c.obey.new.window
     c.in-LeftToJudge.ensures.greeting c.obey.ensures.closed

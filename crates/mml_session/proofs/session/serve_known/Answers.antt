@@ -1,14 +1,15 @@
-use Rattle.std.proofs.Common.{ap, refl, arith}
+use Rattle.std.proofs.Common.{ap, refl}
 use Rattle.mml_session.proofs.EndingLemmas.{nothing_yet, one_more, ended_so}
 use Rattle.mml_session.proofs.session.serve_known.Goals as goal
 
 pub loop-end-init : goal.loop-end-init
 loop-end-init g c = record {
-  so_far = nothing_yet g.H.House.lab c.args.window.now (g.R.Read.remaining c.args.reader.now) (g.W.Write.contents c.args.writer.now) c.in-Ok.lines.unread (ap (λ x. x.unread) c.in-Ok.ensures);
-  going = ap (λ x. x.ending) c.in-Ok.ensures;
-  limit = ap (λ x. x.limit) c.in-Ok.ensures;
-  room = omega (arith, c.in-Ok-with_capacity.ensures.exact);
-  principal = tt;
+  so_far = rw c.in-Ok.ensures.nobody (nothing_yet g.H.House.lab c.args.window.now (g.R.Read.remaining c.args.reader.now)
+      (g.W.Write.contents c.args.writer.now) c.in-Ok.session.lines.unread (ap (λ x. x.unread) c.in-Ok.ensures.lines));
+  going = ap (λ x. x.ending) c.in-Ok.ensures.lines;
+  limit = ap (λ x. x.limit) c.in-Ok.ensures.lines;
+  room = c.in-Ok.ensures.room;
+  principal = rw c.in-Ok.ensures.nobody tt;
 }
 
 pub loop-end-preserved : goal.loop-end-preserved

@@ -12,12 +12,13 @@ use Rattle.mml_session.proofs.session.serve_known.Given as goal
 
 abbrev pub invariant-loop-end : goal.invariant-loop-end
 invariant-loop-end g l = record {
-  so_far : AnsweredSoFar g.H.House.lab l.fn.window (standing l.known l.window) (g.R.Read.remaining l.fn.reader) (prepend_known l.lines.unread (g.R.Read.remaining l.reader)) (g.W.Write.contents l.fn.writer) (g.W.Write.contents l.writer);
-  going : l.lines.ending ≡ None;
-  limit : l.lines.limit ≡ MAX_REQUEST;
-  room : REPLY_ROOM ≤ vec_capacity l.out;
-  principal : IfSome l.known (IsPrincipal g.H.House.lab.roster);
+  so_far : AnsweredSoFar g.H.House.lab l.fn.window (standing l.session.known l.window) (g.R.Read.remaining l.fn.reader)
+      (prepend_known l.session.lines.unread (g.R.Read.remaining l.reader)) (g.W.Write.contents l.fn.writer) (g.W.Write.contents l.writer);
+  going : l.session.lines.ending ≡ None;
+  limit : l.session.lines.limit ≡ MAX_REQUEST;
+  room : REPLY_ROOM ≤ vec_capacity l.session.reply;
+  principal : IfSome l.session.known (IsPrincipal g.H.House.lab.roster);
 }
 
 abbrev pub decreases-loop-end : goal.decreases-loop-end
-decreases-loop-end g l = bytes_ahead l.lines
+decreases-loop-end g l = bytes_ahead l.session.lines

@@ -4,21 +4,6 @@ use Rattle.mml_stable.specs.Potential.{potential}
 use Rattle.mml_stable.proofs.ExamplesLemmas.{triangle_potential}
 use Rattle.mml_stable.proofs.laws.potentials_by_hand.Goals as goal
 
-pub returns-clause-apart : goal.returns-clause-apart
+pub returns : goal.returns
 unfolding potential is_married
-returns-clause-apart c = (refl, refl)
-
-pub returns-clause-asked : goal.returns-clause-asked
-unfolding potential is_married
-returns-clause-asked c = (refl, refl)
-
-pub returns-clause-refused : goal.returns-clause-refused
-unfolding potential is_married
-returns-clause-refused c = (refl, refl)
-
-pub returns-clause-paired : goal.returns-clause-paired
-unfolding potential is_married
-returns-clause-paired c = (refl, refl)
-
-pub returns-clause-triangle : goal.returns-clause-triangle
-returns-clause-triangle c = triangle_potential
+returns c = record { apart = (refl, refl); asked = (refl, refl); refused = (refl, refl); paired = (refl, refl); triangle = triangle_potential }

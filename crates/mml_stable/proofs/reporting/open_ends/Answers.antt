@@ -1,20 +1,17 @@
 use Rattle.std.proofs.Common.{◌≡◌, ◌∙◌, ◌&&◌, ltb, true, false, sym, ap, arith, rules}
-use Rattle.std.proofs.lemmas.Bool.{lt-ltb}
 use Rattle.std.specs.Cmp.{nat_cmp_total}
 use Rattle.std.specs.FinSet as sets
 use Rattle.mml_ids.specs.inside.WordsLemmas.{has_empty, has-those_below}
 use Rattle.mml_board.specs.World.{configuration}
 use Rattle.mml_stable.specs.Reports.{is_free}
-use Rattle.mml_stable.proofs.ReportsLemmas.{open_row, no_row}
+use Rattle.mml_stable.proofs.ReportsLemmas.{has_free, open_row, no_row}
 use Rattle.mml_stable.proofs.reporting.open_ends.Goals as goal
 
 pub returns-then-has : goal.returns-then-has
 returns-then-has c = λ b.
     let d = configuration c.args.board.now in
     let here : sets.contains c.args.free c.args.a ≡ true = search rules in
-    let free_a : is_free d c.args.a ≡ true =
-    sym (ap (λ t. t && is_free d c.args.a) (lt-ltb c.args.a d.size c.requires.a)) ∙ sym (has-those_below d.size (is_free d) c.args.a)
-    ∙ sym (ap (λ s. sets.contains s c.args.a) c.requires.free) ∙ here in
+    let free_a = sym (has_free d c.args.free c.args.a c.requires.a c.requires.free) ∙ here in
     let free_b : sets.contains c.args.free b ≡ (ltb b d.size && is_free d b) =
     ap (λ s. sets.contains s b) c.requires.free ∙ has-those_below d.size (is_free d) b in
     let linked : sets.contains c.neighbours.result b ≡ d.linked c.args.a b = ap (λ s. sets.contains s b) c.neighbours.ensures in
@@ -28,7 +25,5 @@ pub returns-else-has : goal.returns-else-has
 returns-else-has c = λ b.
     let d = configuration c.args.board.now in
     let absent : sets.contains c.args.free c.args.a ≡ false = search rules in
-    let taken : is_free d c.args.a ≡ false =
-    sym (ap (λ t. t && is_free d c.args.a) (lt-ltb c.args.a d.size c.requires.a)) ∙ sym (has-those_below d.size (is_free d) c.args.a)
-    ∙ sym (ap (λ s. sets.contains s c.args.a) c.requires.free) ∙ absent in
+    let taken = sym (has_free d c.args.free c.args.a c.requires.a c.requires.free) ∙ absent in
     ap (λ s. sets.contains s b) c.empty.ensures ∙ has_empty b ∙ no_row d c.args.a b taken

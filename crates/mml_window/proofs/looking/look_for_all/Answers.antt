@@ -5,16 +5,13 @@ use Rattle.mml_board.specs.declared.event.Event.{Event}
 use Rattle.mml_window.specs.Lists.{is_legal_in}
 use Rattle.mml_window.specs.Rule.{viewer}
 use Rattle.mml_window.proofs.PrefixLemmas.{prefix_trans}
-use Rattle.mml_window.proofs.RuleLemmas.{enters}
 use Rattle.mml_window.proofs.looking.look_for_all.Goals as goal
-
-pub enter_as-requires : goal.enter_as-requires
-enter_as-requires g c = enters g.H.House.lab _ _
 
 pub returns-then-found : goal.returns-then-found
 returns-then-found g c =
-    let f = c.in-Ok.ensures.1 in
-    let all : c.in-Ok.reading.part.value.events.items ≡ c.args.events.now = ap (λ s. s.events.items) (sym c.get.ensures) ∙ c.has_all-found.ensures c.if-found.true in record {
+    let f = c.in-Ok.ensures.saw in
+    let all : c.in-Ok.reading.part.value.events.items ≡ c.args.events.now =
+    ap (λ s. s.events.items) (sym c.get.ensures) ∙ c.has_all-found.ensures c.if-found.true in record {
       view = c.leave-reader.ensures.1 ∙ (f.view ∙ ap (λ l. viewer l) all);
       begins = subst (λ (l : List Event). IsPrefix (view c.args.reader.place).seen l) all (prefix_trans _ _ _ c.looks.invariant f.begins);
       legal = subst (λ (l : List Event). is_legal_in g.H.House.lab l ≡ true) all f.published.legal;

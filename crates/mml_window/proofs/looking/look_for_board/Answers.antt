@@ -1,14 +1,10 @@
 use Rattle.std.proofs.Common.{ap, ◌∙◌, sym}
 use Rattle.mml_window.proofs.PrefixLemmas.{prefix_trans}
-use Rattle.mml_window.proofs.RuleLemmas.{enters}
 use Rattle.mml_window.proofs.looking.look_for_board.Goals as goal
-
-pub enter_as-requires : goal.enter_as-requires
-enter_as-requires g c = enters g.H.House.lab _ _
 
 pub returns-then-found : goal.returns-then-found
 returns-then-found g c =
-    let f = c.in-Ok.ensures.1 in
+    let f = c.in-Ok.ensures.saw in
     let sees = c.leave-reader.ensures.1 ∙ f.view in record {
       begins = rw sees (prefix_trans _ _ _ c.looks.invariant f.begins);
       legal = rw sees f.published.legal;

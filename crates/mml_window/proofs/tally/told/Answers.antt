@@ -8,5 +8,7 @@ windows-preserved g c =
     let i = c.windows.index in
     let d = c.index-windows-index.result in
     let at : get_or ws i d ≡ d = search rules in
-    let k = ap (λ w. length w.places) at in
-    (omega (arith, told_more ws i d (search rules), k, c.windows.invariant.0, c.place_count-told.ensures.count), omega (arith, c.windows.invariant.1, c.place_count-told.ensures.few))
+    let k = ap (λ w. length w.places) at in (
+      omega (arith, told_more ws i d (search rules), k, c.windows.invariant.0, c.place_count-told.ensures.count),
+      omega (arith, c.windows.invariant.1, c.place_count-told.ensures.few),
+    )

@@ -25,12 +25,16 @@ loop-index-preserved c =
     let k : ℕ = c.loop-index.index in
     let same : c.at-node.result ≡ k = c.at-node.ensures in
     let p = c.p.ensures ∙ ap (λ x. (registers_at n.registers x).p) same in
-    let added : length c.add_suitor.new.suitors ≡ length c.loop-index.suitors.items = ap length c.add_suitor.ensures ∙ length-with_suitor c.deref_mut.result.now c.p.result c.at-node.result ∙ ap length c.deref_mut.ensures.value in
+    let added : length c.add_suitor.new.suitors ≡ length c.loop-index.suitors.items =
+    ap length c.add_suitor.ensures ∙ length-with_suitor c.deref_mut.result.now c.p.result c.at-node.result ∙ ap length c.deref_mut.ensures.value in
     next_rows n.registers k c.p.result c.m.result c.loop-index.suitors.items _ c.loop-index.free c.loop-index.believing _ _ c.loop-index.invariant
     (λ i e. pointee_in (configuration_of n) c.at-node.result i c.size-index-end.ensures.lawful (sym c.p.ensures ∙ e))
     p (c.m.ensures ∙ ap (λ x. (registers_at n.registers x).m) same)
-    (written_back c.loop-index.suitors.len c.add_suitor.new.suitors _ (omega (arith, added, c.loop-index.suitors.ok.0)) ∙ c.add_suitor.ensures ∙ (λ z. with_suitor (c.deref_mut.ensures.value z) c.p.result (same z)))
-    (λ j. c.put-free.ensures j ∙ (λ z. cond (eqb j (same z)) (none_told c.p-in-loop-index.result c.is_none.result c.is_none.ensures z) (sets.contains c.loop-index.free j)) ∙ ap (λ o. cond (eqb j k) (is_none o) (sets.contains c.loop-index.free j)) (c.p-in-loop-index.ensures ∙ sym c.p.ensures))
+    (written_back c.loop-index.suitors.len c.add_suitor.new.suitors _ (omega (arith, added, c.loop-index.suitors.ok.0)) ∙ c.add_suitor.ensures
+    ∙ (λ z. with_suitor (c.deref_mut.ensures.value z) c.p.result (same z)))
+    (λ j. c.put-free.ensures j
+    ∙ (λ z. cond (eqb j (same z)) (none_told c.p-in-loop-index.result c.is_none.result c.is_none.ensures z) (sets.contains c.loop-index.free j))
+    ∙ ap (λ o. cond (eqb j k) (is_none o) (sets.contains c.loop-index.free j)) (c.p-in-loop-index.ensures ∙ sym c.p.ensures))
     (λ j. c.put-believing.ensures j ∙ ap (λ x. cond (eqb j x) c.m.result (sets.contains c.loop-index.believing j)) same)
 
 pub invariant_of-result : goal.invariant_of-result

@@ -5,7 +5,9 @@ use Rattle.mml_lab.proofs.roster.Roster.student_named.Goals as goal
 
 pub returns-in-Some : goal.returns-in-Some
 returns-in-Some c =
-    let found : student_named c.args.self.now c.args.name.now ≡ Some c.new.result = sym (ap Some c.new.ensures ∙ search_same c.args.self.now c.args.name.now c.self.inside.students.entries _ (ap (λ (r : RosterValue). r.students) c.self.view_is) c.in-Some.ensures.index) in
+    let found : student_named c.args.self.now c.args.name.now ≡ Some c.new.result =
+    sym (ap Some c.new.ensures ∙ search_same c.args.self.now c.args.name.now c.self.inside.students.entries _
+    (ap (λ (r : RosterValue). r.students) c.self.view_is) c.in-Some.ensures.index) in
     record {
       value = sym found;
       member = (student_is c.args.self.now c.args.name.now c.new.result found).0;
@@ -13,4 +15,5 @@ returns-in-Some c =
     }
 
 pub returns-in-None-clause-value : goal.returns-in-None-clause-value
-returns-in-None-clause-value c = search_same c.args.self.now c.args.name.now c.self.inside.students.entries _ (ap (λ (r : RosterValue). r.students) c.self.view_is) c.in-None.ensures.index
+returns-in-None-clause-value c =
+    search_same c.args.self.now c.args.name.now c.self.inside.students.entries _ (ap (λ (r : RosterValue). r.students) c.self.view_is) c.in-None.ensures.index

@@ -19,5 +19,6 @@ pub returns : goal.returns
 returns c =
     let one = rw c.unwrap.ensures at c.extend_from_slice.ensures.items in
     let two = rw c.unwrap-2.ensures at c.extend_from_slice-2.ensures.items in
-    held_more c.self.inside.lengths.items c.push_reserved.new.self.items c.self.inside.bytes.items c.extend_from_slice-2.new.self.items c.args.front.now c.args.rest.now c.args.self.now
+    held_more c.self.inside.lengths.items c.push_reserved.new.self.items c.self.inside.bytes.items c.extend_from_slice-2.new.self.items c.args.front.now
+    c.args.rest.now c.args.self.now
     (sym c.self.view_is) c.self.invariant.whole c.push_reserved.ensures.items (two ∙ ap (λ t. t ++ c.args.rest.now) one)

@@ -9,4 +9,5 @@ returns-clause-ok g c =
 
 pub returns-clause-err : goal.returns-clause-err
 returns-clause-err g c =
-    put_short c.put_both.result _ _ _ c.args.self.now (c.args.front.now ++ c.args.rest.now) (rw c.if-hold.ensures at c.in_ok-write_out.ensures.ok) c.put_both.ensures.partial c.put_both.ensures.err
+    put_short c.put_both.result _ _ _ c.args.self.now
+    (c.args.front.now ++ c.args.rest.now) (rw c.if-hold.ensures at c.in_ok-write_out.ensures.ok) c.put_both.ensures.partial c.put_both.ensures.err

@@ -1,14 +1,11 @@
-use Rattle.std.proofs.Common.{◌≡◌, ◌<◌, length, sym, subst, arith}
+use Rattle.std.proofs.Common.{arith}
 use Rattle.std.proofs.lemmas.Grind.{common_steps}
-use Rattle.mml_rules.specs.Network.{Network, IsNetwork}
-use Rattle.mml_rules.proofs.NetworkLemmas.{linked_is_lawful}
+use Rattle.mml_rules.specs.Network.{Network}
+use Rattle.mml_rules.proofs.NetworkLemmas.{node_within, linked_is_lawful}
 use Rattle.mml_rules.proofs.network.Network.link.Goals as goal
 
 pub invariant_of-self : goal.invariant_of-self
 invariant_of-self c =
     let n : Network = record { neighbours = c.self.inside.neighbours.items; registers = c.self.inside.registers.items } in
-    let inside : IsNetwork n = c.self.invariant in
-    let seen : n ≡ c.args.self.now = c.self.view_is in
-    let a : c.args.a < length n.registers = subst (λ (x : Network). c.args.a < length x.registers) (sym seen) c.requires.a in
-    let b : c.args.b < length n.registers = subst (λ (x : Network). c.args.b < length x.registers) (sym seen) c.requires.b in
-    linked_is_lawful n _ c.args.a c.args.b inside a b c.requires.apart (grind (arith, common_steps)) (grind (arith, common_steps))
+    linked_is_lawful n _ c.args.a c.args.b c.self.invariant (node_within n _ c.args.a c.self.view_is c.requires.a)
+    (node_within n _ c.args.b c.self.view_is c.requires.b) c.requires.apart (grind (arith, common_steps)) (grind (arith, common_steps))

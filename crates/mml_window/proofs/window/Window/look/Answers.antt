@@ -1,13 +1,11 @@
 use Rattle.std.proofs.Common.{rules}
-use Rattle.left_right.specs.Sides.{view}
 use Rattle.mml_policy.specs.declared.command.Command.TheVariants as command
-use Rattle.mml_policy.specs.declared.ruling.Ruling.TheVariants as rulings
 use Rattle.mml_window.proofs.AboutLemmas.{looked_at_is}
 use Rattle.mml_window.proofs.ViewLemmas.{tells_beside}
 use Rattle.mml_window.proofs.window.Window.look.Goals as goal
 
 pub returns-clause-tells : goal.returns-clause-tells
-returns-clause-tells g c = tells_beside rulings.Looked g.H.House.lab (view c.in-Some.reader.place).seen _ c.self.inside.places.items c.self.inside.refused c.args.who (command.Look c.args.node) _ c.args.self.now (search rules) c.read_look-reader.ensures.tells
+returns-clause-tells g c = search (rules, tells_beside)
 
 pub returns-clause-nodes : goal.returns-clause-nodes
 returns-clause-nodes g c = looked_at_is g.H.House.lab c.self.invariant.0.lawful _ _ c.args.who (command.Look c.args.node) _ c.read_look-reader.ensures.tells

@@ -17,7 +17,9 @@ loop-index-preserved g c =
       few = omega (arith, at.few, seat.left);
       count = omega (arith, at.count, put.len);
       room = omega (arith, at.room, put.capacity);
-      numbered = numbered_so (λ h. h.promise.0.value) handles more handle put.items 1 c.in_ok-seat.seat.connection same (omega (arith, seat.number, at.count)) at.numbered;
+      numbered =
+          numbered_so (λ h. h.promise.0.value) handles more handle put.items 1 c.in_ok-seat.seat.connection same
+          (omega (arith, seat.number, at.count)) at.numbered;
       came = came_so (λ h. h.promise.0.value) handles more handle put.items _ _ _ c.in_ok-seat.seat.connection same at.came seat.taken;
     }
 
@@ -25,5 +27,6 @@ pub returns : goal.returns
 returns g c =
     let at = c.loop-index.invariant in
     let handles = c.loop-index.handles.items in
-    all_came g.H.House.lab g.R.Read.remaining g.W.Write.contents _ _ (λ p. p.1.items) (λ p. p.0.items) _ (map (λ h. h.promise.0.value) handles) c.join_all.result
+    all_came g.H.House.lab g.R.Read.remaining g.W.Write.contents _ _ (λ p. p.1.items) (λ p. p.0.items) _
+    (map (λ h. h.promise.0.value) handles) c.join_all.result
     at.came (length-map handles (λ h. h.promise.0.value) ∙ omega (arith, at.count)) at.numbered c.join_all.ensures

@@ -1,0 +1,15 @@
+-- What the fields of a line ask, as one function after another reads it.
+use Rattle.std.specs.Prelude.{◌≡◌, true, Option, Result, Err, ok_or}
+use Rattle.serde_json.specs.Data.{Data}
+use Rattle.mml_ids.specs.Gives.{Gives}
+use Rattle.mml_plain.specs.declared.fields.Fields.{Fields}
+use Rattle.mml_plain.specs.Holds.{Holds}
+use Rattle.mml_codec.specs.declared.request.LineFault.{LineFault}
+use Rattle.mml_codec.specs.declared.request.LineFault.TheVariants as fault
+use Rattle.mml_codec.specs.declared.request.Request.{Request}
+use Rattle.mml_codec.specs.Lines.{is_line_memory, is_hello}
+
+-- the request is what is asked, if anything is; memory runs out for a hello alone
+pub record Reads (asked : Data → Option Request) (f : Fields) (r : Result Request LineFault) : Type 0 where
+  pub request : (d : Data) → Holds f d → Gives is_line_memory (λ r. r) r (ok_or (asked d) fault.Malformed)
+  pub memory : r ≡ Err fault.Memory → (d : Data) → Holds f d → is_hello (ok_or (asked d) fault.Malformed) ≡ true

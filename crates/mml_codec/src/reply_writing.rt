@@ -1,0 +1,591 @@
+ghost use Rattle.std.specs.Prelude.{◌≡◌, ◌≤◌, ◌<◌, ◌+◌, ◌^◌, ◌++◌, ◌∷◌, [], true, length, map, OnOk, OnErr, IsOk, IfSome, vec_capacity};
+ghost use Rattle.mml_ids.specs.Pieces.{piece_text, piece_room, Puts};
+ghost use Rattle.mml_ids.specs.declared.piece.Piece.TheVariants.{Number};
+ghost use Rattle.mml_lab.specs.Rosters.{name_of, IsPrincipal};
+ghost use Rattle.mml_board.specs.declared.done.Done.TheVariants as done;
+ghost use Rattle.mml_codec.specs.Facts.{truth_text, pointer_text, kind_text, kind_or_null, node_text, members, separated, object_text, HaveFittingCounts};
+ghost use Rattle.mml_codec.specs.Replies.{done_fields, ends_fields, hello_fields, bye_fields, see_fields, look_fields, current_number, deny_fields};
+ghost use Rattle.mml_codec.specs.Replies.{refuse_fields, refusal_name, text, reply_line, is_short, IsAbout, TellsFor};
+ghost use Rattle.mml_codec.specs.ReplyValues.{AreWritableCounts};
+ghost use Rattle.mml_policy.specs.About.{IsSeen, IsLookedAt};
+ghost use Rattle.mml_codec.specs.inside.Puts.{number_front, deny_parts, look_head, look_tail, look_parts, joined_text};
+
+use crate::listed::put_list;
+use crate::reply::{REPLY_ROOM, Refused, Reply};
+use crate::report_writing::put_report;
+use mml_ids::{IdTable, Memory, NodeSet, Piece, Rank, put};
+use mml_lab::{Roster, Who};
+use mml_policy::{Denial, Look, See};
+use mml_rules::Kind;
+use std::alloc::Global;
+
+// Enough for the text of each reply but a look and a report.
+const TEXT_ROOM: usize = 2000;
+
+// When an event took place: the number after it, and its place.
+#[derive(Clone, Copy)]
+struct Moment {
+    at: u64,
+    place: u64,
+}
+
+fn moment_of(at: &u64, place: &u64) -> Moment
+    ensures moment { result ≡ record { at = at.now; place = place.now } }
+    ensures at { at.now < 2 ^ 64 }
+    ensures place { place.now < 2 ^ 64 }
+{
+    Moment {
+        at: *at,
+        place: *place,
+    }
+}
+
+/// Puts the line of a reply, with its newline, in the place of what the vector holds. The vector
+/// grows by its own allocator.
+pub fn write_reply(
+    _alloc: Global,
+    ids: &IdTable,
+    roster: &Roster,
+    reply: &Reply,
+    out: &mut Vec<u8>,
+) -> Result<(), Memory>
+    requires { IsAbout ids.now roster.now reply.now }
+    ensures line { OnOk result (out.new.items ≡ reply_line ids.now roster.now reply.now) }
+    ensures memory { OnErr result (out.new.items ≡ []) }
+    ensures capacity { vec_capacity out.old ≤ vec_capacity out.new }
+    ensures room { REPLY_ROOM ≤ vec_capacity out.old → is_short reply.now ≡ true → IsOk result }
+    ensures kept { REPLY_ROOM ≤ vec_capacity out.old → is_short reply.now ≡ true →
+        vec_capacity out.new ≡ vec_capacity out.old }
+    ensures counts { AreWritableCounts roster.now reply.now }
+{
+    out.clear();
+    let written = put_line(ids, roster, reply, out);
+    if written.is_err() {
+        out.clear();
+    }
+    written
+}
+
+/// Puts the line of a reply, or one that tells out of memory, in the place of what the vector holds,
+/// and gives the reply whose line it is.
+pub fn tell_reply(
+    alloc: Global,
+    ids: &IdTable,
+    roster: &Roster,
+    reply: Reply,
+    out: &mut Vec<u8>,
+) -> Reply
+    requires room { REPLY_ROOM ≤ vec_capacity out.old }
+    requires about { IsAbout ids.now roster.now reply }
+    ensures told { TellsFor reply result }
+    ensures room { REPLY_ROOM ≤ vec_capacity out.new }
+    ensures line { out.new.items ≡ reply_line ids.now roster.now result }
+{
+    match write_reply(alloc, ids, roster, &reply, out) {
+        Ok(()) => reply,
+        Err(_) => tell_want_of_memory(alloc, ids, roster, out),
+    }
+}
+
+// Puts the line that tells out of memory, for which there is room.
+fn tell_want_of_memory(alloc: Global, ids: &IdTable, roster: &Roster, out: &mut Vec<u8>) -> Reply
+    requires room { REPLY_ROOM ≤ vec_capacity out.old }
+    ensures told { result ≡ Reply.Refuse Refused.Memory }
+    ensures room { REPLY_ROOM ≤ vec_capacity out.new }
+    ensures line { out.new.items ≡ reply_line ids.now roster.now result }
+{
+    let told = Reply::Refuse(Refused::Memory);
+    write_reply(alloc, ids, roster, &told, out).unwrap();
+    told
+}
+
+fn put_line(ids: &IdTable, roster: &Roster, reply: &Reply, out: &mut Vec<u8>) -> Result<(), Memory>
+    requires { IsAbout ids.now roster.now reply.now }
+    ensures line { OnOk result
+        (out.new.items ≡ out.old.items ++ reply_line ids.now roster.now reply.now) }
+    ensures capacity { vec_capacity out.old ≤ vec_capacity out.new }
+    ensures room { is_short reply.now ≡ true →
+        OnErr result (vec_capacity out.old < length out.old.items + REPLY_ROOM) }
+    ensures kept { is_short reply.now ≡ true →
+        length out.old.items + REPLY_ROOM ≤ vec_capacity out.old →
+        vec_capacity out.new ≡ vec_capacity out.old }
+    ensures counts { AreWritableCounts roster.now reply.now }
+{
+    put_text(ids, roster, reply, out)?;
+    put_end(out)
+}
+
+// Puts the newline of a line.
+fn put_end(out: &mut Vec<u8>) -> Result<(), Memory>
+    ensures { Puts (10 ∷ []) 1 out.old out.new result }
+{
+    if out.len() < out.capacity() {
+        out.push_reserved(b'\n');
+        return Ok(());
+    }
+    put(out, &[Piece::Text("\n")])
+}
+
+fn put_text(ids: &IdTable, roster: &Roster, reply: &Reply, out: &mut Vec<u8>) -> Result<(), Memory>
+    requires { IsAbout ids.now roster.now reply.now }
+    ensures text { OnOk result
+        (out.new.items ≡ out.old.items ++ text ids.now roster.now reply.now) }
+    ensures capacity { vec_capacity out.old ≤ vec_capacity out.new }
+    ensures grows { is_short reply.now ≡ true →
+        OnOk result (length out.new.items ≤ length out.old.items + TEXT_ROOM) }
+    ensures room { is_short reply.now ≡ true →
+        OnErr result (vec_capacity out.old < length out.old.items + TEXT_ROOM) }
+    ensures kept { is_short reply.now ≡ true →
+        length out.old.items + TEXT_ROOM ≤ vec_capacity out.old →
+        vec_capacity out.new ≡ vec_capacity out.old }
+    ensures counts { AreWritableCounts roster.now reply.now }
+{
+    match reply {
+        Reply::Hello(who) => put_hello(ids, roster, *who, out),
+        Reply::Bye => put_bye(ids, out),
+        Reply::See(see) => put_see(ids, see, out),
+        Reply::Look(look) => put_look(ids, look, out),
+        Reply::Move {
+            at,
+            place,
+            node,
+            kind,
+        } => put_move(ids, moment_of(at, place), *node, *kind, out),
+        Reply::Close { at, place, moved } => put_close(ids, moment_of(at, place), *moved, out),
+        Reply::Fault {
+            at,
+            place,
+            node,
+            dropped,
+        } => put_fault(ids, moment_of(at, place), *node, *dropped, out),
+        Reply::Link {
+            at,
+            place,
+            a,
+            b,
+            dropped,
+        } => put_link(ids, moment_of(at, place), (*a, *b), *dropped, out),
+        Reply::Cut {
+            at,
+            place,
+            a,
+            b,
+            dropped,
+        } => put_cut(ids, moment_of(at, place), (*a, *b), *dropped, out),
+        Reply::Release { at, place, node } => put_release(ids, moment_of(at, place), *node, out),
+        Reply::Report(report) => put_report(ids, report, out),
+        Reply::Deny(denial) => put_denial(ids, *denial, out),
+        Reply::Refuse(refused) => put_refusal(ids, *refused, out),
+    }
+}
+
+#[tactic(auto, unfolding(crate::specs::Facts::object_text))]
+fn put_hello(ids: &IdTable, roster: &Roster, who: Who, out: &mut Vec<u8>) -> Result<(), Memory>
+    requires { IsPrincipal roster.now who }
+    ensures { Puts (object_text ids.now (hello_fields (name_of roster.now who)))
+        TEXT_ROOM out.old out.new result }
+{
+    put(
+        out,
+        &[
+            Piece::Text("{\"ok\":\"hello\",\"who\":\""),
+            Piece::Text(roster.name_of(who)),
+            Piece::Text("\"}"),
+        ],
+    )
+}
+
+#[tactic(auto, unfolding(crate::specs::Facts::object_text))]
+fn put_see(ids: &IdTable, see: &See, out: &mut Vec<u8>) -> Result<(), Memory>
+    requires { IsSeen ids.now see.now }
+    ensures puts { Puts (object_text ids.now (see_fields see.now)) TEXT_ROOM out.old out.new result }
+    ensures count { see.now.at < 2 ^ 64 }
+{
+    put(
+        out,
+        &[
+            Piece::Text("{\"at\":"),
+            counted(see.at),
+            Piece::Text(",\"m\":"),
+            Piece::Text(truth(see.regs.m)),
+            Piece::Text(",\"node\":"),
+            Piece::Id(ids.node_id(see.node)),
+            Piece::Text(",\"ok\":\"see\",\"p\":"),
+            pointer(ids, see.regs.p),
+            Piece::Text("}"),
+        ],
+    )
+}
+
+fn put_look(ids: &IdTable, look: &Look, out: &mut Vec<u8>) -> Result<(), Memory>
+    requires { IsLookedAt ids.now look.now }
+    ensures text { OnOk result
+        (out.new.items ≡ out.old.items ++ object_text ids.now (look_fields look.now)) }
+    ensures capacity { vec_capacity out.old ≤ vec_capacity out.new }
+    ensures count { look.now.at < 2 ^ 64 }
+{
+    put_look_parts(ids, look, out)
+}
+
+#[tactic(auto, unfolding(crate::specs::inside::Puts::look_parts))]
+fn put_look_parts(ids: &IdTable, look: &Look, out: &mut Vec<u8>) -> Result<(), Memory>
+    requires { IsLookedAt ids.now look.now }
+    ensures text { OnOk result (out.new.items ≡ out.old.items ++ look_parts ids.now look.now) }
+    ensures capacity { vec_capacity out.old ≤ vec_capacity out.new }
+    ensures count { look.now.at < 2 ^ 64 }
+{
+    put_look_head(look, out)?;
+    put_list(ids, look.near.as_slice(), out)?;
+    put_look_tail(ids, look, out)
+}
+
+#[tactic(auto, unfolding(crate::specs::inside::Puts::joined_text))]
+fn put_look_head(look: &Look, out: &mut Vec<u8>) -> Result<(), Memory>
+    ensures text { OnOk result
+        (out.new.items ≡ out.old.items ++ joined_text (look_head look.now)) }
+    ensures capacity { vec_capacity out.old ≤ vec_capacity out.new }
+    ensures count { look.now.at < 2 ^ 64 }
+{
+    put(
+        out,
+        &[
+            Piece::Text("{\"at\":"),
+            counted(look.at),
+            Piece::Text(",\"chosen\":"),
+            Piece::Text(kind_or_null(look.chosen)),
+            Piece::Text(",\"m\":"),
+            Piece::Text(truth(look.regs.m)),
+            Piece::Text(",\"near\":["),
+        ],
+    )
+}
+
+#[tactic(auto, unfolding(crate::specs::inside::Puts::joined_text))]
+fn put_look_tail(ids: &IdTable, look: &Look, out: &mut Vec<u8>) -> Result<(), Memory>
+    requires { IsLookedAt ids.now look.now }
+    ensures text { OnOk result
+        (out.new.items ≡ out.old.items ++ joined_text (look_tail ids.now look.now)) }
+    ensures capacity { vec_capacity out.old ≤ vec_capacity out.new }
+{
+    put(
+        out,
+        &[
+            Piece::Text("],\"node\":"),
+            Piece::Id(ids.node_id(look.node)),
+            Piece::Text(",\"ok\":\"look\",\"p\":"),
+            pointer(ids, look.regs.p),
+            Piece::Text(",\"rule\":"),
+            Piece::Text(kind_or_null(look.enabled)),
+            Piece::Text("}"),
+        ],
+    )
+}
+
+#[tactic(auto, unfolding(crate::specs::Facts::object_text))]
+fn put_move(
+    ids: &IdTable,
+    moment: Moment,
+    node: Rank,
+    kind: Kind,
+    out: &mut Vec<u8>,
+) -> Result<(), Memory>
+    requires { node < length ids.now }
+    ensures { Puts (object_text ids.now
+        (done_fields moment.at moment.place (done.Move node kind)))
+        TEXT_ROOM out.old out.new result }
+{
+    put(
+        out,
+        &[
+            Piece::Text("{\"at\":"),
+            Piece::Number(moment.at),
+            Piece::Text(",\"node\":"),
+            Piece::Id(ids.node_id(node)),
+            Piece::Text(",\"ok\":\"move\",\"place\":"),
+            Piece::Number(moment.place),
+            Piece::Text(",\"rule\":"),
+            Piece::Text(kind_word(kind)),
+            Piece::Text("}"),
+        ],
+    )
+}
+
+#[tactic(auto, unfolding(crate::specs::Facts::object_text))]
+fn put_close(ids: &IdTable, moment: Moment, moved: NodeSet, out: &mut Vec<u8>) -> Result<(), Memory>
+    ensures { Puts (object_text ids.now
+        (done_fields moment.at moment.place (done.Close moved)))
+        TEXT_ROOM out.old out.new result }
+{
+    put(
+        out,
+        &[
+            Piece::Text("{\"at\":"),
+            Piece::Number(moment.at),
+            Piece::Text(",\"moved\":["),
+        ],
+    )?;
+    put_members(ids, moved, out)?;
+    put(
+        out,
+        &[
+            Piece::Text("],\"ok\":\"close\",\"place\":"),
+            Piece::Number(moment.place),
+            Piece::Text("}"),
+        ],
+    )
+}
+
+// An identifier and its comma take 6 bytes at most, and there are 256 nodes at most.
+fn put_members(ids: &IdTable, moved: NodeSet, out: &mut Vec<u8>) -> Result<(), Memory>
+    ensures { Puts (separated (map (node_text ids.now) (members (length ids.now) moved)))
+        1536 out.old out.new result }
+{
+    let mut comma = "";
+    for index in 0..ids.len() {
+        let node = Rank::at(index);
+        if moved.has(node) {
+            put(out, &[Piece::Text(comma), Piece::Id(ids.node_id(node))])?;
+            comma = ",";
+        }
+    }
+    Ok(())
+}
+
+#[tactic(auto, unfolding(crate::specs::Facts::object_text))]
+fn put_fault(
+    ids: &IdTable,
+    moment: Moment,
+    node: Rank,
+    dropped: u16,
+    out: &mut Vec<u8>,
+) -> Result<(), Memory>
+    requires { node < length ids.now }
+    ensures { Puts (object_text ids.now
+        (done_fields moment.at moment.place (done.Fault node dropped)))
+        TEXT_ROOM out.old out.new result }
+{
+    put(
+        out,
+        &[
+            Piece::Text("{\"at\":"),
+            Piece::Number(moment.at),
+            Piece::Text(",\"dropped\":"),
+            Piece::Number(u64::from(dropped)),
+            Piece::Text(",\"node\":"),
+            Piece::Id(ids.node_id(node)),
+            Piece::Text(",\"ok\":\"fault\",\"place\":"),
+            Piece::Number(moment.place),
+            Piece::Text("}"),
+        ],
+    )
+}
+
+fn put_link(
+    ids: &IdTable,
+    moment: Moment,
+    ends: (Rank, Rank),
+    dropped: u16,
+    out: &mut Vec<u8>,
+) -> Result<(), Memory>
+    requires first { ends.0 < length ids.now }
+    requires second { ends.1 < length ids.now }
+    ensures { Puts (object_text ids.now
+        (done_fields moment.at moment.place (done.Link ends.0 ends.1 dropped)))
+        TEXT_ROOM out.old out.new result }
+{
+    put_ends(ids, "link", moment, ends, dropped, out)
+}
+
+fn put_cut(
+    ids: &IdTable,
+    moment: Moment,
+    ends: (Rank, Rank),
+    dropped: u16,
+    out: &mut Vec<u8>,
+) -> Result<(), Memory>
+    requires first { ends.0 < length ids.now }
+    requires second { ends.1 < length ids.now }
+    ensures { Puts (object_text ids.now
+        (done_fields moment.at moment.place (done.Cut ends.0 ends.1 dropped)))
+        TEXT_ROOM out.old out.new result }
+{
+    put_ends(ids, "cut", moment, ends, dropped, out)
+}
+
+#[tactic(auto, unfolding(crate::specs::Facts::object_text))]
+fn put_ends(
+    ids: &IdTable,
+    word: &'static str,
+    moment: Moment,
+    ends: (Rank, Rank),
+    dropped: u16,
+    out: &mut Vec<u8>,
+) -> Result<(), Memory>
+    requires first { ends.0 < length ids.now }
+    requires second { ends.1 < length ids.now }
+    requires word { length word.now ≤ 40 }
+    ensures { Puts (object_text ids.now
+        (ends_fields word.now moment.at moment.place ends.0 ends.1 dropped))
+        TEXT_ROOM out.old out.new result }
+{
+    let (a, b) = ends;
+    put(
+        out,
+        &[
+            Piece::Text("{\"a\":"),
+            Piece::Id(ids.node_id(a)),
+            Piece::Text(",\"at\":"),
+            Piece::Number(moment.at),
+            Piece::Text(",\"b\":"),
+            Piece::Id(ids.node_id(b)),
+            Piece::Text(",\"dropped\":"),
+            Piece::Number(u64::from(dropped)),
+            Piece::Text(",\"ok\":\""),
+            Piece::Text(word),
+            Piece::Text("\",\"place\":"),
+            Piece::Number(moment.place),
+            Piece::Text("}"),
+        ],
+    )
+}
+
+#[tactic(auto, unfolding(crate::specs::Facts::object_text))]
+fn put_release(ids: &IdTable, moment: Moment, node: Rank, out: &mut Vec<u8>) -> Result<(), Memory>
+    requires { node < length ids.now }
+    ensures { Puts (object_text ids.now
+        (done_fields moment.at moment.place (done.Release node)))
+        TEXT_ROOM out.old out.new result }
+{
+    put(
+        out,
+        &[
+            Piece::Text("{\"at\":"),
+            Piece::Number(moment.at),
+            Piece::Text(",\"node\":"),
+            Piece::Id(ids.node_id(node)),
+            Piece::Text(",\"ok\":\"release\",\"place\":"),
+            Piece::Number(moment.place),
+            Piece::Text("}"),
+        ],
+    )
+}
+
+fn put_denial(ids: &IdTable, denial: Denial, out: &mut Vec<u8>) -> Result<(), Memory>
+    ensures puts { Puts (object_text ids.now (deny_fields denial)) TEXT_ROOM out.old out.new result }
+    ensures count { HaveFittingCounts (deny_fields denial) }
+{
+    put_denial_parts(denial, out)
+}
+
+#[tactic(auto, unfolding(crate::specs::inside::Puts::deny_parts))]
+fn put_denial_parts(denial: Denial, out: &mut Vec<u8>) -> Result<(), Memory>
+    ensures puts { Puts (deny_parts denial) TEXT_ROOM out.old out.new result }
+    ensures count { HaveFittingCounts (deny_fields denial) }
+{
+    put_number_first(denial, out)?;
+    put(
+        out,
+        &[
+            Piece::Text("\"clause\":"),
+            Piece::Number(u64::from(denial.clause())),
+            Piece::Text(",\"deny\":\""),
+            Piece::Text(denial.name()),
+            Piece::Text("\",\"text\":\""),
+            Piece::Text(denial.text()),
+            Piece::Text("\"}"),
+        ],
+    )
+}
+
+fn put_number_first(denial: Denial, out: &mut Vec<u8>) -> Result<(), Memory>
+    ensures puts { Puts (number_front (current_number denial)) 40 out.old out.new result }
+    ensures count { HaveFittingCounts (deny_fields denial) }
+{
+    match denial {
+        Denial::Stale(at) => put(
+            out,
+            &[Piece::Text("{\"at\":"), Piece::Number(at), Piece::Text(",")],
+        ),
+        _ => put(out, &[Piece::Text("{")]),
+    }
+}
+
+#[tactic(auto, unfolding(crate::specs::Facts::object_text))]
+fn put_bye(ids: &IdTable, out: &mut Vec<u8>) -> Result<(), Memory>
+    ensures { Puts (object_text ids.now bye_fields) TEXT_ROOM out.old out.new result }
+{
+    put(out, &[Piece::Text("{\"ok\":\"bye\"}")])
+}
+
+#[tactic(auto, unfolding(crate::specs::Facts::object_text))]
+fn put_refusal(ids: &IdTable, refused: Refused, out: &mut Vec<u8>) -> Result<(), Memory>
+    ensures { Puts (object_text ids.now (refuse_fields refused)) TEXT_ROOM out.old out.new result }
+{
+    put(
+        out,
+        &[
+            Piece::Text("{\"refuse\":\""),
+            Piece::Text(refusal_name(refused)),
+            Piece::Text("\"}"),
+        ],
+    )
+}
+
+fn refusal_name(refused: Refused) -> &'static str
+    ensures text { result.now ≡ refusal_name refused }
+    ensures short { length result.now ≤ 40 }
+{
+    match refused {
+        Refused::Malformed => "malformed",
+        Refused::Full => "full",
+        Refused::Journal => "journal",
+        Refused::Memory => "memory",
+    }
+}
+
+// In a contract a number is any; that of a piece fits its type.
+pub(crate) fn counted(count: u64) -> Piece<'static>
+    ensures piece { result ≡ Number count }
+    ensures fits { count < 2 ^ 64 }
+{
+    Piece::Number(count)
+}
+
+pub(crate) fn truth(m: bool) -> &'static str
+    ensures text { result.now ≡ truth_text m }
+    ensures short { length result.now ≤ 5 }
+{
+    if m { "true" } else { "false" }
+}
+
+pub(crate) fn pointer(ids: &IdTable, p: Option<Rank>) -> Piece<'static>
+    requires { IfSome p (λ j. j < length ids.now) }
+    ensures text { piece_text result ≡ pointer_text ids.now p }
+    ensures short { piece_room result ≤ 5 }
+{
+    match p {
+        Some(j) => Piece::Id(ids.node_id(j)),
+        None => Piece::Text("null"),
+    }
+}
+
+pub(crate) fn kind_word(kind: Kind) -> &'static str
+    ensures text { result.now ≡ kind_text kind }
+    ensures short { length result.now ≤ 13 }
+{
+    match kind {
+        Kind::Update => "\"update\"",
+        Kind::Marriage => "\"marriage\"",
+        Kind::Seduction => "\"seduction\"",
+        Kind::Abandonment => "\"abandonment\"",
+    }
+}
+
+fn kind_or_null(kind: Option<Kind>) -> &'static str
+    ensures { result.now ≡ kind_or_null kind }
+{
+    match kind {
+        Some(kind) => kind_word(kind),
+        None => "null",
+    }
+}

@@ -1,0 +1,193 @@
+ghost use Rattle.std.specs.Prelude.{◌≡◌, ◌≢◌, ◌<◌, ◌⊎◌, length, codes, true, false, Err, ok_or};
+ghost use Rattle.mml_ids.specs.Gives.{Gives};
+ghost use Rattle.serde_json.specs.Data.{Data};
+ghost use Rattle.mml_plain.specs.Holds.{Holds};
+ghost use Rattle.mml_plain.specs.PlainLines.{is_plain};
+ghost use Rattle.mml_codec.specs.Requests.{asked_at, node_of, ends_of, hello_of, move_of, fault_of, by_word, request};
+ghost use Rattle.mml_policy.specs.declared.command.Command.TheVariants as command;
+ghost use Rattle.mml_codec.specs.Lines.{is_line_memory, is_hello, request_in};
+ghost use Rattle.mml_codec.specs.inside.Reading.{Reads};
+
+use crate::request::{LineFault, Request};
+use mml_ids::Word;
+use mml_plain::{Fields, LineScratch, read_plain};
+use mml_policy::{Asked, Command};
+use serde_json::Value;
+use std::alloc::Global;
+
+/// The request that a line is. The line comes without its newline.
+pub fn read_request(alloc: Global, line: &[u8]) -> Result<Request, LineFault>
+    ensures { Gives is_line_memory (λ r. r) result (request_in line.now) }
+{
+    let mut scratch = LineScratch::new(alloc, line.len())?;
+    read_request_with(alloc, line, &mut scratch)
+}
+
+/// The same with memory that is kept from line to line: a plain object for which it has room takes
+/// none beside it, but for the words of a hello.
+#[tactic(auto, unfolding(crate::specs::Lines::request_in))]
+pub fn read_request_with(
+    alloc: Global,
+    line: &[u8],
+    scratch: &mut LineScratch,
+) -> Result<Request, LineFault>
+    ensures request { Gives is_line_memory (λ r. r) result (request_in line.now) }
+    ensures memory { result ≡ Err LineFault.Memory → (scratch.old < length line.now)
+        ⊎ ((is_plain line.now ≡ false) ⊎ (is_hello (request_in line.now) ≡ true)) }
+{
+    let mut fields = Fields::empty();
+    if read_plain(line, scratch, &mut fields)? {
+        request(alloc, &fields)
+    } else {
+        read_value(alloc, line)
+    }
+}
+
+/// The request of a line as `serde_json` reads it, for whatever isn't plain.
+#[inline(never)]
+#[tactic(auto, unfolding(crate::specs::Lines::request_in))]
+fn read_value(alloc: Global, line: &[u8]) -> Result<Request, LineFault>
+    ensures { Gives is_line_memory (λ r. r) result (request_in line.now) }
+{
+    match Value::from_slice(alloc, line) {
+        Ok(value) => request(alloc, &Fields::of(&value)),
+        Err(error) => {
+            if error.is_memory() {
+                Err(LineFault::Memory)
+            } else {
+                Err(LineFault::Malformed)
+            }
+        }
+    }
+}
+
+#[tactic(auto, unfolding(crate::specs::Requests::request))]
+fn request(alloc: Global, fields: &Fields<'_>) -> Result<Request, LineFault>
+    ensures { Reads request fields.now result }
+{
+    let word = fields.word.ok_or(LineFault::Malformed)?;
+    by_word(alloc, word, fields)
+}
+
+#[tactic(auto, unfolding(crate::specs::Requests::by_word))]
+fn by_word(alloc: Global, word: &str, fields: &Fields<'_>) -> Result<Request, LineFault>
+    ensures { Reads (by_word word.now) fields.now result }
+{
+    match word {
+        "hello" => hello_of(alloc, fields),
+        _ => well_formed(by_other_word(word, fields)),
+    }
+}
+
+fn well_formed(request: Option<Request>) -> Result<Request, LineFault>
+    ensures request { result ≡ ok_or request LineFault.Malformed }
+    ensures memory { result ≢ Err LineFault.Memory }
+{
+    match request {
+        Some(request) => Ok(request),
+        None => Err(LineFault::Malformed),
+    }
+}
+
+#[tactic(auto, unfolding(crate::specs::Requests::hello_of))]
+fn hello_of(alloc: Global, fields: &Fields<'_>) -> Result<Request, LineFault>
+    ensures { Reads hello_of fields.now result }
+{
+    let name = fields.name.ok_or(LineFault::Malformed)?;
+    let key = fields.key.ok_or(LineFault::Malformed)?;
+    Ok(Request::Hello {
+        name: Word::of(String::from_str(alloc, name)?),
+        key: Word::of(String::from_str(alloc, key)?),
+    })
+}
+
+// What a word asks that takes no memory.
+#[tactic(auto, unfolding(crate::specs::Requests::by_word))]
+fn by_other_word(word: &str, fields: &Fields<'_>) -> Option<Request>
+    requires { word.now ≢ codes "hello" }
+    ensures { (d : Data) → Holds fields.now d → result ≡ by_word word.now d }
+{
+    match word {
+        "bye" => Some(Request::Bye),
+        "see" => see_of(fields),
+        "look" => look_of(fields),
+        "move" => move_of(fields),
+        "close" => Some(Request::Do(Command::Close)),
+        "fault" => fault_of(fields),
+        "link" => link_of(fields),
+        "cut" => cut_of(fields),
+        "release" => release_of(fields),
+        "report" => Some(Request::Do(Command::Report)),
+        _ => None,
+    }
+}
+
+fn see_of(fields: &Fields<'_>) -> Option<Request>
+    ensures { (d : Data) → Holds fields.now d → result ≡ node_of command.See d }
+{
+    let node = fields.node?;
+    Some(Request::Do(Command::See { node }))
+}
+
+fn look_of(fields: &Fields<'_>) -> Option<Request>
+    ensures { (d : Data) → Holds fields.now d → result ≡ node_of command.Look d }
+{
+    let node = fields.node?;
+    Some(Request::Do(Command::Look { node }))
+}
+
+fn link_of(fields: &Fields<'_>) -> Option<Request>
+    ensures { (d : Data) → Holds fields.now d → result ≡ ends_of command.Link d }
+{
+    let a = fields.a?;
+    let b = fields.b?;
+    Some(Request::Do(Command::Link { a, b }))
+}
+
+fn cut_of(fields: &Fields<'_>) -> Option<Request>
+    ensures { (d : Data) → Holds fields.now d → result ≡ ends_of command.Cut d }
+{
+    let a = fields.a?;
+    let b = fields.b?;
+    Some(Request::Do(Command::Cut { a, b }))
+}
+
+fn release_of(fields: &Fields<'_>) -> Option<Request>
+    ensures { (d : Data) → Holds fields.now d → result ≡ node_of command.Release d }
+{
+    let node = fields.node?;
+    Some(Request::Do(Command::Release { node }))
+}
+
+#[tactic(auto, unfolding(crate::specs::Requests::move_of))]
+fn move_of(fields: &Fields<'_>) -> Option<Request>
+    ensures { (d : Data) → Holds fields.now d → result ≡ move_of d }
+{
+    let node = fields.node?;
+    let at = fields.at?;
+    let rule = asked_at(fields)?;
+    Some(Request::Do(Command::Move { node, rule, at }))
+}
+
+#[tactic(auto, unfolding(crate::specs::Requests::asked_at))]
+fn asked_at(fields: &Fields<'_>) -> Option<Asked>
+    ensures { (d : Data) → Holds fields.now d → result ≡ asked_at d }
+{
+    match fields.rule? {
+        "update" => Some(Asked::Update),
+        "marriage" => Some(Asked::Marriage(fields.with?)),
+        "seduction" => Some(Asked::Seduction),
+        "abandonment" => Some(Asked::Abandonment),
+        _ => None,
+    }
+}
+
+#[tactic(auto, unfolding(crate::specs::Requests::fault_of))]
+fn fault_of(fields: &Fields<'_>) -> Option<Request>
+    ensures { (d : Data) → Holds fields.now d → result ≡ fault_of d }
+{
+    let node = fields.node?;
+    let p = fields.p?;
+    let m = fields.m?;
+    Some(Request::Do(Command::Fault { node, p, m }))
+}

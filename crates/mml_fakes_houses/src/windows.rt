@@ -1,0 +1,33 @@
+//! Windows that are taken, looked through and given back.
+ghost use Rattle.std.specs.Prelude.{◌+◌, ◌≤◌, length, IfSome};
+
+use mml_window::{House, Window};
+
+/// Two windows, if there are as many.
+pub fn take_two<H: House>(windows: &mut Vec<Window<H>>) -> Option<(Window<H>, Window<H>)>
+    ensures fewer { length windows.new.items ≤ length windows.old.items }
+    ensures taken { IfSome result (λ _.
+        length windows.new.items + 2 ≤ length windows.old.items) }
+{
+    let one = windows.pop()?;
+    let two = windows.pop()?;
+    Some((one, two))
+}
+
+/// Puts a window back among those that the house will end with, and tells whether there was room.
+pub fn give_back<H: House>(windows: &mut Vec<Window<H>>, window: Window<H>) -> bool
+    ensures { length windows.new.items ≤ length windows.old.items + 1 }
+{
+    windows.push(window).is_ok()
+}
+
+/// How many windows show configuration 0.
+pub fn count_shown<H: House>(windows: &mut [Window<H>]) -> usize {
+    let mut shown = 0usize;
+    for window in windows.iter_mut() {
+        if window.number() == Ok(0) {
+            shown = shown.saturating_add(1);
+        }
+    }
+    shown
+}

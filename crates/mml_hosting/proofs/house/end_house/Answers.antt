@@ -1,9 +1,0 @@
-use Rattle.std.proofs.Common.{rules, ◌≡◌, ◌++◌, List, subst, map}
-use Rattle.mml_window.specs.Windows.{WindowValue}
-use Rattle.mml_window.specs.Logs.{IsLog}
-use Rattle.mml_hosting.proofs.house.end_house.Goals as goal
-
-pub returns-in-Ok-finish-clause-kept : goal.returns-in-Ok-finish-clause-kept
-returns-in-Ok-finish-clause-kept g c =
-    let all : c.append.new.self.items ≡ map (λ p. p.window) c.args.desk_places.items ++ map (λ p. p.window) c.args.places.items = search rules in
-    subst (λ (ws : List WindowValue). IsLog g.H.House.lab g.S.Sink.contents ws c.in-Ok-finish.log) all c.in-Ok-finish.ensures.log

@@ -1,0 +1,387 @@
+//! A port: connections are taken as they come, each to a place that is free.
+ghost use Rattle.std.specs.Prelude.{◌≡◌, ◌<◌, ◌≤◌, ◌+◌, ◌++◌, ℕ, true, false, All, IfOk, IfErr, IfSome, IfNone, [], ◌∷◌, vec_len, vec_capacity};
+ghost use Rattle.std.specs.List.{sum_by};
+ghost use Rattle.std.specs.Thread.{IsSync, IsSend};
+ghost use Rattle.mml_hosting.specs.Places.{IsPlace, came_to};
+ghost use Rattle.mml_hosting.specs.Ports.{ServesPort};
+ghost use Rattle.mml_hosting.specs.Counting.{count_free, count_busy, TakesIn};
+
+use crate::arrivals::{Arrivals, Bell, CutOff, Next};
+use crate::place::{Keep, Place, serve_in, set_mark};
+use mml_ids::Memory;
+use mml_journal::Sink;
+use mml_lines::put_all;
+use mml_serving::HangUp;
+use mml_session::{Gate, Setting};
+use mml_window::{Desk, House};
+use std::alloc::Global;
+use std::io::{Read, Write};
+use std::snapshot::Snapshot;
+use std::sync::Wait;
+use std::sync::atomic::{AtomicU64, Ordering};
+use std::thread;
+use std::thread::{Promise, PromisedHandle, Scope, Threads};
+
+/// What a connection is told for which no place is free.
+pub const BUSY: &[u8] = b"{\"refuse\":\"busy\"}\n";
+
+// That the connection was served in the place.
+#[derive(Drop)]
+struct Pledge<H: House, K: Drop, R: Drop, W: Drop>(Snapshot<Place<H, K>>, Snapshot<(R, W)>);
+
+impl<H: House, K: Keep<R, W> + Drop, R: Read + Drop, W: Write + Drop> Promise<Place<H, K>>
+    for Pledge<H, K, R, W> {
+    ghost use Rattle.std.specs.Prelude.{◌≡◌, ◌++◌, [], ◌∷◌};
+    ghost use Rattle.mml_hosting.specs.Places.{IsPlace, came_to};
+
+    ghost kept_by = { λ pledge p. IsPlace H.lab R.remaining W.contents K.shows p
+        × (came_to K.shows p ≡ came_to K.shows pledge.0.value ++ pledge.1.value ∷ []) };
+}
+
+// A place in which a connection is served.
+#[derive(Drop)]
+struct Busy<H: House, K: Keep<R, W> + Drop, R: Read + Drop, W: Write + Drop, U: Drop> {
+    number: u8,
+    line: U,
+    handle: PromisedHandle<Place<H, K>, Pledge<H, K, R, W>>,
+}
+
+// The first whose thread has come to its end.
+fn first_done<H: House, K: Keep<R, W> + Drop, R: Read + Drop, W: Write + Drop, U: Drop>(
+    busy: &Vec<Busy<H, K, R, W, U>>,
+    marks: &[AtomicU64],
+) -> Option<usize>
+    ensures { IfSome result (λ index. index < vec_len busy.now) }
+{
+    for index in 0..busy.len() {
+        let mark = marks.get(usize::from(busy[index].number));
+        if mark.is_some_and(|mark| mark.load(Ordering::SeqCst) == 1) {
+            return Some(index);
+        }
+    }
+    None
+}
+
+// Waits for one, and gives back its place.
+fn join_one<Rt: Threads, H: House, K: Keep<R, W> + Drop, R: Read + Drop, W: Write + Drop, U: Drop>(
+    rt: &Rt,
+    busy: &mut Vec<Busy<H, K, R, W, U>>,
+    index: usize,
+) -> Place<H, K>
+    requires { index < vec_len busy.old }
+    ensures place { IsPlace H.lab R.remaining W.contents K.shows result }
+    ensures count { (h : R × W → ℕ) →
+        count_busy K.shows h busy.new.items + sum_by h (came_to K.shows result) ≡ count_busy K.shows h busy.old.items }
+    ensures len { vec_len busy.new + 1 ≡ vec_len busy.old }
+    ensures capacity { vec_capacity busy.new ≡ vec_capacity busy.old }
+{
+    let Busy {
+        number: _,
+        line: _,
+        handle,
+    } = busy.swap_remove(index);
+    handle.join(rt)
+}
+
+// The one to wait for next: by the marks the first whose thread has come to its end, and without marks any.
+fn next_to_join<H: House, K: Keep<R, W> + Drop, R: Read + Drop, W: Write + Drop, U: Drop>(
+    busy: &Vec<Busy<H, K, R, W, U>>,
+    marks: Option<&[AtomicU64]>,
+) -> Option<usize>
+    ensures some { IfSome result (λ index. index < vec_len busy.now) }
+    ensures none { IfNone result (IfNone marks.entry (busy.now.items ≡ [])) }
+{
+    match marks {
+        Some(marks) => first_done(busy, marks),
+        None if busy.is_empty() => None,
+        None => Some(0),
+    }
+}
+
+// Takes back the places whose threads have come to their end by the marks. Without marks it waits for all
+// threads, and takes back all places.
+fn gather<Rt: Threads, H: House, K: Keep<R, W> + Drop, R: Read + Drop, W: Write + Drop, U: Drop>(
+    rt: &Rt,
+    free: &mut Vec<Place<H, K>>,
+    busy: &mut Vec<Busy<H, K, R, W, U>>,
+    marks: Option<&[AtomicU64]>,
+)
+    requires places { All (IsPlace H.lab R.remaining W.contents K.shows) free.old.items }
+    requires room { vec_len free.old + vec_len busy.old ≤ vec_capacity free.old }
+    ensures places { All (IsPlace H.lab R.remaining W.contents K.shows) free.new.items }
+    ensures count { (h : R × W → ℕ) → count_free K.shows h free.new.items + count_busy K.shows h busy.new.items
+        ≡ count_free K.shows h free.old.items + count_busy K.shows h busy.old.items }
+    ensures len { vec_len free.new + vec_len busy.new ≡ vec_len free.old + vec_len busy.old }
+    ensures capacity { vec_capacity free.new ≡ vec_capacity free.old }
+    ensures busy_capacity { vec_capacity busy.new ≡ vec_capacity busy.old }
+    ensures all { IfNone marks.entry (busy.new.items ≡ []) }
+{
+    while let Some(index) = next_to_join(busy, marks) {
+        free.push_reserved(join_one(rt, busy, index));
+    }
+}
+
+// A place that is free, where one session more may be served.
+fn next_free<H: House, K: Keep<R, W> + Drop, R: Read + Drop, W: Write + Drop>(
+    free: &mut Vec<Place<H, K>>,
+) -> Option<Place<H, K>>
+    requires places { All (IsPlace H.lab R.remaining W.contents K.shows) free.old.items }
+    ensures place { IfSome result (λ place. IsPlace H.lab R.remaining W.contents K.shows place
+        × (place.is_dismissed ≡ false) × (vec_len place.sessions < vec_capacity place.sessions)) }
+    ensures places { All (IsPlace H.lab R.remaining W.contents K.shows) free.new.items }
+    ensures some { IfSome result (λ place. (vec_len free.new + 1 ≡ vec_len free.old)
+        × ((h : R × W → ℕ) → count_free K.shows h free.new.items + sum_by h (came_to K.shows place)
+        ≡ count_free K.shows h free.old.items)) }
+    ensures none { IfNone result (vec_len free.new ≡ vec_len free.old) }
+    ensures same { IfNone result ((h : R × W → ℕ) →
+        count_free K.shows h free.new.items ≡ count_free K.shows h free.old.items) }
+    ensures capacity { vec_capacity free.new ≡ vec_capacity free.old }
+{
+    let mut place = free.pop()?;
+    if !is_made_ready(&mut place) {
+        free.push_reserved(place);
+        return None;
+    }
+    Some(place)
+}
+
+// Whether one session more may be served in the place. Where it may, there is room for what is kept of it.
+fn is_made_ready<H: House, K: Keep<R, W> + Drop, R: Read + Drop, W: Write + Drop>(
+    place: &mut Place<H, K>,
+) -> bool
+    requires place { IsPlace H.lab R.remaining W.contents K.shows place.old }
+    ensures place { IsPlace H.lab R.remaining W.contents K.shows place.new }
+    ensures came { came_to K.shows place.new ≡ came_to K.shows place.old }
+    ensures ready { result ≡ true → (place.new.is_dismissed ≡ false)
+        × (vec_len place.new.sessions < vec_capacity place.new.sessions) }
+{
+    !place.is_dismissed && place.sessions.reserve(1).is_ok()
+}
+
+// Says that no place is free, and hangs up.
+fn turn_away<R: Drop, W: Write + HangUp + Drop>(ends: (R, W)) {
+    let (_reader, mut writer) = ends;
+    // The other side may be gone.
+    let _ = put_all(&mut writer, BUSY);
+    writer.hang_up();
+}
+
+// Ends all connections that are being served.
+fn cut_off_all<H: House, K: Keep<R, W> + Drop, R: Read + Drop, W: Write + Drop, U: CutOff + Drop>(
+    busy: &Vec<Busy<H, K, R, W, U>>,
+) {
+    for index in 0..busy.len() {
+        busy[index].line.cut_off();
+    }
+}
+
+// A mark for each number that a place may have.
+fn new_marks(alloc: Global) -> Result<Vec<AtomicU64>, Memory> {
+    let mut marks = Vec::new(alloc);
+    for _ in 0..256u16 {
+        if marks.push(AtomicU64::new(0)).is_err() {
+            return Err(Memory);
+        }
+    }
+    Ok(marks)
+}
+
+// What the threads of a port share.
+#[derive(Drop)]
+struct Shared<'s, Rt, S: Sink, H: House, G, B> {
+    rt: &'s Rt,
+    alloc: Global,
+    desk: &'s Desk<S, H>,
+    gate: &'s G,
+    bell: &'s B,
+    // By the number of a place, whether its thread has come to its end.
+    marks: &'s [AtomicU64],
+}
+
+impl<
+    's,
+    Rt: Threads + Wait + Sync + 's,
+    S: Sink + Send + Drop + 's,
+    H: House + Send + Sync + 's,
+    G: Gate + Sync + 's,
+    B: Bell + Sync + 's,
+> Shared<'s, Rt, S, H, G, B> {
+    // Serves a connection in a place: in a thread of its own, or at once where none can be made.
+    fn serve_apart<
+        E,
+        K: Keep<R, W> + Send + Drop + 's,
+        R: Read + Send + Drop + 's,
+        W: Write + HangUp + Send + Drop + 's,
+    >(
+        &self,
+        scope: &Scope<'s, E>,
+        place: Place<H, K>,
+        ends: (R, W),
+    ) -> Result<PromisedHandle<Place<H, K>, Pledge<H, K, R, W>>, Place<H, K>>
+        requires place { IsPlace H.lab R.remaining W.contents K.shows place }
+        requires open { place.is_dismissed ≡ false }
+        requires room { vec_len place.sessions < vec_capacity place.sessions }
+        ensures pledged { IfOk result (λ handle. (handle.promise.0.value ≡ place)
+            × (handle.promise.1.value ≡ ends)) }
+        ensures served { IfErr result (λ served. IsPlace H.lab R.remaining W.contents K.shows served
+            × (came_to K.shows served ≡ came_to K.shows place ++ ends ∷ [])) }
+    {
+        let rt = self.rt;
+        let alloc = self.alloc;
+        let desk = self.desk;
+        let gate = self.gate;
+        let bell = self.bell;
+        let marks = self.marks;
+        set_mark(marks, place.number, 0);
+        let pledge = Pledge(Snapshot::of(&place), Snapshot::of(&ends));
+        match scope.spawn_with(
+            pledge,
+            move || -> Place<H, K>
+                requires { IsPlace H.lab R.remaining W.contents K.shows place
+                    × (place.is_dismissed ≡ false)
+                    × (vec_len place.sessions < vec_capacity place.sessions) }
+                ensures { IsPlace H.lab R.remaining W.contents K.shows result
+                    × (came_to K.shows result ≡ came_to K.shows place ++ ends ∷ []) }
+            {
+                let setting = Setting { rt, alloc, desk };
+                let place = serve_in(&setting, place, ends, gate, marks);
+                bell.ring(place.is_dismissed);
+                place
+            },
+        ) {
+            Ok(handle) => Ok(handle),
+            Err(refused) => Err((refused.value)()),
+        }
+    }
+
+    // Serves a connection in a place that is free, and turns it away where none is.
+    fn take_in<
+        E,
+        K: Keep<R, W> + Send + Drop + 's,
+        R: Read + Send + Drop + 's,
+        W: Write + HangUp + Send + Drop + 's,
+        U: CutOff + Drop,
+    >(
+        &self,
+        scope: &Scope<'s, E>,
+        free: &mut Vec<Place<H, K>>,
+        busy: &mut Vec<Busy<H, K, R, W, U>>,
+        ends: (R, W),
+        line: U,
+    )
+        requires places { All (IsPlace H.lab R.remaining W.contents K.shows) free.old.items }
+        requires room { vec_len free.old + vec_len busy.old ≤ vec_capacity free.old }
+        requires busy_room { vec_len free.old + vec_len busy.old ≤ vec_capacity busy.old }
+        ensures places { All (IsPlace H.lab R.remaining W.contents K.shows) free.new.items }
+        ensures takes { TakesIn K.shows ends free.old.items busy.old.items
+            free.new.items busy.new.items }
+        ensures len { vec_len free.new + vec_len busy.new ≡ vec_len free.old + vec_len busy.old }
+        ensures capacity { vec_capacity free.new ≡ vec_capacity free.old }
+        ensures busy_capacity { vec_capacity busy.new ≡ vec_capacity busy.old }
+    {
+        gather(self.rt, free, busy, Some(self.marks));
+        let Some(place) = next_free(free) else {
+            turn_away(ends);
+            return;
+        };
+        let number = place.number;
+        match self.serve_apart(scope, place, ends) {
+            Ok(handle) => busy.push_reserved(Busy {
+                number,
+                line,
+                handle,
+            }),
+            Err(place) => free.push_reserved(place),
+        }
+    }
+
+    // Serves those who come until no more are to be served, and then waits for the threads.
+    fn serve_until_over<
+        E,
+        K: Keep<R, W> + Send + Drop + 's,
+        R: Read + Send + Drop + 's,
+        W: Write + HangUp + Send + Drop + 's,
+        U: CutOff + Drop,
+        A: Arrivals<R, W, U> + Drop,
+    >(
+        &self,
+        scope: &Scope<'s, E>,
+        places: Vec<Place<H, K>>,
+        arrivals: A,
+    ) -> Result<Vec<Place<H, K>>, Memory>
+        requires places { All (IsPlace H.lab R.remaining W.contents K.shows) places.items }
+        ensures { IfOk result (λ ps. ServesPort H.lab R.remaining W.contents K.shows
+            (A.to_come arrivals) places.items ps.items) }
+    {
+        let mut arrivals = arrivals;
+        let mut free = places;
+        let mut busy = Vec::with_capacity(self.alloc, free.len())?;
+        // There is room for all that are in it.
+        free.reserve(0)?;
+        for _ in self.rt.forever() {
+            match arrivals.accept_next() {
+                Next::Came(ends, line) => self.take_in(scope, &mut free, &mut busy, ends, line),
+                Next::Nobody => gather(self.rt, &mut free, &mut busy, Some(self.marks)),
+                Next::Over => break,
+            }
+        }
+        // Who waits at the port is let go of before the sessions are waited for.
+        drop(arrivals);
+        cut_off_all(&busy);
+        gather(self.rt, &mut free, &mut busy, None);
+        Ok(free)
+    }
+}
+
+/// Takes connections as they come, each to a place that is free, where a thread of its own serves it,
+/// and turns away those for which none is. At the end all that are still served are hung up, and all
+/// threads have ended when it returns.
+pub fn serve_port<
+    Rt: Threads + Wait + Sync,
+    S: Sink + Send + Drop,
+    H: House + Send + Sync,
+    K: Keep<R, W> + Send + Drop,
+    R: Read + Send + Drop,
+    W: Write + HangUp + Send + Drop,
+    U: CutOff + Drop,
+    A: Arrivals<R, W, U> + Drop,
+    G: Gate + Sync,
+    B: Bell + Sync,
+>(
+    setting: &Setting<'_, Rt, S, H>,
+    places: Vec<Place<H, K>>,
+    arrivals: A,
+    gate: &G,
+    bell: &B,
+) -> Result<Vec<Place<H, K>>, Memory>
+    requires places { All (IsPlace H.lab R.remaining W.contents K.shows) places.items }
+    ensures serves { IfOk result (λ ps. ServesPort H.lab R.remaining W.contents K.shows
+        (A.to_come arrivals) places.items ps.items) }
+{
+    let rt = setting.rt;
+    let alloc = setting.alloc;
+    let desk = setting.desk;
+    let marks = new_marks(alloc)?;
+    let marks = marks.as_slice();
+    thread::scope(
+        thread::scope_env(),
+        rt,
+        |scope| -> Result<Vec<Place<H, K>>, Memory>
+            requires { IsSync Rt.row × IsSync G.row × IsSync B.row × IsSend S.row × IsSend H.row
+                × IsSync H.row × IsSend K.row × IsSend R.row × IsSend W.row
+                × All (IsPlace H.lab R.remaining W.contents K.shows) places.items }
+            ensures { IfOk result (λ ps. ServesPort H.lab R.remaining W.contents K.shows
+                (A.to_come arrivals) places.items ps.items) }
+        {
+            let shared = Shared {
+                rt,
+                alloc,
+                desk,
+                gate,
+                bell,
+                marks,
+            };
+            shared.serve_until_over(scope, places, arrivals)
+        },
+    )
+}

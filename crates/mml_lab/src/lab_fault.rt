@@ -1,0 +1,98 @@
+ghost use Rattle.std.specs.Prelude.{◌≡◌};
+ghost use Rattle.mml_lab.specs.declared.lab_fault.LabFault.TheVariants.{Memory};
+
+use mml_ids::IdFault;
+use std::alloc::{AllocError, AllocFailed};
+
+/// A place of the lab file, in the order in which the places are read.
+#[derive(Clone, Copy, Debug, PartialEq, Eq)]
+pub enum Key {
+    /// `events`: how many events a run may have at most.
+    Events,
+    /// `sessions`: how many connections there may be at once.
+    Sessions,
+    /// The table `teacher`.
+    Teacher,
+    TeacherName,
+    TeacherKey,
+    /// The array `student`, or an element of it.
+    Student,
+    StudentName,
+    StudentKey,
+    /// The array `node`, or an element of it.
+    Node,
+    NodeId,
+    NodeOwner,
+    NodeOwners,
+    NodeP,
+    NodeM,
+    /// The array `links`.
+    Links,
+    /// An element of `links`.
+    Link,
+}
+
+/// Why bytes are no lab: the first error. Indices of nodes and links count from 0 in the file's order; of
+/// those who take part the teacher has 0, and the students count from 1.
+#[derive(Clone, Copy, Debug, PartialEq, Eq)]
+pub enum LabFault {
+    /// The bytes are no TOML document.
+    NotToml,
+    /// The key isn't there.
+    Missing(Key),
+    /// What stands under the key is of another kind.
+    WrongKind(Key),
+    /// A node has both keys, `owner` and `owners`.
+    BothOwners(usize),
+    /// The nodes' identifiers are none of one network; never out of memory.
+    Id(IdFault),
+    /// A name or a key isn't of its form.
+    Name(usize),
+    /// A name stood before: the index is that of the later one.
+    NameTwice(usize),
+    /// Some owner of a node is no student.
+    NoOwner(usize),
+    /// Both owners of a node are one student.
+    OwnerTwice(usize),
+    /// An end of a link is no node.
+    LinkEnd(usize),
+    /// Both ends of a link are one node.
+    Loop(usize),
+    /// A link stood before, in this order of its ends or the other.
+    LinkTwice(usize),
+    /// A node points at one that isn't its neighbour.
+    BadPointer(usize),
+    /// A number is out of its range: that of the events, of the sessions or of the students.
+    Limit(Key),
+    /// A growth was refused.
+    Memory,
+}
+
+impl From<IdFault> for LabFault {
+    ghost use Rattle.mml_lab.specs.Faults.{id_fault_as};
+
+    ghost from_gives = { λ fault e. e ≡ id_fault_as fault };
+
+    fn from(fault: IdFault) -> LabFault {
+        match fault {
+            IdFault::Memory => LabFault::Memory,
+            _ => LabFault::Id(fault),
+        }
+    }
+}
+
+impl From<AllocError> for LabFault {
+    ghost from_gives = { λ _ e. e ≡ Memory };
+
+    fn from(_e: AllocError) -> LabFault {
+        LabFault::Memory
+    }
+}
+
+impl<T: Drop> From<AllocFailed<T>> for LabFault {
+    ghost from_gives = { λ _ e. e ≡ Memory };
+
+    fn from(_e: AllocFailed<T>) -> LabFault {
+        LabFault::Memory
+    }
+}

@@ -1,0 +1,20 @@
+//! From the bytes of a file to the lab.
+ghost use Rattle.mml_ids.specs.Gives.{Gives};
+ghost use Rattle.mml_lab.specs.Shape.{is_lab_memory};
+ghost use Rattle.mml_lab.specs.Labs.{lab_of};
+
+use crate::build::build;
+use crate::checks::check;
+use crate::lab::Lab;
+use crate::lab_fault::LabFault;
+use crate::raw_lab::read_bytes;
+use std::alloc::Global;
+
+/// The lab of a TOML document, or its first error in the order of `LabFault`.
+pub fn read_lab(alloc: Global, bytes: &[u8]) -> Result<Lab, LabFault>
+    ensures { Gives is_lab_memory (λ lab. lab) result (lab_of bytes.now) }
+{
+    let raw = read_bytes(alloc, bytes)?;
+    let checked = check(alloc, raw)?;
+    build(alloc, checked)
+}

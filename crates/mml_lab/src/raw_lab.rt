@@ -1,0 +1,394 @@
+ghost use Rattle.std.specs.Prelude.{◌≡◌, map, string_bytes, codes, Some, None, Ok, Err, option_map, ok_or};
+ghost use Rattle.mml_ids.specs.Gives.{Gives};
+ghost use Rattle.toml.specs.Data.{as_str, as_integer, as_bool, as_table, as_array, get_member};
+ghost use Rattle.toml.specs.View.{view, table_view, array_view};
+ghost use Rattle.mml_lab.specs.Shape.{is_lab_memory, need, needed, of_kind, optional_of, optional, names_of, owner_names, each, account_in, student_of};
+ghost use Rattle.mml_lab.specs.Shape.{node_of, link_of, links_of, teacher_of, students_of, nodes_of, raw_of, two_of, spelled};
+ghost use Rattle.mml_lab.specs.inside.Raw.{account_view, node_view, raw_view};
+
+use crate::MAX_OWNERS;
+use crate::lab_fault::{Key, LabFault};
+use std::alloc::Global;
+use toml::value::Array;
+use toml::{Table, Value};
+
+/// A name and a key.
+#[derive(Debug, Drop)]
+pub struct Account {
+    pub name: String,
+    pub key: String,
+}
+
+/// A node as the file spells it: its identifier, the names of its owners, and its registers.
+#[derive(Drop)]
+pub struct RawNode {
+    pub id: i64,
+    pub owners: Vec<String>,
+    /// Whether it has both keys, `owner` and `owners`.
+    pub both: bool,
+    pub p: Option<i64>,
+    pub m: bool,
+}
+
+/// What the file spells, before its values are compared with one another.
+#[derive(Drop)]
+pub struct RawLab {
+    pub events: i64,
+    pub sessions: i64,
+    pub teacher: Account,
+    pub students: Vec<Account>,
+    pub nodes: Vec<RawNode>,
+    pub links: Vec<(i64, i64)>,
+}
+
+fn find<'a>(table: &'a Table, name: &str) -> Option<&'a Value>
+    ensures { option_map (λ v. view v.now) result ≡ get_member name.now (table_view table.now) }
+{
+    table.get(name)
+}
+
+fn value_at<'a>(table: &'a Table, name: &str, key: Key) -> Result<&'a Value, LabFault>
+    ensures { Gives is_lab_memory (λ v. view v.now) result (need key name.now (table_view table.now)) }
+{
+    match find(table, name) {
+        Some(value) => Ok(value),
+        None => Err(LabFault::Missing(key)),
+    }
+}
+
+fn integer(value: &Value, key: Key) -> Result<i64, LabFault>
+    ensures { Gives is_lab_memory (λ z. z) result (of_kind key as_integer (view value.now)) }
+{
+    match value.as_integer() {
+        Some(z) => Ok(z),
+        None => Err(LabFault::WrongKind(key)),
+    }
+}
+
+fn boolean(value: &Value, key: Key) -> Result<bool, LabFault>
+    ensures { Gives is_lab_memory (λ b. b) result (of_kind key as_bool (view value.now)) }
+{
+    match value.as_bool() {
+        Some(b) => Ok(b),
+        None => Err(LabFault::WrongKind(key)),
+    }
+}
+
+fn text(alloc: Global, value: &Value, key: Key) -> Result<String, LabFault>
+    ensures { Gives is_lab_memory string_bytes result (of_kind key as_str (view value.now)) }
+{
+    match value.as_str() {
+        Some(s) => Ok(String::from_str(alloc, s)?),
+        None => Err(LabFault::WrongKind(key)),
+    }
+}
+
+fn table_of(value: &Value, key: Key) -> Result<&Table, LabFault>
+    ensures { Gives is_lab_memory (λ t. table_view t.now) result (of_kind key as_table (view value.now)) }
+{
+    match value.as_table() {
+        Some(t) => Ok(t),
+        None => Err(LabFault::WrongKind(key)),
+    }
+}
+
+fn array_of(value: &Value, key: Key) -> Result<&Array, LabFault>
+    ensures { Gives is_lab_memory (λ t. array_view t.now) result (of_kind key as_array (view value.now)) }
+{
+    match value.as_array() {
+        Some(t) => Ok(t),
+        None => Err(LabFault::WrongKind(key)),
+    }
+}
+
+fn integer_at(table: &Table, name: &str, key: Key) -> Result<i64, LabFault>
+    ensures { Gives is_lab_memory (λ z. z) result
+        (needed key name.now as_integer (table_view table.now)) }
+{
+    integer(value_at(table, name, key)?, key)
+}
+
+fn text_at(alloc: Global, table: &Table, name: &str, key: Key) -> Result<String, LabFault>
+    ensures { Gives is_lab_memory string_bytes result
+        (needed key name.now as_str (table_view table.now)) }
+{
+    text(alloc, value_at(table, name, key)?, key)
+}
+
+fn table_at<'a>(table: &'a Table, name: &str, key: Key) -> Result<&'a Table, LabFault>
+    ensures { Gives is_lab_memory (λ t. table_view t.now) result
+        (needed key name.now as_table (table_view table.now)) }
+{
+    table_of(value_at(table, name, key)?, key)
+}
+
+fn array_at<'a>(table: &'a Table, name: &str, key: Key) -> Result<&'a Array, LabFault>
+    ensures { Gives is_lab_memory (λ t. array_view t.now) result
+        (needed key name.now as_array (table_view table.now)) }
+{
+    array_of(value_at(table, name, key)?, key)
+}
+
+#[tactic(auto, unfolding(crate::specs::Shape::account_in))]
+fn account_at(
+    alloc: Global,
+    table: &Table,
+    name_key: Key,
+    key_key: Key,
+) -> Result<Account, LabFault>
+    ensures { Gives is_lab_memory account_view result
+        (account_in name_key key_key (table_view table.now)) }
+{
+    let name = text_at(alloc, table, "name", name_key)?;
+    let key = text_at(alloc, table, "key", key_key)?;
+    Ok(Account { name, key })
+}
+
+#[tactic(auto, unfolding(crate::specs::Shape::student_of))]
+fn student(alloc: Global, value: &Value) -> Result<Account, LabFault>
+    ensures { Gives is_lab_memory account_view result (student_of (view value.now)) }
+{
+    let table = table_of(value, Key::Student)?;
+    account_at(alloc, table, Key::StudentName, Key::StudentKey)
+}
+
+fn students(alloc: Global, list: &Array) -> Result<Vec<Account>, LabFault>
+    ensures { Gives is_lab_memory (λ v. map account_view v.items) result
+        (each student_of (array_view list.now)) }
+{
+    let mut found = Vec::new(alloc);
+    for value in list {
+        found.push(student(alloc, value)?)?;
+    }
+    Ok(found)
+}
+
+fn optional_integer(table: &Table, name: &str, key: Key) -> Result<Option<i64>, LabFault>
+    ensures { Gives is_lab_memory (λ z. z) result
+        (optional_of key as_integer (get_member name.now (table_view table.now))) }
+{
+    match find(table, name) {
+        Some(v) => Ok(Some(integer(v, key)?)),
+        None => Ok(None),
+    }
+}
+
+fn optional_boolean(table: &Table, name: &str, key: Key) -> Result<Option<bool>, LabFault>
+    ensures { Gives is_lab_memory (λ z. z) result
+        (optional_of key as_bool (get_member name.now (table_view table.now))) }
+{
+    match find(table, name) {
+        Some(v) => Ok(Some(boolean(v, key)?)),
+        None => Ok(None),
+    }
+}
+
+fn optional_text(
+    alloc: Global,
+    table: &Table,
+    name: &str,
+    key: Key,
+) -> Result<Option<String>, LabFault>
+    ensures { Gives is_lab_memory (option_map string_bytes) result
+        (optional_of key as_str (get_member name.now (table_view table.now))) }
+{
+    match find(table, name) {
+        Some(v) => Ok(Some(text(alloc, v, key)?)),
+        None => Ok(None),
+    }
+}
+
+fn texts(alloc: Global, list: &Array, key: Key) -> Result<Vec<String>, LabFault>
+    ensures { Gives is_lab_memory (λ v. map string_bytes v.items) result
+        (each (of_kind key as_str) (array_view list.now)) }
+{
+    let mut found = Vec::new(alloc);
+    for value in list {
+        found.push(text(alloc, value, key)?)?;
+    }
+    Ok(found)
+}
+
+#[tactic(auto, unfolding(crate::specs::Shape::names_of))]
+fn names(alloc: Global, value: &Value) -> Result<Vec<String>, LabFault>
+    ensures { Gives is_lab_memory (λ v. map string_bytes v.items) result (names_of (view value.now)) }
+{
+    let names = texts(alloc, array_of(value, Key::NodeOwners)?, Key::NodeOwners)?;
+    if names.is_empty() || names.len() as u64 > MAX_OWNERS {
+        return Err(LabFault::WrongKind(Key::NodeOwners));
+    }
+    Ok(names)
+}
+
+fn optional_names(alloc: Global, table: &Table) -> Result<Option<Vec<String>>, LabFault>
+    ensures { Gives is_lab_memory (option_map (λ v. map string_bytes v.items)) result
+        (optional names_of (get_member (codes "owners") (table_view table.now))) }
+{
+    match find(table, "owners") {
+        Some(v) => Ok(Some(names(alloc, v)?)),
+        None => Ok(None),
+    }
+}
+
+fn owner_names(
+    alloc: Global,
+    owner: Option<String>,
+    owners: Option<Vec<String>>,
+) -> Result<Vec<String>, LabFault>
+    ensures { Gives is_lab_memory (λ v. map string_bytes v.items) result (ok_or
+        (owner_names (option_map string_bytes owner) (option_map (λ v. map string_bytes v.items) owners))
+        (LabFault.Missing Key.NodeOwner)) }
+{
+    if let Some(names) = owners {
+        return Ok(names);
+    }
+    match owner {
+        Some(name) => {
+            let mut names = Vec::new(alloc);
+            names.push(name)?;
+            Ok(names)
+        }
+        None => Err(LabFault::Missing(Key::NodeOwner)),
+    }
+}
+
+#[tactic(auto, unfolding(crate::specs::Shape::node_of))]
+fn node(alloc: Global, value: &Value) -> Result<RawNode, LabFault>
+    ensures { Gives is_lab_memory node_view result (node_of (view value.now)) }
+{
+    let table = table_of(value, Key::Node)?;
+    let id = integer_at(table, "id", Key::NodeId)?;
+    let owner = optional_text(alloc, table, "owner", Key::NodeOwner)?;
+    let owners = optional_names(alloc, table)?;
+    let both = owner.is_some() && owners.is_some();
+    let owners = owner_names(alloc, owner, owners)?;
+    let p = optional_integer(table, "p", Key::NodeP)?;
+    let m = optional_boolean(table, "m", Key::NodeM)?.unwrap_or(false);
+    Ok(RawNode {
+        id,
+        owners,
+        both,
+        p,
+        m,
+    })
+}
+
+fn nodes(alloc: Global, list: &Array) -> Result<Vec<RawNode>, LabFault>
+    ensures { Gives is_lab_memory (λ v. map node_view v.items) result
+        (each node_of (array_view list.now)) }
+{
+    let mut found = Vec::new(alloc);
+    for value in list {
+        found.push(node(alloc, value)?)?;
+    }
+    Ok(found)
+}
+
+fn two_of(list: &Array) -> Result<(&Value, &Value), LabFault>
+    ensures { Gives is_lab_memory (λ e. (view e.0.now, view e.1.now)) result
+        (ok_or (two_of (array_view list.now)) (LabFault.WrongKind Key.Link)) }
+{
+    if list.len() != 2 {
+        return Err(LabFault::WrongKind(Key::Link));
+    }
+    let first = &list[0];
+    let second = &list[1];
+    Ok((first, second))
+}
+
+#[tactic(auto, unfolding(crate::specs::Shape::link_of))]
+fn link(value: &Value) -> Result<(i64, i64), LabFault>
+    ensures { Gives is_lab_memory (λ e. e) result (link_of (view value.now)) }
+{
+    let (a, b) = two_of(array_of(value, Key::Link)?)?;
+    let a = integer(a, Key::Link)?;
+    let b = integer(b, Key::Link)?;
+    Ok((a, b))
+}
+
+fn links(alloc: Global, list: &Array) -> Result<Vec<(i64, i64)>, LabFault>
+    ensures { Gives is_lab_memory (λ v. v.items) result (each link_of (array_view list.now)) }
+{
+    let mut found = Vec::new(alloc);
+    for value in list {
+        found.push(link(value)?)?;
+    }
+    Ok(found)
+}
+
+fn links_at(alloc: Global, table: &Table) -> Result<Vec<(i64, i64)>, LabFault>
+    ensures { Gives is_lab_memory (λ v. v.items) result
+        (links_of (get_member (codes "links") (table_view table.now))) }
+{
+    match find(table, "links") {
+        Some(value) => links(alloc, array_of(value, Key::Links)?),
+        None => Ok(Vec::new(alloc)),
+    }
+}
+
+/// The name and key under `teacher`.
+#[tactic(auto, unfolding(crate::specs::Shape::teacher_of))]
+fn teacher_at(alloc: Global, table: &Table) -> Result<Account, LabFault>
+    ensures { Gives is_lab_memory account_view result (teacher_of (table_view table.now)) }
+{
+    let teacher = table_at(table, "teacher", Key::Teacher)?;
+    account_at(alloc, teacher, Key::TeacherName, Key::TeacherKey)
+}
+
+/// The names and keys under `student`, in order.
+#[tactic(auto, unfolding(crate::specs::Shape::students_of))]
+fn students_at(alloc: Global, table: &Table) -> Result<Vec<Account>, LabFault>
+    ensures { Gives is_lab_memory (λ v. map account_view v.items) result
+        (students_of (table_view table.now)) }
+{
+    let list = array_at(table, "student", Key::Student)?;
+    students(alloc, list)
+}
+
+/// The nodes under `node`, in order.
+#[tactic(auto, unfolding(crate::specs::Shape::nodes_of))]
+fn nodes_at(alloc: Global, table: &Table) -> Result<Vec<RawNode>, LabFault>
+    ensures { Gives is_lab_memory (λ v. map node_view v.items) result
+        (nodes_of (table_view table.now)) }
+{
+    let list = array_at(table, "node", Key::Node)?;
+    nodes(alloc, list)
+}
+
+/// What a document's table spells. The first key that is missing or of the wrong kind is the error.
+#[tactic(auto, unfolding(crate::specs::Shape::raw_of))]
+pub fn read_raw(alloc: Global, table: &Table) -> Result<RawLab, LabFault>
+    ensures { Gives is_lab_memory raw_view result (raw_of (table_view table.now)) }
+{
+    let events = integer_at(table, "events", Key::Events)?;
+    let sessions = integer_at(table, "sessions", Key::Sessions)?;
+    let teacher = teacher_at(alloc, table)?;
+    let students = students_at(alloc, table)?;
+    let nodes = nodes_at(alloc, table)?;
+    let links = links_at(alloc, table)?;
+    Ok(RawLab {
+        events,
+        sessions,
+        teacher,
+        students,
+        nodes,
+        links,
+    })
+}
+
+/// What the bytes of a lab file spell.
+#[tactic(auto, unfolding(crate::specs::Shape::spelled))]
+pub fn read_bytes(alloc: Global, bytes: &[u8]) -> Result<RawLab, LabFault>
+    ensures { Gives is_lab_memory raw_view result (spelled bytes.now) }
+{
+    match toml::table_from_slice(alloc, bytes) {
+        Ok(table) => read_raw(alloc, &table),
+        Err(e) => {
+            if e.is_memory() {
+                Err(LabFault::Memory)
+            } else {
+                Err(LabFault::NotToml)
+            }
+        }
+    }
+}

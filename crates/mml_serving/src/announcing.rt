@@ -1,0 +1,83 @@
+//! What a server says of itself: where it listens, and at the end what was done.
+ghost use Rattle.std.specs.Prelude.{◌≡◌, false, length, IfErr, OnOk};
+ghost use Rattle.std.specs.Io.KnownBytes.{Appends};
+ghost use Rattle.mml_ids.specs.Pieces.{joined};
+ghost use Rattle.mml_serving.specs.Closings.{IsCutShort, LacksLastLine, done_line, listening_line};
+
+use crate::serving::ServeFault;
+use mml_ids::{Piece, put};
+use mml_lines::put_all;
+use mml_window::Log;
+use std::alloc::Global;
+use std::io::Write;
+
+/// Writes the first line, which names the port.
+pub fn write_listening<W: Write>(alloc: Global, port: u16, writer: &mut W) -> Result<(), ServeFault>
+    ensures { OnOk result
+        (Appends (W.contents writer.old) (W.contents writer.new) (listening_line port)) }
+{
+    let pieces = [
+        Piece::Text("listening on port "),
+        Piece::Number(port as u64),
+        Piece::Text("\n"),
+    ];
+    write_pieces(alloc, &pieces, writer)
+}
+
+/// Writes the last line, unless the journal was halted.
+pub fn write_last<S, W: Write>(
+    alloc: Global,
+    log: &Log<S>,
+    writer: &mut W,
+) -> Result<(), ServeFault>
+    ensures unhalted { OnOk result (log.now.halted ≡ false) }
+    ensures told { OnOk result (Appends (W.contents writer.old) (W.contents writer.new)
+        (done_line (length log.now.events) log.now.board.number)) }
+    ensures lacking { IfErr result (LacksLastLine log.now.halted (W.contents writer.old)
+        (W.contents writer.new) (done_line (length log.now.events) log.now.board.number)) }
+{
+    if log.halted {
+        return Err(ServeFault::Halted);
+    }
+    let events = log.events.as_slice().len() as u64;
+    write_done(alloc, events, log.board.number(), writer)
+}
+
+// Writes the last line of so many events.
+fn write_done<W: Write>(
+    alloc: Global,
+    events: u64,
+    number: u64,
+    writer: &mut W,
+) -> Result<(), ServeFault>
+    ensures told { OnOk result
+        (Appends (W.contents writer.old) (W.contents writer.new) (done_line events number)) }
+    ensures cut { IfErr result
+        (IsCutShort (W.contents writer.old) (W.contents writer.new) (done_line events number)) }
+{
+    let pieces = [
+        Piece::Text("done: "),
+        Piece::Number(events),
+        Piece::Text(" events, configuration "),
+        Piece::Number(number),
+        Piece::Text("\n"),
+    ];
+    write_pieces(alloc, &pieces, writer)
+}
+
+// Writes a text in one go.
+fn write_pieces<W: Write>(alloc: Global, pieces: &[Piece], writer: &mut W) -> Result<(), ServeFault>
+    ensures told { OnOk result
+        (Appends (W.contents writer.old) (W.contents writer.new) (joined pieces.now)) }
+    ensures cut { IfErr result
+        (IsCutShort (W.contents writer.old) (W.contents writer.new) (joined pieces.now)) }
+{
+    let mut text = Vec::new(alloc);
+    if put(&mut text, pieces).is_err() {
+        return Err(ServeFault::Memory);
+    }
+    match put_all(writer, &text) {
+        Ok(()) => Ok(()),
+        Err(_) => Err(ServeFault::Write),
+    }
+}

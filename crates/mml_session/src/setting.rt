@@ -1,0 +1,11 @@
+use mml_journal::Sink;
+use mml_window::{Desk, House};
+use std::alloc::Global;
+
+/// What all sessions of a house are held with: the runtime, memory, and the desk where acts are asked.
+#[derive(Drop)]
+pub struct Setting<'a, Rt, S: Sink, H: House> {
+    pub rt: &'a Rt,
+    pub alloc: Global,
+    pub desk: &'a Desk<S, H>,
+}

@@ -1,5 +1,0 @@
-use Rattle.mml_tests_hostile.proofs.writers.told_of_a_lost_reply.Given as goal
-
--- the house that was just opened
-abbrev pub ghosts-in_house : goal.ghosts-in_house
-ghosts-in_house g a = record { name = a.blank.name; lab = a.blank.lab }

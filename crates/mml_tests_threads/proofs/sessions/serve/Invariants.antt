@@ -1,5 +1,0 @@
-use Rattle.mml_tests_threads.proofs.sessions.serve.Given as goal
-
--- the house that was just opened
-abbrev pub ghosts-serve_in : goal.ghosts-serve_in
-ghosts-serve_in g a = record { name = a.blank.name; lab = a.blank.lab }
