@@ -9,9 +9,12 @@ from pathlib import Path
 PROC = Path("/proc")
 ESTABLISHED, LISTENING = "01", "0A"
 PAUSE = 1.0  # seconds between two looks
+AGAIN = 0.02  # seconds between two readings of one look
+READINGS = 5
+Row = tuple[int, int, str, str]
 
 
-def rows() -> Iterator[tuple[int, int, str, str]]:
+def rows() -> Iterator[Row]:
     """Each of the system's TCP connections: its own port, the other one, its state, its number."""
     for line in (PROC / "net/tcp").read_text(encoding="ascii").splitlines()[1:]:
         _, own, other, state, *_, = words = line.split()
@@ -61,15 +64,31 @@ class Connected:
             return []
         self.due = now + PAUSE
         try:
-            return self.compared(list(rows()))
+            return self.compared(self.look())
         except OSError:
             return []
 
-    def compared(self, found: list[tuple[int, int, str, str]]) -> list[str]:
+    def look(self) -> list[Row]:
+        """The system's connections. Its list isn't of one moment: it is read again while a newcomer's own end isn't in it,
+        a few times, since who comes from another machine has none here."""
+        for _ in range(READINGS):
+            found = list(rows())
+            if self.served(found) <= self.ends(found).keys() | self.known.keys():
+                break
+            time.sleep(AGAIN)
+        return found
+
+    def ends(self, found: list[Row]) -> dict[int, str]:
+        """The clients' ends on this machine, with the number of each."""
+        return {own: number for own, other, state, number in found if other == self.port and state == ESTABLISHED}
+
+    def served(self, found: list[Row]) -> set[int]:
+        """The clients' ports but the desk's, as the server's ends tell them."""
+        return {other for own, other, state, _ in found if own == self.port and state == ESTABLISHED} - {self.but}
+
+    def compared(self, found: list[Row]) -> list[str]:
         """The same, of these connections."""
-        ends = {own: number for own, other, state, number in found if other == self.port and state == ESTABLISHED}
-        served = {other for own, other, state, _ in found if own == self.port and state == ESTABLISHED}
-        here = served - {self.but}
+        ends, here = self.ends(found), self.served(found)
         gone = [self.known.pop(port) for port in sorted(self.known.keys() - here)]
         come = sorted(here - self.known.keys())
         self.known |= {port: owner(ends[port], self.students) if port in ends else "someone" for port in come}

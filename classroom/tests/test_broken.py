@@ -12,11 +12,12 @@ import subprocess
 import sys
 import threading
 import unittest
+import unittest.mock
 from collections import Counter
 from collections.abc import Callable
 from pathlib import Path
 
-from classroom import run
+from classroom import connected, run
 from classroom.client import Client, Closed, Refused
 from classroom.connected import Connected
 from classroom.program import host
@@ -189,6 +190,17 @@ class Broken(Cycle):
         self.assertEqual(found.compared([listens, *served]), [])
         self.assertEqual(found.compared([listens, *served[1:]]), ["gone: someone"])
         self.assertEqual(found.compared(served[1:])[0][:35], "each connection of this server was ")
+
+    def test_a_newcomer_whose_own_end_is_read_later_is_named(self) -> None:
+        listens, served = (4711, 0, "0A", "1"), (4711, 5, "01", "2")
+        with socket.create_server(("127.0.0.1", 0)) as it:
+            own = (5, 4711, "01", re.sub(r"\D", "", os.readlink(f"/proc/self/fd/{it.fileno()}")))
+            for late in range(connected.READINGS):
+                readings = [[listens, served]] * late + [[listens, served, own]]
+                with unittest.mock.patch.object(connected, "rows", side_effect=readings):
+                    self.assertRegex(Connected(4711, 2, [], 7).news()[0], r"^connected: someone \(.*, process \d+\)$")
+        with unittest.mock.patch.object(connected, "rows", side_effect=[[listens, served]] * connected.READINGS):
+            self.assertEqual(Connected(4711, 2, [], 7).news(), ["connected: someone"])
 
     def test_bots_that_race_and_guess(self) -> None:
         lab = self.lab("cycle.toml", 16)
