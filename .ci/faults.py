@@ -308,6 +308,8 @@ def fail_all(name: str, use: Use, kinds: list[Kind], library: Preloaded) -> str:
 
 def stopped(story: Story, room: Path) -> str:
     """A server that a signal ends while a client is connected: no last line, and a whole journal."""
+    # A job in a shell's background ignores SIGINT, and so would what it starts.
+    signal.signal(signal.SIGINT, signal.default_int_handler)
     journal = room / "stopped.journal"
     for number in (signal.SIGTERM, signal.SIGINT):
         words = ["serve", str(story.lab)]
