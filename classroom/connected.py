@@ -102,5 +102,5 @@ class Connected:
         return lines
 
     def who(self) -> str:
-        """Who is there."""
-        return ", ".join(self.known[port] for port in sorted(self.known)) or "nobody"
+        """Who is there, in the order in which they were seen to come."""
+        return ", ".join(self.known.values()) or "nobody"

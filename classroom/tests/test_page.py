@@ -67,10 +67,10 @@ class Live(InRoom):
 
     def end(self) -> Path:
         """Ends the run, whose last frame is what the page has shown; gives its folder."""
-        last = shown(self.driver)
         self.going.type("end")
         self.assertEqual(self.going.ends(), 0, self.going.lines)
         until(self.driver, lambda driver: "over" in driver.find_element("id", "connection").text)
+        last = shown(self.driver)
         folder = self.going.folder
         frame = list(frames_of(folder / "lab.toml", folder / "journal")[1])[-1]
         self.assertEqual(last, told(frame.state, frame))
@@ -187,7 +187,7 @@ class Live(InRoom):
         self.going.type("cut 1 3")
         self.going.until("cut 1 3")
         self.open()
-        again = shown(self.driver)
+        again = self.sees("cut 1 3")
         self.assertEqual((again[0]["place"], again[1][2]["p"]), ("4", ""))
         self.assertNotEqual(again, first)
         one = self.driver.current_window_handle
