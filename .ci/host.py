@@ -193,7 +193,7 @@ def deadlines(room: Path) -> None:
         taken = time.monotonic() - begun
         for wait in waits:
             wait.join()
-        if sorted(times) != [0, 1, 2] or min(times.values()) < 9 or taken < 9 or max(times.values()) > 18:
+        if sorted(times) != [0, 1, 2] or min(times.values()) < 9 or taken < 9 or max(times.values()) > 30:
             fail(f"host: connections without a line are ended after {times} seconds, and others let in after {taken}")
         # Who has said a line may be silent for longer than that.
         if early.ask(BYE) != BID or any(caller.ask(BYE) != BID for caller, _ in guests):
