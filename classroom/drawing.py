@@ -7,10 +7,11 @@ from functools import cached_property
 from html import escape
 from pathlib import Path
 
-from classroom.layout import HEIGHT, SMALL_BELOW, WIDTH, Layout, Point
 from classroom.frames import OpenLink, State
 from classroom.journal import Event
 from classroom.lab import Lab
+from classroom.layout import HEIGHT, SMALL_BELOW, WIDTH, Layout
+from classroom.springs import Point
 
 STYLE = Path(__file__).with_name("drawing.css")
 WITNESSES_MOST = 60  # open links up to which each names its witness

@@ -1,4 +1,4 @@
-"""Where each node is drawn: by Graphviz where it is on the path, else on rings."""
+"""Where each node is drawn: by Graphviz where it is on the path, else by springs or on rings."""
 from __future__ import annotations
 
 import math
@@ -9,13 +9,14 @@ from collections.abc import Iterable
 from dataclasses import dataclass
 from itertools import accumulate, combinations, pairwise
 
+from classroom.springs import Point, by_springs, tangles
+
 WIDTH, HEIGHT, MARGIN = 1000.0, 700.0, 75.0
 ROOM_X, ROOM_Y = WIDTH - 2 * MARGIN, HEIGHT - 2 * MARGIN
 PATIENCE = 5.0  # seconds for Graphviz
 SMALL_BELOW = 24.0  # radius under which rules are told by a letter
 TIGHT_BELOW = 9.0  # radius under which such letters run into each other
 TURNS = 1200  # parts of an ellipse by which it is measured
-Point = tuple[float, float]
 
 
 @dataclass(frozen=True)
@@ -32,13 +33,25 @@ class Layout:
 
 
 def lay_out(nodes: Iterable[int], links: Iterable[tuple[int, int]]) -> Layout:
-    """A layout in a field of WIDTH by HEIGHT: Graphviz's, unless rings alone leave room to read it."""
+    """A layout in a field of WIDTH by HEIGHT: Graphviz's, unless rings alone leave room to read it; without Graphviz
+    that of springs where fewer links cross than on rings."""
     identifiers, edges = sorted(nodes), sorted(links)
     drawn = by_graphviz(identifiers, edges)
     if drawn is not None and (layout := fitted(drawn)).radius >= TIGHT_BELOW:
         return layout
     rings = on_rings(identifiers)
-    return rings if drawn is None or rings.radius > layout.radius else layout
+    if drawn is None:
+        sprung = by_springs(identifiers, edges)
+        return rings if sprung is None else less_tangled(rings, fitted(sprung), edges)
+    return rings if rings.radius > layout.radius else layout
+
+
+def less_tangled(rings: Layout, sprung: Layout, links: list[tuple[int, int]]) -> Layout:
+    """The layout of springs, where it has room and its links run less through one another; else that of rings."""
+    if sprung.radius < TIGHT_BELOW:
+        return rings
+    on_both = [tangles(layout.points, links, layout.radius) for layout in (rings, sprung)]
+    return sprung if on_both[1] < on_both[0] else rings
 
 
 def by_graphviz(nodes: list[int], links: list[tuple[int, int]]) -> dict[int, Point] | None:
