@@ -9,6 +9,7 @@ from collections.abc import Iterable
 from dataclasses import dataclass
 from itertools import accumulate, combinations, pairwise
 
+from classroom.networks import Links
 from classroom.springs import Point, by_springs, tangles
 
 WIDTH, HEIGHT, MARGIN = 1000.0, 700.0, 75.0
@@ -46,7 +47,7 @@ def lay_out(nodes: Iterable[int], links: Iterable[tuple[int, int]]) -> Layout:
     return rings if rings.radius > layout.radius else layout
 
 
-def less_tangled(rings: Layout, sprung: Layout, links: list[tuple[int, int]]) -> Layout:
+def less_tangled(rings: Layout, sprung: Layout, links: Links) -> Layout:
     """The layout of springs, where it has room and its links run less through one another; else that of rings."""
     if sprung.radius < TIGHT_BELOW:
         return rings
@@ -54,7 +55,7 @@ def less_tangled(rings: Layout, sprung: Layout, links: list[tuple[int, int]]) ->
     return sprung if on_both[1] < on_both[0] else rings
 
 
-def by_graphviz(nodes: list[int], links: list[tuple[int, int]]) -> dict[int, Point] | None:
+def by_graphviz(nodes: list[int], links: Links) -> dict[int, Point] | None:
     """What neato says, where it is there and answers in time."""
     neato = shutil.which("neato")
     if neato is None or len(nodes) < 2 or len(links) > 4 * len(nodes):

@@ -10,17 +10,18 @@ from collections import deque
 from itertools import combinations
 from operator import mul
 
-MOST_NODES = 100  # more take seconds
+from classroom.networks import Links
+
+FEW_NODES = 100  # more take seconds
 TURNS = 60  # of the power method, and of the majorization
 APART = 0.05  # by which nodes are parted that the plane has at one point
 Point = tuple[float, float]
-Links = list[tuple[int, int]]
 Rows = list[list[float]]
 
 
 def by_springs(nodes: list[int], links: Links) -> dict[int, Point] | None:
     """A point for each node, where they and their links are few enough."""
-    if not 2 < len(nodes) <= MOST_NODES or len(links) > 4 * len(nodes):
+    if not 2 < len(nodes) <= FEW_NODES or len(links) > 4 * len(nodes):
         return None
     far = distances(nodes, links)
     ring = [math.tau * place / len(nodes) for place in range(len(nodes))]
@@ -113,7 +114,8 @@ def side(a: Point, b: Point, c: Point) -> float:
 
 def away(point: Point, a: Point, b: Point) -> float:
     """How far a point is from the line from a to b."""
-    length = math.dist(a, b) ** 2
-    part = ((point[0] - a[0]) * (b[0] - a[0]) + (point[1] - a[1]) * (b[1] - a[1])) / length if length else 0.0
+    across, down = b[0] - a[0], b[1] - a[1]
+    square = across * across + down * down
+    part = ((point[0] - a[0]) * across + (point[1] - a[1]) * down) / square if square else 0.0
     part = max(0.0, min(1.0, part))
-    return math.dist(point, (a[0] + part * (b[0] - a[0]), a[1] + part * (b[1] - a[1])))
+    return math.dist(point, (a[0] + part * across, a[1] + part * down))

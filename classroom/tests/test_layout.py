@@ -9,7 +9,7 @@ from unittest.mock import patch
 
 from classroom.layout import HEIGHT, MARGIN, TIGHT_BELOW, WIDTH, Layout, lay_out, on_rings
 from classroom.networks import Links, family
-from classroom.springs import MOST_NODES, by_springs, distances, tangles
+from classroom.springs import FEW_NODES, away, by_springs, distances, tangles
 
 FAMILIES = ("path", "cycle", "star", "tree", "complete", "grid:4x3", "grid:10x10", "random:12:16", "random:30:40", "random:64:90")
 
@@ -72,7 +72,7 @@ class Laid(unittest.TestCase):
         self.assertEqual((len(layout.points), self.tangled(layout, links)), (9, 0))
 
     def test_where_springs_are_not_asked(self) -> None:
-        for nodes, links in ([1, 2], [(1, 2)]), network("complete"), network(f"grid:{MOST_NODES // 2 + 1}x2"):
+        for nodes, links in ([1, 2], [(1, 2)]), network("complete"), network(f"grid:{FEW_NODES // 2 + 1}x2"):
             self.assertIsNone(by_springs(nodes, links))
             self.assertEqual(lay_out(nodes, links), on_rings(nodes))
         self.assertEqual(len(lay_out([7], []).points), 1)
@@ -80,6 +80,11 @@ class Laid(unittest.TestCase):
 
 class Tangled(unittest.TestCase):
     """What counts as a tangle."""
+
+    def test_how_far_a_node_is_from_a_link(self) -> None:
+        for point, far in (((5.0, 3.0), 3.0), ((-3.0, 4.0), 5.0), ((13.0, -4.0), 5.0), ((10.0, 0.0), 0.0)):
+            self.assertEqual(away(point, (0.0, 0.0), (10.0, 0.0)), far)
+        self.assertEqual(away((3.0, 4.0), (0.0, 0.0), (0.0, 0.0)), 5.0)
 
     def test_a_crossing_a_touch_and_a_node_on_a_link(self) -> None:
         square = {1: (0.0, 0.0), 2: (10.0, 0.0), 3: (10.0, 10.0), 4: (0.0, 10.0), 5: (5.0, 0.5)}
