@@ -2,4 +2,5 @@ pub mod World
 pub mod Events
 pub mod Runs
 pub mod Meaning
+pub mod Vocabulary
 pub mod inside

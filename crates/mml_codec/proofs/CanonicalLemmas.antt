@@ -5,9 +5,9 @@ use Rattle.mml_policy.specs.declared.command.Asked.TheVariants as asked
 use Rattle.mml_policy.specs.declared.command.Command.TheVariants as command
 use Rattle.mml_codec.specs.declared.request.Request.{Request}
 use Rattle.mml_codec.specs.declared.request.Request.TheVariants as requests
-use Rattle.mml_codec.specs.Requests.{request, by_word, hello_of, move_of, asked_at, fault_of}
+use Rattle.mml_codec.specs.Requests.{fields_of, request, by_word, hello_of, move_of, asked_at, fault_of}
 use Rattle.mml_codec.specs.Fields.{object_of}
-use Rattle.mml_codec.specs.Canonical.{fields_of, canonical, IsWritable}
+use Rattle.mml_codec.specs.Canonical.{canonical, IsWritable}
 use Rattle.mml_codec.specs.Lines.{request_in}
 use Rattle.mml_codec.proofs.CompactTextLemmas.{IsUtf8-compact_text}
 use Rattle.mml_codec.proofs.OneLineLemmas.{compact_text_line}

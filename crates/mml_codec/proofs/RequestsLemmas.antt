@@ -1,8 +1,24 @@
--- A word that asks nothing.
-use Rattle.std.proofs.Common.{◌≡◌, ℕ, List, Bool, true, false, codes, bytes_eq, None, refl}
+-- What is asked: a word of no row asks nothing, and a value asks a request exactly where it has its fields.
+use Rattle.std.proofs.Common.{◌≡◌, ℕ, List, [], ◌∷◌, Bool, true, false, cond, codes, bytes_eq, Option, None, Some, option_map, refl, ap, ◌∙◌, sym, subst}
+use Rattle.std.proofs.lemmas.Option.{same_Some, option_and_then_some}
 use Rattle.std.proofs.lemmas.Slice.Eq.{bytes_eq-Decides}
-use Rattle.serde_json.specs.Data.{Data}
-use Rattle.mml_codec.specs.Requests.{by_word}
+use Rattle.serde_json.specs.Data.{Data, null, boolean, number, string, array, object}
+use Rattle.serde_json.specs.Find.{get, as_number, as_u64}
+use Rattle.mml_rules.specs.declared.rule.Kind.TheVariants as kind
+use Rattle.mml_board.specs.Vocabulary as verb
+use Rattle.mml_board.specs.Vocabulary.{rule_name}
+use Rattle.mml_plain.specs.LookUps.{◌>>=◌, text_at, number_at, truth_at, register_at, as_register}
+use Rattle.mml_policy.specs.declared.command.Asked.{Asked}
+use Rattle.mml_policy.specs.declared.command.Asked.TheVariants as asked
+use Rattle.mml_policy.specs.declared.command.Command.{Command}
+use Rattle.mml_policy.specs.declared.command.Command.TheVariants as command
+use Rattle.mml_codec.specs.declared.request.Request.{Request}
+use Rattle.mml_codec.specs.declared.request.Request.TheVariants as requests
+use Rattle.mml_codec.specs.Fields as field
+use Rattle.mml_codec.specs.Fields.{Field, Has, HasEach}
+use Rattle.mml_codec.specs.Requests.{rule_word, partner_fields, register, asks, fields_of, asked_at, hello_of, node_of, ends_of, move_of, fault_of, by_word, request}
+
+-- ---- words
 
 differ_at : (w k : List ℕ) (b : Bool) → bytes_eq w k ≡ b → (w ≡ k → ⊥) → b ≡ false
 differ_at w k true e other = absurd (other ((bytes_eq-Decides w k).0 e))
@@ -12,20 +28,152 @@ differ : (w k : List ℕ) → (w ≡ k → ⊥) → bytes_eq w k ≡ false
 differ w k other = differ_at w k (bytes_eq w k) refl other
 
 -- a word that is none of the eleven asks nothing
-pub no_word : (w : List ℕ) (d : Data) → (w ≡ codes "hello" → ⊥) → (w ≡ codes "bye" → ⊥) → (w ≡ codes "see" → ⊥) → (w ≡ codes "look" → ⊥)
-    → (w ≡ codes "move" → ⊥) → (w ≡ codes "close" → ⊥)
-    → (w ≡ codes "fault" → ⊥) → (w ≡ codes "link" → ⊥) → (w ≡ codes "cut" → ⊥) → (w ≡ codes "release" → ⊥) → (w ≡ codes "report" → ⊥) → by_word w d ≡ None
+pub no_word : (w : List ℕ) (d : Data) → (w ≡ verb.hello → ⊥) → (w ≡ verb.bye → ⊥) → (w ≡ verb.see → ⊥) → (w ≡ verb.look → ⊥)
+    → (w ≡ verb.move.asked → ⊥) → (w ≡ verb.close.asked → ⊥) → (w ≡ verb.fault.asked → ⊥) → (w ≡ verb.link.asked → ⊥)
+    → (w ≡ verb.cut.asked → ⊥) → (w ≡ verb.release.asked → ⊥) → (w ≡ verb.report → ⊥) → by_word w d ≡ None
 unfolding by_word
 no_word w d hello bye see look move close fault link cut release report = rw (
-  differ w (codes "hello") hello,
-  differ w (codes "bye") bye,
-  differ w (codes "see") see,
-  differ w (codes "look") look,
-  differ w (codes "move") move,
-  differ w (codes "close") close,
-  differ w (codes "fault") fault,
-  differ w (codes "link") link,
-  differ w (codes "cut") cut,
-  differ w (codes "release") release,
-  differ w (codes "report") report,
+  differ w verb.hello hello,
+  differ w verb.bye bye,
+  differ w verb.see see,
+  differ w verb.look look,
+  differ w verb.move.asked move,
+  differ w verb.close.asked close,
+  differ w verb.fault.asked fault,
+  differ w verb.link.asked link,
+  differ w verb.cut.asked cut,
+  differ w verb.release.asked release,
+  differ w verb.report report,
 )
+
+-- ---- registers
+
+held : (o : Option ℕ) (n : ℕ) → option_map Some o ≡ Some (Some n) → o ≡ Some n
+held None n h = absurd cc
+held (Some m) n h = same_Some (Some m) (Some n) h
+
+number_held : (o : Option Data) (n : ℕ) → (o >>= as_register) ≡ Some (Some n) → (o >>= λ v. as_number v >>= as_u64) ≡ Some n
+number_held None n h = absurd cc
+number_held (Some (number k)) n h = held (as_u64 k) n h
+number_held (Some null) n h = absurd cc
+number_held (Some (boolean b)) n h = absurd cc
+number_held (Some (string s)) n h = absurd cc
+number_held (Some (array ds)) n h = absurd cc
+number_held (Some (object ms)) n h = absurd cc
+
+register_held : (o : Option Data) (n : ℕ) → (o >>= λ v. as_number v >>= as_u64) ≡ Some n → (o >>= as_register) ≡ Some (Some n)
+register_held None n h = absurd cc
+register_held (Some (number k)) n h = ap (option_map Some) h
+register_held (Some null) n h = absurd cc
+register_held (Some (boolean b)) n h = absurd cc
+register_held (Some (string s)) n h = absurd cc
+register_held (Some (array ds)) n h = absurd cc
+register_held (Some (object ms)) n h = absurd cc
+
+-- ---- what asks a request has its fields
+
+abbrev Asks : Data → Request → Type 0
+Asks d r = HasEach d (fields_of r)
+
+only : (d : Data) (q r : Request) → Some q ≡ Some r → Asks d q → Asks d r
+only d q r same has = subst (Asks d) (same_Some q r same) has
+
+which : {A P : Type 0} (b : Bool) (x y z : A) → cond b x y ≡ z → (b ≡ true → x ≡ z → P) → (y ≡ z → P) → P
+which true x y z h here there = here refl h
+which false x y z h here there = there h
+
+abbrev HasRule : Data → Asked → Type 0
+HasRule d rule = (text_at (codes "rule") d ≡ Some (rule_word rule)) × HasEach d (partner_fields rule)
+
+rule_there : (d : Data) (rule : Asked) → asked_at d ≡ Some rule → HasRule d rule
+unfolding asked_at
+rule_there d rule h = option_and_then_some _ (text_at (codes "rule") d) rule h (λ w at by.
+    let word : (v : List ℕ) → bytes_eq w v ≡ true → text_at (codes "rule") d ≡ Some v = λ v is. at ∙ ap Some ((bytes_eq-Decides w v).0 is) in
+    which (bytes_eq w (rule_name kind.Update)) _ _ _ by (λ is q. subst (HasRule d) (same_Some asked.Update rule q) (word _ is, tt)) (λ by.
+    which (bytes_eq w (rule_name kind.Marriage)) _ _ _ by (λ is q. with_partner (number_at (codes "with") d) refl (word _ is) q) (λ by.
+    which (bytes_eq w (rule_name kind.Seduction)) _ _ _ by (λ is q. subst (HasRule d) (same_Some asked.Seduction rule q) (word _ is, tt)) (λ by.
+    which (bytes_eq w (rule_name kind.Abandonment)) _ _ _ by (λ is q. subst (HasRule d) (same_Some asked.Abandonment rule q) (word _ is, tt)) (λ by.
+    absurd cc)))))
+  where
+    with_partner : (o : Option ℕ) → number_at (codes "with") d ≡ o → text_at (codes "rule") d ≡ Some (rule_name kind.Marriage)
+        → option_map asked.Marriage o ≡ Some rule → HasRule d rule
+    with_partner None at word q = absurd cc
+    with_partner (Some j) at word q = subst (HasRule d) (same_Some (asked.Marriage j) rule q) (word, (at, tt))
+
+register_there : (d : Data) (p : Option ℕ) → register_at (codes "p") d ≡ Some p → Has d (codes "p", register p)
+register_there d None h = h
+register_there d (Some n) h = number_held (get (codes "p") d) n h
+
+hello_there : (d : Data) (r : Request) → Has d (asks verb.hello) → hello_of d ≡ Some r → Asks d r
+unfolding hello_of
+hello_there d r word h = option_and_then_some _ (text_at (codes "name") d) r h (λ name named more.
+    option_and_then_some _ (text_at (codes "key") d) r more (λ key keyed last. only d (requests.Hello name key) r last (word, (keyed, (named, tt)))))
+
+node_there : (d : Data) (v : List ℕ) (c : ℕ → Command) (r : Request) → ((n : ℕ) → fields_of (requests.Do (c n)) ≡ asks v ∷ (codes "node", field.number n) ∷ [])
+    → Has d (asks v) → node_of c d ≡ Some r → Asks d r
+node_there d v c r spelt word h = option_and_then_some _ (number_at (codes "node") d) r h (λ n at last.
+    only d (requests.Do (c n)) r last (subst (HasEach d) (sym (spelt n)) (word, (at, tt))))
+
+ends_there : (d : Data) (v : List ℕ) (c : ℕ → ℕ → Command) (r : Request)
+    → ((a b : ℕ) → fields_of (requests.Do (c a b)) ≡ (codes "a", field.number a) ∷ (codes "b", field.number b) ∷ asks v ∷ [])
+    → Has d (asks v) → ends_of c d ≡ Some r → Asks d r
+ends_there d v c r spelt word h = option_and_then_some _ (number_at (codes "a") d) r h (λ a at more.
+    option_and_then_some _ (number_at (codes "b") d) r more (λ b bt last.
+    only d (requests.Do (c a b)) r last (subst (HasEach d) (sym (spelt a b)) (at, (bt, (word, tt))))))
+
+move_there : (d : Data) (r : Request) → Has d (asks verb.move.asked) → move_of d ≡ Some r → Asks d r
+unfolding move_of
+move_there d r word h = option_and_then_some _ (number_at (codes "node") d) r h (λ n is more.
+    option_and_then_some _ (number_at (codes "at") d) r more (λ at now more'. option_and_then_some _ (asked_at d) r more' (λ rule ruled last.
+    let there = rule_there d rule ruled in
+    only d (requests.Do (command.Move n rule at)) r last (now, (word, (is, (there.0, there.1)))))))
+
+fault_there : (d : Data) (r : Request) → Has d (asks verb.fault.asked) → fault_of d ≡ Some r → Asks d r
+unfolding fault_of
+fault_there d r word h = option_and_then_some _ (number_at (codes "node") d) r h (λ n is more.
+    option_and_then_some _ (register_at (codes "p") d) r more (λ p points more'. option_and_then_some _ (truth_at (codes "m") d) r more' (λ m married last.
+    only d (requests.Do (command.Fault n p m)) r last (word, (married, (is, (register_there d p points, tt)))))))
+
+pub asked_there : (d : Data) (r : Request) → request d ≡ Some r → HasEach d (fields_of r)
+unfolding request by_word
+asked_there d r h = option_and_then_some _ (text_at (codes "do") d) r h (λ w at by.
+    let word : (v : List ℕ) → bytes_eq w v ≡ true → Has d (asks v) = λ v is. at ∙ ap Some ((bytes_eq-Decides w v).0 is) in
+    which (bytes_eq w verb.hello) _ _ _ by (λ is q. hello_there d r (word _ is) q) (λ by.
+    which (bytes_eq w verb.bye) _ _ _ by (λ is q. only d requests.Bye r q (word _ is, tt)) (λ by.
+    which (bytes_eq w verb.see) _ _ _ by (λ is q. node_there d _ command.See r (λ n. refl) (word _ is) q) (λ by.
+    which (bytes_eq w verb.look) _ _ _ by (λ is q. node_there d _ command.Look r (λ n. refl) (word _ is) q) (λ by.
+    which (bytes_eq w verb.move.asked) _ _ _ by (λ is q. move_there d r (word _ is) q) (λ by.
+    which (bytes_eq w verb.close.asked) _ _ _ by (λ is q. only d (requests.Do command.Close) r q (word _ is, tt)) (λ by.
+    which (bytes_eq w verb.fault.asked) _ _ _ by (λ is q. fault_there d r (word _ is) q) (λ by.
+    which (bytes_eq w verb.link.asked) _ _ _ by (λ is q. ends_there d _ command.Link r (λ a b. refl) (word _ is) q) (λ by.
+    which (bytes_eq w verb.cut.asked) _ _ _ by (λ is q. ends_there d _ command.Cut r (λ a b. refl) (word _ is) q) (λ by.
+    which (bytes_eq w verb.release.asked) _ _ _ by (λ is q. node_there d _ command.Release r (λ n. refl) (word _ is) q) (λ by.
+    which (bytes_eq w verb.report) _ _ _ by (λ is q. only d (requests.Do command.Report) r q (word _ is, tt)) (λ by.
+    absurd cc))))))))))))
+
+-- ---- what has the fields of a request asks it
+
+rule_asked : (d : Data) (rule : Asked) → HasRule d rule → asked_at d ≡ Some rule
+unfolding asked_at
+rule_asked d asked.Update h = rw (h.0)
+rule_asked d (asked.Marriage j) h = rw (h.0, h.1.0)
+rule_asked d asked.Seduction h = rw (h.0)
+rule_asked d asked.Abandonment h = rw (h.0)
+
+register_named : (d : Data) (p : Option ℕ) → Has d (codes "p", register p) → register_at (codes "p") d ≡ Some p
+register_named d None h = h
+register_named d (Some n) h = register_held (get (codes "p") d) n h
+
+pub there_asked : (d : Data) (r : Request) → HasEach d (fields_of r) → request d ≡ Some r
+unfolding request by_word hello_of move_of fault_of
+there_asked d (requests.Hello name key) h = rw (h.0, h.1.1.0, h.1.0)
+there_asked d requests.Bye h = rw (h.0)
+there_asked d (requests.Do (command.See n)) h = rw (h.0, h.1.0)
+there_asked d (requests.Do (command.Look n)) h = rw (h.0, h.1.0)
+there_asked d (requests.Do (command.Move n rule at)) h = rw (h.1.0, h.1.1.0, h.0, rule_asked d rule (h.1.1.1.0, h.1.1.1.1))
+there_asked d (requests.Do command.Close) h = rw (h.0)
+there_asked d (requests.Do (command.Fault n p m)) h = rw (h.0, h.1.1.0, register_named d p h.1.1.1.0, h.1.0)
+there_asked d (requests.Do (command.Link a b)) h = rw (h.1.1.0, h.0, h.1.0)
+there_asked d (requests.Do (command.Cut a b)) h = rw (h.1.1.0, h.0, h.1.0)
+there_asked d (requests.Do (command.Release n)) h = rw (h.0, h.1.0)
+there_asked d (requests.Do command.Report) h = rw (h.0)

@@ -8,7 +8,7 @@ use Rattle.std.specs.FinSet.{FinSet}
 use Rattle.serde_json.specs.Data.{Data, null, boolean, number, unsigned, string, array}
 use Rattle.mml_rules.specs.declared.regs.Regs.{Regs}
 use Rattle.mml_rules.specs.declared.rule.Kind.{Kind}
-use Rattle.mml_rules.specs.declared.rule.Kind.TheVariants as kind
+use Rattle.mml_board.specs.Vocabulary.{rule_name}
 use Rattle.mml_stable.specs.declared.open_link.OpenLink.{OpenLink}
 use Rattle.mml_codec.specs.Objects.{items_with, array_of, object_with}
 
@@ -33,12 +33,6 @@ pub data Fact : Type 0 where
 -- keys in byte order, and what each tells
 abbrev pub Fields : Type 0
 Fields = List (List ℕ × Fact)
-
-abbrev pub rule_name : Kind → List ℕ
-rule_name kind.Update = codes "update"
-rule_name kind.Marriage = codes "marriage"
-rule_name kind.Seduction = codes "seduction"
-rule_name kind.Abandonment = codes "abandonment"
 
 -- the nodes of a set in rising order
 abbrev pub members : ℕ → FinSet nat_cmp → List ℕ

@@ -1,7 +1,8 @@
 -- Flat objects: what each key holds.
-use Rattle.std.specs.Prelude.{ℕ, ◌<◌, ◌^◌, List, map, Bool, IsUtf8}
+use Rattle.std.specs.Prelude.{◌≡◌, ℕ, ◌<◌, ◌^◌, List, map, Bool, None, Some, IsUtf8}
 use Rattle.std.specs.List.{AllByRecursion}
 use Rattle.serde_json.specs.Data as value
+use Rattle.mml_plain.specs.LookUps.{text_at, number_at, truth_at, register_at}
 use Rattle.mml_codec.specs.Objects.{members_with, object_with}
 
 -- a number, a word that the protocol fixes, a text that it doesn't, a truth value, or null
@@ -39,3 +40,14 @@ IsWritableField null = Unit {0}
 
 abbrev pub AreWritable : List (List ℕ × Field) → Type 0
 AreWritable fs = AllByRecursion (λ f. IsWritableField f.1) fs
+
+-- the value has the field: this is what the key names there
+abbrev pub Has : value.Data → List ℕ × Field → Type 0
+Has d (key, number n) = number_at key d ≡ Some n
+Has d (key, word w) = text_at key d ≡ Some w
+Has d (key, text s) = text_at key d ≡ Some s
+Has d (key, truth b) = truth_at key d ≡ Some b
+Has d (key, null) = register_at key d ≡ Some None
+
+abbrev pub HasEach : value.Data → List (List ℕ × Field) → Type 0
+HasEach d fs = AllByRecursion (Has d) fs

@@ -2,6 +2,7 @@
 use Rattle.std.specs.Prelude.{◌≡◌, ◌⊎◌, ℕ, ◌<◌, List, [], ◌∷◌, ◌++◌, length, Bool, true, false, Option, None, Some, codes}
 use Rattle.mml_board.specs.declared.done.Done.{Done}
 use Rattle.mml_board.specs.declared.done.Done.TheVariants as done
+use Rattle.mml_board.specs.Vocabulary as verb
 use Rattle.mml_lab.specs.Rosters.{RosterValue, name_of, IsPrincipal}
 use Rattle.mml_policy.specs.declared.denial.Denial.{Denial}
 use Rattle.mml_policy.specs.declared.denial.Denial.TheVariants as denial
@@ -22,7 +23,7 @@ use Rattle.mml_codec.specs.Facts.{Fact, Fields, object_text}
 -- ---- the table: each key in its place, and what it tells
 
 abbrev pub ok : List ℕ → List ℕ × Fact
-ok verb = (codes "ok", fact.word verb)
+ok word = (codes "ok", fact.word word)
 
 -- the number after an event, and the place of the event
 abbrev pub at_key : ℕ → List ℕ × Fact
@@ -33,35 +34,35 @@ place_key place = (codes "place", fact.count place)
 
 -- a link or a cut, by its word
 abbrev pub ends_fields : List ℕ → ℕ → ℕ → ℕ → ℕ → ℕ → Fields
-ends_fields verb at place a b dropped =
-    (codes "a", fact.node a) ∷ at_key at ∷ (codes "b", fact.node b) ∷ (codes "dropped", fact.count dropped) ∷ ok verb ∷ place_key place ∷ []
+ends_fields word at place a b dropped =
+    (codes "a", fact.node a) ∷ at_key at ∷ (codes "b", fact.node b) ∷ (codes "dropped", fact.count dropped) ∷ ok word ∷ place_key place ∷ []
 
 -- what an event did, with the number and the place after it
 abbrev pub done_fields : ℕ → ℕ → Done → Fields
 done_fields at place (done.Move node kind) =
-    at_key at ∷ (codes "node", fact.node node) ∷ ok (codes "move") ∷ place_key place ∷ (codes "rule", fact.rule kind) ∷ []
-done_fields at place (done.Close moved) = at_key at ∷ (codes "moved", fact.moved moved) ∷ ok (codes "close") ∷ place_key place ∷ []
+    at_key at ∷ (codes "node", fact.node node) ∷ ok verb.move.told ∷ place_key place ∷ (codes "rule", fact.rule kind) ∷ []
+done_fields at place (done.Close moved) = at_key at ∷ (codes "moved", fact.moved moved) ∷ ok verb.close.told ∷ place_key place ∷ []
 done_fields at place (done.Fault node dropped) =
-    at_key at ∷ (codes "dropped", fact.count dropped) ∷ (codes "node", fact.node node) ∷ ok (codes "fault") ∷ place_key place ∷ []
-done_fields at place (done.Link a b dropped) = ends_fields (codes "link") at place a b dropped
-done_fields at place (done.Cut a b dropped) = ends_fields (codes "cut") at place a b dropped
-done_fields at place (done.Release node) = at_key at ∷ (codes "node", fact.node node) ∷ ok (codes "release") ∷ place_key place ∷ []
+    at_key at ∷ (codes "dropped", fact.count dropped) ∷ (codes "node", fact.node node) ∷ ok verb.fault.told ∷ place_key place ∷ []
+done_fields at place (done.Link a b dropped) = ends_fields verb.link.told at place a b dropped
+done_fields at place (done.Cut a b dropped) = ends_fields verb.cut.told at place a b dropped
+done_fields at place (done.Release node) = at_key at ∷ (codes "node", fact.node node) ∷ ok verb.release.told ∷ place_key place ∷ []
 
 abbrev pub hello_fields : List ℕ → Fields
-hello_fields name = ok (codes "hello") ∷ (codes "who", fact.word name) ∷ []
+hello_fields name = ok verb.hello ∷ (codes "who", fact.word name) ∷ []
 
 abbrev pub bye_fields : Fields
-bye_fields = ok (codes "bye") ∷ []
+bye_fields = ok verb.bye ∷ []
 
 abbrev pub see_fields : See → Fields
-see_fields s = at_key s.at ∷ (codes "m", fact.truth s.regs.m) ∷ (codes "node", fact.node s.node) ∷ ok (codes "see") ∷ (codes "p", fact.pointer s.regs.p) ∷ []
+see_fields s = at_key s.at ∷ (codes "m", fact.truth s.regs.m) ∷ (codes "node", fact.node s.node) ∷ ok verb.see ∷ (codes "p", fact.pointer s.regs.p) ∷ []
 
 abbrev pub look_fields : Look → Fields
 look_fields l = at_key l.at ∷ (codes "chosen", fact.rule_or_null l.chosen) ∷ (codes "m", fact.truth l.regs.m) ∷ (codes "near", fact.near l.near)
-    ∷ (codes "node", fact.node l.node) ∷ ok (codes "look") ∷ (codes "p", fact.pointer l.regs.p) ∷ (codes "rule", fact.rule_or_null l.enabled) ∷ []
+    ∷ (codes "node", fact.node l.node) ∷ ok verb.look ∷ (codes "p", fact.pointer l.regs.p) ∷ (codes "rule", fact.rule_or_null l.enabled) ∷ []
 
 abbrev pub report_fields : Report → Fields
-report_fields r = at_key r.at ∷ (codes "free", fact.nodes r.free) ∷ ok (codes "report") ∷ (codes "open", fact.open_links r.open_links)
+report_fields r = at_key r.at ∷ (codes "free", fact.nodes r.free) ∷ ok verb.report ∷ (codes "open", fact.open_links r.open_links)
     ∷ (codes "pairs", fact.pairs r.pairs) ∷ (codes "privileged", fact.privileged r.privileged) ∷ (codes "stable", fact.truth r.stable) ∷ []
 
 -- one who is late is told the current number

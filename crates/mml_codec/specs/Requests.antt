@@ -1,6 +1,9 @@
--- What a JSON value asks.
-use Rattle.std.specs.Prelude.{codes, List, ℕ, Option, Some, None, option_map, bytes_eq, if◌then◌else◌}
+-- The requests: what each has by which key, and what a JSON value asks.
+use Rattle.std.specs.Prelude.{codes, List, [], ◌∷◌, ℕ, Option, Some, None, option_map, bytes_eq, if◌then◌else◌}
 use Rattle.serde_json.specs.Data.{Data}
+use Rattle.mml_rules.specs.declared.rule.Kind.TheVariants as kind
+use Rattle.mml_board.specs.Vocabulary as verb
+use Rattle.mml_board.specs.Vocabulary.{rule_name}
 pub use Rattle.mml_plain.specs.LookUps.{◌>>=◌, text_at, number_at, truth_at, register_at}
 use Rattle.mml_policy.specs.declared.command.Asked.{Asked}
 use Rattle.mml_policy.specs.declared.command.Asked.TheVariants as asked
@@ -8,15 +11,62 @@ use Rattle.mml_policy.specs.declared.command.Command.{Command}
 use Rattle.mml_policy.specs.declared.command.Command.TheVariants as command
 use Rattle.mml_codec.specs.declared.request.Request.{Request}
 use Rattle.mml_codec.specs.declared.request.Request.TheVariants as requests
+use Rattle.mml_codec.specs.Fields.{Field, number, word, text, truth, null}
+
+-- ---- the table: each word with its keys, in byte order
+
+abbrev pub rule_word : Asked → List ℕ
+rule_word asked.Update = rule_name kind.Update
+rule_word (asked.Marriage id) = rule_name kind.Marriage
+rule_word asked.Seduction = rule_name kind.Seduction
+rule_word asked.Abandonment = rule_name kind.Abandonment
+
+-- the partner that a marriage names
+abbrev pub partner_fields : Asked → List (List ℕ × Field)
+partner_fields asked.Update = []
+partner_fields (asked.Marriage id) = (codes "with", number id) ∷ []
+partner_fields asked.Seduction = []
+partner_fields asked.Abandonment = []
+
+-- a number, or null
+abbrev pub register : Option ℕ → Field
+register None = null
+register (Some n) = number n
+
+-- the word that asks
+abbrev pub asks : List ℕ → List ℕ × Field
+asks w = (codes "do", word w)
+
+-- the word and the named keys of a command, keys in byte order
+abbrev pub command_fields : Command → List (List ℕ × Field)
+command_fields (command.See node) = asks verb.see ∷ (codes "node", number node) ∷ []
+command_fields (command.Look node) = asks verb.look ∷ (codes "node", number node) ∷ []
+command_fields (command.Move node rule at) =
+    (codes "at", number at) ∷ asks verb.move.asked ∷ (codes "node", number node) ∷ (codes "rule", word (rule_word rule)) ∷ partner_fields rule
+command_fields command.Close = asks verb.close.asked ∷ []
+command_fields (command.Fault node p m) =
+    asks verb.fault.asked ∷ (codes "m", truth m) ∷ (codes "node", number node) ∷ (codes "p", register p) ∷ []
+command_fields (command.Link a b) = (codes "a", number a) ∷ (codes "b", number b) ∷ asks verb.link.asked ∷ []
+command_fields (command.Cut a b) = (codes "a", number a) ∷ (codes "b", number b) ∷ asks verb.cut.asked ∷ []
+command_fields (command.Release node) = asks verb.release.asked ∷ (codes "node", number node) ∷ []
+command_fields command.Report = asks verb.report ∷ []
+
+-- the word and the named keys of a request
+abbrev pub fields_of : Request → List (List ℕ × Field)
+fields_of (requests.Hello name key) = asks verb.hello ∷ (codes "key", text key) ∷ (codes "name", text name) ∷ []
+fields_of requests.Bye = asks verb.bye ∷ []
+fields_of (requests.Do c) = command_fields c
+
+-- ---- how a value is read: it asks a request exactly where it has each field of it, as a law says
 
 -- a rule by its word, and for a marriage the partner
 unfoldable pub asked_at : Data → Option Asked
 asked_at d = do
   w ← text_at (codes "rule") d
-  if bytes_eq w (codes "update") then Some asked.Update
-      else (if bytes_eq w (codes "marriage") then option_map asked.Marriage (number_at (codes "with") d)
-      else (if bytes_eq w (codes "seduction") then Some asked.Seduction
-      else (if bytes_eq w (codes "abandonment") then Some asked.Abandonment
+  if bytes_eq w (rule_name kind.Update) then Some asked.Update
+      else (if bytes_eq w (rule_name kind.Marriage) then option_map asked.Marriage (number_at (codes "with") d)
+      else (if bytes_eq w (rule_name kind.Seduction) then Some asked.Seduction
+      else (if bytes_eq w (rule_name kind.Abandonment) then Some asked.Abandonment
       else None)))
 
 unfoldable pub hello_of : Data → Option Request
@@ -54,17 +104,17 @@ fault_of d = do
 
 -- what is asked by a word, with the keys that it names; other keys don't count
 unfoldable pub by_word : List ℕ → Data → Option Request
-by_word w d = if bytes_eq w (codes "hello") then hello_of d
-    else (if bytes_eq w (codes "bye") then Some requests.Bye
-    else (if bytes_eq w (codes "see") then node_of command.See d
-    else (if bytes_eq w (codes "look") then node_of command.Look d
-    else (if bytes_eq w (codes "move") then move_of d
-    else (if bytes_eq w (codes "close") then Some (requests.Do command.Close)
-    else (if bytes_eq w (codes "fault") then fault_of d
-    else (if bytes_eq w (codes "link") then ends_of command.Link d
-    else (if bytes_eq w (codes "cut") then ends_of command.Cut d
-    else (if bytes_eq w (codes "release") then node_of command.Release d
-    else (if bytes_eq w (codes "report") then Some (requests.Do command.Report)
+by_word w d = if bytes_eq w verb.hello then hello_of d
+    else (if bytes_eq w verb.bye then Some requests.Bye
+    else (if bytes_eq w verb.see then node_of command.See d
+    else (if bytes_eq w verb.look then node_of command.Look d
+    else (if bytes_eq w verb.move.asked then move_of d
+    else (if bytes_eq w verb.close.asked then Some (requests.Do command.Close)
+    else (if bytes_eq w verb.fault.asked then fault_of d
+    else (if bytes_eq w verb.link.asked then ends_of command.Link d
+    else (if bytes_eq w verb.cut.asked then ends_of command.Cut d
+    else (if bytes_eq w verb.release.asked then node_of command.Release d
+    else (if bytes_eq w verb.report then Some (requests.Do command.Report)
     else None))))))))))
 
 -- the request that a value is, if it is one

@@ -8,6 +8,9 @@ ghost use Rattle.mml_policy.specs.declared.denial.Denial.{Denial};
 ghost use Rattle.mml_codec.specs.declared.request.Request.TheVariants as requests;
 ghost use Rattle.mml_codec.specs.declared.greeting.Greeting.TheVariants.{Answered};
 ghost use Rattle.mml_codec.specs.Greetings.{greeting};
+ghost use Rattle.serde_json.specs.Data.{Data};
+ghost use Rattle.mml_codec.specs.Fields.{HasEach};
+ghost use Rattle.mml_codec.specs.Requests.{fields_of, request};
 ghost use Rattle.mml_codec.specs.Canonical.{canonical, IsWritable};
 ghost use Rattle.mml_codec.specs.Lines.{request_in};
 ghost use Rattle.mml_codec.specs.Replies.{text, reply_line, IsAbout};
@@ -30,6 +33,12 @@ ghost use Rattle.mml_rules.specs.declared.rule.Rule.{Rule};
 ghost use Rattle.mml_rules.specs.Rules.{kind_of};
 
 use crate::reply::{FULL_LINE, JOURNAL_LINE, MALFORMED_LINE, MEMORY_LINE};
+
+/// A value asks a request exactly where it has each field by which the request is written: other keys
+/// don't count, and what has the fields of none asks nothing.
+pub fn a_request_is_asked_by_its_fields()
+    ensures { (d : Data) (r : Request) → (request d ≡ Some r) ↔ HasEach d (fields_of r) }
+{}
 
 /// A request is read again from its text.
 pub fn a_text_asks_its_request()

@@ -1,7 +1,8 @@
 ghost use Rattle.std.specs.Prelude.{◌≡◌, [], ◌∷◌, codes, Ok, IfOk, OnOk, OnErr};
 ghost use Rattle.serde_json.specs.Written.{compact_text};
 ghost use Rattle.mml_policy.specs.declared.command.Command.TheVariants as command;
-ghost use Rattle.mml_codec.specs.Canonical.{register, command_fields, canonical, IsWritable};
+ghost use Rattle.mml_codec.specs.Canonical.{canonical, IsWritable};
+ghost use Rattle.mml_codec.specs.Requests.{register, command_fields};
 ghost use Rattle.mml_codec.specs.Fields.{number, word, object_of, AreWritable};
 ghost use Rattle.mml_codec.specs.inside.FieldViews.{field_view};
 ghost use Rattle.mml_codec.specs.Lines.{request_in};
