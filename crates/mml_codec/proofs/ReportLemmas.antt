@@ -6,7 +6,8 @@ pub on_ok : {T E P Q : Type 0} (r : Result T E) → (P → Q) → OnOk r P → O
 on_ok (Ok x) f h = f h
 on_ok (Err e) f h = tt
 
-then_put : (a b c x y : List ℕ) → b ≡ a ++ x → c ≡ b ++ y → c ≡ a ++ (x ++ y)
+-- two parts that were put one after another stand behind the beginning in that order
+pub then_put : (a b c x y : List ℕ) → b ≡ a ++ x → c ≡ b ++ y → c ≡ a ++ (x ++ y)
 then_put a b c x y first second = second ∙ ap (λ t. t ++ y) first ∙ append_assoc a x y
 
 -- nine parts that were put one after another stand behind the beginning in that order
