@@ -17,7 +17,8 @@ use Rattle.mml_lab.specs.RosterMeaning.{IsNameByte}
 use Rattle.mml_stable.specs.declared.open_link.OpenLink.{OpenLink}
 use Rattle.mml_codec.specs.Objects.{items_with, members_with}
 use Rattle.mml_codec.specs.Facts as fact
-use Rattle.mml_codec.specs.Facts.{Fact, Fields, truth_text, node_text, pointer_text, kind_text, kind_or_null, separated, members, near_text, pair_text}
+use Rattle.mml_ids.specs.Pieces.{truth_text}
+use Rattle.mml_codec.specs.Facts.{Fact, Fields, node_text, pointer_text, kind_text, kind_or_null, separated, members, near_text, pair_text}
 use Rattle.mml_codec.specs.Facts.{privileged_text, open_link_text, list_then, fact_then, fields_after, node_value, pointer_value, kind_value}
 use Rattle.mml_codec.specs.Facts.{kind_or_null_value, near_value, pair_value, privileged_value, open_link_value, fact_value, keys_of}
 

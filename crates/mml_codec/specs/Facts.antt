@@ -1,11 +1,11 @@
 -- What a key of a reply tells: its text, and the JSON value that the text spells.
 use Rattle.std.specs.Prelude.{ℕ, ◌<◌, ◌^◌, List, [], ◌∷◌, ◌++◌, length, map, filter, flat_map, Bool, Option, None, Some, codes, decimal, slice_index}
-use Rattle.std.specs.Prelude.{if◌then◌else◌}
 use Rattle.std.specs.List.{concat, range_with_len, AllByRecursion}
 use Rattle.std.specs.Ordering.{nat_cmp}
 use Rattle.std.specs.FinSet as set
 use Rattle.std.specs.FinSet.{FinSet}
 use Rattle.serde_json.specs.Data.{Data, null, boolean, number, unsigned, string, array}
+use Rattle.mml_ids.specs.Pieces.{truth_text}
 use Rattle.mml_rules.specs.declared.regs.Regs.{Regs}
 use Rattle.mml_rules.specs.declared.rule.Kind.{Kind}
 use Rattle.mml_board.specs.Vocabulary.{rule_name}
@@ -39,9 +39,6 @@ abbrev pub members : ℕ → FinSet nat_cmp → List ℕ
 members n s = filter (set.contains s) (range_with_len 0 n)
 
 -- ---- texts
-
-abbrev pub truth_text : Bool → List ℕ
-truth_text m = if m then codes "true" else codes "false"
 
 -- the identifier of a node
 abbrev pub node_text : List ℕ → ℕ → List ℕ

@@ -4,8 +4,8 @@ ghost use Rattle.mml_policy.specs.About.{IsNear};
 ghost use Rattle.mml_stable.specs.Reports.{IsPairOf, IsOpenLinkOf};
 ghost use Rattle.mml_codec.specs.Facts.{node_text, near_text, pair_text, privileged_text, open_link_text, separated};
 
-use crate::reply_writing::{kind_word, pointer, truth};
-use mml_ids::{IdTable, Memory, Piece, Rank, put};
+use crate::reply_writing::{kind_word, pointer};
+use mml_ids::{IdTable, Memory, Piece, Rank, put, truth_text};
 use mml_rules::{Kind, Regs};
 use mml_stable::OpenLink;
 
@@ -69,7 +69,7 @@ impl Listed for (Rank, Regs) {
             &[
                 Piece::Text(comma),
                 Piece::Text("{\"m\":"),
-                Piece::Text(truth(regs.m)),
+                Piece::Text(truth_text(regs.m)),
                 Piece::Text(",\"node\":"),
                 Piece::Id(ids.node_id(*node)),
                 Piece::Text(",\"p\":"),

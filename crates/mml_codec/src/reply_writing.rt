@@ -3,7 +3,8 @@ ghost use Rattle.mml_ids.specs.Pieces.{piece_text, piece_room, Puts};
 ghost use Rattle.mml_ids.specs.declared.piece.Piece.TheVariants.{Number};
 ghost use Rattle.mml_lab.specs.Rosters.{name_of, IsPrincipal};
 ghost use Rattle.mml_board.specs.declared.done.Done.TheVariants as done;
-ghost use Rattle.mml_codec.specs.Facts.{truth_text, pointer_text, kind_text, kind_or_null, node_text, members, separated, object_text, HaveFittingCounts};
+ghost use Rattle.mml_ids.specs.Pieces.{truth_text};
+ghost use Rattle.mml_codec.specs.Facts.{pointer_text, kind_text, kind_or_null, node_text, members, separated, object_text, HaveFittingCounts};
 ghost use Rattle.mml_codec.specs.Replies.{done_fields, ends_fields, hello_fields, bye_fields, see_fields, look_fields, current_number, deny_fields};
 ghost use Rattle.mml_codec.specs.Replies.{refuse_fields, refusal_name, text, reply_line, is_short, IsAbout, TellsFor};
 ghost use Rattle.mml_codec.specs.ReplyValues.{AreWritableCounts};
@@ -13,7 +14,7 @@ ghost use Rattle.mml_codec.specs.inside.Puts.{number_front, deny_parts, look_hea
 use crate::listed::put_list;
 use crate::reply::{REPLY_ROOM, Refused, Reply};
 use crate::report_writing::put_report;
-use mml_ids::{IdTable, Memory, NodeSet, Piece, Rank, put};
+use mml_ids::{IdTable, Memory, NodeSet, Piece, Rank, put, truth_text};
 use mml_lab::{Roster, Who};
 use mml_policy::{Denial, Look, See};
 use mml_rules::Kind;
@@ -207,7 +208,7 @@ fn put_see(ids: &IdTable, see: &See, out: &mut Vec<u8>) -> Result<(), Memory>
             Piece::Text("{\"at\":"),
             counted(see.at),
             Piece::Text(",\"m\":"),
-            Piece::Text(truth(see.regs.m)),
+            Piece::Text(truth_text(see.regs.m)),
             Piece::Text(",\"node\":"),
             Piece::Id(ids.node_id(see.node)),
             Piece::Text(",\"ok\":\"see\",\"p\":"),
@@ -254,7 +255,7 @@ fn put_look_head(look: &Look, out: &mut Vec<u8>) -> Result<(), Memory>
             Piece::Text(",\"chosen\":"),
             Piece::Text(kind_or_null(look.chosen)),
             Piece::Text(",\"m\":"),
-            Piece::Text(truth(look.regs.m)),
+            Piece::Text(truth_text(look.regs.m)),
             Piece::Text(",\"near\":["),
         ],
     )
@@ -549,13 +550,6 @@ pub(crate) fn counted(count: u64) -> Piece<'static>
     ensures fits { count < 2 ^ 64 }
 {
     Piece::Number(count)
-}
-
-pub(crate) fn truth(m: bool) -> &'static str
-    ensures text { result.now ≡ truth_text m }
-    ensures short { length result.now ≤ 5 }
-{
-    if m { "true" } else { "false" }
 }
 
 pub(crate) fn pointer(ids: &IdTable, p: Option<Rank>) -> Piece<'static>

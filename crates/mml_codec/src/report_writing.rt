@@ -5,8 +5,8 @@ ghost use Rattle.mml_codec.specs.Facts.{object_text};
 ghost use Rattle.mml_codec.specs.Replies.{report_fields};
 
 use crate::listed::put_list;
-use crate::reply_writing::{counted, truth};
-use mml_ids::{IdTable, Memory, Piece, put};
+use crate::reply_writing::counted;
+use mml_ids::{IdTable, Memory, Piece, put, truth_text};
 use mml_stable::Report;
 
 #[tactic(auto, unfolding(crate::specs::Facts::object_text))]
@@ -36,7 +36,7 @@ pub(crate) fn put_report(ids: &IdTable, report: &Report, out: &mut Vec<u8>) -> R
         out,
         &[
             Piece::Text("],\"stable\":"),
-            Piece::Text(truth(report.stable)),
+            Piece::Text(truth_text(report.stable)),
             Piece::Text("}"),
         ],
     )

@@ -10,7 +10,8 @@ use Rattle.std.proofs.lemmas.List.Elements.{All-nil, All-cons}
 use Rattle.std.specs.Int.Digits.{digits_of}
 use Rattle.std.specs.List.{AllByRecursion}
 use Rattle.std.specs.Io.KnownBytes.{Consumes, prepend_known}
-use Rattle.mml_lines.specs.LinesOf.{IsUnbroken, IsWithinLimit, IsTooLong, ended}
+use Rattle.mml_ids.specs.Lines.{IsUnbroken, ended}
+use Rattle.mml_lines.specs.LinesOf.{IsWithinLimit, IsTooLong}
 use Rattle.mml_lines.specs.declared.lines.TheConstants.{READ_SIZE}
 use Rattle.mml_hall.specs.declared.TheConstants.{MAX_SCRIPT_LINE}
 use Rattle.mml_hall.specs.Turns.{RequestLine}

@@ -7,7 +7,8 @@ use Rattle.mml_lines.specs.Sending.{BreaksOff, Sends}
 use Rattle.mml_codec.specs.Replies.{reply_line}
 use Rattle.std.specs.Io.KnownBytes.{Consumes, prepend_known}
 use Rattle.mml_lab.specs.Labs.{LabValue}
-use Rattle.mml_lines.specs.LinesOf.{IsWithinLimit, ended}
+use Rattle.mml_ids.specs.Lines.{ended}
+use Rattle.mml_lines.specs.LinesOf.{IsWithinLimit}
 use Rattle.mml_lines.specs.declared.lines.TheConstants.{READ_SIZE}
 use Rattle.mml_lines.specs.declared.write_fault.WriteFault.{WriteFault}
 use Rattle.mml_codec.specs.declared.reply.Reply.{Reply}

@@ -2,7 +2,8 @@
 use Rattle.std.proofs.Common.{◌≡◌, ◌≤◌, ℕ, List, [], ◌∷◌, ◌++◌, length, map, refl, ap, suc, ◌∙◌, append-nil}
 use Rattle.mml_lab.specs.declared.TheConstants.{MAX_SESSIONS}
 use Rattle.mml_lab.specs.Labs.{LabValue}
-use Rattle.mml_lines.specs.LinesOf.{IsUnbroken, lines_of}
+use Rattle.mml_ids.specs.Lines.{IsUnbroken}
+use Rattle.mml_lines.specs.LinesOf.{lines_of}
 use Rattle.mml_lines.proofs.LinesOfLemmas.{lines_first, no_line}
 use Rattle.mml_codec.specs.declared.reply.Reply.{Reply}
 use Rattle.mml_hall.specs.Turns.{State, RequestLine, Run}

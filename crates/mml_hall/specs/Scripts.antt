@@ -2,7 +2,8 @@
 use Rattle.std.specs.Prelude.{◌≡◌, ◌⊎◌, ℕ, ◌+◌, ◌<◌, List, [], length, Option}
 use Rattle.std.specs.Io.KnownBytes.{Appends, Consumes, IsAtEnd, prepend_known}
 use Rattle.mml_lab.specs.Labs.{LabValue}
-use Rattle.mml_lines.specs.LinesOf.{IsWithinLimit, ended}
+use Rattle.mml_ids.specs.Lines.{ended}
+use Rattle.mml_lines.specs.LinesOf.{IsWithinLimit}
 use Rattle.mml_lines.specs.Sending.{BreaksOff}
 use Rattle.mml_lines.specs.declared.lines.TheConstants.{READ_SIZE}
 use Rattle.mml_codec.specs.declared.reply.Reply.{Reply}

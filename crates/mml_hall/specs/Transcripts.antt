@@ -2,7 +2,7 @@
 use Rattle.std.specs.Prelude.{ℕ, List, [], ◌∷◌, ◌++◌, map, flat_map, decimal}
 use Rattle.std.specs.List.{AllByRecursion, concat}
 use Rattle.mml_lab.specs.Labs.{LabValue}
-use Rattle.mml_lines.specs.LinesOf.{ended}
+use Rattle.mml_ids.specs.Lines.{ended}
 use Rattle.mml_codec.specs.declared.reply.Reply.{Reply}
 use Rattle.mml_codec.specs.Replies.{reply_line}
 use Rattle.mml_hall.specs.Turns.{State, RequestLine, Run, opening}

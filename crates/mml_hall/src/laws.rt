@@ -3,7 +3,8 @@
 ghost use Rattle.std.specs.Prelude.{◌≡◌, ◌≢◌, ◌<◌, ◌≤◌, ◌⊎◌, ◌++◌, ℕ, List, true, length, map};
 ghost use Rattle.mml_lab.specs.declared.TheConstants.{MAX_SESSIONS};
 ghost use Rattle.mml_lab.specs.Labs.{LabValue};
-ghost use Rattle.mml_lines.specs.LinesOf.{IsUnbroken, lines_of};
+ghost use Rattle.mml_ids.specs.Lines.{IsUnbroken};
+ghost use Rattle.mml_lines.specs.LinesOf.{lines_of};
 ghost use Rattle.mml_codec.specs.declared.reply.Reply.TheVariants.{Refuse};
 ghost use Rattle.mml_codec.specs.declared.reply.Refused.TheVariants as refused;
 ghost use Rattle.mml_hall.specs.Turns.{State, Outcome, Turn, Mishap, turn, sink_failed, plain_turn, is_grant, halting, IsRefusal, IsKept, GrowsByGrant};

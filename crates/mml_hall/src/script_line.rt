@@ -1,7 +1,8 @@
 ghost use Rattle.std.specs.Prelude.{◌≡◌, ◌≢◌, ℕ, ◌<◌, ◌≤◌, ◌+◌, ◌++◌, ◌∷◌, [], List, length, slice_index, decimal, IfSome, IfNone, MatchOption};
 ghost use Rattle.mml_lab.specs.declared.TheConstants.{MAX_SESSIONS};
 ghost use Rattle.mml_codec.specs.declared.TheConstants.{MAX_REQUEST};
-ghost use Rattle.mml_lines.specs.LinesOf.{IsUnbroken, IsWithinLimit};
+ghost use Rattle.mml_ids.specs.Lines.{IsUnbroken};
+ghost use Rattle.mml_lines.specs.LinesOf.{IsWithinLimit};
 ghost use Rattle.mml_hall.specs.Turns.{RequestLine};
 ghost use Rattle.mml_hall.specs.ScriptLines.{IsScriptLine, line_of, script_line};
 

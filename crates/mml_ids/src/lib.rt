@@ -1,6 +1,7 @@
 //! Identifiers and ranks of nodes, sets of ranks, and the words that every crate above shares.
 #![tactic(auto)]
 
+mod condition;
 mod id_table;
 mod items;
 pub mod laws;
@@ -11,12 +12,13 @@ mod piece;
 mod rank;
 mod word;
 
+pub use condition::need;
 pub use id_table::{IdFault, IdTable};
 pub use items::Items;
 pub use memory::Memory;
 pub use node_id::NodeId;
 pub use node_set::NodeSet;
-pub use piece::{Piece, put};
+pub use piece::{Piece, put, truth_text};
 pub use rank::Rank;
 pub use word::Word;
 

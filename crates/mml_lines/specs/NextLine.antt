@@ -4,7 +4,8 @@ use Rattle.std.specs.Io.KnownBytes.{IsAtEnd}
 use Rattle.mml_lines.specs.declared.lines.Step.{Step}
 use Rattle.mml_lines.specs.declared.lines.Step.TheVariants.{Line, TooLong, End, ReadFault}
 use Rattle.mml_lines.specs.declared.lines.TheConstants.{MAX_READS, READ_SIZE}
-use Rattle.mml_lines.specs.LinesOf.{IsWithinLimit, IsTooLong, ended}
+use Rattle.mml_ids.specs.Lines.{ended}
+use Rattle.mml_lines.specs.LinesOf.{IsWithinLimit, IsTooLong}
 use Rattle.mml_lines.specs.LinesState.{LinesState}
 
 -- each answer but a line is the last

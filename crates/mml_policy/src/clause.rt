@@ -1,6 +1,5 @@
 //! Steps of clauses: each hands on what it found, or answers the denial that it is given.
 ghost use Rattle.std.specs.Prelude.{◌≡◌, ◌<◌, length, IfOk, IfSome};
-ghost use Rattle.mml_ids.specs.Gives.{need};
 ghost use Rattle.mml_ids.specs.Ids.{rank_in};
 ghost use Rattle.mml_rules.specs.Rules.{IsWithin};
 ghost use Rattle.mml_policy.specs.Clauses.{node, student, rule_of, pointer};
@@ -10,13 +9,6 @@ use crate::denial::Denial;
 use mml_ids::{IdTable, Rank};
 use mml_lab::{Student, Who};
 use mml_rules::Rule;
-
-/// The condition holds.
-pub(crate) fn need(condition: bool, denial: Denial) -> Result<(), Denial>
-    ensures { result ≡ need condition denial }
-{
-    if condition { Ok(()) } else { Err(denial) }
-}
 
 /// The node with this identifier.
 pub(crate) fn node(ids: &IdTable, id: u64, denial: Denial) -> Result<Rank, Denial>

@@ -3,7 +3,7 @@ use Rattle.std.proofs.Common.{◌≡◌, ℕ, List, [], take, refl, sym, ◌∙�
 use Rattle.std.proofs.KnownBytes.{Appends-nil, Appends-trans, Consumes-trans}
 use Rattle.std.specs.Io.KnownBytes.{Consumes, Appends, prepend_known}
 use Rattle.mml_lab.specs.Labs.{LabValue}
-use Rattle.mml_lines.specs.LinesOf.{ended}
+use Rattle.mml_ids.specs.Lines.{ended}
 use Rattle.mml_lines.proofs.KnownBytesLemmas.{nothing_held}
 use Rattle.mml_window.specs.Windows.{WindowValue}
 use Rattle.mml_session.specs.declared.session.SessionEnd.{SessionEnd}

@@ -2,7 +2,8 @@
 use Rattle.std.proofs.Common.{◌≡◌, ℕ, false, List, [], ◌∷◌, ◌++◌, flat_map, refl, sym, ◌∙◌, ap, append_assoc, append-nil, subst}
 use Rattle.std.specs.List.{AllByRecursion}
 use Rattle.mml_lab.specs.Labs.{LabValue}
-use Rattle.mml_lines.specs.LinesOf.{IsWithinLimit, ended}
+use Rattle.mml_ids.specs.Lines.{ended}
+use Rattle.mml_lines.specs.LinesOf.{IsWithinLimit}
 use Rattle.mml_codec.specs.declared.TheConstants.{MAX_REQUEST}
 use Rattle.mml_codec.specs.declared.reply.Reply.{Reply}
 use Rattle.mml_codec.specs.Replies.{reply_line}

@@ -6,7 +6,8 @@ use Rattle.std.proofs.lemmas.List.Elements.{All-nil, All-cons}
 use mathlib.Core.List.{IsPrefix}
 use Rattle.mml_lab.specs.declared.who.Who.{Who}
 use Rattle.mml_lab.specs.Labs.{LabValue}
-use Rattle.mml_lines.specs.LinesOf.{IsUnbroken, IsWithinLimit, lines_of}
+use Rattle.mml_ids.specs.Lines.{IsUnbroken}
+use Rattle.mml_lines.specs.LinesOf.{IsWithinLimit, lines_of}
 use Rattle.mml_lines.proofs.LinesOfLemmas.{lines_first, no_line}
 use Rattle.mml_board.specs.declared.event.Event.{Event}
 use Rattle.mml_policy.specs.declared.command.Command.{Command}

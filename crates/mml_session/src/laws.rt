@@ -2,7 +2,8 @@
 ghost use Rattle.std.specs.Prelude.{◌≡◌, ◌++◌, ℕ, List, flat_map, length};
 ghost use mathlib.Core.List.{IsPrefix};
 ghost use Rattle.mml_lab.specs.Labs.{LabValue};
-ghost use Rattle.mml_lines.specs.LinesOf.{IsUnbroken, lines_of};
+ghost use Rattle.mml_ids.specs.Lines.{IsUnbroken};
+ghost use Rattle.mml_lines.specs.LinesOf.{lines_of};
 ghost use Rattle.mml_session.specs.Turns.{Standing, places_in};
 ghost use Rattle.mml_session.specs.Talks.{Talk, LineTurn, bytes_read};
 

@@ -5,7 +5,8 @@ use Rattle.mml_board.specs.declared.event.Event.{Event}
 use Rattle.mml_board.specs.World.{opening_of}
 use Rattle.mml_board.specs.Events.{is_legal}
 use Rattle.mml_journal.specs.EventLines.{event_line}
-use Rattle.mml_journal.specs.JournalText.{ended_line, next_line}
+use Rattle.mml_ids.specs.Lines.{ended}
+use Rattle.mml_journal.specs.JournalText.{next_line}
 use Rattle.mml_journal.specs.Sinks.{with_more}
 use Rattle.mml_journal.proofs.JournalTextLemmas.{one_more}
 use Rattle.mml_window.specs.Lists.{world_in, text_in}
@@ -22,7 +23,7 @@ nothing_told lab (Some bytes) fresh = ([], fresh, refl)
 text-one_more : (lab : LabValue) (l : List Event) (e : Event) → text_in lab (l ++ e ∷ []) ≡ text_in lab l ++ next_line lab.ids lab.roster (world_in lab l) e
 text-one_more lab l e =
     one_more lab.ids lab.roster (opening_of lab.network) l e
-    ∙ ap (λ n. text_in lab l ++ ended_line (event_line lab.ids lab.roster n (world_in lab l).number e)) (omega (arith, place_in lab l))
+    ∙ ap (λ n. text_in lab l ++ ended (event_line lab.ids lab.roster n (world_in lab l).number e)) (omega (arith, place_in lab l))
 
 -- no line is torn before the journal halts
 whole : (lab : LabValue) (l : List Event) (bytes : List ℕ) → IsJournal lab l false bytes → bytes ≡ text_in lab l

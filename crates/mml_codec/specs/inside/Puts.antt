@@ -6,7 +6,8 @@ use Rattle.mml_policy.specs.declared.denial.Denial.{Denial}
 use Rattle.mml_policy.specs.declared.look.Look.{Look}
 use Rattle.mml_policy.specs.Denials.{clause_of, text_of}
 use Rattle.mml_policy.specs.Denials as denials
-use Rattle.mml_codec.specs.Facts.{truth_text, node_text, pointer_text, kind_or_null, separated, near_text}
+use Rattle.mml_ids.specs.Pieces.{truth_text}
+use Rattle.mml_codec.specs.Facts.{node_text, pointer_text, kind_or_null, separated, near_text}
 use Rattle.mml_codec.specs.Replies.{current_number}
 
 -- what stands before the clause of a denial

@@ -18,5 +18,5 @@ returns-clause-text c =
     (c.in_ok-put_list-3.ensures.text ∙ ap (λ xs. c.put-3.new.out.items ++ separated (map (pair_text ids) xs)) c.as_slice-3.ensures)
     c.in_ok-put-4.ensures.text
     (c.in_ok-put_list-4.ensures.text ∙ ap (λ xs. c.put-4.new.out.items ++ separated (map (privileged_text ids) xs)) c.as_slice-4.ensures)
-    (last ∙ ap (λ t. c.put_list-4.new.out.items ++ (codes "],\"stable\":" ++ (t ++ codes "}"))) c.truth.ensures.text)
+    (last ∙ ap (λ t. c.put_list-4.new.out.items ++ (codes "],\"stable\":" ++ (t ++ codes "}"))) c.truth_text.ensures.text)
     ∙ ap (λ t. c.args.out.now.items ++ t) (grouped (codes "{\"at\":") (decimal c.args.report.now.at) (codes ",\"free\":[") _)) c.put-5.ensures.text

@@ -1,6 +1,6 @@
 use Rattle.std.proofs.Common.{◌∷◌, [], ◌∙◌, refl, length, arith, length-append}
 use Rattle.std.specs.Io.KnownBytes.{prepend_known}
-use Rattle.mml_lines.specs.LinesOf.{ended}
+use Rattle.mml_ids.specs.Lines.{ended}
 use Rattle.mml_lines.specs.declared.lines.TheConstants.{MAX_READS}
 use Rattle.mml_hall.proofs.ScriptLinesLemmas.{too_long}
 use Rattle.mml_hall.proofs.ServingLemmas.{serves_next, bad_next, none_unsent, nearer}

@@ -1,0 +1,9 @@
+ghost use Rattle.std.specs.Prelude.{◌≡◌};
+ghost use Rattle.mml_ids.specs.Gives.{need};
+
+/// The condition holds, or else the error.
+pub fn need<E: Copy>(condition: bool, error: E) -> Result<(), E>
+    ensures { result ≡ need condition error }
+{
+    if condition { Ok(()) } else { Err(error) }
+}
