@@ -81,53 +81,53 @@ fn replies_to(alloc: Global, streams: &[TcpStream]) -> Result<Vec<String>, Fail>
     Ok(replies)
 }
 
-/// Serves so many connections of a listener over a lab, with a journal that fails at a put.
-fn serve<R: Threads + Wait + Sync + AllocGlobal, G: Gate + Sync, W: Write>(
-    rt: &R,
-    lab: &str,
-    listener: TcpListener,
+/// How a listener is served: so many connections, with a journal that fails at a put, at a gate.
+#[derive(Drop)]
+struct Service<'a, G> {
     connections: u8,
     fail_at: Option<u64>,
-    gate: &G,
-    writer: &mut W,
-) -> Result<Option<Result<(), ServeFault>>, Fail> {
-    let alloc = rt.alloc();
-    let lab = read_lab(alloc, lab.as_bytes())?;
-    Ok(serve_lab(rt, alloc, lab, listener, connections, fail_at, gate, writer))
+    gate: &'a G,
 }
 
-/// None where the number of connections is out of its limits.
-fn serve_lab<R: Threads + Wait + Sync, G: Gate + Sync, W: Write>(
+/// Serves a listener over a lab. None where the number of connections is out of its limits.
+fn serve<R: Threads + Wait + Sync, G: Gate + Sync, W: Write>(
     rt: &R,
     alloc: Global,
     lab: Lab,
     listener: TcpListener,
-    connections: u8,
-    fail_at: Option<u64>,
-    gate: &G,
+    service: &Service<'_, G>,
     writer: &mut W,
 ) -> Option<Result<(), ServeFault>> {
+    let connections = service.connections;
     if connections == 0 || connections > lab.sessions() {
         return None;
     }
-    let sink = MemorySink::new(alloc, fail_at);
-    Some(serve_on(rt, alloc, lab, listener, connections, sink, gate, writer))
+    let sink = MemorySink::new(alloc, service.fail_at);
+    Some(serve_on(
+        rt,
+        alloc,
+        lab,
+        listener,
+        connections,
+        sink,
+        service.gate,
+        writer,
+    ))
 }
 
-/// Serves so many connections of a listener over a lab, these clients among them, with a journal that
-/// fails at a put and a writer that takes so many writes.
+/// Serves a listener over a lab, these clients among those who come, with a writer that takes so many
+/// writes.
 fn serve_streams<R: Threads + Wait + Sync + AllocGlobal, G: Gate + Sync>(
     rt: &R,
     lab: &str,
     listener: TcpListener,
     streams: &[TcpStream],
-    connections: u8,
-    fail_at: Option<u64>,
+    service: &Service<'_, G>,
     writes: usize,
-    gate: &G,
 ) -> Result<Served, Fail> {
+    let lab = read_lab(rt.alloc(), lab.as_bytes())?;
     let mut writer = FakeWriter::failing_after(writes, rt.alloc());
-    let ended = serve(rt, lab, listener, connections, fail_at, gate, &mut writer)?;
+    let ended = serve(rt, rt.alloc(), lab, listener, service, &mut writer);
     let replies = replies_to(rt.alloc(), streams)?;
     Ok(Served {
         ended,
@@ -144,17 +144,12 @@ fn serve_clients<
     let connections = u8::try_from(texts.len()).map_err(|_| "too many texts")?;
     let listener = listener(rt)?;
     let streams = clients(rt, &listener, texts)?;
-    let all = usize::MAX;
-    serve_streams(
-        rt,
-        lab,
-        listener,
-        streams.as_slice(),
+    let service = Service {
         connections,
-        None,
-        all,
+        fail_at: None,
         gate,
-    )
+    };
+    serve_streams(rt, lab, listener, streams.as_slice(), &service, usize::MAX)
 }
 
 /// Whether all connections were served, the last line is so, and each client got what is wanted.

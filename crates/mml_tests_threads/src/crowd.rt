@@ -85,12 +85,11 @@ fn play_moves<H: House, R: Wait>(
     rt: &R,
     alloc: Global,
     desk: &Desk<MemorySink, H>,
-    window: Window<H>,
-    who: Who,
+    player: Player<H>,
     first: u64,
     ended: &AtomicU64,
 ) -> Player<H> {
-    let mut player = Player::new(alloc, window, who);
+    let mut player = player;
     moves(rt, alloc, desk, &mut player, first);
     ended.fetch_add(1, Ordering::SeqCst);
     player
@@ -105,15 +104,17 @@ fn play_all<H: House + Send + Sync, R: Threads + Wait + Sync>(
     ben: Window<H>,
     tess: Window<H>,
 ) -> (Player<H>, (Player<H>, Player<H>)) {
+    let ana = Player::new(alloc, ana, student(0));
+    let ben = Player::new(alloc, ben, student(1));
     let ended = AtomicU64::new(0);
     let ended = &ended;
     join(
         rt,
-        move || -> Player<H> { play_moves(rt, alloc, desk, ana, student(0), 1, ended) },
+        move || -> Player<H> { play_moves(rt, alloc, desk, ana, 1, ended) },
         move || -> (Player<H>, Player<H>) {
             join(
                 rt,
-                move || -> Player<H> { play_moves(rt, alloc, desk, ben, student(1), 33, ended) },
+                move || -> Player<H> { play_moves(rt, alloc, desk, ben, 33, ended) },
                 move || -> Player<H> {
                     let mut player = Player::new(alloc, tess, Who::Teacher);
                     closes(rt, alloc, desk, &mut player, ended);

@@ -27,6 +27,14 @@ pub struct Stretch {
     pub asked: u64,
 }
 
+/// What the threads of a stretch share.
+#[derive(Drop)]
+struct Shared {
+    work: Work,
+    texts: Texts,
+    marks: Marks,
+}
+
 /// How many threads are there, and whether the stretch is over.
 #[derive(Drop)]
 struct Marks {
@@ -76,9 +84,12 @@ pub fn beside<H: House + Send + Sync, R: Clock + Threads + Wait + Sync, S: Sink 
     working: (Window<H>, Window<H>),
     work: Work,
 ) -> io::Result<Stretch> {
-    let texts = write_texts(alloc)?;
-    let marks = Marks::new();
-    look_beside(rt, alloc, desk, looking, working, work, &texts, &marks)
+    let shared = Shared {
+        work,
+        texts: write_texts(alloc)?,
+        marks: Marks::new(),
+    };
+    look_beside(rt, alloc, desk, looking, working, &shared)
 }
 
 /// The same with what the threads share.
@@ -88,14 +99,12 @@ fn look_beside<H: House + Send + Sync, R: Clock + Threads + Wait + Sync, S: Sink
     desk: &Desk<S, H>,
     looking: (Window<H>, Window<H>),
     working: (Window<H>, Window<H>),
-    work: Work,
-    texts: &Texts,
-    marks: &Marks,
+    shared: &Shared,
 ) -> io::Result<Stretch> {
     let (worked, shown) = join(
         rt,
-        move || -> io::Result<(u64, u64)> { work_on(rt, alloc, desk, working, work, texts, marks) },
-        move || -> u64 { show_on_both(rt, looking, marks) },
+        move || -> io::Result<(u64, u64)> { work_on(rt, alloc, desk, working, shared) },
+        move || -> u64 { show_on_both(rt, looking, &shared.marks) },
     );
     let (micros, asked) = worked?;
     Ok(Stretch {
@@ -111,14 +120,12 @@ fn work_on<H: House, R: Clock + Wait, S: Sink + Drop>(
     alloc: Global,
     desk: &Desk<S, H>,
     windows: (Window<H>, Window<H>),
-    work: Work,
-    texts: &Texts,
-    marks: &Marks,
+    shared: &Shared,
 ) -> io::Result<(u64, u64)> {
     let (mut one, mut two) = windows;
-    arrive(rt, marks);
-    let worked = do_work(rt, alloc, desk, &mut one, &mut two, work, texts);
-    marks.over.store(1, Ordering::SeqCst);
+    arrive(rt, &shared.marks);
+    let worked = do_work(rt, alloc, desk, &mut one, &mut two, shared);
+    shared.marks.over.store(1, Ordering::SeqCst);
     worked
 }
 
@@ -129,13 +136,12 @@ fn do_work<H: House, R: Clock + Wait, S: Sink + Drop>(
     desk: &Desk<S, H>,
     one: &mut Window<H>,
     two: &mut Window<H>,
-    work: Work,
-    texts: &Texts,
+    shared: &Shared,
 ) -> io::Result<(u64, u64)> {
-    match work {
+    match shared.work {
         Work::Alone | Work::Spinning => spin(rt),
         Work::Asking(pause) => ask(rt, alloc, desk, one, pause),
-        Work::Sessions | Work::Journal => serve(rt, alloc, desk, one, two, texts),
+        Work::Sessions | Work::Journal => serve(rt, alloc, desk, one, two, &shared.texts),
     }
 }
 

@@ -153,25 +153,12 @@ pub fn serve<H: House, R: Clock + Wait, S: Sink + Drop>(
     texts: &Texts,
 ) -> io::Result<(u64, u64)> {
     let mut replies = Vec::new(alloc);
-    serve_steps(rt, alloc, desk, student, teacher, texts, &mut replies)
-}
-
-/// The same, with room for the replies of a step.
-fn serve_steps<H: House, R: Clock + Wait, S: Sink + Drop>(
-    rt: &R,
-    alloc: Global,
-    desk: &Desk<S, H>,
-    student: &mut Window<H>,
-    teacher: &mut Window<H>,
-    texts: &Texts,
-    replies: &mut Vec<u8>,
-) -> io::Result<(u64, u64)> {
     let mut asked = 0u64;
     let start = Instant::now(rt)?;
     for moves in texts.moves.as_slice() {
         replies.clear();
-        serve_text(rt, alloc, desk, student, moves, replies);
-        serve_text(rt, alloc, desk, teacher, &texts.faults, replies);
+        serve_text(rt, alloc, desk, student, moves, &mut replies);
+        serve_text(rt, alloc, desk, teacher, &texts.faults, &mut replies);
         asked = asked.saturating_add(STEP);
         if micros_since(start, rt)? >= STRETCH {
             break;

@@ -1,7 +1,7 @@
 //! Clients that go away, and servers that end with an error.
 use super::{
-    BUILT_IN, GRANTED, HELLO_TEACHER, MOVE, Served, are_served_so, clients, is_served_so, listener,
-    serve_streams,
+    BUILT_IN, GRANTED, HELLO_TEACHER, MOVE, Served, Service, are_served_so, clients, is_served_so,
+    listener, serve_streams,
 };
 use mml_serving::ServeFault;
 use mml_session::NoGate;
@@ -45,16 +45,18 @@ fn served_after_one_gone<
     let listener = listener(rt)?;
     come_and_go(rt, &listener)?;
     let streams = clients(rt, &listener, &[HELLO_TEACHER])?;
-    let all = usize::MAX;
+    let service = Service {
+        connections: 2,
+        fail_at: None,
+        gate: &NoGate,
+    };
     serve_streams(
         rt,
         BUILT_IN,
         listener,
         streams.as_slice(),
-        2,
-        None,
-        all,
-        &NoGate,
+        &service,
+        usize::MAX,
     )
 }
 
@@ -75,16 +77,12 @@ fn ended_with<
     let listener = listener(rt)?;
     listener.set_nonblocking(true)?;
     let streams = clients(rt, &listener, &[MOVE])?;
-    serve_streams(
-        rt,
-        BUILT_IN,
-        listener,
-        streams.as_slice(),
+    let service = Service {
         connections,
         fail_at,
-        0,
-        &NoGate,
-    )
+        gate: &NoGate,
+    };
+    serve_streams(rt, BUILT_IN, listener, streams.as_slice(), &service, 0)
 }
 
 const REFUSED: &str = "{\"ok\":\"hello\",\"who\":\"ana\"}

@@ -1,7 +1,7 @@
 //! A client that never reads what it is answered.
 use super::{
-    GRANTED, HELLO_TEACHER, MOVE, STEP, STEP_REPLIES, Served, connect, is_served_so, listener,
-    send, serve_lab,
+    GRANTED, HELLO_TEACHER, MOVE, STEP, STEP_REPLIES, Served, Service, connect, is_served_so,
+    listener, send, serve,
 };
 use mml_fakes::FakeWriter;
 use mml_fakes::cycles::cycle;
@@ -76,20 +76,25 @@ fn ask_in_turn(alloc: Global, others: &[TcpStream]) -> io::Result<Vec<String>> {
 type Ended = (Option<Result<(), ServeFault>>, Vec<u8>);
 
 /// Serves three, and has the others answered while the replies to the first client stand unread.
-fn serve_beside<R: Clock + Threads + Wait + Sync>(
+fn serve_beside<R: Clock + Threads + Wait + Sync + AllocGlobal>(
     rt: &R,
-    alloc: Global,
     lab: Lab,
     listener: TcpListener,
     unread: Vec<TcpStream>,
     others: Vec<TcpStream>,
     gate: &Counting,
 ) -> (Ended, io::Result<Vec<String>>) {
+    let alloc = rt.alloc();
     join(
         rt,
         move || -> Ended {
             let mut writer = FakeWriter::patient(alloc);
-            let ended = serve_lab(rt, alloc, lab, listener, 3, None, gate, &mut writer);
+            let service = Service {
+                connections: 3,
+                fail_at: None,
+                gate,
+            };
+            let ended = serve(rt, alloc, lab, listener, &service, &mut writer);
             (ended, writer.taken)
         },
         move || -> io::Result<Vec<String>> {
@@ -140,7 +145,7 @@ fn serve_unread<
     let listener = listener(rt)?;
     let (unread, others) = connect_beside(rt, &listener)?;
     let lab = largest_cycle(rt.alloc())?;
-    let (ended, replies) = serve_beside(rt, rt.alloc(), lab, listener, unread, others, gate);
+    let (ended, replies) = serve_beside(rt, lab, listener, unread, others, gate);
     served_of(ended, replies)
 }
 
