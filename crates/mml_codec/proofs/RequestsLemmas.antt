@@ -15,7 +15,7 @@ use Rattle.mml_policy.specs.declared.command.Command.TheVariants as command
 use Rattle.mml_codec.specs.declared.request.Request.{Request}
 use Rattle.mml_codec.specs.declared.request.Request.TheVariants as requests
 use Rattle.mml_codec.specs.Fields as field
-use Rattle.mml_codec.specs.Fields.{Field, Has, HasEach}
+use Rattle.mml_codec.specs.Fields.{Has, HasEach}
 use Rattle.mml_codec.specs.Requests.{rule_word, partner_fields, register, asks, fields_of, asked_at, hello_of, node_of, ends_of, move_of, fault_of, by_word, request}
 
 -- ---- words
