@@ -9,6 +9,7 @@ use crate::script_answering::{answer_script, write_audit, write_size};
 use crate::words::{ScriptTask, ServeTask, Task, read_words};
 use mml_ends::{Retrying, hold_streams};
 use mml_files::OpenJournal;
+use mml_hall::Hall;
 use mml_journal::{NullSink, Sink};
 use mml_lab::{Lab, read_lab};
 use mml_serving::{ServeFault, serve_on, write_listening};
@@ -113,10 +114,17 @@ fn answer_lines<R: Print + AllocGlobal, S: Sink + Drop>(
     let mut script = script;
     let mut writer = Retrying::new(io::writer(rt));
     match answer_script(rt.alloc(), lab, &mut script, &mut writer, sink) {
-        Ok(hall) if hall.halted() => Err(Fault::Journal),
-        Ok(_) => Ok(()),
+        Ok(hall) => ended(&hall),
         Err(fault) => Err(fault.or_memory(writer.lacked_memory)),
     }
+}
+
+// How a script ends whose lines are answered.
+fn ended<S: Sink>(hall: &Hall<S>) -> Result<(), Fault> {
+    if hall.halted() {
+        return Err(Fault::Journal);
+    }
+    Ok(())
 }
 
 // Audits the journal of a file over the lab of a file.

@@ -68,6 +68,14 @@ fn refusals_of(
     None
 }
 
+/// The connection and the request of a script's line, and the text of its reply.
+fn parts_of<'a>(line: &'a str, reply: &'a str) -> Option<(u8, &'a str, &'a str)> {
+    let (number, request) = line.split_once(' ')?;
+    let (_, wanted) = reply.split_once(' ')?;
+    let connection = number.parse::<u8>().ok()?;
+    Some((connection, request, wanted))
+}
+
 /// How often the lines of a script were refused, each until it got its reply.
 fn refusals_of_all(
     alloc: Global,
@@ -78,9 +86,7 @@ fn refusals_of_all(
 ) -> Option<usize> {
     let mut refused = 0usize;
     for (line, reply) in script.lines().zip(replies.lines()) {
-        let (number, request) = line.split_once(' ')?;
-        let (_, wanted) = reply.split_once(' ')?;
-        let connection = number.parse::<u8>().ok()?;
+        let (connection, request, wanted) = parts_of(line, reply)?;
         let more = refusals_of(alloc, hall, connection, request, wanted, is_there)?;
         refused = refused.saturating_add(more);
     }
@@ -148,29 +154,34 @@ fn grant_of(hall: &Hall<MemorySink>, reply: &[u8]) -> Option<Grant> {
     is_so.then_some(found)
 }
 
+/// Whether a move that is asked once more gets the line of a halted journal.
+fn stays_halted(alloc: Global, hall: &mut Hall<MemorySink>, is_there: bool) -> bool {
+    match answered(alloc, hall, 1, MOVE, 0, is_there) {
+        Some((reply, _)) => reply.as_slice() == JOURNAL_LINE.as_bytes(),
+        None => false,
+    }
+}
+
 /// What became of a grant whose nth request for memory was refused, and whether none was. What halted is
 /// asked once more, and stays so.
+fn grant_in(
+    alloc: Global,
+    hall: &mut Hall<MemorySink>,
+    nth: usize,
+    is_there: bool,
+) -> Option<(Grant, bool)> {
+    answered(alloc, hall, 1, HELLO, 0, is_there);
+    let (reply, was_none) = answered(alloc, hall, 1, MOVE, nth, is_there)?;
+    let found = grant_of(hall, reply.as_slice())?;
+    let is_so = found != Grant::Halted || stays_halted(alloc, hall, is_there);
+    is_so.then_some((found, was_none))
+}
+
+/// The same in a hall of its own.
 fn granted(alloc: Global, nth: usize, is_there: bool) -> Result<Option<(Grant, bool)>, Fail> {
     let lab = read_lab(alloc, PATH_OF_THREE.as_bytes())?;
     let mut hall = Hall::new(alloc, lab, MemorySink::new(alloc, None))?;
-    answered(alloc, &mut hall, 1, HELLO, 0, is_there);
-    let Some((reply, was_none)) = answered(alloc, &mut hall, 1, MOVE, nth, is_there) else {
-        return Ok(None);
-    };
-    let found = grant_of(&hall, reply.as_slice());
-    if found == Some(Grant::Halted) {
-        let again = answered(alloc, &mut hall, 1, MOVE, 0, is_there);
-        let stays = again.map_or(
-            false,
-            |(reply, _)| reply.as_slice() == JOURNAL_LINE.as_bytes(),
-        );
-        return Ok(if stays {
-            Some((Grant::Halted, was_none))
-        } else {
-            None
-        });
-    }
-    Ok(found.map(|found| (found, was_none)))
+    Ok(grant_in(alloc, &mut hall, nth, is_there))
 }
 
 /// How often a grant was refused, and how often it halted, until it was made.
