@@ -1,4 +1,4 @@
-//! The library of `.ci/refuse.c`, which the gate loads before these tests once more, as they see it.
+//! The library of `tests/memory/refuse.c`, which the gate loads before these tests once more, as they see it.
 //! A test speaks to it by requests of more bytes than there are; without it these are just refused.
 use std::alloc::Global;
 

@@ -1,0 +1,182 @@
+"""One browser for all tests of a process, and what stands in a page."""
+from __future__ import annotations
+
+import atexit
+import subprocess
+import sys
+import tempfile
+import time
+import unittest
+from functools import cache
+from pathlib import Path
+from typing import Any
+
+from selenium import webdriver
+from selenium.webdriver.chrome.options import Options
+from selenium.webdriver.chrome.service import Service
+from selenium.webdriver.common.action_chains import ActionChains
+from selenium.webdriver.support.wait import WebDriverWait
+
+from classroom.frames import Frame, State
+from classroom.program import TOP
+from tests.classroom.help import LIMIT
+
+Shown = tuple[dict[str, str], list[dict[str, str]], str]
+ATTRIBUTES = """
+const nodes = [...document.querySelectorAll('#drawing .node')].map((node) => ({...node.dataset}));
+return [{...document.getElementById('drawing').dataset}, nodes, document.getElementById('event').textContent];
+"""
+
+
+def started() -> Any:
+    """A browser without a window."""
+    made: Any = Options
+    options = made()
+    options.binary_location = "/usr/bin/chromium"
+    for word in ("--headless=new", "--no-sandbox", "--disable-dev-shm-usage", "--window-size=1300,900"):
+        options.add_argument(word)
+    service: Any = Service
+    chrome: Any = webdriver.Chrome
+    return chrome(options=options, service=service("/usr/bin/chromedriver"))
+
+
+@cache
+def browser() -> Any:
+    """The one of this process."""
+    driver = started()
+    atexit.register(driver.quit)
+    return driver
+
+
+def is_ready(driver: Any) -> bool:
+    """Whether the page shows something."""
+    found: bool = driver.execute_script("return document.body !== null && document.body.dataset.ready === 'true'")
+    return found
+
+
+def until(driver: Any, holds: Any) -> None:
+    """Waits for what the page has to show."""
+    wait: Any = WebDriverWait
+    wait(driver, LIMIT, poll_frequency=0.05).until(holds)
+
+
+def press(driver: Any, *keys: str) -> None:
+    """Presses keys, at what has the focus."""
+    chain: Any = ActionChains
+    chain(driver).send_keys(*keys).perform()
+
+
+def shown(driver: Any) -> Shown:
+    """What the page shows."""
+    root, nodes, line = driver.execute_script(ATTRIBUTES)
+    return root, sorted(nodes, key=lambda node: int(node["node"])), line
+
+
+def told(state: State, frame: Frame) -> Shown:
+    """What a page has to show of a state."""
+    root = {
+        "place": str(state.place), "number": str(state.number), "privileged": str(len(state.privileged)),
+        "pairs": str(len(state.pairs)),
+    }
+    married = {node for pair in state.pairs for node in pair}
+    nodes = [
+        {
+            "node": str(node), "p": "" if pointer is None else str(pointer), "m": str(state.ms[node]).lower(),
+            "married": str(node in married).lower(), "rule": state.privileged.get(node, ""),
+            "chosen": state.chosen.get(node, ""),
+        }
+        for node, pointer in state.pointers.items()
+    ]
+    line = "the beginning" if frame.event is None else f"{state.place}: {' '.join(frame.event.words)}"
+    return root, sorted(nodes, key=lambda node: int(node["node"])), line
+
+
+# Each text that is seen, in its colour over what lies behind it. On paper no background of HTML is printed. Behind
+# a text of the drawing is the ground that surrounds its letters, but for those that stand in a form of their own.
+TEXTS = """
+const onPaper = arguments[0];
+const colour = (text) => (text.match(/[\\d.]+/g) || []).map(Number);
+const isSeen = ([, , , alpha]) => alpha === undefined || alpha > 0;
+const paper = (element) => {
+  for (let at = element; at && !onPaper; at = at.parentElement) {
+    const found = colour(getComputedStyle(at).backgroundColor);
+    if (isSeen(found)) return found;
+  }
+  return [255, 255, 255];
+};
+const behind = (element) => {
+  const group = element.closest('svg') && element.closest('.m, .node');
+  if (group && element.closest('.m')) return [colour(getComputedStyle(group.querySelector('rect')).fill)];
+  if (element.matches('.identifier')) {
+    return [...group.querySelectorAll('.owned')].map((form) => colour(getComputedStyle(form).fill));
+  }
+  return [paper(element.closest('svg') ? element.closest('.stage') : element)];
+};
+const found = [];
+for (const element of document.querySelectorAll('body *')) {
+  const own = [...element.childNodes].some((node) => node.nodeType === 3 && node.data.trim());
+  const style = getComputedStyle(element);
+  if (!own && !element.matches('select, input[type="number"]')) continue;
+  if (!element.getClientRects().length || style.visibility !== 'visible' || element.matches('title, script')) continue;
+  const front = colour(element.closest('svg') ? style.fill : style.color);
+  for (const back of behind(element)) found.push([element.textContent.trim(), front.slice(0, 3), back.slice(0, 3)]);
+}
+return found;
+"""
+
+
+def luminance(colour: list[float]) -> float:
+    """How light a colour is, as WCAG 2 counts it."""
+    parts = [part / 255 for part in colour]
+    red, green, blue = (part / 12.92 if part <= 0.04045 else ((part + 0.055) / 1.055) ** 2.4 for part in parts)
+    lightness: float = 0.2126 * red + 0.7152 * green + 0.0722 * blue
+    return lightness
+
+
+def contrast(front: list[float], back: list[float]) -> float:
+    """The contrast of two colours, from 1 to 21."""
+    darker, lighter = sorted((luminance(front), luminance(back)))
+    return (lighter + 0.05) / (darker + 0.05)
+
+
+def show_as(driver: Any, theme: str = "light", media: str = "") -> None:
+    """Shows pages as for a reader who has set this theme, on a screen or on paper."""
+    setting = {"media": media, "features": [{"name": "prefers-color-scheme", "value": theme}]}
+    driver.execute_cdp_cmd("Emulation.setEmulatedMedia", setting)
+
+
+def pale(driver: Any, on_paper: bool = False) -> tuple[int, list[tuple[str, float]]]:
+    """How many texts a page shows, and those whose contrast is under 4.5 to 1."""
+    texts = driver.execute_script(TEXTS, on_paper)
+    told = [(text, contrast(front, back)) for text, front, back in texts]
+    return len(told), [(text, ratio) for text, ratio in told if ratio < 4.5]
+
+
+class Played(unittest.TestCase):
+    """Opens the pages of runs."""
+
+    def setUp(self) -> None:
+        self.driver: Any = browser()
+        room = tempfile.TemporaryDirectory()
+        self.addCleanup(room.cleanup)
+        self.room = Path(room.name)
+
+    def call(self, *words: str | Path) -> subprocess.CompletedProcess[str]:
+        return subprocess.run([sys.executable, TOP / "class", *words], capture_output=True, text=True, check=False)
+
+    def page(self, lab: Path, journal: Path) -> Path:
+        output = self.room / f"{journal.stem}.html"
+        done = self.call("play", lab, journal, "-o", output)
+        self.assertEqual((done.returncode, done.stderr), (0, ""))
+        return output
+
+    def open(self, page: Path, place: str = "") -> float:
+        """Opens a page, and answers the seconds until it shows something."""
+        start = time.monotonic()
+        self.driver.get("about:blank")
+        self.driver.get(page.as_uri() + place)
+        until(self.driver, is_ready)
+        return time.monotonic() - start
+
+    def press(self, key: str) -> None:
+        press(self.driver, key)

@@ -1,0 +1,238 @@
+"""What can go wrong in a run: kills, a full disk, terminals that go away, no place, bots that race and guess."""
+from __future__ import annotations
+
+import json
+import os
+import re
+import secrets
+import shutil
+import signal
+import socket
+import subprocess
+import sys
+import threading
+import unittest
+import unittest.mock
+from collections import Counter
+from collections.abc import Callable
+from pathlib import Path
+
+from classroom import connected, run
+from classroom.client import Client, Closed, Refused
+from classroom.connected import Connected
+from classroom.program import host
+from tests.classroom.help import CYCLE, EXAMPLES, KEYS, LIMIT, Cycle, Going, InTerminal
+
+MOUNT = "mount -t tmpfs -o size=128k tmpfs \"$1\" && shift && exec \"$@\""
+
+
+class Broken(Cycle):
+    """Whatever ends a run, its folder is whole."""
+
+    def lab(self, name: str, sessions: int) -> Path:
+        """A lab of `examples/` with so many places."""
+        text = (EXAMPLES / name).read_text(encoding="utf-8")
+        return self.file(name, re.sub(r"(?m)^sessions = \d+", f"sessions = {sessions}", text))
+
+    def test_kills_of_the_server_at_ten_moments(self) -> None:
+        def typed(line: str) -> Callable[[Going], None]:
+            def act(going: Going) -> None:
+                going.type(line)
+                going.until("^configuration .*: (release|\\d+ \\()" if line.split()[0] in ("release", "close") else re.escape(line))
+            return act
+
+        def move(name: str, node: int) -> Callable[[Going], None]:
+            def act(going: Going) -> None:
+                with Client(going.port, name, KEYS[name]) as student:
+                    student.move(student.look(node))
+            return act
+
+        acts = [move("gus", 4), move("ines", 3), typed("release 3"), typed("close"), typed("fault 1 2 true"), typed("link 1 3"),
+                move("jonas", 7), typed("cut 1 3"), typed("link 2 4")]
+        for moment in range(10):
+            with self.subTest(moment=moment):
+                going = Going(self, self.lab("cycle.toml", 16), "--close", "by-hand")
+                for act in acts[:moment]:
+                    act(going)
+                os.kill(going.server(), signal.SIGKILL)
+                self.assertEqual(going.ends(), 4, going.lines)
+                self.assertEqual(self.whole(going.folder), moment)
+                self.assertTrue(any(line.startswith("the server") for line in going.lines))
+
+    def test_a_kill_while_bots_ask(self) -> None:
+        going = Going(self, CYCLE, "--close", "every:0.05")
+        for name in KEYS:
+            self.bot(going, name)
+        for _ in range(3):
+            going.until("^configuration ")
+        os.kill(going.server(), signal.SIGKILL)
+        self.assertEqual(going.ends(), 4, going.lines)
+        self.assertGreaterEqual(self.whole(going.folder), 3)
+
+    def mounted(self) -> tuple[str, ...]:
+        """Words that make a call in which the folder of runs is a small disk of its own."""
+        (self.room / "runs").mkdir()
+        for way in (["unshare", "-m"], ["unshare", "-rm"]):
+            words = (*way, "sh", "-c", MOUNT, "sh", str(self.room / "runs"))
+            if shutil.which("unshare") and subprocess.run([*words, "true"], capture_output=True, check=False).returncode == 0:
+                return words
+        self.skipTest("not tried: a full disk, since nothing can be mounted")
+
+    def fill(self, folder: Path) -> None:
+        """Leaves no byte free."""
+        with (folder / "filler").open("wb", buffering=0) as it:
+            try:
+                while True:
+                    it.write(bytes(4096))
+            except OSError:
+                pass
+
+    def test_a_full_disk(self) -> None:
+        going = Going(self, CYCLE, "--close", "by-hand", before=self.mounted())
+        self.fill(Path(f"/proc/{going.process.pid}/root{going.folder}"))
+        with Client(going.port, "gus", KEYS["gus"]) as gus:
+            with self.assertRaises(Refused) as refused:
+                gus.move(gus.look(4))
+            self.assertEqual((refused.exception.word, gus.look(4).chosen), ("journal", None))
+        going.type("fault 1 2 true")
+        going.until("^no: journal")
+        going.type("end")
+        self.assertEqual(going.ends(), 4, going.lines)
+        self.assertTrue(any(line.startswith("ok: 0 events") for line in going.lines), going.lines)
+        self.assertTrue(any("No space left on device; the journal is" in line for line in going.lines), going.lines)
+
+    def test_no_event_is_left(self) -> None:
+        lab = self.lab("cycle.toml", 8)
+        lab.write_text(re.sub(r"(?m)^events = \d+", "events = 1", lab.read_text(encoding="utf-8")), encoding="utf-8")
+        going = Going(self, lab, "--close", "every:0.1")
+        with Client(going.port, "gus", KEYS["gus"]) as gus:
+            gus.move(gus.look(4))
+        self.assertEqual(going.ends(), 0, going.lines)
+        self.assertIn("nothing more is granted: full", going.lines)
+        self.assertEqual(self.whole(going.folder), 1)
+
+    def test_a_folder_that_takes_nothing_more(self) -> None:
+        going = Going(self, CYCLE)
+        going.type("end")
+        self.assertEqual(going.ends(), 0)
+        (going.folder / "marks.txt").unlink()
+        (going.folder / "marks.txt").symlink_to("/dev/full")
+        lines: list[str] = []
+        self.assertEqual(run.finish(going.folder, lines.append), 4)
+        self.assertRegex(lines[-1], "No space left on device; the journal is .*/journal$")
+
+    def test_a_terminal_that_goes_away(self) -> None:
+        terminal = InTerminal(self)
+        terminal.type(b"fault 1 2 true\n", b" 0 of at most 35 moves")
+        os.close(terminal.ours)
+        self.assertEqual(terminal.process.wait(LIMIT), 0)
+        self.assertEqual(self.whole(next((self.room / "runs").iterdir())), 1)
+
+    def test_nobody_reads_any_more(self) -> None:
+        going = Going(self, CYCLE, "--close", "by-hand")
+        assert going.process.stdout is not None
+        going.process.stdout.close()
+        for line in ("fault 1 2 true", "link 1 3", "end"):
+            going.type(line)
+        self.assertEqual(going.process.wait(LIMIT), 0)
+        self.assertEqual(self.whole(going.folder), 2)
+        self.assertIn("link 1 3", (going.folder / "run.txt").read_text(encoding="utf-8"))
+
+    def test_busy(self) -> None:
+        with socket.create_server(("127.0.0.1", 0)) as full:
+            def turn_away() -> None:
+                for _ in range(2):
+                    connection, _ = full.accept()
+                    with connection:
+                        connection.sendall(b'{"refuse":"busy"}\n')
+
+            away = threading.Thread(target=turn_away)
+            away.start()
+            port = full.getsockname()[1]
+            with self.assertRaises(Refused) as refused:
+                Client(port, "gus", "key")
+            self.assertEqual(refused.exception.word, "busy")
+            bot = subprocess.run([sys.executable, EXAMPLES / "bot.py", str(port), "gus", "key", "1"], capture_output=True, text=True,
+                                 timeout=LIMIT, check=False)
+            self.assertEqual((bot.returncode, bot.stdout), (0, "gus busy: all places are taken; come again later\n"))
+            away.join()
+
+    def test_programs_of_the_examples_tell_their_words(self) -> None:
+        for name in ("bot.py", "teacher.py"):
+            said = subprocess.run([sys.executable, EXAMPLES / name, "--help"], capture_output=True, text=True, timeout=LIMIT, check=False)
+            self.assertEqual((said.returncode, said.stdout), (1, ""))
+            self.assertIn(f"{name} PORT NAME KEY", said.stderr)
+            self.assertNotIn("Traceback", said.stderr)
+
+    def test_all_places_are_taken(self) -> None:
+        going = Going(self, self.lab("cycle.toml", 3), "--close", "by-hand")
+        gus = self.bot(going, "gus")
+        self.assertRegex(going.until("^connected: "), r"^connected: gus \(.*, process \d+\)$")
+        self.bot(going, "hana")
+        line = going.until("and who comes now isn't let in")
+        self.assertRegex(line, r"; connected: gus \(.*\), hana \(.*\)$")
+        with self.assertRaises(Refused if host() else Closed):
+            Client(going.port, "ines", KEYS["ines"])
+        gus.kill()
+        self.assertRegex(going.until("^gone: "), r"^gone: gus \(")
+        going.type("end")
+        self.assertEqual(going.ends(), 0, going.lines)
+        self.whole(going.folder)
+
+    def test_who_is_connected(self) -> None:
+        listens = (4711, 0, "0A", "1")
+        served = [(4711, port, "01", "2") for port in (5, 6, 7)]
+        found = Connected(4711, 2, [], 7)
+        self.assertEqual(found.compared([listens, served[2]]), [])
+        self.assertEqual(found.compared([listens, *served[1:]]), ["connected: someone"])
+        lines = found.compared([listens, *served])
+        self.assertEqual((lines[0], lines[1][:24]), ("connected: someone", "all places are taken, an"))
+        self.assertEqual(found.compared([listens, *served]), [])
+        self.assertEqual(found.compared([listens, *served[1:]]), ["gone: someone"])
+        self.assertEqual(found.compared(served[1:])[0][:35], "each connection of this server was ")
+        found.known = {6: "first", 5: "second"}
+        self.assertEqual(found.who(), "first, second")
+
+    def test_a_newcomer_whose_own_end_is_read_later_is_named(self) -> None:
+        listens, served = (4711, 0, "0A", "1"), (4711, 5, "01", "2")
+        with socket.create_server(("127.0.0.1", 0)) as it:
+            own = (5, 4711, "01", re.sub(r"\D", "", os.readlink(f"/proc/self/fd/{it.fileno()}")))
+            for late in range(connected.READINGS):
+                readings = [[listens, served]] * late + [[listens, served, own]]
+                with unittest.mock.patch.object(connected, "rows", side_effect=readings):
+                    self.assertRegex(Connected(4711, 2, [], 7).news()[0], r"^connected: someone \(.*, process \d+\)$")
+        with unittest.mock.patch.object(connected, "rows", side_effect=[[listens, served]] * connected.READINGS):
+            self.assertEqual(Connected(4711, 2, [], 7).news(), ["connected: someone"])
+
+    def test_bots_that_race_and_guess(self) -> None:
+        lab = self.lab("cycle.toml", 16)
+        going = Going(self, lab, "--close", "when-idle:0.3", "--until", "stable")
+        guesses: Counter[str] = Counter()
+        guesser = threading.Thread(target=self.guess, args=[going.port, guesses])
+        guesser.start()
+        for name in (*KEYS, *KEYS):
+            self.bot(going, name)
+        self.assertEqual(going.ends(), 0, going.lines)
+        guesser.join()
+        self.assertEqual(set(guesses), {"unknown", "not-greeted"})
+        self.whole(going.folder)
+        lines = (going.folder / "journal").read_text(encoding="ascii").splitlines()
+        grants = Counter(tuple(line.split(" ")[1:5:3]) for line in lines if " grant " in line)
+        self.assertEqual(set(grants.values()), {1})
+        marks = json.loads((going.folder / "marks.json").read_text(encoding="utf-8"))["runs"][0]
+        self.assertEqual(set(marks["students"]), set(KEYS))
+
+    def guess(self, port: int, guesses: Counter[str]) -> None:
+        """Guesses the teacher's key, and asks without a name."""
+        with socket.create_connection(("127.0.0.1", port), timeout=LIMIT) as it, it.makefile("rb") as replies:
+            for _ in range(200):
+                hello = {"do": "hello", "name": "tess", "key": secrets.token_hex(4)}
+                it.sendall(json.dumps(hello).encode() + b'\n{"do":"close"}\n')
+                for line in (replies.readline(), replies.readline()):
+                    if not line:
+                        return
+                    guesses[json.loads(line)["deny"]] += 1
+
+
+if __name__ == "__main__":
+    unittest.main()

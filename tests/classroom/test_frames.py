@@ -1,0 +1,98 @@
+"""A journal is shown as the program answers, and in no other way."""
+from __future__ import annotations
+
+import stat
+import subprocess
+import sys
+import tempfile
+import unittest
+from pathlib import Path
+from unittest import mock
+
+from classroom import frames as module
+from classroom.frames import Frame, State, frames_of
+from classroom.program import Fault
+from tests.classroom.runs import BUILT_IN, PROGRAM, TOP, edited_run, examples
+
+
+def states(lab: Path, journal: Path) -> list[State]:
+    _, frames = frames_of(lab, journal)
+    return [frame.state.copy() for frame in frames]
+
+
+class Replayed(unittest.TestCase):
+    def setUp(self) -> None:
+        room = tempfile.TemporaryDirectory()
+        self.addCleanup(room.cleanup)
+        self.room = Path(room.name)
+
+    def test_each_event_is_a_frame_after_the_beginning(self) -> None:
+        for lab, journal in examples(self.room):
+            lines = journal.read_text().splitlines()
+            with self.subTest(lab=lab.name):
+                _, frames = frames_of(lab, journal)
+                shown = [(frame.event and " ".join(frame.event.words), frame.state.place) for frame in frames]
+                told = [(" ".join(line.split(" ")[2:]), place) for place, line in enumerate(lines, 1)]
+                self.assertEqual(shown, [(None, 0), *told])
+
+    def test_the_whole_run_by_hand(self) -> None:
+        run = states(BUILT_IN, TOP / "examples" / "whole-run.journal")
+        self.assertEqual(run[3].pointers, {1: 2, 2: 3, 3: None})
+        self.assertEqual(run[2].chosen, {1: "seduction", 2: "seduction"})
+        self.assertEqual(run[3].chosen, {})
+        self.assertEqual(run[8].ms, {1: False, 2: True, 3: True})
+        self.assertEqual((run[10].pairs, run[10].stable, run[10].moves, run[10].number), ([(2, 3)], True, 6, 4))
+
+    def test_every_kind_of_event(self) -> None:
+        lab, journal = edited_run(self.room)
+        run = states(lab, journal)
+        kinds = [line.split(" ")[2] for line in journal.read_text().splitlines()]
+        self.assertEqual(set(kinds), {"grant", "release", "close", "fault", "link", "cut"})
+        after = {kind: run[kinds.index(kind) + 1] for kind in kinds}
+        self.assertEqual(after["release"].chosen, {})
+        self.assertEqual(after["link"].links, {(1, 2), (2, 3), (3, 4), (4, 5), (1, 5)})
+        self.assertEqual((after["fault"].pointers[4], after["fault"].ms[4]), (5, True))
+        self.assertNotIn((3, 4), after["cut"].links)
+        self.assertEqual((after["cut"].chosen, after["cut"].since), ({}, 0))
+        self.assertEqual(after["close"].moves, 2)
+
+    def test_a_long_run_goes_in_parts(self) -> None:
+        for lab, journal in (edited_run(self.room), *examples(self.room)):
+            whole = states(lab, journal)
+            with self.subTest(lab=lab.name), mock.patch.object(module, "SCRIPT_LIMIT", 6000):
+                with mock.patch.object(subprocess, "run", wraps=subprocess.run) as run:
+                    self.assertEqual(states(lab, journal), whole)
+                if lab.stem in ("grid", "random", "ring"):
+                    self.assertGreater(run.call_count, 2)
+
+    def test_what_the_program_tells_is_what_is_shown(self) -> None:
+        liar = self.room / "liar"
+        liar.write_text(
+            f"#!{sys.executable}\nimport subprocess, sys\n"
+            f"done = subprocess.run([{str(PROGRAM)!r}, *sys.argv[1:]], capture_output=True, text=True)\n"
+            "told = done.stdout.replace('\"m\":false,\"node\":3,\"ok\":\"see\"', '\"m\":true,\"node\":3,\"ok\":\"see\"')\n"
+            "print(told, end='')\nsys.exit(done.returncode)\n"
+        )
+        liar.chmod(liar.stat().st_mode | stat.S_IXUSR)
+        with mock.patch.dict("os.environ", MML_PROGRAM=str(liar)):
+            run = states(BUILT_IN, TOP / "examples" / "whole-run.journal")
+        self.assertEqual([state.ms[3] for state in run], [True] * len(run))
+
+    def test_a_journal_that_the_audit_refuses_is_not_played(self) -> None:
+        journal = self.room / "bad.journal"
+        lines = (TOP / "examples" / "whole-run.journal").read_text().splitlines(keepends=True)
+        journal.write_text(lines[0] + lines[0] + "".join(lines[2:]))
+        with self.assertRaisesRegex(Fault, "audit: line 2: wrong place or configuration$"):
+            states(BUILT_IN, journal)
+
+    def test_an_empty_journal_is_its_beginning(self) -> None:
+        journal = self.room / "empty.journal"
+        journal.write_text("")
+        _, frames = frames_of(BUILT_IN, journal)
+        beginning: Frame = next(frames)
+        self.assertEqual(beginning.state.privileged, {1: "seduction", 2: "seduction"})
+        self.assertIsNone(next(frames, None))
+
+
+if __name__ == "__main__":
+    unittest.main()

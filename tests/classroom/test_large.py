@@ -1,0 +1,99 @@
+"""The page of the largest run: it opens and steps in time, counted by the browser."""
+from __future__ import annotations
+
+import unittest
+from pathlib import Path
+
+from tests.classroom.browser import Played, is_ready, shown, until
+from tests.classroom.runs import largest_run
+
+# The limits are for the machine on which LOAD takes so many milliseconds where nothing else runs. A slower one has
+# as much more time as it is slower.
+OPENS, STEPS, LOADED = 2000, 50, 170
+LOAD = """
+for (let round = 0; round < 10; round += 1) {
+  JSON.parse(JSON.stringify(Array.from({length: 30000}, (_, at) => ({at, text: String(at)}))));
+}
+"""
+# Goes to a place, and ends when that is painted.
+STEP = """
+const [place, done] = arguments;
+player.goTo(place);
+const painted = new MessageChannel();
+painted.port1.onmessage = () => done(null);
+requestAnimationFrame(() => painted.port2.postMessage(null));
+"""
+# How many changes of the drawing each step makes.
+TOUCHED = """
+const counts = [], observer = new MutationObserver(() => {});
+observer.observe(document.querySelector('.stage'), {attributes: true, characterData: true, childList: true, subtree: true});
+player.goTo(0);
+for (let at = 1; at <= 1000; at += 1) {
+  observer.takeRecords();
+  player.goTo(at);
+  counts.push(observer.takeRecords().length);
+}
+return counts;
+"""
+
+
+class Large(Played):
+    """256 nodes of which each two are linked, and 1,000 events."""
+
+    def setUp(self) -> None:
+        super().setUp()
+        self.driver.execute_cdp_cmd("Performance.enable", {"timeDomain": "threadTicks"})
+        self.addCleanup(self.driver.execute_cdp_cmd, "Performance.disable", {})
+        self.driver.set_script_timeout(300)
+
+    def spent(self) -> float:
+        """The milliseconds of a processor that the page's tasks have taken: what else runs isn't in it."""
+        metrics = self.driver.execute_cdp_cmd("Performance.getMetrics", {})["metrics"]
+        return 1000 * next(float(metric["value"]) for metric in metrics if metric["name"] == "TaskDuration")
+
+    def slowness(self) -> float:
+        """How many times slower than that machine this one is now; 1 where it is quicker."""
+        start = self.spent()
+        self.driver.execute_script(LOAD)
+        return max(1.0, (self.spent() - start) / LOADED)
+
+    def step(self, place: int) -> float:
+        """The time of a step that ends at the place."""
+        start = self.spent()
+        self.driver.execute_async_script(STEP, place)
+        return self.spent() - start
+
+    def opened(self, page: Path) -> float:
+        """The time in which the page opens, on that machine."""
+        self.driver.get("about:blank")
+        slowness = self.slowness()
+        self.driver.get(page.as_uri())
+        until(self.driver, is_ready)
+        self.step(0)
+        return self.spent() / slowness
+
+    def stepped(self, places: list[int]) -> list[float]:
+        """The time of a step to each place, on that machine."""
+        slowness = self.slowness()
+        self.step(places[0] - 1)
+        return [self.step(place) / slowness for place in places]
+
+    def test_the_largest_lab_opens_and_steps_in_time(self) -> None:
+        lab, journal = largest_run(self.room)
+        kinds = [line.split(" ")[2] for line in journal.read_text().splitlines()]
+        self.assertEqual(len(kinds), 1000)
+        page = self.page(lab, journal)
+        self.assertLess(min(self.opened(page) for _ in range(3)), OPENS)
+        made = [place for place, kind in enumerate(kinds, 1) if kind in ("close", "fault")]
+        for places in (made, list(range(901, 941))):
+            passes = [self.stepped(places) for _ in range(3)]
+            self.assertLess(max(min(of) for of in zip(*passes)), STEPS)
+        touched: list[int] = self.driver.execute_script(TOUCHED)
+        self.assertEqual(shown(self.driver)[0]["place"], "1000")
+        for place in range(2, 1001):
+            if kinds[place - 1] in ("grant", "release") and kinds[place - 2] in ("grant", "release"):
+                self.assertLess(touched[place - 1], 10, place)
+
+
+if __name__ == "__main__":
+    unittest.main()

@@ -1,0 +1,112 @@
+"""`./class mark`: counts by hand, forms, and journals that are refused."""
+from __future__ import annotations
+
+import csv
+import io
+import json
+import unittest
+from pathlib import Path
+from typing import Any
+
+from classroom import program
+from tests.classroom.help import EXAMPLES, InRoom, words
+from tests.classroom.test_check import GOOD
+
+# Of each student: the applied updates, marriages, seductions and abandonments, steps, first, last, shared.
+CYCLE = {"gus": (2, 0, 0, 1, 3, 2, 18, 0), "hana": (2, 1, 0, 1, 4, 8, 19, 0), "ines": (2, 1, 0, 1, 3, 1, 10, 0),
+         "jonas": (1, 1, 0, 1, 3, 3, 11, 0)}
+SHARED = {"ana": (0, 0, 2, 1, 2, 1, 18, 1), "ben": (3, 1, 2, 1, 5, 3, 16, 3), "cyd": (1, 1, 0, 0, 2, 6, 9, 0)}
+PATH = {"ana": (0, 0, 1, 1, 2, 1, 9, 0), "ben": (1, 0, 1, 0, 2, 2, 6, 0), "cyd": (1, 1, 0, 0, 2, 4, 7, 0)}
+BUILT_IN = """events = 100
+sessions = 4
+links = [[1, 2], [2, 3]]
+teacher = { name = "tess", key = "chalk" }
+student = [{ name = "ana", key = "a-key" }, { name = "ben", key = "b-key" }, { name = "cyd", key = "c-key" }]
+node = [{ id = 1, owner = "ana" }, { id = 2, owner = "ben" }, { id = 3, owner = "cyd" }]
+"""
+
+
+class Mark(InRoom):
+    """Journals of scripts."""
+
+    def journal(self, lab: Path, script: Path) -> Path:
+        """The journal of a script."""
+        path = self.room / f"{script.stem}.journal"
+        answer = program.call("script", lab, script, path)
+        self.assertEqual(answer.status, 0, answer.error)
+        return path
+
+    def marks(self, lab: Path, *journals: Path) -> list[dict[str, Any]]:
+        """The runs of `--json`."""
+        done = words("mark", "--json", lab, *journals)
+        self.assertEqual(done.returncode, 0, done.stderr)
+        runs: list[dict[str, Any]] = json.loads(done.stdout)["runs"]
+        return runs
+
+    def test_by_hand(self) -> None:
+        built_in = self.file("built-in.toml", BUILT_IN)
+        cases = (
+            (EXAMPLES / "cycle.toml", self.journal(EXAMPLES / "cycle.toml", EXAMPLES / "cycle-run.script"), CYCLE,
+             [[2, 3], [4, 5], [6, 7]], (20, 6, 6)),
+            (EXAMPLES / "shared.toml", self.journal(EXAMPLES / "shared.toml", EXAMPLES / "shared-run.script"), SHARED,
+             [[2, 3], [4, 5]], (19, 7, 7)),
+            (built_in, EXAMPLES / "whole-run.journal", PATH, [[2, 3]], (10, 4, 4)),
+        )
+        for lab, journal, wanted, pairs, (events, configuration, closes) in cases:
+            run, = self.marks(lab, journal)
+            self.assertEqual(run["pairs"], pairs)
+            self.assertEqual((run["events"], run["configuration"], run["closes"], run["stable"]),
+                             (events, configuration, closes, True))
+            found = {
+                name: (*(it["applied"][rule] for rule in ("update", "marriage", "seduction", "abandonment")),
+                       it["steps"], it["first"], it["last"], it["shared"])
+                for name, it in run["students"].items()
+            }
+            self.assertEqual(found, wanted)
+            self.assertTrue(all(it["granted"] == it["applied"] for it in run["students"].values()))
+
+    def test_granted_and_applied(self) -> None:
+        lab = self.file("lab.toml", GOOD)
+        journal = self.file("journal", "1 0 grant ana 11 seduction\n2 0 release 11\n3 0 grant ana 11 seduction\n"
+                                       "4 0 grant jonas 12 seduction\n5 0 close\n6 1 grant jonas 17 marriage 12\n"
+                                       "7 1 fault 11 - false\n8 2 cut 11 12\n9 3 link 12 11\n")
+        run, = self.marks(lab, journal)
+        ana, jonas = run["students"]["ana"], run["students"]["jonas"]
+        self.assertEqual((ana["granted"]["seduction"], ana["applied"]["seduction"], ana["shared"], ana["steps"]), (2, 1, 0, 1))
+        self.assertEqual((jonas["granted"]["marriage"], jonas["applied"]["marriage"], jonas["last"]), (1, 0, 6))
+        self.assertEqual((jonas["applied"]["seduction"], jonas["shared"]), (1, 1))
+        self.assertEqual((run["closes"], run["faults"], run["links"], run["cuts"], run["stable"]), (1, 1, 1, 1, False))
+
+    def test_who_made_none(self) -> None:
+        run, = self.marks(self.file("lab.toml", GOOD), self.file("journal", ""))
+        none = {"update": 0, "marriage": 0, "seduction": 0, "abandonment": 0}
+        self.assertEqual(run["students"]["jonas"],
+                         {"granted": none, "applied": none, "steps": 0, "first": None, "last": None, "shared": 0})
+
+    def test_a_long_run_is_played_in_pieces(self) -> None:
+        lab = self.file("lab.toml", GOOD.replace("events = 1000", "events = 100000"))
+        lines = [f"{2 * k + 1} {2 * k} {'cut' if k % 2 == 0 else 'link'} 11 12\n{2 * k + 2} {2 * k + 1} fault 12 17 true\n"
+                 for k in range(15_000)]
+        run, = self.marks(lab, self.file("journal", "".join(lines)))
+        self.assertEqual((run["events"], run["links"], run["cuts"], run["faults"]), (30_000, 7_500, 7_500, 15_000))
+
+    def test_refused(self) -> None:
+        lab = self.file("lab.toml", GOOD)
+        done = words("mark", lab, self.file("journal", "1 0 grant jonas 11 seduction\n"))
+        self.assertEqual(done.returncode, 3)
+        self.assertIn("audit: line 1: illegal, not-owner: 1 0 grant jonas 11 seduction", done.stderr)
+        folder = self.room / "empty"
+        folder.mkdir()
+        self.assertEqual(words("mark", folder).returncode, 1)
+        self.assertEqual(words("mark", lab, self.room / "none").returncode, 4)
+
+    def test_forms(self) -> None:
+        lab = self.file("lab.toml", GOOD)
+        journal = self.file("journal", "1 0 grant ana 11 seduction\n2 0 close\n")
+        rows = list(csv.reader(io.StringIO(words("mark", "--csv", lab, journal).stdout)))
+        self.assertEqual([row[1:4] for row in rows], [["student", "granted", "applied"], ["ana", "1", "1"], ["jonas", "0", "0"]])
+        self.assertIn("Not in a journal", words("mark", lab, journal).stdout)
+
+
+if __name__ == "__main__":
+    unittest.main()

@@ -1,0 +1,119 @@
+"""The page of a run, in a real browser."""
+from __future__ import annotations
+
+import unittest
+import xml.etree.ElementTree as ElementTree
+from pathlib import Path
+from typing import Any
+from unittest.mock import patch
+
+from selenium.webdriver.common.keys import Keys
+
+from classroom.frames import frames_of
+from classroom.play import picture
+from tests.classroom.browser import Played, shown, told, until
+from tests.classroom.runs import BUILT_IN, EXAMPLES, TOP, edited_run, examples, journal_of
+
+
+class Play(Played):
+    """Runs that are short enough to be gone through step by step."""
+
+    def test_each_configuration_by_keys(self) -> None:
+        for lab, journal in (edited_run(self.room), *examples(self.room)):
+            _, frames = frames_of(lab, journal)
+            run = [told(frame.state, frame) for frame in frames]
+            self.open(self.page(lab, journal))
+            with self.subTest(lab=lab.name):
+                for place in range(len(run)):
+                    self.assertEqual(shown(self.driver), run[place])
+                    self.press(Keys.ARROW_RIGHT)
+                self.press(Keys.HOME)
+                self.assertEqual(shown(self.driver), run[0])
+                numbers = [root["number"] for root, _, _ in run]
+                firsts = [at for at, number in enumerate(numbers) if at == 0 or number != numbers[at - 1]]
+                for at in firsts[1:]:
+                    self.press(Keys.ARROW_DOWN)
+                    self.assertEqual(shown(self.driver), run[at])
+                self.press(Keys.ARROW_UP)
+                self.assertEqual(shown(self.driver), run[firsts[-2]])
+                self.press(Keys.END)
+                self.press(Keys.ARROW_LEFT)
+                self.assertEqual(shown(self.driver), run[-2])
+
+    def test_a_link_to_a_place(self) -> None:
+        lab, journal = edited_run(self.room)
+        page = self.page(lab, journal)
+        self.open(page, "#p=7")
+        self.assertEqual(shown(self.driver)[0]["place"], "7")
+        self.driver.execute_script("location.hash = '#p=2'")
+        self.driver.execute_script("window.dispatchEvent(new HashChangeEvent('hashchange'))")
+        self.assertEqual(shown(self.driver)[0]["place"], "2")
+        self.open(page, "#p=99999")
+        self.assertEqual(shown(self.driver)[0]["place"], str(len(journal.read_text().splitlines())))
+        self.press(Keys.HOME)
+        self.press(Keys.ARROW_RIGHT)
+        until(self.driver, lambda driver: driver.execute_script("return location.hash") == "#p=1")
+        self.driver.find_element("css selector", "#events li:not([hidden]) + li + li + li a").click()
+        self.assertEqual(shown(self.driver)[0]["place"], "3")
+
+    def test_it_plays_to_the_end_by_itself(self) -> None:
+        lab, journal = edited_run(self.room)
+        self.open(self.page(lab, journal))
+        self.driver.execute_script("document.getElementById('speed').value = '20'")
+        self.press(" ")
+        last = str(len(journal.read_text().splitlines()))
+        until(self.driver, lambda driver: shown(driver)[0]["place"] == last)
+        until(self.driver, lambda driver: driver.find_element("id", "play").text == "Play")
+
+    def test_names_of_files_end_nothing(self) -> None:
+        odd = "<img src=x onerror=window.broken=1>'\"&\n{{DATA}}<b>"
+        lab, journal = (file.rename(file.with_stem(odd)) for file in edited_run(self.room))
+        self.open(self.page(lab, journal))
+        self.assertIsNone(self.driver.execute_script("return window.broken || null"))
+        self.assertEqual(self.driver.find_elements("css selector", "h1 *, title *"), [])
+        self.assertEqual(self.driver.title, " ".join(f"{lab.stem}: {journal.name}".split()))
+
+    def test_it_asks_for_nothing_else(self) -> None:
+        text = self.page(BUILT_IN, TOP / "examples" / "whole-run.journal").read_text()
+        for word in ("http://", "https://", "src=", "@import", "url("):
+            found = text.replace('xmlns="http://www.w3.org/2000/svg"', "").replace('"http://www.w3.org/2000/svg"', "")
+            self.assertNotIn(word, found.replace("url(#arrow)", ""))
+        for key in ("a-key", "b-key", "c-key", "chalk"):
+            self.assertNotIn(key, text)
+
+    def test_a_picture_of_one_place(self) -> None:
+        lab, journal = edited_run(self.room)
+        _, frames = frames_of(lab, journal)
+        for place, frame in enumerate(frames):
+            output = self.room / f"{place}.svg"
+            done = self.call("play", lab, journal, "--svg", str(place), "-o", output)
+            self.assertEqual((done.returncode, done.stderr), (0, ""))
+            self.assertEqual(attributes(output), told(frame.state, frame)[:2])
+        self.assertEqual(self.call("play", lab, journal, "--svg", "99", "-o", output).returncode, 3)
+
+    def test_the_picture_of_the_documents(self) -> None:
+        kept, output = TOP / "docs" / "cycle.svg", self.room / "cycle.svg"
+        lab = EXAMPLES / "cycle.toml"
+        journal = journal_of(lab, EXAMPLES / "cycle-run.script", self.room / "journal")
+        with patch("shutil.which", return_value=None):
+            output.write_text(picture(lab, journal, int(attributes(kept)[0]["place"])))
+        self.assertEqual(output.read_text(), kept.read_text())
+
+    def test_words_that_are_wrong(self) -> None:
+        lab, journal = edited_run(self.room)
+        self.assertEqual(self.call("play").returncode, 2)
+        self.assertEqual(self.call("play", self.room / "none", journal).returncode, 4)
+        self.assertEqual(self.call("play", lab, journal, "-o", self.room / "none" / "run.html").returncode, 4)
+
+
+def attributes(picture: Path) -> tuple[dict[str, str], list[dict[str, str]]]:
+    """What stands in an SVG file as data."""
+    root = ElementTree.parse(picture).getroot()
+    groups: list[Any] = [group for group in root.iter() if group.get("class") == "node"]
+    nodes = [{name[5:]: value for name, value in group.items() if name.startswith("data-")} for group in groups]
+    data = {name[5:]: value for name, value in root.items() if name.startswith("data-")}
+    return data, sorted(nodes, key=lambda node: int(node["node"]))
+
+
+if __name__ == "__main__":
+    unittest.main()

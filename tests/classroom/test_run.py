@@ -1,0 +1,131 @@
+"""`./class run` and `demo`, and the programs that take part, over the built program."""
+from __future__ import annotations
+
+import shutil
+import signal
+import socket
+import subprocess
+import sys
+import unittest
+
+from classroom.client import Client, Closed, Denied, Refused
+from tests.classroom.help import CYCLE, EXAMPLES, KEYS, LIMIT, Cycle, Going, words
+
+
+class Run(Cycle):
+    """Runs over the cycle of `examples/`."""
+
+    def test_to_stable(self) -> None:
+        going = Going(self, CYCLE, "--close", "when-idle:0.3", "--until", "stable")
+        for name in KEYS:
+            self.bot(going, name)
+        self.assertEqual(going.ends(), 0, going.lines)
+        self.assertIn("ok: ", (going.folder / "audit.txt").read_text(encoding="utf-8"))
+        self.assertIn(", stable", (going.folder / "audit.txt").read_text(encoding="utf-8"))
+        self.assertGreater(self.whole(going.folder), 10)
+
+    def test_by_hand_with_a_bot_that_dies(self) -> None:
+        going = Going(self, CYCLE, "--close", "by-hand")
+        going.type("wait")
+        self.assertIn("7 (jonas): abandonment", going.until("^waiting for "))
+        with Client(going.port, "gus", KEYS["gus"]) as gus:
+            look = gus.snapshot([1, 4])[4]
+            gus.move(look)
+            with self.assertRaises(Denied) as denied:
+                gus.move(look)
+            self.assertEqual((denied.exception.clause, denied.exception.name), (3, "chosen"))
+            with self.assertRaises(Refused):
+                gus.ask(do="dance")
+            going.type("close")
+            self.assertIn("4 (gus) update", going.until("^configuration 1"))
+            with self.assertRaises(Denied) as denied:
+                gus.move(look)
+            self.assertEqual((denied.exception.name, denied.exception.at), ("stale", 1))
+        bot = self.bot(going, "jonas")
+        going.type("fault 1 2 true")
+        going.until("fault 1 2 true; .* 0 of at most 35 moves")
+        bot.kill()
+        going.type("cut 1 2")
+        going.until("cut 1 2; .* 0 of at most 33 moves")
+        going.type("dance")
+        going.until("^not understood; words: close, fault NODE")
+        going.type("fault 1 7 yes")
+        going.until(r"^not understood; it is fault NODE NEIGHBOUR\|null true\|false$")
+        going.type("report")
+        going.until(r"^configuration \d+, not stable: .*privileged .*\((seduction|abandonment|marriage|update)\)")
+        going.type("link 1 1")
+        going.until("^no: loop")
+        going.type("end")
+        self.assertEqual(going.ends(), 0, going.lines)
+        self.assertGreaterEqual(self.whole(going.folder), 4)
+
+    def test_a_bot_in_another_language(self) -> None:
+        if shutil.which("java") is None:
+            self.skipTest("not tried: java")
+        going = Going(self, CYCLE, "--close", "when-idle:0.5", "--until", "stable")
+        self.bot(going, "gus", "java", EXAMPLES / "Bot.java")
+        for name in ("hana", "ines", "jonas"):
+            self.bot(going, name)
+        self.assertEqual(going.ends(), 0, going.lines)
+        self.assertGreater(self.whole(going.folder), 10)
+
+    def test_signals(self) -> None:
+        for number in (signal.SIGINT, signal.SIGTERM, signal.SIGHUP):
+            going = Going(self, CYCLE, "--close", "by-hand")
+            going.process.send_signal(number)
+            self.assertEqual(going.ends(), 0, going.lines)
+            self.assertEqual(self.whole(going.folder), 0)
+
+    def test_a_port_in_use(self) -> None:
+        with socket.create_server(("127.0.0.1", 0)) as taken:
+            port = taken.getsockname()[1]
+            going = Going(self, CYCLE, "--port", str(port))
+            self.assertGreater(going.port, port)
+            self.assertIn(f"port {port} is in use", going.lines)
+            going.type("end")
+            self.assertEqual(going.ends(), 0)
+
+    def test_nothing_built(self) -> None:
+        done = words("run", CYCLE, MML_PROGRAM=str(self.room / "none"))
+        self.assertEqual(done.returncode, 1)
+        self.assertIn("mml isn't built", done.stderr)
+
+    def test_no_server(self) -> None:
+        with socket.create_server(("127.0.0.1", 0)) as free:
+            port = free.getsockname()[1]
+        with self.assertRaises(Closed):
+            Client(port, "gus", "key")
+
+    def test_a_silent_server(self) -> None:
+        with socket.create_server(("127.0.0.1", 0)) as silent, self.assertRaises(Closed):
+            Client(silent.getsockname()[1], "gus", "key", limit=0.1)
+
+    def test_demo(self) -> None:
+        done = words("demo", "--into", self.room)
+        self.assertEqual(done.returncode, 0, done.stdout + done.stderr)
+        self.assertIn("stable, and so the run is ended", done.stdout)
+        folder = next(self.room.iterdir())
+        self.whole(folder)
+        self.assertLess((folder / "run.html").stat().st_size, 1_000_000)
+
+    def test_side_by_side(self) -> None:
+        students = self.file("students", "".join(f"S {number}\n" for number in range(6)))
+        self.assertEqual(words("new", self.room / "lab.toml", "--students", students, "--groups", "2").returncode, 0)
+        labs = [self.room / "lab-1.toml", self.room / "lab-2.toml"]
+        process = subprocess.Popen(
+            [sys.executable, EXAMPLES.parent / "class", "run", *labs, "--into", self.room / "runs", "--port", "27100"],
+            stdin=subprocess.DEVNULL, stdout=subprocess.PIPE, stderr=subprocess.STDOUT, text=True,
+        )
+        assert process.stdout is not None
+        waiting: set[str] = set()
+        with process.stdout:
+            for line in process.stdout:
+                waiting |= {line.partition(":")[0]} if ": port " in line and "in all" in line or ": desk" in line else set()
+                if len(waiting) == 2:
+                    process.send_signal(signal.SIGINT)
+        self.assertEqual(process.wait(LIMIT), 0)
+        self.assertEqual(words("mark", *sorted((self.room / "runs").iterdir())).returncode, 0)
+
+
+if __name__ == "__main__":
+    unittest.main()

@@ -1,0 +1,279 @@
+"""A host as its user runs it, connections to it, and what the rules answer to the same lines.
+
+Another host than the one that is built here is taken where the environment's MML_HOST names it.
+"""
+import os
+import re
+import socket
+import struct
+import subprocess
+import sys
+import time
+from collections.abc import Sequence
+from pathlib import Path
+from types import TracebackType
+from typing import Optional
+
+from tests.common.preload import LIMIT, TOP, Ended, built_in, fail, good
+
+HOST = Path(os.environ.get("MML_HOST") or TOP / "crates/mml_host/out/mml_host")
+LISTENS = re.compile(rb"listening on port (\d+), desk on port (\d+)\n")
+BUSY = b'{"refuse":"busy"}\n'
+BYE = b'{"do":"bye"}\n'
+BID = b'{"ok":"bye"}\n'
+KEYS = {"ana": "a-key", "ben": "b-key", "cyd": "c-key", "tess": "chalk"}
+NODES = {"ana": 1, "ben": 2, "cyd": 3}
+# Asks each line of its words at a port, prints the replies, sends half a line, says so, and waits for its end.
+BOT = """
+import socket, sys
+with socket.create_connection(("127.0.0.1", int(sys.argv[1]))) as it, it.makefile("r", encoding="ascii") as replies:
+    for line in sys.argv[2:]:
+        it.sendall(line.encode() + b"\\n")
+        print(replies.readline(), end="", flush=True)
+    it.sendall(b'{"do":"lo')
+    print("half", flush=True)
+    replies.read()
+"""
+
+
+def hello(name: str) -> bytes:
+    """A greeting of one who takes part in the lab that is built into the program."""
+    return b'{"do":"hello","key":"%s","name":"%s"}\n' % (KEYS[name].encode(), name.encode())
+
+
+def look(name: str) -> bytes:
+    """A look at a student's node."""
+    return b'{"do":"look","node":%d}\n' % NODES[name]
+
+
+def lab_of(room: Path, sessions: int, events: int = 1000) -> Path:
+    """The lab that is built into the program, with other limits."""
+    lab = room / f"{sessions}-{events}.toml"
+    text = built_in(room).read_text(encoding="utf-8")
+    text = text.replace("sessions = 4\n", f"sessions = {sessions}\n").replace("events = 100\n", f"events = {events}\n")
+    lab.write_text(text, encoding="utf-8")
+    return lab
+
+
+class Host:
+    """A host that listens, or has ended before. It doesn't outlive the block in which it is used."""
+
+    def __init__(self, *words: object, descriptors: int = 0) -> None:
+        """`descriptors` is how many files it may have open, where that is limited."""
+        before = ["bash", "-c", f'ulimit -n {descriptors} && exec "$@"', "bash"] if descriptors else []
+        self.process = subprocess.Popen(
+            [*before, HOST, *map(str, words)], stdin=subprocess.DEVNULL, stdout=subprocess.PIPE, stderr=subprocess.PIPE,
+            env={"PATH": "/usr/bin:/bin"},
+        )
+        assert self.process.stdout is not None
+        told = LISTENS.fullmatch(self.process.stdout.readline())
+        self.listens = told is not None
+        self.port, self.desk = (int(told[1]), int(told[2])) if told else (0, 0)
+
+    def __enter__(self) -> "Host":
+        return self
+
+    def __exit__(
+        self, kind: Optional[type[BaseException]], error: Optional[BaseException], trace: Optional[TracebackType]
+    ) -> None:
+        self.process.kill()
+        self.process.communicate()
+
+    def runs(self) -> bool:
+        """Whether it hasn't ended."""
+        return self.process.poll() is None
+
+    def end(self, seconds: float = LIMIT) -> Ended:
+        """How it ends by itself within so many seconds, and what it writes after its first line."""
+        try:
+            out, error = self.process.communicate(timeout=seconds)
+        except subprocess.TimeoutExpired:
+            fail(f"host: it doesn't end within {seconds} seconds")
+        return Ended(self.process.returncode, out, error)
+
+    def dismissed(self, teacher: "Caller", seconds: float = LIMIT) -> Ended:
+        """The same after the teacher's bye at the desk, who has greeted there."""
+        if (teacher.ask(BYE), teacher.line()) != (BID, b""):
+            fail("host: another reply to the teacher's bye at the desk, or none")
+        return self.end(seconds)
+
+    def kilobytes(self) -> int:
+        """What it holds of memory."""
+        status = Path(f"/proc/{self.process.pid}/status").read_text(encoding="ascii")
+        return int(status.split("VmRSS:", 1)[1].split()[0])
+
+    def threads(self) -> int:
+        """How many threads it has."""
+        return len(list(Path(f"/proc/{self.process.pid}/task").iterdir()))
+
+    def files(self) -> int:
+        """How many files it has open."""
+        return len(list(Path(f"/proc/{self.process.pid}/fd").iterdir()))
+
+    def settles(self, threads: int, files: int, when: str) -> None:
+        """Wants so many threads and files, as soon as what ends has ended."""
+        for _ in range(int(LIMIT / 0.05)):
+            if (self.threads(), self.files()) == (threads, files):
+                return
+            time.sleep(0.05)
+        fail(f"host: {self.threads()} threads and {self.files()} files, not {threads} and {files}, {when}")
+
+
+class Caller:
+    """A connection that sends a line and reads the line that answers it."""
+
+    def __init__(self, port: int, source: str = "127.0.0.1") -> None:
+        self.socket = socket.create_connection(("127.0.0.1", port), LIMIT, (source, 0))
+        self.replies = self.socket.makefile("rb")
+
+    def send(self, content: bytes) -> None:
+        """Sends bytes. Where the host has hung up, what it wrote before is still to be read."""
+        try:
+            self.socket.sendall(content)
+        except ConnectionError:
+            pass
+
+    def line(self) -> bytes:
+        """The next line, or nothing where the host has hung up."""
+        try:
+            line = self.replies.readline()
+        except ConnectionError:
+            return b""
+        except TimeoutError:
+            fail("host: a connection is neither answered nor ended")
+        return line if line.endswith(b"\n") else b""
+
+    def ask(self, line: bytes) -> bytes:
+        """The reply to a line."""
+        self.send(line)
+        return self.line()
+
+    def close(self) -> None:
+        """Ends the connection."""
+        self.replies.close()
+        self.socket.close()
+
+    def reset(self) -> None:
+        """Ends it so that the host's next read or write fails."""
+        self.socket.setsockopt(socket.SOL_SOCKET, socket.SO_LINGER, struct.pack("ii", 1, 0))
+        self.close()
+
+
+def called(port: int, source: str = "127.0.0.1") -> Caller:
+    """A connection, as soon as the host takes it: one that is tried while the host has no room is tried again."""
+    end = time.monotonic() + LIMIT
+    while True:
+        try:
+            return Caller(port, source)
+        except ConnectionRefusedError:
+            fail("host: nobody listens any more")
+        except OSError as error:
+            if time.monotonic() > end:
+                fail(f"host: nobody takes a connection: {error}")
+            time.sleep(0.01)
+
+
+def let_in(port: int, line: bytes) -> tuple[Caller, bytes]:
+    """A connection that has a place, and the reply to its first line; one that is told `busy` comes again."""
+    end = time.monotonic() + LIMIT
+    while time.monotonic() < end:
+        caller = called(port)
+        reply = caller.ask(line)
+        if reply and reply != BUSY:
+            return caller, reply
+        caller.close()
+        time.sleep(0.01)
+    fail("host: no place has become free")
+
+
+class Talk:
+    """Lines that are asked one after another, over connections that come and go, and what they were answered.
+
+    A script of the same lines tells what the rules answer, and which journal they leave.
+    """
+
+    def __init__(self, lab: Path, sessions: int, room: Path) -> None:
+        self.lab, self.room = lab, room
+        self.free = list(range(1, sessions + 1))
+        self.numbers: dict[object, int] = {}
+        self.script: list[bytes] = []
+        self.found: list[Optional[bytes]] = []
+
+    def heard(self, who: object, line: bytes, reply: Optional[bytes]) -> None:
+        """Notes a line of a connection and its reply; None is one that nobody read."""
+        if who not in self.numbers:
+            self.numbers[who] = self.free.pop(0)
+        number = b"%d " % self.numbers[who]
+        self.script.append(number + line)
+        self.found.append(None if reply is None else number + reply)
+
+    def ask(self, caller: Caller, line: bytes) -> bytes:
+        """Asks a line."""
+        reply = caller.ask(line)
+        self.heard(caller, line, reply)
+        return reply
+
+    def comes(self, port: int, line: bytes) -> Caller:
+        """A connection that is let in with its first line."""
+        caller, reply = let_in(port, line)
+        self.heard(caller, line, reply)
+        return caller
+
+    def gone(self, who: object) -> None:
+        """A connection has ended without a bye: its name is known no more."""
+        self.heard(who, BYE, None)
+        self.free.append(self.numbers.pop(who))
+
+    def leaves(self, caller: Caller) -> None:
+        """A connection that says bye, and waits for its end."""
+        if self.ask(caller, BYE) != BID or caller.line():
+            fail("host: a connection goes on after its bye")
+        caller.close()
+        self.free.append(self.numbers.pop(caller))
+
+    def events(self) -> int:
+        """How many events were granted."""
+        return sum(b'"place":' in reply for reply in self.found if reply)
+
+    def check(self, journal: Path) -> None:
+        """Wants the rules' replies and their journal, which passes the audit."""
+        script, plain = self.room / "plain.script", self.room / "plain.journal"
+        script.write_bytes(b"".join(self.script))
+        plain.unlink(missing_ok=True)
+        wanted = good(["script", str(self.lab), str(script), str(plain)]).splitlines(keepends=True)
+        for at, (line, reply, rule) in enumerate(zip(self.script, self.found, wanted, strict=True), 1):
+            if reply not in (None, rule):
+                fail(f"host: another reply to line {at}, {line!r}: {reply!r}, not {rule!r}")
+        if journal.read_bytes() != plain.read_bytes():
+            fail("host: another journal than that of the rules")
+        audit(self.lab, journal, self.events())
+
+
+def audit(lab: Path, journal: Path, events: int) -> bytes:
+    """Wants that a journal of so many events passes the audit; answers what it says."""
+    said = good(["audit", str(lab), str(journal)])
+    if not said.startswith(b"ok: %d events, " % events):
+        fail(f"host: the audit of a journal of {events} events says {said!r}")
+    return said
+
+
+class Bot:
+    """A program of its own that asks lines, and then waits in the middle of one to be killed."""
+
+    def __init__(self, talk: Talk, port: int, lines: Sequence[bytes]) -> None:
+        words = [line.decode().rstrip("\n") for line in lines]
+        self.process = subprocess.Popen(
+            [sys.executable, "-c", BOT, str(port), *words], stdin=subprocess.DEVNULL, stdout=subprocess.PIPE
+        )
+        self.talk = talk
+        assert self.process.stdout is not None
+        for line in lines:
+            talk.heard(self, line, self.process.stdout.readline())
+        if self.process.stdout.readline() != b"half\n":
+            fail("host: a bot doesn't come to its half line")
+
+    def killed(self) -> None:
+        """Kills it."""
+        self.process.kill()
+        self.process.communicate()
+        self.talk.gone(self)

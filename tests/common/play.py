@@ -1,0 +1,30 @@
+"""Plays a script on a server: each connection number of the script is a connection of its own.
+
+    python3 -m tests.common.play SCRIPT PORT
+
+Each line is sent when the reply to the one before is there, and each reply is printed as in a script's
+output. A connection whose last line was answered is closed at the end, with all others.
+"""
+import socket
+import sys
+
+
+def main():
+    script, port = sys.argv[1], int(sys.argv[2])
+    with open(script, encoding="utf-8") as it:
+        lines = [line.rstrip("\n").split(" ", 1) for line in it]
+    connections = {}
+    # They are opened in the order of their numbers, which the server gives as it accepts.
+    for number in sorted({int(number) for number, _ in lines}):
+        opened = socket.create_connection(("127.0.0.1", port), timeout=300)
+        connections[number] = opened, opened.makefile("r", encoding="utf-8")
+    for number, request in lines:
+        opened, replies = connections[int(number)]
+        opened.sendall(request.encode() + b"\n")
+        print(number, replies.readline(), end="")
+    for opened, _ in connections.values():
+        opened.close()
+
+
+if __name__ == "__main__":
+    main()

@@ -1,0 +1,218 @@
+"""Checks the documents: that each link, file, name and contract in them is there, and each command is run.
+
+    python3 -B -m tests.documents             says what isn't there; its status is 1 where something isn't
+    python3 -B -m tests.documents --words     says how many words each page has
+    python3 -B -m tests.documents PAGE..      prints the commands of these pages, a line each, each once
+
+A name is what stands between backquotes and is spelled as one of a program: each of its words has to stand
+in a source. A law's has to be a public function of a module `laws`. A word in capitals stands for another.
+What a table has under `Contract` has to be declared: a function, a type, a clause or a definition, and on a
+crate's page one that the crate declares or cites. A command block of the pages that show how the program is
+used is run by a test, or is marked: `sh not run`, or `text` for what is only an example of an output.
+All pages together have at most so many words; `CHANGELOG.md`, which grows, isn't counted.
+"""
+import re
+import subprocess
+import sys
+from pathlib import Path
+
+TOP = Path(__file__).resolve().parents[2]
+FENCE = re.compile(r"^```.*?^```$", re.MULTILINE | re.DOTALL)
+ENDINGS = "antt c conf css edit html js md out py rt script service sh svg toml txt".split()
+# Names that stand in no source: the toolchain's, the system's, the C library's, and of files that are made.
+ELSEWHERE = set(Path(__file__).with_name("elsewhere.txt").read_text(encoding="utf-8").split())
+
+# The pages that show how the program is used, and by which test their blocks are run: those without a mark
+# by `tests/pages/pages`, but for the commands that another test has in these words.
+USED = ("README.md", "docs/STUDENT.md", "docs/TEACHER.md", "docs/OPERATE.md")
+RUN_BY = {("docs/OPERATE.md", "sh"): "tests/pages/operate", ("docs/STUDENT.md", "python"): "tests/pages/pages"}
+RUN_BEFORE = {
+    "tar ": ("tests/release/run", "tar -xzf $release.tar.gz"),
+    "./try": ("tests/program/run", '"$work/try") < examples/first-look.script'),
+}
+MARKS = ("sh not run", "text")
+MOST_WORDS = 18_000
+
+
+def tracked():
+    """The files of the repository, those that aren't committed yet too."""
+    listed = subprocess.run(["git", "ls-files", "-co", "--exclude-standard"], cwd=TOP, capture_output=True, text=True, check=True)
+    return [path for path in listed.stdout.splitlines() if (TOP / path).exists()]
+
+
+def is_page(path):
+    """Whether a file is one of the documents."""
+    return path.endswith(".md")
+
+
+def words_of(files):
+    """Each word that stands in a source, and the parts of the sources' own paths."""
+    found = set()
+    for path in files:
+        found |= set(re.findall(r"\w+", path))
+        if not is_page(path) and not path.startswith("tests/documents/"):
+            found |= set(re.findall(r"\w+", (TOP / path).read_text(encoding="utf-8", errors="replace")))
+    return found
+
+
+def laws_of(files):
+    """The names of all laws."""
+    texts = [(TOP / path).read_text(encoding="utf-8") for path in files if re.fullmatch(r"crates/\w+/src/laws(/\w+)?\.rt", path)]
+    return {name for text in texts for name in re.findall(r"pub fn (\w+)", text)}
+
+
+def declared_in(text):
+    """What a source declares: functions, types, the names of clauses, definitions, and whom an `impl From` takes."""
+    names = set(re.findall(r"\b(?:fn|struct|enum|trait|type|const|ensures|requires) (\w+)", text))
+    names |= set(re.findall(r"^(?:[a-z]+ )*([A-Za-z_]\w*)(?: |$)", text, re.MULTILINE))
+    return names | {f"From<{name}>" for name in re.findall(r"impl.* From<(\w+)", text)}
+
+
+def sources_of(files):
+    """The text of each crate's `src/` and `specs/`."""
+    texts = {}
+    for path in files:
+        place = re.match(r"crates/(\w+)/(src|specs)/", path)
+        if place:
+            texts[place[1]] = texts.get(place[1], "") + (TOP / path).read_text(encoding="utf-8") + "\n"
+    return texts
+
+
+def contracts_of(page):
+    """What stands between backquotes in the last column of each table whose last column is `Contract`."""
+    inside = False
+    for line in (TOP / page).read_text(encoding="utf-8").splitlines():
+        cells = [cell.strip() for cell in line.strip().strip("|").split("|")] if line.startswith("|") else []
+        inside = bool(cells) and (inside or cells[-1] == "Contract")
+        if inside:
+            yield from re.findall(r"`([^`]+)`", cells[-1])
+
+
+def missing_contracts(page, texts, declared, laws):
+    """The contracts that a page names and that aren't declared, or on a crate's page not cited there."""
+    crate = re.fullmatch(r"crates/(\w+)/README\.md", page)
+    for name in contracts_of(page):
+        parts = [name] if name.startswith("From<") else name.split("::")
+        near = crate is None or all(re.search(rf"\b{re.escape(part)}\b", texts[crate[1]]) for part in parts if "<" not in part)
+        known = parts[-1] in laws if "laws" in parts else all(part in declared for part in parts)
+        if not near or not known:
+            yield name
+
+
+def stands_for_another(text):
+    """Whether a path has a part that the reader replaces, as `NAME.script`, or is a page of the top in capitals."""
+    return bool(re.search(r"(?<![A-Z])[A-Z]{3,}(?![A-Z]*\.md)", text))
+
+
+def missing_path(page, text, files, folders):
+    """Whether no file and no folder has a path that ends so."""
+    path = text.rstrip("/").removeprefix("./")
+    if path.startswith("/") or stands_for_another(path) or path in ELSEWHERE:
+        return False
+    near = str((Path(page).parent / path))
+    return not any(it in (path, near) or it.endswith("/" + path) for it in (*files, *folders))
+
+
+def missing_name(text, words, laws):
+    """Whether a name of a program has a word that stands in no source."""
+    if text in ELSEWHERE:
+        return False
+    parts = re.findall(r"\w+", text)
+    if "laws" in parts[:-1]:
+        return parts[-1] not in laws
+    return any(part not in words and part not in ELSEWHERE for part in parts)
+
+
+def told(page, files, folders, words, laws):
+    """What a page names that isn't there."""
+    text = FENCE.sub("", (TOP / page).read_text(encoding="utf-8"))
+    for target in re.findall(r"\]\(([^)\s]+)\)", text):
+        if not re.match(r"[a-z]+:|#", target) and not (TOP / Path(page).parent / target.split("#")[0]).exists():
+            yield target
+    for quoted in re.findall(r"`([^`\n]+)`", text):
+        is_path = "/" in quoted or quoted.rsplit(".", 1)[-1] in ENDINGS
+        if re.fullmatch(r"[\w./-]+", quoted) and is_path:
+            if missing_path(page, quoted, files, folders):
+                yield quoted
+        elif re.fullmatch(r"[A-Za-z_]\w*(::\w+)*(\(\))?", quoted) and missing_name(quoted, words, laws):
+            yield quoted
+
+
+def is_command(line):
+    """Whether a line of a block is a command."""
+    return bool(re.match(r"(\./|\.ci/|python3 |tar |ssh |java )", line.strip().removeprefix("$ ")))
+
+
+def commands_of(page):
+    """The commands of a page's blocks."""
+    lines = (TOP / page).read_text(encoding="utf-8").splitlines()
+    for line in lines:
+        if (line.startswith("    ") or line.startswith("./")) and is_command(line):
+            yield line.strip().removeprefix("$ ")
+
+
+def blocks_of(page):
+    """A page's code blocks: how each is marked, or None where it is indented, and its lines."""
+    text = (TOP / page).read_text(encoding="utf-8")
+    for mark, block in re.findall(r"^```(.*)\n((?:.*\n)*?)```$", text, re.MULTILINE):
+        yield mark, block.splitlines()
+    for block in re.findall(r"(?:^    .*\n)+", FENCE.sub("", text), re.MULTILINE):
+        yield None, [line[4:] for line in block.splitlines()]
+
+
+def is_run(page, mark, lines, texts, data):
+    """Whether a test runs a block, or it is marked, or is only what stands in `examples/`."""
+    if mark is not None:
+        return mark in MARKS or (page, mark) in RUN_BY and page in texts[RUN_BY[page, mark]]
+    commands = [line.removeprefix("$ ") for line in lines if is_command(line)]
+    if not commands:
+        return all(line in data for line in lines)
+    pages = texts["tests/pages/pages"]
+    passed_over = re.search(r"^ *(\S.*)\) ;; #", pages, re.MULTILINE)[1].replace('"', "").replace("*", "").split(" | ")
+    skipped = [start for line in commands for start in passed_over if line.startswith(start)]
+    return page in pages and all(start in RUN_BEFORE and RUN_BEFORE[start][1] in texts[RUN_BEFORE[start][0]] for start in skipped)
+
+
+def unrun_blocks(page, files):
+    """The first lines of a page's blocks that no test runs and that aren't marked."""
+    texts = {path: (TOP / path).read_text(encoding="utf-8") for path in ("tests/pages/pages", "tests/pages/operate", "tests/program/run", "tests/release/run")}
+    examples = [path for path in files if path.startswith("examples/")]
+    data = {line for path in examples for line in (TOP / path).read_text(encoding="utf-8").splitlines()}
+    return [lines[0] for mark, lines in blocks_of(page) if not is_run(page, mark, lines, texts, data)]
+
+
+def counted(pages):
+    """How many words each page has outside its code blocks: what has a letter or a digit."""
+    texts = {page: re.sub(r"^    .*$", "", FENCE.sub("", (TOP / page).read_text(encoding="utf-8")), flags=re.MULTILINE) for page in pages}
+    return {page: sum(bool(re.search(r"\w", word)) for word in text.split()) for page, text in texts.items()}
+
+
+def main():
+    """Checks, counts, or prints the commands of pages."""
+    counts = counted(path for path in tracked() if is_page(path) and path != "CHANGELOG.md")
+    total = sum(counts.values())
+    if sys.argv[1:] == ["--words"]:
+        print("\n".join(f"{counts[page]:6} {page}" for page in sorted(counts)))
+        print(f"{total:6} in all")
+        return
+    if sys.argv[1:]:
+        print("\n".join(dict.fromkeys(command for page in sys.argv[1:] for command in commands_of(page))))
+        return
+    files = tracked()
+    folders = {str(parent) for path in files for parent in Path(path).parents}
+    words, laws, texts = words_of(files), laws_of(files), sources_of(files)
+    declared = set().union(*map(declared_in, texts.values()))
+    pages = [path for path in files if is_page(path)]
+    missing = [f"not there: {page}: {name}" for page in pages for name in dict.fromkeys(told(page, files, folders, words, laws))]
+    missing += [f"no contract: {page}: {name}" for page in pages for name in missing_contracts(page, texts, declared, laws)]
+    missing += [f"no test runs it: {page}: {line}" for page in USED for line in unrun_blocks(page, files)]
+    if total > MOST_WORDS:
+        missing.append(f"too long: {total} words in all, of at most {MOST_WORDS}")
+    for line in missing:
+        print(f"FAILED: {line}")
+    if missing:
+        sys.exit(1)
+    print(f"documents: {len(pages)} pages, {total} words; each link, file, name and contract is there, and each command is run")
+
+
+main()

@@ -1,0 +1,352 @@
+"""Fails the program's reads, writes, openings, accepts and threads, each call in turn.
+
+    python3 -m tests.faults
+
+Of each use, runs are made in which the first, the second, .. call of a kind fails, is interrupted by a
+signal, takes nothing or does only one byte, until a run has no such call. What the program writes, its
+status and its error line are those of `docs/LAB.md`: an interrupted call changes nothing, and one that
+finds no memory is told as that, but for a line of the journal. The replies before are a plain
+run's, and so is the journal, whose whole lines pass the audit. A server that a signal ends leaves the same.
+"""
+import signal
+from collections.abc import Callable
+from dataclasses import dataclass
+from pathlib import Path
+
+from tests.common.preload import TOP, Ended, Preloaded, Server, Story, built_in, fail, good, in_room, play, run
+
+MOST = 1000
+EINTR, EIO, EAGAIN, ENOMEM, EACCES, EMFILE, ENOSPC = 4, 5, 11, 12, 13, 24, 28
+
+
+@dataclass(frozen=True)
+class Kind:
+    """What becomes of one call: it fails with an error, takes nothing (error 0), or does one byte."""
+
+    of: str
+    error: int = 0
+    is_short: bool = False
+
+    def variables(self, nth: int) -> dict[str, str]:
+        """What the library is told of the nth call."""
+        told = {"FAIL": self.of, "FAIL_AT": str(nth), "FAIL_WITH": str(self.error)}
+        return {**told, "FAIL_SHORT": "1"} if self.is_short else told
+
+    @property
+    def is_harmless(self) -> bool:
+        """Whether a run goes on as a plain one."""
+        return self.is_short or self.error == EINTR
+
+    def fault(self, line: str, out: bytes = b"") -> Ended:
+        """An end at this error, which has that line where it isn't out of memory."""
+        return told("out of memory", 5, out) if self.error == ENOMEM else told(line, 4, out)
+
+    def __str__(self) -> str:
+        how = "cut short" if self.is_short else f"failed with {self.error}" if self.error else "took nothing"
+        return f"{self.of} {how}"
+
+
+READS = [Kind("read", EIO), Kind("read", ENOMEM), Kind("read", EINTR), Kind("read", is_short=True)]
+WRITES = [Kind("write", error) for error in (EIO, ENOSPC, ENOMEM, EINTR, 0)] + [Kind("write", is_short=True)]
+OPENS = [Kind("open", ENOMEM)]
+ACCEPTS = [Kind("accept", EMFILE), Kind("accept", ENOMEM)]
+THREADS = [Kind("thread", EAGAIN)]
+
+# What is wrong with the run of a use in which the nth call of a kind met its error, if anything.
+Use = Callable[[Kind, int, dict[str, str]], str]
+
+
+def told(line: str, status: int = 4, out: bytes = b"") -> Ended:
+    """An end with an error line."""
+    return Ended(status, out, line.encode() + b"\n")
+
+
+def wrong(ended: Ended, wanted: Ended) -> str:
+    """What is wrong with an end, if anything."""
+    return "" if ended == wanted else f"{ended}, not {wanted}"
+
+
+def unwritten(kind: Kind, ended: Ended, out: bytes) -> str:
+    """What is wrong with an end at which not all of this output could be written, if anything."""
+    if ended.out == out or not out.startswith(ended.out):
+        return f"no front of what is written plainly: {ended.out!r}"
+    return wrong(ended, kind.fault("write fault", ended.out))
+
+
+class Reads:
+    """Which file the nth read of a use is of: each is read until it gives nothing."""
+
+    def __init__(self, library: Preloaded, lab: Path) -> None:
+        run(["check", str(lab)], b"", library.variables({"FAIL": "read"}))
+        self.of_lab = library.counts()[0]
+
+    def fault(self, nth: int, then: str) -> str:
+        """The error line of the nth read, where a file of that name is read after the lab."""
+        return "read fault: lab" if nth <= self.of_lab else f"read fault: {then}"
+
+
+def shown(words: list[str], then: str, reads: Reads) -> Use:
+    """A use that writes one line: `check`, and `audit`, which reads a journal too."""
+    out = good(words)
+
+    def use(kind: Kind, nth: int, variables: dict[str, str]) -> str:
+        ended = run(words, b"", variables)
+        if kind.is_harmless:
+            return wrong(ended, Ended(0, out, b""))
+        if kind.of == "open":
+            return wrong(ended, kind.fault("write fault" if nth <= 3 else f"read fault: {then}"))
+        if kind.of == "read":
+            return wrong(ended, kind.fault(reads.fault(nth, then)))
+        return unwritten(kind, ended, out)
+
+    return use
+
+
+def journal_fault(story: Story, ended: Ended, journal: bytes, nth: int) -> str:
+    """What is wrong with a script whose nth put failed, if anything."""
+    replies = ended.out.splitlines(keepends=True)
+    granted = [b'"place":' in reply for reply in replies]
+    return (
+        ("" if (ended.status, ended.error) == (4, b"journal fault\n") else f"another end: {ended}")
+        or ("" if len(replies) == len(story.lines) else "a line without a reply")
+        or story.expects(replies, frozenset())
+        or ("" if sum(granted) == nth - 1 else "an event after a put that failed, or a lost one")
+        or ("" if journal == story.journal_of(replies, frozenset()) else "another journal")
+    )
+
+
+def answered(story: Story, ended: Ended) -> tuple[list[bytes], frozenset[int]]:
+    """The replies to the first lines of a script, an empty one to each other line, and which these are."""
+    replies = ended.out.splitlines(keepends=True)
+    unread = frozenset(range(len(replies), len(story.lines)))
+    return replies + [b""] * len(unread), unread
+
+
+def cut_off(story: Story, ended: Ended, journal: bytes, wanted: Ended) -> str:
+    """What is wrong with a script of which only the first lines were read, if anything."""
+    replies, unread = answered(story, ended)
+    return (
+        wrong(Ended(ended.status, b"", ended.error), wanted)
+        or story.expects(replies, unread)
+        or ("" if journal == story.journal_of(replies, unread) else "another journal")
+    )
+
+
+def scripted(story: Story, room: Path, reads: Reads) -> Use:
+    """A script with its journal."""
+    script, journal = room / "faulty.script", room / "faulty.journal"
+    script.write_bytes(story.script())
+    words = ["script", str(story.lab), str(script), str(journal)]
+    replies, kept = story.plain(frozenset())
+    out = b"".join(replies)
+    puts = kept.count(b"\n")
+
+    def use(kind: Kind, nth: int, variables: dict[str, str]) -> str:
+        journal.unlink(missing_ok=True)
+        ended = run(words, b"", variables)
+        found = journal.read_bytes() if journal.exists() else b""
+        story.audit(found)
+        if kind.is_harmless:
+            return wrong(ended, Ended(0, out, b"")) or ("" if found == kept else "another journal")
+        if kind.of == "open":
+            return wrong(ended, kind.fault("")) or ("an event" if found else "")
+        if kind.of == "read" and nth <= reads.of_lab:
+            return wrong(ended, kind.fault("read fault: lab"))
+        if kind.of == "read":
+            return cut_off(story, ended, found, kind.fault("read fault: script"))
+        if nth <= puts:
+            return journal_fault(story, ended, found, nth)
+        return unwritten(kind, ended, out) or ("" if found == kept else "another journal")
+
+    return use
+
+
+def given(story: Story) -> Use:
+    """The script on standard input, which is read as it comes."""
+    replies, _ = story.plain(frozenset())
+    out = b"".join(replies)
+
+    def use(kind: Kind, nth: int, variables: dict[str, str]) -> str:
+        ended = run([], story.script(), variables)
+        if kind.is_harmless:
+            return wrong(ended, Ended(0, out, b""))
+        if kind.of == "read":
+            return cut_off(story, ended, story.journal_of(*answered(story, ended)), kind.fault("read fault: script"))
+        return unwritten(kind, ended, out)
+
+    return use
+
+
+@dataclass(frozen=True)
+class Talk:
+    """What two clients met, and how their server ended."""
+
+    replies: list[bytes]
+    unasked: frozenset[int]
+    ended: Ended
+    journal: bytes
+
+
+class Served:
+    """Two clients of a server that keeps a journal."""
+
+    def __init__(self, story: Story, room: Path, library: Preloaded) -> None:
+        self.story = story
+        self.journal = room / "faulty-served.journal"
+        replies, self.kept = story.plain(frozenset())
+        server = self.server(library.variables({"FAIL": "write"}))
+        # The writes in their order: the first line, then for each line its journal's, if it has one, and its reply.
+        self.writes = ["first line"] * library.counts()[0]
+        play(story, server.port)
+        server.end()
+        for at, reply in enumerate(replies):
+            self.writes += [f"journal {at}"] * (b'"place":' in reply) + [f"reply {at}"]
+        self.writes += ["last line"] * (library.counts()[0] - len(self.writes))
+
+    def server(self, variables: dict[str, str]) -> Server:
+        """Begins to serve, with a new journal."""
+        self.journal.unlink(missing_ok=True)
+        words = ["serve", str(self.story.lab)]
+        return Server(lambda port: [*words, str(port), "2", str(self.journal)], variables)
+
+    def __call__(self, kind: Kind, nth: int, variables: dict[str, str]) -> str:
+        server = self.server(variables)
+        if not server.listens:
+            return self.unserved(kind, nth, server.end())
+        replies, unasked = play(self.story, server.port, kind.of in ("accept", "thread"))
+        talk = Talk(replies, unasked, server.end(), self.journal.read_bytes())
+        self.story.audit(talk.journal)
+        if kind.is_harmless or (kind.of == "write" and nth > len(self.writes)):
+            return self.plain(talk)
+        if kind.of == "open":
+            return "it serves"
+        if kind.of == "read":
+            return self.hung_up(kind, talk, frozenset())
+        if kind.of == "write":
+            return self.unwritten(kind, talk, self.writes[nth - 1])
+        wanted = told("out of memory", 5) if kind.of == "thread" else kind.fault("serve: cannot accept")
+        return self.untaken(talk, nth, wanted)
+
+    def unserved(self, kind: Kind, nth: int, ended: Ended) -> str:
+        """Of a server that ended before it served."""
+        if kind.of in ("open", "read"):
+            return wrong(ended, kind.fault("read fault: lab"))
+        if kind.of == "write" and self.writes[nth - 1] == "first line":
+            return wrong(ended, kind.fault("write fault"))
+        return f"it doesn't serve: {ended}"
+
+    def done(self, journal: bytes) -> bytes:
+        """The last line of a run with that journal."""
+        return b"done:" + self.story.audit(journal).split(b":", 1)[1].rsplit(b",", 1)[0] + b"\n"
+
+    def plain(self, talk: Talk) -> str:
+        """Of a run in which nothing is lost."""
+        return (
+            ("a connection was closed" if talk.unasked else "")
+            or self.story.expects(talk.replies, frozenset())
+            or wrong(talk.ended, Ended(0, self.done(self.kept), b""))
+            or ("" if talk.journal == self.kept else "another journal")
+        )
+
+    def hung_up(self, kind: Kind, talk: Talk, lost: frozenset[int]) -> str:
+        """Of a run in which a connection ended at an error; lines were granted whose replies are lost."""
+        closed = {self.story.lines[at].split(b" ", 1)[0] for at in talk.unasked}
+        unasked = talk.unasked - lost
+        done = self.done(talk.journal)
+        # Out of memory is told at the end, but for a read after the session, whose bytes nobody wants.
+        well = kind.error != ENOMEM or (not closed and talk.ended.status == 0)
+        return (
+            ("two connections were closed" if len(closed) > 1 else "")
+            or self.story.expects(talk.replies, unasked, lost)
+            or wrong(talk.ended, Ended(0, done, b"") if well else kind.fault("", done))
+            or ("" if talk.journal == self.story.journal_of(talk.replies, unasked) else "another journal")
+        )
+
+    def unwritten(self, kind: Kind, talk: Talk, write: str) -> str:
+        """Of a run whose write of that name failed."""
+        if write == "last line":
+            return unwritten(kind, talk.ended, self.done(self.kept))
+        what, at = write.split()
+        if what == "reply":
+            arrived = "" if int(at) in talk.unasked else "a reply that wasn't written arrived"
+            return arrived or self.hung_up(kind, talk, frozenset({int(at)}))
+        return (
+            ("a connection was closed" if talk.unasked else "")
+            or self.story.expects(talk.replies, frozenset())
+            or wrong(talk.ended, told("journal fault"))
+            or ("" if b'{"refuse":"journal"}' in talk.replies[int(at)] else "another line than the one that wasn't kept")
+            or ("" if talk.journal == self.story.journal_of(talk.replies, frozenset()) else "another journal")
+        )
+
+    def untaken(self, talk: Talk, nth: int, wanted: Ended) -> str:
+        """Of a run whose nth connection couldn't be taken: those before it were served to their ends."""
+        first = {line.split(b" ", 1)[0] for at, line in enumerate(self.story.lines) if at not in talk.unasked}
+        return (
+            wrong(talk.ended, wanted)
+            or ("" if len(first) == nth - 1 else "another number of connections was served")
+            or self.story.expects(talk.replies, talk.unasked)
+            or ("" if talk.journal == self.story.journal_of(talk.replies, talk.unasked) else "another journal")
+        )
+
+
+def fail_all(name: str, use: Use, kinds: list[Kind], library: Preloaded) -> str:
+    """Makes all runs of a use, and tells how many errors they met."""
+    met = 0
+    for kind in kinds:
+        for nth in range(1, MOST):
+            fault = use(kind, nth, library.variables(kind.variables(nth)))
+            failed = library.counts()[1]
+            if failed == 0:
+                break
+            if fault:
+                fail(f"{name}, {kind} at call {nth}: {fault}")
+            met += failed
+        if nth == 1:
+            fail(f"{name}: no {kind}")
+    return f"{name} {met}"
+
+
+def stopped(story: Story, room: Path) -> str:
+    """A server that a signal ends while a client is connected: no last line, and a whole journal."""
+    # A job in a shell's background ignores SIGINT, and so would what it starts.
+    signal.signal(signal.SIGINT, signal.default_int_handler)
+    journal = room / "stopped.journal"
+    for number in (signal.SIGTERM, signal.SIGINT):
+        words = ["serve", str(story.lab)]
+        server = Server(lambda port: [*words, str(port), "3", str(journal)], {})
+        replies, unasked = play(story, server.port)
+        server.process.send_signal(number)
+        ended = server.end()
+        fault = (
+            wrong(ended, Ended(-number, b"", b""))
+            or ("a line without a reply" if unasked else story.expects(replies, unasked))
+            or ("" if journal.read_bytes() == story.plain(frozenset())[1] else "another journal")
+        )
+        if fault:
+            fail(f"serve, {number.name}: {fault}")
+        story.audit(journal.read_bytes())
+    return "stopped by 2 signals"
+
+
+def work(room: Path) -> str:
+    """All uses."""
+    library = Preloaded("faults/fail.c", room, "FAIL_COUNTS")
+    lab = built_in(room)
+    journal = TOP / "examples/whole-run.journal"
+    lines = (TOP / "examples/whole-run.script").read_bytes().splitlines(keepends=True)
+    story = Story(lab, b"".join(lines), room)
+    pair = Story(lab, b"".join(line.replace(b"4 ", b"2 ", 1) for line in lines if line[:1] in b"14"), room)
+    reads = Reads(library, lab)
+    uses: list[tuple[str, Use, list[Kind]]] = [
+        ("no words", given(story), READS + WRITES),
+        ("check", shown(["check", str(lab)], "lab", reads), READS + WRITES + OPENS + [Kind("open", EACCES)]),
+        ("audit", shown(["audit", str(lab), str(journal)], "journal", reads), READS + WRITES + OPENS),
+        ("script", scripted(story, room, reads), READS + WRITES + OPENS),
+        ("serve", Served(pair, room, library), READS + WRITES + OPENS + ACCEPTS + THREADS),
+    ]
+    met = ", ".join(fail_all(*use, library) for use in uses)
+    return f"faults met: {met}; {stopped(pair, room)}"
+
+
+if __name__ == "__main__":
+    in_room(work)

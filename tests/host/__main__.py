@@ -1,0 +1,475 @@
+"""Plays classes over a host, whose connections come and go, as a user runs it.
+
+    python3 -m tests.host [WORD..]
+
+With words, only the tests whose names have one of them. The tests go side by side: most of them wait.
+"""
+import socket
+import sys
+import tempfile
+import threading
+import time
+from collections.abc import Callable
+from concurrent.futures import ProcessPoolExecutor
+from pathlib import Path
+
+from tests.common.hosting import (
+    BID, BUSY, BYE, HOST, NODES, Bot, Caller, Host, Talk, audit, called, hello, lab_of, let_in, look
+)
+from tests.common.preload import Ended, fail, good
+
+NOT_LISTENING = Ended(4, b"", b"host: cannot listen\n")
+NONE = Ended(0, b"done: 0 events, configuration 0\n", b"")
+CLOSE = b'{"do":"close"}\n'
+REPORT = b'{"do":"report"}\n'
+
+
+def move(at: int, node: int, rule: str) -> bytes:
+    """A move by that number."""
+    return b'{"at":%d,"do":"move","node":%d,"rule":"%s"}\n' % (at, node, rule.encode())
+
+
+def acts(talk: Talk, student: Caller, teacher: Caller, turn: int) -> None:
+    """A move of ana's, its close, and a fault by which it may be made again: three events, two numbers."""
+    talk.ask(student, move(2 * turn, 1, "seduction"))
+    talk.ask(teacher, CLOSE)
+    talk.ask(student, look("ana"))
+    talk.ask(teacher, b'{"do":"fault","m":false,"node":1,"p":null}\n')
+
+
+def goes_on(talk: Talk, student: Caller, teacher: Caller, turn: int) -> None:
+    """A hundred lines that only ask, and the same."""
+    for _ in range(50):
+        talk.ask(student, look("ana"))
+        talk.ask(teacher, REPORT)
+        time.sleep(0.002)
+    acts(talk, student, teacher, turn)
+
+
+def one_after_another(room: Path) -> None:
+    """200 connections through three places, which end in each way: by bye, by their end, in a line, by a reset."""
+    lab, journal = lab_of(room, 4), room / "journal"
+    with Host(lab, 0, 0, journal) as host:
+        talk = Talk(lab, 4, room)
+        teacher = talk.comes(host.desk, hello("tess"))
+        for turn in range(200):
+            name = list(NODES)[turn % 3]
+            caller = talk.comes(host.port, hello(name))
+            see = b'{"do":"see","node":%d}\n' % (turn % 4)
+            for line in (look(name), see, b'{"do":"dance"}\n', hello("ben"), REPORT):
+                talk.ask(caller, line)
+            if name == "ana":
+                acts(talk, caller, teacher, turn // 3)
+            if turn % 4 == 0:
+                talk.leaves(caller)
+                continue
+            if turn % 4 == 1:
+                caller.send(b'{"do":"look","no')
+            caller.reset() if turn % 4 == 2 else caller.close()
+            talk.gone(caller)
+        ended = host.dismissed(teacher)
+    if ended.status != 0 or not ended.out.startswith(b"done: %d events, " % talk.events()) or ended.error:
+        fail(f"host: another end after 200 connections: {ended}")
+    talk.heard(teacher, BYE, BID)
+    talk.check(journal)
+
+
+def through_one_place(room: Path) -> None:
+    """Who sees the end of a connection and comes again isn't told `busy`, where there is one place."""
+    lab = lab_of(room, 2)
+    with Host(lab, 0, 0) as host:
+        for turn in range(200):
+            caller = Caller(host.port)
+            if caller.ask(hello("ana")) == BUSY:
+                fail(f"host: connection {turn + 1}, after the end of the one before, is told busy")
+            if (caller.ask(BYE), caller.line()) != (BID, b""):
+                fail("host: a connection goes on after its bye")
+            caller.close()
+
+
+def killed_in_a_line(room: Path) -> None:
+    """A bot and the teacher's program are killed in the middle of a line, and go on when they come again."""
+    lab, journal = lab_of(room, 2), room / "journal"
+    with Host(lab, 0, 0, journal) as host:
+        talk = Talk(lab, 2, room)
+        teacher = Bot(talk, host.desk, [hello("tess"), REPORT])
+        bot = Bot(talk, host.port, [hello("ana"), look("ana"), move(0, 1, "seduction"), look("ana")])
+        bot.killed()
+        student = talk.comes(host.port, hello("ana"))
+        talk.ask(student, look("ana"))
+        teacher.killed()
+        again = talk.comes(host.desk, hello("tess"))
+        for turn in range(3):
+            talk.ask(again, CLOSE)
+            talk.ask(student, look("ana"))
+            talk.ask(again, b'{"do":"fault","m":false,"node":1,"p":null}\n')
+            talk.ask(student, move(2 * turn + 2, 1, "seduction"))
+        ended = host.dismissed(again)
+    talk.heard(again, BYE, BID)
+    if ended != Ended(0, b"done: 10 events, configuration 6\n", b""):
+        fail(f"host: another end after kills: {ended}")
+    talk.check(journal)
+
+
+def knocks(port: int, until: float) -> int:
+    """Connects and closes until that time; answers how many times. Each process has an address of its own."""
+    made = 0
+    while time.monotonic() < until:
+        try:
+            Caller(port, f"127.0.0.{2 + made % 100}").close()
+            made += 1
+        except OSError:
+            pass
+    return made
+
+
+def connect_and_close(room: Path) -> None:
+    """A loop that connects and closes for ten seconds leaves the class running, and what the host holds as it was."""
+    lab, journal = lab_of(room, 4, 100_000), room / "journal"
+    with Host(lab, 0, 0, journal) as host:
+        talk = Talk(lab, 4, room)
+        teacher, student = talk.comes(host.desk, hello("tess")), talk.comes(host.port, hello("ana"))
+        threads, files = host.threads(), host.files()
+        turns = held = 0
+        for seconds in (2, 10):
+            held = host.kilobytes()
+            loop = threading.Thread(target=knocks, args=[host.port, time.monotonic() + seconds])
+            loop.start()
+            while loop.is_alive():
+                goes_on(talk, student, teacher, turns)
+                turns += 1
+            loop.join()
+            host.settles(threads, files, f"after {seconds} seconds of connections")
+        # The first seconds are for what threads keep for the next ones.
+        if (host.kilobytes() - held) * 10 > held:
+            fail(f"host: it holds {host.kilobytes()} kB after ten seconds of connections, not {held}")
+        talk.leaves(talk.comes(host.port, hello("ben")))
+        ended = host.dismissed(teacher)
+    talk.heard(teacher, BYE, BID)
+    if ended.status != 0 or ended.out != b"done: %d events, configuration %d\n" % (3 * turns, 2 * turns):
+        fail(f"host: another end after ten seconds of connections: {ended}")
+    talk.check(journal)
+
+
+def ends_after(caller: Caller, begun: float, piece: bytes, every: float) -> float:
+    """Sends a piece every so many seconds, until the connection has ended without a reply; answers when it did."""
+    due = begun + every
+    while True:
+        caller.socket.settimeout(max(due - time.monotonic(), 0.001))
+        try:
+            if caller.socket.recv(1):
+                fail("host: what isn't a line is answered")
+            break
+        except TimeoutError:
+            caller.send(piece)
+            due += every
+        except ConnectionError:
+            break
+        if due - begun > 60:
+            fail("host: a connection without a line isn't ended")
+    caller.close()
+    return time.monotonic() - begun
+
+
+def deadlines(room: Path) -> None:
+    """Silent and trickling connections keep others out for ten seconds, the desk's too, and not longer."""
+    lab = lab_of(room, 4)
+    with Host(lab, 0, 0) as host:
+        early = Caller(host.port)
+        early.ask(hello("cyd"))
+        begun = time.monotonic()
+        kept = [(Caller(host.port), b""), (Caller(host.port), b" "), (Caller(host.desk), b"")]
+        times: dict[int, float] = {}
+
+        def watch(at: int) -> None:
+            times[at] = ends_after(kept[at][0], begun, kept[at][1], 3.0)
+
+        waits = [threading.Thread(target=watch, args=[at]) for at in range(len(kept))]
+        for wait in waits:
+            wait.start()
+        for port in (host.port, host.desk):
+            told_busy(port)
+        guests = [let_in(host.port, hello(name)) for name in ("ana", "ben")] + [let_in(host.desk, hello("tess"))]
+        taken = time.monotonic() - begun
+        for wait in waits:
+            wait.join()
+        if sorted(times) != [0, 1, 2] or min(times.values()) < 9 or taken < 9 or max(times.values()) > 30:
+            fail(f"host: connections without a line are ended after {times} seconds, and others let in after {taken}")
+        # Who has said a line may be silent for longer than that.
+        if early.ask(BYE) != BID or any(caller.ask(BYE) != BID for caller, _ in guests):
+            fail("host: who is silent after a line is ended too")
+        if host.end() != NONE:
+            fail("host: another end after silent connections")
+
+
+def told_busy(port: int) -> None:
+    """Wants that who comes, and who comes and asks, is told `busy` and hung up on."""
+    for line in (b"", hello("ana"), BYE):
+        caller = Caller(port)
+        if line:
+            caller.send(line)
+        said = caller.line(), caller.line()
+        if said != (BUSY, b""):
+            fail(f"host: a full host says {said}")
+        caller.close()
+
+
+def says_busy(room: Path) -> None:
+    """Where all places are taken a host says so, at each port for itself, and lets one in when one leaves."""
+    lab = lab_of(room, 3)
+    with Host(lab, 0, 0) as host:
+        ana, _ = let_in(host.port, hello("ana"))
+        ben, _ = let_in(host.port, hello("ben"))
+        told_busy(host.port)
+        tess, _ = let_in(host.desk, hello("tess"))
+        told_busy(host.desk)
+        told_busy(host.port)
+        if (ana.ask(BYE), ana.line()) != (BID, b""):
+            fail("host: no end after a bye")
+        cyd = Caller(host.port)
+        if cyd.ask(hello("cyd")) != b'{"ok":"hello","who":"cyd"}\n' or not ben.ask(look("ben")).startswith(b'{"at":0'):
+            fail("host: a place that was left isn't given to the next")
+        told_busy(host.port)
+        if host.dismissed(tess) != NONE or ben.line() or cyd.line():
+            fail("host: another end of a full host")
+    alone = lab_of(room, 1)
+    with Host(alone, 0, 0) as host:
+        told_busy(host.port)
+        if host.dismissed(let_in(host.desk, hello("tess"))[0]) != NONE:
+            fail("host: another end of a host for the desk alone")
+
+
+def two_of_one_name(room: Path) -> None:
+    """Two who greet as one name are served both, and one of them is granted a node's move."""
+    lab, journal = lab_of(room, 3), room / "journal"
+    with Host(lab, 0, 0, journal) as host:
+        talk = Talk(lab, 3, room)
+        one, two = (talk.comes(host.port, hello("ana")) for _ in range(2))
+        teacher = talk.comes(host.desk, hello("tess"))
+        for line in (look("ana"), move(0, 1, "seduction"), look("ana")):
+            talk.ask(two, line)
+            talk.ask(one, line)
+        talk.ask(teacher, CLOSE)
+        talk.leaves(one)
+        talk.ask(two, look("ana"))
+        if host.dismissed(teacher) != Ended(0, b"done: 2 events, configuration 1\n", b""):
+            fail("host: another end of two of one name")
+    talk.heard(teacher, BYE, BID)
+    talk.check(journal)
+
+
+def byes_that_end_nothing(room: Path) -> None:
+    """A bye that isn't the teacher's, or isn't said at the desk, ends its own connection alone."""
+    lab, journal = lab_of(room, 4), room / "journal"
+    with Host(lab, 0, 0, journal) as host:
+        talk = Talk(lab, 4, room)
+        student = talk.comes(host.port, hello("ana"))
+        unknown = b'{"do":"hello","key":"chalk-","name":"tess"}\n'
+        said: list[tuple[int, list[bytes]]] = [
+            (host.desk, []), (host.desk, [hello("ana")]), (host.desk, [unknown]),
+            (host.desk, [hello("ana"), hello("tess")]),
+            (host.port, []), (host.port, [hello("tess"), REPORT]), (host.port, [hello("ben")]),
+        ]
+        for port, lines in said:
+            if lines:
+                caller = talk.comes(port, lines[0])
+                for line in lines[1:]:
+                    talk.ask(caller, line)
+                talk.leaves(caller)
+            else:
+                caller, reply = let_in(port, BYE)
+                if reply != BID or caller.line():
+                    fail("host: another reply to a bye without a greeting")
+                caller.close()
+            talk.ask(student, look("ana"))
+        # The teacher's program that only falls ends nothing either.
+        for leave in (Caller.close, Caller.reset):
+            fallen = talk.comes(host.desk, hello("tess"))
+            leave(fallen)
+            talk.gone(fallen)
+        talk.ask(student, move(0, 1, "seduction"))
+        teacher = talk.comes(host.desk, hello("tess"))
+        if not host.runs() or host.dismissed(teacher) != Ended(0, b"done: 1 events, configuration 0\n", b""):
+            fail("host: another end after byes that end nothing")
+        if student.line():
+            fail("host: a student is still served")
+    talk.heard(teacher, BYE, BID)
+    talk.check(journal)
+
+
+def asks_on(port: int, name: str, asked: threading.Semaphore, wrong: list[str]) -> None:
+    """Asks looks and moves without end, until the host hangs up."""
+    caller, _ = let_in(port, hello(name))
+    at = 0
+    while True:
+        reply = caller.ask(look(name)) and caller.ask(move(at, NODES[name], "seduction"))
+        if not reply:
+            return
+        if b'"stale"' in reply:
+            at = int(reply[6:reply.index(b",")])
+        elif not reply.startswith((b'{"at":%d,"node":' % at, b'{"clause":3,', b'{"clause":4,')):
+            wrong.append(f"{name} is answered {reply!r}")
+        asked.release()
+
+
+def ended_while_asked(room: Path) -> None:
+    """The teacher's bye ends a host at once while students ask, are silent, in a line, and don't read."""
+    lab, journal = lab_of(room, 16), room / "journal"
+    with Host(lab, 0, 0, journal) as host:
+        teacher, _ = let_in(host.desk, hello("tess"))
+        asked, wrong = threading.Semaphore(0), list[str]()
+        students = [threading.Thread(target=asks_on, args=[host.port, name, asked, wrong]) for name in [*NODES] * 2]
+        for student in students:
+            student.start()
+        silent, half, deaf = (Caller(host.port) for _ in range(3))
+        half.send(b'{"do":')
+        deaf.socket.setblocking(False)
+        sent = 0
+        while sent < 64 << 20:
+            try:
+                sent += deaf.socket.send(look("ana") * 1000)
+            except BlockingIOError:
+                break
+        for _ in range(20):
+            for _ in range(20):
+                asked.acquire()
+            teacher.ask(CLOSE)
+            teacher.ask(b'{"do":"fault","m":false,"node":1,"p":null}\n')
+        begun = time.monotonic()
+        ended = host.dismissed(teacher)
+        taken = time.monotonic() - begun
+        for student in students:
+            student.join()
+        if wrong or silent.line() or half.line():
+            fail(f"host: other replies at the end: {wrong}")
+        deaf.close()
+        for port in (host.port, host.desk):
+            try:
+                Caller(port)
+                fail("host: somebody is let in after the end")
+            except ConnectionRefusedError:
+                pass
+    events = len(journal.read_bytes().splitlines())
+    said = audit(lab, journal, events)
+    number = said.split(b"configuration ")[1].split(b",")[0]
+    if ended != Ended(0, b"done: %d events, configuration %s\n" % (events, number), b"") or events < 21:
+        fail(f"host: another end while students ask: {ended}, {events} events")
+    if taken > 8:
+        fail(f"host: its end while students ask takes {taken} seconds")
+
+
+def ports(room: Path) -> None:
+    """Where a port can't be had, or is both, nothing is served, and the journal is as it was."""
+    lab, journal, kept = lab_of(room, 4), room / "journal", b"1 0 close\n"
+    with socket.create_server(("127.0.0.1", 0)) as taken, socket.create_server(("127.0.0.1", 0)) as free:
+        used, port = taken.getsockname()[1], free.getsockname()[1]
+        free.close()
+        for one, two in [(used, 0), (0, used), (port, port), (used, used)]:
+            for before in (None, kept):
+                journal.unlink(missing_ok=True)
+                if before:
+                    journal.write_bytes(before)
+                with Host(lab, one, two, journal) as host:
+                    ended = None if host.listens else host.end()
+                if ended != NOT_LISTENING:
+                    fail(f"host: at the ports {one} and {two} it ends with {ended}")
+                left = [file.read_bytes() for file in room.glob("journal*")]
+                if left != ([before] if before else []):
+                    fail("host: where a port can't be had the journal isn't as it was")
+    # Two at once on one journal: the second changes nothing.
+    with Host(lab, 0, 0, journal) as first:
+        student, _ = let_in(first.port, hello("ana"))
+        student.ask(move(0, 1, "seduction"))
+        with Host(lab, 0, 0, journal) as second:
+            if second.listens or second.end() != Ended(4, b"", b"journal fault\n"):
+                fail("host: two write one journal")
+        if first.dismissed(let_in(first.desk, hello("tess"))[0]).status != 0:
+            fail("host: another end of the first of two on one journal")
+    if (room / "journal.~1~").read_bytes() != kept:
+        fail("host: what stood in the journal isn't kept")
+    audit(lab, journal, 1)
+
+
+def few_descriptors(room: Path) -> None:
+    """Where a host may have 24 files open, or twelve, thirty clients at once are all served in the end."""
+    for descriptors in (24, 12):
+        lab, journal = lab_of(room, 16), room / f"{descriptors}.journal"
+        with Host(lab, 0, 0, journal, descriptors=descriptors) as host:
+            served: list[tuple[bytes, ...]] = []
+            teacher, _ = let_in(host.desk, hello("tess"))
+            together = threading.Barrier(30)
+
+            def client(name: str) -> None:
+                together.wait()
+                caller, reply = let_in(host.port, hello(name))
+                replies = reply, caller.ask(look(name)), caller.ask(BYE), caller.line()
+                caller.close()
+                served.append(replies)
+
+            clients = [threading.Thread(target=client, args=[list(NODES)[at % 3]]) for at in range(30)]
+            held = [called(host.port) for _ in range(descriptors)]  # Most of them find no file, or no place.
+            for each in clients:
+                each.start()
+            for caller in held:
+                caller.close()
+            for each in clients:
+                each.join()
+            script = room / "clients.script"
+            script.write_bytes(b"".join(b"1 " + line for name in NODES for line in (hello(name), look(name), BYE)))
+            rules = [line[2:] for line in good(["script", str(lab), str(script)]).splitlines(keepends=True)]
+            wanted = [(*rules[at:at + 3], b"") for at in range(0, 9, 3)] * 10
+            if sorted(served) != sorted(wanted):
+                fail(f"host: of thirty clients over {descriptors} files {len(served)} are served, or otherwise")
+            if host.dismissed(teacher) != NONE:
+                fail(f"host: another end over {descriptors} files")
+        audit(lab, journal, 0)
+
+
+def words(room: Path) -> None:
+    """Words, labs and files that a host can't take."""
+    lab = lab_of(room, 4)
+    bad = room / "bad.toml"
+    bad.write_text(lab.read_text(encoding="utf-8").replace('owner = "ana"', 'owner = "ann"'), encoding="utf-8")
+    wanted: list[tuple[list[object], int, bytes]] = [
+        ([lab, 0], 1, b"command line: not understood\n"), ([lab, 0, 70000], 1, b"command line: not understood\n"),
+        ([lab, "x", 0], 1, b"command line: not understood\n"), ([bad, 0, 0], 2, b"lab: node 0: no such owner\n"),
+        ([room / "none", 0, 0], 4, b"read fault: lab\n"), ([lab, 0, 0, room], 4, b"journal fault\n"),
+        ([lab, 0, 0, lab], 4, b"journal fault\n"),
+    ]
+    for given, status, line in wanted:
+        with Host(*given) as host:
+            if host.listens or host.end() != Ended(status, b"", line):
+                fail(f"host: with the words {given} it ends otherwise")
+
+
+TESTS: list[Callable[[Path], None]] = [
+    connect_and_close, deadlines, one_after_another, ended_while_asked, few_descriptors, through_one_place,
+    killed_in_a_line, says_busy, two_of_one_name, byes_that_end_nothing, ports, words,
+]
+
+
+def tried(test: Callable[[Path], None]) -> float:
+    """Tries a test in a folder of its own; answers what time it took."""
+    begun = time.monotonic()
+    with tempfile.TemporaryDirectory() as room:
+        test(Path(room))
+    return time.monotonic() - begun
+
+
+def main() -> None:
+    """All tests, or those with one of the words."""
+    if not HOST.is_file():
+        fail("no host's program is built")
+    chosen = [test for test in TESTS if not sys.argv[1:] or any(word in test.__name__ for word in sys.argv[1:])]
+    begun = time.monotonic()
+    with ProcessPoolExecutor(4) as pool:
+        times = list(pool.map(tried, chosen))
+    slowest = max(zip(times, chosen, strict=True), key=lambda pair: pair[0])
+    print(
+        f"a host whose connections come and go: {len(chosen)} tests in {time.monotonic() - begun:.0f} seconds, "
+        f"of which {slowest[1].__name__} took {slowest[0]:.0f}"
+    )
+
+
+if __name__ == "__main__":
+    main()

@@ -1,0 +1,372 @@
+"""Plays two honest clients of a server, or of a host, beside fourteen hostile ones.
+
+    python3 -m tests.hostile [SECONDS] [host]
+
+The replies to the honest ones are those of a script of the same lines, run alone. The server's memory at
+the end is that after their first hundred lines, and the thread of each connection that was closed has ended,
+and its handles are given back. Before that, clients that send more than is answered, and read late, find all
+that was answered. Beside all this a client of another server is silent for a minute, and is answered then.
+"""
+import math
+import random
+import socket
+import statistics
+import struct
+import sys
+import time
+from collections.abc import Callable
+from concurrent.futures import Future, ProcessPoolExecutor
+from pathlib import Path
+
+from tests.common.hosting import BID, BYE, HOST, Host, hello, let_in
+from tests.common.preload import LIMIT, Client, Ended, Server, Story, built_in, fail, in_room
+
+SECONDS = 20.0
+SILENCE = 61.0
+QUIET = 300.0
+UNREAD = 10.0
+OVER_HOST = "host" in sys.argv[1:]
+MOST_LINES = 18_000
+PAUSE = 0.001
+SEE = b'{"do":"see","node":1}\n'
+NOT_GREETED = b'{"clause":0,"deny":"not-greeted","text":"say hello first"}\n'
+MALFORMED = b'{"refuse":"malformed"}\n'
+Program = Server | Host
+# A hostile client: a port, the time to end at, and what it draws from. It answers what is wrong with its replies.
+Hostile = Callable[[int, float, random.Random], str]
+
+
+def opened(port: int) -> socket.socket:
+    """A connection that sends each piece at once."""
+    it = socket.create_connection(("127.0.0.1", port), timeout=LIMIT)
+    it.setsockopt(socket.IPPROTO_TCP, socket.TCP_NODELAY, 1)
+    return it
+
+
+def begin(it: socket.socket, until: float, draw: random.Random) -> None:
+    """Is answered once, so that the thread of its session holds what it holds, and waits for a part of the time."""
+    it.sendall(SEE)
+    with it.makefile("rb") as replies:
+        replies.readline()
+    time.sleep(max(0.0, until - time.monotonic()) * draw.uniform(0.1, 0.5))
+
+
+def noise(port: int, until: float, draw: random.Random) -> str:
+    """Lines of any bytes, 255 in a string among them: each is answered as no request, and the next one plainly."""
+    with opened(port) as it, it.makefile("rb") as replies:
+        while time.monotonic() < until:
+            lines = [draw.randbytes(draw.randrange(1, 300)).replace(b"\n", b" ") for _ in range(20)]
+            lines.append(b'{"do":"hello","name":"\xff","key":"chalk"}')
+            it.sendall(b"".join(line + b"\n" for line in lines) + SEE)
+            if any(replies.readline() != MALFORMED for _ in lines):
+                return "noise was answered as something else"
+            if replies.readline() != NOT_GREETED:
+                return "a line after noise was answered as something else"
+            time.sleep(0.02)
+    return ""
+
+
+def long_line(port: int, until: float, draw: random.Random) -> str:
+    """One byte more than a line may have: the connection is ended without a reply."""
+    with opened(port) as it:
+        begin(it, until, draw)
+        it.sendall(b" " * (4097 - len(SEE) + 1) + SEE)
+        try:
+            return "a line that is too long was answered" if it.recv(1) else ""
+        except ConnectionError:
+            return ""
+
+
+def half_line(port: int, until: float, draw: random.Random) -> str:
+    """A line in two halves, the second at the end or after minutes, since a host bears ten without a line."""
+    middle = draw.randrange(1, len(SEE) - 1)
+    with opened(port) as it, it.makefile("rb") as replies:
+        it.sendall(SEE)
+        replies.readline()
+        while True:
+            it.sendall(SEE[:middle])
+            time.sleep(max(0.0, min(until - time.monotonic(), QUIET)))
+            it.sendall(SEE[middle:])
+            if replies.readline() != NOT_GREETED:
+                return "a line in two halves wasn't answered"
+            if time.monotonic() >= until:
+                return ""
+
+
+def byte_by_byte(port: int, until: float, draw: random.Random) -> str:
+    """Requests, one byte at a time."""
+    with opened(port) as it, it.makefile("rb") as replies:
+        while time.monotonic() < until:
+            for at in range(len(SEE)):
+                it.sendall(SEE[at:at + 1])
+                time.sleep(draw.uniform(0, 0.002))
+            if replies.readline() != NOT_GREETED:
+                return "a line of single bytes was answered otherwise"
+    return ""
+
+
+def reset(port: int, until: float, draw: random.Random) -> str:
+    """Requests whose replies nobody reads, and a reset."""
+    with opened(port) as it:
+        begin(it, until, draw)
+        it.sendall(SEE * draw.randrange(1, 200))
+        it.setsockopt(socket.SOL_SOCKET, socket.SO_LINGER, struct.pack("ii", 1, 0))
+    return ""
+
+
+def pour(port: int, until: float, draw: random.Random) -> int:
+    """Requests until that time or until the connection is ended, whose replies nobody reads. Tells how many bytes
+    were taken."""
+    caller, _ = let_in(port, SEE)
+    caller.socket.setblocking(False)
+    sent = 0
+    try:
+        while time.monotonic() < until:
+            try:
+                sent += caller.socket.send(SEE * draw.randrange(1, 100))
+            except BlockingIOError:
+                time.sleep(0.01)
+    except ConnectionError:
+        pass
+    finally:
+        caller.close()
+    return sent
+
+
+def flood(port: int, until: float, draw: random.Random) -> str:
+    """Requests without end, whose replies nobody reads. A host ends that after ten seconds, and it comes again."""
+    sent = 0
+    while (begun := time.monotonic()) < until:
+        sent += pour(port, until, draw)
+        now = time.monotonic()
+        if now < until and (not OVER_HOST or now - begun < UNREAD):
+            return "a connection that doesn't read was ended"
+    return "" if sent > 100_000 else "nothing was taken of a flood"
+
+
+def gone(port: int, until: float, draw: random.Random) -> str:
+    """No line at all."""
+    with opened(port):
+        time.sleep(max(0.0, until - time.monotonic()) * draw.uniform(0.0, 0.5))
+    return ""
+
+
+ALL: list[Hostile] = [noise, long_line, half_line, byte_by_byte, reset, flood, gone] * 2
+
+
+def honest_lines() -> bytes:
+    """What two honest clients ask in turn: views and denials, and now and then a move and its close."""
+    lines = ['1 {"do":"hello","key":"a-key","name":"ana"}', '2 {"do":"hello","key":"chalk","name":"tess"}']
+    number = 0
+    while len(lines) < MOST_LINES:
+        lines += ['1 {"do":"look","node":1}', '2 {"do":"report"}', '1 {"do":"report"}', '2 {"do":"close"}'] * 50
+        lines += [
+            '1 {"at":%d,"do":"move","node":1,"rule":"seduction"}' % number,
+            '2 {"do":"close"}',
+            '2 {"do":"fault","m":false,"node":1,"p":null}',
+        ]
+        number += 2
+    return "".join(line + "\n" for line in lines).encode()
+
+
+def kilobytes(server: Program) -> int:
+    """What the server holds of memory."""
+    status = Path(f"/proc/{server.process.pid}/status").read_text(encoding="ascii")
+    return int(status.split("VmRSS:", 1)[1].split()[0])
+
+
+def threads(server: Program) -> int:
+    """How many threads the server has."""
+    return len(list(Path(f"/proc/{server.process.pid}/task").iterdir()))
+
+
+class Honest:
+    """Two clients, who ask one line after the other: a student, and the teacher, who is at a host's desk."""
+
+    def __init__(self, story: Story, server: Program) -> None:
+        self.lines = [line.split(b" ", 1) for line in story.lines]
+        self.wanted, _ = story.plain(frozenset())
+        desk = server.desk if isinstance(server, Host) else server.port
+        self.clients = {b"1": Client(server.port), b"2": Client(desk)}
+        self.at = 0
+
+    def ask(self) -> float:
+        """Asks one line, which has to be answered as in a quiet run, and tells what time that took."""
+        number, line = self.lines[self.at]
+        begun = time.monotonic()
+        reply = self.clients[number].ask(line)
+        taken = time.monotonic() - begun
+        if number + b" " + reply != self.wanted[self.at]:
+            fail(f"hostile: another reply to line {self.at + 1}: {reply!r}, not {self.wanted[self.at]!r}")
+        self.at += 1
+        return taken
+
+    def play(self, most: int, pause: float, until: float = math.inf) -> list[float]:
+        """Asks so many lines, or as many as until that time, with a pause after each."""
+        times: list[float] = []
+        while self.at < len(self.lines) and len(times) < most and time.monotonic() < until:
+            times.append(self.ask())
+            time.sleep(pause)
+        return times
+
+    def end(self, server: Program) -> Ended:
+        """Closes both, a host by the teacher's bye, and waits for the server."""
+        if isinstance(server, Host):
+            self.clients[b"2"].ask(BYE)
+        for client in self.clients.values():
+            client.close()
+        return server.end()
+
+
+def serving(lab: Path, connections: int) -> Program:
+    """A server for so many connections, or a host."""
+    server: Program
+    if OVER_HOST:
+        server = Host(lab, 0, 0)
+    else:
+        server = Server(lambda port: ["serve", str(lab), str(port), str(connections)], {})
+    if not server.listens:
+        fail(f"hostile: the server doesn't listen: {server.end()}")
+    return server
+
+
+def served(story: Story, connections: int) -> tuple[Program, Honest]:
+    """A server with its honest clients."""
+    server = serving(story.lab, connections)
+    return server, Honest(story, server)
+
+
+def ended(honest: Honest, server: Program) -> None:
+    """Wants that the server ends with the events of the honest ones alone."""
+    events = sum(b'"place":' in reply for reply in honest.wanted[:honest.at])
+    end = honest.end(server)
+    if end.status != 0 or end.error or not end.out.startswith(b"done: %d events, " % events):
+        fail(f"hostile: the server ended otherwise: {end}")
+
+
+def answered(futures: list[Future[str]]) -> None:
+    """Wants that nothing is wrong with what the hostile ones met."""
+    for future in futures:
+        if future.result():
+            fail(f"hostile: {future.result()}")
+
+
+def wait_for_threads(server: Program, wanted: int, when: str) -> None:
+    """Wants so many threads: one for each connection that is open, beside those that there always are."""
+    for _ in range(int(LIMIT / 0.05)):
+        if threads(server) == wanted:
+            return
+        time.sleep(0.05)
+    fail(f"hostile: {threads(server)} threads, not {wanted}, {when}")
+
+
+def handles(server: Program) -> int:
+    """How many files the server has open."""
+    return len(list(Path(f"/proc/{server.process.pid}/fd").iterdir()))
+
+
+def wait_for_handles(server: Program, wanted: int, when: str) -> None:
+    """Wants so many open files."""
+    for _ in range(int(LIMIT / 0.05)):
+        if handles(server) == wanted:
+            return
+        time.sleep(0.05)
+    fail(f"hostile: {handles(server)} files are open, not {wanted}, {when}")
+
+
+def late(lab: Path) -> None:
+    """Clients that send more after a bye, or too much for a line, and read late: all replies arrive, and the end."""
+    server = serving(lab, 16)
+    for tail, said in [(BYE + b"x" * 5000, BID), (b"x" * 20_000, b"")] * 8:
+        with opened(server.port) as it, it.makefile("rb") as replies:
+            it.sendall(SEE * 100 + tail)
+            time.sleep(0.1)
+            try:
+                found = replies.read()
+            except ConnectionError:
+                found = b"a reset"
+            if found != NOT_GREETED * 100 + said:
+                fail(f"hostile: a late reader finds {len(found)} bytes: {found[-100:]!r}")
+    end = server.dismissed(let_in(server.desk, hello("tess"))[0]) if isinstance(server, Host) else server.end()
+    if end != Ended(0, b"done: 0 events, configuration 0\n", b""):
+        fail(f"hostile: the server of late readers ended otherwise: {end}")
+
+
+class Silent:
+    """A client that says nothing for a minute: its connection isn't ended for that."""
+
+    def __init__(self, lab: Path) -> None:
+        self.server = Server(lambda port: ["serve", str(lab), str(port), "1"], {})
+        self.open = opened(self.server.port)
+        self.until = time.monotonic() + SILENCE
+
+    def end(self) -> None:
+        """Asks after the minute, and wants a reply."""
+        time.sleep(max(0.0, self.until - time.monotonic()))
+        with self.open as it, it.makefile("rb") as replies:
+            it.sendall(SEE)
+            if replies.readline() != NOT_GREETED:
+                fail("hostile: a client that was silent for a minute isn't answered")
+        if self.server.end() != Ended(0, b"done: 0 events, configuration 0\n", b""):
+            fail("hostile: the server of a silent client ended otherwise")
+
+
+def resting(server: Program) -> tuple[int, int]:
+    """How many threads and open files a server has with its two honest clients alone, once it takes no others:
+    the main thread, two more, the standard streams, and two files for each. A host always takes others."""
+    return (threads(server), handles(server)) if isinstance(server, Host) else (3, 7)
+
+
+def work(room: Path) -> str:
+    """Late readers, a quiet run, and one beside the hostile clients; and over a server a silent client all along."""
+    numbers = [float(word) for word in sys.argv[1:] if word != "host"]
+    seconds = numbers[0] if numbers else SECONDS
+    if OVER_HOST and not HOST.is_file():
+        fail("no host's program is built")
+    lab = room / "hostile.toml"
+    text = built_in(room).read_text(encoding="utf-8")
+    limits = text.replace("sessions = 4\n", "sessions = 16\n").replace("events = 100\n", "events = 100000\n")
+    lab.write_text(limits, encoding="utf-8")
+    story = Story(lab, honest_lines(), room)
+    silent = None if OVER_HOST else Silent(lab)
+    late(lab)
+
+    server, honest = served(story, 2)
+    quiet = statistics.median(honest.play(500, PAUSE))
+    ended(honest, server)
+
+    server, honest = served(story, 2 + len(ALL))
+    honest.play(2, PAUSE)
+    rest = resting(server)
+    until = time.monotonic() + seconds
+    with ProcessPoolExecutor(len(ALL)) as pool:
+        futures = [
+            pool.submit(client, server.port, until, random.Random(seed)) for seed, client in enumerate(ALL)
+        ]
+        wait_for_threads(server, rest[0] + len(ALL), "once all are there")
+        times = honest.play(100, 10 * PAUSE)
+        held = kilobytes(server)
+        times += honest.play(MOST_LINES, max(PAUSE, seconds / MOST_LINES), until)
+        answered(futures)
+    wait_for_threads(server, rest[0], "once the hostile clients have gone")
+    wait_for_handles(server, rest[1], "once the hostile clients have gone")
+    holds = kilobytes(server)
+    # A host gives back what the threads of those connections held, which may be more than a tenth.
+    if holds * 10 > held * 11 or isinstance(server, Server) and holds * 10 < held * 9:
+        fail(f"hostile: the server holds {holds} kB, not {held} kB as after a hundred lines")
+    ended(honest, server)
+    if silent is not None:
+        silent.end()
+    beside = statistics.median(times)
+    # A wait for a hostile client is of seconds; what their share of the processors makes of it is less.
+    if beside > 20 * quiet + 0.5:
+        fail(f"hostile: a reply takes {beside * 1e6:.0f} microseconds, alone {quiet * 1e6:.0f}")
+    kind = "a host" if isinstance(server, Host) else "a server"
+    return (
+        f"{kind} beside {len(ALL)} hostile clients: {len(times)} lines as in a quiet run, "
+        f"{beside * 1e6:.0f} microseconds each (alone {quiet * 1e6:.0f}), {holds} kB ({held} after 100 lines)"
+    )
+
+
+if __name__ == "__main__":
+    in_room(work)

@@ -1,0 +1,188 @@
+"""Refuses the program each request for memory in turn, and each one from there on.
+
+    python3 -m tests.memory
+
+Of each use, runs are made with the first, the second, .. request refused, until a run meets no refusal.
+Each ends with status 5, `out of memory` and nothing written; or it answers each line as a plain run without
+the lines that it answered by `memory`. Its journal is that run's, and passes the audit. Each line stands
+twice in the script, so one that was refused is asked again, and answered plainly. Then the tests named
+`refusals_..` are run under the same library, in the programs that `rt ci` leaves.
+"""
+import subprocess
+from collections.abc import Callable
+from dataclasses import dataclass
+from pathlib import Path
+
+from tests.common.preload import LIMIT, TOP, Ended, Preloaded, Server, Story, built_in, fail, good, in_room, play, run
+
+OUT_OF_MEMORY = Ended(5, b"", b"out of memory\n")
+MOST = 5000
+
+
+@dataclass(frozen=True)
+class Tried:
+    """How a run under refusals ended, and what is wrong with it, if anything."""
+
+    ended: Ended
+    fault: str
+    memories: int
+
+
+Use = Callable[[dict[str, str]], Tried]
+
+
+def memories(replies: list[bytes]) -> int:
+    """How many of these replies tell out of memory."""
+    return sum(reply.endswith(b'{"refuse":"memory"}\n') for reply in replies)
+
+
+def whole(words: list[str], given: bytes = b"") -> Use:
+    """A use that writes what a plain run writes, or nothing."""
+    wanted = good(words, given)
+
+    def use(variables: dict[str, str]) -> Tried:
+        ended = run(words, given, variables)
+        fault = "" if ended in (OUT_OF_MEMORY, Ended(0, wanted, b"")) else "another end than a plain run's"
+        return Tried(ended, fault, 0)
+
+    return use
+
+
+def told_of(story: Story, ended: Ended) -> tuple[str, list[bytes]]:
+    """What is wrong with how a script ended, if anything, and its replies."""
+    replies = ended.out.splitlines(keepends=True)
+    if ended.status != 0 or ended.error:
+        return "another end", replies
+    if len(replies) != len(story.lines):
+        return "a line without a reply", replies
+    return story.expects(replies, frozenset()), replies
+
+
+def scripted(story: Story, room: Path, with_words: bool) -> Use:
+    """A script, by standard input or from a file and with a journal."""
+    script, journal = room / "refused.script", room / "refused.journal"
+    script.write_bytes(story.script())
+    words = ["script", str(story.lab), str(script), str(journal)] if with_words else []
+    given = b"" if with_words else story.script()
+
+    def use(variables: dict[str, str]) -> Tried:
+        journal.unlink(missing_ok=True)
+        ended = run(words, given, variables)
+        if ended == OUT_OF_MEMORY:
+            return Tried(ended, "", 0)
+        fault, replies = told_of(story, ended)
+        if not fault and with_words:
+            story.audit(journal.read_bytes())
+            if journal.read_bytes() != story.journal_of(replies, frozenset()):
+                fault = "another journal"
+        return Tried(ended, fault, memories(replies))
+
+    return use
+
+
+def fault_of_end(ended: Ended, replies: list[bytes], audited: bytes) -> str:
+    """What is wrong with how a server ended that answered so, if anything."""
+    done = b"done:" + audited.split(b":", 1)[1].rsplit(b",", 1)[0] + b"\n"
+    # Where a session got no memory to begin with, its connection is closed, and that is told at the end.
+    wanted = Ended(5, done, b"out of memory\n") if b"" in replies else Ended(0, done, b"")
+    # Where no thread can be made, those that were taken are served to their ends, and nothing more is told.
+    return "" if ended in (wanted, OUT_OF_MEMORY) else "another end"
+
+
+def first_unanswered_late(story: Story, unasked: frozenset[int]) -> str:
+    """The connection that was closed after its first line was answered, if there is one."""
+    begun = set()
+    for at, line in enumerate(story.lines):
+        number = line.split(b" ", 1)[0]
+        if at not in unasked:
+            begun.add(number)
+        elif number in begun:
+            return f"connection {number.decode()} was closed after its first line"
+    return ""
+
+
+def served(story: Story, room: Path) -> Use:
+    """Two clients of a server that keeps a journal."""
+    journal = room / "served.journal"
+
+    def use(variables: dict[str, str]) -> Tried:
+        journal.unlink(missing_ok=True)
+        server = Server(lambda port: ["serve", str(story.lab), str(port), "2", str(journal)], variables)
+        if not server.listens:
+            return Tried(server.end(), "" if server.end() == OUT_OF_MEMORY else "another end", 0)
+        replies, unasked = play(story, server.port)
+        ended = server.end()
+        kept = journal.read_bytes()
+        fault = (
+            first_unanswered_late(story, unasked)
+            or story.expects(replies, unasked)
+            or fault_of_end(ended, replies, story.audit(kept))
+            or ("" if kept == story.journal_of(replies, unasked) else "another journal")
+        )
+        return Tried(ended, fault, memories(replies))
+
+    return use
+
+
+def refuse_all(name: str, use: Use, library: Preloaded) -> str:
+    """Makes all runs of a use, and tells how many refusals they met."""
+    met, told = 0, 0
+    for variable, at_most in (("REFUSE", 1), ("REFUSE_FROM", MOST)):
+        for nth in range(1, MOST):
+            tried = use(library.variables({variable: str(nth)}))
+            refused = library.counts()[1]
+            fault = tried.fault or ("more than one reply tells it" if tried.memories > at_most else "")
+            if fault:
+                fail(f"{name}, {variable}={nth}: {fault}: {tried.ended}")
+            if refused == 0:
+                break
+            met += refused
+            told += tried.memories
+        else:
+            fail(f"{name}: {MOST} requests for memory, and no end")
+    if met == 0:
+        fail(f"{name}: no refusal was met")
+    return f"{name} {met} ({told} replies)"
+
+
+def refused_tests(library: Preloaded) -> str:
+    """Runs the tests of refusals once more, with the library: each asserts that it met refusals then."""
+    count = 0
+    for program in sorted(TOP.glob("crates/*/out/*_tests")):
+        listed = subprocess.run([program, "--list"], capture_output=True, env={}, timeout=LIMIT, check=True)
+        for line in listed.stdout.decode().splitlines():
+            name = line.removesuffix(": test")
+            if not name.rsplit("::", 1)[-1].startswith("refusals_"):
+                continue
+            done = subprocess.run(
+                [program, name], capture_output=True, env=library.variables({}), timeout=LIMIT, check=False
+            )
+            if done.returncode != 0 or b"test result: ok" not in done.stdout:
+                fail(f"{program.name} {name}: {done.stdout.decode()}{done.stderr.decode()}")
+            count += 1
+    if count == 0:
+        fail("no test of refusals was left by the proofs")
+    return f"{count} tests under refusals"
+
+
+def work(room: Path) -> str:
+    """All uses."""
+    library = Preloaded("memory/refuse.c", room, "REFUSE_COUNTS")
+    lab = built_in(room)
+    lines = (TOP / "examples/whole-run.script").read_bytes().splitlines(keepends=True)
+    story = Story(lab, b"".join(line + line for line in lines), room)
+    two = [line for line in lines if line[:1] in b"14"]
+    pair = Story(lab, b"".join(line.replace(b"4 ", b"2 ", 1) * 2 for line in two), room)
+    uses = {
+        "no words": scripted(story, room, False),
+        "check": whole(["check", str(lab)]),
+        "script": scripted(story, room, True),
+        "audit": whole(["audit", str(lab), str(TOP / "examples/whole-run.journal")]),
+        "serve": served(pair, room),
+    }
+    met = ", ".join(refuse_all(name, use, library) for name, use in uses.items())
+    return f"refusals met: {met}; {refused_tests(library)}"
+
+
+if __name__ == "__main__":
+    in_room(work)

@@ -1,0 +1,101 @@
+"""Plays runs that are larger than a byte or two count: reports of all nodes, and 70,000 events.
+
+    python3 -m tests.program.large
+
+What the replies should be is written down here, by the form of a reply and the numbers of the request.
+"""
+import socket
+from collections.abc import Iterable
+from pathlib import Path
+
+from tests.common.preload import LIMIT, Server, Story, fail, good, in_room
+
+NODES = 256
+EVENTS = 70_000
+PART = 1000
+HELLO = '{"do":"hello","key":"chalk","name":"tess"}\n'
+WELCOME = '{"ok":"hello","who":"tess"}\n'
+PEOPLE = """teacher = { name = "tess", key = "chalk" }
+student = [{ name = "ana", key = "a-key" }]
+"""
+
+
+def lab(room: Path, nodes: Iterable[str], links: str, events: int) -> Path:
+    """A lab of these nodes, and one session."""
+    file = room / "large.toml"
+    file.write_text(
+        f"events = {events}\nsessions = 1\n{PEOPLE}links = [{links}]\nnode = [{', '.join(nodes)}]\n", encoding="ascii"
+    )
+    return file
+
+
+def report(room: Path, file: Path, wanted: str) -> None:
+    """Wants this report of a lab, to the teacher, and a denial to a student, who may then go on."""
+    script = room / "large.script"
+    lines = [HELLO, '{"do":"report"}\n', '{"do":"bye"}\n', '{"do":"hello","key":"a-key","name":"ana"}\n',
+             '{"do":"report"}\n', '{"do":"bye"}\n']
+    script.write_text("".join(f"1 {line}" for line in lines), encoding="ascii")
+    replies = [WELCOME, wanted, '{"ok":"bye"}\n', '{"ok":"hello","who":"ana"}\n',
+               '{"clause":1,"deny":"not-teacher","text":"only the teacher may do this"}\n', '{"ok":"bye"}\n']
+    if good(["script", str(file), str(script)]).decode() != "".join(f"1 {reply}" for reply in replies):
+        fail("another report of 256 nodes")
+
+
+def reports(room: Path) -> None:
+    """The reports of 256 nodes without a link, and of 128 pairs."""
+    ids = range(1, NODES + 1)
+    free = ",".join(str(node) for node in ids)
+    alone = [f'{{ id = {node}, owner = "ana" }}' for node in ids]
+    ended = '"privileged":[],"stable":true}\n'
+    report(room, lab(room, alone, "", 1), f'{{"at":0,"free":[{free}],"ok":"report","open":[],"pairs":[],{ended}')
+    pairs = ",".join(f"[{node},{node + 1}]" for node in ids[::2])
+    married = [
+        f'{{ id = {node}, owner = "ana", p = {node + 1 if node % 2 else node - 1}, m = true }}' for node in ids
+    ]
+    report(room, lab(room, married, pairs, 1), f'{{"at":0,"free":[],"ok":"report","open":[],"pairs":[{pairs}],{ended}')
+
+
+def exchange(it: socket.socket, lines: list[str], replies: list[str]) -> None:
+    """Sends lines together, and wants these replies."""
+    it.sendall("".join(lines).encode())
+    wanted = "".join(replies).encode()
+    found = b""
+    while len(found) < len(wanted):
+        more = it.recv(1 << 16)
+        if not more:
+            break
+        found += more
+    if found != wanted:
+        fail(f"another reply among those to {lines[0]!r} and {len(lines) - 1} lines more")
+
+
+def events(room: Path) -> None:
+    """A link that is cut and made again, 70,000 times in one run."""
+    file = lab(room, [f'{{ id = {node}, owner = "ana" }}' for node in (1, 2)], "[1, 2]", EVENTS)
+    journal = room / "large.journal"
+    server = Server(lambda port: ["serve", str(file), str(port), "1", str(journal)], {})
+    with socket.create_connection(("127.0.0.1", server.port), timeout=LIMIT) as it:
+        exchange(it, [HELLO], [WELCOME])
+        for first in range(1, EVENTS + 1, PART):
+            places = range(first, first + PART)
+            words = ["cut" if place % 2 else "link" for place in places]
+            lines = [f'{{"a":1,"b":2,"do":"{word}"}}\n' for word in words]
+            form = '{{"a":1,"at":{0},"b":2,"dropped":0,"ok":"{1}","place":{0}}}\n'
+            exchange(it, lines, [form.format(place, word) for place, word in zip(places, words)])
+        exchange(it, ['{"a":1,"b":2,"do":"cut"}\n'], ['{"refuse":"full"}\n'])
+    ended = server.end()
+    if ended.out != f"done: {EVENTS} events, configuration {EVENTS}\n".encode() or ended.status != 0:
+        fail(f"another end after {EVENTS} events: {ended}")
+    if not Story(file, b"", room).audit(journal.read_bytes()).startswith(f"ok: {EVENTS} events,".encode()):
+        fail(f"another audit of {EVENTS} events")
+
+
+def work(room: Path) -> str:
+    """All runs."""
+    reports(room)
+    events(room)
+    return f"reports of {NODES} nodes, and {EVENTS} events of one run"
+
+
+if __name__ == "__main__":
+    in_room(work)
