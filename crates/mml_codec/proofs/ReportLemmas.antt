@@ -21,3 +21,8 @@ parts_put a b c d e f g h i j p q r s t u v w x one two three four five six seve
 -- three parts and then a rest are one text, put together in either way
 pub grouped : (x y z rest : List ℕ) → (x ++ (y ++ (z ++ []))) ++ rest ≡ x ++ (y ++ (z ++ rest))
 grouped x y z rest = append_assoc x (y ++ (z ++ [])) rest ∙ ap (λ t. x ++ t) (append_assoc y (z ++ []) rest ∙ ap (λ t. y ++ t) (append_assoc z [] rest))
+
+-- a part in three, and then another
+pub then_put_3 : (a b c p q r y : List ℕ) → b ≡ a ++ (p ++ (q ++ r)) → c ≡ b ++ y → c ≡ a ++ (p ++ (q ++ (r ++ y)))
+then_put_3 a b c p q r y first second =
+    then_put a b c _ y first second ∙ ap (λ t. a ++ t) (append_assoc p (q ++ r) y ∙ ap (λ t. p ++ t) (append_assoc q r y))

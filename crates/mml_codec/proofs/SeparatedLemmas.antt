@@ -78,3 +78,7 @@ text_more f xs i d start held put comma h comma_is so_far more =
     ∙ append_assoc start (separated (map f (take i xs))) (comma_after (map f (take i xs)) ++ f (get_or xs i d))
     ∙ ap (λ t. start ++ t) (sym (ap (λ ys. separated (map f ys)) (take_more xs i d h) ∙ ap separated (map-append f (take i xs) (get_or xs i d ∷ []))
     ∙ separated-more (map f (take i xs)) (f (get_or xs i d))))
+
+-- a comma, where one is due, and then a text
+pub with_comma_put : (held comma now taken text : List ℕ) → now ≡ taken ++ comma → taken ++ comma ≡ held ++ comma → now ++ text ≡ held ++ (comma ++ text)
+with_comma_put held comma now taken text is same = ap (λ t. t ++ text) (is ∙ same) ∙ append_assoc held comma text

@@ -1,13 +1,18 @@
 //! Lists of what a reply tells of nodes.
-ghost use Rattle.std.specs.Prelude.{◌≡◌, ◌≤◌, ◌<◌, ◌++◌, ℕ, List, All, length, map, OnOk, vec_capacity};
+ghost use Rattle.std.specs.Prelude.{codes, ◌+◌, ◌≡◌, ◌≤◌, ◌<◌, ◌++◌, ℕ, List, All, length, map, OnOk, vec_capacity};
 ghost use Rattle.mml_policy.specs.About.{IsNear};
 ghost use Rattle.mml_stable.specs.Reports.{IsPairOf, IsOpenLinkOf};
+ghost use Rattle.mml_ids.specs.Pieces.{truth_text};
+ghost use Rattle.serde_json.specs.Written.{comma_if};
 ghost use Rattle.mml_codec.specs.Facts.{node_text, near_text, pair_text, privileged_text, open_link_text, separated};
 
-use crate::reply_writing::{kind_word, pointer};
-use mml_ids::{IdTable, Memory, Piece, Rank, put, truth_text};
+use crate::reply_writing::{with_kind, with_node, with_pointer_at_end};
+use mml_ids::{IdTable, Memory, Rank, make_room, taken, with_text};
 use mml_rules::{Kind, Regs};
 use mml_stable::OpenLink;
+
+// Enough for each one of a list, with the comma before it.
+const ITEM_ROOM: usize = 64;
 
 /// One of a list in a reply.
 pub(crate) trait Listed {
@@ -17,12 +22,12 @@ pub(crate) trait Listed {
     // Its text, in a lab with these identifiers.
     ghost text: { List ℕ → Self → List ℕ };
 
-    // Puts it after what parts it from the one before.
-    fn put_item(&self, ids: &IdTable, comma: &str, out: &mut Vec<u8>) -> Result<(), Memory>
-        requires { names ids.now self.now }
-        ensures text { OnOk result
-            (out.new.items ≡ out.old.items ++ (comma.now ++ text ids.now self.now)) }
-        ensures capacity { vec_capacity out.old ≤ vec_capacity out.new };
+    // The text with its own behind it.
+    fn with_item(&self, line: Vec<u8>, ids: &IdTable) -> Vec<u8>
+        requires names { names ids.now self.now }
+        requires room { length line.items + 63 ≤ vec_capacity line }
+        ensures text { result.items ≡ line.items ++ text ids.now self.now }
+        ensures capacity { vec_capacity result ≡ vec_capacity line };
 }
 
 /// Puts the texts of a list, with commas between them.
@@ -36,12 +41,25 @@ pub(crate) fn put_list<T: Listed>(
         (out.new.items ≡ out.old.items ++ separated (map (T.text ids.now) items.now)) }
     ensures capacity { vec_capacity out.old ≤ vec_capacity out.new }
 {
-    let mut comma = "";
+    let mut later = false;
     for item in items {
-        item.put_item(ids, comma, out)?;
-        comma = ",";
+        make_room(out, ITEM_ROOM)?;
+        let line = with_comma(taken(out), later);
+        *out = item.with_item(line, ids);
+        later = true;
     }
     Ok(())
+}
+
+// A comma, where one stood before.
+#[inline(always)]
+fn with_comma(line: Vec<u8>, later: bool) -> Vec<u8>
+    requires { length line.items + 1 ≤ vec_capacity line }
+    ensures text { result.items ≡ line.items ++ comma_if later }
+    ensures capacity { vec_capacity result ≡ vec_capacity line }
+    ensures grows { length result.items ≤ length line.items + 1 }
+{
+    if later { with_text(line, ",") } else { line }
 }
 
 // A node.
@@ -50,8 +68,9 @@ impl Listed for Rank {
 
     ghost text = { node_text };
 
-    fn put_item(&self, ids: &IdTable, comma: &str, out: &mut Vec<u8>) -> Result<(), Memory> {
-        put(out, &[Piece::Text(comma), Piece::Id(ids.node_id(*self))])
+    #[inline(always)]
+    fn with_item(&self, line: Vec<u8>, ids: &IdTable) -> Vec<u8> {
+        with_node(line, ids, *self)
     }
 }
 
@@ -61,22 +80,30 @@ impl Listed for (Rank, Regs) {
 
     ghost text = { near_text };
 
+    #[inline(always)]
     #[tactic(auto, unfolding(crate::specs::Facts::near_text))]
-    fn put_item(&self, ids: &IdTable, comma: &str, out: &mut Vec<u8>) -> Result<(), Memory> {
+    fn with_item(&self, line: Vec<u8>, ids: &IdTable) -> Vec<u8> {
         let (node, regs) = self;
-        put(
-            out,
-            &[
-                Piece::Text(comma),
-                Piece::Text("{\"m\":"),
-                Piece::Text(truth_text(regs.m)),
-                Piece::Text(",\"node\":"),
-                Piece::Id(ids.node_id(*node)),
-                Piece::Text(",\"p\":"),
-                pointer(ids, regs.p),
-                Piece::Text("}"),
-            ],
-        )
+        let line = with_first_m_then_node(line, regs.m);
+        let line = with_node(line, ids, *node);
+        let line = with_text(line, ",\"p\":");
+        with_pointer_at_end(line, ids, regs.p)
+    }
+}
+
+// A truth value from the beginning of its object to the next key's value, as one literal.
+#[inline(always)]
+fn with_first_m_then_node(line: Vec<u8>, m: bool) -> Vec<u8>
+    requires { length line.items + 18 ≤ vec_capacity line }
+    ensures text { result.items ≡ line.items
+        ++ (codes "{\"m\":" ++ (truth_text m ++ codes ",\"node\":")) }
+    ensures capacity { vec_capacity result ≡ vec_capacity line }
+    ensures grows { length result.items ≤ length line.items + 18 }
+{
+    if m {
+        with_text(line, "{\"m\":true,\"node\":")
+    } else {
+        with_text(line, "{\"m\":false,\"node\":")
     }
 }
 
@@ -86,20 +113,15 @@ impl Listed for (Rank, Rank) {
 
     ghost text = { pair_text };
 
+    #[inline(always)]
     #[tactic(auto, unfolding(crate::specs::Facts::pair_text))]
-    fn put_item(&self, ids: &IdTable, comma: &str, out: &mut Vec<u8>) -> Result<(), Memory> {
+    fn with_item(&self, line: Vec<u8>, ids: &IdTable) -> Vec<u8> {
         let (lower, greater) = self;
-        put(
-            out,
-            &[
-                Piece::Text(comma),
-                Piece::Text("["),
-                Piece::Id(ids.node_id(*lower)),
-                Piece::Text(","),
-                Piece::Id(ids.node_id(*greater)),
-                Piece::Text("]"),
-            ],
-        )
+        let line = with_text(line, "[");
+        let line = with_node(line, ids, *lower);
+        let line = with_text(line, ",");
+        let line = with_node(line, ids, *greater);
+        with_text(line, "]")
     }
 }
 
@@ -109,20 +131,15 @@ impl Listed for (Rank, Kind) {
 
     ghost text = { privileged_text };
 
+    #[inline(always)]
     #[tactic(auto, unfolding(crate::specs::Facts::privileged_text))]
-    fn put_item(&self, ids: &IdTable, comma: &str, out: &mut Vec<u8>) -> Result<(), Memory> {
+    fn with_item(&self, line: Vec<u8>, ids: &IdTable) -> Vec<u8> {
         let (node, kind) = self;
-        put(
-            out,
-            &[
-                Piece::Text(comma),
-                Piece::Text("["),
-                Piece::Id(ids.node_id(*node)),
-                Piece::Text(","),
-                Piece::Text(kind_word(*kind)),
-                Piece::Text("]"),
-            ],
-        )
+        let line = with_text(line, "[");
+        let line = with_node(line, ids, *node);
+        let line = with_text(line, ",");
+        let line = with_kind(line, *kind);
+        with_text(line, "]")
     }
 }
 
@@ -131,22 +148,17 @@ impl Listed for OpenLink {
 
     ghost text = { open_link_text };
 
+    #[inline(always)]
     #[tactic(auto, unfolding(crate::specs::Facts::open_link_text))]
-    fn put_item(&self, ids: &IdTable, comma: &str, out: &mut Vec<u8>) -> Result<(), Memory> {
-        put(
-            out,
-            &[
-                Piece::Text(comma),
-                Piece::Text("["),
-                Piece::Id(ids.node_id(self.a)),
-                Piece::Text(","),
-                Piece::Id(ids.node_id(self.b)),
-                Piece::Text(","),
-                Piece::Id(ids.node_id(self.node)),
-                Piece::Text(","),
-                Piece::Text(kind_word(self.kind)),
-                Piece::Text("]"),
-            ],
-        )
+    fn with_item(&self, line: Vec<u8>, ids: &IdTable) -> Vec<u8> {
+        let line = with_text(line, "[");
+        let line = with_node(line, ids, self.a);
+        let line = with_text(line, ",");
+        let line = with_node(line, ids, self.b);
+        let line = with_text(line, ",");
+        let line = with_node(line, ids, self.node);
+        let line = with_text(line, ",");
+        let line = with_kind(line, self.kind);
+        with_text(line, "]")
     }
 }

@@ -1,5 +1,5 @@
-ghost use Rattle.std.specs.Prelude.{◌≡◌, ◌≤◌, ◌<◌, ◌+◌, ◌^◌, ◌++◌, ◌∷◌, [], true, length, map, OnOk, OnErr, IsOk, IfSome, vec_capacity};
-ghost use Rattle.mml_ids.specs.Pieces.{piece_text, piece_room, Puts};
+ghost use Rattle.std.specs.Prelude.{codes, decimal, ◌≡◌, ◌≤◌, ◌<◌, ◌+◌, ◌^◌, ◌++◌, ◌∷◌, [], true, length, map, OnOk, OnErr, IsOk, IfSome, vec_capacity};
+ghost use Rattle.mml_ids.specs.Pieces.{piece_text, piece_room, Puts, Adds};
 ghost use Rattle.mml_ids.specs.declared.piece.Piece.TheVariants.{Number};
 ghost use Rattle.mml_lab.specs.Rosters.{name_of, IsPrincipal};
 ghost use Rattle.mml_board.specs.declared.done.Done.TheVariants as done;
@@ -14,7 +14,10 @@ ghost use Rattle.mml_codec.specs.inside.Puts.{number_front, deny_parts, look_hea
 use crate::listed::put_list;
 use crate::reply::{REPLY_ROOM, Refused, Reply};
 use crate::report_writing::put_report;
-use mml_ids::{IdTable, Memory, NodeSet, Piece, Rank, put, truth_text};
+use mml_ids::{
+    IdTable, Memory, NodeSet, Piece, Rank, make_room, put, taken, truth_text, with_id, with_number,
+    with_text,
+};
 use mml_lab::{Roster, Who};
 use mml_policy::{Denial, Look, See};
 use mml_rules::Kind;
@@ -22,6 +25,9 @@ use std::alloc::Global;
 
 // Enough for the text of each reply but a look and a report.
 const TEXT_ROOM: usize = 2000;
+
+// Enough for what a look says before the nodes that are linked, or after them.
+const LOOK_ROOM: usize = 128;
 
 // When an event took place: the number after it, and its place.
 #[derive(Clone, Copy)]
@@ -180,42 +186,54 @@ fn put_text(ids: &IdTable, roster: &Roster, reply: &Reply, out: &mut Vec<u8>) ->
     }
 }
 
-#[tactic(auto, unfolding(crate::specs::Facts::object_text))]
 fn put_hello(ids: &IdTable, roster: &Roster, who: Who, out: &mut Vec<u8>) -> Result<(), Memory>
     requires { IsPrincipal roster.now who }
-    ensures { Puts (object_text ids.now (hello_fields (name_of roster.now who)))
-        TEXT_ROOM out.old out.new result }
+    ensures { Puts (object_text ids.now
+        (hello_fields (name_of roster.now who))) TEXT_ROOM out.old out.new result }
 {
-    put(
-        out,
-        &[
-            Piece::Text("{\"ok\":\"hello\",\"who\":\""),
-            Piece::Text(roster.name_of(who)),
-            Piece::Text("\"}"),
-        ],
-    )
+    make_room(out, TEXT_ROOM)?;
+    *out = with_hello(taken(out), ids, roster, who);
+    Ok(())
 }
 
+#[inline(always)]
 #[tactic(auto, unfolding(crate::specs::Facts::object_text))]
+fn with_hello(text: Vec<u8>, ids: &IdTable, roster: &Roster, who: Who) -> Vec<u8>
+    requires about { IsPrincipal roster.now who }
+    requires room { length text.items + TEXT_ROOM ≤ vec_capacity text }
+    ensures adds { Adds (object_text ids.now
+        (hello_fields (name_of roster.now who))) TEXT_ROOM text result }
+{
+    let text = with_text(text, "{\"ok\":\"hello\",\"who\":\"");
+    let text = with_text(text, roster.name_of(who));
+    with_text(text, "\"}")
+}
+
 fn put_see(ids: &IdTable, see: &See, out: &mut Vec<u8>) -> Result<(), Memory>
-    requires { IsSeen ids.now see.now }
+    requires about { IsSeen ids.now see.now }
     ensures puts { Puts (object_text ids.now (see_fields see.now)) TEXT_ROOM out.old out.new result }
     ensures count { see.now.at < 2 ^ 64 }
 {
-    put(
-        out,
-        &[
-            Piece::Text("{\"at\":"),
-            counted(see.at),
-            Piece::Text(",\"m\":"),
-            Piece::Text(truth_text(see.regs.m)),
-            Piece::Text(",\"node\":"),
-            Piece::Id(ids.node_id(see.node)),
-            Piece::Text(",\"ok\":\"see\",\"p\":"),
-            pointer(ids, see.regs.p),
-            Piece::Text("}"),
-        ],
-    )
+    let _at = see.at;
+    make_room(out, TEXT_ROOM)?;
+    *out = with_see(taken(out), ids, see);
+    Ok(())
+}
+
+#[inline(always)]
+#[tactic(auto, unfolding(crate::specs::Facts::object_text))]
+fn with_see(text: Vec<u8>, ids: &IdTable, see: &See) -> Vec<u8>
+    requires about { IsSeen ids.now see.now }
+    requires room { length text.items + TEXT_ROOM ≤ vec_capacity text }
+    ensures adds { Adds (object_text ids.now (see_fields see.now)) TEXT_ROOM text result }
+    ensures count { see.now.at < 2 ^ 64 }
+{
+    let text = with_text(text, "{\"at\":");
+    let text = with_count(text, see.at);
+    let text = with_m_then_node(text, see.regs.m);
+    let text = with_node(text, ids, see.node);
+    let text = with_text(text, ",\"ok\":\"see\",\"p\":");
+    with_pointer_at_end(text, ids, see.regs.p)
 }
 
 fn put_look(ids: &IdTable, look: &Look, out: &mut Vec<u8>) -> Result<(), Memory>
@@ -240,49 +258,62 @@ fn put_look_parts(ids: &IdTable, look: &Look, out: &mut Vec<u8>) -> Result<(), M
     put_look_tail(ids, look, out)
 }
 
-#[tactic(auto, unfolding(crate::specs::inside::Puts::joined_text))]
 fn put_look_head(look: &Look, out: &mut Vec<u8>) -> Result<(), Memory>
     ensures text { OnOk result
         (out.new.items ≡ out.old.items ++ joined_text (look_head look.now)) }
     ensures capacity { vec_capacity out.old ≤ vec_capacity out.new }
     ensures count { look.now.at < 2 ^ 64 }
 {
-    put(
-        out,
-        &[
-            Piece::Text("{\"at\":"),
-            counted(look.at),
-            Piece::Text(",\"chosen\":"),
-            Piece::Text(kind_or_null(look.chosen)),
-            Piece::Text(",\"m\":"),
-            Piece::Text(truth_text(look.regs.m)),
-            Piece::Text(",\"near\":["),
-        ],
-    )
+    let _at = look.at;
+    make_room(out, LOOK_ROOM)?;
+    *out = with_look_head(taken(out), look);
+    Ok(())
 }
 
+#[inline(always)]
 #[tactic(auto, unfolding(crate::specs::inside::Puts::joined_text))]
+fn with_look_head(text: Vec<u8>, look: &Look) -> Vec<u8>
+    requires { length text.items + LOOK_ROOM ≤ vec_capacity text }
+    ensures text { result.items ≡ text.items ++ joined_text (look_head look.now) }
+    ensures capacity { vec_capacity result ≡ vec_capacity text }
+{
+    let text = with_text(text, "{\"at\":");
+    let text = with_count(text, look.at);
+    let text = with_text(text, ",\"chosen\":");
+    let text = with_kind_or_null(text, look.chosen);
+    let text = with_text(text, ",\"m\":");
+    let text = with_truth(text, look.regs.m);
+    with_text(text, ",\"near\":[")
+}
+
 fn put_look_tail(ids: &IdTable, look: &Look, out: &mut Vec<u8>) -> Result<(), Memory>
     requires { IsLookedAt ids.now look.now }
     ensures text { OnOk result
         (out.new.items ≡ out.old.items ++ joined_text (look_tail ids.now look.now)) }
     ensures capacity { vec_capacity out.old ≤ vec_capacity out.new }
 {
-    put(
-        out,
-        &[
-            Piece::Text("],\"node\":"),
-            Piece::Id(ids.node_id(look.node)),
-            Piece::Text(",\"ok\":\"look\",\"p\":"),
-            pointer(ids, look.regs.p),
-            Piece::Text(",\"rule\":"),
-            Piece::Text(kind_or_null(look.enabled)),
-            Piece::Text("}"),
-        ],
-    )
+    make_room(out, LOOK_ROOM)?;
+    *out = with_look_tail(taken(out), ids, look);
+    Ok(())
 }
 
-#[tactic(auto, unfolding(crate::specs::Facts::object_text))]
+#[inline(always)]
+#[tactic(auto, unfolding(crate::specs::inside::Puts::joined_text))]
+fn with_look_tail(text: Vec<u8>, ids: &IdTable, look: &Look) -> Vec<u8>
+    requires about { IsLookedAt ids.now look.now }
+    requires room { length text.items + LOOK_ROOM ≤ vec_capacity text }
+    ensures text { result.items ≡ text.items ++ joined_text (look_tail ids.now look.now) }
+    ensures capacity { vec_capacity result ≡ vec_capacity text }
+{
+    let text = with_text(text, "],\"node\":");
+    let text = with_node(text, ids, look.node);
+    let text = with_text(text, ",\"ok\":\"look\",\"p\":");
+    let text = with_pointer(text, ids, look.regs.p);
+    let text = with_text(text, ",\"rule\":");
+    let text = with_kind_or_null(text, look.enabled);
+    with_text(text, "}")
+}
+
 fn put_move(
     ids: &IdTable,
     moment: Moment,
@@ -292,23 +323,30 @@ fn put_move(
 ) -> Result<(), Memory>
     requires { node < length ids.now }
     ensures { Puts (object_text ids.now
-        (done_fields moment.at moment.place (done.Move node kind)))
-        TEXT_ROOM out.old out.new result }
+        (done_fields moment.at moment.place (done.Move node kind))) TEXT_ROOM out.old out.new result }
 {
-    put(
-        out,
-        &[
-            Piece::Text("{\"at\":"),
-            Piece::Number(moment.at),
-            Piece::Text(",\"node\":"),
-            Piece::Id(ids.node_id(node)),
-            Piece::Text(",\"ok\":\"move\",\"place\":"),
-            Piece::Number(moment.place),
-            Piece::Text(",\"rule\":"),
-            Piece::Text(kind_word(kind)),
-            Piece::Text("}"),
-        ],
-    )
+    make_room(out, TEXT_ROOM)?;
+    *out = with_move(taken(out), ids, moment, node, kind);
+    Ok(())
+}
+
+#[inline(always)]
+#[tactic(auto, unfolding(crate::specs::Facts::object_text))]
+fn with_move(text: Vec<u8>, ids: &IdTable, moment: Moment, node: Rank, kind: Kind) -> Vec<u8>
+    requires about { node < length ids.now }
+    requires room { length text.items + TEXT_ROOM ≤ vec_capacity text }
+    ensures adds { Adds (object_text ids.now
+        (done_fields moment.at moment.place (done.Move node kind))) TEXT_ROOM text result }
+{
+    let text = with_text(text, "{\"at\":");
+    let text = with_number(text, moment.at);
+    let text = with_text(text, ",\"node\":");
+    let text = with_node(text, ids, node);
+    let text = with_text(text, ",\"ok\":\"move\",\"place\":");
+    let text = with_number(text, moment.place);
+    let text = with_text(text, ",\"rule\":");
+    let text = with_kind(text, kind);
+    with_text(text, "}")
 }
 
 #[tactic(auto, unfolding(crate::specs::Facts::object_text))]
@@ -352,7 +390,6 @@ fn put_members(ids: &IdTable, moved: NodeSet, out: &mut Vec<u8>) -> Result<(), M
     Ok(())
 }
 
-#[tactic(auto, unfolding(crate::specs::Facts::object_text))]
 fn put_fault(
     ids: &IdTable,
     moment: Moment,
@@ -362,23 +399,30 @@ fn put_fault(
 ) -> Result<(), Memory>
     requires { node < length ids.now }
     ensures { Puts (object_text ids.now
-        (done_fields moment.at moment.place (done.Fault node dropped)))
-        TEXT_ROOM out.old out.new result }
+        (done_fields moment.at moment.place (done.Fault node dropped))) TEXT_ROOM out.old out.new result }
 {
-    put(
-        out,
-        &[
-            Piece::Text("{\"at\":"),
-            Piece::Number(moment.at),
-            Piece::Text(",\"dropped\":"),
-            Piece::Number(u64::from(dropped)),
-            Piece::Text(",\"node\":"),
-            Piece::Id(ids.node_id(node)),
-            Piece::Text(",\"ok\":\"fault\",\"place\":"),
-            Piece::Number(moment.place),
-            Piece::Text("}"),
-        ],
-    )
+    make_room(out, TEXT_ROOM)?;
+    *out = with_fault(taken(out), ids, moment, node, dropped);
+    Ok(())
+}
+
+#[inline(always)]
+#[tactic(auto, unfolding(crate::specs::Facts::object_text))]
+fn with_fault(text: Vec<u8>, ids: &IdTable, moment: Moment, node: Rank, dropped: u16) -> Vec<u8>
+    requires about { node < length ids.now }
+    requires room { length text.items + TEXT_ROOM ≤ vec_capacity text }
+    ensures adds { Adds (object_text ids.now
+        (done_fields moment.at moment.place (done.Fault node dropped))) TEXT_ROOM text result }
+{
+    let text = with_text(text, "{\"at\":");
+    let text = with_number(text, moment.at);
+    let text = with_text(text, ",\"dropped\":");
+    let text = with_number(text, u64::from(dropped));
+    let text = with_text(text, ",\"node\":");
+    let text = with_node(text, ids, node);
+    let text = with_text(text, ",\"ok\":\"fault\",\"place\":");
+    let text = with_number(text, moment.place);
+    with_text(text, "}")
 }
 
 fn put_link(
@@ -413,7 +457,6 @@ fn put_cut(
     put_ends(ids, "cut", moment, ends, dropped, out)
 }
 
-#[tactic(auto, unfolding(crate::specs::Facts::object_text))]
 fn put_ends(
     ids: &IdTable,
     word: &'static str,
@@ -426,49 +469,71 @@ fn put_ends(
     requires second { ends.1 < length ids.now }
     requires word { length word.now ≤ 40 }
     ensures { Puts (object_text ids.now
-        (ends_fields word.now moment.at moment.place ends.0 ends.1 dropped))
-        TEXT_ROOM out.old out.new result }
+        (ends_fields word.now moment.at moment.place ends.0 ends.1 dropped)) TEXT_ROOM out.old out.new result }
 {
-    let (a, b) = ends;
-    put(
-        out,
-        &[
-            Piece::Text("{\"a\":"),
-            Piece::Id(ids.node_id(a)),
-            Piece::Text(",\"at\":"),
-            Piece::Number(moment.at),
-            Piece::Text(",\"b\":"),
-            Piece::Id(ids.node_id(b)),
-            Piece::Text(",\"dropped\":"),
-            Piece::Number(u64::from(dropped)),
-            Piece::Text(",\"ok\":\""),
-            Piece::Text(word),
-            Piece::Text("\",\"place\":"),
-            Piece::Number(moment.place),
-            Piece::Text("}"),
-        ],
-    )
+    make_room(out, TEXT_ROOM)?;
+    *out = with_ends(taken(out), ids, word, moment, ends, dropped);
+    Ok(())
 }
 
+#[inline(always)]
 #[tactic(auto, unfolding(crate::specs::Facts::object_text))]
+fn with_ends(
+    text: Vec<u8>,
+    ids: &IdTable,
+    word: &'static str,
+    moment: Moment,
+    ends: (Rank, Rank),
+    dropped: u16,
+) -> Vec<u8>
+    requires first { ends.0 < length ids.now }
+    requires second { ends.1 < length ids.now }
+    requires word { length word.now ≤ 40 }
+    requires room { length text.items + TEXT_ROOM ≤ vec_capacity text }
+    ensures adds { Adds (object_text ids.now
+        (ends_fields word.now moment.at moment.place ends.0 ends.1 dropped)) TEXT_ROOM text result }
+{
+    let (a, b) = ends;
+    let text = with_text(text, "{\"a\":");
+    let text = with_node(text, ids, a);
+    let text = with_text(text, ",\"at\":");
+    let text = with_number(text, moment.at);
+    let text = with_text(text, ",\"b\":");
+    let text = with_node(text, ids, b);
+    let text = with_text(text, ",\"dropped\":");
+    let text = with_number(text, u64::from(dropped));
+    let text = with_text(text, ",\"ok\":\"");
+    let text = with_text(text, word);
+    let text = with_text(text, "\",\"place\":");
+    let text = with_number(text, moment.place);
+    with_text(text, "}")
+}
+
 fn put_release(ids: &IdTable, moment: Moment, node: Rank, out: &mut Vec<u8>) -> Result<(), Memory>
     requires { node < length ids.now }
     ensures { Puts (object_text ids.now
-        (done_fields moment.at moment.place (done.Release node)))
-        TEXT_ROOM out.old out.new result }
+        (done_fields moment.at moment.place (done.Release node))) TEXT_ROOM out.old out.new result }
 {
-    put(
-        out,
-        &[
-            Piece::Text("{\"at\":"),
-            Piece::Number(moment.at),
-            Piece::Text(",\"node\":"),
-            Piece::Id(ids.node_id(node)),
-            Piece::Text(",\"ok\":\"release\",\"place\":"),
-            Piece::Number(moment.place),
-            Piece::Text("}"),
-        ],
-    )
+    make_room(out, TEXT_ROOM)?;
+    *out = with_release(taken(out), ids, moment, node);
+    Ok(())
+}
+
+#[inline(always)]
+#[tactic(auto, unfolding(crate::specs::Facts::object_text))]
+fn with_release(text: Vec<u8>, ids: &IdTable, moment: Moment, node: Rank) -> Vec<u8>
+    requires about { node < length ids.now }
+    requires room { length text.items + TEXT_ROOM ≤ vec_capacity text }
+    ensures adds { Adds (object_text ids.now
+        (done_fields moment.at moment.place (done.Release node))) TEXT_ROOM text result }
+{
+    let text = with_text(text, "{\"at\":");
+    let text = with_number(text, moment.at);
+    let text = with_text(text, ",\"node\":");
+    let text = with_node(text, ids, node);
+    let text = with_text(text, ",\"ok\":\"release\",\"place\":");
+    let text = with_number(text, moment.place);
+    with_text(text, "}")
 }
 
 fn put_denial(ids: &IdTable, denial: Denial, out: &mut Vec<u8>) -> Result<(), Memory>
@@ -511,25 +576,40 @@ fn put_number_first(denial: Denial, out: &mut Vec<u8>) -> Result<(), Memory>
     }
 }
 
-#[tactic(auto, unfolding(crate::specs::Facts::object_text))]
 fn put_bye(ids: &IdTable, out: &mut Vec<u8>) -> Result<(), Memory>
     ensures { Puts (object_text ids.now bye_fields) TEXT_ROOM out.old out.new result }
 {
-    put(out, &[Piece::Text("{\"ok\":\"bye\"}")])
+    make_room(out, TEXT_ROOM)?;
+    *out = with_bye(taken(out), ids);
+    Ok(())
 }
 
+#[inline(always)]
 #[tactic(auto, unfolding(crate::specs::Facts::object_text))]
+fn with_bye(text: Vec<u8>, ids: &IdTable) -> Vec<u8>
+    requires room { length text.items + TEXT_ROOM ≤ vec_capacity text }
+    ensures adds { Adds (object_text ids.now bye_fields) TEXT_ROOM text result }
+{
+    with_text(text, "{\"ok\":\"bye\"}")
+}
+
 fn put_refusal(ids: &IdTable, refused: Refused, out: &mut Vec<u8>) -> Result<(), Memory>
     ensures { Puts (object_text ids.now (refuse_fields refused)) TEXT_ROOM out.old out.new result }
 {
-    put(
-        out,
-        &[
-            Piece::Text("{\"refuse\":\""),
-            Piece::Text(refusal_name(refused)),
-            Piece::Text("\"}"),
-        ],
-    )
+    make_room(out, TEXT_ROOM)?;
+    *out = with_refusal(taken(out), ids, refused);
+    Ok(())
+}
+
+#[inline(always)]
+#[tactic(auto, unfolding(crate::specs::Facts::object_text))]
+fn with_refusal(text: Vec<u8>, ids: &IdTable, refused: Refused) -> Vec<u8>
+    requires room { length text.items + TEXT_ROOM ≤ vec_capacity text }
+    ensures adds { Adds (object_text ids.now (refuse_fields refused)) TEXT_ROOM text result }
+{
+    let text = with_text(text, "{\"refuse\":\"");
+    let text = with_text(text, refusal_name(refused));
+    with_text(text, "\"}")
 }
 
 fn refusal_name(refused: Refused) -> &'static str
@@ -544,42 +624,122 @@ fn refusal_name(refused: Refused) -> &'static str
     }
 }
 
+// The identifier of a node.
+#[inline(always)]
+pub(crate) fn with_node(text: Vec<u8>, ids: &IdTable, node: Rank) -> Vec<u8>
+    requires node { node < length ids.now }
+    requires room { length text.items + 5 ≤ vec_capacity text }
+    ensures text { result.items ≡ text.items ++ node_text ids.now node }
+    ensures capacity { vec_capacity result ≡ vec_capacity text }
+    ensures grows { length result.items ≤ length text.items + 5 }
+{
+    with_id(text, ids.node_id(node))
+}
+
+#[inline(always)]
+fn with_truth(text: Vec<u8>, m: bool) -> Vec<u8>
+    requires { length text.items + 5 ≤ vec_capacity text }
+    ensures text { result.items ≡ text.items ++ truth_text m }
+    ensures capacity { vec_capacity result ≡ vec_capacity text }
+    ensures grows { length result.items ≤ length text.items + 5 }
+{
+    if m {
+        with_text(text, "true")
+    } else {
+        with_text(text, "false")
+    }
+}
+
+#[inline(always)]
+fn with_kind_or_null(text: Vec<u8>, kind: Option<Kind>) -> Vec<u8>
+    requires { length text.items + 13 ≤ vec_capacity text }
+    ensures text { result.items ≡ text.items ++ kind_or_null kind }
+    ensures capacity { vec_capacity result ≡ vec_capacity text }
+    ensures grows { length result.items ≤ length text.items + 13 }
+{
+    match kind {
+        Some(kind) => with_kind(text, kind),
+        None => with_text(text, "null"),
+    }
+}
+
+// The number, and what follows from its type.
+#[inline(always)]
+pub(crate) fn with_count(text: Vec<u8>, count: u64) -> Vec<u8>
+    requires { length text.items + 20 ≤ vec_capacity text }
+    ensures text { result.items ≡ text.items ++ decimal count }
+    ensures capacity { vec_capacity result ≡ vec_capacity text }
+    ensures grows { length result.items ≤ length text.items + 20 }
+    ensures fits { count < 2 ^ 64 }
+{
+    with_number(text, count)
+}
+
+// A truth value between its key and the next, as one literal.
+#[inline(always)]
+pub(crate) fn with_m_then_node(text: Vec<u8>, m: bool) -> Vec<u8>
+    requires { length text.items + 18 ≤ vec_capacity text }
+    ensures text { result.items ≡ text.items
+        ++ (codes ",\"m\":" ++ (truth_text m ++ codes ",\"node\":")) }
+    ensures capacity { vec_capacity result ≡ vec_capacity text }
+    ensures grows { length result.items ≤ length text.items + 18 }
+{
+    if m {
+        with_text(text, ",\"m\":true,\"node\":")
+    } else {
+        with_text(text, ",\"m\":false,\"node\":")
+    }
+}
+
+#[inline(always)]
+fn with_pointer(text: Vec<u8>, ids: &IdTable, p: Option<Rank>) -> Vec<u8>
+    requires node { IfSome p (λ j. j < length ids.now) }
+    requires room { length text.items + 5 ≤ vec_capacity text }
+    ensures text { result.items ≡ text.items ++ pointer_text ids.now p }
+    ensures capacity { vec_capacity result ≡ vec_capacity text }
+    ensures grows { length result.items ≤ length text.items + 5 }
+{
+    match p {
+        Some(j) => with_node(text, ids, j),
+        None => with_text(text, "null"),
+    }
+}
+
+// What a register points at, and the end of the object.
+#[inline(always)]
+pub(crate) fn with_pointer_at_end(text: Vec<u8>, ids: &IdTable, p: Option<Rank>) -> Vec<u8>
+    requires node { IfSome p (λ j. j < length ids.now) }
+    requires room { length text.items + 6 ≤ vec_capacity text }
+    ensures text { result.items ≡ text.items ++ (pointer_text ids.now p ++ codes "}") }
+    ensures capacity { vec_capacity result ≡ vec_capacity text }
+    ensures grows { length result.items ≤ length text.items + 6 }
+{
+    match p {
+        Some(j) => with_text(with_node(text, ids, j), "}"),
+        None => with_text(text, "null}"),
+    }
+}
+
+// The word of a kind of rule.
+#[inline(always)]
+pub(crate) fn with_kind(text: Vec<u8>, kind: Kind) -> Vec<u8>
+    requires room { length text.items + 13 ≤ vec_capacity text }
+    ensures text { result.items ≡ text.items ++ kind_text kind }
+    ensures capacity { vec_capacity result ≡ vec_capacity text }
+    ensures grows { length result.items ≤ length text.items + 13 }
+{
+    match kind {
+        Kind::Update => with_text(text, "\"update\""),
+        Kind::Marriage => with_text(text, "\"marriage\""),
+        Kind::Seduction => with_text(text, "\"seduction\""),
+        Kind::Abandonment => with_text(text, "\"abandonment\""),
+    }
+}
+
 // In a contract a number is any; that of a piece fits its type.
 pub(crate) fn counted(count: u64) -> Piece<'static>
     ensures piece { result ≡ Number count }
     ensures fits { count < 2 ^ 64 }
 {
     Piece::Number(count)
-}
-
-pub(crate) fn pointer(ids: &IdTable, p: Option<Rank>) -> Piece<'static>
-    requires { IfSome p (λ j. j < length ids.now) }
-    ensures text { piece_text result ≡ pointer_text ids.now p }
-    ensures short { piece_room result ≤ 5 }
-{
-    match p {
-        Some(j) => Piece::Id(ids.node_id(j)),
-        None => Piece::Text("null"),
-    }
-}
-
-pub(crate) fn kind_word(kind: Kind) -> &'static str
-    ensures text { result.now ≡ kind_text kind }
-    ensures short { length result.now ≤ 13 }
-{
-    match kind {
-        Kind::Update => "\"update\"",
-        Kind::Marriage => "\"marriage\"",
-        Kind::Seduction => "\"seduction\"",
-        Kind::Abandonment => "\"abandonment\"",
-    }
-}
-
-fn kind_or_null(kind: Option<Kind>) -> &'static str
-    ensures { result.now ≡ kind_or_null kind }
-{
-    match kind {
-        Some(kind) => kind_word(kind),
-        None => "null",
-    }
 }

@@ -3,3 +3,4 @@ pub mod Holds
 pub mod PlainLines
 pub mod Tokens
 pub mod Fields
+pub mod Compact

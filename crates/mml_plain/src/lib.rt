@@ -5,6 +5,7 @@
 //! `serde_json`, which also says what a plain line means.
 #![tactic(auto)]
 
+mod compact_reading;
 mod fields;
 mod line_scratch;
 mod plain_reading;

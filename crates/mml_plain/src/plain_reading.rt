@@ -6,6 +6,7 @@ ghost use Rattle.mml_plain.specs.PlainLines.{is_plain};
 ghost use Rattle.mml_plain.specs.Tokens.{is_over, plain_object, plain_members};
 ghost use Rattle.mml_plain.specs.Holds.{Holds};
 
+use crate::compact_reading::read_compact;
 use crate::fields::Fields;
 use crate::line_scratch::LineScratch;
 use crate::plain_value::PlainValue;
@@ -27,6 +28,10 @@ pub fn read_plain<'a>(
     let Ok(text) = std::str::from_utf8(line) else {
         return Ok(false);
     };
+    if read_compact(line, fields) {
+        return Ok(true);
+    }
+    *fields = Fields::empty();
     let mut reader = Reader::new(text, scratch.for_line())?;
     Ok(read_object(&mut reader, fields))
 }

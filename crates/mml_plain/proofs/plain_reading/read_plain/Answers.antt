@@ -40,3 +40,8 @@ pub returns-clause-other : goal.returns-clause-other
 returns-clause-other c =
     other_is c.read_object.result c.read_object.new.fields c.args.line.now
     (subst (Found c.read_object.result c.read_object.new.fields) (c.in_ok-reader.ensures.ok ∙ ap tokens c.in-Ok.ensures.cases.0) c.read_object.ensures)
+
+pub returns-then-read_compact-clause-plain : goal.returns-then-read_compact-clause-plain
+returns-then-read_compact-clause-plain c = λ e.
+    let got = c.read_compact.ensures c.if-read_compact.true in
+    (got.0, c.in-Ok.ensures.cases.1, read_is c.args.line.now got.0 got.1, got.2)

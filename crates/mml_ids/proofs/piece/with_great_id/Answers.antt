@@ -1,7 +1,7 @@
 use Rattle.std.proofs.Common.{length, length-append, ap, ◌∙◌, arith, lit<}
 use Rattle.std.specs.Prelude.{decimal}
 use Rattle.std.proofs.lemmas.Fmt.{length-decimal-le}
-use Rattle.mml_ids.proofs.piece.with_id.Goals as goal
+use Rattle.mml_ids.proofs.piece.with_great_id.Goals as goal
 
 pub with_bytes-requires : goal.with_bytes-requires
 with_bytes-requires c =

@@ -1,0 +1,34 @@
+use Rattle.serde_json.specs.Data.{no_members, put}
+use Rattle.mml_plain.specs.Fields.{data_of}
+use Rattle.mml_plain.proofs.FieldsLemmas.{holds_with}
+use Rattle.mml_plain.proofs.CompactLemmas.{begun, comma, over, member}
+use Rattle.mml_plain.proofs.compact_reading.read_compact.Goals as goal
+
+pub members-init : goal.members-init
+members-init c = (no_members, begun c.args.line.now c.in-Some.rest.now c.in-Some.ensures, c.requires)
+
+pub returns-in_default-behind : goal.returns-in_default-behind
+returns-in_default-behind c = λ e.
+    let l = c.members in
+    let k = c.in-Some-member.key.now in
+    let v = c.in-Some-member.value in
+    let found = l.invariant.0 in
+    let more = c.in-Some-member.more.now in (
+      put k (data_of v) found,
+      over c.args.line.now more (put k (data_of v) found) (c.is_end.ensures e)
+          (member c.args.line.now l.rest.now more k v found c.in-Some-member.ensures l.invariant.1),
+      rw c.put.ensures (holds_with k v found l.fields l.invariant.2),
+    )
+
+pub members-preserved : goal.members-preserved
+members-preserved c =
+    let l = c.members in
+    let k = c.in-Some-member.key.now in
+    let v = c.in-Some-member.value in
+    let found = l.invariant.0 in
+    let more = c.in-Some-member.more.now in (
+      put k (data_of v) found,
+      comma c.args.line.now more c.in-Some-behind.next.now (put k (data_of v) found) c.in-Some-behind.ensures
+          (member c.args.line.now l.rest.now more k v found c.in-Some-member.ensures l.invariant.1),
+      rw c.put.ensures (holds_with k v found l.fields l.invariant.2),
+    )
