@@ -9,4 +9,5 @@ pub mod TurnsLemmas
 pub mod AuditLemmas
 pub mod AuditMeaningLemmas
 pub mod HaltsLemmas
+pub mod ReadingLemmas
 pub mod AuditFaultLemmas

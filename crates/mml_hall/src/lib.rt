@@ -7,7 +7,7 @@ pub mod laws;
 mod script;
 mod script_line;
 
-pub use auditing::{AuditFault, audit};
+pub use auditing::{AuditFault, Audited, audit, audit_events, whole_lines};
 pub use hall::Hall;
 pub use script::{ScriptFault, run_script};
 

@@ -1,6 +1,7 @@
 -- Windows through which one connection after another is served.
 use Rattle.std.specs.Prelude.{◌≡◌, ℕ, Bool, true, false, List, [], ◌∷◌, ◌++◌, map, All, Option, Some}
 use Rattle.mml_lab.specs.Labs.{LabValue}
+use Rattle.mml_board.specs.declared.event.Event.{Event}
 use Rattle.mml_window.specs.Windows.{WindowValue, window}
 use Rattle.mml_lab.specs.declared.who.Who.{Who}
 use Rattle.mml_lab.specs.declared.who.Who.TheVariants as who
@@ -46,9 +47,9 @@ abbrev pub IsDismissed : {R W : Type 0} → List (ServedSession R W) → Type 0
 IsDismissed {R} {W} ss =
     (before : List (ServedSession R W)) × (s : ServedSession R W) × (ss ≡ before ++ s ∷ []) × (is_teachers_bye s.ending ≡ true) × AreGoingOn before
 
--- its sessions led its window from having seen nothing to where it is, and at the desk it is noted whether the teacher's bye came
-pub record IsPlace {H K R W : Type 0} (lab : LabValue) (remaining : R → Option (List ℕ)) (contents : W → Option (List ℕ)) (shows : K → ServedSession R W)
+-- its sessions led its window from having seen what came before the house to where it is, and at the desk it is noted whether the teacher's bye came
+pub record IsPlace {H K R W : Type 0} (lab : LabValue) (begun : List Event) (remaining : R → Option (List ℕ)) (contents : W → Option (List ℕ)) (shows : K → ServedSession R W)
     (p : Place H K) : Type 0 where
-  pub each : Chain (IsServed lab remaining contents) (window [] []) (sessions_of shows p) p.window
+  pub each : Chain (IsServed lab remaining contents) (window begun []) (sessions_of shows p) p.window
   pub dismissed : p.is_dismissed ≡ true → IsDismissed (sessions_of shows p)
   pub going_on : p.is_desk ≡ true → p.is_dismissed ≡ false → AreGoingOn (sessions_of shows p)

@@ -2,6 +2,7 @@
 use Rattle.std.specs.Prelude.{◌≡◌, ℕ, List, ◌++◌, flat_map, length, All, Option}
 use Rattle.std.specs.List.{sum_by}
 use Rattle.mml_lab.specs.Labs.{LabValue}
+use Rattle.mml_board.specs.declared.event.Event.{Event}
 use Rattle.mml_serving.specs.Arriving.{Takes}
 use Rattle.mml_hosting.specs.declared.place.ServedSession.{ServedSession}
 use Rattle.mml_hosting.specs.declared.place.Place.{Place}
@@ -20,8 +21,8 @@ pub record Attends {C : Type 0} (to_come : Option (List C)) (old new : List C) :
   pub each : HaveSame (old ++ connections) (new ++ turned)
 
 -- as many places as there were, in which the connections that came were served, each once, or they were turned away
-pub record ServesPort {H K R W : Type 0} (lab : LabValue) (remaining : R → Option (List ℕ)) (contents : W → Option (List ℕ)) (shows : K → ServedSession R W)
+pub record ServesPort {H K R W : Type 0} (lab : LabValue) (begun : List Event) (remaining : R → Option (List ℕ)) (contents : W → Option (List ℕ)) (shows : K → ServedSession R W)
     (to_come : Option (List (R × W))) (old new : List (Place H K)) : Type 0 where
-  pub places : All (IsPlace lab remaining contents shows) new
+  pub places : All (IsPlace lab begun remaining contents shows) new
   pub count : length new ≡ length old
   pub attends : Attends to_come (flat_map (came_to shows) old) (flat_map (came_to shows) new)

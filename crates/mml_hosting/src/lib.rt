@@ -3,11 +3,13 @@
 #![tactic(auto)]
 
 mod arrivals;
+mod begun;
 mod hosted;
 mod place;
 mod port_serving;
 
 pub use arrivals::{Arrivals, Bell, CutOff, Next};
-pub use hosted::{HostFault, Hosted, Record, serve_host};
+pub use begun::Begun;
+pub use hosted::{HostFault, Hosted, Record, resume_host, serve_host};
 pub use place::{Keep, Place, ServedSession, serve_in};
 pub use port_serving::{BUSY, serve_port};

@@ -2,11 +2,12 @@
 ghost use Rattle.std.specs.Prelude.{◌≡◌, ◌<◌, ◌++◌, ◌&&◌, false, [], ◌∷◌, vec_len, vec_capacity};
 ghost use Rattle.mml_hosting.specs.Places.{IsPlace, came_to, is_teachers_bye};
 
+use crate::begun::Begun;
 use mml_journal::Sink;
 use mml_lab::Who;
 use mml_serving::HangUp;
 use mml_session::{Ending, Gate, SessionEnd, Setting, serve_known};
-use mml_window::{House, Window};
+use mml_window::Window;
 use std::io::{Read, Write};
 use std::snapshot::Snapshot;
 use std::sync::Wait;
@@ -58,7 +59,7 @@ impl<R: Drop, W: Drop> Keep<R, W> for Snapshot<ServedSession<R, W>> {
 /// A window, with the number by which a gate knows it, and what is kept of the sessions that were
 /// served through it.
 #[derive(Drop)]
-pub struct Place<H: House, K: Drop> {
+pub struct Place<H: Begun, K: Drop> {
     pub number: u8,
     /// Whether the teacher's bye ends its service.
     pub is_desk: bool,
@@ -72,7 +73,7 @@ pub struct Place<H: House, K: Drop> {
 pub fn serve_in<
     Rt: Wait,
     S: Sink + Drop,
-    H: House,
+    H: Begun,
     K: Keep<R, W> + Drop,
     R: Read + Drop,
     W: Write + HangUp + Drop,
@@ -84,10 +85,10 @@ pub fn serve_in<
     gate: &G,
     marks: &[AtomicU64],
 ) -> Place<H, K>
-    requires place { IsPlace H.lab R.remaining W.contents K.shows place }
+    requires place { IsPlace H.lab H.begun R.remaining W.contents K.shows place }
     requires open { place.is_dismissed ≡ false }
     requires room { vec_len place.sessions < vec_capacity place.sessions }
-    ensures place { IsPlace H.lab R.remaining W.contents K.shows result }
+    ensures place { IsPlace H.lab H.begun R.remaining W.contents K.shows result }
     ensures came { came_to K.shows result ≡ came_to K.shows place ++ ends ∷ [] }
     ensures number { result.number ≡ place.number }
 {

@@ -7,13 +7,14 @@ ghost use Rattle.mml_hosting.specs.Ports.{ServesPort};
 ghost use Rattle.mml_hosting.specs.Counting.{count_free, count_busy, TakesIn};
 
 use crate::arrivals::{Arrivals, Bell, CutOff, Next};
+use crate::begun::Begun;
 use crate::place::{Keep, Place, serve_in, set_mark};
 use mml_ids::Memory;
 use mml_journal::Sink;
 use mml_lines::put_all;
 use mml_serving::HangUp;
 use mml_session::{Gate, Setting};
-use mml_window::{Desk, House};
+use mml_window::Desk;
 use std::alloc::Global;
 use std::io::{Read, Write};
 use std::snapshot::Snapshot;
@@ -27,27 +28,27 @@ pub const BUSY: &[u8] = b"{\"refuse\":\"busy\"}\n";
 
 // That the connection was served in the place.
 #[derive(Drop)]
-struct Pledge<H: House, K: Drop, R: Drop, W: Drop>(Snapshot<Place<H, K>>, Snapshot<(R, W)>);
+struct Pledge<H: Begun, K: Drop, R: Drop, W: Drop>(Snapshot<Place<H, K>>, Snapshot<(R, W)>);
 
-impl<H: House, K: Keep<R, W> + Drop, R: Read + Drop, W: Write + Drop> Promise<Place<H, K>>
+impl<H: Begun, K: Keep<R, W> + Drop, R: Read + Drop, W: Write + Drop> Promise<Place<H, K>>
     for Pledge<H, K, R, W> {
     ghost use Rattle.std.specs.Prelude.{◌≡◌, ◌++◌, [], ◌∷◌};
     ghost use Rattle.mml_hosting.specs.Places.{IsPlace, came_to};
 
-    ghost kept_by = { λ pledge p. IsPlace H.lab R.remaining W.contents K.shows p
+    ghost kept_by = { λ pledge p. IsPlace H.lab H.begun R.remaining W.contents K.shows p
         × (came_to K.shows p ≡ came_to K.shows pledge.0.value ++ pledge.1.value ∷ []) };
 }
 
 // A place in which a connection is served.
 #[derive(Drop)]
-struct Busy<H: House, K: Keep<R, W> + Drop, R: Read + Drop, W: Write + Drop, U: Drop> {
+struct Busy<H: Begun, K: Keep<R, W> + Drop, R: Read + Drop, W: Write + Drop, U: Drop> {
     number: u8,
     line: U,
     handle: PromisedHandle<Place<H, K>, Pledge<H, K, R, W>>,
 }
 
 // The first whose thread has come to its end.
-fn first_done<H: House, K: Keep<R, W> + Drop, R: Read + Drop, W: Write + Drop, U: Drop>(
+fn first_done<H: Begun, K: Keep<R, W> + Drop, R: Read + Drop, W: Write + Drop, U: Drop>(
     busy: &Vec<Busy<H, K, R, W, U>>,
     marks: &[AtomicU64],
 ) -> Option<usize>
@@ -63,13 +64,13 @@ fn first_done<H: House, K: Keep<R, W> + Drop, R: Read + Drop, W: Write + Drop, U
 }
 
 // Waits for one, and gives back its place.
-fn join_one<Rt: Threads, H: House, K: Keep<R, W> + Drop, R: Read + Drop, W: Write + Drop, U: Drop>(
+fn join_one<Rt: Threads, H: Begun, K: Keep<R, W> + Drop, R: Read + Drop, W: Write + Drop, U: Drop>(
     rt: &Rt,
     busy: &mut Vec<Busy<H, K, R, W, U>>,
     index: usize,
 ) -> Place<H, K>
     requires { index < vec_len busy.old }
-    ensures place { IsPlace H.lab R.remaining W.contents K.shows result }
+    ensures place { IsPlace H.lab H.begun R.remaining W.contents K.shows result }
     ensures count { (h : R × W → ℕ) →
         count_busy K.shows h busy.new.items + sum_by h (came_to K.shows result) ≡ count_busy K.shows h busy.old.items }
     ensures len { vec_len busy.new + 1 ≡ vec_len busy.old }
@@ -84,7 +85,7 @@ fn join_one<Rt: Threads, H: House, K: Keep<R, W> + Drop, R: Read + Drop, W: Writ
 }
 
 // The one to wait for next: by the marks the first whose thread has come to its end, and without marks any.
-fn next_to_join<H: House, K: Keep<R, W> + Drop, R: Read + Drop, W: Write + Drop, U: Drop>(
+fn next_to_join<H: Begun, K: Keep<R, W> + Drop, R: Read + Drop, W: Write + Drop, U: Drop>(
     busy: &Vec<Busy<H, K, R, W, U>>,
     marks: Option<&[AtomicU64]>,
 ) -> Option<usize>
@@ -100,15 +101,15 @@ fn next_to_join<H: House, K: Keep<R, W> + Drop, R: Read + Drop, W: Write + Drop,
 
 // Takes back the places whose threads have come to their end by the marks. Without marks it waits for all
 // threads, and takes back all places.
-fn gather<Rt: Threads, H: House, K: Keep<R, W> + Drop, R: Read + Drop, W: Write + Drop, U: Drop>(
+fn gather<Rt: Threads, H: Begun, K: Keep<R, W> + Drop, R: Read + Drop, W: Write + Drop, U: Drop>(
     rt: &Rt,
     free: &mut Vec<Place<H, K>>,
     busy: &mut Vec<Busy<H, K, R, W, U>>,
     marks: Option<&[AtomicU64]>,
 )
-    requires places { All (IsPlace H.lab R.remaining W.contents K.shows) free.old.items }
+    requires places { All (IsPlace H.lab H.begun R.remaining W.contents K.shows) free.old.items }
     requires room { vec_len free.old + vec_len busy.old ≤ vec_capacity free.old }
-    ensures places { All (IsPlace H.lab R.remaining W.contents K.shows) free.new.items }
+    ensures places { All (IsPlace H.lab H.begun R.remaining W.contents K.shows) free.new.items }
     ensures count { (h : R × W → ℕ) → count_free K.shows h free.new.items + count_busy K.shows h busy.new.items
         ≡ count_free K.shows h free.old.items + count_busy K.shows h busy.old.items }
     ensures len { vec_len free.new + vec_len busy.new ≡ vec_len free.old + vec_len busy.old }
@@ -122,13 +123,13 @@ fn gather<Rt: Threads, H: House, K: Keep<R, W> + Drop, R: Read + Drop, W: Write 
 }
 
 // A place that is free, where one session more may be served.
-fn next_free<H: House, K: Keep<R, W> + Drop, R: Read + Drop, W: Write + Drop>(
+fn next_free<H: Begun, K: Keep<R, W> + Drop, R: Read + Drop, W: Write + Drop>(
     free: &mut Vec<Place<H, K>>,
 ) -> Option<Place<H, K>>
-    requires places { All (IsPlace H.lab R.remaining W.contents K.shows) free.old.items }
-    ensures place { IfSome result (λ place. IsPlace H.lab R.remaining W.contents K.shows place
+    requires places { All (IsPlace H.lab H.begun R.remaining W.contents K.shows) free.old.items }
+    ensures place { IfSome result (λ place. IsPlace H.lab H.begun R.remaining W.contents K.shows place
         × (place.is_dismissed ≡ false) × (vec_len place.sessions < vec_capacity place.sessions)) }
-    ensures places { All (IsPlace H.lab R.remaining W.contents K.shows) free.new.items }
+    ensures places { All (IsPlace H.lab H.begun R.remaining W.contents K.shows) free.new.items }
     ensures some { IfSome result (λ place. (vec_len free.new + 1 ≡ vec_len free.old)
         × ((h : R × W → ℕ) → count_free K.shows h free.new.items + sum_by h (came_to K.shows place)
         ≡ count_free K.shows h free.old.items)) }
@@ -146,11 +147,11 @@ fn next_free<H: House, K: Keep<R, W> + Drop, R: Read + Drop, W: Write + Drop>(
 }
 
 // Whether one session more may be served in the place. Where it may, there is room for what is kept of it.
-fn is_made_ready<H: House, K: Keep<R, W> + Drop, R: Read + Drop, W: Write + Drop>(
+fn is_made_ready<H: Begun, K: Keep<R, W> + Drop, R: Read + Drop, W: Write + Drop>(
     place: &mut Place<H, K>,
 ) -> bool
-    requires place { IsPlace H.lab R.remaining W.contents K.shows place.old }
-    ensures place { IsPlace H.lab R.remaining W.contents K.shows place.new }
+    requires place { IsPlace H.lab H.begun R.remaining W.contents K.shows place.old }
+    ensures place { IsPlace H.lab H.begun R.remaining W.contents K.shows place.new }
     ensures came { came_to K.shows place.new ≡ came_to K.shows place.old }
     ensures ready { result ≡ true → (place.new.is_dismissed ≡ false)
         × (vec_len place.new.sessions < vec_capacity place.new.sessions) }
@@ -167,7 +168,7 @@ fn turn_away<R: Drop, W: Write + HangUp + Drop>(ends: (R, W)) {
 }
 
 // Ends all connections that are being served.
-fn cut_off_all<H: House, K: Keep<R, W> + Drop, R: Read + Drop, W: Write + Drop, U: CutOff + Drop>(
+fn cut_off_all<H: Begun, K: Keep<R, W> + Drop, R: Read + Drop, W: Write + Drop, U: CutOff + Drop>(
     busy: &Vec<Busy<H, K, R, W, U>>,
 ) {
     for index in 0..busy.len() {
@@ -188,7 +189,7 @@ fn new_marks(alloc: Global) -> Result<Vec<AtomicU64>, Memory> {
 
 // What the threads of a port share.
 #[derive(Drop)]
-struct Shared<'s, Rt, S: Sink, H: House, G, B> {
+struct Shared<'s, Rt, S: Sink, H: Begun, G, B> {
     rt: &'s Rt,
     alloc: Global,
     desk: &'s Desk<S, H>,
@@ -202,7 +203,7 @@ impl<
     's,
     Rt: Threads + Wait + Sync + 's,
     S: Sink + Send + Drop + 's,
-    H: House + Send + Sync + 's,
+    H: Begun + Send + Sync + 's,
     G: Gate + Sync + 's,
     B: Bell + Sync + 's,
 > Shared<'s, Rt, S, H, G, B> {
@@ -218,12 +219,12 @@ impl<
         place: Place<H, K>,
         ends: (R, W),
     ) -> Result<PromisedHandle<Place<H, K>, Pledge<H, K, R, W>>, Place<H, K>>
-        requires place { IsPlace H.lab R.remaining W.contents K.shows place }
+        requires place { IsPlace H.lab H.begun R.remaining W.contents K.shows place }
         requires open { place.is_dismissed ≡ false }
         requires room { vec_len place.sessions < vec_capacity place.sessions }
         ensures pledged { IfOk result (λ handle. (handle.promise.0.value ≡ place)
             × (handle.promise.1.value ≡ ends)) }
-        ensures served { IfErr result (λ served. IsPlace H.lab R.remaining W.contents K.shows served
+        ensures served { IfErr result (λ served. IsPlace H.lab H.begun R.remaining W.contents K.shows served
             × (came_to K.shows served ≡ came_to K.shows place ++ ends ∷ [])) }
     {
         let rt = self.rt;
@@ -237,10 +238,10 @@ impl<
         match scope.spawn_with(
             pledge,
             move || -> Place<H, K>
-                requires { IsPlace H.lab R.remaining W.contents K.shows place
+                requires { IsPlace H.lab H.begun R.remaining W.contents K.shows place
                     × (place.is_dismissed ≡ false)
                     × (vec_len place.sessions < vec_capacity place.sessions) }
-                ensures { IsPlace H.lab R.remaining W.contents K.shows result
+                ensures { IsPlace H.lab H.begun R.remaining W.contents K.shows result
                     × (came_to K.shows result ≡ came_to K.shows place ++ ends ∷ []) }
             {
                 let setting = Setting { rt, alloc, desk };
@@ -269,10 +270,10 @@ impl<
         ends: (R, W),
         line: U,
     )
-        requires places { All (IsPlace H.lab R.remaining W.contents K.shows) free.old.items }
+        requires places { All (IsPlace H.lab H.begun R.remaining W.contents K.shows) free.old.items }
         requires room { vec_len free.old + vec_len busy.old ≤ vec_capacity free.old }
         requires busy_room { vec_len free.old + vec_len busy.old ≤ vec_capacity busy.old }
-        ensures places { All (IsPlace H.lab R.remaining W.contents K.shows) free.new.items }
+        ensures places { All (IsPlace H.lab H.begun R.remaining W.contents K.shows) free.new.items }
         ensures takes { TakesIn K.shows ends free.old.items busy.old.items
             free.new.items busy.new.items }
         ensures len { vec_len free.new + vec_len busy.new ≡ vec_len free.old + vec_len busy.old }
@@ -309,8 +310,8 @@ impl<
         places: Vec<Place<H, K>>,
         arrivals: A,
     ) -> Result<Vec<Place<H, K>>, Memory>
-        requires places { All (IsPlace H.lab R.remaining W.contents K.shows) places.items }
-        ensures { IfOk result (λ ps. ServesPort H.lab R.remaining W.contents K.shows
+        requires places { All (IsPlace H.lab H.begun R.remaining W.contents K.shows) places.items }
+        ensures { IfOk result (λ ps. ServesPort H.lab H.begun R.remaining W.contents K.shows
             (A.to_come arrivals) places.items ps.items) }
     {
         let mut arrivals = arrivals;
@@ -339,7 +340,7 @@ impl<
 pub fn serve_port<
     Rt: Threads + Wait + Sync,
     S: Sink + Send + Drop,
-    H: House + Send + Sync,
+    H: Begun + Send + Sync,
     K: Keep<R, W> + Send + Drop,
     R: Read + Send + Drop,
     W: Write + HangUp + Send + Drop,
@@ -354,8 +355,8 @@ pub fn serve_port<
     gate: &G,
     bell: &B,
 ) -> Result<Vec<Place<H, K>>, Memory>
-    requires places { All (IsPlace H.lab R.remaining W.contents K.shows) places.items }
-    ensures serves { IfOk result (λ ps. ServesPort H.lab R.remaining W.contents K.shows
+    requires places { All (IsPlace H.lab H.begun R.remaining W.contents K.shows) places.items }
+    ensures serves { IfOk result (λ ps. ServesPort H.lab H.begun R.remaining W.contents K.shows
         (A.to_come arrivals) places.items ps.items) }
 {
     let rt = setting.rt;
@@ -369,8 +370,8 @@ pub fn serve_port<
         |scope| -> Result<Vec<Place<H, K>>, Memory>
             requires { IsSync Rt.row × IsSync G.row × IsSync B.row × IsSend S.row × IsSend H.row
                 × IsSync H.row × IsSend K.row × IsSend R.row × IsSend W.row
-                × All (IsPlace H.lab R.remaining W.contents K.shows) places.items }
-            ensures { IfOk result (λ ps. ServesPort H.lab R.remaining W.contents K.shows
+                × All (IsPlace H.lab H.begun R.remaining W.contents K.shows) places.items }
+            ensures { IfOk result (λ ps. ServesPort H.lab H.begun R.remaining W.contents K.shows
                 (A.to_come arrivals) places.items ps.items) }
         {
             let shared = Shared {

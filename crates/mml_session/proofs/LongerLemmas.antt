@@ -8,14 +8,27 @@ use Rattle.mml_codec.specs.declared.TheConstants.{MAX_REQUEST}
 use Rattle.mml_codec.specs.declared.reply.Reply.{Reply}
 use Rattle.mml_codec.specs.Replies.{reply_line}
 use Rattle.mml_session.specs.Turns.{Standing, Turn, Run, is_bye}
+use Rattle.mml_session.specs.Records.{entries_of, line_entries, run_entries, turn_entries}
 use Rattle.mml_session.specs.Talks.{Talk, LineTurn, bytes_read, bytes_written, line_read, line_written}
 
-pub longer_run : (lab : LabValue) (st mid after : Standing) (ls : List (List ℕ)) (rs : List Reply) (line : List ℕ) (r : Reply)
+unfoldable pub longer_run : (lab : LabValue) (st mid after : Standing) (ls : List (List ℕ)) (rs : List Reply) (line : List ℕ) (r : Reply)
     → Run lab st ls rs mid → Turn lab mid line r after → Run lab st (ls ++ line ∷ []) (rs ++ r ∷ []) after
 longer_run lab st mid after [] [] line r run turn = (after, subst (λ (x : Standing). Turn lab x line r after) run turn, refl)
 longer_run lab st mid after [] (q ∷ rs) line r run turn = absurd run
 longer_run lab st mid after (l ∷ ls) [] line r run turn = absurd run
 longer_run lab st mid after (l ∷ ls) (q ∷ rs) line r run turn = (run.0, run.1, longer_run lab run.0 mid after ls rs line r run.2 turn)
+
+longer_entries : (lab : LabValue) (st mid after : Standing) (ls : List (List ℕ)) (rs : List Reply) (line : List ℕ) (r : Reply)
+    (run : Run lab st ls rs mid) (turn : Turn lab mid line r after)
+    → run_entries lab st (ls ++ line ∷ []) (rs ++ r ∷ []) after (longer_run lab st mid after ls rs line r run turn)
+    ≡ run_entries lab st ls rs mid run ++ turn_entries lab line r after.window
+unfolding longer_run
+longer_entries lab st mid after [] [] line r run turn = append-nil (turn_entries lab line r after.window)
+longer_entries lab st mid after [] (q ∷ rs) line r run turn = absurd run
+longer_entries lab st mid after (l ∷ ls) [] line r run turn = absurd run
+longer_entries lab st mid after (l ∷ ls) (q ∷ rs) line r run turn =
+    ap (λ es. turn_entries lab l q run.0.window ++ es) (longer_entries lab run.0 mid after ls rs line r run.2 turn)
+    ∙ sym (append_assoc (turn_entries lab l q run.0.window) (run_entries lab run.0 ls rs mid run.2) (turn_entries lab line r after.window))
 
 pub longer_all : {A : Type 0} (P : A → Type 0) (xs : List A) (x : A) → AllByRecursion P xs → P x → AllByRecursion P (xs ++ x ∷ [])
 longer_all P [] x all one = (one, tt)
@@ -58,3 +71,9 @@ pub end_longer : (lab : LabValue) (st : Standing) (t : Talk lab st) (after : Sta
     → (longer lab st t after s goes_on).end ≡ after
 unfolding longer
 end_longer lab st t after s goes_on = refl
+
+-- and what is recorded of it comes after what is recorded of the others
+pub entries_longer : (lab : LabValue) (st : Standing) (t : Talk lab st) (after : Standing) (s : LineTurn lab t.end after) (goes_on : is_bye s.reply ≡ false)
+    → entries_of (longer lab st t after s goes_on) ≡ entries_of t ++ line_entries s
+unfolding longer
+entries_longer lab st t after s goes_on = longer_entries lab st t.end after t.lines t.replies s.line s.reply t.run s.turn

@@ -12,6 +12,7 @@ use Rattle.mml_window.specs.declared.sight.Closed.{Closed}
 use Rattle.mml_session.specs.declared.session.Said.{Said}
 use Rattle.mml_session.specs.declared.session.Said.TheVariants as says
 use Rattle.mml_session.specs.Turns.{Standing, is_bye}
+use Rattle.mml_session.specs.Records.{Kept}
 use Rattle.mml_session.specs.Serving.{ServesLine, ServesNext, next_after}
 
 taken_by : (a b : Option (List ℕ)) (line line' : List ℕ) → Consumes a b (ended line) → line' ≡ line → Consumes a b (ended line')
@@ -22,10 +23,10 @@ bye_is replies.Bye is = refl
 bye_is _ is = absurd (true≢false (sym is))
 
 -- a line was taken, short enough, and no more than one read brought in is held after it
-module _ (lab : LabValue) (st after : Standing) (a left c d : Option (List ℕ)) (held line : List ℕ) (taken : Consumes a (prepend_known held left) (ended line))
+module _ (number : ℕ) (lab : LabValue) (st after : Standing) (a left c d : Option (List ℕ)) (rec rec' : Option Kept) (held line : List ℕ) (taken : Consumes a (prepend_known held left) (ended line))
     (short : IsWithinLimit MAX_REQUEST line) (few : length held < READ_SIZE) where
-  pub serves_next : (came : Result Said Closed) → ServesLine came lab st after line c d → ServesNext (next_after came) lab st after a held left c d
-  serves_next (Ok says.Told) had = (had.0, had.2.0, taken_by a (prepend_known held left) line had.0.line taken had.1, had.2.1)
-  serves_next (Ok says.Bye) had = (had.0, bye_is had.0.reply had.2.0, taken_by a (prepend_known held left) line had.0.line taken had.1, few, had.2.1)
-  serves_next (Ok (says.Unwritten n)) had = (had.0, n, had.2.0, taken_by a (prepend_known held left) line had.0.line taken had.1, few, had.2.1)
-  serves_next (Err closed) had = (had.0, line, short, had.1, taken, few, had.2)
+  pub serves_next : (came : Result Said Closed) → ServesLine came number lab st after line c d rec rec' → ServesNext (next_after came) number lab st after a held left c d rec rec'
+  serves_next (Ok says.Told) had = (had.0, had.2.0, taken_by a (prepend_known held left) line had.0.line taken had.1, had.2.1, had.3)
+  serves_next (Ok says.Bye) had = (had.0, bye_is had.0.reply had.2.0, taken_by a (prepend_known held left) line had.0.line taken had.1, few, had.2.1, had.3)
+  serves_next (Ok (says.Unwritten n)) had = (had.0, n, had.2.0, taken_by a (prepend_known held left) line had.0.line taken had.1, few, had.2.1, had.3)
+  serves_next (Err closed) had = (had.0, line, short, had.1, taken, few, had.2, had.3)

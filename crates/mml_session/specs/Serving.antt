@@ -17,6 +17,7 @@ use Rattle.mml_session.specs.declared.session.Said.TheVariants as said
 use Rattle.mml_session.specs.Turns.{Standing, is_bye}
 use Rattle.mml_session.specs.Talks.{LineTurn, line_read, line_written}
 use Rattle.mml_session.specs.Ends.{IsView}
+use Rattle.mml_session.specs.Records.{Kept, Records, line_entries}
 
 -- the line of a reply is out, or the front of it
 abbrev pub SendsReply : Said → Reply → List ℕ → Option (List ℕ) → Option (List ℕ) → Type 0
@@ -25,10 +26,11 @@ SendsReply said.Bye r whole wrote wrote' = (is_bye r ≡ true) × Appends wrote 
 SendsReply (said.Unwritten n) r whole wrote wrote' = (n < length whole) × Appends wrote wrote' (take n whole)
 
 -- the line had its turn, and its reply was sent, or it has no reply
-abbrev pub ServesLine : Result Said Closed → LabValue → Standing → Standing → List ℕ → Option (List ℕ) → Option (List ℕ) → Type 0
-ServesLine (Ok said) lab st after line wrote wrote' =
-    (t : LineTurn lab st after) × (t.line ≡ line) × SendsReply said t.reply (line_written t) wrote wrote'
-ServesLine (Err closed) lab st after line wrote wrote' = (after ≡ st) × IsView st line × Appends wrote wrote' []
+abbrev pub ServesLine : Result Said Closed → ℕ → LabValue → Standing → Standing → List ℕ → Option (List ℕ) → Option (List ℕ) → Option Kept
+    → Option Kept → Type 0
+ServesLine (Ok said) number lab st after line wrote wrote' given given' =
+    (t : LineTurn lab st after) × (t.line ≡ line) × SendsReply said t.reply (line_written t) wrote wrote' × Records number given given' (line_entries t)
+ServesLine (Err closed) number lab st after line wrote wrote' given given' = (after ≡ st) × IsView st line × Appends wrote wrote' [] × Records number given given' []
 
 -- a session goes on where its reply is out and isn't that to a bye
 abbrev pub next_after : Result Said Closed → Next
@@ -39,22 +41,23 @@ next_after (Err closed) = next.Ended end.Closed
 
 -- what came of the next line says of where the session stands, of the bytes to come, of which those held are first, and of the
 -- bytes written
-abbrev pub ServesNext : Next → LabValue → Standing → Standing → Option (List ℕ) → List ℕ → Option (List ℕ) → Option (List ℕ) → Option (List ℕ) → Type 0
-ServesNext next.Served lab st after input held left wrote wrote' =
-    (t : LineTurn lab st after) × (is_bye t.reply ≡ false) × Consumes input (prepend_known held left) (line_read t) × Appends wrote wrote' (line_written t)
-ServesNext (next.Ended end.Bye) lab st after input held left wrote wrote' =
+abbrev pub ServesNext : Next → ℕ → LabValue → Standing → Standing → Option (List ℕ) → List ℕ → Option (List ℕ) → Option (List ℕ) → Option (List ℕ)
+    → Option Kept → Option Kept → Type 0
+ServesNext next.Served number lab st after input held left wrote wrote' given given' =
+    (t : LineTurn lab st after) × (is_bye t.reply ≡ false) × Consumes input (prepend_known held left) (line_read t) × Appends wrote wrote' (line_written t) × Records number given given' (line_entries t)
+ServesNext (next.Ended end.Bye) number lab st after input held left wrote wrote' given given' =
     (t : LineTurn lab st after) × (t.reply ≡ reply.Bye) × Consumes input (prepend_known held left) (line_read t) × (length held < READ_SIZE)
-    × Appends wrote wrote' (line_written t)
-ServesNext (next.Ended end.End) lab st after input held left wrote wrote' =
-    (after ≡ st) × Consumes input (prepend_known held left) [] × IsWithinLimit MAX_REQUEST held × IsAtEnd left × Appends wrote wrote' []
-ServesNext (next.Ended end.ReadFault) lab st after input held left wrote wrote' =
-    (after ≡ st) × Consumes input (prepend_known held left) [] × IsWithinLimit MAX_REQUEST held × Appends wrote wrote' []
-ServesNext (next.Ended end.WriteFault) lab st after input held left wrote wrote' =
+    × Appends wrote wrote' (line_written t) × Records number given given' (line_entries t)
+ServesNext (next.Ended end.End) number lab st after input held left wrote wrote' given given' =
+    (after ≡ st) × Consumes input (prepend_known held left) [] × IsWithinLimit MAX_REQUEST held × IsAtEnd left × Appends wrote wrote' [] × Records number given given' []
+ServesNext (next.Ended end.ReadFault) number lab st after input held left wrote wrote' given given' =
+    (after ≡ st) × Consumes input (prepend_known held left) [] × IsWithinLimit MAX_REQUEST held × Appends wrote wrote' [] × Records number given given' []
+ServesNext (next.Ended end.WriteFault) number lab st after input held left wrote wrote' given given' =
     (t : LineTurn lab st after) × (n : ℕ) × (n < length (line_written t)) × Consumes input (prepend_known held left) (line_read t)
-    × (length held < READ_SIZE) × Appends wrote wrote' (take n (line_written t))
-ServesNext (next.Ended end.TooLong) lab st after input held left wrote wrote' =
-    (after ≡ st) × Consumes input (prepend_known held left) [] × IsTooLong MAX_REQUEST held × Appends wrote wrote' []
-ServesNext (next.Ended end.Closed) lab st after input held left wrote wrote' =
+    × (length held < READ_SIZE) × Appends wrote wrote' (take n (line_written t)) × Records number given given' (line_entries t)
+ServesNext (next.Ended end.TooLong) number lab st after input held left wrote wrote' given given' =
+    (after ≡ st) × Consumes input (prepend_known held left) [] × IsTooLong MAX_REQUEST held × Appends wrote wrote' [] × Records number given given' []
+ServesNext (next.Ended end.Closed) number lab st after input held left wrote wrote' given given' =
     (after ≡ st) × (line : List ℕ) × IsWithinLimit MAX_REQUEST line × IsView st line × Consumes input (prepend_known held left) (ended line)
-    × (length held < READ_SIZE) × Appends wrote wrote' []
-ServesNext (next.Ended end.Memory) lab st after input held left wrote wrote' = ⊥
+    × (length held < READ_SIZE) × Appends wrote wrote' [] × Records number given given' []
+ServesNext (next.Ended end.Memory) number lab st after input held left wrote wrote' given given' = ⊥

@@ -4,9 +4,11 @@
 mod answering;
 mod gate;
 pub mod laws;
+mod recorder;
 mod session;
 mod setting;
 
 pub use gate::{Gate, NoGate, Point};
-pub use session::{Ending, SessionEnd, serve_known, serve_one};
+pub use recorder::{Entry, NoRecorder, Recorder};
+pub use session::{Ending, SessionEnd, serve_known, serve_one, serve_recorded};
 pub use setting::Setting;

@@ -1,14 +1,16 @@
-ghost use Rattle.std.specs.Prelude.{◌≡◌, ◌<◌, ◌≤◌, None, IfOk, IfSome, vec_capacity};
+ghost use Rattle.std.specs.Prelude.{◌≡◌, ◌<◌, ◌≤◌, None, IfOk, IfSome, length, vec_capacity};
 ghost use Rattle.std.specs.Io.KnownBytes.{prepend_known};
 ghost use Rattle.mml_lines.specs.LinesOf.{IsWithinLimit};
 ghost use Rattle.mml_lines.specs.LinesState.{bytes_ahead, fresh};
 ghost use Rattle.mml_lab.specs.Rosters.{IsPrincipal};
-ghost use Rattle.mml_session.specs.Turns.{standing, is_bye};
+ghost use Rattle.mml_session.specs.Turns.{standing, is_bye, places_in};
 ghost use Rattle.mml_session.specs.Ends.{Ended, EndedKnown};
+ghost use Rattle.mml_session.specs.Records.{EndedRecorded, Records, entry_for, is_shown};
 ghost use Rattle.mml_session.specs.Serving.{SendsReply, ServesLine, ServesNext, next_after};
 
 use crate::answering::answer;
 use crate::gate::{Gate, Point};
+use crate::recorder::{NoRecorder, Recorder};
 use crate::setting::Setting;
 use mml_codec::{LineScratch, MAX_REQUEST, REPLY_ROOM, Reply, tell_reply};
 use mml_ids::Memory;
@@ -83,6 +85,35 @@ pub fn serve_known<Rt: Wait, S: Sink + Drop, H: House, R: Read, W: Write, G: Gat
     ensures untouched { result.end ≡ SessionEnd.Memory →
         (reader.new ≡ reader.old) × (writer.new ≡ writer.old) }
 {
+    serve_recorded(
+        setting,
+        window,
+        reader,
+        writer,
+        gate,
+        connection,
+        &mut NoRecorder,
+    )
+}
+
+/// The same, and gives a recorder each line that is answered, before its reply goes out, and then the
+/// session's end.
+pub fn serve_recorded<Rt: Wait, S: Sink + Drop, H: House, R: Read, W: Write, G: Gate, K: Recorder>(
+    setting: &Setting<'_, Rt, S, H>,
+    window: &mut Window<H>,
+    reader: &mut R,
+    writer: &mut W,
+    gate: &G,
+    connection: u8,
+    recorder: &mut K,
+) -> Ending
+    ensures ended { EndedRecorded result.end result.who connection H.lab window.old window.new
+        (R.remaining reader.old) (R.remaining reader.new)
+        (W.contents writer.old) (W.contents writer.new)
+        (K.kept recorder.old) (K.kept recorder.new) }
+    ensures untouched { result.end ≡ SessionEnd.Memory →
+        (reader.new ≡ reader.old) × (writer.new ≡ writer.old) }
+{
     let Ok(mut session) = Session::new(setting.alloc, connection) else {
         return Ending {
             end: SessionEnd::Memory,
@@ -91,9 +122,20 @@ pub fn serve_known<Rt: Wait, S: Sink + Drop, H: House, R: Read, W: Write, G: Gat
     };
     loop {
         let who = session.known;
-        match serve_next(setting, &mut session, window, reader, writer, gate) {
+        match serve_next(
+            setting,
+            &mut session,
+            window,
+            reader,
+            writer,
+            gate,
+            recorder,
+        ) {
             Next::Served => (),
-            Next::Ended(end) => return Ending { end, who },
+            Next::Ended(end) => {
+                recorder.left(connection, window.seen_count());
+                return Ending { end, who };
+            }
         }
     }
 }
@@ -112,6 +154,7 @@ struct Session {
 impl Session {
     // Reserves all that the session ever needs. Nobody is known.
     fn new(alloc: Global, connection: u8) -> Result<Session, Memory>
+        ensures number { IfOk result (λ session. session.connection ≡ connection) }
         ensures nobody { IfOk result (λ session. session.known ≡ None) }
         ensures lines { IfOk result (λ session. session.lines ≡ fresh MAX_REQUEST) }
         ensures room { IfOk result (λ session. REPLY_ROOM ≤ vec_capacity session.reply) }
@@ -134,35 +177,38 @@ enum Next {
 }
 
 // Reads the next line, answers it and writes the reply.
-fn serve_next<Rt: Wait, S: Sink + Drop, H: House, R: Read, W: Write, G: Gate>(
+fn serve_next<Rt: Wait, S: Sink + Drop, H: House, R: Read, W: Write, G: Gate, K: Recorder>(
     setting: &Setting<'_, Rt, S, H>,
     session: &mut Session,
     window: &mut Window<H>,
     reader: &mut R,
     writer: &mut W,
     gate: &G,
+    recorder: &mut K,
 ) -> Next
     requires going { session.old.lines.ending ≡ None }
     requires limit { session.old.lines.limit ≡ MAX_REQUEST }
     requires room { REPLY_ROOM ≤ vec_capacity session.old.reply }
     requires principal { IfSome session.old.known (IsPrincipal H.lab.roster) }
     ensures going { result ≡ Next.Served → session.new.lines.ending ≡ None }
+    ensures number { session.new.connection ≡ session.old.connection }
     ensures limit { session.new.lines.limit ≡ MAX_REQUEST }
     ensures room { REPLY_ROOM ≤ vec_capacity session.new.reply }
     ensures principal { IfSome session.new.known (IsPrincipal H.lab.roster) }
     // Each line brings the end nearer, since there is a most of reads.
     ensures progress { result ≡ Next.Served →
         bytes_ahead session.new.lines < bytes_ahead session.old.lines }
-    ensures serves { ServesNext result H.lab (standing session.old.known window.old)
+    ensures serves { ServesNext result session.old.connection H.lab (standing session.old.known window.old)
         (standing session.new.known window.new)
         (prepend_known session.old.lines.unread (R.remaining reader.old))
         session.new.lines.unread (R.remaining reader.new)
-        (W.contents writer.old) (W.contents writer.new) }
+        (W.contents writer.old) (W.contents writer.new)
+        (K.kept recorder.old) (K.kept recorder.new) }
 {
     match session.lines.next(reader) {
         Step::Line => {
             gate.pass(session.connection, Point::Line);
-            let said = serve_line(setting, session, window, writer);
+            let said = serve_line(setting, session, window, writer, recorder);
             go_on(said, gate, session.connection)
         }
         Step::TooLong => Next::Ended(SessionEnd::TooLong),
@@ -201,21 +247,24 @@ enum Said {
 }
 
 // Answers the line that was read last and writes the reply, if it has one.
-fn serve_line<Rt: Wait, S: Sink + Drop, H: House, W: Write>(
+fn serve_line<Rt: Wait, S: Sink + Drop, H: House, W: Write, K: Recorder>(
     setting: &Setting<'_, Rt, S, H>,
     session: &mut Session,
     window: &mut Window<H>,
     writer: &mut W,
+    recorder: &mut K,
 ) -> Result<Said, Closed>
     requires line { IsWithinLimit MAX_REQUEST session.old.lines.line }
     requires room { REPLY_ROOM ≤ vec_capacity session.old.reply }
     requires principal { IfSome session.old.known (IsPrincipal H.lab.roster) }
+    ensures number { session.new.connection ≡ session.old.connection }
     ensures lines { session.new.lines ≡ session.old.lines }
     ensures room { REPLY_ROOM ≤ vec_capacity session.new.reply }
     ensures principal { IfSome session.new.known (IsPrincipal H.lab.roster) }
-    ensures serves { ServesLine result H.lab (standing session.old.known window.old)
+    ensures serves { ServesLine result session.old.connection H.lab (standing session.old.known window.old)
         (standing session.new.known window.new) session.old.lines.line
-        (W.contents writer.old) (W.contents writer.new) }
+        (W.contents writer.old) (W.contents writer.new)
+        (K.kept recorder.old) (K.kept recorder.new) }
 {
     let line = session.lines.bytes();
     let reply = answer(
@@ -227,7 +276,54 @@ fn serve_line<Rt: Wait, S: Sink + Drop, H: House, W: Write>(
     )?;
     let out = &mut session.reply;
     let told = tell_reply(setting.alloc, window.ids(), window.roster(), reply, out);
+    let judged = Judged {
+        number: session.connection,
+        seen: window.seen_count(),
+        line,
+    };
+    record(recorder, judged, &told, &session.reply);
     Ok(send(&told, &session.reply, writer))
+}
+
+// A line that was answered, in which place, and how many events the window had seen then.
+#[derive(Clone, Copy)]
+struct Judged<'a> {
+    number: u8,
+    seen: u64,
+    line: &'a [u8],
+}
+
+// Gives a recorder a line that was answered, unless its reply shows what it asked for.
+fn record<K: Recorder>(recorder: &mut K, judged: Judged<'_>, reply: &Reply, out: &[u8])
+    ensures { Records judged.entry.number (K.kept recorder.old) (K.kept recorder.new)
+        (entry_for judged.entry.seen judged.entry.line.now reply.now out.now) }
+{
+    if !is_shown(reply) {
+        let before = judged.seen.saturating_sub(places_told(reply));
+        recorder.said(judged.number, before, judged.line, out);
+    }
+}
+
+// Whether a reply shows what was asked for.
+fn is_shown(reply: &Reply) -> bool
+    ensures { result ≡ is_shown reply.now }
+{
+    matches!(reply, Reply::See(_) | Reply::Look(_) | Reply::Report(_))
+}
+
+// How many places a reply names.
+fn places_told(reply: &Reply) -> u64
+    ensures { result ≡ length (places_in reply.now) }
+{
+    match reply {
+        Reply::Move { .. }
+        | Reply::Close { .. }
+        | Reply::Fault { .. }
+        | Reply::Link { .. }
+        | Reply::Cut { .. }
+        | Reply::Release { .. } => 1,
+        _ => 0,
+    }
 }
 
 // Writes the line of a reply.

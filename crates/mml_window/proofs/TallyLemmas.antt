@@ -3,12 +3,12 @@ use Rattle.std.proofs.Common.{◌≡◌, ◌≢◌, ◌⊎◌, ℕ, zero, suc, �
 use Rattle.std.proofs.Common.{replicate, add-one, refl, sym, ap, ◌∙◌, subst, ⊎_elim, inl, inr, arith, append_assoc, append-nil, cond, leb, eqb, leb-true}
 use Rattle.std.proofs.Common.{leb-false, length-append}
 use Rattle.std.specs.Prelude.{MatchBool}
-use Rattle.std.proofs.lemmas.Bool.{ne_eqb, lt-ltb, lt-leb, le-leb}
+use Rattle.std.proofs.lemmas.Bool.{ne_eqb, lt-ltb, le-ltb, lt-leb, le-leb}
 use Rattle.std.proofs.lemmas.Bool.Decides.{eqb_tells}
 use Rattle.std.proofs.lemmas.List.{take_more, drop_more}
 use Rattle.mml_window.specs.Climbing.{Climbs}
 use Rattle.mml_window.specs.Windows.{WindowValue}
-use Rattle.mml_window.specs.Tallies.{times, told_of, once_to}
+use Rattle.mml_window.specs.Tallies.{times, told_of, once_from}
 use Rattle.mml_window.specs.inside.Cursors.{left_of, IsStuck}
 
 pub times_skip : (p q : ℕ) (qs : List ℕ) → (p ≡ q → ⊥) → times p (q ∷ qs) ≡ times p qs
@@ -192,45 +192,26 @@ told_more ws i w lt =
     ap (λ (l : List WindowValue). length (told_of l)) (take_more ws i w lt) ∙ ap length (told_push (take i ws) (get_or ws i w))
     ∙ length-append (told_of (take i ws)) (get_or ws i w).places
 
-once_within : (n p : ℕ) → 0 < p → p ≤ n → once_to n p ≡ 1
-once_within n p pos le =
-    let a : once_to n p ≡ cond (leb p n) 1 0 = ap (λ (b : Bool). cond (b && leb p n) 1 0) (lt-ltb 0 p pos) in
+once_low : (first n p : ℕ) → p ≤ first → once_from first n p ≡ 0
+once_low first n p le = ap (λ (b : Bool). cond (b && leb p n) 1 0) (le-ltb first p le)
+
+once_within : (first n p : ℕ) → first < p → p ≤ n → once_from first n p ≡ 1
+once_within first n p above le =
+    let a : once_from first n p ≡ cond (leb p n) 1 0 = ap (λ (b : Bool). cond (b && leb p n) 1 0) (lt-ltb first p above) in
     let b : cond (leb p n) 1 0 ≡ 1 = ap (λ (b : Bool). cond b 1 0) (le-leb p n le) in a ∙ b
 
-once_above : (n p : ℕ) → n < p → once_to n p ≡ 0
-once_above n p lt =
-    let pos : 0 < p = omega arith in
-    let a : once_to n p ≡ cond (leb p n) 1 0 = ap (λ (b : Bool). cond (b && leb p n) 1 0) (lt-ltb 0 p pos) in
+once_above : (first n p : ℕ) → first < p → n < p → once_from first n p ≡ 0
+once_above first n p above lt =
+    let a : once_from first n p ≡ cond (leb p n) 1 0 = ap (λ (b : Bool). cond (b && leb p n) 1 0) (lt-ltb first p above) in
     let b : cond (leb p n) 1 0 ≡ 0 = ap (λ (b : Bool). cond b 1 0) (lt-leb p n lt) in a ∙ b
 
--- one place more is counted off
-once_more : (n p : ℕ) → once_to (n + 1) p ≡ once_to n p + times p ((n + 1) ∷ [])
-once_more n zero = let e : times 0 ((n + 1) ∷ []) ≡ 0 = times_skip 0 (n + 1) [] (λ is. omega (arith, is)) in omega (arith, e)
-once_more n (suc p) = ⊎_elim
-    (λ (l : n < suc p). ⊎_elim
-    (λ (m : n + 1 < suc p). let e : times (suc p) ((n + 1) ∷ []) ≡ 0 =
-    times_skip (suc p) (n + 1) [] (λ is. omega (arith, is)) in
-    omega (arith, e, once_above (n + 1) (suc p) m, once_above n (suc p) l))
-    (λ (m : suc p ≤ n + 1). let e : times (suc p) ((n + 1) ∷ []) ≡ 1 =
-    times_hit (suc p) (n + 1) [] (omega (arith, l, m)) in
-    omega (arith, e, once_within (n + 1) (suc p) (omega arith) m, once_above n (suc p) l))
-    (less_or_not (n + 1) (suc p)))
-    (λ (l : suc p ≤ n). let e : times (suc p) ((n + 1) ∷ []) ≡ 0 =
-    times_skip (suc p) (n + 1) [] (λ is. omega (arith, is)) in
-    omega (arith, e, once_within (n + 1) (suc p) (omega arith) (omega arith), once_within n (suc p) (omega arith) l))
-    (less_or_not n (suc p))
-
--- the first n places are counted off, and these are left
-abbrev pub IsCounted : ℕ → List ℕ → List ℕ → Type 0
-IsCounted n all left = (p : ℕ) → times p all ≡ once_to n p + times p left
+-- the places above the first number up to n are counted off, and these are left
+abbrev pub IsCounted : ℕ → ℕ → List ℕ → List ℕ → Type 0
+IsCounted first n all left = (p : ℕ) → times p all ≡ once_from first n p + times p left
 
 -- before any place is counted off, all are left
-pub counted_none : (all left : List ℕ) → left ≡ all → IsCounted 0 all left
-counted_none all left is zero = omega (arith, ap (times 0) is)
-counted_none all left is (suc p) = omega (arith, ap (times (suc p)) is, once_above 0 (suc p) (omega arith))
-
-at_most_once : (n p : ℕ) → once_to n p ≤ 1
-at_most_once n zero = omega arith
-at_most_once n (suc p) =
-    ⊎_elim (λ (l : n < suc p). omega (arith, once_above n (suc p) l)) (λ (l : suc p ≤ n). omega (arith, once_within n (suc p) (omega arith) l))
-    (less_or_not n (suc p))
+pub counted_none : (first : ℕ) (all left : List ℕ) → left ≡ all → IsCounted first first all left
+counted_none first all left is p = ⊎_elim
+    (λ (l : first < p). omega (arith, ap (times p) is, once_above first first p l l))
+    (λ (l : p ≤ first). omega (arith, ap (times p) is, once_low first first p l))
+    (less_or_not first p)

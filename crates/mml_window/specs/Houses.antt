@@ -1,8 +1,9 @@
 -- Which house a blank is.
-use Rattle.std.specs.Prelude.{[]}
+use Rattle.std.specs.Prelude.{List, []}
 use denote.RawPtr.{Ptr, block_ptr}
 use Rattle.mml_lab.specs.Labs.{LabValue}
 use Rattle.mml_lab.specs.Rosters.{no_account}
+use Rattle.mml_board.specs.declared.event.Event.{Event}
 
 -- a name, and a lab
 pub record HouseValue : Type 0 where
@@ -11,6 +12,15 @@ pub record HouseValue : Type 0 where
 
 abbrev pub house_of : Ptr → LabValue → HouseValue
 house_of name lab = record { name = name; lab = lab }
+
+-- a house that goes on: the events that came before it was opened
+pub record ResumedValue : Type 0 where
+  pub name : Ptr
+  pub lab : LabValue
+  pub begun : List Event
+
+abbrev pub resumed_of : Ptr → LabValue → List Event → ResumedValue
+resumed_of name lab begun = record { name = name; lab = lab; begun = begun }
 
 -- the house that names none
 abbrev pub no_name : Ptr

@@ -7,13 +7,17 @@ abbrev pub times : ℕ → List ℕ → ℕ
 times p [] = 0
 times p (q ∷ qs) = if p == q then suc (times p qs) else times p qs
 
--- once for 1 to n, else never
-abbrev pub once_to : ℕ → ℕ → ℕ
-once_to n p = if (nat_lt 0 p && nat_le p n) then 1 else 0
+-- once for what is above first and at most n, else never
+abbrev pub once_from : ℕ → ℕ → ℕ → ℕ
+once_from first n p = if (nat_lt first p && nat_le p n) then 1 else 0
+
+-- the list holds first + 1 to n, each once, and nothing else
+abbrev pub IsEachOnceFrom : ℕ → ℕ → List ℕ → Type 0
+IsEachOnceFrom first n ps = (p : ℕ) → times p ps ≡ once_from first n p
 
 -- the list holds 1 to n, each once, and nothing else
 abbrev pub IsEachOnce : ℕ → List ℕ → Type 0
-IsEachOnce n ps = (p : ℕ) → times p ps ≡ once_to n p
+IsEachOnce n ps = IsEachOnceFrom 0 n ps
 
 -- the places of all windows
 abbrev pub told_of : List WindowValue → List ℕ

@@ -10,28 +10,69 @@ use crate::seeing::Seeing;
 use mml_board::{Board, Event};
 use std::sync::Wait;
 
+/// A reader's place, with how many events it has seen.
+#[derive(Drop)]
+pub(crate) struct Seat<H: House> {
+    place: Place<H>,
+    count: u64,
+    ghost counted: { count ≡ length (view place.place).seen },
+}
+
+impl<H: House> Seat<H> {
+    /// At a place from which nothing was seen yet.
+    pub(crate) fn new(place: Place<H>) -> Seat<H>
+        requires { view place.place ≡ viewer [] }
+        ensures { view result.place.place ≡ viewer [] }
+    {
+        Seat { place, count: 0 }
+    }
+
+    /// How many events it has seen.
+    pub(crate) fn count(&self) -> u64
+        ensures { result ≡ length (view self.now.place.place).seen }
+    {
+        self.count
+    }
+}
+
 /// Lets a reader enter what is published, unless the writer is gone.
-pub(crate) fn enter<H: House>(reader: Place<H>) -> Result<Entered<H>, Place<H>>
+pub(crate) fn enter<H: House>(reader: Seat<H>) -> Result<Entered<H>, Seat<H>>
     ensures saw { IfOk result (λ reading.
-        Saw H.lab (view reader.place) reading.part.value (view reading.place)) }
-    ensures same { IfErr result (λ same. view same.place ≡ view reader.place) }
+        Saw H.lab (view reader.place.place) reading.part.value (view reading.place)) }
+    ensures same { IfErr result (λ same. view same.place.place ≡ view reader.place.place) }
 {
-    reader.enter_as::<Seeing<H>>()
+    let Seat { place, count } = reader;
+    match place.enter_as::<Seeing<H>>() {
+        Ok(reading) => Ok(reading),
+        Err(place) => Err(Seat { place, count }),
+    }
+}
+
+/// Lets a reader leave what it has seen whole.
+pub(crate) fn leave<H: House>(reading: Entered<H>) -> Seat<H>
+    requires { view reading.place ≡ viewer reading.part.value.events.items }
+    ensures { view result.place.place ≡ view reading.place }
+{
+    let count = reading.get().events.len() as u64;
+    Seat {
+        place: reading.leave(),
+        count,
+    }
 }
 
 /// Lets a reader look until it sees this board.
-pub(crate) fn look_for_board<H: House, R: Wait>(rt: &R, reader: Place<H>, board: &Board) -> Place<H>
-    ensures begins { IsPrefix (view reader.place).seen (view result.place).seen }
-    ensures legal { is_legal_in H.lab (view result.place).seen ≡ true }
-    ensures few { length (view result.place).seen ≤ H.lab.events }
-    ensures world { world_in H.lab (view result.place).seen ≡ board.now }
+pub(crate) fn look_for_board<H: House, R: Wait>(rt: &R, reader: Seat<H>, board: &Board) -> Seat<H>
+    ensures begins { IsPrefix (view reader.place.place).seen (view result.place.place).seen }
+    ensures legal { is_legal_in H.lab (view result.place.place).seen ≡ true }
+    ensures few { length (view result.place.place).seen ≤ H.lab.events }
+    ensures world { world_in H.lab (view result.place.place).seen ≡ board.now }
 {
     let mut reader = reader;
     'looks: for _ in rt.forever() {
         match enter(reader) {
             Ok(reading) => {
                 let found = reading.get().board.is_same(board);
-                reader = reading.leave();
+                reader = leave(reading);
                 if found {
                     return reader;
                 }
@@ -45,21 +86,21 @@ pub(crate) fn look_for_board<H: House, R: Wait>(rt: &R, reader: Place<H>, board:
 /// Lets a reader look until it sees one event more, which is this one.
 pub(crate) fn look_for_event<H: House, R: Wait>(
     rt: &R,
-    reader: Place<H>,
+    reader: Seat<H>,
     place: u64,
     event: &Event,
-) -> Place<H>
-    requires next { place ≡ length (view reader.place).seen + 1 }
-    ensures view { view result.place ≡ viewer ((view reader.place).seen ++ event.now ∷ []) }
-    ensures legal { is_legal_in H.lab ((view reader.place).seen ++ event.now ∷ []) ≡ true }
-    ensures few { length ((view reader.place).seen ++ event.now ∷ []) ≤ H.lab.events }
+) -> Seat<H>
+    requires next { place ≡ length (view reader.place.place).seen + 1 }
+    ensures view { view result.place.place ≡ viewer ((view reader.place.place).seen ++ event.now ∷ []) }
+    ensures legal { is_legal_in H.lab ((view reader.place.place).seen ++ event.now ∷ []) ≡ true }
+    ensures few { length ((view reader.place.place).seen ++ event.now ∷ []) ≤ H.lab.events }
 {
     let mut reader = reader;
     'looks: for _ in rt.forever() {
         match enter(reader) {
             Ok(reading) => {
                 let found = reading.get().ends_in(place, event);
-                reader = reading.leave();
+                reader = leave(reading);
                 if found {
                     return reader;
                 }
@@ -71,13 +112,9 @@ pub(crate) fn look_for_event<H: House, R: Wait>(
 }
 
 /// Lets a reader look until it sees all these events.
-pub(crate) fn look_for_all<H: House, R: Wait>(
-    rt: &R,
-    reader: Place<H>,
-    events: &[Event],
-) -> Place<H>
-    ensures view { view result.place ≡ viewer events.now }
-    ensures begins { IsPrefix (view reader.place).seen events.now }
+pub(crate) fn look_for_all<H: House, R: Wait>(rt: &R, reader: Seat<H>, events: &[Event]) -> Seat<H>
+    ensures view { view result.place.place ≡ viewer events.now }
+    ensures begins { IsPrefix (view reader.place.place).seen events.now }
     ensures legal { is_legal_in H.lab events.now ≡ true }
     ensures few { length events.now ≤ H.lab.events }
 {
@@ -86,7 +123,7 @@ pub(crate) fn look_for_all<H: House, R: Wait>(
         match enter(reader) {
             Ok(reading) => {
                 let found = reading.get().has_all(events);
-                reader = reading.leave();
+                reader = leave(reading);
                 if found {
                     return reader;
                 }

@@ -1,7 +1,7 @@
-//! Whether the places of windows are 1 to so many, each once.
+//! Whether the places of windows are those behind a first one, each once.
 ghost use Rattle.std.specs.Prelude.{◌≡◌, ℕ, ◌+◌, ◌<◌, ◌≤◌, [], ◌∷◌, length, MatchBool};
 ghost use Rattle.mml_lab.specs.declared.TheConstants.{MAX_SESSIONS};
-ghost use Rattle.mml_window.specs.Tallies.{times, told_of, IsEachOnce};
+ghost use Rattle.mml_window.specs.Tallies.{times, told_of, IsEachOnceFrom};
 ghost use Rattle.mml_window.specs.inside.Cursors.{left_of, IsStuck};
 
 use crate::house::House;
@@ -22,15 +22,18 @@ pub(crate) fn told<H: House>(windows: &[Window<H>]) -> u64
     told
 }
 
-/// Whether the windows' places are 1 to so many, each once. The places of each window climb, so one
-/// pass with a cursor for each tells it.
-pub(crate) fn is_each_once<H: House>(windows: &[Window<H>], most: u64) -> bool
+/// Whether the windows' places are those above the first number up to the last, each once. The places of
+/// each window climb, so one pass with a cursor for each tells it.
+pub(crate) fn is_each_once<H: House>(windows: &[Window<H>], first: u64, most: u64) -> bool
     requires few { length windows.now ≤ MAX_SESSIONS }
-    ensures { MatchBool result (IsEachOnce most (told_of windows.now))
-        (¬ (IsEachOnce most (told_of windows.now))) }
+    ensures { MatchBool result (IsEachOnceFrom first most (told_of windows.now))
+        (first ≤ most → ¬ (IsEachOnceFrom first most (told_of windows.now))) }
 {
+    if first > most {
+        return false;
+    }
     let mut cursors = [0; 16];
-    'places: for counted in 0..most {
+    'places: for counted in first..most {
         if !count_off(windows, &mut cursors, counted + 1) {
             return false;
         }

@@ -17,7 +17,7 @@ ghost use Rattle.mml_window.specs.Tallies.{times};
 ghost use Rattle.mml_window.specs.inside.Cursors.{IsStuck};
 
 use crate::house::{House, Place, Press};
-use crate::looking::{enter, look_for_all, look_for_board, look_for_event};
+use crate::looking::{Seat, enter, leave, look_for_all, look_for_board, look_for_event};
 use crate::press::new_place;
 use crate::showing::{look_at, report_at, see_at};
 use crate::sight::{Closed, SightFault};
@@ -36,7 +36,7 @@ use std::sync::{Arc, Wait};
 pub struct Window<H: House> {
     // None while a call of this crate is at work, and where there was no reader's place at the start:
     // then nothing was seen.
-    reader: Option<Place<H>>,
+    reader: Option<Seat<H>>,
     lab: Arc<Lab>,
     places: Vec<u64>,
     // Why its last act was refused, if it was.
@@ -54,11 +54,11 @@ impl<H: House> Model for Window<H> {
     ghost Value = { WindowValue };
 
     ghost view = { λ w. window_with
-        (unwrap_or (option_map (λ r. known r.place) w.reader) newcomer).seen w.places.items
+        (unwrap_or (option_map (λ r. known r.place.place) w.reader) newcomer).seen w.places.items
         w.refused };
 
     ghost invariant = { λ w. IsWindow H.lab (window_with
-        (unwrap_or (option_map (λ r. known r.place) w.reader) newcomer).seen w.places.items
+        (unwrap_or (option_map (λ r. known r.place.place) w.reader) newcomer).seen w.places.items
         w.refused)
         × (arc_value w.lab ≡ H.lab) × (H.lab.events ≤ vec_capacity w.places) };
 }
@@ -87,7 +87,17 @@ impl<H: House> Window<H> {
         requires place { view place.place ≡ viewer [] }
         ensures { self.new ≡ self.old }
     {
-        self.reader = Some(place);
+        self.reader = Some(Seat::new(place));
+    }
+
+    /// How many events it has seen.
+    pub fn seen_count(&self) -> u64
+        ensures { result ≡ length self.now.seen }
+    {
+        match &self.reader {
+            Some(reader) => reader.count(),
+            None => 0,
+        }
     }
 
     /// Why its last act was refused, if it was.
@@ -187,7 +197,7 @@ impl<H: House> Window<H> {
     {
         let reader = match self.reader.take() {
             Some(reader) => reader,
-            None => new_place(rt, press),
+            None => Seat::new(new_place(rt, press)),
         };
         self.reader = Some(look_for_board(rt, reader, &press.published().board));
     }
@@ -209,7 +219,7 @@ impl<H: House> Window<H> {
     {
         let reader = match self.reader.take() {
             Some(reader) => reader,
-            None => new_place(rt, press),
+            None => Seat::new(new_place(rt, press)),
         };
         self.reader = Some(look_for_event(rt, reader, place, event));
         self.places.push_reserved(place);
@@ -224,7 +234,7 @@ impl<H: House> Window<H> {
     {
         let reader = match self.reader.take() {
             Some(reader) => reader,
-            None => new_place(rt, press),
+            None => Seat::new(new_place(rt, press)),
         };
         self.reader = Some(look_for_all(rt, reader, press.published().events.as_slice()));
     }
@@ -258,39 +268,39 @@ impl<H: House> Window<H> {
     }
 }
 
-fn read_number<H: House>(reader: Place<H>) -> (Place<H>, Result<u64, Closed>)
-    ensures tells { TellsNumber H.lab (window (view reader.place).seen []) result.1
-        (window (view result.0.place).seen []) }
-    ensures few { length (view reader.place).seen ≤ H.lab.events
-        → length (view result.0.place).seen ≤ H.lab.events }
+fn read_number<H: House>(reader: Seat<H>) -> (Seat<H>, Result<u64, Closed>)
+    ensures tells { TellsNumber H.lab (window (view reader.place.place).seen []) result.1
+        (window (view result.0.place.place).seen []) }
+    ensures few { length (view reader.place.place).seen ≤ H.lab.events
+        → length (view result.0.place.place).seen ≤ H.lab.events }
 {
     match enter(reader) {
         Ok(reading) => {
             let number = reading.get().board.number();
-            (reading.leave(), Ok(number))
+            (leave(reading), Ok(number))
         }
         Err(reader) => (reader, Err(Closed)),
     }
 }
 
 fn read_see<H: House>(
-    reader: Place<H>,
+    reader: Seat<H>,
     lab: &Lab,
     who: Who,
     node: u64,
-) -> (Place<H>, Result<See, SightFault>)
+) -> (Seat<H>, Result<See, SightFault>)
     requires lab { lab.now ≡ H.lab }
-    ensures tells { Tells rulings.Seen H.lab (window (view reader.place).seen []) who
-        (command.See node) result.1 (window (view result.0.place).seen []) }
+    ensures tells { Tells rulings.Seen H.lab (window (view reader.place.place).seen []) who
+        (command.See node) result.1 (window (view result.0.place.place).seen []) }
     ensures memory { IfErr result.1 (λ fault. fault ≢ faults.Memory) }
-    ensures few { length (view reader.place).seen ≤ H.lab.events
-        → length (view result.0.place).seen ≤ H.lab.events }
+    ensures few { length (view reader.place.place).seen ≤ H.lab.events
+        → length (view result.0.place.place).seen ≤ H.lab.events }
 {
     let _nodes = lab.node_count();
     match enter(reader) {
         Ok(reading) => {
             let see = see_at(&reading.get().board, lab, who, node);
-            (reading.leave(), see)
+            (leave(reading), see)
         }
         Err(reader) => (reader, Err(SightFault::Closed)),
     }
@@ -298,22 +308,22 @@ fn read_see<H: House>(
 
 fn read_look<H: House>(
     alloc: Global,
-    reader: Place<H>,
+    reader: Seat<H>,
     lab: &Lab,
     who: Who,
     node: u64,
-) -> (Place<H>, Result<Look, SightFault>)
+) -> (Seat<H>, Result<Look, SightFault>)
     requires lab { lab.now ≡ H.lab }
-    ensures tells { Tells rulings.Looked H.lab (window (view reader.place).seen []) who
-        (command.Look node) result.1 (window (view result.0.place).seen []) }
-    ensures few { length (view reader.place).seen ≤ H.lab.events
-        → length (view result.0.place).seen ≤ H.lab.events }
+    ensures tells { Tells rulings.Looked H.lab (window (view reader.place.place).seen []) who
+        (command.Look node) result.1 (window (view result.0.place.place).seen []) }
+    ensures few { length (view reader.place.place).seen ≤ H.lab.events
+        → length (view result.0.place.place).seen ≤ H.lab.events }
 {
     let _nodes = lab.node_count();
     match enter(reader) {
         Ok(reading) => {
             let look = look_at(alloc, &reading.get().board, lab, who, node);
-            (reading.leave(), look)
+            (leave(reading), look)
         }
         Err(reader) => (reader, Err(SightFault::Closed)),
     }
@@ -321,22 +331,22 @@ fn read_look<H: House>(
 
 fn read_report<H: House>(
     alloc: Global,
-    reader: Place<H>,
+    reader: Seat<H>,
     lab: &Lab,
     who: Who,
-) -> (Place<H>, Result<Report, SightFault>)
+) -> (Seat<H>, Result<Report, SightFault>)
     requires lab { lab.now ≡ H.lab }
-    ensures tells { Tells (λ r. rulings.Reported) H.lab (window (view reader.place).seen []) who
-        command.Report result.1 (window (view result.0.place).seen []) }
-    ensures report { IfOk result.1 (λ r. r ≡ report_of (world_in H.lab (view result.0.place).seen)) }
-    ensures few { length (view reader.place).seen ≤ H.lab.events
-        → length (view result.0.place).seen ≤ H.lab.events }
+    ensures tells { Tells (λ r. rulings.Reported) H.lab (window (view reader.place.place).seen []) who
+        command.Report result.1 (window (view result.0.place.place).seen []) }
+    ensures report { IfOk result.1 (λ r. r ≡ report_of (world_in H.lab (view result.0.place.place).seen)) }
+    ensures few { length (view reader.place.place).seen ≤ H.lab.events
+        → length (view result.0.place.place).seen ≤ H.lab.events }
 {
     let _nodes = lab.node_count();
     match enter(reader) {
         Ok(reading) => {
             let report = report_at(alloc, &reading.get().board, lab, who);
-            (reading.leave(), report)
+            (leave(reading), report)
         }
         Err(reader) => (reader, Err(SightFault::Closed)),
     }

@@ -1,9 +1,12 @@
 -- What a house has before it is started.
-use Rattle.std.specs.Prelude.{◌≡◌, false, ℕ, Bool, List, [], Option}
+use Rattle.std.specs.Prelude.{◌≡◌, ◌≤◌, true, false, ℕ, Bool, List, [], length, Option}
 use Rattle.mml_lab.specs.Labs.{LabValue, IsLab}
 use Rattle.mml_board.specs.World.{opening_of}
 use Rattle.mml_window.specs.declared.published.Published.{Published}
+use Rattle.mml_board.specs.declared.event.Event.{Event}
 use Rattle.mml_journal.specs.Taken.{IsFresh}
+use Rattle.mml_window.specs.Lists.{is_legal_in, world_in}
+use Rattle.mml_window.specs.Journals.{TellsJournal}
 
 -- a copy of what is to be published, with no events
 pub record IsOpening (lab : LabValue) (x : Published) : Type 0 where
@@ -17,3 +20,19 @@ pub record IsBlank (lab : LabValue) (first second : Published) (halted : Bool) (
   pub two : IsOpening lab second
   pub running : halted ≡ false
   pub fresh : IsFresh told
+
+-- a copy of what is to be published, with these events
+pub record IsCopyOf (lab : LabValue) (begun : List Event) (x : Published) : Type 0 where
+  pub board : x.board ≡ world_in lab begun
+  pub limit : x.limit ≡ lab.events
+  pub events : x.events.items ≡ begun
+
+-- a house that goes on, before it is started
+pub record IsResumed (lab : LabValue) (begun : List Event) (first second : Published) (halted : Bool) (told : Option (List ℕ)) : Type 0 where
+  pub lawful : IsLab lab
+  pub legal : is_legal_in lab begun ≡ true
+  pub few : length begun ≤ lab.events
+  pub one : IsCopyOf lab begun first
+  pub two : IsCopyOf lab begun second
+  pub running : halted ≡ false
+  pub taken : TellsJournal lab begun false told

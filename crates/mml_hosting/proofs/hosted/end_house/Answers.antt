@@ -1,9 +1,9 @@
 use Rattle.std.proofs.Common.{rules, ◌≡◌, ◌++◌, List, subst, map}
 use Rattle.mml_window.specs.Windows.{WindowValue}
-use Rattle.mml_window.specs.Logs.{IsLog}
+use Rattle.mml_window.specs.Logs.{IsLogFrom}
 use Rattle.mml_hosting.proofs.hosted.end_house.Goals as goal
 
-pub returns-in-Ok-finish-clause-kept : goal.returns-in-Ok-finish-clause-kept
-returns-in-Ok-finish-clause-kept g c =
+pub returns-in-Ok-finish_from-clause-kept : goal.returns-in-Ok-finish_from-clause-kept
+returns-in-Ok-finish_from-clause-kept g c =
     let all : c.append.new.self.items ≡ map (λ p. p.window) c.args.desk_places.items ++ map (λ p. p.window) c.args.places.items = search rules in
-    subst (λ (ws : List WindowValue). IsLog g.H.House.lab g.S.Sink.contents ws c.in-Ok-finish.log) all c.in-Ok-finish.ensures.log
+    subst (λ (ws : List WindowValue). IsLogFrom c.args.first g.H.House.lab g.S.Sink.contents ws c.in-Ok-finish_from.log) all c.in-Ok-finish_from.ensures.log

@@ -7,8 +7,9 @@ returns g c =
     let desk = rw c.in-Ok-desks.is at c.serve_both-desks.ensures.desk in
     let others = rw c.in-Ok-others.is at c.serve_both-desks.ensures.others in
     let ended = c.end_house.ensures in
-    hosted g.H.House.lab g.S.Sink.contents g.R.Read.remaining g.W.Write.contents g.K.Keep.shows (g.D.Arrivals.to_come c.args.ports.at_desk)
+    let kept = rw c.requires.first at ended.kept in
+    hosted g.H.House.lab g.H.Begun.begun g.S.Sink.contents g.R.Read.remaining g.W.Write.contents g.K.Keep.shows (g.D.Arrivals.to_come c.args.ports.at_desk)
     (g.A.Arrivals.to_come c.args.ports.elsewhere)
     c.in-Ok-seats.desk_places.items c.in-Ok-seats.places.items c.in-Ok-desks.desks.items c.in-Ok-others.others.items c.end_house.result
     (desk.count ∙ c.in-Ok-seats.ensures.one) c.in-Ok-seats.ensures.unused.0 c.in-Ok-seats.ensures.unused.1 desk.places others.places desk.attends others.attends
-    ended.kept ended.dismissed ended.desk ended.others
+    kept ended.dismissed ended.desk ended.others

@@ -5,8 +5,8 @@ use Rattle.mml_hosting.proofs.hosted.places_of.Given as goal
 
 abbrev pub invariant-loop-window : goal.invariant-loop-window
 invariant-loop-window g l = record {
-  rest : All (λ w. w ≡ window [] []) l.windows.items;
-  unused : All IsUnused l.places.items;
+  rest : All (λ w. w ≡ window g.H.Begun.begun []) l.windows.items;
+  unused : All (IsUnused g.H.Begun.begun) l.places.items;
   count : vec_len l.places + vec_len l.windows ≡ vec_len l.fn.windows;
   room : vec_len l.places + vec_len l.windows ≤ vec_capacity l.places;
 }

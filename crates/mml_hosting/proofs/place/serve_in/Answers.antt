@@ -18,7 +18,7 @@ returns-clause-place g c =
     let noted : c.is_dismissed_by-is_dismissed.result ≡ (place.is_desk && is_teachers_bye (shows c.keep.result).ending) =
     rw same c.is_dismissed_by-is_dismissed.ensures in
     record {
-      each = chain_so (IsServed lab remaining contents) shows (window [] []) place.window _ was now c.keep.result put c.requires.place.each
+      each = chain_so (IsServed lab remaining contents) shows (window g.H.Begun.begun []) place.window _ was now c.keep.result put c.requires.place.each
           (served_so lab remaining contents
           (shows c.keep.result) _ c.args.ends _ _ _ same c.of-came.ensures c.hang_up.ensures c.serve_known-ending.ensures.ended);
       dismissed =

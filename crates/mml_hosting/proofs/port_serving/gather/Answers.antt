@@ -11,7 +11,7 @@ loop-index-preserved g c =
     let one = c.join_one.ensures in
     record {
       places =
-          all_more (IsPlace g.H.House.lab g.R.Read.remaining g.W.Write.contents g.K.Keep.shows) c.loop-index.free.items c.push_reserved.new.self.items
+          all_more (IsPlace g.H.House.lab g.H.Begun.begun g.R.Read.remaining g.W.Write.contents g.K.Keep.shows) c.loop-index.free.items c.push_reserved.new.self.items
           c.join_one.result put.items at.places one.place;
       count = λ h. omega (
         arith,

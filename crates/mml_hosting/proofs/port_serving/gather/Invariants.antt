@@ -5,7 +5,7 @@ use Rattle.mml_hosting.proofs.port_serving.gather.Given as goal
 
 abbrev pub invariant-loop-index : goal.invariant-loop-index
 invariant-loop-index g l = record {
-  places : All (IsPlace g.H.House.lab g.R.Read.remaining g.W.Write.contents g.K.Keep.shows) l.free.items;
+  places : All (IsPlace g.H.House.lab g.H.Begun.begun g.R.Read.remaining g.W.Write.contents g.K.Keep.shows) l.free.items;
   count : (h : g.row.R.Denot × g.row.W.Denot → ℕ) → count_free g.K.Keep.shows h l.free.items + count_busy g.K.Keep.shows h l.busy.items
       ≡ count_free g.K.Keep.shows h l.fn.free.items + count_busy g.K.Keep.shows h l.fn.busy.items;
   len : vec_len l.free + vec_len l.busy ≡ vec_len l.fn.free + vec_len l.fn.busy;

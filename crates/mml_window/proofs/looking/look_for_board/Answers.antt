@@ -5,7 +5,7 @@ use Rattle.mml_window.proofs.looking.look_for_board.Goals as goal
 pub returns-then-found : goal.returns-then-found
 returns-then-found g c =
     let f = c.in-Ok.ensures.saw in
-    let sees = c.leave-reader.ensures.1 ∙ f.view in record {
+    let sees = c.leave-reader.ensures ∙ f.view in record {
       begins = rw sees (prefix_trans _ _ _ c.looks.invariant f.begins);
       legal = rw sees f.published.legal;
       few = rw sees f.published.few;

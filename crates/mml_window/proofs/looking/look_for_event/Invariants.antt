@@ -3,4 +3,4 @@ use Rattle.left_right.specs.Sides.{view}
 use Rattle.mml_window.proofs.looking.look_for_event.Given as goal
 
 abbrev pub invariant-looks : goal.invariant-looks
-invariant-looks g l = IsPrefix (view l.fn.reader.place).seen (view l.reader.place).seen
+invariant-looks g l = IsPrefix (view l.fn.reader.place.place).seen (view l.reader.place.place).seen

@@ -9,5 +9,5 @@ report_at-report-requires g c = nodes_entered c.requires.lab c.node_count-nodes.
 
 pub returns-in-Ok-clause-tells : goal.returns-in-Ok-clause-tells
 returns-in-Ok-clause-tells g c =
-    tells_entered (λ r. rulings.Reported) g.H.House.lab _ _ _ _ _ _ c.args.who command.Report _ c.requires.lab c.in-Ok.ensures.saw c.leave.ensures.1
+    tells_entered (λ r. rulings.Reported) g.H.House.lab _ _ _ _ _ _ c.args.who command.Report _ c.requires.lab c.in-Ok.ensures.saw c.leave.ensures
     (ap (λ x. x.board) c.get.ensures) c.report_at-report.ensures.ruled

@@ -9,5 +9,5 @@ see_at-see-requires g c = nodes_entered c.requires.lab c.node_count-nodes.ensure
 
 pub returns-in-Ok-clause-tells : goal.returns-in-Ok-clause-tells
 returns-in-Ok-clause-tells g c =
-    tells_entered rulings.Seen g.H.House.lab _ _ _ _ _ _ c.args.who (command.See c.args.node) _ c.requires.lab c.in-Ok.ensures.saw c.leave.ensures.1
+    tells_entered rulings.Seen g.H.House.lab _ _ _ _ _ _ c.args.who (command.See c.args.node) _ c.requires.lab c.in-Ok.ensures.saw c.leave.ensures
     (ap (λ x. x.board) c.get.ensures) c.see_at-see.ensures.shows

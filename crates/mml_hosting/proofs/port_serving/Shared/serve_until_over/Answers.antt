@@ -9,7 +9,7 @@ loop-init g c = record {
   next = tt;
   finite = tt;
   places =
-      subst (λ (ps : List (Place _ _)). All (IsPlace g.H.House.lab g.R.Read.remaining g.W.Write.contents g.K.Keep.shows) ps)
+      subst (λ (ps : List (Place _ _)). All (IsPlace g.H.House.lab g.H.Begun.begun g.R.Read.remaining g.W.Write.contents g.K.Keep.shows) ps)
       (sym c.reserve.ensures.items) c.requires.places;
   history = nothing_yet g.K.Keep.shows (g.A.Arrivals.to_come c.args.arrivals) c.reserve.new.self.items c.in_ok-busy.busy.items c.in_ok-busy.ensures.items;
   len = search rules;

@@ -31,5 +31,5 @@ returns-in-Err-clause-takes g c =
 
 pub returns-in-Err-clause-places : goal.returns-in-Err-clause-places
 returns-in-Err-clause-places g c =
-    all_more (IsPlace g.H.House.lab g.R.Read.remaining g.W.Write.contents g.K.Keep.shows) c.next_free.new.free.items c.push_reserved-in-Err.new.self.items
+    all_more (IsPlace g.H.House.lab g.H.Begun.begun g.R.Read.remaining g.W.Write.contents g.K.Keep.shows) c.next_free.new.free.items c.push_reserved-in-Err.new.self.items
     c.in-Err.place c.push_reserved-in-Err.ensures.items c.in-Some.ensures.places c.in-Err.ensures.served.0

@@ -1,0 +1,4 @@
+//! Laws of lists and journals that go on.
+#![tactic(auto)]
+
+pub mod laws;
