@@ -21,35 +21,41 @@ def look(world: World, i: int) -> Shown:
     }
 
 
-def walk(world: World, i: int) -> tuple[int, Optional[str]]:
-    """The first node along the pointers that is privileged or points at none, and its enabled rule."""
-    while world.enabled(i) is None:
-        j = world.p[i]
-        if j is None:
-            break
-        i = j
-    return i, world.enabled(i)
+class Walks:
+    """The enabled rule of each node of a world, and the walks along the pointers."""
 
+    def __init__(self, world: World) -> None:
+        self.p = world.p
+        self.rules = {i: world.enabled(i) for i in world.nodes()}
 
-def witness(world: World, a: int, b: int) -> tuple[int, str]:
-    """The witness of an open link whose lower end is a, with its rule."""
-    for end in (a, b):
-        node, rule = walk(world, end)
-        if rule is not None and rule != "seduction":
-            return node, rule
-    return a, "seduction"
+    def end(self, i: int) -> tuple[int, Optional[str]]:
+        """The first node from here on that is privileged or points at none, and its enabled rule."""
+        while self.rules[i] is None:
+            j = self.p[i]
+            if j is None:
+                break
+            i = j
+        return i, self.rules[i]
+
+    def witness(self, a: int, b: int) -> tuple[int, str]:
+        """The witness of an open link whose lower end is a, with its rule."""
+        for start in (a, b):
+            node, rule = self.end(start)
+            if rule is not None and rule != "seduction":
+                return node, rule
+        return a, "seduction"
 
 
 def report(world: World) -> Shown:
     """The pairs, the free and the privileged nodes, and the open links with their witnesses."""
-    nodes = world.nodes()
-    free = [i for i in nodes if not world.married(i)]
-    links = [(a, b) for a in nodes for b in world.near(a) if a < b]
-    privileged = [[i, world.enabled(i)] for i in nodes if world.enabled(i) is not None]
+    walks = Walks(world)
+    free = {i: not world.married(i) for i in world.nodes()}
+    links = [(a, b) for a in world.nodes() for b in world.near(a) if a < b]
+    privileged = [[i, rule] for i, rule in walks.rules.items() if rule is not None]
     return {
         "pairs": [[a, b] for a, b in links if world.p[a] == b and world.p[b] == a],
-        "free": free,
+        "free": [i for i in world.nodes() if free[i]],
         "privileged": privileged,
-        "open": [[a, b, *witness(world, a, b)] for a, b in links if a in free and b in free],
+        "open": [[a, b, *walks.witness(a, b)] for a, b in links if free[a] and free[b]],
         "stable": not privileged,
     }

@@ -1,5 +1,4 @@
 """A network whose nodes have registers, and the four rules."""
-from copy import deepcopy
 from dataclasses import dataclass, field
 from typing import Optional
 
@@ -67,7 +66,8 @@ class World:
     def moves(self, i: int) -> list[Move]:
         """Each move whose guard holds at a node: several only where several neighbours point at it."""
         alone = [Move(rule) for rule in RULES if rule != "marriage"]
-        return [move for move in alone + [Move("marriage", j) for j in self.near(i)] if self.guard(i, move)]
+        marriages = [Move("marriage", j) for j in self.near(i) if self.p[j] == i]
+        return [move for move in alone + marriages if self.guard(i, move)]
 
     def enabled(self, i: int) -> Optional[str]:
         """The rule whose guard holds at a node: there is at most one."""
@@ -86,9 +86,9 @@ class World:
 
     def step(self) -> None:
         """Applies all chosen moves: all read the configuration as it was, and each writes its own node."""
-        before = deepcopy(self)
-        for i, move in before.chosen.items():
-            self.p[i], self.m[i] = before.effect(i, move)
+        after = {i: self.effect(i, move) for i, move in self.chosen.items()}
+        for i, registers in after.items():
+            self.p[i], self.m[i] = registers
         self.renewed()
 
     def fault(self, i: int, p: Optional[int], m: bool) -> None:
