@@ -3,10 +3,10 @@ from collections.abc import Iterable
 
 from tests.labs.rows import Row
 
-HEAD = """events = 100000
-sessions = 16
+HEAD = """sessions = 16
 teacher = { name = "tess", key = "chalk" }
 """
+MOST = "events = 100000\n"
 
 
 def student(number: int) -> tuple[str, str]:
@@ -36,12 +36,21 @@ def sizes() -> list[Row]:
         (1, 0): "lab: student is missing",
     }
     rows = [
-        Row(f"{few} nodes, {many} students", (HEAD + students(many) + nodes(ids[:few])).encode(), says=line)
+        Row(f"{few} nodes, {many} students", (MOST + HEAD + students(many) + nodes(ids[:few])).encode(), says=line)
         for (few, many), line in wanted.items()
     ]
     # Too many comes before out of range.
-    document = HEAD + students(1) + nodes([*ids[:256], 0])
+    document = MOST + HEAD + students(1) + nodes([*ids[:256], 0])
     return [*rows, Row("too many nodes, one of them 0", document.encode(), says="lab: too many nodes")]
+
+
+def loose() -> Row:
+    """As many nodes, students and events as may be, and no links."""
+    people = tuple(student(number) for number in range(256))
+    ids = range(60000, 60256)
+    marks = "." * 256
+    shows = "100000 16 256 0 256" + "".join(f"; {node} false {people[0][0]} {marks}" for node in ids)
+    return Row("256 nodes without links", (MOST + HEAD + students(256) + nodes(ids)).encode(), shows=shows, students=people)
 
 
 def lengths() -> list[Row]:
@@ -74,13 +83,13 @@ owner = "ana"
 
 
 def greatest() -> Row:
-    """256 nodes with the greatest identifiers, each linked to each other one and of two students, and all limits at their greatest."""
+    """256 nodes with the greatest identifiers, each linked to each other one and of two of 256 students."""
     ids = range(65280, 65536)
     people = tuple(student(number) for number in range(256))
     links = ",".join(f"[{a},{b}]" for a in ids for b in range(65280, a))
     owners = {node: sorted([node % 256, (node + 1) % 256]) for node in ids}
-    shows = "100000 16 256 32640 256"
-    document = HEAD + f"links = [{links}]\n" + students(256)
+    shows = "100 16 256 32640 256"
+    document = f"events = 100\n{HEAD}links = [{links}]\n" + students(256)
     for at, (node, (a, b)) in enumerate(owners.items()):
         document += f'[[node]]\nid = {node}\nowners = ["{people[b][0]}", "{people[a][0]}"]\n'
         shows += f"; {node} false {people[a][0]}{people[b][0]} {'-' * at}.{'-' * (255 - at)}"
@@ -89,4 +98,4 @@ def greatest() -> Row:
 
 def computed_rows() -> list[Row]:
     """All of these."""
-    return [*sizes(), *lengths(), greatest()]
+    return [*sizes(), *lengths(), loose(), greatest()]
