@@ -21,7 +21,7 @@ from tests.random.labs import drawn_lab
 from tests.random.meshes import mesh, mesh_script
 from tests.random.scripts import drawn_script
 
-SEEDS = range(1, 601)
+SEEDS = range(1, 501)
 LINES = 80
 HURTS = 3
 WORLDS = range(1, 301)
