@@ -2,10 +2,10 @@
 
 A table is a TOML file. Its rows are the tables of the array `labs`, each with the document in one of two ways:
 
-- `text` (or `bytes`, of which each letter is a byte) behind `before` and ahead of `after`, which stand at the head of the table
-  or in the row;
-- `old` and `new`: the lab that is built into the program, or the table's own `base`, with `new` in the place of `old`, which must
-  stand there once. With `goes_on = true` it is the document of the row before.
+- `text` (or `bytes`, of which each letter is a byte) behind `before` and ahead of `after`, which stand at the
+  head of the table or in the row;
+- `old` and `new`: the lab that is built into the program, or the table's own `base`, with `new` in the place of
+  `old`, which must stand there once. With `goes_on = true` it is the document of the row before.
 
 And with one of these:
 

@@ -1,7 +1,8 @@
 """All that a lab has, as the program shows it over scripts and an audit.
 
-It is written `EVENTS SESSIONS NODES LINKS STUDENTS`, and then for each node, after a semicolon, its identifier, m, its owners and a
-mark for each node in rising order: `-` where they are linked, `>` where it points at that one too, else `.`.
+It is written `EVENTS SESSIONS NODES LINKS STUDENTS`, and then for each node, after a semicolon, its identifier, m,
+its owners and a mark for each node in rising order: `-` where they are linked, `>` where it points at that one
+too, else `.`.
 """
 import json
 from collections.abc import Sequence
@@ -49,7 +50,10 @@ class Shown:
         return words[1::2]
 
     def replies(self, people: Sequence[tuple[str, str]], nodes: list[int], sessions: int) -> list[dict[str, Any]]:
-        """The replies to all looks of these; a line of the last connection is answered, and one of a connection more is none."""
+        """The replies to all looks of these.
+
+        At the end a line of the last connection is answered, and one of a connection more is no line of the script.
+        """
         lines = looks(people, nodes)
         last = f'{sessions} {{"do":"bye"}}\n{sessions + 1} {{"do":"bye"}}\n'
         self.script.write_text("".join(lines) + last, encoding="utf-8")

@@ -50,14 +50,16 @@ def loose() -> Row:
     ids = range(60000, 60256)
     marks = "." * 256
     shows = "100000 16 256 0 256" + "".join(f"; {node} false {people[0][0]} {marks}" for node in ids)
-    return Row("256 nodes without links", (MOST + HEAD + students(256) + nodes(ids)).encode(), shows=shows, students=people)
+    document = MOST + HEAD + students(256) + nodes(ids)
+    return Row("256 nodes without links", document.encode(), shows=shows, students=people)
 
 
 def lengths() -> list[Row]:
     """The lengths of the teacher's name and key, and the sessions, on both sides of each limit."""
     bad, sessions = "lab: principal 0: bad name or key", "lab: sessions is out of its limits"
     wanted = [
-        (1, 1, 1, ""), (32, 64, 16, ""), (33, 64, 16, bad), (32, 65, 16, bad), (0, 64, 16, bad), (32, 0, 16, bad),
+        (1, 1, 1, ""), (32, 64, 16, ""), (33, 64, 16, bad), (32, 65, 16, bad), (0, 64, 16, bad),
+        (32, 0, 16, bad),
         (32, 64, 17, sessions), (32, 64, 0, sessions),
     ]
     rows = []
@@ -76,9 +78,8 @@ id = 1
 owner = "ana"
 """
         shows = "" if line else f"100 {count} 1 0 1; 1 false ana ."
-        rows.append(
-            Row(f"name {name}, key {key}, sessions {count}", document.encode(), line, shows, teacher, (("ana", "a-key"),))
-        )
+        what = f"name {name}, key {key}, sessions {count}"
+        rows.append(Row(what, document.encode(), line, shows, teacher, (("ana", "a-key"),)))
     return rows
 
 

@@ -47,7 +47,8 @@ def lab_of(links: list[Link], found: Registers) -> str:
 
 
 def drawn_lab(rng: Random, count: int) -> str:
-    """A lab of so many nodes, with links and registers that are drawn; some nodes hold themselves married and point at none."""
+    """A lab of so many nodes, with links and registers that are drawn; some nodes point at none and hold
+    themselves married."""
     nodes = list(range(1, count + 1))
     every = complete(rng, nodes)
     links = rng.sample(every, min(len(every), rng.randint(0, 2 * count)))
@@ -110,8 +111,10 @@ class Runner:
         self.ask(1, json.dumps(asked))
 
     def run(self, steps: int) -> None:
-        """Lets the daemon choose until no node is privileged, or so many steps were taken; a round ends when each node that
-        was privileged at its beginning has moved, or wasn't privileged in between."""
+        """Lets the daemon choose until no node is privileged, or so many steps were taken.
+
+        A round ends when each node that was privileged at its beginning has moved, or wasn't privileged in between.
+        """
         moves = moves_of(self.model.world)
         waiting = set(moves)
         while moves and steps > 0:

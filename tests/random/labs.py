@@ -95,7 +95,7 @@ class Registers:
 
 
 def registers(rng: Random, nodes: list[int], links: list[Link]) -> Registers:
-    """Registers as a fault may leave them: null and false everywhere, or pointers that are drawn, some of them mutual."""
+    """Registers as a fault may leave them: all null and false, or drawn pointers, some of them mutual."""
     near: dict[int, list[int]] = {i: [] for i in nodes}
     for a, b in links:
         near[a].append(b)
@@ -127,7 +127,8 @@ def quoted(text: str) -> str:
 
 def node_line(rng: Random, i: int, owners: list[str], found: Registers) -> str:
     """A node, with what isn't null or false, and now and then a plain false."""
-    owner = f"owner = {quoted(owners[0])}" if len(owners) == 1 and rng.random() < 0.8 else f"owners = {json.dumps(owners)}"
+    is_short = len(owners) == 1 and rng.random() < 0.8
+    owner = f"owner = {quoted(owners[0])}" if is_short else f"owners = {json.dumps(owners)}"
     p = "" if found.p[i] is None else f", p = {found.p[i]}"
     m = f", m = {json.dumps(found.m[i])}" if found.m[i] or rng.random() < 0.2 else ""
     return f"  {{ id = {i}, {owner}{p}{m} }},\n"

@@ -1,4 +1,4 @@
-"""Scripts that are drawn over a lab: what connections ask follows the world, as the model tells it, and leaves it now and then."""
+"""Scripts that are drawn over a lab: what connections ask mostly fits the world, as the model tells it."""
 from random import Random
 from typing import Any
 
@@ -9,7 +9,11 @@ from tests.random.lines import odd, spelled
 Asked = dict[str, Any]
 GREATEST = 2**64 - 1
 # Lines that are none of a script: the number is another, or nothing is asked.
-BAD_LINES = [b"", b"0 {}", b"01 {}", b"17 {}", b"1", b"1\t{}", b" 1 {}", b"{}", b"-1 {}", b"1 " + b" " * 4097, b"100 {}", b"x"]
+BAD_LINES = [
+    b"", b"0 {}", b"01 {}", b"17 {}", b"1", b"1\t{}", b" 1 {}", b"{}", b"-1 {}", b"1 " + b" " * 4097, b"100 {}", b"x",
+]
+# What one asks who has no name.
+NAMELESS = [{"do": "close"}, {"do": "report"}, {"do": "bye"}]
 
 
 class Drawing:
@@ -22,7 +26,9 @@ class Drawing:
 
     def node(self) -> int:
         """A node, now and then one that isn't there."""
-        return self.rng.choice([0, 1, 65535, 65536, GREATEST]) if self.rng.random() < 0.04 else self.rng.choice(self.nodes)
+        if self.rng.random() < 0.04:
+            return self.rng.choice([0, 1, 65535, 65536, GREATEST])
+        return self.rng.choice(self.nodes)
 
     def hello(self) -> Asked:
         """A greeting, mostly of one who isn't there, with a right key."""
@@ -41,7 +47,8 @@ class Drawing:
         i = rng.choice(ready or own) if own and rng.random() < 0.9 else self.node()
         moves = world.moves(i) if i in world.links else []
         move = rng.choice(moves) if moves and rng.random() < 0.9 else Move(rng.choice(RULES), self.node())
-        at = world.number if rng.random() < 0.9 else rng.choice([0, max(world.number - 1, 0), world.number + 1, GREATEST])
+        stale = [0, max(world.number - 1, 0), world.number + 1, GREATEST]
+        at = world.number if rng.random() < 0.9 else rng.choice(stale)
         asked = {"do": "move", "node": i, "at": at, "rule": move.rule}
         return {**asked, "with": move.partner} if move.rule == "marriage" else asked
 
@@ -71,13 +78,13 @@ class Drawing:
         rng = self.rng
         who = self.model.names.get(connection)
         if who is None:
-            return self.hello() if rng.random() < 0.9 else rng.choice([{"do": "close"}, {"do": "report"}, {"do": "bye"}, self.move("")])
+            return self.hello() if rng.random() < 0.9 else rng.choice([*NAMELESS, self.move("")])
         if rng.random() < 0.03:
             return rng.choice([{"do": "bye"}, self.hello()])
         views = [{"do": "see", "node": self.node()}, {"do": "look", "node": self.node()}, {"do": "report"}]
         if who == self.lab.teacher:
-            acts = [{"do": "close"}, {"do": "close"}, {"do": "close"}, self.fault(), self.change(), self.release(), self.move(who)]
-            return rng.choice(acts if rng.random() < 0.6 else views)
+            acts = [self.fault(), self.change(), self.release(), self.move(who)]
+            return rng.choice([{"do": "close"}] * 3 + acts if rng.random() < 0.6 else views)
         if rng.random() < 0.05:
             return rng.choice([{"do": "close"}, self.fault(), self.change(), self.release()])
         return self.move(who) if rng.random() < 0.7 else rng.choice(views)
