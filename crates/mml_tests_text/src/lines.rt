@@ -110,14 +110,6 @@ fn first_cut_that_changes(alloc: Global, step: usize) -> Result<Option<usize>, F
     Ok(None)
 }
 
-#[test]
-fn cuts_of_the_reads_change_nothing(rt: HostRuntime) -> Result<(), Fail> {
-    let by_bytes = first_cut_that_changes(rt.alloc(), 1)?;
-    let at_once = first_cut_that_changes(rt.alloc(), 100)?;
-    assert_eq!(rt; (by_bytes, at_once), (None, None));
-    Ok(())
-}
-
 // How many bytes a read gives, how many reads are good, what is told, and how many reads there are.
 const READS: [(usize, usize, &str, usize); 11] = [
     (1, 0, "ReadFault \n", 1),
@@ -148,8 +140,11 @@ fn first_reads_told_otherwise(alloc: Global) -> Result<Option<usize>, Fail> {
 }
 
 #[test]
-fn a_failed_read_ends_the_lines(rt: HostRuntime) -> Result<(), Fail> {
-    assert_eq!(rt; first_reads_told_otherwise(rt.alloc())?, None);
+fn cuts_change_nothing_and_a_failed_read_ends_the_lines(rt: HostRuntime) -> Result<(), Fail> {
+    let by_bytes = first_cut_that_changes(rt.alloc(), 1)?;
+    let at_once = first_cut_that_changes(rt.alloc(), 100)?;
+    let failed = first_reads_told_otherwise(rt.alloc())?;
+    assert_eq!(rt; (by_bytes, at_once, failed), (None, None, None));
     Ok(())
 }
 
