@@ -1,6 +1,7 @@
 //! Requests to a hall, one by one, and the lines of its replies.
+use mml_board::Board;
 use mml_codec::{REPLY_ROOM, tell_reply};
-use mml_fakes::labs::PAIR;
+use mml_fakes::labs::{PAIR, greatest};
 use mml_hall::Hall;
 use mml_journal::NullSink;
 use mml_lab::read_lab;
@@ -79,8 +80,19 @@ fn told(alloc: Global) -> Result<(Option<usize>, u64, u64), Fail> {
     Ok((None, hall.board().number(), hall.board().place()))
 }
 
+/// Whether a board of the largest lab, its copy and that of a hall begin as the same world.
+fn is_one_beginning(alloc: Global) -> Result<bool, Fail> {
+    let document = greatest(alloc)?;
+    let lab = read_lab(alloc, document.as_bytes())?;
+    let board = Board::new(alloc, &lab)?;
+    let copy = board.try_copy(alloc)?;
+    let hall = Hall::new(alloc, lab, NullSink::new())?;
+    Ok(board.is_same(&copy) && board.is_same(hall.board()) && hall.events().is_empty())
+}
+
 #[test]
 fn requests_are_answered(rt: HostRuntime) -> Result<(), Fail> {
-    assert_eq!(rt; told(rt.alloc())?, (None, 0, 0));
+    let (told, is_one) = (told(rt.alloc())?, is_one_beginning(rt.alloc())?);
+    assert_eq!(rt; (told, is_one), ((None, 0, 0), true));
     Ok(())
 }

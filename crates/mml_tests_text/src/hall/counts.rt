@@ -1,7 +1,8 @@
 //! A script with more events than two bytes count, and the audits of its journal: a link is cut and made
 //! again in turn.
+use mml_audit::{audit, audit_events};
 use mml_fakes::{FakeReader, FakeWriter};
-use mml_hall::{Hall, audit, audit_events, run_script};
+use mml_hall::{Hall, run_script};
 use mml_journal::MemorySink;
 use mml_lab::read_lab;
 use std::alloc::{AllocError, Global};
