@@ -1,4 +1,4 @@
-"""The largest lab: 256 nodes with the greatest identifiers, all linked, and 256 students with the longest names and keys.
+"""The largest lab: 256 nodes with the greatest identifiers, all linked, and 256 students with the longest names.
 
 What it answers is written down here, by the form of a reply and the numbers of the request. In the story each student
 but the last has a move, and all happen at once.
@@ -6,7 +6,7 @@ but the last has a move, and all happen at once.
 from dataclasses import dataclass, field
 from pathlib import Path
 
-from tests.common.preload import Ended, Server, Client, fail, good, run
+from tests.common.preload import Client, Ended, Server, fail, good, run
 
 NODES = range(65280, 65536)
 LAST = NODES[-1]
@@ -32,7 +32,7 @@ def document() -> str:
 
 
 def report(has_suitors: bool) -> str:
-    """The report before the moves, or after them: every link is open, and its witness is its lower end, or the last node."""
+    """The report before the moves, or after them: each link is open, and its witness is its lower end, or the last node."""
     links = [(a, b) for a in NODES for b in NODES if a < b]
     if has_suitors:
         opened = ",".join(f'[{a},{b},{LAST},"marriage"]' for a, b in links)

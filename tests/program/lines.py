@@ -136,7 +136,7 @@ def answered(room: Path, lab: Path, lines: list[bytes]) -> tuple[bytes, bytes]:
 
 
 def either_way(room: Path, lab: Path) -> tuple[int, int]:
-    """How many drawn lines are requests, and how many events they make: each line is answered the same by either way."""
+    """How many drawn lines are requests, and how many events they make; each is answered the same either way."""
     rng = Random(5)
     requests = events = 0
     greetings = [b'1 {"do":"hello","key":"chalk","name":"tess"}', b'2 {"do":"hello","key":"a-key","name":"ana"}']
@@ -145,8 +145,9 @@ def either_way(room: Path, lab: Path) -> tuple[int, int]:
         plainly = answered(room, lab, greetings + [b"%s %s" % pair for pair in drawn])
         by_value = answered(room, lab, greetings + [b"%s %s" % (one, with_array(line)) for one, line in drawn])
         if plainly != by_value:
-            pairs = zip(plainly[0].splitlines(), by_value[0].splitlines(), [b"", b""] + [line for _, line in drawn])
-            fail(f"a line is answered otherwise with an array: {next((it for it in pairs if it[0] != it[1]), 'the journal')}")
+            pairs = zip(plainly[0].splitlines(), by_value[0].splitlines(), greetings + [line for _, line in drawn])
+            other = next((it for it in pairs if it[0] != it[1]), "the journal")
+            fail(f"a line is answered otherwise with an array: {other}")
         requests += sum(b"malformed" not in reply for reply in plainly[0].splitlines()[len(greetings) :])
         events += plainly[1].count(b"\n")
     return requests, events
@@ -163,7 +164,8 @@ def work(room: Path) -> str:
     # So that neither way is tried on malformed lines alone, nor on lines without an effect.
     if not (500 < requests < 3500 and 50 < events):
         fail(f"{requests} of {LINES} drawn lines are requests, with {events} events")
-    return f"{len(ROWS) + len(SIXTEEN)} scripts end where they should, and {LINES} drawn lines are read alike either way"
+    ended = len(ROWS) + len(SIXTEEN)
+    return f"{ended} scripts end where they should, and {LINES} drawn lines are read alike either way"
 
 
 if __name__ == "__main__":
