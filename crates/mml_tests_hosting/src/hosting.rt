@@ -14,14 +14,16 @@ type Left = Hosted<MemorySink, ServedSession<VecDeque<u8>, Kept>>;
 /// Who says what where, at the desk or at the port, and what that is answered.
 type Talk = (bool, &'static str, &'static str);
 
-/// Moves node 1.
-const ANA: Talk = (
-    false,
-    r#"{"do":"hello","key":"a-key","name":"ana"}
+const ANA_MOVES: &str = r#"{"do":"hello","key":"a-key","name":"ana"}
 {"at":0,"do":"move","node":1,"rule":"seduction"}
 {"do":"see","node":1}
 {"do":"bye"}
-"#,
+"#;
+
+/// Moves node 1.
+const ANA: Talk = (
+    false,
+    ANA_MOVES,
     r#"{"ok":"hello","who":"ana"}
 {"at":0,"node":1,"ok":"move","place":1,"rule":"seduction"}
 {"at":0,"m":false,"node":1,"ok":"see","p":null}
@@ -64,26 +66,26 @@ const FALLEN: Talk = (
 "#,
 );
 
-/// The teacher's bye at a student's port ends nothing.
-const ELSEWHERE: Talk = (
-    false,
-    r#"{"do":"hello","key":"chalk","name":"tess"}
+const TESS_CLOSES: &str = r#"{"do":"hello","key":"chalk","name":"tess"}
 {"do":"close"}
 {"do":"bye"}
-"#,
-    r#"{"ok":"hello","who":"tess"}
+"#;
+
+const NOTHING_CLOSED: &str = r#"{"ok":"hello","who":"tess"}
 {"clause":2,"deny":"empty","text":"no node is chosen"}
 {"ok":"bye"}
-"#,
-);
+"#;
 
-/// The same at the desk ends it.
-const TESS: Talk = (true, ELSEWHERE.1, ELSEWHERE.2);
+/// The teacher's bye at a student's port ends nothing.
+const ELSEWHERE: Talk = (false, TESS_CLOSES, NOTHING_CLOSED);
+
+/// The same at the desk ends the house.
+const TESS: Talk = (true, TESS_CLOSES, NOTHING_CLOSED);
 
 /// One who comes again.
 const AGAIN: Talk = (
     false,
-    ANA.1,
+    ANA_MOVES,
     r#"{"ok":"hello","who":"ana"}
 {"at":1,"clause":2,"deny":"stale","text":"this is not the current configuration"}
 {"at":1,"m":false,"node":1,"ok":"see","p":6}

@@ -49,9 +49,9 @@ const BAD_SECOND_LINE: &str = "1 {\"do\":\"bye\"}\n5 {\"do\":\"bye\"}\n";
 /// at the end, and what was written: a text, so many times.
 type Row = (&'static str, usize, usize, usize, Option<Fault>, &'static str, usize);
 
-/// All lines come in one read, before which there is a flush, as before the next one. A write or a flush that
-/// fails is told in the place of a good end and of the error that would be told after it. More lines than 512
-/// go out in several writes, of which the second may fail.
+/// Before each read there is a flush, and all replies go out. A write or a flush that fails is told in the
+/// place of a good end and of the error that would be told after it. A read has at most 4096 bytes, so 273
+/// of these byes, whose replies go out in one write.
 const ROWS: &[Row] = &[
     ("", 1, 1, 2, None, "", 1),
     (FIRST_LOOK, 1, 1, 2, None, FIRST_LOOK_REPLIES, 1),
@@ -60,7 +60,7 @@ const ROWS: &[Row] = &[
     (FIRST_LOOK, 1, 1, 0, Some(Fault::Write), "", 1),
     (FIRST_LOOK, 1, 1, 1, Some(Fault::Write), FIRST_LOOK_REPLIES, 1),
     (BAD_SECOND_LINE, 1, 1, 1, Some(Fault::Write), LEFT, 1),
-    (BYE, 1000, 1, 100, Some(Fault::Write), LEFT, 512),
+    (BYE, 1000, 1, 100, Some(Fault::Write), LEFT, 273),
     (BYE, 1000, 100, 100, None, LEFT, 1000),
 ];
 
