@@ -170,7 +170,7 @@ def writes(words: list[str], given: bytes) -> list[bytes]:
     ours, theirs = socket.socketpair(socket.AF_UNIX, socket.SOCK_SEQPACKET)
     with ours, theirs:
         ours.settimeout(LIMIT)
-        script = subprocess.Popen([PROGRAM, *words], stdin=subprocess.PIPE, stdout=theirs)
+        script = subprocess.Popen([PROGRAM, *words], stdin=subprocess.PIPE, stdout=theirs, stderr=subprocess.DEVNULL)
         theirs.close()
         assert script.stdin is not None
         script.stdin.write(given)
