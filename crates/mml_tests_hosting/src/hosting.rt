@@ -150,7 +150,10 @@ fn sessions_come_one_after_another(rt: HostRuntime) -> Result<(), Fail> {
     };
     let is_journal = left.log.sink.bytes() == JOURNAL;
     let is_last = out.as_slice() == b"done: 2 events, configuration 1\n".as_slice();
-    assert_eq!(rt; (are_answered(&left, TALKS), is_journal, is_last), (true, true, true));
+    assert_eq!(rt;
+        (are_answered(&left, TALKS), is_journal, is_last),
+        (true, true, true)
+    );
     Ok(())
 }
 

@@ -123,6 +123,9 @@ fn what_is_no_journal_is_refused(rt: HostRuntime) -> Result<(), Fail> {
     let long = resume(&rt, rt.alloc(), 1, NEW, &mut out)?.err();
     let wanted = ResumeFault::Refused(AuditFault::Illegal(1, Denial::Empty));
     assert_eq!(rt; (empty, out.is_empty()), (Some(wanted), true));
-    assert_eq!(rt; (long, out.is_empty()), (Some(ResumeFault::Refused(AuditFault::Full(2))), true));
+    assert_eq!(rt;
+        (long, out.is_empty()),
+        (Some(ResumeFault::Refused(AuditFault::Full(2))), true)
+    );
     Ok(())
 }

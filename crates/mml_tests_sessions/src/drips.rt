@@ -89,7 +89,7 @@ fn first_byte_told_otherwise<R: Wait>(rt: &R, alloc: Global) -> Result<Option<us
 }
 
 #[test]
-fn each_byte_of_a_journal_may_be_the_last(rt: HostRuntime) -> Result<(), Fail> {
+fn each_byte_of_a_house_may_be_the_last(rt: HostRuntime) -> Result<(), Fail> {
     assert_eq!(rt; first_byte_told_otherwise(&rt, rt.alloc())?, None);
     Ok(())
 }

@@ -73,9 +73,18 @@ fn are_answered<S: Drop>(house: &ServedHouse<S, &[u8], Vec<u8>>, replies: &[&str
 type Outcome = (&'static [&'static str], &'static str, &'static str);
 
 /// Scripts, where they are held and how many steps each takes, and what may come of them.
-type Race = (&'static [&'static str], Holds<'static>, u64, &'static [Outcome]);
+type Race = (
+    &'static [&'static str],
+    Holds<'static>,
+    u64,
+    &'static [Outcome],
+);
 
-fn is_outcome(house: &ServedHouse<MemorySink, &[u8], Vec<u8>>, out: &[u8], wanted: &Outcome) -> bool {
+fn is_outcome(
+    house: &ServedHouse<MemorySink, &[u8], Vec<u8>>,
+    out: &[u8],
+    wanted: &Outcome,
+) -> bool {
     let (replies, journal, last) = wanted;
     house.log.sink.bytes() == journal.as_bytes()
         && out == last.as_bytes()
@@ -92,7 +101,9 @@ fn is_run<R: Threads + Wait + Sync>(rt: &R, alloc: Global, race: &Race) -> Resul
     let Ok(house) = serve(rt, alloc, sink, scripts, connections, &gate, &mut out)? else {
         return Ok(false);
     };
-    let is_one = outcomes.iter().any(|wanted| is_outcome(&house, &out, wanted));
+    let is_one = outcomes
+        .iter()
+        .any(|wanted| is_outcome(&house, &out, wanted));
     Ok(is_one && gate.were_kept(*steps))
 }
 
@@ -238,8 +249,16 @@ const RACES: &[Race] = &[
         Holds::Each(AFTER_A_MOVE),
         6,
         &[
-            (&[ANA_GRANTED, TESS_CLOSED, TESS_DENIED], CLOSE_JOURNAL, ONE_CLOSED),
-            (&[ANA_GRANTED, TESS_DENIED, TESS_CLOSED], CLOSE_JOURNAL, ONE_CLOSED),
+            (
+                &[ANA_GRANTED, TESS_CLOSED, TESS_DENIED],
+                CLOSE_JOURNAL,
+                ONE_CLOSED,
+            ),
+            (
+                &[ANA_GRANTED, TESS_DENIED, TESS_CLOSED],
+                CLOSE_JOURNAL,
+                ONE_CLOSED,
+            ),
         ],
     ),
     // A close that is held until a move was answered applies it, though its line came first.
@@ -280,13 +299,24 @@ fn told_of_arrivals<R: Threads + Wait + Sync>(rt: &R, alloc: Global) -> Result<(
     let mut out = Vec::new(alloc);
     let sink = MemorySink::new(alloc, None);
     let bye = "{\"do\":\"bye\"}\n";
-    let two = serve(rt, alloc, sink, &[ANA_MOVES, bye, bye], 2, &NoGate, &mut out)?;
+    let two = serve(
+        rt,
+        alloc,
+        sink,
+        &[ANA_MOVES, bye, bye],
+        2,
+        &NoGate,
+        &mut out,
+    )?;
     let wanted: Outcome = (&[ANA_GRANTED, "{\"ok\":\"bye\"}\n"], ANA_JOURNAL, ONE_MOVED);
     let are_two = two.is_ok_and(|house| is_outcome(&house, &out, &wanted));
     let mut none = Vec::new(alloc);
     let sink = MemorySink::new(alloc, None);
     let one = serve(rt, alloc, sink, &[ANA_MOVES], 2, &NoGate, &mut none)?;
-    Ok((are_two, matches!(one, Err(ServeFault::Accept)) && none.is_empty()))
+    Ok((
+        are_two,
+        matches!(one, Err(ServeFault::Accept)) && none.is_empty(),
+    ))
 }
 
 #[test]

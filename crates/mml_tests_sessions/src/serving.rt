@@ -98,7 +98,12 @@ fn told_of_two<
     let address = listener.local_addr()?;
     let first = client(rt, address, MOVE)?;
     let second = client(rt, address, STEP)?;
-    let is_served = is_served(rt, rt.alloc(), listener, "done: 2 events, configuration 1\n")?;
+    let is_served = is_served(
+        rt,
+        rt.alloc(),
+        listener,
+        "done: 2 events, configuration 1\n",
+    )?;
     let is_granted = is_answered(rt.alloc(), first, GRANTED)?;
     let is_closed = is_answered(rt.alloc(), second, STEP_REPLIES)?;
     Ok((is_served, is_granted, is_closed))

@@ -109,10 +109,12 @@ fn is_told<R: Wait>(rt: &R, alloc: Global, row: &Row) -> Result<bool, Fail> {
     let line = bye(alloc, *spaces, after)?;
     let reader = FakeReader::failing_after(usize::MAX, line.as_slice());
     let (served, is_ended) = serve(rt, alloc, reader, FakeWriter::patient(alloc))?;
-    Ok(is_ended
-        && served.end == *end
-        && served.writer.taken.as_slice() == written.as_bytes()
-        && (served.reader.reads, served.reader.rest.len()) == (*reads, *rest))
+    Ok(
+        is_ended
+            && served.end == *end
+            && served.writer.taken.as_slice() == written.as_bytes()
+            && (served.reader.reads, served.reader.rest.len()) == (*reads, *rest),
+    )
 }
 
 /// The first row of these that ends otherwise.
@@ -150,10 +152,12 @@ fn tells_a_write<R: Wait>(rt: &R, alloc: Global, good: usize) -> Result<bool, Fa
     } else {
         SessionEnd::WriteFault
     };
-    Ok(is_ended
-        && served.end == wanted
-        && served.writer.taken.as_slice() == out
-        && served.is_closed == (good >= ANA_WELCOME.len()))
+    Ok(
+        is_ended
+            && served.end == wanted
+            && served.writer.taken.as_slice() == out
+            && served.is_closed == (good >= ANA_WELCOME.len()),
+    )
 }
 
 /// The first number of good writes after which something else is told.
@@ -188,10 +192,12 @@ fn answered(good: usize) -> &'static str {
 fn tells_a_read<R: Wait>(rt: &R, alloc: Global, good: usize) -> Result<bool, Fail> {
     let reader = FakeReader::failing_after(good, ANA_MOVES.as_bytes());
     let (served, is_ended) = serve(rt, alloc, reader, FakeWriter::patient(alloc))?;
-    Ok(is_ended
-        && served.end == SessionEnd::ReadFault
-        && served.writer.taken.as_slice() == answered(good).as_bytes()
-        && served.is_closed == (good == ANA_MOVES.len()))
+    Ok(
+        is_ended
+            && served.end == SessionEnd::ReadFault
+            && served.writer.taken.as_slice() == answered(good).as_bytes()
+            && served.is_closed == (good == ANA_MOVES.len()),
+    )
 }
 
 /// The first number of good reads after which something else is told.

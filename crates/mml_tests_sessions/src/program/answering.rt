@@ -9,7 +9,12 @@ use std::alloc::Global;
 use std::test::Fail;
 
 /// Whether a call that ended so has told it, and what it wrote is that.
-fn is_told(ended: Result<(), Fault>, writer: &FakeWriter, wanted: Option<Fault>, out: &[u8]) -> bool {
+fn is_told(
+    ended: Result<(), Fault>,
+    writer: &FakeWriter,
+    wanted: Option<Fault>,
+    out: &[u8],
+) -> bool {
     ended.err() == wanted && writer.taken.as_slice() == out
 }
 
@@ -47,7 +52,15 @@ const BAD_SECOND_LINE: &str = "1 {\"do\":\"bye\"}\n5 {\"do\":\"bye\"}\n";
 
 /// A script and how often it stands there, after how many writes and flushes its writer fails, what is told
 /// at the end, and what was written: a text, so many times.
-type Row = (&'static str, usize, usize, usize, Option<Fault>, &'static str, usize);
+type Row = (
+    &'static str,
+    usize,
+    usize,
+    usize,
+    Option<Fault>,
+    &'static str,
+    usize,
+);
 
 /// Before each read there is a flush, and all replies go out. A write or a flush that fails is told in the
 /// place of a good end and of the error that would be told after it. A read has at most 4096 bytes, so 273
@@ -58,7 +71,15 @@ const ROWS: &[Row] = &[
     (BAD_SECOND_LINE, 1, 1, 2, Some(Fault::BadLine(2)), LEFT, 1),
     (FIRST_LOOK, 1, 0, 2, Some(Fault::Write), "", 1),
     (FIRST_LOOK, 1, 1, 0, Some(Fault::Write), "", 1),
-    (FIRST_LOOK, 1, 1, 1, Some(Fault::Write), FIRST_LOOK_REPLIES, 1),
+    (
+        FIRST_LOOK,
+        1,
+        1,
+        1,
+        Some(Fault::Write),
+        FIRST_LOOK_REPLIES,
+        1,
+    ),
     (BAD_SECOND_LINE, 1, 1, 1, Some(Fault::Write), LEFT, 1),
     (BYE, 1000, 1, 100, Some(Fault::Write), LEFT, 273),
     (BYE, 1000, 100, 100, None, LEFT, 1000),

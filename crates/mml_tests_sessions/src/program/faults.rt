@@ -13,7 +13,11 @@ fn is_told(alloc: Global, fault: &Fault, wanted: &str) -> Result<bool, AllocErro
 
 #[test]
 fn faults_that_are_not_met_have_lines(rt: HostRuntime) -> Result<(), Fail> {
-    let astray = is_told(rt.alloc(), &Fault::Astray, "4 serve: the tally does not fit")?;
+    let astray = is_told(
+        rt.alloc(),
+        &Fault::Astray,
+        "4 serve: the tally does not fit",
+    )?;
     let place = is_told(rt.alloc(), &Fault::Place, "5 serve: no place for a window")?;
     let lab = Fault::from(LabFault::Memory) == Fault::Memory;
     let id = Fault::from(LabFault::Id(IdFault::Memory)) == Fault::Memory;

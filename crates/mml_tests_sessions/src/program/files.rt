@@ -70,6 +70,9 @@ fn files_are_read_and_journals_begun(rt: HostRuntime) -> Result<(), Fail> {
 #[test]
 fn a_path_with_a_null_is_not_read(rt: HostRuntime) {
     let lab = is_read(read_file(&rt, "a\0b", Fault::ReadLab), Err(Fault::ReadLab));
-    let script = is_read(read_file(&rt, "a\0b", Fault::ReadScript), Err(Fault::ReadScript));
+    let script = is_read(
+        read_file(&rt, "a\0b", Fault::ReadScript),
+        Err(Fault::ReadScript),
+    );
     assert_eq!(rt; (lab, script), (true, true));
 }

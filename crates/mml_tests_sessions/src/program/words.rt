@@ -17,7 +17,10 @@ fn given(alloc: Global, line: &str) -> Result<Vec<String>, Fail> {
 const FORMS: &[(&str, &str)] = &[
     ("mml", "BuiltIn"),
     ("mml check a", "Check { lab: \"a\" }"),
-    ("mml check some/lab.toml", "Check { lab: \"some/lab.toml\" }"),
+    (
+        "mml check some/lab.toml",
+        "Check { lab: \"some/lab.toml\" }",
+    ),
     ("mml check check", "Check { lab: \"check\" }"),
     ("mml check help", "Check { lab: \"help\" }"),
     ("mml check ", "Check { lab: \"\" }"),
