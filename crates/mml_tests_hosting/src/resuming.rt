@@ -1,7 +1,7 @@
 ghost use Rattle.std.specs.Prelude.{◌≡◌, ◌<◌, ◌-◌, ◌^◌, IfSome};
 
 use crate::texts::{Count, Kept, Texts, Timed, lab_of, sent_to};
-use mml_hall::AuditFault;
+use mml_audit::AuditFault;
 use mml_hosting::{Hosted, ServedSession};
 use mml_journal::{MemorySink, Sink};
 use mml_policy::Denial;

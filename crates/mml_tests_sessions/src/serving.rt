@@ -1,10 +1,10 @@
 //! Connections over sockets of this machine, numbered as they come: only a gate sees their numbers.
 //! Clients connect and send before the server accepts: the system holds what they sent, and what they are
 //! answered.
+use mml_fakes::labs::PATH_OF_THREE;
 use mml_fakes::meeting::wait_for;
 use mml_journal::MemorySink;
 use mml_lab::read_lab;
-use mml_program::BUILT_IN;
 use mml_serving::serve_on;
 use mml_session::{Gate, Point};
 use std::alloc::Global;
@@ -46,7 +46,7 @@ fn client<R: Net<Listener = TcpListener, Stream = TcpStream>>(
     Ok(stream)
 }
 
-/// Serves two connections of a listener over the built-in lab, and tells whether that went well and it
+/// Serves two connections of a listener over the path of three, and tells whether that went well and it
 /// wrote this of itself.
 fn is_served<R: Threads + Wait + Sync>(
     rt: &R,
@@ -54,7 +54,7 @@ fn is_served<R: Threads + Wait + Sync>(
     listener: TcpListener,
     last: &str,
 ) -> Result<bool, Fail> {
-    let lab = read_lab(alloc, BUILT_IN.as_bytes())?;
+    let lab = read_lab(alloc, PATH_OF_THREE.as_bytes())?;
     if lab.sessions() < 2 {
         return Ok(false);
     }
