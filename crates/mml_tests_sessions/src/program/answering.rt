@@ -5,6 +5,7 @@ use mml_fakes::scripts::{FIRST_LOOK, FIRST_LOOK_REPLIES, TEN_LINES};
 use mml_journal::NullSink;
 use mml_lab::{Lab, read_lab};
 use mml_program::{BUILT_IN, Fault, answer_script, write_audit, write_size};
+use mml_serving::write_listening;
 use std::alloc::Global;
 use std::test::Fail;
 
@@ -22,6 +23,14 @@ const SIZE: &[u8] = b"ok: 3 nodes, 2 links, 3 students\n";
 
 const AUDITED: &[u8] = b"ok: 10 events, configuration 4, stable\n";
 
+const LISTENING: &[u8] = b"listening on port 7000\n";
+
+/// Whether a server's first line goes out in one write.
+fn is_listening_told(alloc: Global) -> bool {
+    let mut first = FakeWriter::failing_after(1, alloc);
+    write_listening(alloc, 7000, &mut first) == Ok(()) && first.taken.as_slice() == LISTENING
+}
+
 /// Whether the lines of a lab and of a journal each go out in one write, and a write that fails is told.
 fn are_lines_told(alloc: Global, lab: &Lab) -> bool {
     let mut size = FakeWriter::failing_after(1, alloc);
@@ -38,7 +47,7 @@ fn are_lines_told(alloc: Global, lab: &Lab) -> bool {
 #[test]
 fn lines_go_out_in_one_write(rt: HostRuntime) -> Result<(), Fail> {
     let lab = read_lab(rt.alloc(), BUILT_IN.as_bytes())?;
-    let are_told = are_lines_told(rt.alloc(), &lab);
+    let are_told = is_listening_told(rt.alloc()) && are_lines_told(rt.alloc(), &lab);
     let is_path = PATH_OF_THREE.strip_prefix('\n') == Some(BUILT_IN);
     assert_eq!(rt; (are_told, is_path), (true, true));
     Ok(())
