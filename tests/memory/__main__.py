@@ -58,9 +58,9 @@ def told_of(story: Story, ended: Ended) -> tuple[str, list[bytes]]:
     return story.expects(replies, frozenset()), replies
 
 
-def scripted(story: Story, room: Path, with_words: bool) -> Use:
-    """A script, by standard input or from a file and with a journal."""
-    script, journal = room / "refused.script", room / "refused.journal"
+def scripted(story: Story, room: Path, name: str) -> Use:
+    """A script, by standard input where it has no name, or from a file and with a journal."""
+    script, journal, with_words = room / f"{name}.script", room / f"{name}.journal", bool(name)
     script.write_bytes(story.script())
     words = ["script", str(story.lab), str(script), str(journal)] if with_words else []
     given = b"" if with_words else story.script()
@@ -170,13 +170,14 @@ def work(room: Path) -> str:
     library = Preloaded("memory/refuse.c", room, "REFUSE_COUNTS")
     lab = built_in(room)
     lines = (TOP / "examples/whole-run.script").read_bytes().splitlines(keepends=True)
-    story = Story(lab, b"".join(line + line for line in lines), room)
+    story, once = Story(lab, b"".join(line + line for line in lines), room), Story(lab, b"".join(lines), room)
     two = [line for line in lines if line[:1] in b"14"]
     pair = Story(lab, b"".join(line.replace(b"4 ", b"2 ", 1) * 2 for line in two), room)
     uses = {
-        "no words": scripted(story, room, False),
+        "no words": scripted(story, room, ""),
         "check": whole(["check", str(lab)]),
-        "script": scripted(story, room, True),
+        "script": scripted(story, room, "twice"),
+        "script, each line once": scripted(once, room, "once"),
         "audit": whole(["audit", str(lab), str(TOP / "examples/whole-run.journal")]),
         "serve": served(pair, room),
     }
