@@ -41,9 +41,9 @@ def module(name: str, *words: str) -> tuple[str, ...]:
     return ("python3", "-B", "-m", f"tests.{name}", *words)
 
 
-def cases(name: str, python: str = "python3") -> tuple[str, ...]:
-    """The call of a module of test cases."""
-    return (python, "-B", "-m", "unittest", "-v", f"tests.{name}")
+def cases(*names: str, python: str = "python3") -> tuple[str, ...]:
+    """The call of modules of test cases."""
+    return (python, "-B", "-m", "unittest", "-v", *(f"tests.{name}" for name in names))
 
 
 BUILT = ("programs",)
@@ -57,7 +57,7 @@ def classroom() -> Iterator[Part]:
         text = it.read_text(encoding="utf-8")
         needs = (*BUILT, "browser") if "tests.classroom.browser" in text else BUILT
         likes = ("java",) if '"java"' in text else ()
-        yield Part(it.stem.replace("test_", "class-"), cases(f"classroom.{it.stem}", "/usr/bin/python3"), 0.2, 0.3, 1, needs, likes)
+        yield Part(it.stem.replace("test_", "class-"), cases(f"classroom.{it.stem}", python="/usr/bin/python3"), 0.2, 0.3, 1, needs, likes)
 
 
 # What needs no proof. The first that fits is begun first, so that the long ones stand before the short ones.
@@ -70,7 +70,7 @@ QUICK = [
     Part("journals", ("bash", "tests/journals/run"), 0.2, 0.3, 1, BUILT),
     Part("large", module("program.large"), 0.2, 0.3, 1, BUILT),
     *classroom(),
-    Part("check", cases("check.test_check"), 0.2, 0.5, 1),
+    Part("check", cases("check.test_check", "check.test_pieces"), 0.2, 0.5, 1),
     Part("documents", module("documents"), 0.1, 0.1, 1),
     Part("kit", module("check.kit"), 0.1, 0.1, 1, ("rt",)),
     Part("host", module("host"), 0.5, 0.8, ALL, BUILT),
