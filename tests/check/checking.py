@@ -6,7 +6,6 @@ import shutil
 import signal
 import tempfile
 from pathlib import Path
-from types import FrameType
 
 from tests.check.measure import figures
 from tests.check.needs import install, missing, told
@@ -14,17 +13,9 @@ from tests.check.parts import PROOFS, TOP, Part, minutes
 from tests.check.processes import adopt_orphans
 from tests.check.results import not_tried, result
 from tests.check.running import Crew, Done
+from tests.check.signals import HEED, Killed
 
-SIGNALS = (signal.SIGINT, signal.SIGTERM, signal.SIGHUP)
 Stages = list[list[Part]]
-
-
-class Killed(Exception):
-    """A signal that ends the whole."""
-
-    def __init__(self, number: int) -> None:
-        super().__init__(number)
-        self.number = number
 
 
 def is_gate() -> bool:
@@ -110,18 +101,6 @@ def forget_records() -> None:
         record.unlink()
 
 
-def kill(number: int, _: FrameType | None) -> None:
-    """What a signal does."""
-    raise Killed(number)
-
-
-def heed(handler: signal.Handlers | object) -> None:
-    """Sets what the signals do that end a check, but for those that whoever called it has it ignore."""
-    for number in SIGNALS:
-        if signal.getsignal(number) is not signal.SIG_IGN:
-            signal.signal(number, handler)  # type: ignore[arg-type]
-
-
 def check(stages: Stages, left_out: list[str]) -> int:
     """Runs the stages in a folder of their own, and leaves no process and no file however that ends."""
     processors = len(os.sched_getaffinity(0))
@@ -129,19 +108,19 @@ def check(stages: Stages, left_out: list[str]) -> int:
     room = Path(tempfile.mkdtemp(prefix="check-"))
     crew, count = Crew(room, processors), Count(left_out)
     try:
-        heed(kill)
+        HEED.begin()
         room.chmod(0o711)  # `rt ci` runs programs as nobody, in folders below.
         begin(stages, processors)
         run(stages, crew, count)
         return count.close(crew)
     except Killed as killed:
-        heed(signal.SIG_IGN)
+        HEED.end()
         unfinished = crew.end()
         tell(f"check: ended by {signal.Signals(killed.number).name}, in {', '.join(unfinished) or 'its beginning'}")
         count.failed += max(1, len(unfinished))
         count.close(crew)
         return 128 + killed.number
     finally:
-        heed(signal.SIG_IGN)
+        HEED.end()
         crew.end()
         shutil.rmtree(room, ignore_errors=True)

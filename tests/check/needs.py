@@ -56,6 +56,11 @@ def is_built() -> bool:
     )
 
 
+def has_tests() -> bool:
+    """Whether there is a program of a crate's tests."""
+    return any(TOP.glob("crates/*/out/*_tests"))
+
+
 def can_be_fetched() -> bool:
     """Whether the package that is never installed is here, or can be had."""
     return is_installed(NEVER_INSTALLED) or apt("--print-uris", "install", NEVER_INSTALLED)
@@ -66,6 +71,9 @@ RELEASE = ("python3", "stunnel4", "openssl", "openssh-client", "systemd")
 NEEDS = {
     "rt": Need("the command rt of the Rattle toolchain on the path (README.md)", on_path("rt")),
     "programs": Need("both programs, built from these sources: ./mml build", is_built, is_a_must=True),
+    "tests": Need("the tests inside the crates, as ./check proofs leaves them", has_tests),
+    "git": Need("the command git", on_path("git"), ("git",)),
+    "python3": Need("Debian's own Python", on_path("/usr/bin/python3"), ("python3",)),
     "browser": Need("a browser with its driver", installed(*BROWSER), BROWSER),
     "java": Need("the command java", on_path("java"), ("default-jdk-headless",)),
     "release": Need("what a release is tried with", installed(*RELEASE), RELEASE),

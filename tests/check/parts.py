@@ -55,23 +55,24 @@ def classroom() -> Iterator[Part]:
     """The modules of tests/classroom, each with servers, and some with a browser, of its own."""
     for it in sorted((TOP / "tests/classroom").glob("test_*.py")):
         text = it.read_text(encoding="utf-8")
-        needs = (*BUILT, "browser") if "tests.classroom.browser" in text else BUILT
+        needs = (*BUILT, "python3", *["browser"] * ("tests.classroom.browser" in text))
         likes = ("java",) if '"java"' in text else ()
         yield Part(it.stem.replace("test_", "class-"), cases(f"classroom.{it.stem}", python="/usr/bin/python3"), 0.2, 0.3, 1, needs, likes)
 
 
 # What needs no proof. The first that fits is begun first, so that the long ones stand before the short ones.
 QUICK = [
-    Part("release", ("bash", "tests/release/run"), 1.0, 1.0, 1, (*BUILT, "root", "release", "openssh-server")),
+    Part("release", ("bash", "tests/release/run"), 1.0, 1.0, 1, (*BUILT, "root", "release", "openssh-server", "git")),
     Part("program", ("bash", "tests/program/run"), 0.5, 1.0, 1, BUILT),
     Part("launchers", ("bash", "tests/program/launchers"), 0.5, 1.0, 1, (*BUILT, "rt")),
-    Part("memory", module("memory"), 0.5, 1.0, 1, (*BUILT, "rt")),
+    Part("memory", module("memory", "uses"), 0.5, 1.0, 1, (*BUILT, "rt")),
+    Part("refusals", module("memory", "tests"), 0.5, 1.0, 1, ("tests", "rt")),
     Part("faults", module("faults"), 0.5, 1.0, 1, (*BUILT, "rt")),
     Part("journals", ("bash", "tests/journals/run"), 0.2, 0.3, 1, BUILT),
     Part("large", module("program.large"), 0.2, 0.3, 1, BUILT),
     *classroom(),
     Part("check", cases("check.test_check", "check.test_pieces"), 0.2, 0.5, 1),
-    Part("documents", module("documents"), 0.1, 0.1, 1),
+    Part("documents", module("documents"), 0.1, 0.1, 1, ("git",)),
     Part("kit", module("check.kit"), 0.1, 0.1, 1, ("rt",)),
     Part("host", module("host"), 0.5, 0.8, ALL, BUILT),
     Part("hostile", module("hostile"), 0.5, 1.2, ALL, BUILT),

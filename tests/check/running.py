@@ -12,6 +12,7 @@ from pathlib import Path
 from tests.check.measure import Checks
 from tests.check.parts import TOP, Part
 from tests.check.processes import end_all
+from tests.check.signals import HEED
 
 POLL = 0.1
 PATIENCE = 8.0  # seconds that parts have to clear up where they are ended
@@ -72,12 +73,12 @@ class Crew:
         folder.mkdir(mode=0o711)
         output = self.room / f"{self.begun}.output"
         more = {"TMPDIR": str(folder), "PYTHONDONTWRITEBYTECODE": "1"}
-        with output.open("wb") as it:
+        with output.open("wb") as it, HEED.held():
             process = subprocess.Popen(
                 part.command, cwd=TOP, stdin=subprocess.DEVNULL, stdout=it, stderr=subprocess.STDOUT,
                 env={**os.environ, **more}, start_new_session=True,
             )
-        self.running[process.pid] = Running(part, process, output)
+            self.running[process.pid] = Running(part, process, output)
 
     def ended(self) -> Iterator[Done]:
         """The parts that have ended; processes that they left and that end are taken leave of."""
