@@ -29,6 +29,8 @@ RUN_BY = {("docs/OPERATE.md", "sh"): "tests/pages/operate", ("docs/STUDENT.md", 
 RUN_BEFORE = {
     "tar ": ("tests/release/run", "tar -xzf $release.tar.gz"),
     "./try": ("tests/program/launchers", '"$work/try") < examples/first-look.script'),
+    "./mml build": ("tests/program/launchers", '"both" build'),
+    "./check": ("tests/check/test_check.py", 'self.check("quick")'),
 }
 MARKS = ("sh not run", "text")
 MOST_WORDS = 20_000
@@ -175,7 +177,8 @@ def is_run(page, mark, lines, texts, data):
 
 def unrun_blocks(page, files):
     """The first lines of a page's blocks that no test runs and that aren't marked."""
-    texts = {path: (TOP / path).read_text(encoding="utf-8") for path in ("tests/pages/pages", "tests/pages/operate", "tests/program/launchers", "tests/release/run")}
+    run = {*RUN_BY.values(), *(path for path, _ in RUN_BEFORE.values()), "tests/pages/pages"}
+    texts = {path: (TOP / path).read_text(encoding="utf-8") for path in run}
     examples = [path for path in files if path.startswith("examples/")]
     data = {line for path in examples for line in (TOP / path).read_text(encoding="utf-8").splitlines()}
     return [lines[0] for mark, lines in blocks_of(page) if not is_run(page, mark, lines, texts, data)]
