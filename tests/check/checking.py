@@ -76,10 +76,10 @@ class Count:
 def begin(stages: Stages, processors: int) -> None:
     """Gets what is missing, where nothing may be left out; tells how long it will take."""
     if is_gate():
-        install(missing([part for stage in stages for part in stage]))
+        install([part for stage in stages for part in stage])
     takes = [(stage[0].name if len(stage) == 1 else "scripts", minutes(stage, processors)) for stage in stages]
-    each = ", ".join(f"{name} {it:.0f}" for name, it in takes)
-    tell(f"check: some {sum(it for _, it in takes) + 0.5:.0f} minutes on {processors} processors ({each})")
+    each = ", ".join(f"{name} {it:.1f}" for name, it in takes)
+    tell(f"check: some {max(1, round(sum(it for _, it in takes)))} minutes on {processors} processors ({each})")
 
 
 def run(stages: Stages, crew: Crew, count: Count) -> None:

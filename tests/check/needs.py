@@ -10,6 +10,7 @@ import subprocess
 import sys
 from collections.abc import Callable
 from dataclasses import dataclass
+from functools import cache
 from pathlib import Path
 
 from tests.check.parts import TOP, Part
@@ -47,13 +48,16 @@ def installed(*packages: str) -> Callable[[], bool]:
     return lambda: all(map(is_installed, packages))
 
 
+@cache
 def is_built() -> bool:
-    """Whether both programs are built from these sources, or the environment names others."""
-    words = {"MML_PROGRAM": (), "MML_HOST": ("host",)}
-    return all(
-        os.environ.get(name) or subprocess.run([TOP / "mml", *more, "--built"], capture_output=True, check=False).returncode == 0
-        for name, more in words.items()
-    )
+    """Whether both programs are built from these sources."""
+    calls = (("./mml", "--built"), ("./mml", "host", "--built"))
+    return all(subprocess.run(it, cwd=TOP, capture_output=True, check=False).returncode == 0 for it in calls)
+
+
+def is_built_or_named() -> bool:
+    """The same, or whether the environment names others."""
+    return bool(os.environ.get("MML_PROGRAM") and os.environ.get("MML_HOST")) or is_built()
 
 
 def has_tests() -> bool:
@@ -70,7 +74,8 @@ BROWSER = ("chromium", "chromium-driver", "python3-selenium")
 RELEASE = ("python3", "stunnel4", "openssl", "openssh-client", "systemd")
 NEEDS = {
     "rt": Need("the command rt of the Rattle toolchain on the path (README.md)", on_path("rt")),
-    "programs": Need("both programs, built from these sources: ./mml build", is_built, is_a_must=True),
+    "programs": Need("both programs, built from these sources: ./mml build", is_built_or_named, is_a_must=True),
+    "built": Need("both programs in their places, built from these sources: ./mml build", is_built, is_a_must=True),
     "tests": Need("the tests inside the crates, as ./check proofs leaves them", has_tests),
     "git": Need("the command git", on_path("git"), ("git",)),
     "python3": Need("Debian's own Python", on_path("/usr/bin/python3"), ("python3",)),
@@ -92,6 +97,7 @@ def apt(*words: str) -> bool:
 
 def missing(parts: list[Part]) -> dict[str, Need]:
     """What these parts need or like and isn't there, by its name."""
+    is_built.cache_clear()
     names = dict.fromkeys(name for part in parts for name in (*part.needs, *part.likes))
     return {name: NEEDS[name] for name in names if not NEEDS[name].is_there()}
 
@@ -102,9 +108,10 @@ def told(need: Need) -> str:
     return f"{need.what} (Debian's {' '.join(lacking)})" if lacking else need.what
 
 
-def install(needs: dict[str, Need]) -> None:
-    """Installs the packages of these needs, where that can be done."""
-    packages = {it for need in needs.values() for it in need.packages if not is_installed(it)}
+def install(parts: list[Part]) -> None:
+    """Installs the packages that these parts need or like, where that can be done."""
+    needs = [NEEDS[name] for part in parts for name in (*part.needs, *part.likes) if NEEDS[name].packages]
+    packages = {it for need in needs if not need.is_there() for it in need.packages if not is_installed(it)}
     if packages and os.geteuid() == 0 and apt("update"):
         apt("install", *sorted(packages - {NEVER_INSTALLED}))
 

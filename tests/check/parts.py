@@ -51,32 +51,38 @@ PROOFS = Part("proofs", ("rt", "ci"), 110, 10, ALL, ("rt",), shows=r"^rt: ")
 WRONG = Part("wrong", module("wrong"), 70, 5, ALL, ("rt",), shows=r"")
 
 
+# Processor minutes of those modules that take more than a few seconds.
+CLASSROOM = {"class-large": 1.0, "class-check": 0.8, "class-new": 0.5, "class-mark": 0.4}
+
+
 def classroom() -> Iterator[Part]:
     """The modules of tests/classroom, each with servers, and some with a browser, of its own."""
     for it in sorted((TOP / "tests/classroom").glob("test_*.py")):
         text = it.read_text(encoding="utf-8")
         needs = (*BUILT, "python3", *["browser"] * ("tests.classroom.browser" in text))
         likes = ("java",) if '"java"' in text else ()
-        yield Part(it.stem.replace("test_", "class-"), cases(f"classroom.{it.stem}", python="/usr/bin/python3"), 0.2, 0.3, 1, needs, likes)
+        name = it.stem.replace("test_", "class-")
+        work = CLASSROOM.get(name, 0.2)
+        yield Part(name, cases(f"classroom.{it.stem}", python="/usr/bin/python3"), work, max(work, 0.4), 1, needs, likes)
 
 
 # What needs no proof. The first that fits is begun first, so that the long ones stand before the short ones.
 QUICK = [
-    Part("release", ("bash", "tests/release/run"), 1.0, 1.0, 1, (*BUILT, "root", "release", "openssh-server", "git")),
-    Part("program", ("bash", "tests/program/run"), 0.5, 1.0, 1, BUILT),
-    Part("launchers", ("bash", "tests/program/launchers"), 0.5, 1.0, 1, (*BUILT, "rt")),
-    Part("memory", module("memory", "uses"), 0.5, 1.0, 1, (*BUILT, "rt")),
-    Part("refusals", module("memory", "tests"), 0.5, 1.0, 1, ("tests", "rt")),
-    Part("faults", module("faults"), 0.5, 1.0, 1, (*BUILT, "rt")),
-    Part("journals", ("bash", "tests/journals/run"), 0.2, 0.3, 1, BUILT),
-    Part("large", module("program.large"), 0.2, 0.3, 1, BUILT),
+    Part("large", module("program.large"), 1.0, 1.0, 1, BUILT),
+    Part("hostile", module("hostile"), 0.2, 1.2, 2, BUILT),
+    Part("release", ("bash", "tests/release/run"), 0.7, 1.0, 1, ("built", "root", "release", "openssh-server", "git")),
     *classroom(),
-    Part("check", cases("check.test_check", "check.test_pieces"), 0.2, 0.5, 1),
+    Part("launchers", ("bash", "tests/program/launchers"), 0.7, 0.7, 1, ("built", "rt")),
+    Part("host", module("host"), 0.4, 0.8, 2, BUILT),
+    Part("hostile-host", module("hostile", "15", "host"), 0.2, 0.5, 2, BUILT),
+    Part("memory", module("memory", "uses"), 0.5, 0.6, 1, (*BUILT, "rt")),
+    Part("faults", module("faults"), 0.5, 0.6, 1, (*BUILT, "rt")),
+    Part("program", ("bash", "tests/program/run"), 0.4, 0.4, 1, BUILT),
+    Part("refusals", module("memory", "tests"), 0.3, 0.3, 1, ("tests", "rt")),
+    Part("check", cases("check.test_check", "check.test_pieces"), 0.2, 0.6, 1),
+    Part("journals", ("bash", "tests/journals/run"), 0.1, 0.2, 1, BUILT),
     Part("documents", module("documents"), 0.1, 0.1, 1, ("git",)),
     Part("kit", module("check.kit"), 0.1, 0.1, 1, ("rt",)),
-    Part("host", module("host"), 0.5, 0.8, ALL, BUILT),
-    Part("hostile", module("hostile"), 0.5, 1.2, ALL, BUILT),
-    Part("hostile-host", module("hostile", "15", "host"), 0.5, 0.7, ALL, BUILT),
 ]
 
 

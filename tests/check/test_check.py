@@ -52,7 +52,7 @@ class Words(InTree):
             done = self.check(program=program)
             lines = done.stdout.splitlines()
             self.assertEqual((done.returncode, done.stderr, lines[-1]), (0, "", "14 passed, 0 failed"))
-            self.assertRegex(lines[0], r"^check: some \d+ minutes on \d+ processors \(proofs \d+, scripts \d+, wrong \d+\)$")
+            self.assertRegex(lines[0], r"^check: some \d+ minutes on \d+ processors \(proofs [\d.]+, scripts [\d.]+, wrong [\d.]+\)$")
             told = [re.sub(r" +\d+ s ", "", line) for line in lines if line.startswith("ok ")]
             self.assertEqual([told[0], *sorted(told[1:3]), told[3]], [
                 "ok proofs: 5 passed, 0 failed", "ok one: 3 calls as wanted", "ok two: 2 documents", "ok wrong: 7 passed, 0 failed",
@@ -133,6 +133,12 @@ class Outcomes(InTree):
         done = self.check("quick")
         self.assertEqual((done.returncode, done.stdout.splitlines()[-1]), (1, "0 passed, 1 failed"))
 
+    def test_what_has_to_be_built(self) -> None:
+        self.stand_in(part("well", WELL), part("one", WELL, needs=("must",)), part("two", WELL, needs=("must",)))
+        done = self.check("quick")
+        self.assertEqual((done.returncode, done.stdout.splitlines()[-1]), (1, "1 passed, 2 failed"))
+        self.assertRegex(done.stdout, r"(?m)^FAILED one, two: needs what a check is of$")
+
     def test_what_a_part_leaves(self) -> None:
         """A process that a part leaves is ended with the check."""
         self.stand_in(part("well", 'setsid sleep 1000 > /dev/null 2>&1 & echo $! > "$ROOM/pid"; echo 1 call'))
@@ -179,8 +185,8 @@ class Ends(InTree):
     def test_two_at_once(self) -> None:
         self.stand_in(part("waits", WAITS))
         going = self.begun("quick")
-        for words in (["quick"], ["proofs"], []):
-            second = self.check_beside(*words)
+        for words in ("quick", "proofs", ""):
+            second = self.check_beside(*words.split())
             self.assertEqual((second.returncode, second.stdout), (3, ""))
             self.assertIn("another ./check runs in this tree", second.stderr)
         (self.room / "go").touch()

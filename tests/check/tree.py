@@ -3,7 +3,6 @@ from __future__ import annotations
 
 import os
 import shutil
-import signal
 import subprocess
 import tempfile
 import time
@@ -19,7 +18,10 @@ WRONG = Part("wrong", ("sh", "-c", {wrong!r}, "wrong"), 4, 1, ALL)
 QUICK = [Part(name, ("sh", "-c", line), 1, 0.5, width, needs, likes) for name, line, width, needs, likes in {quick!r}]
 '''
 # What nobody has, as a need.
-NEED = '\nNEEDS["nothing"] = Need("a thing that nobody has", lambda: False, ("no-such-package",))\n'
+NEED = '''
+NEEDS["nothing"] = Need("a thing that nobody has", lambda: False, ("no-such-package",))
+NEEDS["must"] = Need("what a check is of", lambda: False, is_a_must=True)
+'''
 WELL = "echo 3 calls as wanted"
 
 Quick = tuple[str, str, int, tuple[str, ...], tuple[str, ...]]
@@ -88,7 +90,7 @@ class InTree(unittest.TestCase):
             [self.tree / "check", *words], stdin=subprocess.DEVNULL, stdout=subprocess.PIPE, stderr=subprocess.STDOUT,
             text=True, env=self.environment(), start_new_session=True,
         )
-        self.addCleanup(lambda: going.poll() is None and os.killpg(going.pid, signal.SIGTERM))
+        self.addCleanup(ended, going)
         self.waits(lambda: (self.room / "begun").exists() or going.poll() is not None)
         if going.poll() is not None:
             self.fail(going.communicate()[0])
@@ -101,6 +103,13 @@ class InTree(unittest.TestCase):
         while not holds():
             self.assertLess(time.monotonic(), until)
             time.sleep(0.02)
+
+
+def ended(going: subprocess.Popen[str]) -> None:
+    """Ends a check where it goes on."""
+    if going.poll() is None:
+        going.terminate()
+        going.communicate(timeout=LIMIT)
 
 
 def is_there(pid: int) -> bool:
