@@ -6,7 +6,7 @@ from dataclasses import dataclass
 
 from tests.check.running import Done
 
-SUM = re.compile(r"(\d+) passed, (\d+) failed")
+SUM = re.compile(r"(\d+) passed, (\d+) failed(?: \(.*\))?")  # `rt ci` says of some crates that they aren't all.
 
 
 @dataclass(frozen=True)
@@ -39,7 +39,7 @@ def result(done: Done) -> Result:
     passed, failed = (int(counted[1]), int(counted[2])) if counted else (int(done.status == 0), 0)
     if done.status != 0:
         return Result(passed if counted else 0, max(failed, 1), line or f"status {done.status}")
-    if not re.search(r"(?<![\w.])[1-9]\d*(?![\w.]*\d)", line) or passed + failed == 0:
+    if not re.search(r"(?<![\w.])[1-9]\d*(?![\w.]*\d)", line):
         return Result(0, 1, f"no test ran: {line}")
     return Result(passed, failed, line)
 

@@ -25,7 +25,8 @@ class Results(unittest.TestCase):
     def test_results(self) -> None:
         for output, status, wanted in (
             ("12 calls\n", 0, (1, 0)), ("so\n40 passed, 0 failed\n\n", 0, (40, 0)), ("40 passed, 2 failed\n", 1, (40, 2)),
-            ("40 passed, 0 failed\n", 2, (40, 1)), ("40 passed, 2 failed\n", 0, (40, 2)), ("12 calls\n", -9, (0, 1)),
+            ("40 passed, 0 failed\n", 2, (40, 1)), ("19 passed, 0 failed (one alone: not the gate)\n", 0, (19, 0)),
+            ("0 passed, 0 failed\n", 0, (0, 1)), ("40 passed, 2 failed\n", 0, (40, 2)), ("12 calls\n", -9, (0, 1)),
             ("all\n", 0, (0, 1)), ("0 calls in 3.5 seconds\n", 0, (0, 1)), ("", 0, (0, 1)), ("", 1, (0, 1)),
             ("Ran 3 tests in 1.0s\n\nOK\n", 0, (1, 0)), ("Ran 3 tests in 1.0s\n\nOK (skipped=3)\n", 0, (0, 1)),
             ("Ran 3 tests in 1.0s\n\nOK (skipped=2)\n", 0, (1, 0)), ("Ran 3 tests in 1.0s\n\nFAILED (errors=1)\n", 1, (0, 1)),
