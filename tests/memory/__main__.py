@@ -1,6 +1,8 @@
 """Refuses the program each request for memory in turn, and each one from there on.
 
-    python3 -m tests.memory
+    python3 -m tests.memory           all of it
+    python3 -m tests.memory uses      the program alone
+    python3 -m tests.memory tests     the tests inside the crates alone
 
 Of each use, runs are made with the first, the second, .. request refused, until a run meets no refusal.
 Each ends with status 5, `out of memory` and nothing written; or it answers each line as a plain run without
@@ -9,6 +11,7 @@ twice in the script, so one that was refused is asked again, and answered plainl
 `refusals_..` are run under the same library, in the programs that `rt ci` leaves.
 """
 import subprocess
+import sys
 from collections.abc import Callable
 from dataclasses import dataclass
 from pathlib import Path
@@ -165,9 +168,8 @@ def refused_tests(library: Preloaded) -> str:
     return f"{count} tests under refusals"
 
 
-def work(room: Path) -> str:
-    """All uses."""
-    library = Preloaded("memory/refuse.c", room, "REFUSE_COUNTS")
+def refused_uses(library: Preloaded, room: Path) -> str:
+    """Refuses memory to all uses of the program."""
     lab = built_in(room)
     lines = (TOP / "examples/whole-run.script").read_bytes().splitlines(keepends=True)
     story, once = Story(lab, b"".join(line + line for line in lines), room), Story(lab, b"".join(lines), room)
@@ -181,8 +183,18 @@ def work(room: Path) -> str:
         "audit": whole(["audit", str(lab), str(TOP / "examples/whole-run.journal")]),
         "serve": served(pair, room),
     }
-    met = ", ".join(refuse_all(name, use, library) for name, use in uses.items())
-    return f"refusals met: {met}; {refused_tests(library)}"
+    return "refusals met: " + ", ".join(refuse_all(name, use, library) for name, use in uses.items())
+
+
+def work(room: Path) -> str:
+    """What the words ask for."""
+    library = Preloaded("memory/refuse.c", room, "REFUSE_COUNTS")
+    told = []
+    if sys.argv[1:] != ["tests"]:
+        told.append(refused_uses(library, room))
+    if sys.argv[1:] != ["uses"]:
+        told.append(refused_tests(library))
+    return "; ".join(told)
 
 
 if __name__ == "__main__":
