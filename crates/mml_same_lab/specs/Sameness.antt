@@ -1,10 +1,10 @@
 -- Two labs that agree in all that a journal names: its lines mean the same in both. Keys and limits may differ.
-use Rattle.std.specs.Prelude.{◌≡◌, ◌<◌, ℕ, length}
+use Rattle.std.specs.Prelude.{◌≡◌, ◌<◌, ℕ, List, length, Ok}
 use Rattle.std.specs.FinSet as set
 use Rattle.mml_rules.specs.Network.{neighbours_at, registers_at}
 use Rattle.mml_lab.specs.declared.who.Who.TheVariants as who
 use Rattle.mml_lab.specs.Rosters.{RosterValue, name_of, owns}
-use Rattle.mml_lab.specs.Labs.{LabValue}
+use Rattle.mml_lab.specs.Labs.{LabValue, lab_of}
 
 -- the node of that rank has the same links
 abbrev pub HasSameLinks : LabValue → LabValue → ℕ → Type 0
@@ -29,3 +29,7 @@ pub record IsSameLab (a b : LabValue) : Type 0 where
   pub ids : a.ids ≡ b.ids
   pub names : HasSameNames a.roster b.roster
   pub nodes : (i : ℕ) → i < length a.ids → IsSameNode a b i
+
+-- the bytes spell such a lab
+abbrev pub SpellsSame : LabValue → List ℕ → Type 0
+SpellsSame lab bytes = (other : LabValue) × (lab_of bytes ≡ Ok other) × IsSameLab lab other

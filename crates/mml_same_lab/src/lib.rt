@@ -3,4 +3,4 @@
 
 mod sameness;
 
-pub use sameness::is_same_lab;
+pub use sameness::{is_same_lab, spells_same_lab};

@@ -1,8 +1,20 @@
-ghost use Rattle.std.specs.Prelude.{◌≡◌, ◌↔◌, ◌<◌, IsTrue, length};
-ghost use Rattle.mml_same_lab.specs.Sameness.{HasSameLinks, HasSameOwners, HasSameNames, IsSameNode, IsSameLab};
+ghost use Rattle.std.specs.Prelude.{◌≡◌, ◌↔◌, ◌<◌, IsTrue, IfOk, length};
+ghost use Rattle.mml_same_lab.specs.Sameness.{HasSameLinks, HasSameOwners, HasSameNames, IsSameNode, IsSameLab, SpellsSame};
 
-use mml_ids::{IdTable, Rank};
-use mml_lab::{Lab, Roster, Student, Who};
+use mml_ids::{IdTable, Memory, Rank};
+use mml_lab::{Lab, LabFault, Roster, Student, Who, read_lab};
+use std::alloc::Global;
+
+/// Whether the bytes spell a lab with the same identifiers, names, links, registers and owners.
+pub fn spells_same_lab(alloc: Global, lab: &Lab, bytes: &[u8]) -> Result<bool, Memory>
+    ensures { IfOk result (λ same. IsTrue same ↔ SpellsSame lab.now bytes.now) }
+{
+    match read_lab(alloc, bytes) {
+        Ok(other) => Ok(is_same_lab(lab, &other)),
+        Err(LabFault::Memory) => Err(Memory),
+        Err(_) => Ok(false),
+    }
+}
 
 /// Whether the labs have the same identifiers, names, links, registers and owners.
 pub fn is_same_lab(a: &Lab, b: &Lab) -> bool
