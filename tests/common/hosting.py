@@ -59,11 +59,11 @@ class Host:
     """A host that listens, or has ended before. It doesn't outlive the block in which it is used."""
 
     def __init__(
-        self, *words: object, word: str = "host", descriptors: int = 0, variables: Optional[Mapping[str, str]] = None
+        self, *words: object, word: str = "host", before: Sequence[str] = (),
+        variables: Optional[Mapping[str, str]] = None,
     ) -> None:
-        """`descriptors` is how many files it may have open, where that is limited, `variables` what else its
-        environment has, and `word` whether a class begins or goes on."""
-        before = ["bash", "-c", f'ulimit -n {descriptors} && exec "$@"', "bash"] if descriptors else []
+        """`word` is whether a class begins or goes on, `before` what calls the program, and `variables` what else
+        its environment has."""
         self.process = subprocess.Popen(
             [*before, HOST, word, *map(str, words)], stdin=subprocess.DEVNULL, stdout=subprocess.PIPE,
             stderr=subprocess.PIPE, env={"PATH": "/usr/bin:/bin", **(variables or {})},

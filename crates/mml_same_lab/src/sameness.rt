@@ -20,7 +20,10 @@ pub fn spells_same_lab(alloc: Global, lab: &Lab, bytes: &[u8]) -> Result<bool, M
 pub fn is_same_lab(a: &Lab, b: &Lab) -> bool
     ensures { IsTrue result ↔ IsSameLab a.now b.now }
 {
-    if !has_same_ids(a.ids(), b.ids()) || !has_same_names(a.roster(), b.roster()) {
+    if !has_same_ids(a.ids(), b.ids()) {
+        return false;
+    }
+    if !has_same_names(a.roster(), b.roster()) {
         return false;
     }
     for index in 0..a.node_count() {
