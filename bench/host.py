@@ -35,7 +35,7 @@ def time_serve(lab: Path) -> Timed:
 
 def time_host(lab: Path) -> Timed:
     """What they take over the host, which the teacher's bye at the desk ends."""
-    with subprocess.Popen([built(HOST), lab, "0", "0"], stdout=subprocess.PIPE) as server:
+    with subprocess.Popen([built(HOST), "host", lab, "0", "0"], stdout=subprocess.PIPE) as server:
         assert server.stdout is not None
         port, desk = map(int, re.findall(rb"\d+", server.stdout.readline()))
         done = time_clients(port, BURST, BURSTS)

@@ -60,7 +60,7 @@ def start(folder: Path, lab: Path, port: int, sessions: int, journal: Path, by_n
     hosting = None if by_number else host()
     for number in range(port, min(port + TRIES, 65536)):
         last = (plain(lab), str(number), "0") if hosting else (plain(lab), str(number), str(sessions))
-        words: list[str | Path] = [hosting, *last] if hosting else [program(), "serve", *last]
+        words: list[str | Path] = [hosting, "host", *last] if hosting else [program(), "serve", *last]
         output = folder / "server.txt"
         with output.open("wb") as errors:
             process = subprocess.Popen(

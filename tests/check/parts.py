@@ -86,6 +86,7 @@ QUICK = [
     Part("halted", module("program.halted"), 0.2, 0.2, 1, BUILT),
     Part("refusals", module("memory", "tests"), 0.3, 0.3, 1, ("tests", "rt")),
     Part("check", cases("check.test_check", "check.test_pieces"), 0.2, 0.6, 1),
+    Part("resume", module("resume"), 0.8, 1.0, 2, (*BUILT, "rt")),
     Part("journals", ("bash", "tests/journals/run"), 0.1, 0.2, 1, BUILT),
     Part("documents", module("documents"), 0.1, 0.1, 1, ("git",)),
     Part("kit", module("check.kit"), 0.1, 0.1, 1, ("rt",)),

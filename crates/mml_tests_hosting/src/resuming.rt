@@ -41,6 +41,18 @@ const TESS_IS_TOLD: &str = r#"{"ok":"hello","who":"tess"}
 {"ok":"bye"}
 "#;
 
+/// What is told before all else.
+const FIRST: &[u8] = b"listening\n".as_slice();
+
+const TOLD: &[u8] = b"listening
+resumed at place 1, configuration 0, 1 chosen
+done: 2 events, configuration 1
+".as_slice();
+
+/// More than what is left of one line.
+const LONG: &str = "1 0 grant ana 1 seduction
+2 0 close and more and more and more and more and more and more and more and more and more and more and more.";
+
 const NEW: &str = "1 0 grant ana 1 seduction\n2 0 close\n";
 
 /// Keeps a journal in memory.
@@ -94,6 +106,7 @@ fn resume<R: Threads + Wait + Sync>(
         lab,
         old.as_bytes(),
         Shelf(alloc),
+        FIRST,
         at_desk,
         at_port,
         &count,
@@ -111,8 +124,8 @@ fn a_class_goes_on_where_its_journal_stopped(rt: HostRuntime) -> Result<(), Fail
     let is_ana_told = sent_to(&left, 1) == Some(ANA_IS_TOLD.as_bytes());
     let is_tess_told = sent_to(&left, 0) == Some(TESS_IS_TOLD.as_bytes());
     let is_journal = left.log.sink.bytes() == NEW.as_bytes();
-    let is_last = out.as_slice() == b"done: 2 events, configuration 1\n".as_slice();
-    assert_eq!(rt; [is_ana_told, is_tess_told, is_journal, is_last], [true; 4]);
+    let is_told = out.as_slice() == TOLD;
+    assert_eq!(rt; [is_ana_told, is_tess_told, is_journal, is_told], [true; 4]);
     Ok(())
 }
 
@@ -126,6 +139,11 @@ fn what_is_no_journal_is_refused(rt: HostRuntime) -> Result<(), Fail> {
     assert_eq!(rt;
         (long, out.is_empty()),
         (Some(ResumeFault::Refused(AuditFault::Full(2))), true)
+    );
+    let torn = resume(&rt, rt.alloc(), 100, LONG, &mut out)?.err();
+    assert_eq!(rt;
+        (torn, out.is_empty()),
+        (Some(ResumeFault::Refused(AuditFault::Torn(2))), true)
     );
     Ok(())
 }
