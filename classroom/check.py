@@ -12,7 +12,7 @@ from collections.abc import Iterable, Iterator
 from pathlib import Path
 
 from classroom import lab as labs
-from classroom import places
+from classroom import networks, places
 from classroom.program import TOP, Answer, Fault, call
 
 KNOWN = {
@@ -138,24 +138,21 @@ def network_warnings(lab: labs.Lab) -> Iterator[str]:
     """Students without a node, nodes without a neighbour, a network in parts."""
     owners = {owner for node in lab.nodes for owner in node.owners}
     yield from (f"{name} has no node" for name in lab.students if name not in owners)
-    near: dict[int, set[int]] = {node.id: set() for node in lab.nodes}
-    for a, b in lab.links:
-        near[a].add(b)
-        near[b].add(a)
+    near = networks.neighbours((node.id for node in lab.nodes), lab.links)
     yield from (f"node {node} has no neighbour" for node, others in near.items() if not others)
     parts = parts_of(near)
     if parts > 1:
         yield f"the network is in {parts} parts"
 
 
-def parts_of(near: dict[int, set[int]]) -> int:
+def parts_of(near: dict[int, list[int]]) -> int:
     """In how many parts the network is."""
     left, parts = set(near), 0
     while left:
         parts += 1
         reached = [left.pop()]
         while reached:
-            further = near[reached.pop()] & left
+            further = left.intersection(near[reached.pop()])
             left -= further
             reached += further
     return parts

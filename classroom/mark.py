@@ -11,7 +11,7 @@ from pathlib import Path
 from typing import Any
 
 from classroom import lab as labs
-from classroom import replay
+from classroom import folders, replay
 from classroom.journal import RULES, Book, Tally, events
 from classroom.program import Fault, call
 
@@ -80,20 +80,6 @@ def refusal(journal: Path, error: str) -> str:
     return f"{journal}: {error}: {lines[int(line[1]) - 1].decode(errors='replace')}"
 
 
-def given(words: list[str]) -> list[tuple[Path, Path]]:
-    """Lab and journal of each run: folders of runs, or a lab and its journals."""
-    first = Path(words[0])
-    if first.is_dir():
-        folders = [Path(word) for word in words]
-        for folder in folders:
-            if not (folder / "lab.toml").is_file() or not (folder / "journal").is_file():
-                raise Fault(f"{folder}: no folder of a run: it has lab.toml and journal")
-        return [(folder / "lab.toml", folder / "journal") for folder in folders]
-    if len(words) == 1:
-        raise Fault(f"{first} is no folder of a run; of a lab its journals are named too")
-    return [(first, Path(word)) for word in words[1:]]
-
-
 def rows(runs: list[Run]) -> list[list[str]]:
     """A line for each student and run, below a line of heads."""
     table = [["journal", "student", "granted", "applied", *RULES, "steps", "first", "last", "shared"]]
@@ -131,7 +117,7 @@ def as_json(runs: list[Run]) -> str:
 
 def mark(words: argparse.Namespace) -> int:
     """Prints the marks of all journals, or refuses the first that the audit refuses."""
-    runs = [marked(lab, journal) for lab, journal in given(words.runs)]
+    runs = [marked(lab, journal) for lab, journal in folders.given(words.runs)]
     if words.json:
         print(as_json(runs), end="")
     elif words.csv:

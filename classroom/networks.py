@@ -4,12 +4,23 @@ from __future__ import annotations
 import itertools
 import random
 import re
+from collections.abc import Iterable
 from pathlib import Path
 
 from classroom.program import Fault
 
 Links = list[tuple[int, int]]
 MOST_NODES = 256
+
+
+def neighbours(nodes: Iterable[int], links: Iterable[tuple[int, int]]) -> dict[int, list[int]]:
+    """Each node's neighbours; a link that leads elsewhere counts for none."""
+    near: dict[int, list[int]] = {node: [] for node in nodes}
+    for a, b in links:
+        if a in near and b in near:
+            near[a].append(b)
+            near[b].append(a)
+    return near
 
 
 def random_links(count: int, links: int, chance: random.Random) -> Links:

@@ -24,11 +24,7 @@ def deal(identifiers: list[int], students: list[str], each: int) -> list[labs.No
 
 def start(made: labs.Lab, word: str, chance: random.Random) -> None:
     """Registers at the beginning: all clean; at random at every node; or hurt at one node in three."""
-    near: dict[int, list[int]] = {node.id: [] for node in made.nodes}
-    for a, b in made.links:
-        if a in near and b in near:
-            near[a].append(b)
-            near[b].append(a)
+    near = networks.neighbours((node.id for node in made.nodes), made.links)
     count = {"clean": 0, "random": len(made.nodes), "hurt": (len(made.nodes) + 2) // 3}[word]
     for node in chance.sample(made.nodes, count):
         node.p = chance.choice([None, *near[node.id]]) if word == "random" or not near[node.id] else chance.choice(near[node.id])

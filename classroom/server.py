@@ -6,9 +6,8 @@ import subprocess
 from dataclasses import dataclass
 from pathlib import Path
 
-from classroom.program import Fault, host, plain, program
+from classroom.program import Fault, host, plain, ports_from, program
 
-TRIES = 50
 LISTENING = re.compile(r"listening on port (\d+)(?:, desk on port (\d+))?\n")
 
 
@@ -49,7 +48,7 @@ def start(folder: Path, lab: Path, port: int, sessions: int, journal: Path) -> S
     """Starts a host over a lab at the first free port from that on. Where no host is built, it is a server
     for so many connections as the lab has sessions, and the teacher's desk is one of them."""
     hosting = host()
-    for number in range(port, min(port + TRIES, 65536)):
+    for number in ports_from(port):
         last = (plain(lab), str(number), "0") if hosting else (plain(lab), str(number), str(sessions))
         words: list[str | Path] = [hosting, *last] if hosting else [program(), "serve", *last]
         output = folder / "server.txt"

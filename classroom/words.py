@@ -4,7 +4,7 @@ from __future__ import annotations
 import argparse
 import sys
 
-from classroom import check, demo, mark, new, play, run
+from classroom import check, closing, demo, mark, new, play, run
 from classroom.program import TOP, Fault
 
 
@@ -44,7 +44,7 @@ def add_run(words: argparse.ArgumentParser) -> None:
     """The words of `run`."""
     words.add_argument("labs", nargs="+", metavar="LAB", help="several run side by side, at a port each")
     words.add_argument("--port", type=positive, default=4711, help="the students' port, or else the next that is free (4711)")
-    words.add_argument("--close", type=run.mode, default=("when-idle", 2.0), metavar="MODE",
+    words.add_argument("--close", type=closing.mode, default=("when-idle", 2.0), metavar="MODE",
                        help="every:SECONDS, when-idle:SECONDS or by-hand (when-idle:2)")
     words.add_argument("--into", help="where the run's folder is made (runs)")
     words.add_argument("--until", choices=["stable"], help="end the run where no node is privileged")

@@ -17,7 +17,7 @@ from collections import Counter
 from collections.abc import Callable
 from pathlib import Path
 
-from classroom import connected, run
+from classroom import connected, ending
 from classroom.client import Client, Closed, Refused
 from classroom.connected import Connected
 from classroom.program import host
@@ -118,7 +118,7 @@ class Broken(Cycle):
         (going.folder / "marks.txt").unlink()
         (going.folder / "marks.txt").symlink_to("/dev/full")
         lines: list[str] = []
-        self.assertEqual(run.finish(going.folder, lines.append), 4)
+        self.assertEqual(ending.finish(going.folder, lines.append), 4)
         self.assertRegex(lines[-1], "No space left on device; the journal is .*/journal$")
 
     def test_a_terminal_that_goes_away(self) -> None:
