@@ -1,50 +1,121 @@
 """A run from its first step to its last: steps are closed, and what is typed is done."""
 from __future__ import annotations
 
+import os
 import queue
-import sys
 import time
+from pathlib import Path
 
-from classroom import server
-from classroom.connected import Connected
+from classroom.client import Closed
+from classroom.closing import Closing
 from classroom.desk import Desk
+from classroom.server import Server
+from classroom.typed import NOW, Typed
 
 TICK = 0.1
+LITTLE = 65536  # bytes of a disk at which there is little room
+AGAIN = 1.0  # seconds between two looks at the disk
 
 
-def attend(desk: Desk, it: server.Server, until_stable: bool, typed: queue.SimpleQueue[str], connected: Connected) -> str:
-    """Closes steps and does what is typed, until the run ends; says by what."""
-    how = desk.closing
-    due = time.monotonic() + how[1]
-    while True:
-        if how != desk.closing:
-            how = desk.closing
-            due = time.monotonic() + how[1]
-        kind, seconds = how
-        if it.ended():
-            return "died"
-        desk.read()
-        for line in connected.news():
-            desk.tell(line)
-        if until_stable and desk.report.stable and not desk.book.chosen:
-            return "stable"
-        if desk.over:
-            return desk.over
-        try:
-            if not desk.command(typed.get(timeout=TICK if kind == "by-hand" else min(TICK, max(seconds / 4, 0.01)))):
-                return "end"
-        except queue.Empty:
-            pass
+class Clock:
+    """When the next step is to be closed."""
+
+    def __init__(self) -> None:
+        self.how: Closing = ("by-hand", 0.0)
+        self.due = 0.0
+
+    def follow(self, how: Closing) -> None:
+        """From now on in that way."""
+        if how != self.how:
+            self.how = how
+            self.due = time.monotonic() + how[1]
+
+    def pause(self) -> float:
+        """How long to wait for what is typed."""
+        kind, seconds = self.how
+        return TICK if kind == "by-hand" else min(TICK, max(seconds / 4, 0.01))
+
+    def strikes(self, news: float) -> bool:
+        """Whether a step is to be closed now, where the last news came at that time."""
+        kind, seconds = self.how
         now = time.monotonic()
-        if kind == "every" and now >= due or kind == "when-idle" and now - desk.news >= seconds and now >= due:
-            desk.close()
-            due = now + seconds
+        if now < self.due or kind == "by-hand" or kind == "when-idle" and now - news < seconds:
+            return False
+        self.due = now + seconds
+        return True
 
 
-def read_typed(typed: queue.SimpleQueue[str]) -> None:
-    """Puts the lines of standard input into a queue."""
+class Room:
+    """Whether the disk of a folder has room for a journal's lines."""
+
+    def __init__(self, folder: Path) -> None:
+        self.folder = folder
+        self.due, self.told = 0.0, ""
+
+    def left(self) -> int:
+        """How many bytes are free."""
+        disk = os.statvfs(self.folder)
+        return disk.f_bavail * disk.f_frsize
+
+    def news(self) -> list[str]:
+        """A line where there is little room, or none, and it wasn't told yet."""
+        now = time.monotonic()
+        if now < self.due:
+            return []
+        self.due = now + AGAIN
+        left = self.left()
+        line = "" if left >= LITTLE else f"the disk has little room: {left} bytes are left" if left else \
+            "the disk is full: the next line of the journal can't be written, and from then on nothing is granted; make room"
+        told, self.told = self.told, line.partition(":")[0]
+        return [line] if line and self.told != told else []
+
+
+def turn(desk: Desk, room: Room, until_stable: bool) -> str:
+    """Tells what is new; says why the run ends, where it does."""
+    if not desk.again():
+        return ""
+    desk.read()
+    for line in [*(desk.connected.news() if desk.connected else []), *room.news()]:
+        desk.tell(line)
+    if until_stable and desk.report.stable and not desk.is_old and not desk.book.chosen:
+        return "stable"
+    return desk.over
+
+
+def next_typed(typed: Typed, seconds: float) -> str | None:
+    """The next line that was typed, where one comes in that time."""
     try:
-        for line in sys.stdin:
-            typed.put(line)
-    except (OSError, ValueError):
-        pass  # The terminal went away.
+        return typed.get(timeout=seconds)
+    except queue.Empty:
+        return None
+
+
+def obeys(desk: Desk, line: str | None) -> bool:
+    """Does what was typed; false where it ends the run."""
+    if line is None:
+        return True
+    if line == NOW or desk.lost and line.split() == ["end"]:
+        return False
+    if desk.lost:
+        desk.tell(f"no: the desk isn't held: {desk.lost}")
+        return True
+    return desk.command(line)
+
+
+def attend(desk: Desk, it: Server, until_stable: bool, typed: Typed, room: Room) -> str:
+    """Closes steps and does what is typed, until the run ends; says by what."""
+    clock = Clock()
+    while not it.ended():
+        clock.follow(desk.closing)
+        try:
+            why = turn(desk, room, until_stable)
+            if why:
+                return why
+            if not obeys(desk, next_typed(typed, clock.pause())):
+                return "end"
+            if not desk.lost and clock.strikes(desk.news):
+                desk.close()
+        except Closed as error:
+            if not it.ended(TICK):
+                desk.lose(error)
+    return "died"

@@ -13,12 +13,14 @@ from pathlib import Path
 
 from classroom import lab as labs
 from classroom import networks, places
+from classroom.printable import printable
 from classroom.program import TOP, Answer, Fault, call
+from classroom.statuses import WARNED
 
 KNOWN = {
     "": ("events", "sessions", "teacher", "student", "node", "links"),
     "teacher": ("name", "key"),
-    "student": ("name", "key"),
+    "student": ("name", "key", "written", "id"),
     "node": ("id", "owner", "owners", "p", "m"),
 }
 ENOUGH_BITS = 64
@@ -198,13 +200,14 @@ def warnings(path: Path) -> Iterator[str]:
 
 
 def check(words: argparse.Namespace) -> int:
-    """Status 0, 1 for warnings alone, and the program's own where it refuses the lab."""
+    """Status 0, 5 for warnings alone, and the program's own where it refuses the lab."""
     path = Path(words.lab)
     answer: Answer = call("check", path)
     if answer.status != 0:
-        print(*(refused(path, answer.error) if answer.status == 2 else [f"{path}: {answer.error}"]), sep="\n")
+        found = refused(path, answer.error) if answer.status == 2 else [labs.unread(path, answer.error)]
+        print(*map(printable, found), sep="\n")
         return answer.status
     print(answer.output.strip())
-    found = list(warnings(path))
-    print(*(f"warning: {each}\n" for each in found), sep="", end="")
-    return 1 if found else 0
+    warned = list(warnings(path))
+    print(*(f"warning: {printable(each)}\n" for each in warned), sep="", end="")
+    return WARNED if warned else 0

@@ -1,12 +1,16 @@
-"""The folders of runs: a new one, and lab and journal of those that are named."""
+"""The folders of runs: a new one, what is kept of a run that goes on, and lab and journal of those that are named."""
 from __future__ import annotations
 
+import json
+import os
+from dataclasses import asdict, dataclass
 from datetime import datetime
 from pathlib import Path
 
 from classroom.program import Fault
 
 Run = tuple[Path, Path]
+RECORD = "run.json"
 
 
 def new_folder(into: Path, lab: Path) -> Path:
@@ -21,7 +25,7 @@ def new_folder(into: Path, lab: Path) -> Path:
         except FileExistsError:
             continue
         except OSError as error:
-            raise Fault(f"{folder}: {error.strerror}", 4) from None
+            raise Fault(f"{folder}: {error.strerror}; --into FOLDER names another place", 4) from None
     raise Fault(f"{into}: no name is free for a folder", 4)
 
 
@@ -40,3 +44,67 @@ def of_folder(folder: Path) -> Run:
     if not (folder / "lab.toml").is_file() or not (folder / "journal").is_file():
         raise Fault(f"{folder}: no folder of a run: it has lab.toml and journal")
     return folder / "lab.toml", folder / "journal"
+
+
+@dataclass(frozen=True)
+class Process:
+    """A process, told from a later one of the same number by when it was started."""
+
+    number: int
+    start: str
+
+    @staticmethod
+    def of(number: int) -> Process:
+        """The one that has the number now."""
+        try:
+            stat = Path(f"/proc/{number}/stat").read_text(encoding="utf-8", errors="replace")
+        except OSError:
+            return Process(number, "")
+        state, *rest = stat.rpartition(") ")[2].split()
+        return Process(number, "" if state == "Z" else rest[18])
+
+    def lives(self) -> bool:
+        """Whether it hasn't ended."""
+        return self.start != "" and Process.of(self.number) == self
+
+
+@dataclass(frozen=True)
+class Record:
+    """What a folder keeps of its run while it goes on."""
+
+    lab: str
+    port: int
+    desk: int
+    run: Process
+    server: Process
+
+    @staticmethod
+    def begun(lab: Path, port: int, desk: int, server: int) -> Record:
+        """That of this process, which runs a lab by that server."""
+        return Record(str(lab.resolve()), port, desk, Process.of(os.getpid()), Process.of(server))
+
+    @staticmethod
+    def read(folder: Path) -> Record | None:
+        """That of a folder, where it has one."""
+        try:
+            it = json.loads((folder / RECORD).read_text(encoding="utf-8"))
+            return Record(it["lab"], it["port"], it["desk"], Process(**it["run"]), Process(**it["server"]))
+        except (OSError, ValueError, KeyError, TypeError):
+            return None
+
+    def write(self, folder: Path) -> None:
+        """Keeps it."""
+        (folder / RECORD).write_text(json.dumps(asdict(self)) + "\n", encoding="utf-8")
+
+    def goes_on(self) -> bool:
+        """Whether the run or its server hasn't ended."""
+        return self.run.lives() or self.server.lives()
+
+
+def going(into: Path, lab: Path) -> tuple[Path, Record] | None:
+    """The folder of a run of that lab which goes on, where there is one."""
+    for file in sorted(into.glob(f"*/{RECORD}")):
+        record = Record.read(file.parent)
+        if record is not None and record.lab == str(lab.resolve()) and record.goes_on():
+            return file.parent, record
+    return None

@@ -11,9 +11,11 @@ from pathlib import Path
 from typing import Any
 
 from classroom import lab as labs
-from classroom import folders, replay
+from classroom import folders, lists, replay, totals
 from classroom.journal import RULES, Book, Tally, events
+from classroom.printable import printable
 from classroom.program import Fault, call
+from classroom.statuses import WARNED
 
 UNTOLD = (
     "Not in a journal: what was asked for and denied, when a line was written, and who used a name.",
@@ -117,8 +119,18 @@ def as_json(runs: list[Run]) -> str:
 
 def mark(words: argparse.Namespace) -> int:
     """Prints the marks of all journals, or refuses the first that the audit refuses."""
+    roster = lists.read(Path(words.roster), words) if words.roster else None
     runs = [marked(lab, journal) for lab, journal in folders.given(words.runs)]
-    if words.json:
+    students = [(run.lab, run.tally.students) for run in runs]
+    if roster is not None:
+        rows_of, left = totals.by_roster(students, roster)
+        totals.write(rows_of, roster.delimiter)
+        for name in left:
+            print(printable(f"class: {words.roster} has no {name}"), file=sys.stderr)
+        return WARNED if left else 0
+    if words.total:
+        totals.write(totals.by_labs(students))
+    elif words.json:
         print(as_json(runs), end="")
     elif words.csv:
         csv.writer(sys.stdout, lineterminator="\n").writerows(rows(runs))

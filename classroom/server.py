@@ -3,12 +3,14 @@ from __future__ import annotations
 
 import re
 import subprocess
+import time
 from dataclasses import dataclass
 from pathlib import Path
 
 from classroom.program import Fault, host, plain, ports_from, program
 
-LISTENING = re.compile(r"listening on port (\d+)(?:, desk on port (\d+))?\n")
+LISTENING = re.compile(r"listening on port (\d+)(?:, desk on port (\d+))?")
+AGAIN = 0.01  # seconds between two looks at what a server has printed
 
 
 @dataclass
@@ -21,27 +23,32 @@ class Server:
     hosted: bool
     output: Path
 
-    def ended(self) -> bool:
-        """Whether its process has ended."""
-        return self.process.poll() is not None
-
-    def finish(self, seconds: float) -> int:
-        """Waits for its end after the teacher's bye, and ends it where it doesn't come; gives the status.
-        A server for a number of connections can't be told that no more will come: it is ended."""
+    def ended(self, seconds: float = 0.0) -> bool:
+        """Whether its process has ended, or ends in that time."""
         try:
-            status = self.process.wait(seconds if self.hosted else 0)
+            self.process.wait(seconds)
         except subprocess.TimeoutExpired:
-            self.process.terminate()
-            self.process.wait()
-            status = 4 if self.hosted else 0
-        if self.process.stdout is not None:
-            with self.process.stdout as rest, self.output.open("ab") as it:
-                it.write(rest.read())
-        return status
+            return False
+        return True
+
+    def stop(self) -> int:
+        """Ends it, where it doesn't end by a bye; gives the status."""
+        self.process.terminate()
+        return self.process.wait()
 
     def printed(self) -> str:
         """What it printed, after its first line."""
-        return self.output.read_text(encoding="utf-8", errors="replace").strip()
+        return self.output.read_text(encoding="utf-8", errors="replace").partition("\n")[2].strip()
+
+
+def first_line(process: subprocess.Popen[bytes], output: Path) -> str:
+    """The first line that a server prints, or all where it ends before."""
+    while True:
+        ended = process.poll() is not None
+        line, newline, _ = output.read_text(encoding="utf-8", errors="replace").partition("\n")
+        if newline or ended:
+            return line
+        time.sleep(AGAIN)
 
 
 def start(folder: Path, lab: Path, port: int, sessions: int, journal: Path) -> Server:
@@ -52,19 +59,15 @@ def start(folder: Path, lab: Path, port: int, sessions: int, journal: Path) -> S
         last = (plain(lab), str(number), "0") if hosting else (plain(lab), str(number), str(sessions))
         words: list[str | Path] = [hosting, *last] if hosting else [program(), "serve", *last]
         output = folder / "server.txt"
-        with output.open("wb") as errors:
+        with output.open("wb") as prints:
             process = subprocess.Popen(
-                [*words, plain(journal)], stdin=subprocess.DEVNULL, stdout=subprocess.PIPE, stderr=errors,
-                start_new_session=True,
+                [*words, plain(journal)], stdin=subprocess.DEVNULL, stdout=prints, stderr=prints, start_new_session=True,
             )
-        assert process.stdout is not None
-        line = process.stdout.readline().decode(errors="replace")
+        line = first_line(process, output)
         told = LISTENING.fullmatch(line)
         if told:
             return Server(process, int(told[1]), int(told[2] or told[1]), hosting is not None, output)
         status = process.wait()
-        process.stdout.close()
-        error = output.read_text(encoding="utf-8", errors="replace").strip()
-        if not error.endswith("cannot listen"):
-            raise Fault(f"the server doesn't start: {error or line.strip()}", status or 4)
+        if not line.endswith("cannot listen"):
+            raise Fault(f"the server doesn't start: {line}", status or 4)
     raise Fault(f"no port is free from {port} to {number}", 4)

@@ -135,16 +135,18 @@ class Cycle(InRoom):
 
     def bot(self, going: Going, name: str, *command: str | Path) -> subprocess.Popen[bytes]:
         """A student's bot."""
-        lab = read(CYCLE)
-        nodes = list(map(str, lab.nodes_of(name)))
-        named = [",".join(nodes)] if not command else nodes
         bot = subprocess.Popen(
-            [*(command or (sys.executable, EXAMPLES / "bot.py")), str(going.port), name, KEYS[name], *named],
+            [*(command or (sys.executable, EXAMPLES / "bot.py")), self.slip(going.port, name)],
             stdin=subprocess.DEVNULL, stdout=subprocess.DEVNULL, stderr=subprocess.DEVNULL,
         )
         self.addCleanup(bot.wait)
         self.addCleanup(bot.kill)
         return bot
+
+    def slip(self, port: int, name: str) -> Path:
+        """A student's slip."""
+        nodes = ",".join(map(str, read(CYCLE).nodes_of(name)))
+        return self.file(f"{name}-{port}.slip", f"port {port}\nname {name}\nkey {KEYS[name]}\nnodes {nodes}\n")
 
     def whole(self, folder: Path) -> int:
         """Wants a finished folder; gives the number of its events."""

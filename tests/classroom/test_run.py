@@ -55,7 +55,7 @@ class Run(Cycle):
         going.until(r"^configuration \d+, not stable: .*privileged .*\((seduction|abandonment|marriage|update)\)")
         going.type("link 1 1")
         going.until("^no: loop")
-        going.type("end")
+        going.type("end\nend")
         self.assertEqual(going.ends(), 0, going.lines)
         self.assertGreaterEqual(self.whole(going.folder), 4)
 
@@ -82,7 +82,7 @@ class Run(Cycle):
             going = Going(self, CYCLE, "--port", str(port))
             self.assertGreater(going.port, port)
             self.assertIn(f"port {port} is in use", going.lines)
-            going.type("end")
+            going.type("end\nend")
             self.assertEqual(going.ends(), 0)
 
     def test_nothing_built(self) -> None:
