@@ -4,13 +4,14 @@ from __future__ import annotations
 import os
 import queue
 import time
+from collections.abc import Callable
 from pathlib import Path
 
 from classroom.client import Closed
 from classroom.closing import Closing
 from classroom.desk import Desk
 from classroom.server import Server
-from classroom.typed import NOW, Typed
+from classroom.typed import HUNG, LEAVE, NOW, Typed
 
 TICK = 0.1
 LITTLE = 65536  # bytes of a disk at which there is little room
@@ -90,20 +91,25 @@ def next_typed(typed: Typed, seconds: float) -> str | None:
         return None
 
 
-def obeys(desk: Desk, line: str | None) -> bool:
-    """Does what was typed; false where it ends the run."""
+def obeys(desk: Desk, line: str | None, hung: Callable[[], None]) -> str:
+    """Does what was typed; says why it ends the run, where it does."""
     if line is None:
-        return True
+        return ""
+    if line == HUNG:
+        hung()
+        return ""
+    if line == LEAVE:
+        return "left"
     if line == NOW or desk.lost and line.split() == ["end"]:
-        return False
+        return "end"
     if desk.lost:
         desk.tell(f"no: the desk isn't held: {desk.lost}")
-        return True
-    return desk.command(line)
+        return ""
+    return "" if desk.command(line) else "end"
 
 
-def attend(desk: Desk, it: Server, until_stable: bool, typed: Typed, room: Room) -> str:
-    """Closes steps and does what is typed, until the run ends; says by what."""
+def attend(desk: Desk, it: Server, until_stable: bool, typed: Typed, room: Room, hung: Callable[[], None]) -> str:
+    """Closes steps and does what is typed, until the run ends; says by what. `hung` is done where the terminal went away."""
     clock = Clock()
     while not it.ended():
         clock.follow(desk.closing)
@@ -111,8 +117,9 @@ def attend(desk: Desk, it: Server, until_stable: bool, typed: Typed, room: Room)
             why = turn(desk, room, until_stable)
             if why:
                 return why
-            if not obeys(desk, next_typed(typed, clock.pause())):
-                return "end"
+            why = obeys(desk, next_typed(typed, clock.pause()), hung)
+            if why:
+                return why
             if not desk.lost and clock.strikes(desk.news):
                 desk.close()
         except Closed as error:

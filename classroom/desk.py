@@ -46,6 +46,7 @@ class Desk:
         self.over = ""
         self.asked_to_end = False
         self.lost = ""  # Why the desk was lost, until it is held again.
+        self.past: list[Event] = []
 
     def again(self) -> bool:
         """Greets again at the desk where its connection was lost; says whether it is held."""
@@ -63,6 +64,16 @@ class Desk:
         self.lost, self.is_old = "", True
         self.tell("the desk is held again")
         return True
+
+    def catch_up(self) -> None:
+        """Counts what the journal has already, and tells nothing of it."""
+        whole, found, self.rest = self.journal.read().rpartition(b"\n")
+        self.past = events((whole + found).decode("ascii"))
+        for event in self.past:
+            self.book.add(event)
+            self.count = event.place
+        self.ask_report()
+        self.tell(f"gone on from configuration {self.report.at}, {self.counted()}")
 
     def lose(self, error: Closed) -> None:
         """The connection has ended, or an answer is late: it is made again while the server lives."""
@@ -123,6 +134,8 @@ class Desk:
     def watched(self) -> Watch:
         """What pages are shown, which is looked at from now on."""
         self.watch = Watch(self.lab, self.client, self.report, spelled(self.closing))
+        for event in self.past:
+            self.watch.note(event)
         return self.watch
 
     def step(self, at: int, what: str) -> None:

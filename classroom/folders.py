@@ -2,7 +2,6 @@
 from __future__ import annotations
 
 import json
-import os
 from dataclasses import asdict, dataclass
 from datetime import datetime
 from pathlib import Path
@@ -75,26 +74,28 @@ class Record:
     lab: str
     port: int
     desk: int
+    page: int | None
+    close: str
+    until: str | None
     run: Process
     server: Process
-
-    @staticmethod
-    def begun(lab: Path, port: int, desk: int, server: int) -> Record:
-        """That of this process, which runs a lab by that server."""
-        return Record(str(lab.resolve()), port, desk, Process.of(os.getpid()), Process.of(server))
+    left: bool = False  # Whether its terminal went away.
+    ended: bool = False  # Whether it ended as it should.
 
     @staticmethod
     def read(folder: Path) -> Record | None:
         """That of a folder, where it has one."""
         try:
             it = json.loads((folder / RECORD).read_text(encoding="utf-8"))
-            return Record(it["lab"], it["port"], it["desk"], Process(**it["run"]), Process(**it["server"]))
+            return Record(**it | {"run": Process(**it["run"]), "server": Process(**it["server"])})
         except (OSError, ValueError, KeyError, TypeError):
             return None
 
     def write(self, folder: Path) -> None:
         """Keeps it."""
-        (folder / RECORD).write_text(json.dumps(asdict(self)) + "\n", encoding="utf-8")
+        new = folder / f"{RECORD}.new"
+        new.write_text(json.dumps(asdict(self)) + "\n", encoding="utf-8")
+        new.replace(folder / RECORD)
 
     def goes_on(self) -> bool:
         """Whether the run or its server hasn't ended."""

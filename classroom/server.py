@@ -1,12 +1,15 @@
 """The one place where a server is started, and where it ends."""
 from __future__ import annotations
 
+import os
 import re
+import signal
 import subprocess
 import time
 from dataclasses import dataclass
 from pathlib import Path
 
+from classroom.folders import Process
 from classroom.program import Fault, host, plain, ports_from, program
 
 LISTENING = re.compile(r"listening on port (\d+)(?:, desk on port (\d+))?")
@@ -17,24 +20,41 @@ AGAIN = 0.01  # seconds between two looks at what a server has printed
 class Server:
     """A server that listens. What it prints goes to `server.txt` of its folder."""
 
-    process: subprocess.Popen[bytes]
+    process: Process
     port: int
     desk: int
     hosted: bool
     output: Path
+    child: subprocess.Popen[bytes] | None = None  # None where another process has started it.
 
     def ended(self, seconds: float = 0.0) -> bool:
         """Whether its process has ended, or ends in that time."""
+        if self.child is None:
+            end = time.monotonic() + seconds
+            while self.process.lives():
+                if time.monotonic() >= end:
+                    return False
+                time.sleep(AGAIN)
+            return True
         try:
-            self.process.wait(seconds)
+            self.child.wait(seconds)
         except subprocess.TimeoutExpired:
             return False
         return True
 
+    def status(self) -> int:
+        """Its status, once it has ended; of another process's server what it said last tells whether it ended well."""
+        if self.child is not None:
+            return self.child.wait()
+        return 0 if self.printed().rpartition("\n")[2].startswith("done: ") else 4
+
     def stop(self) -> int:
         """Ends it, where it doesn't end by a bye; gives the status."""
-        self.process.terminate()
-        return self.process.wait()
+        if not self.ended():
+            os.kill(self.process.number, signal.SIGTERM)
+        while not self.ended(AGAIN):
+            pass
+        return self.status()
 
     def printed(self) -> str:
         """What it printed, after its first line."""
@@ -66,7 +86,7 @@ def start(folder: Path, lab: Path, port: int, sessions: int, journal: Path) -> S
         line = first_line(process, output)
         told = LISTENING.fullmatch(line)
         if told:
-            return Server(process, int(told[1]), int(told[2] or told[1]), hosting is not None, output)
+            return Server(Process.of(process.pid), int(told[1]), int(told[2] or told[1]), hosting is not None, output, process)
         status = process.wait()
         if not line.endswith("cannot listen"):
             raise Fault(f"the server doesn't start: {line}", status or 4)

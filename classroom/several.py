@@ -14,7 +14,7 @@ from classroom.closing import spelled
 from classroom.program import TOP, Fault
 from classroom.typed import EOF, HELP, Terminal, read_lines
 
-SIGNALS = (signal.SIGINT, signal.SIGTERM, signal.SIGHUP)
+SIGNALS = (signal.SIGINT, signal.SIGTERM)
 Child = subprocess.Popen[str]
 
 
@@ -23,9 +23,10 @@ def prefixed(words: argparse.Namespace, index: int) -> Child:
     more = ["--until", words.until] if words.until else []
     more += ["--page", str(words.page + index)] if words.page is not None else []
     more += ["--beside"] if words.beside else []
+    more += ["--close", spelled(words.close)] if words.close else []
     return subprocess.Popen(
         [sys.executable, TOP / "class", "run", words.labs[index], "--port", str(words.port + index), "--typed",
-         "--close", spelled(words.close), "--into", words.into, *more],
+         "--into", words.into, *more],
         stdin=subprocess.PIPE, stdout=subprocess.PIPE, stderr=subprocess.STDOUT, text=True, start_new_session=True,
     )
 
@@ -42,7 +43,10 @@ class Several:
     def say(self, line: str) -> None:
         """Prints a line."""
         with self.turn:
-            print(self.terminal.around(line) if self.terminal else line, end="", flush=True)
+            try:
+                print(self.terminal.around(line) if self.terminal else line, end="", flush=True)
+            except OSError:
+                pass  # The terminal went away; each run keeps its lines.
 
     def follow(self, index: int) -> None:
         """Shows a run's lines with the lab's name before them."""
@@ -94,7 +98,7 @@ class Several:
 def side_by_side(words: argparse.Namespace) -> int:
     """Runs several labs at once; a signal that ends this ends them all."""
     typed = words.typed or sys.stdin is not None and sys.stdin.isatty()
-    if words.close[0] == "by-hand" and not typed:
+    if words.close is not None and words.close[0] == "by-hand" and not typed:
         raise Fault("several labs are closed by time: --close every:SECONDS or when-idle:SECONDS; or by what is typed: --typed")
     if words.port + len(words.labs) > 65536 or (words.page or 0) + len(words.labs) > 65536:
         raise Fault(f"{len(words.labs)} labs need a port each, up to 65535")
@@ -110,6 +114,7 @@ def side_by_side(words: argparse.Namespace) -> int:
 
     for number in SIGNALS:
         signal.signal(number, end)
+    signal.signal(signal.SIGHUP, lambda *_: None)  # The runs go on without a terminal.
     if typed:
         several.listen()
     return several.wait()

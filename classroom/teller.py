@@ -21,7 +21,7 @@ class Teller:
         line = printable(line)
         for hear in self.also:
             hear(line)
-        for put in (self.say, self.keep):
+        for put in (self.keep, self.say):
             try:
                 put(line)
             except OSError:

@@ -11,6 +11,8 @@ from collections.abc import Callable
 Typed = queue.SimpleQueue[str]
 NOW = "\x03"  # Ends the run at once, as a signal does.
 EOF = "\x04"  # Ctrl-D.
+HUNG = "\x01"  # The terminal went away.
+LEAVE = "\x02"  # Another process takes the desk.
 WORDS = {
     "close": ("", "close the step: all chosen moves are applied at once"),
     "fault": ("NODE NEIGHBOUR|null true|false", "set a node's p and m"),

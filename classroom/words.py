@@ -6,7 +6,7 @@ import os
 import sys
 from typing import NoReturn
 
-from classroom import check, demo, lists, mark, new, play, run
+from classroom import attach, check, demo, lists, mark, new, play, run
 from classroom.printable import printable
 from classroom.program import TOP, Fault
 from classroom.statuses import FAILED, TABLE, USAGE
@@ -63,6 +63,7 @@ def parser() -> argparse.ArgumentParser:
     words.add_argument("lab")
     words.set_defaults(work=check.check)
     run.add_words(each.add_parser("run", help="run a class over a lab, in a folder of its own"))
+    attach.add_words(each.add_parser("attach", help="take the desk of a class whose run is gone, or has lost its terminal"))
     words = each.add_parser("mark", help="what journals tell of each student")
     words.add_argument("runs", nargs="+", metavar="FOLDER.. or LAB JOURNAL..")
     form = words.add_mutually_exclusive_group()

@@ -50,17 +50,17 @@ class InRoom(unittest.TestCase):
 class Going:
     """A run that is going on; its lines are read one by one."""
 
-    def __init__(self, test: InRoom, lab: Path, *more: str, before: tuple[str, ...] = (), **environment: str) -> None:
-        """`before` are words before the call: another program that makes it."""
+    def __init__(self, test: InRoom, lab: Path | None, *more: str | Path, before: tuple[str, ...] = (), **environment: str) -> None:
+        """`before` are words before the call: another program that makes it. Without a lab, `more` are all words."""
         self.lines: list[str] = []
+        words: list[str | Path] = ["run", lab, "--into", test.room / "runs", "--port", str(random.randint(20000, 50000)), *more] if lab else [*more]
         self.process = subprocess.Popen(
-            [*before, sys.executable, TOP / "class", "run", lab, "--into", test.room / "runs", "--port",
-             str(random.randint(20000, 50000)), "--typed", *more],
+            [*before, sys.executable, TOP / "class", *words, "--typed"],
             stdin=subprocess.PIPE, stdout=subprocess.PIPE, stderr=subprocess.STDOUT, text=True,
             env={**os.environ, **environment},
         )
         test.addCleanup(self.close)
-        told = re.search(r"^port (\d+), for .*; folder (.*)$", self.until("^port .*folder"))
+        told = re.search(r"^port (\d+), .*; folder (.*)$", self.until("^port .*folder"))
         assert told is not None
         self.port, self.folder = int(told[1]), Path(told[2])
         self.until("^words: ")

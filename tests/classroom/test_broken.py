@@ -21,7 +21,7 @@ from classroom import connected, ending
 from classroom.client import Client, Closed, Refused
 from classroom.connected import Connected
 from classroom.program import host
-from tests.classroom.help import CYCLE, EXAMPLES, KEYS, LIMIT, Cycle, Going, InTerminal
+from tests.classroom.help import CYCLE, EXAMPLES, KEYS, LIMIT, Cycle, Going
 
 MOUNT = "mount -t tmpfs -o size=128k tmpfs \"$1\" && shift && exec \"$@\""
 
@@ -121,13 +121,6 @@ class Broken(Cycle):
         lines: list[str] = []
         self.assertEqual(ending.finish(going.folder, lines.append), 4)
         self.assertRegex(lines[-1], "No space left on device; the journal is .*/journal$")
-
-    def test_a_terminal_that_goes_away(self) -> None:
-        terminal = InTerminal(self)
-        terminal.type(b"fault 1 2 true\n", b" 0 of at most 35 moves")
-        os.close(terminal.ours)
-        self.assertEqual(terminal.process.wait(LIMIT), 0)
-        self.assertEqual(self.whole(next((self.room / "runs").iterdir())), 1)
 
     def test_nobody_reads_any_more(self) -> None:
         going = Going(self, CYCLE, "--close", "by-hand")

@@ -142,12 +142,12 @@ class Late(Cycle):
         lines: list[str] = []
         desk = Desk(lab, self.room / "journal", Client(it.desk, *lab.teacher, limit=0.5), ("by-hand", 0.0), lines.append)
         typed, found = Typed(), []
-        holding = threading.Thread(target=lambda: found.append(attend(desk, it, False, typed, Room(self.room))))
+        holding = threading.Thread(target=lambda: found.append(attend(desk, it, False, typed, Room(self.room), lambda: None)))
         holding.start()
-        os.kill(it.process.pid, signal.SIGSTOP)
+        os.kill(it.process.number, signal.SIGSTOP)
         typed.put("fault 1 2 true")
         self.until(lambda: any(line.startswith("the desk: no answer in 0.5 seconds") for line in lines))
-        os.kill(it.process.pid, signal.SIGCONT)
+        os.kill(it.process.number, signal.SIGCONT)
         self.until(lambda: "the desk is held again" in lines)
         typed.put("link 1 3")
         self.until(lambda: any("link 1 3" in line for line in lines))

@@ -70,7 +70,7 @@ class Run(Cycle):
         self.assertGreater(self.whole(going.folder), 10)
 
     def test_signals(self) -> None:
-        for number in (signal.SIGINT, signal.SIGTERM, signal.SIGHUP):
+        for number in (signal.SIGINT, signal.SIGTERM):
             going = Going(self, CYCLE, "--close", "by-hand")
             going.process.send_signal(number)
             self.assertEqual(going.ends(), 0, going.lines)
