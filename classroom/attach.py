@@ -46,7 +46,7 @@ def attach(words: argparse.Namespace) -> int:
     lab_file, _ = of_folder(folder)
     record = Record.read(folder)
     if record is None or not record.server.lives():
-        raise Fault(f"{folder}: its server has ended")
+        raise Fault(f"{folder}: its server has ended: ./class run --resume {folder}")
     lab = labs.read(lab_file)
     free(folder, record)
     run = Running(folder, Path(record.lab), lab, words.close or closing(record.close), words.until or record.until,

@@ -46,6 +46,20 @@ class Clock:
         return True
 
 
+AGAIN_ROOM = ("the disk has room again: if moves are refused as `journal`, which a line that wasn't written brings about, "
+              "end, and go on with ./class run --resume")
+
+
+def told_of(left: int) -> tuple[str, str]:
+    """How a disk with so many free bytes is called, and the line that tells it."""
+    if left >= LITTLE:
+        return "", ""
+    if left > 0:
+        return "little", f"the disk has little room: {left} bytes are left"
+    return "full", ("the disk is full: the next line of the journal can't be written, and from then on nothing is granted; "
+                    "make room")
+
+
 class Room:
     """Whether the disk of a folder has room for a journal's lines."""
 
@@ -64,11 +78,11 @@ class Room:
         if now < self.due:
             return []
         self.due = now + AGAIN
-        left = self.left()
-        line = "" if left >= LITTLE else f"the disk has little room: {left} bytes are left" if left else \
-            "the disk is full: the next line of the journal can't be written, and from then on nothing is granted; make room"
-        told, self.told = self.told, line.partition(":")[0]
-        return [line] if line and self.told != told else []
+        kind, line = told_of(self.left())
+        before, self.told = self.told, kind
+        if kind == before:
+            return []
+        return [line] if line else [AGAIN_ROOM] if before == "full" else []
 
 
 def turn(desk: Desk, room: Room, until_stable: bool) -> str:

@@ -404,7 +404,8 @@ NODE = "a number"
 KEYS: dict[str, dict[str, str]] = {
     "hello": {"name": "a string", "key": "a string"}, "bye": {}, "see": {"node": NODE}, "look": {"node": NODE},
     "move": {"node": NODE, "at": NODE, "rule": "a rule"}, "close": {}, "report": {}, "release": {"node": NODE},
-    "fault": {"node": NODE, "p": "a number or null", "m": "true or false"}, "link": {"a": NODE, "b": NODE}, "cut": {"a": NODE, "b": NODE},
+    "fault": {"node": NODE, "p": "a number or null", "m": "true or false"},
+    "link": {"a": NODE, "b": NODE}, "cut": {"a": NODE, "b": NODE},
 }
 RULES = ("update", "marriage", "seduction", "abandonment")
 MOST = 4096  # bytes of a line
@@ -419,7 +420,8 @@ def is_a(kind: str, value: object) -> bool:
 
 def said(value: object) -> str:
     """What a value is, in a word or two."""
-    kinds = {bool: "true or false", str: "a string", type(None): "null", dict: "an object", list: "a list", float: "no whole number"}
+    kinds = {bool: "true or false", str: "a string", type(None): "null", dict: "an object", list: "a list",
+             float: "no whole number"}
     return kinds.get(type(value), "out of range")
 
 

@@ -33,6 +33,8 @@ class Desk:
 
     def __init__(self, lab: labs.Lab, journal: Path, client: Client, how: Closing, tell: Callable[[str], None]) -> None:
         self.lab, self.client, self.tell, self.closing = lab, client, tell, how
+        self.folder = journal.parent
+        self.go_on = f"./class run --resume {self.folder}"
         self.journal = journal.open("rb")
         self.book = Book(list(lab.students), set())
         self.rest = b""
@@ -74,6 +76,8 @@ class Desk:
             self.count = event.place
         self.ask_report()
         self.tell(f"gone on from configuration {self.report.at}, {self.counted()}")
+        if self.count >= self.lab.events:
+            self.end_by("full")
 
     def lose(self, error: Closed) -> None:
         """The connection has ended, or an answer is late: it is made again while the server lives."""
@@ -180,9 +184,10 @@ class Desk:
             return
         self.over = word
         if word == "journal":
-            what = "journal: no line can be written to it; make room on the disk"
+            what = f"journal: no line can be written to it; make room on the disk, then {self.go_on}"
         elif self.lab.events < labs.MOST_EVENTS:
-            what = f"full: {self.counted()}; a lab has at most {labs.MOST_EVENTS}: raise `events` in its file"
+            raised = f"raise `events` in {self.folder}/lab.toml, to at most {labs.MOST_EVENTS}"
+            what = f"full: {self.counted()}; {raised}, then {self.go_on}"
         else:
             what = f"full: {self.counted()}, the most that a lab has; go on with a new lab"
         self.tell(f"nothing more is granted: {what}")

@@ -103,9 +103,9 @@ class Record:
 
 
 def going(into: Path, lab: Path) -> tuple[Path, Record] | None:
-    """The folder of a run of that lab which goes on, where there is one."""
-    for file in sorted(into.glob(f"*/{RECORD}")):
-        record = Record.read(file.parent)
-        if record is not None and record.lab == str(lab.resolve()) and record.goes_on():
-            return file.parent, record
-    return None
+    """The folder of a run of that lab which goes on, where there is one; else that of the last one, where it didn't end."""
+    files = sorted(into.glob(f"*/{RECORD}"), key=lambda file: file.parent.stat().st_mtime)
+    records = [(file.parent, Record.read(file.parent)) for file in files]
+    same = [(folder, record) for folder, record in records if record is not None and record.lab == str(lab.resolve())]
+    live = [(folder, record) for folder, record in same if record.goes_on()]
+    return next(iter(live or [pair for pair in same[-1:] if not pair[1].ended]), None)

@@ -137,6 +137,7 @@ def take_leave(it: server.Server, desk: Desk, why: str, run: Running) -> int | N
         return None
     elif why == "died" or it.status() != 0:
         tell(f"the server has ended by itself, status {it.status()}: {it.printed()}")
+        tell(f"to go on: {desk.go_on}")
         return FAILED
     tell("stable, and so the run is ended" if why == "stable" else "the run is ended")
     return {"journal": FAILED, "full": WARNED}.get(why, 0)

@@ -94,7 +94,8 @@ def table(path: Path, text: str, words: argparse.Namespace) -> People:
     ids = column(path, heads, words.id, IDS)
     parts = [whole] if whole is not None else [place for place in (first, last) if place is not None]
     if not parts:
-        raise Fault(f"{path}: no column name; there are: {', '.join(heads)}. --column NAME, or --first-name and --last-name, name it")
+        there = ", ".join(heads)
+        raise Fault(f"{path}: no column name; there are: {there}. --column NAME, or --first-name and --last-name, name it")
     rows: list[tuple[list[str], Person | None]] = []
     for row in lines[1:]:
         row += [""] * (len(heads) - len(row))

@@ -62,7 +62,10 @@ def paths(path: Path, count: int) -> list[tuple[Path, Path, Path]]:
     if not name.strip("."):
         raise Fault(f"{path} is no file's name: NAME.toml")
     names_of = [name] if count == 1 else [f"{name}-{number}" for number in range(1, count + 1)]
-    return [(path.with_name(f"{name}.toml"), path.with_name(f"{name}-slips.txt"), path.with_name(f"{name}-slips")) for name in names_of]
+    return [
+        (path.with_name(f"{name}.toml"), path.with_name(f"{name}-slips.txt"), path.with_name(f"{name}-slips"))
+        for name in names_of
+    ]
 
 
 def new(words: argparse.Namespace) -> int:
@@ -85,7 +88,8 @@ def new(words: argparse.Namespace) -> int:
             raise Fault(f"this would be no lab: {answer.error}", answer.status)
         labs.write_new(slips_file, slips.page(made, here, words.port + index, lab_file))
         slips.write_all(made, words.port + index, slips_folder)
-        print(f"{lab_file}: {answer.output.strip().removeprefix('ok: ')}; slips: {slips_file} to print, {slips_folder} for programs")
+        size = answer.output.strip().removeprefix("ok: ")
+        print(f"{lab_file}: {size}; slips: {slips_file} to print, {slips_folder} for programs")
         if made.sessions < len(part) + 1:
             print(f"note: {made.sessions} sessions for {len(part)} students and a teacher: "
                   f"--groups {-(-len(everywhere) // (labs.MOST_SESSIONS - 1))} makes labs in which all have a place")

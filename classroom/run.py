@@ -8,7 +8,7 @@ from pathlib import Path
 
 from classroom import closing, server
 from classroom import lab as labs
-from classroom.folders import going, new_folder
+from classroom.folders import RECORD, Record, going, new_folder, of_folder
 from classroom.holding import Running, nobody, to_the_end
 from classroom.program import Fault
 from classroom.several import side_by_side
@@ -26,7 +26,8 @@ def port(word: str) -> int:
 
 def add_desk_words(words: argparse.ArgumentParser) -> None:
     """The words of who holds a desk."""
-    words.add_argument("--close", type=closing.mode, metavar="MODE", help="every:SECONDS, when-idle:SECONDS or by-hand (when-idle:2)")
+    words.add_argument("--close", type=closing.mode, metavar="MODE",
+                       help="every:SECONDS, when-idle:SECONDS or by-hand (when-idle:2)")
     words.add_argument("--until", choices=["stable"], help="end the run where no node is privileged")
     words.add_argument("--page", type=port, nargs="?", const=4780, metavar="PORT",
                        help="serve a page of the run, for the projector, at that port or the next free one (4780)")
@@ -35,7 +36,8 @@ def add_desk_words(words: argparse.ArgumentParser) -> None:
 
 def add_words(words: argparse.ArgumentParser) -> None:
     """The words of `run`."""
-    words.add_argument("labs", nargs="+", metavar="LAB", help="several run side by side, at a port each")
+    words.add_argument("labs", nargs="*", metavar="LAB", help="several run side by side, at a port each")
+    words.add_argument("--resume", metavar="FOLDER", help="go on with the run of a folder, whose server has ended")
     words.add_argument("--port", type=port, default=4711, help="the students' port, or else the next that is free (4711)")
     words.add_argument("--into", default="runs", help="where the run's folder is made (runs)")
     words.add_argument("--beside", action="store_true", help="start the class where a run of the lab goes on, too")
@@ -60,20 +62,38 @@ def one(words: argparse.Namespace, beside: Callable[[int], None] = nobody) -> in
         raise
 
 
+def resumed(words: argparse.Namespace) -> int:
+    """Goes on with a folder's run: its lab, journal, ports, page and way of closing, where no words say another."""
+    folder = Path(words.resume)
+    lab_file, _ = of_folder(folder)
+    record = Record.read(folder)
+    if record is None:
+        raise Fault(f"{folder}: it has no {RECORD}, which tells the ports")
+    if record.goes_on():
+        raise Fault(f"{folder}: its run goes on: ./class attach {folder}")
+    run = Running(folder, Path(record.lab), labs.read(lab_file), words.close or closing.closing(record.close),
+                  words.until or record.until, words.page or record.page, words.typed, Teller(folder), goes_on=True)
+    before = record
+    return to_the_end(run, lambda: begin(run, before.port, before))
+
+
 def refuse_beside(into: Path, lab_file: Path) -> None:
-    """Where a run of the lab goes on, says where."""
+    """Where a run of the lab goes on, or the last one didn't end, says where."""
     found = going(into, lab_file)
     if found is None:
         return
     folder, record = found
+    if not record.goes_on():
+        how = f"./class run --resume {folder} goes on with it; --beside starts another class"
+        raise Fault(f"the last run of {lab_file} didn't end: {how}")
     where = f"a run of {lab_file} goes on at port {record.port}, folder {folder}"
     how = "" if record.run.lives() and not record.left else f"./class attach {folder} takes it; "
     raise Fault(f"{where}; {how}--beside starts another class")
 
 
-def begin(run: Running, port_asked: int) -> server.Server:
+def begin(run: Running, port_asked: int, record: Record | None = None) -> server.Server:
     """Starts the server, and tells where the run is."""
-    it = server.start(run.folder, run.folder / "lab.toml", port_asked, run.lab.sessions, run.folder / "journal")
+    it = server.start(run.folder, run.folder / "lab.toml", port_asked, run.lab.sessions, run.folder / "journal", record)
     slips = run.lab_file.with_name(f"{run.lab_file.stem}-slips.txt")
     if slips.exists():
         run.tell(f"slips: {slips}")
@@ -88,5 +108,9 @@ def begin(run: Running, port_asked: int) -> server.Server:
 
 
 def run(words: argparse.Namespace) -> int:
-    """Runs a lab, or several side by side."""
+    """Runs a lab, or several side by side, or goes on with a run."""
+    if bool(words.labs) == bool(words.resume):
+        raise Fault("run: a LAB or several, or --resume FOLDER")
+    if words.resume:
+        return resumed(words)
     return one(words) if len(words.labs) == 1 else side_by_side(words)

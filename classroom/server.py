@@ -6,13 +6,14 @@ import re
 import signal
 import subprocess
 import time
+from collections.abc import Iterator
 from dataclasses import dataclass
 from pathlib import Path
 
-from classroom.folders import Process
+from classroom.folders import Process, Record
 from classroom.program import Fault, host, plain, ports_from, program
 
-LISTENING = re.compile(r"listening on port (\d+)(?:, desk on port (\d+))?")
+LISTENING = re.compile(r"(?m)^listening on port (?P<port>\d+)(?:, desk on port (?P<desk>\d+))?$")
 AGAIN = 0.01  # seconds between two looks at what a server has printed
 
 
@@ -57,36 +58,51 @@ class Server:
         return self.status()
 
     def printed(self) -> str:
-        """What it printed, after its first line."""
-        return self.output.read_text(encoding="utf-8", errors="replace").partition("\n")[2].strip()
+        """What it printed, after the line that tells its ports."""
+        text = self.output.read_text(encoding="utf-8", errors="replace")
+        return LISTENING.split(text)[-1].strip()
 
 
-def first_line(process: subprocess.Popen[bytes], output: Path) -> str:
-    """The first line that a server prints, or all where it ends before."""
+def first_line(process: subprocess.Popen[bytes], output: Path, before: int) -> str:
+    """The line in which a server tells its ports, or all that it printed where it ends before. `before` are the bytes
+    that stood there."""
     while True:
         ended = process.poll() is not None
-        line, newline, _ = output.read_text(encoding="utf-8", errors="replace").partition("\n")
-        if newline or ended:
-            return line
+        text = output.read_bytes()[before:].decode(errors="replace")
+        told = LISTENING.search(text)
+        if told or ended:
+            return told[0] if told else text.strip()
         time.sleep(AGAIN)
 
 
-def start(folder: Path, lab: Path, port: int, sessions: int, journal: Path) -> Server:
-    """Starts a host over a lab at the first free port from that on. Where no host is built, it is a server
-    for so many connections as the lab has sessions, and the teacher's desk is one of them."""
+def ports_of(port: int, resumed: Record | None) -> Iterator[tuple[int, int]]:
+    """The ports that are tried, the desk's 0 where the system chooses it; where a class goes on, its own first."""
+    if resumed is not None:
+        yield resumed.port, resumed.desk
+    yield from ((number, 0) for number in ports_from(resumed.port if resumed else port))
+
+
+def start(folder: Path, lab: Path, port: int, sessions: int, journal: Path, resumed: Record | None = None) -> Server:
+    """Starts a host over a lab at the first free port from that on, or one that goes on with a class. Where no host is
+    built, it is a server for so many connections as the lab has sessions, and the teacher's desk is one of them."""
     hosting = host()
-    for number in ports_from(port):
-        last = (plain(lab), str(number), "0") if hosting else (plain(lab), str(number), str(sessions))
-        words: list[str | Path] = [hosting, *last] if hosting else [program(), "serve", *last]
+    if resumed is not None and hosting is None:
+        raise Fault("no host is built, so no class goes on: ./mml host builds it")
+    for number, desk in ports_of(port, resumed):
+        ports = (str(number), str(desk)) if hosting else (str(number), str(sessions))
+        words: list[str | Path] = [hosting, "resume" if resumed else "host"] if hosting else [program(), "serve"]
         output = folder / "server.txt"
-        with output.open("wb") as prints:
+        with output.open("ab" if resumed else "wb") as prints:
+            before = prints.tell()
             process = subprocess.Popen(
-                [*words, plain(journal)], stdin=subprocess.DEVNULL, stdout=prints, stderr=prints, start_new_session=True,
+                [*words, plain(lab), *ports, plain(journal)], stdin=subprocess.DEVNULL, stdout=prints, stderr=prints,
+                start_new_session=True,
             )
-        line = first_line(process, output)
+        line = first_line(process, output, before)
         told = LISTENING.fullmatch(line)
         if told:
-            return Server(Process.of(process.pid), int(told[1]), int(told[2] or told[1]), hosting is not None, output, process)
+            desk_port = int(told["desk"] or told["port"])
+            return Server(Process.of(process.pid), int(told["port"]), desk_port, hosting is not None, output, process)
         status = process.wait()
         if not line.endswith("cannot listen"):
             raise Fault(f"the server doesn't start: {line}", status or 4)

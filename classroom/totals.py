@@ -33,7 +33,8 @@ class Total:
 
     def row(self) -> list[str]:
         """The numbers below HEADS."""
-        numbers = [self.granted, self.applied.total(), *(self.applied[rule] for rule in RULES), self.steps, self.shared, self.runs]
+        rules = [self.applied[rule] for rule in RULES]
+        numbers = [self.granted, self.applied.total(), *rules, self.steps, self.shared, self.runs]
         return list(map(str, numbers))
 
 

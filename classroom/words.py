@@ -10,6 +10,7 @@ from classroom import attach, check, demo, lists, mark, new, play, run
 from classroom.printable import printable
 from classroom.program import TOP, Fault
 from classroom.statuses import FAILED, TABLE, USAGE
+from classroom.typed import HELP
 
 
 class Parser(argparse.ArgumentParser):
@@ -49,8 +50,43 @@ def add_new(words: argparse.ArgumentParser) -> None:
     words.add_argument("--sessions", type=positive, help="how many places, one of them the teacher's (16)")
     words.add_argument("--teacher", default="teacher", help="the teacher's name")
     words.add_argument("--groups", type=positive, default=1, help="so many labs, each for a part of the class")
-    words.add_argument("--port", type=run.port, default=4711, help="the port that stands on the slips, of groups the first one's (4711)")
+    words.add_argument("--port", type=run.port, default=4711,
+                       help="the port that stands on the slips, of groups the first one's (4711)")
     words.set_defaults(work=new.new)
+
+
+# An example of each word; of those that hold a desk also what is typed there.
+TYPED = f"Typed there: {HELP}."
+EXAMPLES = {
+    "new": "Example: class new maths.toml --students names.csv --family grid:4x3 --start hurt",
+    "check": "Example: class check maths.toml",
+    "run": f"Examples: class run maths.toml --until stable --page; class run --resume runs/2026-11-24T1015-maths. {TYPED}",
+    "attach": f"Example: class attach runs/2026-11-24T1015-maths. {TYPED}",
+    "mark": "Example: class mark runs/*-maths --roster names.csv --total > marks.csv",
+    "play": "Example: class play runs/2026-11-24T1015-maths -o run.html",
+    "demo": "Example: class demo",
+}
+
+
+def add_mark(words: argparse.ArgumentParser) -> None:
+    """The words of `mark`."""
+    words.add_argument("runs", nargs="+", metavar="FOLDER.. or LAB JOURNAL..")
+    form = words.add_mutually_exclusive_group()
+    form.add_argument("--csv", action="store_true")
+    form.add_argument("--json", action="store_true")
+    form.add_argument("--total", action="store_true", help="a row a person over all runs (CSV)")
+    words.add_argument("--roster", metavar="FILE",
+                       help="the class list: its own rows with the totals, to go back into the platform")
+    lists.add_words(words)
+    words.set_defaults(work=mark.mark)
+
+
+def add_play(words: argparse.ArgumentParser) -> None:
+    """The words of `play`."""
+    words.add_argument("run", nargs="+", metavar="FOLDER or LAB JOURNAL")
+    words.add_argument("-o", "--output", help="the file to write (run.html, or PLACE.svg)")
+    words.add_argument("--svg", type=int, metavar="PLACE", help="the configuration after this place, as SVG")
+    words.set_defaults(work=play.play)
 
 
 def parser() -> argparse.ArgumentParser:
@@ -58,27 +94,19 @@ def parser() -> argparse.ArgumentParser:
     every = Parser(prog="class", description="A class from its list of names to its marks.", epilog=TABLE)
     every.add_argument("--version", action="version", version=f"class {version()}")
     each = every.add_subparsers(title="words", required=True)
-    add_new(each.add_parser("new", help="make a lab from a class list, and slips to print"))
-    words = each.add_parser("check", help="what mml says of a lab, and what a teacher would want to know")
+
+    def word(name: str, what: str) -> argparse.ArgumentParser:
+        return each.add_parser(name, help=what, description=what, epilog=EXAMPLES[name])
+
+    add_new(word("new", "make a lab from a class list, and slips to print"))
+    words = word("check", "what mml says of a lab, and what a teacher would want to know")
     words.add_argument("lab")
     words.set_defaults(work=check.check)
-    run.add_words(each.add_parser("run", help="run a class over a lab, in a folder of its own"))
-    attach.add_words(each.add_parser("attach", help="take the desk of a class whose run is gone, or has lost its terminal"))
-    words = each.add_parser("mark", help="what journals tell of each student")
-    words.add_argument("runs", nargs="+", metavar="FOLDER.. or LAB JOURNAL..")
-    form = words.add_mutually_exclusive_group()
-    form.add_argument("--csv", action="store_true")
-    form.add_argument("--json", action="store_true")
-    form.add_argument("--total", action="store_true", help="a row a person over all runs (CSV)")
-    words.add_argument("--roster", metavar="FILE", help="the class list: its own rows with the totals, to go back into the platform")
-    lists.add_words(words)
-    words.set_defaults(work=mark.mark)
-    words = each.add_parser("play", help="a run as one page that shows it, or a configuration as a picture")
-    words.add_argument("run", nargs="+", metavar="FOLDER or LAB JOURNAL")
-    words.add_argument("-o", "--output", help="the file to write (run.html, or PLACE.svg)")
-    words.add_argument("--svg", type=int, metavar="PLACE", help="the configuration after this place, as SVG")
-    words.set_defaults(work=play.play)
-    words = each.add_parser("demo", help="a class in a box: four bots, a run, marks")
+    run.add_words(word("run", "run a class over a lab, in a folder of its own, or go on with it"))
+    attach.add_words(word("attach", "take the desk of a class whose run is gone, or has lost its terminal"))
+    add_mark(word("mark", "what journals tell of each student"))
+    add_play(word("play", "a run as one page that shows it, or a configuration as a picture"))
+    words = word("demo", "a class in a box: four bots, a run, marks")
     words.add_argument("--into", default="runs", help="where the run's folder is made (runs)")
     words.set_defaults(work=demo.demo)
     return every

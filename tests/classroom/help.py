@@ -53,7 +53,8 @@ class Going:
     def __init__(self, test: InRoom, lab: Path | None, *more: str | Path, before: tuple[str, ...] = (), **environment: str) -> None:
         """`before` are words before the call: another program that makes it. Without a lab, `more` are all words."""
         self.lines: list[str] = []
-        words: list[str | Path] = ["run", lab, "--into", test.room / "runs", "--port", str(random.randint(20000, 50000)), *more] if lab else [*more]
+        at = str(random.randint(20000, 50000))
+        words: list[str | Path] = ["run", lab, "--into", test.room / "runs", "--port", at, *more] if lab else [*more]
         self.process = subprocess.Popen(
             [*before, sys.executable, TOP / "class", *words, "--typed"],
             stdin=subprocess.PIPE, stdout=subprocess.PIPE, stderr=subprocess.STDOUT, text=True,

@@ -107,7 +107,7 @@ class Attach(Cycle):
         going.type("end\nend")
         self.assertEqual(going.ends(), 0, going.lines)
         done = words("attach", going.folder)
-        self.assertEqual((done.returncode, done.stderr), (1, f"class: {going.folder}: its server has ended\n"))
+        self.assertEqual((done.returncode, done.stderr), (1, f"class: {going.folder}: its server has ended: ./class run --resume {going.folder}\n"))
         self.assertEqual(words("attach", self.room / "none").returncode, 1)
 
 

@@ -51,7 +51,7 @@ class Broken(Cycle):
                 move("jonas", 7), typed("cut 1 3"), typed("link 2 4")]
         for moment in range(10):
             with self.subTest(moment=moment):
-                going = Going(self, self.lab("cycle.toml", 16), "--close", "by-hand")
+                going = Going(self, self.lab("cycle.toml", 16), "--close", "by-hand", "--beside")
                 for act in acts[:moment]:
                     act(going)
                 os.kill(going.server(), signal.SIGKILL)

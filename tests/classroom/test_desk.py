@@ -20,7 +20,7 @@ from classroom.desk import Desk
 from classroom.printable import printable
 from classroom.program import host
 from classroom.typed import FORMS, NOW, Typed, understood
-from tests.classroom.help import CYCLE, EXAMPLES, KEYS, LIMIT, Cycle, Going, InTerminal, words
+from tests.classroom.help import CYCLE, EXAMPLES, KEYS, LIMIT, Cycle, Going, InRoom, InTerminal, words
 
 
 class Forms(unittest.TestCase):
@@ -194,6 +194,18 @@ class Late(Cycle):
         self.assertEqual(third.ends(), 0)
 
 
+class Disk(InRoom):
+    """What is told of a disk."""
+
+    def test_little_room_none_and_room_again(self) -> None:
+        room, told = Room(self.room), []
+        for left in (10**9, 65536, 65535, 4096, 0, 0, 10**9, 10**9):
+            room.due = 0.0
+            with unittest.mock.patch.object(room, "left", return_value=left):
+                told.append([line.partition(":")[0] for line in room.news()])
+        self.assertEqual(told, [[], [], ["the disk has little room"], [], ["the disk is full"], [], ["the disk has room again"], []])
+
+
 class Refused(Cycle):
     """What can't be done is told in a line, and no folder is left."""
 
@@ -222,6 +234,16 @@ class Refused(Cycle):
         with unittest.mock.patch.dict(os.environ, {"MML_HOST": str(broken)}):
             self.says(4, "class: the server doesn't start: no", "run", CYCLE, "--into", self.room / "runs")
         self.assertEqual(list((self.room / "runs").iterdir()), [])
+
+    def test_each_word_has_an_example(self) -> None:
+        everything = words("--help").stdout
+        self.assertIn("exit status: 0 done; ", " ".join(everything.split()))
+        for word in ("new", "check", "run", "attach", "mark", "play", "demo"):
+            self.assertIn(f"    {word} ", everything)
+            said = " ".join(words(word, "--help").stdout.split())
+            self.assertRegex(said, f"Examples?: class {word}")
+            for form in FORMS.values() if word in ("run", "attach") else ():
+                self.assertIn(form, said)
 
     def test_names_with_dots(self) -> None:
         students = self.file("students", "Ana\nBen\nCyd\n")

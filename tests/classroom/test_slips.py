@@ -15,7 +15,8 @@ from classroom.lab import read
 from tests.classroom.help import CYCLE, EXAMPLES, KEYS, LIMIT, Cycle, Going, InRoom, words
 
 TOP = EXAMPLES.parent
-BOT, TEACHER, BY_HAND = (sys.executable, EXAMPLES / "bot.py"), (sys.executable, EXAMPLES / "teacher.py"), (sys.executable, TOP / "classroom/client.py")
+BOT, TEACHER = (sys.executable, EXAMPLES / "bot.py"), (sys.executable, EXAMPLES / "teacher.py")
+BY_HAND = (sys.executable, TOP / "classroom/client.py")
 JAVA = ("java", EXAMPLES / "Bot.java")
 BOTS = (BOT, JAVA) if shutil.which("java") else (BOT,)
 Command = tuple[str | Path, ...]
