@@ -72,7 +72,7 @@ def time_serve(path):
 
 
 def time_host(path):
-    words = [TOP / "crates/mml_host/out/mml_host", path, "0", "0"]
+    words = [TOP / "crates/mml_host/out/mml_host", "host", path, "0", "0"]
     with subprocess.Popen(words, stdout=subprocess.PIPE) as server:
         port, desk = map(int, re.findall(rb"\d+", server.stdout.readline()))
         done = time_clients(port)

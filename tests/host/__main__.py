@@ -394,7 +394,8 @@ def few_descriptors(room: Path) -> None:
     """Where a host may have 24 files open, or twelve, thirty clients at once are all served in the end."""
     for descriptors in (24, 12):
         lab, journal = lab_of(room, 16), room / f"{descriptors}.journal"
-        with Host(lab, 0, 0, journal, descriptors=descriptors) as host:
+        limited = ["bash", "-c", f'ulimit -n {descriptors} && exec "$@"', "bash"]
+        with Host(lab, 0, 0, journal, before=limited) as host:
             served: list[tuple[bytes, ...]] = []
             teacher, _ = let_in(host.desk, hello("tess"))
             together = threading.Barrier(30)

@@ -6,8 +6,4 @@ pub mod HallsLemmas
 pub mod JournalsLemmas
 pub mod ShownLemmas
 pub mod TurnsLemmas
-pub mod AuditLemmas
-pub mod AuditMeaningLemmas
 pub mod HaltsLemmas
-pub mod ReadingLemmas
-pub mod AuditFaultLemmas

@@ -5,6 +5,4 @@ pub mod Halls
 pub mod ScriptLines
 pub mod Scripts
 pub mod Serving
-pub mod Audit
-pub mod AuditMeaning
 pub mod inside

@@ -1,4 +1,3 @@
--- What stands apart from the model: the steps of an audit that its functions take together, and how a script ends. No public clause cites it.
-pub mod Admitted
+-- What stands apart from the model: how a script ends. No public clause cites it.
 pub mod Ending
 pub mod HallView

@@ -1,14 +1,13 @@
 //! The server of one thread: requests of many connections answered in turn, and scripts of them.
 #![tactic(auto)]
 
-mod auditing;
 mod hall;
 pub mod laws;
 mod script;
 mod script_line;
 
-pub use auditing::{AuditFault, Audited, audit, audit_events, whole_lines};
 pub use hall::Hall;
+pub use mml_audit::{AuditFault, audit};
 pub use script::{ScriptFault, run_script};
 
 /// The most bytes of a script line, without its newline.

@@ -26,7 +26,7 @@ use Rattle.mml_codec.specs.Replies.{reply_line}
 use Rattle.mml_hall.specs.Turns.{State, Outcome, Turn, Run, RequestLine, Mishap, nothing, while_read, later, sink_failed, turn, plain_turn, known_on}
 use Rattle.mml_hall.specs.Turns.{with_known, settled, answer_to, told, opening, takes_memory, is_grant, without_memory, halting}
 use Rattle.mml_hall.specs.Transcripts.{Transcript, output_line, output_lines, bytes_written}
-use Rattle.mml_hall.proofs.AuditMeaningLemmas.{reached_first}
+use Rattle.mml_audit.proofs.AuditMeaningLemmas.{reached_first}
 use Rattle.mml_hidden.specs.Twins.{AreTwins, StatesAlike, is_hers}
 use Rattle.mml_hidden.specs.Scripted.{turn_of, replies_to, end_of, written_to, StayAlike, written_on, IsHersThroughout, OnlySheGreets, OnlySheIsKnown}
 use Rattle.mml_hidden.specs.Scripted.{AreUnhindered}

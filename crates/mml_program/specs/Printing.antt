@@ -4,7 +4,7 @@ use Rattle.std.specs.List.{concat}
 use Rattle.std.specs.Io.KnownBytes.{Appends}
 use Rattle.mml_lab.specs.Labs.{LabValue, link_count}
 use Rattle.mml_board.specs.World.{World, configuration, privileged_count}
-use Rattle.mml_hall.specs.Audit.{audited}
+use Rattle.mml_audit.specs.Audit.{audited}
 
 -- how many nodes, links and students there are
 abbrev pub size_line : ℕ → ℕ → ℕ → List ℕ

@@ -1,5 +1,5 @@
 //! What a lab file and a journal are refused for, in the words of their error lines.
-use mml_hall::AuditFault;
+use mml_audit::AuditFault;
 use mml_ids::IdFault;
 use mml_lab::{Key, LabFault};
 use thiserror::Error;

@@ -9,8 +9,9 @@ ghost use Rattle.mml_program.specs.Answering.{AnswersScript};
 ghost use Rattle.mml_program.specs.Printing.{lab_line, world_line, TellsAudited};
 
 use crate::fault::{Fault, memory_or};
+use mml_audit::audit;
 use mml_board::Board;
-use mml_hall::{Hall, audit, run_script};
+use mml_hall::{Hall, run_script};
 use mml_ids::{Piece, put};
 use mml_journal::Sink;
 use mml_lab::Lab;

@@ -43,6 +43,18 @@ const TESS_IS_TOLD: &str = r#"{"ok":"hello","who":"tess"}
 {"ok":"bye"}
 "#;
 
+/// What is told before all else.
+const FIRST: &[u8] = b"listening\n".as_slice();
+
+const TOLD: &[u8] = b"listening
+resumed at place 1, configuration 0, 1 chosen
+done: 2 events, configuration 1
+".as_slice();
+
+/// More than what is left of one line.
+const LONG: &str = "1 0 grant ana 1 seduction
+2 0 close and more and more and more and more and more and more and more and more and more and more and more.";
+
 const NEW: &str = "1 0 grant ana 1 seduction\n2 0 close\n";
 
 /// Keeps a journal in memory.
@@ -101,6 +113,7 @@ fn resume<R: Threads + Wait + Sync>(
         lab,
         old.as_bytes(),
         Shelf(alloc),
+        FIRST,
         at_desk,
         at_port,
         &count,
@@ -130,7 +143,7 @@ fn a_class_goes_on_where_its_journal_stopped(rt: HostRuntime) -> Result<(), Fail
     assert!(rt; sent_to(&left.others, 1) == Some(ANA_IS_TOLD.as_bytes()));
     assert!(rt; sent_to(&left.desk, 0) == Some(TESS_IS_TOLD.as_bytes()));
     assert!(rt; left.log.sink.bytes() == NEW.as_bytes());
-    assert!(rt; out.as_slice() == b"done: 2 events, configuration 1\n".as_slice());
+    assert!(rt; out.as_slice() == TOLD);
     let Ok(lab) = lab_of(alloc, 100)? else {
         return Err(Fail::from("no lab"));
     };
@@ -146,6 +159,8 @@ fn what_is_no_journal_is_refused(rt: HostRuntime) -> Result<(), Fail> {
     assert!(rt; matches!(empty, Err(ResumeFault::Refused(AuditFault::Illegal(1, Denial::Empty)))));
     let long = resume(&rt, alloc, 1, NEW, &mut out)?;
     assert!(rt; matches!(long, Err(ResumeFault::Refused(AuditFault::Full(2)))));
+    let torn = resume(&rt, alloc, 100, LONG, &mut out)?;
+    assert!(rt; matches!(torn, Err(ResumeFault::Refused(AuditFault::Torn(2)))));
     assert!(rt; out.is_empty());
     Ok(())
 }

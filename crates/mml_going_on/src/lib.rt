@@ -1,4 +1,0 @@
-//! Laws of lists and journals that go on.
-#![tactic(auto)]
-
-pub mod laws;
