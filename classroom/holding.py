@@ -12,7 +12,7 @@ from pathlib import Path
 
 from classroom import projector, server
 from classroom import lab as labs
-from classroom.attend import Room, attend
+from classroom.attend import TICK, Room, attend
 from classroom.client import Client, Closed, Denied, Refused
 from classroom.closing import Closing, spelled
 from classroom.connected import Connected
@@ -133,7 +133,8 @@ def take_leave(it: server.Server, desk: Desk, why: str, run: Running) -> int | N
     if not it.hosted and why != "died":
         it.stop()
     elif not waits(it, run):
-        tell(f"the server goes on by itself, process {it.process.number}: ./class attach {run.folder} takes its desk")
+        tell(f"the server is left to itself, process {it.process.number}: while it goes on, ./class attach {run.folder} "
+             "takes its desk; then ./class mark tells the marks")
         return None
     elif why == "died" or it.status() != 0:
         tell(f"the server has ended by itself, status {it.status()}: {it.printed()}")
@@ -145,10 +146,12 @@ def take_leave(it: server.Server, desk: Desk, why: str, run: Running) -> int | N
 
 def waits(it: server.Server, run: Running) -> bool:
     """Waits for the server's end, and says so where it is late; false where the teacher doesn't wait any longer."""
-    late = not it.ended(LATE)
-    if late:
-        run.tell(f"waiting for the server's end, process {it.process.number}; end leaves it to itself")
-    while not it.ended(0.1):
+    if it.ended(LATE):
+        return True
+    while not run.typed.empty():
+        run.typed.get()  # What was typed before isn't meant so.
+    run.tell(f"waiting for the server's end, process {it.process.number}; end leaves it to itself")
+    while not it.ended(TICK):
         if not run.typed.empty() and run.typed.get() in (NOW, "end"):
             return False
     return True

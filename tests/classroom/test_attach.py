@@ -93,6 +93,27 @@ class Attach(Cycle):
         self.assertEqual(again.ends(), 0, again.lines)
         self.assertEqual(self.whole(folder), 2)
 
+    def test_a_server_that_is_late_may_be_left(self) -> None:
+        going = Going(self, CYCLE, "--close", "by-hand")
+        server = going.server()
+        going.type("fault 1 2 true")
+        going.until("^configuration 1: ")
+        os.kill(server, signal.SIGSTOP)
+        self.addCleanup(self.end, server)
+        going.process.send_signal(signal.SIGTERM)
+        going.until("^the desk: no answer in ")
+        going.until(f"^waiting for the server's end, process {server}; end leaves it to itself$")
+        going.type("end")
+        self.assertEqual(going.ends(), 4, going.lines)
+        self.assertTrue(going.lines[-1].startswith(f"the server is left to itself, process {server}: "), going.lines)
+        self.assertTrue(Process.of(server).lives())
+        os.kill(server, signal.SIGCONT)
+        end = time.monotonic() + LIMIT
+        while Process.of(server).lives():  # It has the bye.
+            self.assertLess(time.monotonic(), end)
+            time.sleep(0.05)
+        self.assertIn("1 events, configuration 1, ", words("mark", going.folder).stdout)
+
     def until_told(self, folder: Path, line: str) -> None:
         """Waits until a run's own lines have one."""
         end = time.monotonic() + LIMIT
