@@ -45,6 +45,7 @@ class Running:
     tell: Teller
     beside: Callable[[int], None] = nobody
     goes_on: bool = False  # Whether it had begun before.
+    by_number: bool = False  # Whether its server is one for a number of connections.
     typed: Typed = field(default_factory=queue.SimpleQueue)
     pages: projector.Pages | None = None
     terminal: Terminal | None = None

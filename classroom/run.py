@@ -40,6 +40,8 @@ def add_words(words: argparse.ArgumentParser) -> None:
     words.add_argument("--resume", metavar="FOLDER", help="go on with the run of a folder, whose server has ended")
     words.add_argument("--port", type=port, default=4711, help="the students' port, or else the next that is free (4711)")
     words.add_argument("--into", default="runs", help="where the run's folder is made (runs)")
+    words.add_argument("--serve", action="store_true",
+                       help="no host: a server for so many connections in all as the lab has sessions")
     words.add_argument("--beside", action="store_true", help="start the class where a run of the lab goes on, too")
     add_desk_words(words)
     words.set_defaults(work=run)
@@ -48,12 +50,14 @@ def add_words(words: argparse.ArgumentParser) -> None:
 def one(words: argparse.Namespace, beside: Callable[[int], None] = nobody) -> int:
     """A run from its folder to its marks."""
     lab_file, into = Path(words.labs[0]), Path(words.into)
+    server.ready(words.serve)
     lab = labs.read(lab_file)
     if not words.beside:
         refuse_beside(into, lab_file)
     folder = new_folder(into, lab_file)
     (folder / "lab.toml").write_bytes(lab_file.read_bytes())
-    run = Running(folder, lab_file, lab, words.close or CLOSING, words.until, words.page, words.typed, Teller(folder), beside)
+    run = Running(folder, lab_file, lab, words.close or CLOSING, words.until, words.page, words.typed, Teller(folder), beside,
+                  by_number=words.serve)
     try:
         return to_the_end(run, lambda: begin(run, words.port))
     except Fault:
@@ -93,14 +97,15 @@ def refuse_beside(into: Path, lab_file: Path) -> None:
 
 def begin(run: Running, port_asked: int, record: Record | None = None) -> server.Server:
     """Starts the server, and tells where the run is."""
-    it = server.start(run.folder, run.folder / "lab.toml", port_asked, run.lab.sessions, run.folder / "journal", record)
+    by_number = run.lab.sessions if run.by_number else None
+    it = server.start(run.folder, run.folder / "lab.toml", port_asked, run.folder / "journal", by_number, record)
     slips = run.lab_file.with_name(f"{run.lab_file.stem}-slips.txt")
     if slips.exists():
         run.tell(f"slips: {slips}")
     if it.port != port_asked:
         run.tell(f"port {port_asked} is in use")
     places = f"{run.lab.sessions - 1} students at once" if it.hosted else \
-        f"{run.lab.sessions} connections in all, the teacher's among them, since no host is built: ./mml host builds it"
+        f"{run.lab.sessions} connections in all, the teacher's among them"
     run.tell(f"port {it.port}, for {places}; folder {run.folder}")
     if it.hosted:
         run.tell(f"desk {it.desk}")

@@ -11,7 +11,7 @@ from dataclasses import dataclass
 from pathlib import Path
 
 from classroom.folders import Process, Record
-from classroom.program import Fault, host, plain, ports_from, program
+from classroom.program import Fault, host, is_clone, plain, ports_from, program
 
 LISTENING = re.compile(r"(?m)^listening on port (?P<port>\d+)(?:, desk on port (?P<desk>\d+))?$")
 AGAIN = 0.01  # seconds between two looks at what a server has printed
@@ -82,14 +82,22 @@ def ports_of(port: int, resumed: Record | None) -> Iterator[tuple[int, int]]:
     yield from ((number, 0) for number in ports_from(resumed.port if resumed else port))
 
 
-def start(folder: Path, lab: Path, port: int, sessions: int, journal: Path, resumed: Record | None = None) -> Server:
-    """Starts a host over a lab at the first free port from that on, or one that goes on with a class. Where no host is
-    built, it is a server for so many connections as the lab has sessions, and the teacher's desk is one of them."""
-    hosting = host()
-    if resumed is not None and hosting is None:
-        raise Fault("no host is built, so no class goes on: ./mml host builds it")
+def ready(by_number: bool) -> None:
+    """Wants that what `start` starts is built."""
+    program()
+    if not by_number and host() is None:
+        how = "`./mml build` builds it (with the toolchain's rt on the path)" if is_clone() else "this release has none"
+        raise Fault(f"mml_host isn't built: {how}; --serve takes a server for as many connections in all as the lab has sessions")
+
+
+def start(folder: Path, lab: Path, port: int, journal: Path, by_number: int | None = None,
+          resumed: Record | None = None) -> Server:
+    """Starts a host over a lab at the first free port from that on, or one that goes on with a class; or, by number, a
+    server for so many connections, of which the teacher's desk is one."""
+    ready(by_number is not None)
+    hosting = host() if by_number is None else None
     for number, desk in ports_of(port, resumed):
-        ports = (str(number), str(desk)) if hosting else (str(number), str(sessions))
+        ports = (str(number), str(desk if by_number is None else by_number))
         words: list[str | Path] = [hosting, "resume" if resumed else "host"] if hosting else [program(), "serve"]
         output = folder / "server.txt"
         with output.open("ab" if resumed else "wb") as prints:

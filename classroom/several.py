@@ -23,6 +23,7 @@ def prefixed(words: argparse.Namespace, index: int) -> Child:
     more = ["--until", words.until] if words.until else []
     more += ["--page", str(words.page + index)] if words.page is not None else []
     more += ["--beside"] if words.beside else []
+    more += ["--serve"] if words.serve else []
     more += ["--close", spelled(words.close)] if words.close else []
     return subprocess.Popen(
         [sys.executable, TOP / "class", "run", words.labs[index], "--port", str(words.port + index), "--typed",

@@ -137,7 +137,7 @@ class Late(Cycle):
 
     def test_a_server_that_is_late_is_waited_for(self) -> None:
         lab = labs.read(CYCLE)
-        it = server.start(self.room, CYCLE, 29000, lab.sessions, self.room / "journal")
+        it = server.start(self.room, CYCLE, 29000, self.room / "journal")
         self.addCleanup(lambda: it.ended() or it.stop())
         lines: list[str] = []
         desk = Desk(lab, self.room / "journal", Client(it.desk, *lab.teacher, limit=0.5), ("by-hand", 0.0), lines.append)

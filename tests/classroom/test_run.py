@@ -7,6 +7,7 @@ import socket
 import subprocess
 import sys
 import unittest
+from pathlib import Path
 
 from classroom.client import Client, Closed, Denied, Refused
 from tests.classroom.help import CYCLE, EXAMPLES, KEYS, LIMIT, Cycle, Going, words
@@ -86,9 +87,30 @@ class Run(Cycle):
             self.assertEqual(going.ends(), 0)
 
     def test_nothing_built(self) -> None:
-        done = words("run", CYCLE, MML_PROGRAM=str(self.room / "none"))
+        done = words("run", CYCLE, "--into", self.room / "runs", MML_PROGRAM=str(self.room / "none"))
         self.assertEqual(done.returncode, 1)
-        self.assertIn("mml isn't built", done.stderr)
+        self.assertIn("mml isn't built: `./mml build` builds it", done.stderr)
+        self.assertFalse((self.room / "runs").exists())
+
+    def test_no_host_built(self) -> None:
+        """A run wants a host, and says how to get one; who wants a server for a number of connections says so."""
+        none = str(self.room / "none")
+        asked: tuple[list[str | Path], ...] = (["run", CYCLE], ["demo"])
+        for given in asked:
+            done = words(*given, "--into", self.room / "runs", MML_HOST=none)
+            self.assertEqual(done.returncode, 1)
+            self.assertIn("mml_host isn't built: `./mml build` builds it", done.stderr)
+            self.assertIn("--serve", done.stderr)
+        self.assertFalse((self.room / "runs").exists())
+        going = Going(self, CYCLE, "--close", "by-hand", "--serve", MML_HOST=none)
+        self.assertTrue(any("connections in all" in line for line in going.lines), going.lines)
+        with Client(going.port, "gus", KEYS["gus"]) as gus:
+            gus.move(gus.look(4))
+        going.type("close")
+        going.until("^configuration 1: 4 \\(gus\\) update")
+        going.type("end\nend")
+        self.assertEqual(going.ends(), 0, going.lines)
+        self.assertEqual(self.whole(going.folder), 2)
 
     def test_no_server(self) -> None:
         with socket.create_server(("127.0.0.1", 0)) as free:
