@@ -92,10 +92,13 @@ class Record:
             return None
 
     def write(self, folder: Path) -> None:
-        """Keeps it."""
+        """Keeps it; a full disk, which keeps what stood there, ends nothing."""
         new = folder / f"{RECORD}.new"
-        new.write_text(json.dumps(asdict(self)) + "\n", encoding="utf-8")
-        new.replace(folder / RECORD)
+        try:
+            new.write_text(json.dumps(asdict(self)) + "\n", encoding="utf-8")
+            new.replace(folder / RECORD)
+        except OSError:
+            new.unlink(missing_ok=True)
 
     def goes_on(self) -> bool:
         """Whether the run or its server hasn't ended."""
