@@ -23,8 +23,8 @@ class Judged:
 
 
 def right_lines(function: str, told: Told) -> str:
-    """The lines that an edit of a function may have, those of a clause first."""
-    goals = sorted(told.open_goals.get(function, ()), key=lambda goal: "clause" not in goal)
+    """The lines that an edit of a function may have, those of what it promises first."""
+    goals = sorted(told.open_goals.get(function, ()), key=lambda goal: (not goal.startswith("returns"), "clause" not in goal))
     return " or ".join(f"'{Refusal(function, goal).line()}'" for goal in goals[:3])
 
 

@@ -6,7 +6,7 @@ from dataclasses import dataclass, field
 
 LINE = re.compile(r"fn (\S+): (.*)")
 OPEN = re.compile(r"`search` did not prove ((?:`[^`]+`(?:, )?)+)")
-CALLS = re.compile(r"it calls `[^;]*which (?:is|are) not proved")
+RESTS = re.compile(r"it (?:calls|passes) [^;]*which (?:is|are) not proved")
 ERROR = re.compile(r"(?:\./)?(\S+?):\d+:\d+: error\b.*")
 GOAL = re.compile(r"(?:\./)?proofs/(\S+)/(?:Answers|Invariants|Proof)\.antt:\d+:\d+: error: `([^`]+)`: (.*)")
 LOST = re.compile(r"has no field|is not in scope|has no `|was not admitted")
@@ -40,7 +40,7 @@ class Told:
         found = OPEN.search(said)
         for goal in re.findall(r"`([^`]+)`", found[1]) if found else ():
             self.add_goal(name, goal)
-        if CALLS.search(said):
+        if RESTS.search(said):
             self.resting.add(name)
 
     def add_error(self, line: str) -> None:
