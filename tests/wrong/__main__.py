@@ -123,7 +123,7 @@ def crates_of(tree: Tree, names: list[str]) -> list[str]:
 def main() -> int:
     """Tries the edits, and says how many passed."""
     asked = words()
-    for it in (signal.SIGTERM, signal.SIGHUP):
+    for it in (signal.SIGINT, signal.SIGTERM, signal.SIGHUP):
         signal.signal(it, lambda number, _: sys.exit(128 + number))
     try:
         tree = tree_at(TOP)

@@ -15,6 +15,8 @@ from tests.wrong.libraries import Tree, check_words
 
 # What a check of one of the larger crates may hold in memory.
 MOST_HELD = 2_500_000_000
+# A check is ended with this process too, however that ends.
+WITH_THIS_PROCESS = ("setpriv", "--pdeathsig", "KILL")
 
 
 class Stopped(Exception):
@@ -44,7 +46,7 @@ class Running:
             with self.lock:
                 if self.is_over:
                     raise Stopped
-                check = subprocess.Popen(words, cwd=folder, stdin=subprocess.DEVNULL, stdout=output, stderr=subprocess.STDOUT)
+                check = subprocess.Popen([*WITH_THIS_PROCESS, *words], cwd=folder, stdin=subprocess.DEVNULL, stdout=output, stderr=subprocess.STDOUT)
                 self.checks.add(check)
             _, status, used = os.wait4(check.pid, 0)
             with self.lock:

@@ -9,7 +9,7 @@ A wrong body is a file `crates/NAME/wrong/WHAT_IT_DOES.edit`:
 
 FUNCTION is a path below the crate, GOAL what the prover must leave open there; there may be several such
 lines. Each TEXT is one line, `old` stands exactly once in the file, and further pairs apply to what the
-earlier ones made.
+earlier ones made. A pair of `proofs/` gives a part of the body its new name in an answer.
 """
 from __future__ import annotations
 
@@ -98,8 +98,8 @@ def parse_edit(name: str, text: str) -> Edit:
             raise EditFault(f"{name}: a line that isn't read: {line[:80]}")
     if not wanted:
         raise EditFault(f"{name}: no line '{MARK} FUNCTION GOAL'; with any goal there, this test says the right one")
-    if not pairs or old:
-        raise EditFault(f"{name}: no whole pair of an 'old:' and a 'new:' line")
+    if not any(it.file.startswith("src/") for it in pairs) or old:
+        raise EditFault(f"{name}: no whole pair of an 'old:' and a 'new:' line in a file of src/")
     return Edit(name, tuple(wanted), tuple(pairs))
 
 
@@ -109,8 +109,8 @@ def apply_edit(edit: Edit, texts: Mapping[str, str], folder: Path) -> dict[str, 
     for pair in edit.pairs:
         if pair.file not in after:
             path = folder / pair.file
-            if not pair.file.startswith("src/") or ".." in path.parts or not path.is_file():
-                raise EditFault(f"{edit.name}: no file of src/: {pair.file}")
+            if not pair.file.startswith(("src/", "proofs/")) or ".." in path.parts or not path.is_file():
+                raise EditFault(f"{edit.name}: no file of src/ or proofs/: {pair.file}")
             after[pair.file] = path.read_text(encoding="utf-8")
         found = after[pair.file].count(pair.old)
         if found != 1:

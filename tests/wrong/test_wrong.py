@@ -173,6 +173,7 @@ class Reading(unittest.TestCase):
             ("file: src/lib.rt\nold: one\nnew: 1\n", "no line '# refused: FUNCTION GOAL'"),
             ("# refused: f\nfile: src/lib.rt\nold: one\nnew: 1\n", "not a line '# refused: FUNCTION GOAL'"),
             ("# refused: f g\nfile: src/lib.rt\nold: one\n", "no whole pair"),
+            ("# refused: f g\nfile: proofs/f/Answers.antt\nold: one\nnew: 1\n", "no whole pair .* of src/"),
             ("# refused: f g\nfile: src/lib.rt\nold: one\nmore\nnew: 1\n", "a line that isn't read: more"),
         ):
             with self.assertRaisesRegex(EditFault, said):
@@ -183,7 +184,7 @@ class Reading(unittest.TestCase):
         self.write("good.edit", "# refused: f g", "file: src/lib.rt", "old: one", "new: 1")
         self.write("twice.edit", "# refused: f g", "file: src/lib.rt", "old: two", "new: 2")
         self.write("gone.edit", "# refused: f g", "file: src/lib.rt", "old: four", "new: 4")
-        self.write("outside.edit", "# refused: f g", "file: specs/Lib.antt", "old: one", "new: 1")
+        self.write("outside.edit", "# refused: f g", "file: src/lib.rt", "old: one", "new: 1", "file: specs/Lib.antt", "old: one", "new: 1")
         self.write("notes.txt")
         edits, faults = read_edits(self.folder)
         self.assertEqual([it.name for it in edits], ["good.edit"])
@@ -192,7 +193,7 @@ class Reading(unittest.TestCase):
             [
                 "gone.edit: a text stands 0 times in src/lib.rt, and not once: four",
                 "notes.txt: an edit's name ends in .edit",
-                "outside.edit: no file of src/: specs/Lib.antt",
+                "outside.edit: no file of src/ or proofs/: specs/Lib.antt",
                 "twice.edit: a text stands 2 times in src/lib.rt, and not once: two",
             ],
         )
