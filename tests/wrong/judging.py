@@ -59,16 +59,22 @@ def judge_others(named: set[str], told: Told) -> list[str]:
     return faults
 
 
+def is_closure(function: str) -> bool:
+    """Whether a line is of a closure, or of how it is called: the check's counts leave these out."""
+    return "fn" in function.split("::")
+
+
 def judge_counts(named: set[str], told: Told) -> list[str]:
     """Whether the check came to its end, and its counts are those of its lines."""
     if told.ending is None:
         return [f"the check came to no end: {told.last[:LONGEST]}"]
     asked, proved = told.ending
-    refused = [it for it in told.functions - told.proved if it in told.open_goals or it in told.resting]
-    if asked != len(told.functions) or proved != len(told.proved) or asked != proved + len(refused):
+    functions = {it for it in told.functions if not is_closure(it)}
+    refused = {it for it in functions - told.proved if it in told.open_goals or it in told.resting}
+    if asked != len(functions) or proved != len(functions & told.proved) or asked != proved + len(refused):
         return [
-            f"the counts don't fit: only={asked} proved={proved}, where {len(told.functions)} functions have a line, "
-            f"{len(told.proved)} of them proved and {len(refused)} refused"
+            f"the counts don't fit: only={asked} proved={proved}, where {len(functions)} functions have a line, "
+            f"{len(functions & told.proved)} of them proved and {len(refused)} refused"
         ]
     return [] if named <= told.functions else ["the counts don't fit: a function that an edit names has no line"]
 

@@ -127,6 +127,11 @@ class Judging(unittest.TestCase):
         found = judged(output.replace("only=3 proved=1", "only=3 proved=0"), NEVER, THERE)
         self.assertEqual(found.of_round, [])
 
+    def test_closures(self) -> None:
+        """Closures have lines that no count has."""
+        line = f"fn {CRATE}::retrying::fn::is_interrupted::any: proved\nfn {CRATE}::retrying::fn::is_interrupted::any+FnMut::call_mut: proved\n"
+        self.assertEqual(judged(line + kept("three_bodies.txt"), NEVER, THERE).of_round, [])
+
     def test_no_verdict(self) -> None:
         """A function of which the prover could tell nothing isn't refused."""
         output = kept("three_bodies.txt").replace("is_out_of_memory: proved", "is_out_of_memory: could not tell")
