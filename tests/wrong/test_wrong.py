@@ -9,13 +9,14 @@ import tempfile
 import unittest
 from pathlib import Path
 
-from tests.wrong.__main__ import TOP, Tried, try_crate
 from tests.wrong.checks import Running, Stopped, lane_count
 from tests.wrong.edits import Edit, EditFault, Pair, Refusal, parse_edit, read_edits, rounds_of
 from tests.wrong.judging import Judged, judge
 from tests.wrong.libraries import parse_uses, tree_at
 from tests.wrong.outputs import read_output
+from tests.wrong.trying import Tried, try_crate
 
+TOP = Path(__file__).resolve().parents[2]
 KEPT = Path(__file__).with_name("kept")
 CRATE = "mml_ends"
 FILE = "src/retrying.rt"
@@ -233,7 +234,7 @@ class Trying(unittest.TestCase):
             (folder / "wrong").mkdir()
             for edit in edits:
                 (folder / "wrong" / edit.name).write_text(text_of(edit), encoding="utf-8")
-            return try_crate(tree_at(top), CRATE, Running(), None)
+            return try_crate(tree_at(top), CRATE, Running())
 
     def test_three_bodies(self) -> None:
         """One that is refused, one that means the same and one that is refused elsewhere, by one check."""
@@ -260,7 +261,7 @@ class Trying(unittest.TestCase):
             (folder / "src/lib.rt").write_text("one\n", encoding="utf-8")
             (folder / "wrong/it.edit").write_text("# refused: f g\nfile: src/lib.rt\nold: one\nnew: 1\n", encoding="utf-8")
             (top / "crates.txt").write_text("below:\nabove: below\n", encoding="utf-8")
-            tried = try_crate(tree_at(top), "above", Running(), None)
+            tried = try_crate(tree_at(top), "above", Running())
         self.assertEqual((tried.checks, tried.passed, tried.failed), (0, 0, 1))
         self.assertEqual(tried.faults, ["not built, which `rt ci` or `rt check` does: below"])
 
