@@ -35,7 +35,8 @@ class Told:
     def add_function(self, name: str, said: str) -> None:
         """The line of a function."""
         self.functions.add(name)
-        if said in ("proved", "assumed"):
+        # ("proved, may wait" is of one that waits for other threads)
+        if said.partition(",")[0] in ("proved", "assumed"):
             self.proved.add(name)
         found = OPEN.search(said)
         for goal in re.findall(r"`([^`]+)`", found[1]) if found else ():

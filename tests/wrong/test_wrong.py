@@ -133,6 +133,11 @@ class Judging(unittest.TestCase):
         line = f"fn {CRATE}::retrying::fn::is_interrupted::any: proved\nfn {CRATE}::retrying::fn::is_interrupted::any+FnMut::call_mut: proved\n"
         self.assertEqual(judged(line + kept("three_bodies.txt"), NEVER, THERE).of_round, [])
 
+    def test_a_function_that_may_wait(self) -> None:
+        """It is proved as others are."""
+        output = kept("three_bodies.txt").replace("is_out_of_memory: proved", "is_out_of_memory: proved, may wait")
+        self.assertEqual(judged(output, NEVER, THERE).of_round, [])
+
     def test_no_verdict(self) -> None:
         """A function of which the prover could tell nothing isn't refused."""
         output = kept("three_bodies.txt").replace("is_out_of_memory: proved", "is_out_of_memory: could not tell")
