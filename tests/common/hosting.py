@@ -9,7 +9,7 @@ import struct
 import subprocess
 import sys
 import time
-from collections.abc import Sequence
+from collections.abc import Mapping, Sequence
 from pathlib import Path
 from types import TracebackType
 from typing import Optional
@@ -58,12 +58,15 @@ def lab_of(room: Path, sessions: int, events: int = 1000) -> Path:
 class Host:
     """A host that listens, or has ended before. It doesn't outlive the block in which it is used."""
 
-    def __init__(self, *words: object, descriptors: int = 0) -> None:
-        """`descriptors` is how many files it may have open, where that is limited."""
-        before = ["bash", "-c", f'ulimit -n {descriptors} && exec "$@"', "bash"] if descriptors else []
+    def __init__(
+        self, *words: object, word: str = "host", before: Sequence[str] = (),
+        variables: Optional[Mapping[str, str]] = None,
+    ) -> None:
+        """`word` is whether a class begins or goes on, `before` what calls the program, and `variables` what else
+        its environment has."""
         self.process = subprocess.Popen(
-            [*before, HOST, *map(str, words)], stdin=subprocess.DEVNULL, stdout=subprocess.PIPE, stderr=subprocess.PIPE,
-            env={"PATH": "/usr/bin:/bin"},
+            [*before, HOST, word, *map(str, words)], stdin=subprocess.DEVNULL, stdout=subprocess.PIPE,
+            stderr=subprocess.PIPE, env={"PATH": "/usr/bin:/bin", **(variables or {})},
         )
         assert self.process.stdout is not None
         told = LISTENS.fullmatch(self.process.stdout.readline())
@@ -78,6 +81,12 @@ class Host:
     ) -> None:
         self.process.kill()
         self.process.communicate()
+
+    def killed(self) -> Ended:
+        """Kills it; answers what it wrote after its first line."""
+        self.process.kill()
+        out, error = self.process.communicate()
+        return Ended(self.process.returncode, out, error)
 
     def runs(self) -> bool:
         """Whether it hasn't ended."""

@@ -2,7 +2,11 @@
 #![tactic(auto)]
 
 mod journal_file_fault;
+mod lab_copy;
+mod old_journal;
 mod open_journal;
+mod paths;
 
 pub use journal_file_fault::JournalFileFault;
-pub use open_journal::OpenJournal;
+pub use old_journal::OldJournal;
+pub use open_journal::{BegunJournal, LabFile, OpenJournal};

@@ -1,6 +1,9 @@
 -- The errors of the host that those of the crates below are.
+use Rattle.std.specs.Prelude.{◌≡◌}
 use Rattle.mml_hosting.specs.declared.hosted.HostFault.{HostFault}
 use Rattle.mml_hosting.specs.declared.hosted.HostFault.TheVariants as hosting
+use Rattle.mml_resuming.specs.declared.resuming.ResumeFault.{ResumeFault}
+use Rattle.mml_resuming.specs.declared.resuming.ResumeFault.TheVariants as resuming
 use Rattle.mml_program.specs.declared.fault.Fault.TheVariants as program
 use Rattle.mml_host_program.specs.declared.fault.Fault.{Fault}
 use Rattle.mml_host_program.specs.declared.fault.Fault.TheVariants as fault
@@ -13,3 +16,10 @@ of_hosting hosting.Undismissed = fault.Accept
 of_hosting hosting.Astray = fault.Astray
 of_hosting hosting.Halted = fault.Common program.Journal
 of_hosting hosting.Write = fault.Common program.Write
+
+-- a file that can't be cut is told as one that can't be made; which words the audit has is tested
+abbrev pub IsToldAs : ResumeFault → Fault → Type 0
+IsToldAs (resuming.Refused why) told = Unit {0}
+IsToldAs resuming.Memory told = told ≡ fault.Common program.Memory
+IsToldAs resuming.Store told = told ≡ fault.Common program.Journal
+IsToldAs (resuming.Host why) told = told ≡ of_hosting why

@@ -1,9 +1,14 @@
 -- What a host tells at its beginning and at its end.
-use Rattle.std.specs.Prelude.{ℕ, List, [], ◌∷◌, codes, decimal, Option}
+use Rattle.std.specs.Prelude.{◌≡◌, ℕ, true, List, [], ◌∷◌, ◌++◌, length, codes, decimal, Option}
 use Rattle.std.specs.List.{concat}
 use Rattle.std.specs.Io.KnownBytes.{Appends}
+use mathlib.Core.List.{IsPrefix}
 use Rattle.mml_lab.specs.Labs.{LabValue}
-use Rattle.mml_serving.specs.Closings.{Closes}
+use Rattle.mml_board.specs.declared.event.Event.{Event}
+use Rattle.mml_window.specs.Lists.{is_legal_in, world_in}
+use Rattle.mml_audit.specs.AuditMeaning.{IsJournalOf}
+use Rattle.mml_serving.specs.Closings.{Closes, done_line}
+use Rattle.mml_resuming.specs.Resuming.{whole_of, resumed_line}
 
 abbrev pub ports_line : ℕ → ℕ → List ℕ
 ports_line port desk = concat (codes "listening on port " ∷ decimal port ∷ codes ", desk on port " ∷ decimal desk ∷ codes "\n" ∷ [])
@@ -13,3 +18,15 @@ pub record TellsClass (lab : LabValue) (port desk : ℕ) (wrote wrote' : Option 
   pub between : Option (List ℕ)
   pub first : Appends wrote between (ports_line port desk)
   pub last : Closes lab between wrote'
+
+-- first the ports and where the old journal's lines lead, and then how many events a legal list has that begins with theirs, and the
+-- number that it leads to
+pub record TellsResumed (lab : LabValue) (old : List ℕ) (port desk : ℕ) (wrote wrote' : Option (List ℕ)) : Type 0 where
+  pub begun : List Event
+  pub events : List Event
+  pub between : Option (List ℕ)
+  pub journal : IsJournalOf lab begun (whole_of old)
+  pub begins : IsPrefix begun events
+  pub legal : is_legal_in lab events ≡ true
+  pub first : Appends wrote between (ports_line port desk ++ resumed_line (world_in lab begun))
+  pub last : Appends between wrote' (done_line (length events) (world_in lab events).number)

@@ -3,7 +3,9 @@ ghost use Rattle.std.specs.Prelude.{◌≡◌, true, false};
 
 use mml_files::JournalFileFault;
 use mml_hosting::HostFault;
+use mml_ids::Memory;
 use mml_program::Fault as ProgramFault;
+use mml_resuming::ResumeFault;
 use thiserror::Error;
 
 /// Why the host ended before its work was done.
@@ -24,6 +26,9 @@ pub enum Fault {
     /// There was no reader's place for a window.
     #[error("host: no place for a window")]
     Place,
+    /// The copy of a lab beside the journal isn't of this lab.
+    #[error("resume: another lab")]
+    AnotherLab,
 }
 
 impl Fault {
@@ -31,6 +36,7 @@ impl Fault {
     pub fn status(&self) -> u8 {
         match self {
             Fault::Common(fault) => fault.status(),
+            Fault::AnotherLab => 2,
             Fault::Listen | Fault::Accept | Fault::Astray => 4,
             Fault::Place => 5,
         }
@@ -62,6 +68,29 @@ impl From<ProgramFault> for Fault {
 impl From<JournalFileFault> for Fault {
     fn from(fault: JournalFileFault) -> Fault {
         Fault::Common(ProgramFault::from(fault))
+    }
+}
+
+impl From<Memory> for Fault {
+    fn from(_memory: Memory) -> Fault
+        ensures { result ≡ Fault.Common ProgramFault.Memory }
+    {
+        Fault::Common(ProgramFault::Memory)
+    }
+}
+
+impl From<ResumeFault> for Fault {
+    ghost use Rattle.mml_host_program.specs.Faults.{IsToldAs};
+
+    ghost from_gives = { IsToldAs };
+
+    fn from(fault: ResumeFault) -> Fault {
+        match fault {
+            ResumeFault::Refused(why) => Fault::Common(ProgramFault::from(why)),
+            ResumeFault::Memory => Fault::Common(ProgramFault::Memory),
+            ResumeFault::Store => Fault::Common(ProgramFault::Journal),
+            ResumeFault::Host(fault) => Fault::from(fault),
+        }
     }
 }
 

@@ -2,10 +2,19 @@
 ghost use Rattle.std.specs.Prelude.{MatchOption};
 ghost use Rattle.mml_host_program.specs.Words.{Names, NamesNone};
 
-use clap::ArgMatches;
+use clap::{ArgMatches, Command};
 use mml_program::{Fault as ProgramFault, command_of, match_words, with_journal};
 use mml_serving::read_port as read_some_port;
-use std::alloc::Global;
+use std::alloc::{AllocError, Global};
+
+/// What the words ask for.
+#[derive(Clone, Copy, Debug, PartialEq, Eq, Drop)]
+pub enum Task<'a> {
+    /// To serve a class from its beginning.
+    Host(HostTask<'a>),
+    /// To serve a class that goes on from its journal.
+    Resume(ResumeTask<'a>),
+}
 
 /// A lab's class at two ports, each 0 where the system is to choose. The lines of the granted events go
 /// to the journal, where one is named.
@@ -17,22 +26,51 @@ pub struct HostTask<'a> {
     pub journal: Option<&'a str>,
 }
 
-/// Reads the words, of which the first is the program's name.
-pub fn read_words<'a>(alloc: Global, words: &'a [String]) -> Result<HostTask<'a>, ProgramFault> {
-    let command = with_journal(
-        alloc,
-        command_of(alloc, "mml_host", &["lab", "port", "desk"])?,
-    )?;
-    task_of(&match_words(command, words)?).ok_or(ProgramFault::CommandLine)
+/// The same, where the journal has what was granted before.
+#[derive(Clone, Copy, Debug, PartialEq, Eq, Drop)]
+pub struct ResumeTask<'a> {
+    pub lab: &'a str,
+    pub port: u16,
+    pub desk: u16,
+    pub journal: &'a str,
 }
 
-fn task_of<'a>(values: &ArgMatches<'a>) -> Option<HostTask<'a>> {
-    Some(HostTask {
-        lab: values.get_str("lab")?,
-        port: read_port(values.get_str("port")?)?,
-        desk: read_port(values.get_str("desk")?)?,
-        journal: values.get_str("journal"),
-    })
+/// Reads the words, of which the first is the program's name.
+pub fn read_words<'a>(alloc: Global, words: &'a [String]) -> Result<Task<'a>, ProgramFault> {
+    let matches = match_words(whole(alloc)?, words)?;
+    match matches.subcommand() {
+        None => Err(ProgramFault::CommandLine),
+        Some((name, values)) => task_of(name, values).ok_or(ProgramFault::CommandLine),
+    }
+}
+
+fn whole<'a>(alloc: Global) -> Result<Command<'a>, AllocError> {
+    let places = ["lab", "port", "desk"];
+    command_of(alloc, "mml_host", &[])?
+        .subcommand(with_journal(alloc, command_of(alloc, "host", &places)?)?)?
+        .subcommand(command_of(alloc, "resume", &["lab", "port", "desk", "journal"])?)
+}
+
+fn task_of<'a>(name: &str, values: &ArgMatches<'a>) -> Option<Task<'a>> {
+    let lab = values.get_str("lab")?;
+    let port = read_port(values.get_str("port")?)?;
+    let desk = read_port(values.get_str("desk")?)?;
+    let journal = values.get_str("journal");
+    match name {
+        "host" => Some(Task::Host(HostTask {
+            lab,
+            port,
+            desk,
+            journal,
+        })),
+        "resume" => Some(Task::Resume(ResumeTask {
+            lab,
+            port,
+            desk,
+            journal: journal?,
+        })),
+        _ => None,
+    }
 }
 
 /// The port that a text names, or 0 for one that the system chooses: a number in decimal, without sign

@@ -2,8 +2,6 @@
 #![tactic(auto)]
 
 pub mod laws;
-mod old_file;
 mod resuming;
 
-pub use old_file::OldFile;
 pub use resuming::{ResumeFault, Store, resume_class};

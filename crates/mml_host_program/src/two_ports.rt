@@ -1,0 +1,104 @@
+//! The two ports of a class, which are taken before its journal is begun.
+use crate::fault::Fault;
+use crate::port::{EndBell, Port};
+use crate::state::HostState;
+use mml_program::Fault as ProgramFault;
+use std::alloc::Global;
+use std::io;
+use std::net::{Ipv4Addr, Net, SocketAddr, TcpListener, TcpStream};
+use std::sync::Mutex;
+use std::time::Duration;
+
+/// How many seconds each line of a student's connection may take after the one before. At the desk it may
+/// take any time.
+pub const NEXT_LINE: u64 = 600;
+
+/// Two ports that were taken, with their numbers.
+#[derive(Drop)]
+pub struct Ports {
+    pub listener: TcpListener,
+    pub desk_listener: TcpListener,
+    pub port: u16,
+    pub desk: u16,
+}
+
+/// Listens on both ports.
+pub fn listen_at<R: Net<Listener = TcpListener, Stream = TcpStream>>(
+    rt: &R,
+    port: u16,
+    desk: u16,
+) -> Result<Ports, Fault> {
+    let (listener, port) = listen(rt, port)?;
+    let (desk_listener, desk) = listen(rt, desk)?;
+    Ok(Ports {
+        listener,
+        desk_listener,
+        port,
+        desk,
+    })
+}
+
+// Listens on a port of this machine alone, and tells which it is.
+fn listen<R: Net<Listener = TcpListener, Stream = TcpStream>>(
+    rt: &R,
+    port: u16,
+) -> Result<(TcpListener, u16), Fault> {
+    let bound = || -> io::Result<(TcpListener, u16)> {
+        let listener = TcpListener::bind(rt, on_this_machine(port))?;
+        let port = listener.local_addr()?.port();
+        Ok((listener, port))
+    };
+    bound().map_err(|error| listen_fault(&error))
+}
+
+// Out of memory where an error says so.
+fn listen_fault(error: &io::Error) -> Fault {
+    match error.kind() {
+        io::ErrorKind::OutOfMemory => Fault::Common(ProgramFault::Memory),
+        _ => Fault::Listen,
+    }
+}
+
+fn on_this_machine(port: u16) -> SocketAddr {
+    SocketAddr::from((Ipv4Addr::LOCALHOST, port))
+}
+
+/// What ends the accepts at both ports.
+pub fn bell_of<'a, R>(
+    rt: &'a R,
+    state: &'a HostState,
+    ports: &Ports,
+) -> Result<EndBell<'a, R>, Fault> {
+    let spare = ports.desk_listener.try_clone();
+    let spare = spare.map_err(|error| listen_fault(&error))?;
+    Ok(EndBell {
+        rt,
+        state,
+        ports: [on_this_machine(ports.port), on_this_machine(ports.desk)],
+        spare: Mutex::new(Some(spare)),
+    })
+}
+
+/// Where connections come to the desk, and to the other port.
+pub fn open_ports<'a, R>(
+    rt: &'a R,
+    alloc: Global,
+    state: &'a HostState,
+    ports: Ports,
+) -> (Port<'a, R>, Port<'a, R>) {
+    let at_desk = Port {
+        rt,
+        alloc,
+        state,
+        listener: ports.desk_listener,
+        patience: None,
+    };
+    let at_port = Port {
+        rt,
+        alloc,
+        state,
+        listener: ports.listener,
+        patience: Some(Duration::from_secs(NEXT_LINE)),
+    };
+    (at_desk, at_port)
+}

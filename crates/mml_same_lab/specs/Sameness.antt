@@ -1,0 +1,35 @@
+-- Two labs that agree in all that a journal names: its lines mean the same in both. Keys and limits may differ.
+use Rattle.std.specs.Prelude.{◌≡◌, ◌<◌, ℕ, List, length, Ok}
+use Rattle.std.specs.FinSet as set
+use Rattle.mml_rules.specs.Network.{neighbours_at, registers_at}
+use Rattle.mml_lab.specs.declared.who.Who.TheVariants as who
+use Rattle.mml_lab.specs.Rosters.{RosterValue, name_of, owns}
+use Rattle.mml_lab.specs.Labs.{LabValue, lab_of}
+
+-- the node of that rank has the same links
+abbrev pub HasSameLinks : LabValue → LabValue → ℕ → Type 0
+HasSameLinks a b i = (j : ℕ) → j < length a.ids → set.contains (neighbours_at a.network.neighbours i) j ≡ set.contains (neighbours_at b.network.neighbours i) j
+
+-- the node of that rank is owned by the same students
+abbrev pub HasSameOwners : RosterValue → RosterValue → ℕ → Type 0
+HasSameOwners a b i = (s : ℕ) → s < length a.students → owns a (who.Student s) i ≡ owns b (who.Student s) i
+
+-- the same names in the same order
+abbrev pub HasSameNames : RosterValue → RosterValue → Type 0
+HasSameNames a b = (name_of a who.Teacher ≡ name_of b who.Teacher) × (length a.students ≡ length b.students)
+    × ((s : ℕ) → s < length a.students → name_of a (who.Student s) ≡ name_of b (who.Student s))
+
+-- the node of that rank has the same registers, links and owners
+pub record IsSameNode (a b : LabValue) (i : ℕ) : Type 0 where
+  pub registers : registers_at a.network.registers i ≡ registers_at b.network.registers i
+  pub links : HasSameLinks a b i
+  pub owners : HasSameOwners a.roster b.roster i
+
+pub record IsSameLab (a b : LabValue) : Type 0 where
+  pub ids : a.ids ≡ b.ids
+  pub names : HasSameNames a.roster b.roster
+  pub nodes : (i : ℕ) → i < length a.ids → IsSameNode a b i
+
+-- the bytes spell such a lab
+abbrev pub SpellsSame : LabValue → List ℕ → Type 0
+SpellsSame lab bytes = (other : LabValue) × (lab_of bytes ≡ Ok other) × IsSameLab lab other

@@ -1,0 +1,6 @@
+//! Whether two labs agree in all that a journal names.
+#![tactic(auto)]
+
+mod sameness;
+
+pub use sameness::{is_same_lab, spells_same_lab};

@@ -1,0 +1,112 @@
+ghost use Rattle.std.specs.Prelude.{◌≡◌, ◌↔◌, ◌<◌, IsTrue, IfOk, length};
+ghost use Rattle.mml_same_lab.specs.Sameness.{HasSameLinks, HasSameOwners, HasSameNames, IsSameNode, IsSameLab, SpellsSame};
+
+use mml_ids::{IdTable, Memory, Rank};
+use mml_lab::{Lab, LabFault, Roster, Student, Who, read_lab};
+use std::alloc::Global;
+
+/// Whether the bytes spell a lab with the same identifiers, names, links, registers and owners.
+pub fn spells_same_lab(alloc: Global, lab: &Lab, bytes: &[u8]) -> Result<bool, Memory>
+    ensures { IfOk result (λ same. IsTrue same ↔ SpellsSame lab.now bytes.now) }
+{
+    match read_lab(alloc, bytes) {
+        Ok(other) => Ok(is_same_lab(lab, &other)),
+        Err(LabFault::Memory) => Err(Memory),
+        Err(_) => Ok(false),
+    }
+}
+
+/// Whether the labs have the same identifiers, names, links, registers and owners.
+pub fn is_same_lab(a: &Lab, b: &Lab) -> bool
+    ensures { IsTrue result ↔ IsSameLab a.now b.now }
+{
+    if !has_same_ids(a.ids(), b.ids()) {
+        return false;
+    }
+    if !has_same_names(a.roster(), b.roster()) {
+        return false;
+    }
+    for index in 0..a.node_count() {
+        if !is_same_node(a, b, Rank::at(index)) {
+            return false;
+        }
+    }
+    true
+}
+
+fn has_same_ids(a: &IdTable, b: &IdTable) -> bool
+    ensures { IsTrue result ↔ (a.now ≡ b.now) }
+{
+    if a.len() != b.len() {
+        return false;
+    }
+    for index in 0..a.len() {
+        if a.id_of(Rank::at(index)) != b.id_of(Rank::at(index)) {
+            return false;
+        }
+    }
+    true
+}
+
+fn has_same_names(a: &Roster, b: &Roster) -> bool
+    ensures { IsTrue result ↔ HasSameNames a.now b.now }
+{
+    if a.name_of(Who::Teacher) != b.name_of(Who::Teacher) {
+        return false;
+    }
+    if a.student_count() != b.student_count() {
+        return false;
+    }
+    for place in 0..a.student_count() {
+        if a.name_of(student_at(place)) != b.name_of(student_at(place)) {
+            return false;
+        }
+    }
+    true
+}
+
+fn is_same_node(a: &Lab, b: &Lab, node: Rank) -> bool
+    requires here { node < length a.now.ids }
+    requires ids { length a.now.ids ≡ length b.now.ids }
+    requires students { length a.now.roster.students ≡ length b.now.roster.students }
+    ensures { IsTrue result ↔ IsSameNode a.now b.now node }
+{
+    if a.regs(node) != b.regs(node) {
+        return false;
+    }
+    has_same_links(a, b, node) && has_same_owners(a.roster(), b.roster(), node)
+}
+
+fn has_same_links(a: &Lab, b: &Lab, node: Rank) -> bool
+    requires here { node < length a.now.ids }
+    requires ids { length a.now.ids ≡ length b.now.ids }
+    ensures { IsTrue result ↔ HasSameLinks a.now b.now node }
+{
+    for index in 0..a.node_count() {
+        let other = Rank::at(index);
+        if a.linked(node, other) != b.linked(node, other) {
+            return false;
+        }
+    }
+    true
+}
+
+fn has_same_owners(a: &Roster, b: &Roster, node: Rank) -> bool
+    requires { length a.now.students ≡ length b.now.students }
+    ensures { IsTrue result ↔ HasSameOwners a.now b.now node }
+{
+    for place in 0..a.student_count() {
+        if a.owns(student_at(place), node) != b.owns(student_at(place), node) {
+            return false;
+        }
+    }
+    true
+}
+
+// The student at a place of the file's order.
+fn student_at(place: u64) -> Who
+    requires { place < 256 }
+    ensures { result ≡ Who.Student place }
+{
+    Who::Student(Student::new(place as u16))
+}

@@ -1,0 +1,356 @@
+"""Kills hosts and goes on from their journals, as a user does it.
+
+    python3 -m tests.resume [WORD..]
+
+With words, only the tests whose names have one of them. The tests go side by side: most of them wait.
+"""
+import os
+import shutil
+import sys
+import tempfile
+import threading
+import time
+from collections.abc import Callable, Sequence
+from concurrent.futures import ProcessPoolExecutor
+from pathlib import Path
+from typing import Optional
+
+from tests.common.hosting import HOST, Caller, Host, audit, called, hello, lab_of, let_in
+from tests.common.preload import Ended, Preloaded, fail
+from tests.resume.players import CLOSE, Players
+
+NO_COPY = b"resume: no copy of the lab beside the journal, the audit alone vouches for it\n"
+OTHER = Ended(2, b"", b"resume: another lab\n")
+FAULT = Ended(4, b"", b"journal fault\n")
+SEDUCES = b'{"at":0,"do":"move","node":1,"rule":"seduction"}\n'
+# Two whole lines of the lab that is built into the program, and the longest that may come third.
+FIRST = b"1 0 grant ana 1 seduction\n2 0 close\n"
+THIRD = b"3 1 grant ben 2 marriage 1"
+LONGEST = 101
+
+
+def kept(journal: Path) -> dict[str, bytes]:
+    """What stands beside a journal, and in it."""
+    return {file.name: file.read_bytes() for file in journal.parent.glob(f"{journal.name}*")}
+
+
+def resumed(host: Host) -> bytes:
+    """The line that says where a class goes on."""
+    assert host.process.stdout is not None
+    return host.process.stdout.readline()
+
+
+def place_of(line: bytes) -> int:
+    """The place in such a line."""
+    if not line.startswith(b"resumed at place "):
+        fail(f"resume: another line after that on the ports: {line!r}")
+    return int(line[17:line.index(b",")])
+
+
+def refused(lab: Path, journal: Path, wanted: Ended, why: str, before: Sequence[str] = ()) -> None:
+    """Wants that a journal is refused with this end, and that nothing is changed."""
+    was = kept(journal) if journal.is_file() else {}
+    with Host(lab, 0, 0, journal, word="resume", before=before) as host:
+        ended = None if host.listens else host.end()
+    if ended != wanted:
+        fail(f"resume: {why}: it ends with {ended}")
+    if was != (kept(journal) if journal.is_file() else {}):
+        fail(f"resume: {why}: the journal isn't as it was")
+
+
+def goes_on(lab: Path, journal: Path, line: bytes, error: bytes, why: str) -> None:
+    """Wants that a class goes on with this line, tells this on standard error, and ends as it began."""
+    with Host(lab, 0, 0, journal, word="resume") as host:
+        said = resumed(host) if host.listens else b""
+        ended = host.dismissed(let_in(host.desk, hello("tess"))[0]) if host.listens else host.end()
+    wanted = Ended(0, b"done: %d events, configuration %s\n" % (place_of(line), line.split()[5][:-1]), error)
+    if (said, ended) != (line, wanted):
+        fail(f"resume: {why}: {said!r} and {ended}, not {line!r} and {wanted}")
+
+
+def killed_at(host: Host, seconds: float) -> threading.Timer:
+    """Kills a host after that time."""
+    timer = threading.Timer(seconds, host.process.kill)
+    timer.start()
+    return timer
+
+
+def kills(room: Path) -> None:
+    """A host that is killed at random points goes on each time with what was replied, to a stable end."""
+    lab, journal = lab_of(room, 4, 100_000), room / "journal"
+    players = Players(47)
+    for turn in range(25):
+        with Host(lab, 0, 0, journal, word="resume" if turn else "host") as host:
+            if not host.listens:
+                fail(f"resume: after {turn} kills it ends with {host.end()}")
+            at = place_of(resumed(host)) if turn else 0
+            if at < players.told:
+                fail(f"resume: after {turn} kills it goes on at place {at}, and place {players.told} was told")
+            timer = killed_at(host, players.random.uniform(0.02, 0.4))
+            players.play_on(host)
+            timer.join()
+    with Host(lab, 0, 0, journal, word="resume") as host:
+        resumed(host)
+        ended = host.dismissed(players.play_out(host))
+    if ended.status != 0 or ended.out != b"done: %d events, " % players.told + ended.out.split(b"events, ")[-1]:
+        fail(f"resume: after 25 kills it ends with {ended}, and place {players.told} was told last")
+    if b", stable" not in audit(lab, journal, players.told) or players.told < 50:
+        fail(f"resume: after 25 kills and {players.told} events the run isn't stable")
+
+
+def power_cuts(room: Path) -> None:
+    """What was replied is in the journal after a power cut; without the sync it isn't."""
+    library = Preloaded("resume/power.c", room, "POWER_COUNTS")
+    lab, lost = lab_of(room, 4, 100_000), 0
+    for is_ignored in (False, True):
+        journal, players = room / f"{is_ignored}.journal", Players(7)
+        told = library.variables({"POWER_IGNORED": "1"} if is_ignored else {})
+        for turn in range(8):
+            with Host(lab, 0, 0, journal, word="resume" if turn else "host", variables=told) as host:
+                if turn and place_of(resumed(host)) < players.told:
+                    fail("resume: a power cut takes an event whose reply went out")
+                timer = killed_at(host, players.random.uniform(0.1, 0.5))
+                players.play_on(host)
+                timer.join()
+            durable, syncs = library.counts()
+            os.truncate(journal, durable)
+            there = journal.read_bytes().count(b"\n")
+            lost += max(players.told - there, 0) if is_ignored else 0
+            if not is_ignored and (there < players.told or syncs < there // 8):
+                fail(f"resume: of {players.told} events {there} are there after a power cut, and {syncs} syncs")
+            players.told = there if is_ignored else players.told
+    if lost == 0:
+        fail("resume: no event is lost without the sync")
+
+
+def failed_sync(room: Path) -> None:
+    """A line that can't be synced is taken back, its event refused, and the journal halted; it goes on later."""
+    library = Preloaded("resume/power.c", room, "POWER_COUNTS")
+    lab, journal = lab_of(room, 4), room / "journal"
+    with Host(lab, 0, 0, journal, variables=library.variables({"POWER_FAIL_AT": "2"})) as host:
+        ana, tess = let_in(host.port, hello("ana"))[0], let_in(host.desk, hello("tess"))[0]
+        said = ana.ask(SEDUCES), tess.ask(CLOSE), tess.ask(CLOSE)
+        ended = host.dismissed(tess)
+    refusal = b'{"refuse":"journal"}\n'
+    if b'"place":1' not in said[0] or said[1:] != (refusal, refusal) or ended != FAULT:
+        fail(f"resume: where a sync fails: {said} and {ended}")
+    if journal.read_bytes() != FIRST[:26]:
+        fail("resume: a line that wasn't synced isn't taken back")
+    goes_on(lab, journal, b"resumed at place 1, configuration 0, 1 chosen\n", b"", "after a sync that failed")
+
+
+def full_disk(room: Path) -> None:
+    """Where a disk is full in the middle of a line the class halts, and goes on when there is room."""
+    lab, journal = lab_of(room, 4), room / "journal"
+    limited = ["bash", "-c", 'trap "" XFSZ && ulimit -f 1 && exec "$@"', "bash"]
+    with Host(lab, 0, 0, journal, before=limited) as host:
+        ana, tess = let_in(host.port, hello("ana"))[0], let_in(host.desk, hello("tess"))[0]
+        at = told = 0
+        for turn in range(200):
+            lines = (b'{"at":%d,"do":"move","node":1,"rule":"seduction"}\n' % at, CLOSE, b'{"do":"fault","m":false,"node":1,"p":null}\n')
+            replies = [ana.ask(lines[0]), tess.ask(lines[1]), tess.ask(lines[2])]
+            told += sum(b'"place":' in reply for reply in replies)
+            at += 2
+            if replies[2] == b'{"refuse":"journal"}\n':
+                break
+        ended = host.dismissed(tess)
+    content = journal.read_bytes()
+    whole = content[:content.rindex(b"\n") + 1]
+    torn = len(content) - len(whole)
+    if ended != FAULT or len(content) != 1024 or torn == 0 or whole.count(b"\n") != told:
+        fail(f"resume: on a full disk it ends with {ended}, {len(content)} bytes, {told} events told")
+    with Host(lab, 0, 0, journal, word="resume") as host:
+        place = place_of(resumed(host))
+        tess = let_in(host.desk, hello("tess"))[0]
+        reply = tess.ask(b'{"do":"fault","m":false,"node":1,"p":null}\n')
+        ended = host.dismissed(tess)
+    if place != told or b'"place":%d' % (told + 1) not in reply or ended.status != 0:
+        fail(f"resume: after a full disk it goes on at {place}, not {told}: {reply!r}, {ended}")
+    if ended.error != b"resume: a torn line of %d bytes is taken off\n" % torn:
+        fail(f"resume: what was torn on a full disk is told as {ended.error!r}")
+    if kept(journal)["journal.~1~"] != content or not journal.read_bytes().startswith(whole):
+        fail("resume: after a full disk the torn journal isn't kept")
+    audit(lab, journal, told + 1)
+
+
+def torn_tails(room: Path) -> None:
+    """A torn line of each length is taken off and kept; what is longer than a line is refused."""
+    lab, journal = lab_of(room, 4), room / "journal"
+    tails = [THIRD[:length] for length in range(len(THIRD) + 1)] + [b"x" * LONGEST]
+    for tail in tails:
+        for file in room.glob("journal*"):
+            file.unlink()
+        journal.write_bytes(FIRST + tail)
+        journal.chmod(0o640)
+        error = NO_COPY + (b"resume: a torn line of %d bytes is taken off\n" % len(tail) if tail else b"")
+        goes_on(lab, journal, b"resumed at place 2, configuration 1, 0 chosen\n", error, f"a tail of {len(tail)} bytes")
+        wanted = {"journal": FIRST, **({"journal.~1~": FIRST + tail} if tail else {})}
+        if kept(journal) != wanted:
+            fail(f"resume: after a tail of {len(tail)} bytes there are {kept(journal)}")
+        if tail and (room / "journal.~1~").stat().st_mode & 0o777 != 0o640:
+            fail("resume: what is kept may be read by others")
+    # The next number that is free.
+    (room / "journal.~1~").write_bytes(b"another's")
+    journal.write_bytes(FIRST + b"3")
+    goes_on(lab, journal, b"resumed at place 2, configuration 1, 0 chosen\n", NO_COPY + b"resume: a torn line of 1 bytes is taken off\n", "a tail")
+    if kept(journal) != {"journal": FIRST, "journal.~1~": b"another's", "journal.~2~": FIRST + b"3"}:
+        fail("resume: a file was kept over another")
+    for content, line in [
+        (FIRST + b"x" * (LONGEST + 1), b"audit: line 3: torn\n"), (b"x" * (LONGEST + 1), b"audit: line 1: torn\n"),
+        (FIRST[:26] + b"2 0 clos\n", b"audit: line 2: not an event\n"), (b"1 0 close\n2", b"audit: line 1: illegal, empty\n"),
+        (FIRST[26:], b"audit: line 1: wrong place or configuration\n"), (FIRST[:26] + b"\n" + b"2", b"audit: line 2: not an event\n"),
+    ]:
+        journal.write_bytes(content)
+        refused(lab, journal, Ended(3, b"", NO_COPY + line), f"a journal {content!r}")
+
+
+def other_labs(room: Path) -> None:
+    """A journal of another lab is refused, and a mended key or another limit isn't another lab."""
+    lab, journal = lab_of(room, 4), room / "journal"
+    with Host(lab, 0, 0, journal) as host:
+        let_in(host.port, hello("ana"))[0].ask(SEDUCES)
+        host.killed()
+    copy = room / "journal.lab"
+    if copy.read_bytes() != lab.read_bytes() or copy.stat().st_mode & 0o777 != 0o600:
+        fail("resume: the copy of the lab beside a journal is another, or others may read it")
+    text = lab.read_text(encoding="utf-8")
+    line = b"resumed at place 1, configuration 0, 1 chosen\n"
+    for old, new in [
+        ("id = 3", "id = 4"), ("[[1, 2], [2, 3]]", "[[1, 2], [2, 3], [1, 3]]"), ("[[1, 2], [2, 3]]", "[[1, 2]]"),
+        ("id = 3", "id = 3\np = 2"), ("id = 3", "id = 3\nm = true"), ('"cyd"', '"cys"'), ('"tess"', '"tessa"'),
+        ('owner = "cyd"', 'owner = "ben"'), ('owner = "cyd"', 'owners = ["cyd", "ben"]'),
+    ]:
+        other = room / "other.toml"
+        other.write_text(text.replace(old, new).replace("[2, 3]", "[2, 4]" if new == "id = 4" else "[2, 3]"), encoding="utf-8")
+        refused(other, journal, OTHER, f"a lab with {new}")
+    for old, new in [("c-key", "another-key"), ("sessions = 4", "sessions = 7"), ("events = 1000", "events = 1"), ("\n", "\n# a comment\n")]:
+        same = room / "same.toml"
+        same.write_text(text.replace(old, new, 1), encoding="utf-8")
+        goes_on(same, journal, line, b"", f"a lab with {new}")
+    copy.write_bytes(b"no lab")
+    refused(lab, journal, OTHER, "a copy that is no lab")
+    copy.unlink()
+    goes_on(lab, journal, line, NO_COPY, "no copy of the lab")
+    # The limit that is reached, and one that is passed.
+    journal.write_bytes(FIRST)
+    goes_on(lab_of(room, 4, 2), journal, b"resumed at place 2, configuration 1, 0 chosen\n", NO_COPY, "a limit that is reached")
+    refused(lab_of(room, 4, 1), journal, Ended(3, b"", NO_COPY + b"audit: line 2: over the limit of events\n"), "a limit that is passed")
+
+
+def copies_are_kept(room: Path) -> None:
+    """A host keeps an older journal with the copy of its lab, and doesn't take the lab's own file for a copy."""
+    lab, journal = lab_of(room, 4), room / "journal"
+    contents = []
+    for turn in range(3):
+        lab.write_text(lab.read_text(encoding="utf-8") + f"# {turn}\n", encoding="utf-8")
+        contents.append(lab.read_bytes())
+        with Host(lab, 0, 0, journal) as host:
+            let_in(host.port, hello("ana"))[0].ask(SEDUCES)
+            host.killed()
+    line = FIRST[:26]
+    wanted = {"journal": line, "journal.lab": contents[2]}
+    wanted |= {"journal.~1~": line, "journal.~1~.lab": contents[0], "journal.~2~": line, "journal.~2~.lab": contents[1]}
+    if kept(journal) != wanted:
+        fail(f"resume: after three hosts there are {sorted(kept(journal))}, or other bytes")
+    named = room / "class.lab"
+    shutil.copy(lab, named)
+    with Host(named, 0, 0, room / "class") as host:
+        if host.listens or host.end() != FAULT or sorted(kept(room / "class")) != ["class.lab"]:
+            fail("resume: a lab's own file is taken for its copy")
+    with Host(lab, 0, 0, "/dev/null") as host:
+        if b'"place":1' not in let_in(host.port, hello("ana"))[0].ask(SEDUCES) or Path("/dev/null.lab").exists():
+            fail("resume: a journal that isn't plain isn't taken as it is")
+
+
+def asks_again(room: Path) -> None:
+    """Who asks again for what was granted before is told that it is chosen, or stale."""
+    lab, journal = lab_of(room, 4), room / "journal"
+    journal.write_bytes(FIRST[:26])
+    with Host(lab, 0, 0, journal, word="resume") as host:
+        line = resumed(host)
+        ana, tess = called(host.port), called(host.desk)
+        replies = [ana.ask(SEDUCES), ana.ask(hello("ana")), ana.ask(SEDUCES), tess.ask(hello("tess")), tess.ask(CLOSE), ana.ask(SEDUCES)]
+        ended = host.dismissed(tess)
+    wanted = [
+        b'{"clause":0,"deny":"not-greeted","text":"say hello first"}\n', b'{"ok":"hello","who":"ana"}\n',
+        b'{"clause":3,"deny":"chosen","text":"this node is already chosen"}\n', b'{"ok":"hello","who":"tess"}\n',
+        b'{"at":1,"moved":[1],"ok":"close","place":2}\n',
+        b'{"at":1,"clause":2,"deny":"stale","text":"this is not the current configuration"}\n',
+    ]
+    if replies != wanted or line != b"resumed at place 1, configuration 0, 1 chosen\n" or journal.read_bytes() != FIRST:
+        fail(f"resume: who asks again is answered {replies}")
+    if ended != Ended(0, b"done: 2 events, configuration 1\n", NO_COPY):
+        fail(f"resume: after who asks again it ends with {ended}")
+
+
+def held(room: Path) -> None:
+    """While a host holds a journal nobody goes on from it, and one alone goes on from it."""
+    lab, journal = lab_of(room, 4), room / "journal"
+    with Host(lab, 0, 0, journal) as host:
+        ana, tess = let_in(host.port, hello("ana"))[0], let_in(host.desk, hello("tess"))[0]
+        ana.ask(SEDUCES)
+        refused(lab, journal, FAULT, "a journal that a host holds")
+        if b'"place":2' not in tess.ask(CLOSE):
+            fail("resume: a host doesn't go on whose journal another wanted")
+        host.killed()
+    with Host(lab, 0, 0, journal, word="resume") as one:
+        resumed(one)
+        refused(lab, journal, FAULT, "a journal in which another goes on")
+        ended = one.dismissed(let_in(one.desk, hello("tess"))[0])
+    if ended.status != 0 or journal.read_bytes() != FIRST:
+        fail(f"resume: the first of two ends with {ended}")
+
+
+def files(room: Path) -> None:
+    """What isn't a plain file that may be read and written is refused, and a file isn't made."""
+    lab, journal = lab_of(room, 4), room / "journal"
+    refused(lab, journal, FAULT, "no journal")
+    if journal.exists():
+        fail("resume: a journal is made")
+    os.mkfifo(room / "pipe")
+    os.symlink("none", room / "nowhere")
+    for other in (room, room / "pipe", room / "nowhere", Path("/dev/null"), lab):
+        refused(lab, other, FAULT, f"the journal {other.name}")
+    journal.write_bytes(FIRST)
+    journal.chmod(0o444)
+    room.chmod(0o755)
+    lab.chmod(0o644)
+    as_nobody = ["setpriv", "--reuid", "65534", "--regid", "65534", "--clear-groups"] if os.geteuid() == 0 else []
+    refused(lab, journal, FAULT, "a journal that may only be read", as_nobody)
+    journal.chmod(0o644)
+    os.symlink("journal", room / "other-name")
+    goes_on(lab, room / "other-name", b"resumed at place 2, configuration 1, 0 chosen\n", NO_COPY, "a symlink")
+    journal.write_bytes(b"")
+    goes_on(lab, journal, b"resumed at place 0, configuration 0, 0 chosen\n", NO_COPY, "an empty journal")
+
+
+TESTS: list[Callable[[Path], None]] = [
+    kills, power_cuts, torn_tails, other_labs, full_disk, failed_sync, copies_are_kept, asks_again, held, files,
+]
+
+
+def tried(test: Callable[[Path], None]) -> float:
+    """Tries a test in a folder of its own; answers what time it took."""
+    begun = time.monotonic()
+    with tempfile.TemporaryDirectory() as room:
+        test(Path(room))
+    return time.monotonic() - begun
+
+
+def main() -> None:
+    """All tests, or those with one of the words."""
+    if not HOST.is_file():
+        fail("no host's program is built")
+    chosen = [test for test in TESTS if not sys.argv[1:] or any(word in test.__name__ for word in sys.argv[1:])]
+    begun = time.monotonic()
+    with ProcessPoolExecutor(4) as pool:
+        times = list(pool.map(tried, chosen))
+    slowest = max(zip(times, chosen, strict=True), key=lambda pair: pair[0])
+    print(
+        f"classes that go on from their journals: {len(chosen)} tests in {time.monotonic() - begun:.0f} seconds, "
+        f"of which {slowest[1].__name__} took {slowest[0]:.0f}"
+    )
+
+
+if __name__ == "__main__":
+    main()

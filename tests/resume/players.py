@@ -1,0 +1,92 @@
+"""Three students and a teacher who play over a host, and come again after each of its ends."""
+import json
+import random
+from typing import Any, Optional
+
+from tests.common.hosting import NODES, Caller, Host, hello, look
+
+CLOSE = b'{"do":"close"}\n'
+REPORT = b'{"do":"report"}\n'
+TEACHER = "tess"
+
+
+class Gone(Exception):
+    """The host has hung up."""
+
+
+class Players:
+    """A class, and the greatest place that one of its replies has told."""
+
+    def __init__(self, seed: int) -> None:
+        self.random = random.Random(seed)
+        self.told = 0
+        self.callers: dict[str, Caller] = {}
+
+    def ask(self, name: str, line: bytes) -> dict[str, Any]:
+        """The reply to a line of this one."""
+        reply = self.callers[name].ask(line)
+        if not reply:
+            raise Gone
+        found: dict[str, Any] = json.loads(reply)
+        self.told = max(self.told, found.get("place", 0))
+        return found
+
+    def come(self, host: Host) -> None:
+        """Everyone connects and greets."""
+        self.callers = {}
+        for name in [*NODES, TEACHER]:
+            try:
+                self.callers[name] = Caller(host.desk if name == TEACHER else host.port)
+            except ConnectionError as error:
+                raise Gone from error
+            self.ask(name, hello(name))
+
+    def step(self) -> bool:
+        """Everyone looks and asks for the move that is enabled, and the step is closed; whether it's stable now."""
+        for name, node in NODES.items():
+            seen = self.ask(name, look(name))
+            if seen["rule"] is not None and seen["chosen"] is None:
+                self.ask(name, asked(seen, node))
+        self.ask(TEACHER, CLOSE)
+        return bool(self.ask(TEACHER, REPORT)["stable"])
+
+    def disturb(self) -> None:
+        """The teacher sets the registers of a node."""
+        node = self.random.choice([*NODES.values()])
+        self.ask(TEACHER, b'{"do":"fault","m":%s,"node":%d,"p":null}\n' % (self.random.choice([b"true", b"false"]), node))
+
+    def play_on(self, host: Host) -> None:
+        """Plays until the host is gone."""
+        try:
+            self.come(host)
+            while True:
+                if self.step():
+                    self.disturb()
+        except Gone:
+            pass
+        self.leave()
+
+    def play_out(self, host: Host) -> Caller:
+        """Plays until no node is privileged; answers the teacher's connection."""
+        self.come(host)
+        while not self.step():
+            pass
+        return self.callers[TEACHER]
+
+    def leave(self) -> None:
+        """Everyone hangs up."""
+        for caller in self.callers.values():
+            caller.close()
+
+
+def asked(seen: dict[str, Any], node: int) -> bytes:
+    """The move that a look shows as enabled. Who marries says whom: the neighbour that points at the node."""
+    line: dict[str, Any] = {"at": seen["at"], "do": "move", "node": node, "rule": seen["rule"]}
+    if seen["rule"] == "marriage":
+        line["with"] = partner_of(seen, node)
+    return json.dumps(line).encode() + b"\n"
+
+
+def partner_of(seen: dict[str, Any], node: int) -> Optional[int]:
+    """A neighbour that points at the node."""
+    return next((near["node"] for near in seen["near"] if near["p"] == node), None)

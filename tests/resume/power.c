@@ -1,0 +1,66 @@
+/* Preloaded before a program: it tells how much of the journal a power cut would leave.
+
+   The journal is the file that was opened to append last. POWER_COUNTS=FILE keeps two numbers of eight bytes in
+   FILE: how many of its bytes have reached the device, which is what it had at the last sync that succeeded or was
+   cut to since, and how many syncs there were. POWER_IGNORED=1 lets each sync answer that it is done, and do
+   nothing. POWER_FAIL_AT=N fails the Nth sync of the journal, as a device that is gone. */
+
+#include "preload.h"
+
+extern void *dlsym(void *, const char *);
+extern long lseek(int, long, int);
+
+#define NEXT ((void *)-1l)
+#define CREATE 0x40
+#define APPEND 0x400
+#define AT_END 2
+#define IO_FAULT 5
+
+static struct { word durable, syncs; } own, *counts = &own;
+static word is_ignored, fail_at;
+static int journal = -1;
+
+/* A mode is given where the file may be made. */
+int open(const char *path, int flags, ...) {
+    int (*next)(const char *, int, ...) = dlsym(NEXT, "open");
+    unsigned mode = 0;
+    int opened;
+    if (flags & CREATE) {
+        __builtin_va_list rest;
+        __builtin_va_start(rest, flags);
+        mode = __builtin_va_arg(rest, unsigned);
+        __builtin_va_end(rest);
+    }
+    opened = next(path, flags, mode);
+    if (opened >= 0 && (flags & APPEND)) {
+        journal = opened;
+        __atomic_store_n(&counts->durable, (word)lseek(opened, 0, AT_END), __ATOMIC_SEQ_CST);
+        lseek(opened, 0, 0);
+    }
+    return opened;
+}
+
+static int synced(int file, const char *name) {
+    int (*next)(int) = dlsym(NEXT, name);
+    long size;
+    if (file != journal) return next(file);
+    if (__atomic_add_fetch(&counts->syncs, 1, __ATOMIC_SEQ_CST) == fail_at) {
+        *__errno_location() = IO_FAULT;
+        return -1;
+    }
+    if (is_ignored) return 0;
+    size = lseek(file, 0, AT_END);
+    if (next(file) < 0) return -1;
+    __atomic_store_n(&counts->durable, (word)size, __ATOMIC_SEQ_CST);
+    return 0;
+}
+
+int fdatasync(int file) { return synced(file, "fdatasync"); }
+
+int fsync(int file) { return synced(file, "fsync"); }
+
+__attribute__((constructor)) static void begin(void) {
+    counts = shared_with("POWER_COUNTS", &own, sizeof own);
+    is_ignored = number("POWER_IGNORED");
+    fail_at = number("POWER_FAIL_AT");
+}
