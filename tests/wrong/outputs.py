@@ -35,8 +35,8 @@ class Told:
     def add_function(self, name: str, said: str) -> None:
         """The line of a function."""
         self.functions.add(name)
-        # ("proved, may wait" is of one that waits for other threads)
-        if said.partition(",")[0] in ("proved", "assumed"):
+        # ("proved, may wait" is of one that waits for others, "proved where its callers give what it asks" of a closure)
+        if re.match(r"(proved|assumed)\b", said):
             self.proved.add(name)
         found = OPEN.search(said)
         for goal in re.findall(r"`([^`]+)`", found[1]) if found else ():

@@ -134,9 +134,10 @@ class Judging(unittest.TestCase):
         self.assertEqual(judged(line + kept("three_bodies.txt"), NEVER, THERE).of_round, [])
 
     def test_a_function_that_may_wait(self) -> None:
-        """It is proved as others are."""
-        output = kept("three_bodies.txt").replace("is_out_of_memory: proved", "is_out_of_memory: proved, may wait")
-        self.assertEqual(judged(output, NEVER, THERE).of_round, [])
+        """It is proved as others are, and so is a closure that leans on its callers."""
+        for said in ("proved, may wait", "proved where its callers give what it asks, may wait"):
+            output = kept("three_bodies.txt").replace("is_out_of_memory: proved", f"is_out_of_memory: {said}")
+            self.assertEqual(judged(output, NEVER, THERE).of_round, [])
 
     def test_no_verdict(self) -> None:
         """A function of which the prover could tell nothing isn't refused."""
