@@ -78,6 +78,7 @@ QUICK = [
     Part("hostile-host", module("hostile", "15", "host"), 0.2, 0.5, 2, BUILT),
     Part("memory", module("memory", "uses"), 0.5, 0.6, 1, (*BUILT, "rt")),
     Part("faults", module("faults"), 0.5, 0.6, 1, (*BUILT, "rt")),
+    Part("wrong-tests", cases("wrong.test_wrong"), 0.6, 0.6, 1, ("rt",)),
     Part("program", ("bash", "tests/program/run"), 0.4, 0.4, 1, BUILT),
     Part("calls", module("program"), 0.4, 0.4, 1, BUILT),
     Part("labs", module("labs"), 0.3, 0.3, 1, BUILT),

@@ -1,0 +1,93 @@
+"""Tries the wrong bodies of the crates, many at once, and wants each refused in its own function at its own goal.
+
+    python3 -B -m tests.wrong [CRATE..]             over the libraries that `rt ci` or `rt check` left
+    python3 -B -m tests.wrong --rounds [CRATE..]    says only what is tried together
+
+Edits of a crate whose texts and functions are apart are put into one copy of it (a round), of which one check
+proves the functions that they name. A function is proved from the clauses of what it calls, so one that is
+refused opens no goal of its callers. A crate's later rounds begin with what its earlier ones proved; crates are
+tried side by side. What fails: an edit that can't be put in its place, a function that isn't refused at its
+goal, an error of no goal (a text that doesn't compile, a name that a proof lost), a function that is refused
+though no edit names it, and counts of the check that don't fit what it says.
+"""
+from __future__ import annotations
+
+import argparse
+import signal
+import sys
+from pathlib import Path
+
+from tests.wrong.checks import lane_count
+from tests.wrong.edits import read_edits, rounds_of
+from tests.wrong.libraries import LibraryFault, Tree, tree_at
+from tests.wrong.trying import try_crates
+
+TOP = Path(__file__).resolve().parents[2]
+
+
+def words() -> argparse.Namespace:
+    """The words of the command line."""
+    parser = argparse.ArgumentParser(prog="tests.wrong", description=__doc__, formatter_class=argparse.RawDescriptionHelpFormatter)
+    parser.add_argument("crates", nargs="*", metavar="CRATE", help="try these alone")
+    parser.add_argument("--jobs", type=int, metavar="N", help="at most N checks side by side (else RT_JOBS, or the processors)")
+    parser.add_argument("--times", action="store_true", help="say the processor seconds of each crate and of all")
+    parser.add_argument("--logs", type=Path, metavar="FOLDER", help="keep what each check prints")
+    parser.add_argument("--rounds", action="store_true", help="say only what is tried together")
+    return parser.parse_args()
+
+
+def crates_of(tree: Tree, names: list[str]) -> list[str]:
+    """The crates that are named, or all that have wrong bodies, the longest to try first."""
+    for name in names:
+        if name not in tree.uses or not tree.has_edits(name):
+            sys.exit(f"tests.wrong: {name} is no crate with wrong bodies")
+    chosen = [it for it in tree.uses if tree.has_edits(it) and (not names or it in names)]
+    rounds = {it: len(rounds_of(read_edits(tree.folder(it))[0], tree.folder(it))) for it in chosen}
+    return sorted(chosen, key=lambda it: -rounds[it] * tree.size(it))
+
+
+def say_rounds(tree: Tree, crates: list[str]) -> None:
+    """Says which edits are tried together."""
+    for crate in crates:
+        edits, faults = read_edits(tree.folder(crate))
+        for number, it in enumerate(rounds_of(edits, tree.folder(crate)), 1):
+            print(f"{crate} {number}: {' '.join(edit.name for edit in it.edits)}")
+        for fault in faults:
+            print(f"FAILED: {crate}: {fault}")
+
+
+def try_all(tree: Tree, crates: list[str], asked: argparse.Namespace) -> int:
+    """Tries the edits of crates, and says a line of each as it is done, and how many passed."""
+    done = []
+    if asked.logs:
+        asked.logs.mkdir(parents=True, exist_ok=True)
+    for tried in try_crates(tree, crates, lane_count(asked.jobs), asked.logs):
+        done.append(tried)
+        print(tried.line(asked.times), flush=True)
+        for fault in tried.faults:
+            print(f"FAILED: {tried.crate}: {fault}", flush=True)
+    if asked.times:
+        print(f"processor seconds in all: {sum(it.seconds for it in done):.0f}, of {sum(it.checks for it in done)} checks")
+    failed = sum(it.failed for it in done)
+    print(f"{sum(it.passed for it in done)} passed, {failed} failed")
+    return 1 if failed else 0
+
+
+def main() -> int:
+    """Says what is tried together, or tries it."""
+    asked = words()
+    for it in (signal.SIGINT, signal.SIGTERM, signal.SIGHUP):
+        signal.signal(it, lambda number, _: sys.exit(128 + number))
+    try:
+        tree = tree_at(TOP)
+        crates = crates_of(tree, asked.crates)
+    except LibraryFault as fault:
+        sys.exit(f"tests.wrong: {fault}")
+    if asked.rounds:
+        say_rounds(tree, crates)
+        return 0
+    return try_all(tree, crates, asked)
+
+
+if __name__ == "__main__":
+    sys.exit(main())

@@ -1,0 +1,96 @@
+"""Checks that run side by side, and that end when this process is told to."""
+from __future__ import annotations
+
+import os
+import shutil
+import signal
+import subprocess
+import tempfile
+import threading
+from dataclasses import dataclass, field
+from pathlib import Path
+
+from tests.wrong.edits import Round
+from tests.wrong.libraries import Tree, check_words
+
+# What a check of one of the larger crates may hold in memory.
+MOST_HELD = 2_500_000_000
+# A check is ended with this process too, however that ends.
+WITH_THIS_PROCESS = ("setpriv", "--pdeathsig", "KILL")
+
+
+class Stopped(Exception):
+    """No check begins any more."""
+
+
+@dataclass(frozen=True)
+class Ended:
+    """A check's status and output, and the processor time that it took."""
+
+    status: int
+    output: str
+    seconds: float
+
+
+@dataclass
+class Running:
+    """The checks that run now."""
+
+    lock: threading.Lock = field(default_factory=threading.Lock)
+    checks: set[subprocess.Popen[bytes]] = field(default_factory=set)
+    is_over: bool = False
+
+    def run(self, words: list[str], folder: Path) -> Ended:
+        """Runs one check to its end."""
+        with tempfile.TemporaryFile() as output:
+            with self.lock:
+                if self.is_over:
+                    raise Stopped
+                check = subprocess.Popen([*WITH_THIS_PROCESS, *words], cwd=folder, stdin=subprocess.DEVNULL, stdout=output, stderr=subprocess.STDOUT)
+                self.checks.add(check)
+            _, status, used = os.wait4(check.pid, 0)
+            with self.lock:
+                self.checks.remove(check)
+                check.returncode = os.waitstatus_to_exitcode(status)
+            output.seek(0)
+            text = output.read().decode("utf-8", errors="replace")
+        return Ended(check.returncode, text, used.ru_utime + used.ru_stime)
+
+    def stop(self) -> None:
+        """Ends all checks, and lets none begin."""
+        with self.lock:
+            self.is_over = True
+            for check in self.checks:
+                check.send_signal(signal.SIGKILL)
+
+
+def copy_crate(folder: Path, to: Path, texts: dict[str, str]) -> None:
+    """Copies what a crate is checked from, with other texts in place of some of its files'."""
+    for part in ("src", "specs", "proofs"):
+        if (folder / part).is_dir():
+            shutil.copytree(folder / part, to / part)
+    for file, text in texts.items():
+        (to / file).write_text(text, encoding="utf-8")
+
+
+def try_round(tree: Tree, crate: str, tried: Round, room: Path, running: Running) -> Ended:
+    """Checks a copy of a crate with the edits of a round. The room holds what the rounds before it proved."""
+    copy, kept = room / "copy", room / "kept"
+    kept.mkdir(exist_ok=True)
+    copy_crate(tree.folder(crate), copy, tried.texts)
+    try:
+        return running.run(check_words(tree, crate, tried.functions(), kept), copy)
+    finally:
+        shutil.rmtree(copy, ignore_errors=True)
+
+
+def free_memory() -> int:
+    """The bytes of memory that programs can still take."""
+    lines = Path("/proc/meminfo").read_text(encoding="ascii").splitlines()
+    return next(int(line.split()[1]) * 1024 for line in lines if line.startswith("MemAvailable:"))
+
+
+def lane_count(wanted: int | None) -> int:
+    """How many checks run side by side: as many as are wanted or there are processors, where memory allows."""
+    jobs = wanted or int(os.environ.get("RT_JOBS") or 0) or len(os.sched_getaffinity(0))
+    return max(1, min(jobs, free_memory() // MOST_HELD))

@@ -1,0 +1,155 @@
+"""The wrong bodies of a crate, and which of them are tried together.
+
+A wrong body is a file `crates/NAME/wrong/WHAT_IT_DOES.edit`:
+
+    # refused: FUNCTION GOAL
+    file: src/lib.rt
+    old: TEXT
+    new: TEXT
+
+FUNCTION is a path below the crate, GOAL what the prover must leave open there; there may be several such
+lines. Each TEXT is one line, `old` stands exactly once in the file, and further pairs apply to what the
+earlier ones made. A pair of `proofs/` gives a part of the body its new name in an answer.
+"""
+from __future__ import annotations
+
+from collections.abc import Iterable, Mapping
+from dataclasses import dataclass
+from pathlib import Path
+
+MARK = "# refused:"
+
+
+class EditFault(Exception):
+    """Why an edit can't be tried."""
+
+
+@dataclass(frozen=True)
+class Refusal:
+    """A function, without its crate's name, and a goal of it that the prover must leave open."""
+
+    function: str
+    goal: str
+
+    def line(self) -> str:
+        """The line of an edit that says so."""
+        return f"{MARK} {self.function} {self.goal}"
+
+
+@dataclass(frozen=True)
+class Pair:
+    """What stands in a file of the crate, and what an edit puts there."""
+
+    file: str
+    old: str
+    new: str
+
+
+@dataclass(frozen=True)
+class Edit:
+    """A wrong body, and where it is refused."""
+
+    name: str
+    wanted: tuple[Refusal, ...]
+    pairs: tuple[Pair, ...]
+
+    def functions(self) -> set[str]:
+        """The functions that refuse it."""
+        return {it.function for it in self.wanted}
+
+
+@dataclass
+class Round:
+    """Edits that are tried in one copy of the crate, and the texts of the files that they change."""
+
+    edits: list[Edit]
+    texts: dict[str, str]
+
+    def functions(self) -> set[str]:
+        """The functions that refuse one of them."""
+        return {function for edit in self.edits for function in edit.functions()}
+
+
+def refusal_of(name: str, text: str) -> Refusal:
+    """The refusal that a marked line wants."""
+    words = text.split()
+    if len(words) != 2:
+        raise EditFault(f"{name}: not a line '{MARK} FUNCTION GOAL': {MARK}{text}")
+    return Refusal(*words)
+
+
+def parse_edit(name: str, text: str) -> Edit:
+    """The edit that a file's text spells."""
+    wanted: list[Refusal] = []
+    pairs: list[Pair] = []
+    file = old = ""
+    for line in text.split("\n"):
+        word, _, rest = line.partition(":")
+        if word == MARK.rstrip(":"):
+            wanted.append(refusal_of(name, rest))
+        elif word == "file":
+            file = rest.strip()
+        elif word == "old":
+            old = rest.removeprefix(" ")
+        elif word == "new" and file and old:
+            pairs.append(Pair(file, old, rest.removeprefix(" ")))
+            old = ""
+        elif line.strip():
+            raise EditFault(f"{name}: a line that isn't read: {line[:80]}")
+    if not wanted:
+        raise EditFault(f"{name}: no line '{MARK} FUNCTION GOAL'; with any goal there, this test says the right one")
+    if not any(it.file.startswith("src/") for it in pairs) or old:
+        raise EditFault(f"{name}: no whole pair of an 'old:' and a 'new:' line in a file of src/")
+    return Edit(name, tuple(wanted), tuple(pairs))
+
+
+def apply_edit(edit: Edit, texts: Mapping[str, str], folder: Path) -> dict[str, str]:
+    """The texts with what the edit makes of them; a file that isn't among them is read from the crate's folder."""
+    after = dict(texts)
+    for pair in edit.pairs:
+        if pair.file not in after:
+            path = folder / pair.file
+            if not pair.file.startswith(("src/", "proofs/")) or ".." in path.parts or not path.is_file():
+                raise EditFault(f"{edit.name}: no file of src/ or proofs/: {pair.file}")
+            after[pair.file] = path.read_text(encoding="utf-8")
+        found = after[pair.file].count(pair.old)
+        if found != 1:
+            raise EditFault(f"{edit.name}: a text stands {found} times in {pair.file}, and not once: {pair.old.strip()[:80]}")
+        after[pair.file] = after[pair.file].replace(pair.old, pair.new)
+    return after
+
+
+def read_edits(folder: Path) -> tuple[list[Edit], list[str]]:
+    """The edits of a crate in the order of their names, and what is wrong with those that can't be tried."""
+    edits, faults = [], []
+    for path in sorted((folder / "wrong").iterdir()):
+        try:
+            if path.suffix != ".edit":
+                raise EditFault(f"{path.name}: an edit's name ends in .edit")
+            edit = parse_edit(path.name, path.read_text(encoding="utf-8"))
+            apply_edit(edit, {}, folder)
+            edits.append(edit)
+        except EditFault as fault:
+            faults.append(str(fault))
+    return edits, faults
+
+
+def joined(into: Round, edit: Edit, folder: Path) -> bool:
+    """Puts an edit into a round, if no other there is refused by the same function or changes the same text."""
+    if into.functions() & edit.functions():
+        return False
+    try:
+        into.texts = apply_edit(edit, into.texts, folder)
+    except EditFault:
+        return False
+    into.edits.append(edit)
+    return True
+
+
+def rounds_of(edits: Iterable[Edit], folder: Path) -> list[Round]:
+    """The rounds in which a crate's edits are tried: each edit in the first that takes it."""
+    rounds: list[Round] = []
+    for edit in edits:
+        if not any(joined(it, edit, folder) for it in rounds):
+            rounds.append(Round([edit], apply_edit(edit, {}, folder)))
+    return rounds

@@ -1,0 +1,92 @@
+"""Whether a check refused each wrong body of a round at its own goal, and nothing else."""
+from __future__ import annotations
+
+from collections.abc import Iterable
+from dataclasses import dataclass, field
+
+from tests.wrong.edits import Edit, Refusal
+from tests.wrong.outputs import Told
+
+LONGEST = 300
+
+
+@dataclass
+class Judged:
+    """What is wrong with the round as a whole, and with each of its edits."""
+
+    of_round: list[str] = field(default_factory=list)
+    of_edit: dict[str, list[str]] = field(default_factory=dict)
+
+    def failed(self, edits: Iterable[Edit]) -> list[str]:
+        """The edits of which nothing is shown: all of them, where something else than an edit is wrong."""
+        return [it.name for it in edits if self.of_round or it.name in self.of_edit]
+
+
+def right_lines(function: str, told: Told) -> str:
+    """The lines that an edit of a function may have, those of what it promises first."""
+    goals = sorted(told.open_goals.get(function, ()), key=lambda goal: (not goal.startswith("returns"), "clause" not in goal))
+    return " or ".join(f"'{Refusal(function, goal).line()}'" for goal in goals[:3])
+
+
+def fault_of(wanted: Refusal, told: Told) -> str | None:
+    """Why a function isn't refused at a goal, if it isn't."""
+    if wanted.goal in told.open_goals.get(wanted.function, ()):
+        return None
+    if wanted.function in told.proved:
+        return f"{wanted.function} is still proved: this body means the same, or no clause tells the two apart"
+    if wanted.function not in told.functions:
+        return f"the check says nothing of {wanted.function}"
+    lines = right_lines(wanted.function, told)
+    if lines:
+        return f"{wanted.function} is not refused at {wanted.goal}; the line that would be right: {lines}"
+    return f"{wanted.function} is not refused at {wanted.goal}, and at no other goal of its own"
+
+
+def judge_edits(edits: Iterable[Edit], told: Told) -> dict[str, list[str]]:
+    """What is wrong with each edit."""
+    faults = {it.name: [fault for wanted in it.wanted if (fault := fault_of(wanted, told))] for it in edits}
+    return {name: found for name, found in faults.items() if found}
+
+
+def judge_others(named: set[str], told: Told) -> list[str]:
+    """What is refused though no edit names it."""
+    faults = []
+    for function in sorted(told.functions - told.proved - named):
+        if function in told.open_goals:
+            faults.append(f"{function} is refused, and no edit names it; the line that would be right: {right_lines(function, told)}")
+        elif function not in told.resting:
+            faults.append(f"{function} is not proved, and no edit names it")
+    return faults
+
+
+def is_closure(function: str) -> bool:
+    """Whether a line is of a closure, or of how it is called: the check's counts leave these out."""
+    return "fn" in function.split("::")
+
+
+def judge_counts(named: set[str], told: Told) -> list[str]:
+    """Whether the check came to its end, and its counts are those of its lines."""
+    if told.ending is None:
+        return [f"the check came to no end: {told.last[:LONGEST]}"]
+    asked, proved = told.ending
+    functions = {it for it in told.functions if not is_closure(it)}
+    refused = {it for it in functions - told.proved if it in told.open_goals or it in told.resting}
+    if asked != len(functions) or proved != len(functions & told.proved) or asked != proved + len(refused):
+        return [
+            f"the counts don't fit: only={asked} proved={proved}, where {len(functions)} functions have a line, "
+            f"{len(functions & told.proved)} of them proved and {len(refused)} refused"
+        ]
+    return [] if named <= told.functions else ["the counts don't fit: a function that an edit names has no line"]
+
+
+def judge(edits: list[Edit], status: int, told: Told) -> Judged:
+    """What is wrong with a round, by its check's status and output."""
+    named = {function for edit in edits for function in edit.functions()}
+    faults = [f"an error of no goal: {line[:LONGEST]}" for line in told.errors]
+    faults += judge_others(named, told)
+    # (where the text isn't even read, what the check lacks is no news)
+    if not told.errors or told.functions:
+        faults += judge_counts(named, told)
+    if status != 1 and not faults:
+        faults.append(f"the check ended with status {status}, and not 1")
+    return Judged(faults, judge_edits(edits, told) if told.functions else {})

@@ -1,0 +1,88 @@
+"""The crates, and how the prover is called in the folder of one."""
+from __future__ import annotations
+
+import shutil
+from dataclasses import dataclass
+from pathlib import Path
+
+
+class LibraryFault(Exception):
+    """Why a crate can't be checked here."""
+
+
+@dataclass(frozen=True)
+class Tree:
+    """A copy of the repository, the kit, and what each crate of `crates.txt` uses."""
+
+    top: Path
+    kit: Path
+    uses: dict[str, list[str]]
+
+    def folder(self, crate: str) -> Path:
+        """A crate's folder."""
+        return self.top / "crates" / crate
+
+    def has_edits(self, crate: str) -> bool:
+        """Whether a crate has wrong bodies."""
+        return (self.folder(crate) / "wrong").is_dir()
+
+    def library(self, crate: str) -> Path:
+        """Where `rt` leaves a library of the repository, or where the kit has one of its own."""
+        if crate in self.uses:
+            return self.folder(crate) / "out/rlib" / f"{crate}.rlib"
+        return self.kit / "rlibs" / f"{crate}.rlib"
+
+    def below(self, crate: str) -> list[str]:
+        """The crates of the repository that a crate is built from, lowest first."""
+        found: list[str] = []
+        for name in self.uses[crate]:
+            if name in self.uses:
+                found += [it for it in (*self.below(name), name) if it not in found]
+        return found
+
+    def missing(self, crate: str) -> list[str]:
+        """The libraries below a crate that aren't built."""
+        return [it for it in (*self.below(crate), *self.uses[crate]) if not (self.library(it) / "format").is_file()]
+
+    def size(self, crate: str) -> int:
+        """How many bytes of sources and proofs a crate has."""
+        folder = self.folder(crate)
+        return sum(it.stat().st_size for part in ("src", "proofs") for it in (folder / part).rglob("*.*") if it.is_file())
+
+
+def kit_of(command: str = "rt") -> Path:
+    """The kit that the command is of."""
+    found = shutil.which(command)
+    if found is None:
+        raise LibraryFault(f"the toolchain's command {command} is not on the path")
+    return Path(found).resolve().parent.parent
+
+
+def parse_uses(text: str) -> dict[str, list[str]]:
+    """The lines of `crates.txt`: each crate with what it uses."""
+    uses = {}
+    for line in text.splitlines():
+        names, colon, used = line.partition("#")[0].partition(":")
+        if colon:
+            uses[names.split()[0]] = used.split()
+    return uses
+
+
+def tree_at(top: Path) -> Tree:
+    """The copy of the repository that stands in a folder."""
+    return Tree(top, kit_of(), parse_uses((top / "crates.txt").read_text(encoding="utf-8")))
+
+
+def check_words(tree: Tree, crate: str, functions: set[str], kept: Path) -> list[str]:
+    """A check of some functions of a crate, in a copy of its folder, that goes on from what an earlier one kept."""
+    root = "main" if (tree.folder(crate) / "src/main.rt").is_file() else "lib"
+    words = [str(tree.kit / "bin/rattle"), "check", "--crate-name", crate, f"src/{root}.rt"]
+    for name in ("std", *tree.uses[crate]):
+        words += ["--extern", f"{name}={tree.library(name)}"]
+    for folder in dict.fromkeys([tree.kit / "rlibs", *(tree.library(it).parent for it in tree.below(crate))]):
+        words += ["-L", f"dependency={folder}"]
+    words += ["--antt-project", str(tree.kit / "rattle/logic/antt-project.json")]
+    words += ["--logic-built", str(tree.kit / "logic_built"), "--incremental", str(kept), "--links", f"{crate}="]
+    for function in sorted(functions):
+        words += ["--only", f"{crate}::{function}"]
+    return [*words, "--jobs", "1"]

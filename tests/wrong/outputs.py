@@ -1,0 +1,68 @@
+"""What the prover's output says of each function."""
+from __future__ import annotations
+
+import re
+from dataclasses import dataclass, field
+
+LINE = re.compile(r"fn (\S+): (.*)")
+OPEN = re.compile(r"`search` did not prove ((?:`[^`]+`(?:, )?)+)")
+RESTS = re.compile(r"it (?:calls|passes) [^;]*which (?:is|are) not proved")
+ERROR = re.compile(r"(?:\./)?(\S+?):\d+:\d+: error\b.*")
+GOAL = re.compile(r"(?:\./)?proofs/(\S+)/(?:Answers|Invariants|Proof)\.antt:\d+:\d+: error: `([^`]+)`: (.*)")
+LOST = re.compile(r"has no field|is not in scope|has no `|was not admitted")
+ENDING = re.compile(r"only=(\d+) proved=(\d+)")
+
+
+@dataclass
+class Told:
+    """What a check says: its functions, which of them are proved, the goals that are left open by function,
+    the functions that rest on one that isn't proved, and the errors that are of no goal."""
+
+    functions: set[str] = field(default_factory=set)
+    proved: set[str] = field(default_factory=set)
+    open_goals: dict[str, list[str]] = field(default_factory=dict)
+    resting: set[str] = field(default_factory=set)
+    errors: list[str] = field(default_factory=list)
+    ending: tuple[int, int] | None = None
+    last: str = ""
+
+    def add_goal(self, function: str, goal: str) -> None:
+        """A goal of a function is left open."""
+        goals = self.open_goals.setdefault(function, [])
+        if goal not in goals:
+            goals.append(goal)
+
+    def add_function(self, name: str, said: str) -> None:
+        """The line of a function."""
+        self.functions.add(name)
+        # ("proved, may wait" is of one that waits for others, "proved where its callers give what it asks" of a closure)
+        if re.match(r"(proved|assumed)\b", said):
+            self.proved.add(name)
+        found = OPEN.search(said)
+        for goal in re.findall(r"`([^`]+)`", found[1]) if found else ():
+            self.add_goal(name, goal)
+        if RESTS.search(said):
+            self.resting.add(name)
+
+    def add_error(self, line: str) -> None:
+        """An error, which is of a goal where a proof's answer doesn't show it any more."""
+        found = GOAL.fullmatch(line)
+        if found and not LOST.search(found[3]):
+            self.add_goal(found[1].replace("/", "::"), found[2])
+        else:
+            self.errors.append(line)
+
+
+def read_output(crate: str, output: str) -> Told:
+    """What a check of a crate printed."""
+    told = Told()
+    for line in output.splitlines():
+        if found := LINE.fullmatch(line):
+            told.add_function(found[1].removeprefix(f"{crate}::"), found[2])
+        elif ERROR.fullmatch(line) or line.startswith(("error", "rattle: error")):
+            told.add_error(line)
+        elif found := ENDING.fullmatch(line):
+            told.ending = int(found[1]), int(found[2])
+        if line.strip():
+            told.last = line
+    return told

@@ -1,0 +1,284 @@
+"""The test of wrong bodies itself: each way in which it has to fail, over kept outputs of the prover and over the prover.
+
+    python3 -B -m unittest tests.wrong.test_wrong      a minute of processor; needs the toolchain and no library
+"""
+from __future__ import annotations
+
+import shutil
+import tempfile
+import unittest
+from pathlib import Path
+
+from tests.wrong.checks import Running, Stopped, lane_count
+from tests.wrong.edits import Edit, EditFault, Pair, Refusal, parse_edit, read_edits, rounds_of
+from tests.wrong.judging import Judged, judge
+from tests.wrong.libraries import parse_uses, tree_at
+from tests.wrong.outputs import read_output
+from tests.wrong.trying import Tried, try_crate
+
+TOP = Path(__file__).resolve().parents[2]
+KEPT = Path(__file__).with_name("kept")
+CRATE = "mml_ends"
+FILE = "src/retrying.rt"
+NEVER = Edit(
+    "interrupted_is_never.edit",
+    (Refusal("retrying::is_interrupted", "returns"),),
+    (Pair(FILE, "    error.kind() == ErrorKind::Interrupted", "    error.kind() == ErrorKind::TimedOut"),),
+)
+SAME = Edit(
+    "means_the_same.edit",
+    (Refusal("retrying::is_out_of_memory", "returns"),),
+    (Pair(FILE, "Ok(_) => false", "Ok(_) => 2 < 1"),),
+)
+ELSEWHERE = Edit(
+    "refused_at_another_goal.edit",
+    (Refusal("retrying::Retrying::new", "returns-clause-inner"),),
+    (Pair(FILE, "            lacked_memory: false,", "            lacked_memory: true,"),),
+)
+THERE = Edit(ELSEWHERE.name, (Refusal("retrying::Retrying::new", "returns-clause-lacked_memory"),), ELSEWHERE.pairs)
+UNTYPED = Edit("is_no_truth_value.edit", NEVER.wanted, (Pair(FILE, NEVER.pairs[0].old, "    error.kind()"),))
+
+
+def text_of(edit: Edit) -> str:
+    """An edit's file."""
+    lines = [it.line() for it in edit.wanted]
+    for pair in edit.pairs:
+        lines += [f"file: {pair.file}", f"old: {pair.old}", f"new: {pair.new}"]
+    return "\n".join(lines) + "\n"
+
+
+def kept(name: str) -> str:
+    """An output of the prover that was kept."""
+    return (KEPT / name).read_text(encoding="utf-8")
+
+
+def judged(output: str, *edits: Edit, status: int = 1) -> Judged:
+    """What comes of edits by an output."""
+    return judge(list(edits), status, read_output(CRATE, output))
+
+
+class Judging(unittest.TestCase):
+    """Kept outputs. Of the three bodies the first is refused, the second proved, the third refused at one goal."""
+
+    def test_refused_at_its_goal(self) -> None:
+        """What is as the edits say has no fault."""
+        output = kept("three_bodies.txt")
+        found = judged(output, NEVER, THERE)
+        self.assertEqual((found.of_round, found.of_edit), ([], {}))
+
+    def test_still_proved(self) -> None:
+        """A body that means the same fails, and the others don't."""
+        found = judged(kept("three_bodies.txt"), NEVER, SAME, THERE)
+        self.assertEqual(found.of_round, [])
+        self.assertEqual(
+            found.of_edit,
+            {SAME.name: ["retrying::is_out_of_memory is still proved: this body means the same, or no clause tells the two apart"]},
+        )
+        self.assertEqual(found.failed([NEVER, SAME, THERE]), [SAME.name])
+
+    def test_another_goal(self) -> None:
+        """The right line is said."""
+        found = judged(kept("three_bodies.txt"), NEVER, ELSEWHERE)
+        self.assertEqual(
+            found.of_edit,
+            {
+                ELSEWHERE.name: [
+                    "retrying::Retrying::new is not refused at returns-clause-inner; the line that would be right: "
+                    "'# refused: retrying::Retrying::new returns-clause-lacked_memory'"
+                ]
+            },
+        )
+
+    def test_one_too_many(self) -> None:
+        """A function that is refused though no edit names it fails all edits of the check."""
+        found = judged(kept("three_bodies.txt"), NEVER)
+        self.assertEqual(
+            found.of_round,
+            [
+                "retrying::Retrying::new is refused, and no edit names it; the line that would be right: "
+                "'# refused: retrying::Retrying::new returns-clause-lacked_memory'"
+            ],
+        )
+        self.assertEqual(found.failed([NEVER]), [NEVER.name])
+
+    def test_not_compiled(self) -> None:
+        """A text that doesn't compile is told by its error, and fails all edits of the check."""
+        found = judged(kept("not_compiled.txt"), UNTYPED, THERE)
+        self.assertEqual(
+            found.of_round,
+            ["an error of no goal: src/retrying.rt:117:5: error[mismatched-types]: expected `bool`, found `ErrorKind`"],
+        )
+        self.assertEqual(found.failed([UNTYPED, THERE]), [UNTYPED.name, THERE.name])
+
+    def test_a_name_that_a_proof_lost(self) -> None:
+        """An answer that names what the edit took away shows nothing of a contract."""
+        line = "./proofs/retrying/is_interrupted/Answers.antt:9:5: error: `returns`: `c.kind` has no field `new`\n"
+        found = judged(line + kept("three_bodies.txt"), NEVER, THERE)
+        self.assertEqual(found.of_round, [f"an error of no goal: {line.strip()}"])
+
+    def test_an_answer_that_shows_its_goal_no_more(self) -> None:
+        """An answer's own error is a refusal at its goal."""
+        line = "./proofs/retrying/Retrying/new/Answers.antt:9:5: error: `returns-clause-inner`: `search`: no proof of `a ≡ b` was found\n"
+        found = judged(line + kept("three_bodies.txt"), NEVER, ELSEWHERE)
+        self.assertEqual((found.of_round, found.of_edit), ([], {}))
+
+    def test_a_caller_of_what_is_refused(self) -> None:
+        """What only rests on a refused function counts as refused, and needs no edit."""
+        output = kept("three_bodies.txt").replace("is_out_of_memory: proved", "is_out_of_memory: no proof: it calls `a::b`, which is not proved")
+        found = judged(output.replace("only=3 proved=1", "only=3 proved=0"), NEVER, THERE)
+        self.assertEqual(found.of_round, [])
+
+    def test_closures(self) -> None:
+        """Closures have lines that no count has."""
+        line = f"fn {CRATE}::retrying::fn::is_interrupted::any: proved\nfn {CRATE}::retrying::fn::is_interrupted::any+FnMut::call_mut: proved\n"
+        self.assertEqual(judged(line + kept("three_bodies.txt"), NEVER, THERE).of_round, [])
+
+    def test_a_function_that_may_wait(self) -> None:
+        """It is proved as others are, and so is a closure that leans on its callers."""
+        for said in ("proved, may wait", "proved where its callers give what it asks, may wait"):
+            output = kept("three_bodies.txt").replace("is_out_of_memory: proved", f"is_out_of_memory: {said}")
+            self.assertEqual(judged(output, NEVER, THERE).of_round, [])
+
+    def test_no_verdict(self) -> None:
+        """A function of which the prover could tell nothing isn't refused."""
+        output = kept("three_bodies.txt").replace("is_out_of_memory: proved", "is_out_of_memory: could not tell")
+        found = judged(output, NEVER, THERE, status=3)
+        self.assertIn("retrying::is_out_of_memory is not proved, and no edit names it", found.of_round)
+
+    def test_counts(self) -> None:
+        """Counts that don't fit the lines, no counts, and another status fail."""
+        output = kept("three_bodies.txt")
+        self.assertIn("the counts don't fit: only=4 proved=1", judged(output.replace("only=3", "only=4"), NEVER, THERE).of_round[0])
+        self.assertIn("the counts don't fit: only=3 proved=2", judged(output.replace("proved=1", "proved=2"), NEVER, THERE).of_round[0])
+        cut = output.replace("only=3 proved=1", "antt: killed")
+        self.assertEqual(judged(cut, NEVER, THERE, status=-9).of_round, ["the check came to no end: antt: killed"])
+        self.assertEqual(judged(output, NEVER, THERE, status=3).of_round, ["the check ended with status 3, and not 1"])
+        self.assertEqual(judged("", NEVER, status=-9).of_round, ["the check came to no end: "])
+
+
+class Reading(unittest.TestCase):
+    """Edits as they stand in their files, and rounds."""
+
+    def setUp(self) -> None:
+        """A crate with one file."""
+        room = tempfile.TemporaryDirectory()
+        self.addCleanup(room.cleanup)
+        self.folder = Path(room.name)
+        for part in ("src", "wrong"):
+            (self.folder / part).mkdir()
+        (self.folder / "src/lib.rt").write_text("one\ntwo\ntwo\nthree\n", encoding="utf-8")
+
+    def write(self, name: str, *lines: str) -> None:
+        """Writes an edit."""
+        (self.folder / "wrong" / name).write_text("".join(f"{it}\n" for it in lines), encoding="utf-8")
+
+    def test_a_whole_edit(self) -> None:
+        """All that an edit says is read."""
+        self.assertEqual(parse_edit(NEVER.name, text_of(NEVER)), NEVER)
+        two = parse_edit("two.edit", "# refused: a b\n# refused: c d\nfile: src/lib.rt\nold: x\nnew:\n")
+        self.assertEqual(two.wanted, (Refusal("a", "b"), Refusal("c", "d")))
+        self.assertEqual(two.pairs, (Pair("src/lib.rt", "x", ""),))
+
+    def test_edits_that_cannot_be_read(self) -> None:
+        """A line that lacks, and a line too many."""
+        for text, said in (
+            ("file: src/lib.rt\nold: one\nnew: 1\n", "no line '# refused: FUNCTION GOAL'"),
+            ("# refused: f\nfile: src/lib.rt\nold: one\nnew: 1\n", "not a line '# refused: FUNCTION GOAL'"),
+            ("# refused: f g\nfile: src/lib.rt\nold: one\n", "no whole pair"),
+            ("# refused: f g\nfile: proofs/f/Answers.antt\nold: one\nnew: 1\n", "no whole pair .* of src/"),
+            ("# refused: f g\nfile: src/lib.rt\nold: one\nmore\nnew: 1\n", "a line that isn't read: more"),
+        ):
+            with self.assertRaisesRegex(EditFault, said):
+                parse_edit("it.edit", text)
+
+    def test_a_text_that_does_not_stand_once(self) -> None:
+        """Such an edit is told, and the others are tried."""
+        self.write("good.edit", "# refused: f g", "file: src/lib.rt", "old: one", "new: 1")
+        self.write("twice.edit", "# refused: f g", "file: src/lib.rt", "old: two", "new: 2")
+        self.write("gone.edit", "# refused: f g", "file: src/lib.rt", "old: four", "new: 4")
+        self.write("outside.edit", "# refused: f g", "file: src/lib.rt", "old: one", "new: 1", "file: specs/Lib.antt", "old: one", "new: 1")
+        self.write("notes.txt")
+        edits, faults = read_edits(self.folder)
+        self.assertEqual([it.name for it in edits], ["good.edit"])
+        self.assertEqual(
+            faults,
+            [
+                "gone.edit: a text stands 0 times in src/lib.rt, and not once: four",
+                "notes.txt: an edit's name ends in .edit",
+                "outside.edit: no file of src/ or proofs/: specs/Lib.antt",
+                "twice.edit: a text stands 2 times in src/lib.rt, and not once: two",
+            ],
+        )
+
+    def test_rounds(self) -> None:
+        """Edits of one function, and edits of one text, are tried apart."""
+        self.write("a.edit", "# refused: f g", "file: src/lib.rt", "old: one", "new: 1")
+        self.write("b.edit", "# refused: h g", "file: src/lib.rt", "old: three", "new: 3")
+        self.write("c.edit", "# refused: f k", "file: src/lib.rt", "old: three", "new: tree")
+        self.write("d.edit", "# refused: i g", "file: src/lib.rt", "old: one", "new: won")
+        edits, faults = read_edits(self.folder)
+        rounds = rounds_of(edits, self.folder)
+        self.assertEqual(faults, [])
+        self.assertEqual([[it.name for it in one.edits] for one in rounds], [["a.edit", "b.edit"], ["c.edit", "d.edit"]])
+        self.assertEqual(rounds[0].texts, {"src/lib.rt": "1\ntwo\ntwo\n3\n"})
+
+    def test_the_list_of_crates(self) -> None:
+        """Comments and words after a crate's name aren't crates that it uses."""
+        self.assertEqual(parse_uses("# all\nlow: io # words\n\nffi staticlib: low\n"), {"low": ["io"], "ffi": ["low"]})
+
+
+class Trying(unittest.TestCase):
+    """The prover itself, over a copy of the smallest crate that has wrong bodies."""
+
+    def try_edits(self, *edits: Edit) -> Tried:
+        """What comes of some edits of the crate."""
+        with tempfile.TemporaryDirectory() as room:
+            top, folder = Path(room), Path(room) / "crates" / CRATE
+            for part in ("src", "proofs"):
+                shutil.copytree(TOP / "crates" / CRATE / part, folder / part)
+            (top / "crates.txt").write_text(f"{CRATE}:\n", encoding="utf-8")
+            (folder / "wrong").mkdir()
+            for edit in edits:
+                (folder / "wrong" / edit.name).write_text(text_of(edit), encoding="utf-8")
+            return try_crate(tree_at(top), CRATE, Running())
+
+    def test_three_bodies(self) -> None:
+        """One that is refused, one that means the same and one that is refused elsewhere, by one check."""
+        tried = self.try_edits(NEVER, SAME, ELSEWHERE)
+        self.assertEqual((tried.checks, tried.passed, tried.failed), (1, 1, 2))
+        self.assertEqual(len(tried.faults), 2)
+        self.assertIn("means_the_same.edit: retrying::is_out_of_memory is still proved", tried.faults[0])
+        self.assertIn("refused_at_another_goal.edit: ", tried.faults[1])
+        self.assertIn("'# refused: retrying::Retrying::new returns-clause-lacked_memory'", tried.faults[1])
+        self.assertGreater(tried.seconds, 0)
+
+    def test_not_compiled(self) -> None:
+        """A text that doesn't compile."""
+        tried = self.try_edits(UNTYPED)
+        self.assertEqual((tried.checks, tried.passed, tried.failed), (1, 0, 1))
+        self.assertRegex(tried.faults[0], r"an error of no goal: src/retrying\.rt:\d+:\d+: error\[mismatched-types\]")
+
+    def test_libraries_that_are_not_built(self) -> None:
+        """Nothing is tried where a library below isn't built."""
+        with tempfile.TemporaryDirectory() as room:
+            top, folder = Path(room), Path(room) / "crates/above"
+            for part in ("src", "wrong"):
+                (folder / part).mkdir(parents=True)
+            (folder / "src/lib.rt").write_text("one\n", encoding="utf-8")
+            (folder / "wrong/it.edit").write_text("# refused: f g\nfile: src/lib.rt\nold: one\nnew: 1\n", encoding="utf-8")
+            (top / "crates.txt").write_text("below:\nabove: below\n", encoding="utf-8")
+            tried = try_crate(tree_at(top), "above", Running())
+        self.assertEqual((tried.checks, tried.passed, tried.failed), (0, 0, 1))
+        self.assertEqual(tried.faults, ["not built, which `rt ci` or `rt check` does: below"])
+
+    def test_lanes_and_stops(self) -> None:
+        """There is a lane at least, and none begins once all are stopped."""
+        self.assertEqual(lane_count(1), 1)
+        running = Running()
+        running.stop()
+        with self.assertRaises(Stopped):
+            running.run(["true"], TOP)
+
+
+if __name__ == "__main__":
+    unittest.main()

@@ -1,0 +1,74 @@
+"""What comes of the crates' wrong bodies, crates side by side and the rounds of each one after the other."""
+from __future__ import annotations
+
+import tempfile
+from collections.abc import Iterator
+from concurrent.futures import ThreadPoolExecutor, as_completed
+from dataclasses import dataclass, field
+from pathlib import Path
+
+from tests.wrong.checks import Running, try_round
+from tests.wrong.edits import Round, read_edits, rounds_of
+from tests.wrong.judging import judge
+from tests.wrong.libraries import Tree
+from tests.wrong.outputs import read_output
+
+
+@dataclass
+class Tried:
+    """What came of a crate's edits."""
+
+    crate: str
+    checks: int = 0
+    passed: int = 0
+    failed: int = 0
+    faults: list[str] = field(default_factory=list)
+    seconds: float = 0.0
+
+    def line(self, with_times: bool) -> str:
+        """The line of a crate."""
+        failed = f", {self.failed} failed" if self.failed else ""
+        times = f", {self.seconds:.0f} processor seconds" if with_times else ""
+        return f"{self.crate}: {self.passed} wrong bodies refused{failed}, in {self.checks} checks{times}"
+
+    def add_round(self, tried: Round, status: int, output: str) -> None:
+        """Adds what a check said of the edits of a round."""
+        judged = judge(tried.edits, status, read_output(self.crate, output))
+        failed = judged.failed(tried.edits)
+        self.passed += len(tried.edits) - len(failed)
+        self.failed += len(failed)
+        self.faults += [f"check {self.checks} ({len(tried.edits)} edits): {fault}" for fault in judged.of_round]
+        self.faults += [f"{name}: {fault}" for name, faults in judged.of_edit.items() for fault in faults]
+
+
+def try_crate(tree: Tree, crate: str, running: Running, logs: Path | None = None) -> Tried:
+    """Tries the edits of a crate."""
+    folder, tried = tree.folder(crate), Tried(crate)
+    edits, tried.faults = read_edits(folder)
+    tried.failed = len(tried.faults)
+    missing = tree.missing(crate)
+    if missing:
+        tried.failed += len(edits)
+        tried.faults.append(f"not built, which `rt ci` or `rt check` does: {', '.join(dict.fromkeys(missing))}")
+        return tried
+    with tempfile.TemporaryDirectory(prefix="mml-wrong-") as room:
+        for it in rounds_of(edits, folder):
+            ended = try_round(tree, crate, it, Path(room), running)
+            tried.checks += 1
+            tried.seconds += ended.seconds
+            tried.add_round(it, ended.status, ended.output)
+            if logs:
+                (logs / f"{crate}.{tried.checks}").write_text(ended.output, encoding="utf-8")
+    return tried
+
+
+def try_crates(tree: Tree, crates: list[str], lanes: int, logs: Path | None = None) -> Iterator[Tried]:
+    """Tries the edits of crates side by side, and gives what came of each as it is done."""
+    running = Running()
+    with ThreadPoolExecutor(lanes) as pool:
+        try:
+            for future in as_completed([pool.submit(try_crate, tree, it, running, logs) for it in crates]):
+                yield future.result()
+        finally:
+            running.stop()
+            pool.shutdown(cancel_futures=True)
