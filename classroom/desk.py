@@ -176,6 +176,7 @@ class Desk:
         except Refused as refused:
             if refused.word not in ("full", "journal"):
                 return  # It is asked for again.
+            self.read()
             self.end_by(refused.word)
 
     def end_by(self, word: str) -> None:
@@ -206,6 +207,7 @@ class Desk:
         except (Denied, Refused) as no:
             self.tell(f"no: {no}")
             if isinstance(no, Refused) and no.word in ("full", "journal"):
+                self.read()
                 self.end_by(no.word)
         except ValueError as error:
             self.tell(str(error))
