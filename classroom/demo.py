@@ -27,7 +27,7 @@ def demo(words: argparse.Namespace) -> int:
             ))
 
     print(f"a cycle of {len(lab.nodes)} nodes after a fault, and the bots of {len(lab.students)} students", flush=True)
-    asked = argparse.Namespace(port=4711, close=("every", 0.5), into=words.into, until="stable", typed=False, page=None)
+    asked = argparse.Namespace(port=4711, close=("every", 0.5), into=words.into, until="stable", typed=False, page=None, serve=False)
     try:
         return run.one(Path(LAB), asked, start_bots)
     finally:

@@ -26,6 +26,11 @@ class Answer:
     error: str
 
 
+def is_clone() -> bool:
+    """Whether this is no release: the programs are built here."""
+    return (TOP / "crates").is_dir()
+
+
 def built(crate: str) -> Path:
     """Where a crate's program stands: as it is built here, or in a release."""
     here = TOP / "crates" / crate
@@ -36,7 +41,7 @@ def program() -> Path:
     """The built program; another one where the environment's MML_PROGRAM names it."""
     path = Path(os.environ.get("MML_PROGRAM") or built("mml_server"))
     if not os.access(path, os.X_OK) or path.is_dir():
-        raise Fault("mml isn't built: `./mml check examples/path.toml` builds it (with the toolchain's rt on the path)")
+        raise Fault("mml isn't built: `./mml build` builds it (with the toolchain's rt on the path)")
     return path
 
 

@@ -307,7 +307,7 @@ SIGNALS = (signal.SIGINT, signal.SIGTERM, signal.SIGHUP)
 def open_desk(it: server.Server, lab: labs.Lab, folder: Path, words: argparse.Namespace, tell: Callable[[str], None]) -> Desk:
     """Tells where the run is, and greets at the desk."""
     places = f"{lab.sessions - 1} students at once" if it.hosted else \
-        f"{lab.sessions} connections in all, the teacher's among them, since no host is built: ./mml host builds it"
+        f"{lab.sessions} connections in all, the teacher's among them"
     if it.port != words.port:
         tell(f"port {words.port} is in use")
     tell(f"port {it.port}, for {places}; folder {folder}")
@@ -329,7 +329,7 @@ def hold(folder: Path, lab: labs.Lab, words: argparse.Namespace, tell: Teller, b
     """Starts the server, holds the desk to the end of the run, and gives the status."""
     for number in SIGNALS:
         signal.signal(number, lambda *_: typed.put("end"))
-    it = server.start(folder, folder / "lab.toml", words.port, lab.sessions, folder / "journal")
+    it = server.start(folder, folder / "lab.toml", words.port, lab.sessions, folder / "journal", words.serve)
     why = "died"
     try:
         desk = open_desk(it, lab, folder, words, tell)
@@ -361,6 +361,7 @@ def nobody(port: int) -> None:
 
 def one(lab_file: Path, words: argparse.Namespace, beside: Callable[[int], None] = nobody) -> int:
     """A run from its folder to its marks."""
+    server.ready(words.serve)
     lab = labs.read(lab_file)
     folder = new_folder(Path(words.into or TOP / "runs"), lab_file)
     os.chmod(folder, 0o700)
@@ -389,6 +390,7 @@ def prefixed(lab: str, words: argparse.Namespace, port: int) -> subprocess.Popen
     """A run of its own, in a process of its own."""
     more = ["--until", words.until] if words.until else []
     more += ["--into", words.into] if words.into else []
+    more += ["--serve"] if words.serve else []
     return subprocess.Popen(
         [sys.executable, TOP / "class", "run", lab, "--port", str(port), "--close", spelled(words.close), *more],
         stdin=subprocess.DEVNULL, stdout=subprocess.PIPE, stderr=subprocess.STDOUT, text=True, start_new_session=True,

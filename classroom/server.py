@@ -6,7 +6,7 @@ import subprocess
 from dataclasses import dataclass
 from pathlib import Path
 
-from classroom.program import Fault, host, plain, program
+from classroom.program import Fault, host, is_clone, plain, program
 
 TRIES = 50
 LISTENING = re.compile(r"listening on port (\d+)(?:, desk on port (\d+))?\n")
@@ -45,10 +45,19 @@ class Server:
         return self.output.read_text(encoding="utf-8", errors="replace").strip()
 
 
-def start(folder: Path, lab: Path, port: int, sessions: int, journal: Path) -> Server:
-    """Starts a host over a lab at the first free port from that on. Where no host is built, it is a server
-    for so many connections as the lab has sessions, and the teacher's desk is one of them."""
-    hosting = host()
+def ready(by_number: bool) -> None:
+    """Wants that what `start` starts is built."""
+    program()
+    if not by_number and host() is None:
+        how = "`./mml build` builds it (with the toolchain's rt on the path)" if is_clone() else "this release has none"
+        raise Fault(f"mml_host isn't built: {how}; --serve takes a server for as many connections in all as the lab has sessions")
+
+
+def start(folder: Path, lab: Path, port: int, sessions: int, journal: Path, by_number: bool = False) -> Server:
+    """Starts a host over a lab at the first free port from that on; or, by number, a server for so many
+    connections as the lab has sessions, of which the teacher's desk is one."""
+    ready(by_number)
+    hosting = None if by_number else host()
     for number in range(port, min(port + TRIES, 65536)):
         last = (plain(lab), str(number), "0") if hosting else (plain(lab), str(number), str(sessions))
         words: list[str | Path] = [hosting, "host", *last] if hosting else [program(), "serve", *last]

@@ -50,6 +50,7 @@ def add_run(words: argparse.ArgumentParser) -> None:
     words.add_argument("--until", choices=["stable"], help="end the run where no node is privileged")
     words.add_argument("--page", type=positive, nargs="?", const=4780, metavar="PORT",
                        help="serve a page of the run, for the projector, at that port or the next free one (4780)")
+    words.add_argument("--serve", action="store_true", help="no host: a server for so many connections in all as the lab has sessions")
     words.add_argument("--typed", action="store_true", help="take words on standard input where it is no terminal too")
     words.set_defaults(work=run.run)
 

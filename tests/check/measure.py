@@ -1,152 +1,117 @@
-"""Runs a command and tells what processor time the checks below it took, by crate and kind.
+"""What processor time a check took, by part, and of the checks of `rattle` by crate and kind.
 
-    python3 -m tests.check.measure FIGURES COMMAND..
-
-The command's output goes through as it comes, its status is the status, and FIGURES gets the text.
-The sum is what the system counted of the command and of all that it waited for. Of each check (a
-process `rattle --crate-name C`, with those that it started) what it had used when it was last looked
-at, twice a second, counts for its crate: as `edits` where it works in a folder of an edit, as `tests`
-under --test, else as `proof`. What is left is `the rest`: the tests and programs that ran, links, the
-rt command itself, and the last half second of each check. A crate's edits are tried in the order of
-their names, so that each has its own seconds; the first one proves the crate too, and isn't told.
+The sum is what the system counted of each part and of all that it waited for. Of each check (a process
+`rattle --crate-name C`, with those that it started) what it had used when it was last looked at, twice a
+second, counts for its crate: as `wrong` below the part of that name or in a folder of an edit, as `tests`
+under --test, else as `proof`. What is left is `the rest`: links, programs that `rt ci` ran, the rt command
+itself, and the last half second of each check.
 """
-import glob
+from __future__ import annotations
+
 import os
-import resource
-import subprocess
-import sys
-import threading
+import time
 
-KINDS = ("proof", "tests", "edits")
+from tests.check.processes import Process, processes
+
+KINDS = ("proof", "tests", "wrong")
 PAUSE = 0.5
-TICKS = os.sysconf("SC_CLK_TCK")
-PAGE = os.sysconf("SC_PAGE_SIZE")
+
+Check = tuple[int, str]
+Work = tuple[str, str]
 
 
-def stat_of(pid):
-    """A process's name, parent and start, the seconds used by it and by those it has waited for, and the
-    bytes that it holds in memory."""
-    with open(f"/proc/{pid}/stat", encoding="utf-8", errors="replace") as it:
-        text = it.read()
-    name = text[text.index("(") + 1 : text.rindex(")")]
-    fields = text[text.rindex(")") + 2 :].split()
-    return name, int(fields[1]), fields[19], sum(int(it) for it in fields[11:15]) / TICKS, int(fields[21]) * PAGE
-
-
-def work_of(pid):
+def work_of(pid: int, part: str) -> Work | None:
     """The crate and the kind of a check, once it is known."""
     with open(f"/proc/{pid}/cmdline", encoding="utf-8", errors="replace") as it:
         words = it.read().split("\0")
     if "--crate-name" not in words:
         return None
     crate = words[words.index("--crate-name") + 1]
-    if os.path.basename(os.readlink(f"/proc/{pid}/cwd")).startswith("rt-edit-"):
-        return crate, "edits"
+    if part == "wrong" or os.path.basename(os.readlink(f"/proc/{pid}/cwd")).startswith("rt-edit-"):
+        return crate, "wrong"
     return crate, "tests" if "--test" in words else "proof"
 
 
 class Checks:
-    """The checks below a process, with what each has used."""
+    """The checks below the parts that run, with what each has used."""
 
-    def __init__(self, top):
-        self.top, self.works, self.used = top, {}, {}
+    def __init__(self) -> None:
+        self.works: dict[Check, Work] = {}
+        self.used: dict[Check, float] = {}
         self.most_held, self.most_held_in_all = 0, 0
+        self.looked = 0.0
 
-    def look(self):
-        found = {}
-        for pid in filter(str.isdigit, os.listdir("/proc")):
-            try:
-                found[int(pid)] = stat_of(pid)
-            except (OSError, ValueError):
-                continue
-        sums, held = {}, {}
-        for pid, (_, _, _, used, bytes_held) in found.items():
-            check = self.check_above(pid, found)
+    def look(self, parts: dict[int, str]) -> None:
+        """Looks at all checks below these parts, where that was last done half a second ago."""
+        if time.monotonic() < self.looked + PAUSE:
+            return
+        self.looked = time.monotonic()
+        found = processes()
+        sums: dict[Check, float] = {}
+        held: dict[Check, int] = {}
+        part_of: dict[Check, str] = {}
+        for pid, it in found.items():
+            check, part = check_above(pid, found, parts)
             if check:
-                sums[check] = sums.get(check, 0) + used
-                held[check] = held.get(check, 0) + bytes_held
+                sums[check] = sums.get(check, 0) + it.used
+                held[check] = held.get(check, 0) + it.held
+                part_of[check] = part
         self.most_held = max([self.most_held, *held.values()])
         self.most_held_in_all = max(self.most_held_in_all, sum(held.values()))
-        for (pid, start), used in sums.items():
-            try:
-                work = self.works.get((pid, start)) or work_of(pid)
-            except (OSError, ValueError):
-                continue
-            if work:
-                self.works[pid, start] = work
-                self.used[pid, start] = max(used, self.used.get((pid, start), 0))
+        for check, used in sums.items():
+            self.note(check, used, part_of[check])
 
-    def check_above(self, pid, found):
-        """The check that a process is or was started by, of those below the top."""
-        check = None
-        while pid in found and pid != self.top:
-            name, parent, start, _, _ = found[pid]
-            if name == "rattle":
-                check = pid, start
-            pid = parent
-        return check if pid == self.top else None
+    def note(self, check: Check, used: float, part: str) -> None:
+        """Notes what a check has used, once its crate is known."""
+        try:
+            work = self.works.get(check) or work_of(check[0], part)
+        except (OSError, ValueError):
+            return
+        if work:
+            self.works[check] = work
+            self.used[check] = max(used, self.used.get(check, 0))
 
-    def minutes(self):
-        sums = {}
+    def minutes(self) -> dict[Work, float]:
+        """The processor minutes of each crate and kind."""
+        sums: dict[Work, float] = {}
         for check, used in self.used.items():
             work = self.works[check]
             sums[work] = sums.get(work, 0) + used / 60
         return sums
 
-    def seconds_of_edits(self):
-        """What each edit took, but for the first of its crate."""
-        spent = {}
-        for check in sorted(self.used, key=lambda it: int(it[1])):
-            crate, kind = self.works[check]
-            if kind == "edits":
-                spent.setdefault(crate, []).append(self.used[check])
-        named = {}
-        for crate, all_spent in spent.items():
-            edits = sorted(os.path.basename(it) for it in glob.glob(f"crates/{crate}/must-fail/*.edit"))
-            named.update({f"{crate}/{edit}": it for edit, it in list(zip(edits, all_spent))[1:]})
-        return named
+
+def check_above(pid: int, found: dict[int, Process], parts: dict[int, str]) -> tuple[Check | None, str]:
+    """The check that a process is or was started by, and its part."""
+    check = None
+    while pid in found and pid not in parts:
+        if found[pid].name == "rattle":
+            check = pid, found[pid].start
+        pid = found[pid].parent
+    return (check, parts[pid]) if pid in parts else (None, "")
 
 
-def figures(checks, whole):
-    """The table of the crates, and the lines that a reader compares with the budget."""
-    sums, edits = checks.minutes(), checks.seconds_of_edits()
+def figures(checks: Checks, parts: dict[str, float]) -> str:
+    """The table of the crates and that of the parts, whose processor minutes are given."""
+    sums = checks.minutes()
     crates = sorted({crate for crate, _ in sums})
-    lines = [f"{'processor minutes':20}" + "".join(f"{kind:>8}" for kind in KINDS)]
-    for crate in crates:
-        lines.append(f"{crate:20}" + "".join(f"{sums.get((crate, kind), 0):8.1f}" for kind in KINDS))
     of_kind = {kind: sum(it for (_, its), it in sums.items() if its == kind) for kind in KINDS}
-    lines.append(f"{'sum':20}" + "".join(f"{of_kind[kind]:8.1f}" for kind in KINDS))
-    rest = max(0.0, whole - sum(of_kind.values()))
-    dearest = sorted(sums.items(), key=lambda it: -it[1])[:3]
-    lines.append(f"processor minutes in all: {whole:.1f}, of which the rest {rest:.1f}")
-    lines.append("the dearest: " + ", ".join(f"{crate} {kind} {it:.1f}" for (crate, kind), it in dearest))
-    slowest = sorted(edits.items(), key=lambda it: -it[1])[:5]
-    lines.append("the dearest edits, in seconds: " + ", ".join(f"{edit} {it:.0f}" for edit, it in slowest))
-    held = checks.most_held / 1e9, checks.most_held_in_all / 1e9
-    lines.append(f"memory: at most {held[0]:.1f} GB in one check, {held[1]:.1f} GB in those side by side")
-    lines.append(f"the machine: mml_rules proof {sums.get(('mml_rules', 'proof'), 0):.2f}")
+    lines = []
+    if crates:
+        lines.append(f"{'processor minutes':24}" + "".join(f"{kind:>8}" for kind in KINDS))
+        for crate in crates:
+            lines.append(f"{crate:24}" + "".join(f"{sums.get((crate, kind), 0):8.1f}" for kind in KINDS))
+        lines.append(f"{'sum':24}" + "".join(f"{of_kind[kind]:8.1f}" for kind in KINDS))
+        dearest = sorted(sums.items(), key=lambda it: -it[1])[:3]
+        lines.append("the dearest: " + ", ".join(f"{crate} {kind} {it:.1f}" for (crate, kind), it in dearest))
+        held = checks.most_held / 1e9, checks.most_held_in_all / 1e9
+        lines.append(f"memory: at most {held[0]:.1f} GB in one check, {held[1]:.1f} GB in those side by side")
+        lines.append(f"the machine: mml_rules proof {sums.get(('mml_rules', 'proof'), 0):.2f}")
+    scripts = {name: it for name, it in parts.items() if name not in ("proofs", "wrong")}
+    whole = sum(parts.values())
+    of_scripts = sum(scripts.values())
+    rest = max(0.0, whole - sum(of_kind.values()) - of_scripts)
+    if scripts:
+        lines.append("scripts: " + ", ".join(f"{name} {it:.1f}" for name, it in scripts.items()))
+    told = ", ".join(f"{kind} {it:.1f}" for kind, it in [*of_kind.items(), ("scripts", of_scripts), ("the rest", rest)])
+    lines.append(f"processor minutes in all: {whole:.1f}: {told}")
     return "".join(f"{it}\n" for it in lines)
-
-
-def main():
-    to, command = sys.argv[1], sys.argv[2:]
-    ran = subprocess.Popen(command, stdin=subprocess.DEVNULL)
-    checks, ended = Checks(ran.pid), threading.Event()
-
-    def look_again():
-        while not ended.wait(PAUSE):
-            checks.look()
-
-    looking = threading.Thread(target=look_again, daemon=True)
-    looking.start()
-    status = ran.wait()
-    ended.set()
-    looking.join()
-    used = resource.getrusage(resource.RUSAGE_CHILDREN)
-    with open(to, "w", encoding="utf-8") as it:
-        it.write(figures(checks, (used.ru_utime + used.ru_stime) / 60))
-    return status if status >= 0 else 128 - status
-
-
-if __name__ == "__main__":
-    sys.exit(main())

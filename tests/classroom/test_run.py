@@ -86,9 +86,29 @@ class Run(Cycle):
             self.assertEqual(going.ends(), 0)
 
     def test_nothing_built(self) -> None:
-        done = words("run", CYCLE, MML_PROGRAM=str(self.room / "none"))
+        done = words("run", CYCLE, "--into", self.room / "runs", MML_PROGRAM=str(self.room / "none"))
         self.assertEqual(done.returncode, 1)
-        self.assertIn("mml isn't built", done.stderr)
+        self.assertIn("mml isn't built: `./mml build` builds it", done.stderr)
+        self.assertFalse((self.room / "runs").exists())
+
+    def test_no_host_built(self) -> None:
+        """A run wants a host, and says how to get one; who wants a server for a number of connections says so."""
+        none = {"MML_HOST": str(self.room / "none")}
+        for given in (["run", CYCLE], ["demo"]):
+            done = words(*given, "--into", self.room / "runs", **none)
+            self.assertEqual(done.returncode, 1)
+            self.assertIn("mml_host isn't built: `./mml build` builds it", done.stderr)
+            self.assertIn("--serve", done.stderr)
+        self.assertFalse((self.room / "runs").exists())
+        going = Going(self, CYCLE, "--close", "by-hand", "--serve", **none)
+        self.assertTrue(any("connections in all" in line for line in going.lines), going.lines)
+        with Client(going.port, "gus", KEYS["gus"]) as gus:
+            gus.move(gus.look(4))
+        going.type("close")
+        going.until("^configuration 1: 4 \\(gus\\) update")
+        going.type("end")
+        self.assertEqual(going.ends(), 0, going.lines)
+        self.assertEqual(self.whole(going.folder), 2)
 
     def test_no_server(self) -> None:
         with socket.create_server(("127.0.0.1", 0)) as free:

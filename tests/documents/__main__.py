@@ -28,10 +28,12 @@ USED = ("README.md", "docs/STUDENT.md", "docs/TEACHER.md", "docs/OPERATE.md")
 RUN_BY = {("docs/OPERATE.md", "sh"): "tests/pages/operate", ("docs/STUDENT.md", "python"): "tests/pages/pages"}
 RUN_BEFORE = {
     "tar ": ("tests/release/run", "tar -xzf $release.tar.gz"),
-    "./try": ("tests/program/run", '"$work/try") < examples/first-look.script'),
+    "./try": ("tests/program/launchers", '"$work/try") < examples/first-look.script'),
+    "./mml build": ("tests/program/launchers", '"both" build'),
+    "./check": ("tests/check/test_check.py", 'self.check("quick")'),
 }
 MARKS = ("sh not run", "text")
-MOST_WORDS = 18_000
+MOST_WORDS = 20_000
 
 
 def tracked():
@@ -175,7 +177,8 @@ def is_run(page, mark, lines, texts, data):
 
 def unrun_blocks(page, files):
     """The first lines of a page's blocks that no test runs and that aren't marked."""
-    texts = {path: (TOP / path).read_text(encoding="utf-8") for path in ("tests/pages/pages", "tests/pages/operate", "tests/program/run", "tests/release/run")}
+    run = {*RUN_BY.values(), *(path for path, _ in RUN_BEFORE.values()), "tests/pages/pages"}
+    texts = {path: (TOP / path).read_text(encoding="utf-8") for path in run}
     examples = [path for path in files if path.startswith("examples/")]
     data = {line for path in examples for line in (TOP / path).read_text(encoding="utf-8").splitlines()}
     return [lines[0] for mark, lines in blocks_of(page) if not is_run(page, mark, lines, texts, data)]

@@ -14,6 +14,7 @@ from dataclasses import dataclass
 from pathlib import Path
 
 from tests.common.preload import TOP, Ended, Preloaded, Server, Story, built_in, fail, good, in_room, play, run
+from tests.faults.halted import halted
 
 MOST = 1000
 EINTR, EIO, EAGAIN, ENOMEM, EACCES, EMFILE, ENOSPC = 4, 5, 11, 12, 13, 24, 28
@@ -345,7 +346,7 @@ def work(room: Path) -> str:
         ("serve", Served(pair, room, library), READS + WRITES + OPENS + ACCEPTS + THREADS),
     ]
     met = ", ".join(fail_all(*use, library) for use in uses)
-    return f"faults met: {met}; {stopped(pair, room)}"
+    return f"faults met: {met}; {stopped(pair, room)}; {halted(lab, room, library)}"
 
 
 if __name__ == "__main__":

@@ -4,6 +4,7 @@
 
 With words, only the tests whose names have one of them. The tests go side by side: most of them wait.
 """
+import re
 import socket
 import sys
 import tempfile
@@ -258,6 +259,35 @@ def two_of_one_name(room: Path) -> None:
     talk.check(journal)
 
 
+def raced(room: Path) -> None:
+    """Two moves and a close at once, over and over: each event is told once, and the journal is that of a legal run."""
+    lab, journal = lab_of(room, 3, 10_000), room / "journal"
+    told: list[bytes] = []
+    with Host(lab, 0, 0, journal) as host:
+        tess = let_in(host.desk, hello("tess"))[0]
+        for turn in range(200):
+            if turn % 20 == 0:
+                ana, ben = (let_in(host.port, hello(name))[0] for name in ("ana", "ben"))
+            at = int(ana.ask(look("ana"))[6:].split(b",", 1)[0])
+            three = [(ana, move(at, 1, "seduction")), (ben, move(at, 2, "seduction")), (tess, CLOSE)]
+            for caller, line in three[turn % 3:] + three[:turn % 3]:
+                caller.send(line)
+            told += [caller.line() for caller, _ in three]
+            told.append(tess.ask(CLOSE))
+            told += [tess.ask(b'{"do":"fault","m":false,"node":%d,"p":null}\n' % node) for node in (1, 2)]
+            if turn % 20 == 19:
+                for caller in (ana, ben):
+                    caller.close()
+        ended = host.dismissed(tess)
+    places = sorted(int(place) for reply in told for place in re.findall(rb'"place":(\d+)', reply))
+    events = len(journal.read_bytes().splitlines())
+    if places != list(range(1, events + 1)) or events < 4 * 200:
+        fail(f"host: {len(places)} events of {events} are told, or not each once")
+    number = audit(lab, journal, events).split(b"configuration ")[1].split(b",")[0]
+    if ended != Ended(0, b"done: %d events, configuration %s\n" % (events, number), b""):
+        fail(f"host: another end of raced moves: {ended}")
+
+
 def byes_that_end_nothing(room: Path) -> None:
     """A bye that isn't the teacher's, or isn't said at the desk, ends its own connection alone."""
     lab, journal = lab_of(room, 4), room / "journal"
@@ -445,7 +475,7 @@ def words(room: Path) -> None:
 
 TESTS: list[Callable[[Path], None]] = [
     connect_and_close, deadlines, one_after_another, ended_while_asked, few_descriptors, through_one_place,
-    killed_in_a_line, says_busy, two_of_one_name, byes_that_end_nothing, ports, words,
+    killed_in_a_line, says_busy, two_of_one_name, raced, byes_that_end_nothing, ports, words,
 ]
 
 

@@ -1,6 +1,8 @@
 """Refuses the program each request for memory in turn, and each one from there on.
 
-    python3 -m tests.memory
+    python3 -m tests.memory           all of it
+    python3 -m tests.memory uses      the program alone
+    python3 -m tests.memory tests     the tests inside the crates alone
 
 Of each use, runs are made with the first, the second, .. request refused, until a run meets no refusal.
 Each ends with status 5, `out of memory` and nothing written; or it answers each line as a plain run without
@@ -9,6 +11,7 @@ twice in the script, so one that was refused is asked again, and answered plainl
 `refusals_..` are run under the same library, in the programs that `rt ci` leaves.
 """
 import subprocess
+import sys
 from collections.abc import Callable
 from dataclasses import dataclass
 from pathlib import Path
@@ -58,9 +61,9 @@ def told_of(story: Story, ended: Ended) -> tuple[str, list[bytes]]:
     return story.expects(replies, frozenset()), replies
 
 
-def scripted(story: Story, room: Path, with_words: bool) -> Use:
-    """A script, by standard input or from a file and with a journal."""
-    script, journal = room / "refused.script", room / "refused.journal"
+def scripted(story: Story, room: Path, name: str) -> Use:
+    """A script, by standard input where it has no name, or from a file and with a journal."""
+    script, journal, with_words = room / f"{name}.script", room / f"{name}.journal", bool(name)
     script.write_bytes(story.script())
     words = ["script", str(story.lab), str(script), str(journal)] if with_words else []
     given = b"" if with_words else story.script()
@@ -165,23 +168,33 @@ def refused_tests(library: Preloaded) -> str:
     return f"{count} tests under refusals"
 
 
-def work(room: Path) -> str:
-    """All uses."""
-    library = Preloaded("memory/refuse.c", room, "REFUSE_COUNTS")
+def refused_uses(library: Preloaded, room: Path) -> str:
+    """Refuses memory to all uses of the program."""
     lab = built_in(room)
     lines = (TOP / "examples/whole-run.script").read_bytes().splitlines(keepends=True)
-    story = Story(lab, b"".join(line + line for line in lines), room)
+    story, once = Story(lab, b"".join(line + line for line in lines), room), Story(lab, b"".join(lines), room)
     two = [line for line in lines if line[:1] in b"14"]
     pair = Story(lab, b"".join(line.replace(b"4 ", b"2 ", 1) * 2 for line in two), room)
     uses = {
-        "no words": scripted(story, room, False),
+        "no words": scripted(story, room, ""),
         "check": whole(["check", str(lab)]),
-        "script": scripted(story, room, True),
+        "script": scripted(story, room, "twice"),
+        "script, each line once": scripted(once, room, "once"),
         "audit": whole(["audit", str(lab), str(TOP / "examples/whole-run.journal")]),
         "serve": served(pair, room),
     }
-    met = ", ".join(refuse_all(name, use, library) for name, use in uses.items())
-    return f"refusals met: {met}; {refused_tests(library)}"
+    return "refusals met: " + ", ".join(refuse_all(name, use, library) for name, use in uses.items())
+
+
+def work(room: Path) -> str:
+    """What the words ask for."""
+    library = Preloaded("memory/refuse.c", room, "REFUSE_COUNTS")
+    told = []
+    if sys.argv[1:] != ["tests"]:
+        told.append(refused_uses(library, room))
+    if sys.argv[1:] != ["uses"]:
+        told.append(refused_tests(library))
+    return "; ".join(told)
 
 
 if __name__ == "__main__":

@@ -1,4 +1,4 @@
-"""Plays runs that are larger than a byte or two count: reports of all nodes, and 70,000 events.
+"""Plays runs that are larger than a byte or two count: the largest lab, reports of all nodes, and 100,000 events.
 
     python3 -m tests.program.large
 
@@ -9,9 +9,9 @@ from collections.abc import Iterable
 from pathlib import Path
 
 from tests.common.preload import LIMIT, Server, Story, fail, good, in_room
+from tests.program.greatest import EVENTS, greatest
 
 NODES = 256
-EVENTS = 70_000
 PART = 1000
 HELLO = '{"do":"hello","key":"chalk","name":"tess"}\n'
 WELCOME = '{"ok":"hello","who":"tess"}\n'
@@ -70,7 +70,7 @@ def exchange(it: socket.socket, lines: list[str], replies: list[str]) -> None:
 
 
 def events(room: Path) -> None:
-    """A link that is cut and made again, 70,000 times in one run."""
+    """A link that is cut and made again, as often in one run as a lab may allow."""
     file = lab(room, [f'{{ id = {node}, owner = "ana" }}' for node in (1, 2)], "[1, 2]", EVENTS)
     journal = room / "large.journal"
     server = Server(lambda port: ["serve", str(file), str(port), "1", str(journal)], {})
@@ -92,9 +92,10 @@ def events(room: Path) -> None:
 
 def work(room: Path) -> str:
     """All runs."""
+    greatest(room)
     reports(room)
     events(room)
-    return f"reports of {NODES} nodes, and {EVENTS} events of one run"
+    return f"the largest lab, reports of {NODES} nodes, and {EVENTS} events of one run"
 
 
 if __name__ == "__main__":

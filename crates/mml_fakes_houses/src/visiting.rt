@@ -4,9 +4,8 @@ ghost use Rattle.mml_journal.specs.Taken.{IsFresh};
 ghost use Rattle.mml_window.specs.Houses.{house_of};
 
 use crate::seat::Pair;
-use crate::windows::{count_shown, give_back, take_two};
+use crate::windows::{give_back, take_two};
 use mml_fakes::labs::PATH_OF_THREE;
-use mml_ids::Memory;
 use mml_journal::{MemorySink, Sink};
 use mml_lab::read_lab;
 use mml_window::{Astray, Blank, Brand, Desk, House, Log, Window, open_house};
@@ -23,20 +22,6 @@ pub fn open_path<R: Wait>(
     let lab = read_lab(alloc, PATH_OF_THREE.as_bytes())?;
     let sink = MemorySink::new(alloc, fail_at);
     Ok(open_house(rt, alloc, lab, sink)?)
-}
-
-/// How many windows of a house that was just opened show configuration 0, or out of memory.
-pub fn shown_at_start<S: Sink + Drop, H: House, R: Wait>(
-    rt: &R,
-    alloc: Global,
-    blank: Blank<S>,
-) -> Result<usize, Memory>
-    requires { blank ≡ house_of H.name H.lab }
-{
-    let (desk, mut windows) = blank.start::<H>(alloc)?;
-    let shown = count_shown(&mut windows);
-    let _ = desk.finish(rt, windows);
-    Ok(shown)
 }
 
 /// What is done at two seats of a house.

@@ -1,4 +1,4 @@
-//! Windows that are taken, looked through and given back.
+//! Windows that are taken and given back.
 ghost use Rattle.std.specs.Prelude.{◌+◌, ◌≤◌, length, IfSome};
 
 use mml_window::{House, Window};
@@ -19,15 +19,4 @@ pub fn give_back<H: House>(windows: &mut Vec<Window<H>>, window: Window<H>) -> b
     ensures { length windows.new.items ≤ length windows.old.items + 1 }
 {
     windows.push(window).is_ok()
-}
-
-/// How many windows show configuration 0.
-pub fn count_shown<H: House>(windows: &mut [Window<H>]) -> usize {
-    let mut shown = 0usize;
-    for window in windows.iter_mut() {
-        if window.number() == Ok(0) {
-            shown = shown.saturating_add(1);
-        }
-    }
-    shown
 }

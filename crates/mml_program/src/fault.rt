@@ -4,8 +4,8 @@ ghost use Rattle.std.specs.IoError.{error_kind};
 ghost use Rattle.mml_program.specs.declared.fault.Fault.TheVariants.{Memory};
 
 use crate::lab_refusal::{AuditRefusal, LabRefusal};
-use mml_files::JournalFileFault;
 use mml_audit::AuditFault;
+use mml_files::JournalFileFault;
 use mml_hall::ScriptFault;
 use mml_lab::LabFault;
 use mml_serving::ServeFault;

@@ -1,0 +1,65 @@
+"""What the measurements share: the programs, the lab that is built in, and callgrind's counts."""
+import os
+import re
+import shutil
+import subprocess
+import sys
+from collections.abc import Sequence
+from pathlib import Path
+from typing import NoReturn, Union
+
+TOP = Path(__file__).resolve().parents[1]
+PROGRAM = Path(os.environ.get("MML_PROGRAM") or TOP / "crates/mml_server/out/mml_server")
+HOST = Path(os.environ.get("MML_HOST") or TOP / "crates/mml_host/out/mml_host")
+TYPED = Path(os.environ.get("MML_TYPED") or TOP / "bench/typed/out/typed")
+BUILT_IN = TOP / "crates/mml_program/src/built_in.rt"
+Words = Sequence[Union[str, Path]]
+
+
+def refuse(why: str) -> NoReturn:
+    """Ends the whole, since nothing is measured."""
+    sys.exit(f"bench: {why}")
+
+
+def built(program: Path) -> Path:
+    """A program that is there."""
+    return program if program.exists() else refuse(f"{program} isn't built: bench/README.md says how")
+
+
+def built_in(sessions: int = 4, events: int = 100) -> str:
+    """The lab of a call without words, with these limits."""
+    found = re.search(r'r#"(.*?)"#', BUILT_IN.read_text(encoding="utf-8"), re.DOTALL)
+    if found is None:
+        refuse(f"{BUILT_IN}: no lab")
+    text = re.sub(r"^sessions = \d+$", f"sessions = {sessions}", found[1], flags=re.MULTILINE)
+    return re.sub(r"^events = \d+$", f"events = {events}", text, flags=re.MULTILINE)
+
+
+def stripped(program: Path, path: Path) -> Path:
+    """A program without what it holds for a debugger, which valgrind may not read."""
+    subprocess.run(["strip", "--strip-debug", "-o", path, built(program)], check=True)
+    return path
+
+
+def needs_valgrind() -> None:
+    """Ends where what counts isn't there."""
+    for tool in "valgrind", "strip":
+        if shutil.which(tool) is None:
+            refuse(f"no {tool} on the path")
+
+
+def replies(words: Words, stdin: Path) -> bytes:
+    """What a program writes."""
+    with stdin.open("rb") as lines:
+        return subprocess.run(words, stdin=lines, stdout=subprocess.PIPE, check=True).stdout
+
+
+def counted(words: Words, stdin: Path) -> int:
+    """How many instructions a run of a program takes: the same in every run, beside other work too."""
+    call = ["valgrind", "--tool=callgrind", "--callgrind-out-file=/dev/null", *words]
+    with stdin.open("rb") as lines:
+        run = subprocess.run(call, stdin=lines, stdout=subprocess.DEVNULL, stderr=subprocess.PIPE, check=True)
+    found = re.search(rb"Collected : (\d+)", run.stderr)
+    if found is None:
+        refuse("callgrind told no count")
+    return int(found[1])

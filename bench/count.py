@@ -1,0 +1,97 @@
+"""Counts the instructions that a line takes, of this program and of the one by hand, by valgrind's callgrind.
+
+    python3 -B -m bench.count [ROW..]
+
+Each figure is the difference of two runs of unlike lengths, by the lines that one has more, so that the
+start isn't counted. Before a figure is told, both programs have to write the same for the longer input.
+With words only rows are counted whose names have one of them.
+"""
+import sys
+import tempfile
+from collections.abc import Callable, Iterable
+from dataclasses import dataclass
+from pathlib import Path
+
+from bench import inputs
+from bench.common import PROGRAM, TYPED, Words, built_in, counted, needs_valgrind, refuse, replies, stripped
+
+
+@dataclass(frozen=True)
+class Row:
+    """A lab, the lines of so many turns, two lengths in turns, and how many lines a figure is for."""
+
+    name: str
+    lab: Callable[[], str]
+    text: Callable[[int], Iterable[str]]
+    few: int
+    many: int
+    words: tuple[str, ...] = ("script", "LAB", "TEXT")
+    lines: int = 1
+
+
+PIPED = ("PIPE",)
+ROWS = (
+    Row("see, standard input", built_in, inputs.sees, 2_000, 22_000, PIPED),
+    Row("see, file", inputs.three, inputs.sees, 2_000, 22_000),
+    Row("mixed, file", inputs.three, inputs.mixed, 300, 3_300),
+    Row("granted move or release", inputs.three, inputs.granted, 1_000, 8_000),
+    Row("look, 64 nodes of six neighbours", lambda: inputs.ring(64, 3), inputs.looks, 1_000, 9_000),
+    Row("hello and bye, both", inputs.three, inputs.greetings, 1_000, 8_000, lines=2),
+    Row("report, 3 nodes", lambda: inputs.ring(3), inputs.reports, 100, 1_100),
+    Row("report, 64 nodes", lambda: inputs.ring(64), inputs.reports, 20, 120),
+    Row("report, 256 nodes", lambda: inputs.ring(256), inputs.reports, 20, 120),
+    Row('a line with "x":[]', inputs.three, inputs.sees_and_more, 2_000, 22_000),
+    Row("student's see, all links", inputs.all_links, inputs.sees_of_all, 256, 5_376),
+    Row("look there", inputs.all_links, inputs.looks_at_last, 50, 550),
+    Row("a line of an audit", inputs.three, inputs.journal, 333, 33_333, ("audit", "LAB", "TEXT")),
+)
+
+
+class Counter:
+    """Counts over files in one folder."""
+
+    def __init__(self, folder: Path) -> None:
+        self.programs = stripped(PROGRAM, folder / "ours"), stripped(TYPED, folder / "typed")
+        self.lab, self.text = folder / "lab", folder / "text"
+
+    def call(self, row: Row, index: int) -> Words:
+        """The words of a call. Through a pipe this program takes none, over the lab that is built in."""
+        program = self.programs[index]
+        if row.words == PIPED:
+            return [program] if index == 0 else [program, "script", self.lab, "/dev/stdin"]
+        named = {"LAB": self.lab, "TEXT": self.text}
+        return [program, *(named.get(word, word) for word in row.words)]
+
+    def write(self, row: Row, turns: int) -> int:
+        """Writes so many turns, and tells how many lines they are."""
+        lines = list(row.text(turns))
+        self.text.write_text("".join(line + "\n" for line in lines), encoding="ascii")
+        return len(lines)
+
+    def count(self, row: Row) -> list[float]:
+        """What a row takes in each program."""
+        self.lab.write_text(row.lab(), encoding="ascii")
+        less = self.write(row, row.few)
+        before = [counted(self.call(row, index), self.text) for index in range(2)]
+        more = self.write(row, row.many)
+        if replies(self.call(row, 0), self.text) != replies(self.call(row, 1), self.text):
+            refuse(f"{row.name}: the programs write other bytes")
+        after = [counted(self.call(row, index), self.text) for index in range(2)]
+        return [row.lines * (b - a) / (more - less) for a, b in zip(before, after)]
+
+
+def main() -> None:
+    """Counts each row, or those that are named."""
+    needs_valgrind()
+    asked = sys.argv[1:]
+    rows = [row for row in ROWS if not asked or any(word in row.name for word in asked)]
+    with tempfile.TemporaryDirectory() as folder:
+        counter = Counter(Path(folder))
+        print("| Instructions a line | Ours | Typed, by hand | Ratio |\n|---|---|---|---|")
+        for row in rows:
+            ours, typed = counter.count(row)
+            print(f"| {row.name} | {ours:,.0f} | {typed:,.0f} | {ours / typed:.2f} |", flush=True)
+
+
+if __name__ == "__main__":
+    main()

@@ -1,0 +1,55 @@
+"""Counts the instructions of requests that are denied alike, by valgrind's callgrind.
+
+    python3 -B -m bench.hidden
+
+The program answers scripts of a greeting and 2,000 lines of a kind, over the built-in lab. Told is what a line
+of each kind takes: its script's count less that of the greeting alone, by 2,000. Of each pair one asks for what
+isn't shown and the other for what isn't there, by words of the same length; their replies have to be the same.
+"""
+import tempfile
+from pathlib import Path
+
+from bench.common import PROGRAM, counted, needs_valgrind, refuse, replies, stripped
+
+LINES = 2_000
+ANA = '1 {"do":"hello","key":"a-key","name":"ana"}\n'
+# A word, what is asked before, and two lines: of what isn't shown, and of what isn't there.
+PAIRS: list[tuple[str, str, str, str]] = [
+    ("see", ANA, '1 {"do":"see","node":3}\n', '1 {"do":"see","node":9}\n'),
+    ("look", ANA, '1 {"do":"look","node":3}\n', '1 {"do":"look","node":9}\n'),
+    (
+        "move",
+        ANA,
+        '1 {"at":0,"do":"move","node":3,"rule":"update"}\n',
+        '1 {"at":0,"do":"move","node":9,"rule":"update"}\n',
+    ),
+    ("hello", "", '2 {"do":"hello","key":"z-key","name":"ana"}\n', '2 {"do":"hello","key":"z-key","name":"zoe"}\n'),
+]
+
+
+def count(program: Path, before: str, line: str, script: Path) -> tuple[float, bytes]:
+    """How many instructions a line takes, and its reply."""
+    script.write_text(before, encoding="ascii")
+    begun = counted([program], script)
+    script.write_text(before + line * LINES, encoding="ascii")
+    told = set(replies([program], script).splitlines()[-LINES:])
+    if len(told) != 1:
+        refuse(f"other replies: {told}")
+    return (counted([program], script) - begun) / LINES, told.pop()
+
+
+def main() -> None:
+    """Counts each pair, and tells the difference."""
+    needs_valgrind()
+    with tempfile.TemporaryDirectory() as folder:
+        program, script = stripped(PROGRAM, Path(folder, "program")), Path(folder, "script")
+        for word, before, hidden, missing in PAIRS:
+            at_hidden, denied = count(program, before, hidden, script)
+            at_missing, other = count(program, before, missing, script)
+            if denied != other:
+                refuse(f"{word}: {denied!r}, but {other!r}")
+            print(f"{word}: {at_hidden:.2f} and {at_missing:.2f}, {at_hidden - at_missing:+.2f}")
+
+
+if __name__ == "__main__":
+    main()

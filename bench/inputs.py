@@ -1,0 +1,112 @@
+"""Labs, scripts and journals to be measured with."""
+from collections.abc import Iterable
+
+from bench.common import built_in
+
+EVENTS = 100_000
+PEOPLE = ("ana", "ben", "cyd")
+TESS = '1 {"do":"hello","key":"chalk","name":"tess"}'
+ANA = '2 {"do":"hello","key":"a-key","name":"ana"}'
+BEN = '1 {"do":"hello","key":"b-key","name":"ben"}'
+# The nodes of the greatest lab, of which the last is ben's.
+FIRST, LAST = 65280, 65535
+
+
+def three() -> str:
+    """The lab that is built in, with as many events as a lab may have."""
+    return built_in(events=EVENTS)
+
+
+def lab(owners: dict[int, str], links: Iterable[tuple[int, int]]) -> str:
+    """A lab of these nodes and links."""
+    listed = ", ".join(f"[{a}, {b}]" for a, b in links)
+    head = three().split("[[node]]")[0].replace("[[1, 2], [2, 3]]", f"[{listed}]")
+    return head + "\n".join(f'[[node]]\nid = {node}\nowner = "{owner}"\n' for node, owner in owners.items())
+
+
+def ring(nodes: int, reach: int = 1) -> str:
+    """Nodes in a ring, each linked to so many on both sides, each of one of three students in turn."""
+    ids = range(1, nodes + 1)
+    links = ((node, (node + step - 1) % nodes + 1) for node in ids for step in range(1, reach + 1))
+    return lab({node: PEOPLE[node % 3] for node in ids}, links)
+
+
+def all_links() -> str:
+    """The greatest lab: each of 256 nodes linked to each other one."""
+    ids = range(FIRST, LAST + 1)
+    return lab({node: "ben" if node == LAST else "ana" for node in ids}, ((a, b) for a in ids for b in range(FIRST, a)))
+
+
+def sees(turns: int) -> Iterable[str]:
+    yield TESS
+    for turn in range(turns):
+        yield f'1 {{"do":"see","node":{turn % 3 + 1}}}'
+
+
+def sees_and_more(turns: int) -> Iterable[str]:
+    """The same requests, each with a member of another kind than a request's."""
+    yield TESS
+    for turn in range(turns):
+        yield f'1 {{"do":"see","node":{turn % 3 + 1},"x":[]}}'
+
+
+def mixed(turns: int) -> Iterable[str]:
+    """Views, a move, a close, and a fault that takes the close back: three in six are granted."""
+    yield from (TESS, ANA)
+    for turn in range(turns):
+        yield '1 {"do":"see","node":1}'
+        yield '2 {"do":"look","node":1}'
+        yield f'2 {{"at":{2 * turn},"do":"move","node":1,"rule":"seduction"}}'
+        yield '1 {"do":"close"}'
+        yield '2 {"do":"see","node":2}'
+        yield '1 {"do":"fault","m":false,"node":1,"p":null}'
+
+
+def granted(turns: int) -> Iterable[str]:
+    """A move and its release."""
+    yield from (TESS, ANA)
+    for _ in range(turns):
+        yield '2 {"at":0,"do":"move","node":1,"rule":"seduction"}'
+        yield '1 {"do":"release","node":1}'
+
+
+def greetings(turns: int) -> Iterable[str]:
+    for _ in range(turns):
+        yield BEN
+        yield '1 {"do":"bye"}'
+
+
+def looks(turns: int) -> Iterable[str]:
+    """Looks at each of 64 nodes in turn."""
+    yield TESS
+    for turn in range(turns):
+        yield f'1 {{"do":"look","node":{turn % 64 + 1}}}'
+
+
+def reports(turns: int) -> Iterable[str]:
+    yield TESS
+    for _ in range(turns):
+        yield '1 {"do":"report"}'
+
+
+def sees_of_all(turns: int) -> Iterable[str]:
+    """What ben sees of the greatest lab, each node in turn."""
+    yield BEN
+    for turn in range(turns):
+        yield f'1 {{"do":"see","node":{FIRST + turn % 256}}}'
+
+
+def looks_at_last(turns: int) -> Iterable[str]:
+    """Looks at ben's node of the greatest lab."""
+    yield BEN
+    for _ in range(turns):
+        yield f'1 {{"do":"look","node":{LAST}}}'
+
+
+def journal(turns: int) -> Iterable[str]:
+    """What a move, a close and a fault that takes it back write, over and over."""
+    for turn in range(turns):
+        place, number = 3 * turn, 2 * turn
+        yield f"{place + 1} {number} grant ana 1 seduction"
+        yield f"{place + 2} {number} close"
+        yield f"{place + 3} {number + 1} fault 1 - false"

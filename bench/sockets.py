@@ -1,0 +1,77 @@
+"""Tells what views over sockets take, of this program, of the one by hand, and of an echo.
+
+    python3 -B -m bench.sockets [BURST]
+
+Eight clients ask at once, each BURST lines (1) after the last replies. The echo answers each line by a write of
+its own with a line as long as a view's reply. What is served is measured in turn, 21 times, and the medians are
+told: of requests a second, which the clients, in Python, hold back, and of the server's own processor time.
+"""
+import os
+import subprocess
+import sys
+import tempfile
+from dataclasses import dataclass
+from pathlib import Path
+from statistics import median
+
+from bench.clients import CONNECTIONS, free_port, time_clients
+from bench.common import PROGRAM, TYPED, Words, built, built_in, refuse
+
+REQUESTS = 6_000
+ROUNDS = 21
+
+
+@dataclass(frozen=True)
+class Served:
+    """Requests a second, microseconds of the server's processor time for each, and the reply."""
+
+    rate: float
+    used: float
+    reply: bytes
+
+
+def served(words: Words, port: int, burst: int) -> Served:
+    """What all clients were served."""
+    with subprocess.Popen(words, stdout=subprocess.PIPE) as server:
+        assert server.stdout is not None
+        server.stdout.readline()
+        taken, reply = time_clients(port, burst, REQUESTS // burst)
+        server.stdout.read()
+        _, status, used = os.wait4(server.pid, 0)
+        server.returncode = os.waitstatus_to_exitcode(status)
+    if server.returncode != 0 or reply is None:
+        refuse(f"{words[0]}: other replies, or status {server.returncode}")
+    count = CONNECTIONS * REQUESTS
+    return Served(count / taken, 1e6 * (used.ru_utime + used.ru_stime) / count, reply)
+
+
+def calls(lab: Path) -> dict[str, tuple[Words, int]]:
+    """What is served, by the words of a call and its port."""
+    ports, many = [free_port() for _ in range(3)], str(CONNECTIONS)
+    return {
+        "an echo": ([TYPED, "echo", str(ports[0]), many], ports[0]),
+        "typed, by hand": ([TYPED, "serve", lab, str(ports[1]), many], ports[1]),
+        "ours": ([PROGRAM, "serve", lab, str(ports[2]), many], ports[2]),
+    }
+
+
+def main() -> None:
+    """Measures what is served in turn."""
+    burst = int(sys.argv[1]) if len(sys.argv) > 1 else 1
+    built(PROGRAM), built(TYPED)
+    figures: dict[str, list[Served]] = {}
+    with tempfile.TemporaryDirectory() as folder:
+        lab = Path(folder, "lab")
+        lab.write_text(built_in(sessions=CONNECTIONS), encoding="ascii")
+        for _ in range(ROUNDS):
+            for name, (words, port) in calls(lab).items():
+                figures.setdefault(name, []).append(served(words, port, burst))
+    if len({one.reply for all_rounds in figures.values() for one in all_rounds}) != 1:
+        refuse("the replies differ")
+    for name, all_rounds in figures.items():
+        rate, used = median(one.rate for one in all_rounds), median(one.used for one in all_rounds)
+        print(f"{name}: {rate:,.0f} a second, {used:.2f} us of processor time each")
+
+
+if __name__ == "__main__":
+    main()

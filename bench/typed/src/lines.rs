@@ -1,0 +1,33 @@
+//! Lines of what is read, and their replies.
+use std::io::{Read, Write};
+
+/// Answers each line of what is read, by one write for each read, until the end, a line that has no room, a
+/// write that fails, or an answer that says that it is the last.
+#[inline(always)]
+pub fn answer_lines(
+    input: &mut impl Read,
+    output: &mut impl Write,
+    room: usize,
+    mut answer: impl FnMut(&[u8], &mut Vec<u8>) -> bool,
+) {
+    let mut held = vec![0; room];
+    let (mut start, mut end) = (0, 0);
+    let mut out = Vec::with_capacity(1 << 18);
+    let mut is_over = false;
+    while !is_over && end < held.len() {
+        let count = input.read(&mut held[end..]).unwrap_or(0);
+        let mut from = end;
+        end += count;
+        is_over = count == 0;
+        while let (false, Some(length)) = (is_over, memchr::memchr(b'\n', &held[from..end])) {
+            is_over = answer(&held[start..from + length], &mut out);
+            from += length + 1;
+            start = from;
+        }
+        is_over |= output.write_all(&out).is_err();
+        out.clear();
+        held.copy_within(start..end, 0);
+        end -= start;
+        start = 0;
+    }
+}

@@ -1,0 +1,52 @@
+//! The ten acts of a stored run over the path of three.
+ghost use Rattle.std.specs.Prelude.{◌≡◌, true};
+ghost use Rattle.mml_policy.specs.Acts.{is_act};
+
+use crate::acts::student;
+use mml_lab::Who;
+use mml_policy::{Asked, Command};
+
+/// How many acts there are.
+pub const ACTS: u64 = 10;
+
+fn play(node: u64, rule: Asked, at: u64) -> Command
+    ensures { is_act result ≡ true }
+{
+    Command::Move { node, rule, at }
+}
+
+/// The act that is granted at this place, whose lines are `scripts::TEN_LINES`.
+pub fn act(place: u64) -> Command
+    ensures { is_act result ≡ true }
+{
+    match place {
+        1 => play(1, Asked::Seduction, 0),
+        2 => play(2, Asked::Seduction, 0),
+        4 => play(3, Asked::Marriage(2), 1),
+        6 => play(2, Asked::Update, 2),
+        7 => play(3, Asked::Update, 2),
+        9 => play(1, Asked::Abandonment, 3),
+        _ => Command::Close,
+    }
+}
+
+/// Who asks for it.
+pub fn asker(place: u64) -> Who {
+    match place {
+        1 | 9 => student(0),
+        2 | 6 => student(1),
+        4 | 7 => student(2),
+        _ => Who::Teacher,
+    }
+}
+
+/// The number of the configuration before that act.
+pub fn number_before(place: u64) -> u64 {
+    match place {
+        0..=3 => 0,
+        4 | 5 => 1,
+        6..=8 => 2,
+        9 | 10 => 3,
+        _ => 4,
+    }
+}

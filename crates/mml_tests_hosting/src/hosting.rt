@@ -1,0 +1,166 @@
+//! A house whose connections come and go, one after another.
+use crate::texts::{Count, Kept, Texts, Timed, lab_of, sent_to};
+use mml_hosting::{HostFault, Hosted, ServedSession, serve_host};
+use mml_journal::MemorySink;
+use mml_session::NoGate;
+use std::alloc::{AllocError, Global};
+use std::collections::VecDeque;
+use std::sync::Wait;
+use std::test::Fail;
+use std::thread::Threads;
+
+type Left = Hosted<MemorySink, ServedSession<VecDeque<u8>, Kept>>;
+
+/// Who says what where, at the desk or at the port, and what that is answered.
+type Talk = (bool, &'static str, &'static str);
+
+const ANA_MOVES: &str = r#"{"do":"hello","key":"a-key","name":"ana"}
+{"at":0,"do":"move","node":1,"rule":"seduction"}
+{"do":"see","node":1}
+{"do":"bye"}
+"#;
+
+/// Moves node 1.
+const ANA: Talk = (
+    false,
+    ANA_MOVES,
+    r#"{"ok":"hello","who":"ana"}
+{"at":0,"node":1,"ok":"move","place":1,"rule":"seduction"}
+{"at":0,"m":false,"node":1,"ok":"see","p":null}
+{"ok":"bye"}
+"#,
+);
+
+/// Goes without a bye. No neighbour of node 6 has a greater identifier.
+const BEN: Talk = (
+    false,
+    r#"{"do":"hello","key":"b-key","name":"ben"}
+{"do":"see","node":6}
+{"at":0,"do":"move","node":6,"rule":"seduction"}
+"#,
+    r#"{"ok":"hello","who":"ben"}
+{"at":0,"m":false,"node":6,"ok":"see","p":null}
+{"clause":4,"deny":"guard","text":"the guard of this rule does not hold"}
+"#,
+);
+
+/// A bye that ends nothing: nobody is known.
+const NOBODY: Talk = (
+    true,
+    r#"{"do":"close"}
+{"do":"bye"}
+"#,
+    r#"{"clause":0,"deny":"not-greeted","text":"say hello first"}
+{"ok":"bye"}
+"#,
+);
+
+/// The teacher falls in a line.
+const FALLEN: Talk = (
+    true,
+    r#"{"do":"hello","key":"chalk","name":"tess"}
+{"do":"close"}
+{"do":"cl"#,
+    r#"{"ok":"hello","who":"tess"}
+{"at":1,"moved":[1],"ok":"close","place":2}
+"#,
+);
+
+const TESS_CLOSES: &str = r#"{"do":"hello","key":"chalk","name":"tess"}
+{"do":"close"}
+{"do":"bye"}
+"#;
+
+const NOTHING_CLOSED: &str = r#"{"ok":"hello","who":"tess"}
+{"clause":2,"deny":"empty","text":"no node is chosen"}
+{"ok":"bye"}
+"#;
+
+/// The teacher's bye at a student's port ends nothing.
+const ELSEWHERE: Talk = (false, TESS_CLOSES, NOTHING_CLOSED);
+
+/// The same at the desk ends the house.
+const TESS: Talk = (true, TESS_CLOSES, NOTHING_CLOSED);
+
+/// One who comes again.
+const AGAIN: Talk = (
+    false,
+    ANA_MOVES,
+    r#"{"ok":"hello","who":"ana"}
+{"at":1,"clause":2,"deny":"stale","text":"this is not the current configuration"}
+{"at":1,"m":false,"node":1,"ok":"see","p":6}
+{"ok":"bye"}
+"#,
+);
+
+const TALKS: &[Talk] = &[ANA, BEN, NOBODY, FALLEN, ELSEWHERE, AGAIN, AGAIN, TESS];
+
+const JOURNAL: &[u8] = b"1 0 grant ana 1 seduction\n2 0 close\n";
+
+/// Hosts these talks over three windows, each once the one before has ended.
+fn host<R: Threads + Wait + Sync>(
+    rt: &R,
+    alloc: Global,
+    talks: &[Talk],
+    out: &mut Vec<u8>,
+) -> Result<Result<Left, HostFault>, AllocError> {
+    let Ok(lab) = lab_of(alloc, 100)? else {
+        return Ok(Err(HostFault::Memory));
+    };
+    let mut at_desk = Vec::new(alloc);
+    let mut at_port = Vec::new(alloc);
+    let mut number = 0u64;
+    for (is_desk, text, _) in talks {
+        let timed = Timed {
+            after: number,
+            number,
+            text,
+        };
+        if *is_desk {
+            at_desk.push(timed)?;
+        } else {
+            at_port.push(timed)?;
+        }
+        number = number.saturating_add(1);
+    }
+    let count = Count::new();
+    let at_desk = Texts::of(alloc, &at_desk, &count)?;
+    let at_port = Texts::of(alloc, &at_port, &count)?;
+    let sink = MemorySink::new(alloc, None);
+    Ok(serve_host(rt, alloc, lab, sink, at_desk, at_port, &count, &NoGate, out))
+}
+
+/// Whether each of these talks was answered so.
+fn are_answered(left: &Left, talks: &[Talk]) -> bool {
+    let mut number = 0u64;
+    for (_, _, replies) in talks {
+        if sent_to(left, number) != Some(replies.as_bytes()) {
+            return false;
+        }
+        number = number.saturating_add(1);
+    }
+    true
+}
+
+#[test]
+fn sessions_come_one_after_another(rt: HostRuntime) -> Result<(), Fail> {
+    let mut out = Vec::new(rt.alloc());
+    let Ok(left) = host(&rt, rt.alloc(), TALKS, &mut out)? else {
+        return Err(Fail::from("a fault"));
+    };
+    let is_journal = left.log.sink.bytes() == JOURNAL;
+    let is_last = out.as_slice() == b"done: 2 events, configuration 1\n".as_slice();
+    assert_eq!(rt;
+        (are_answered(&left, TALKS), is_journal, is_last),
+        (true, true, true)
+    );
+    Ok(())
+}
+
+#[test]
+fn a_bye_at_the_port_ends_no_house(rt: HostRuntime) -> Result<(), Fail> {
+    let mut out = Vec::new(rt.alloc());
+    let left = host(&rt, rt.alloc(), &[NOBODY, ELSEWHERE], &mut out)?;
+    assert!(rt; matches!(left, Err(HostFault::Undismissed)) && out.is_empty());
+    Ok(())
+}

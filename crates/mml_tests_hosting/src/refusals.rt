@@ -1,0 +1,9 @@
+//! Each request for memory refused in turn: the answer is the plain one or tells it, and nothing is lost.
+mod asking;
+mod halting;
+mod library;
+mod replies;
+mod untouched;
+
+/// More requests than any call here makes.
+const MOST: usize = 100_000;

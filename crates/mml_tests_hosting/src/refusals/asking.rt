@@ -1,0 +1,144 @@
+//! The acts of a stored run, asked for through a window, each with each of its requests for memory refused
+//! in turn.
+use super::MOST;
+use super::library::{is_there, refuse, was_none_refused};
+use mml_fakes_houses::ten_acts::{ACTS, act, asker, number_before};
+use mml_fakes_houses::{Ending, Pair, Seat, Visit, ending_of, visit_path};
+use mml_journal::NullSink;
+use mml_window::{Answer, House, Refusal};
+use std::alloc::Global;
+use std::sync::Wait;
+use std::test::Fail;
+
+/// Whether an answer is a grant at this place, or out of memory where that was met.
+fn is_told(answer: &Answer, place: u64, was_none: bool) -> Option<bool> {
+    match answer {
+        Answer::Granted { place: granted, .. } => (*granted == place).then_some(true),
+        Answer::Refused(Refusal::Memory) => (!was_none).then_some(false),
+        _ => None,
+    }
+}
+
+/// Asks for the act at this place with that request refused, and tells whether it was granted; nothing,
+/// where it was answered otherwise, or was refused with another number than before.
+fn asked<H: House, R: Wait>(
+    seat: &mut Seat<'_, NullSink, H, R>,
+    place: u64,
+    nth: usize,
+    is_there: bool,
+) -> Option<bool> {
+    refuse(seat.alloc, nth);
+    let answer = seat.ask(asker(place), &act(place));
+    let was_none = was_none_refused(seat.alloc, is_there);
+    let is_granted = is_told(&answer, place, was_none)?;
+    let is_kept = is_granted || seat.window.number() == Ok(number_before(place));
+    is_kept.then_some(is_granted)
+}
+
+/// How often an act was refused until it was granted.
+fn refusals_of<H: House, R: Wait>(
+    seat: &mut Seat<'_, NullSink, H, R>,
+    place: u64,
+    is_there: bool,
+) -> Option<usize> {
+    for nth in 1..MOST {
+        if asked(seat, place, nth, is_there)? {
+            return Some(nth - 1);
+        }
+    }
+    None
+}
+
+/// All acts, each with its requests refused in turn.
+#[derive(Clone, Copy)]
+struct Acts {
+    is_there: bool,
+}
+
+impl Visit<NullSink> for Acts {
+    /// How often all acts were refused, each until it was granted.
+    type Told = Option<usize>;
+
+    fn visit<H: House, R: Wait>(self, seats: &mut Pair<'_, NullSink, H, R>) -> Option<usize> {
+        let mut refused = 0usize;
+        for place in 1..=ACTS {
+            let more = refusals_of(&mut seats.one, place, self.is_there)?;
+            refused = refused.saturating_add(more);
+        }
+        Some(refused)
+    }
+}
+
+/// How often the acts were refused over the path of three, if the house ended with all of them.
+fn told_of_acts<R: Wait>(rt: &R, alloc: Global, is_there: bool) -> Result<Option<usize>, Fail> {
+    let (refused, end) = visit_path(rt, alloc, NullSink::new(), Acts { is_there })?;
+    let wanted = Ending::Log {
+        events: 10,
+        number: 4,
+        halted: false,
+    };
+    Ok(refused.flatten().filter(|_| ending_of(&end) == wanted))
+}
+
+/// The first act with that request refused, and then another one, for which none is.
+#[derive(Clone, Copy)]
+struct Instead {
+    nth: usize,
+    is_there: bool,
+}
+
+impl Visit<NullSink> for Instead {
+    /// Whether the first was granted, where the other then has the next place.
+    type Told = Option<bool>;
+
+    fn visit<H: House, R: Wait>(self, seats: &mut Pair<'_, NullSink, H, R>) -> Option<bool> {
+        let seat = &mut seats.one;
+        let was_granted = asked(seat, 1, self.nth, self.is_there)?;
+        let second = seat.ask(asker(2), &act(2));
+        let next = if was_granted { 2 } else { 1 };
+        (is_told(&second, next, true) == Some(true)).then_some(was_granted)
+    }
+}
+
+/// Whether the first act was granted, where of it and the other just those that were granted are events.
+fn told_of_another<R: Wait>(
+    rt: &R,
+    alloc: Global,
+    nth: usize,
+    is_there: bool,
+) -> Result<Option<bool>, Fail> {
+    let (told, end) = visit_path(rt, alloc, NullSink::new(), Instead { nth, is_there })?;
+    let Some(was_granted) = told.flatten() else {
+        return Ok(None);
+    };
+    let wanted = Ending::Log {
+        events: if was_granted { 2 } else { 1 },
+        number: 0,
+        halted: false,
+    };
+    Ok((ending_of(&end) == wanted).then_some(was_granted))
+}
+
+/// How often the first act was refused before it was granted.
+fn told_of_others<R: Wait>(rt: &R, alloc: Global, is_there: bool) -> Result<Option<usize>, Fail> {
+    for nth in 1..MOST {
+        match told_of_another(rt, alloc, nth, is_there)? {
+            Some(true) => return Ok(Some(nth - 1)),
+            Some(false) => (),
+            None => return Ok(None),
+        }
+    }
+    Ok(None)
+}
+
+#[test]
+fn refusals_of_an_act_lose_nothing(rt: HostRuntime) -> Result<(), Fail> {
+    let is_there = is_there(rt.alloc());
+    let same = told_of_acts(&rt, rt.alloc(), is_there)?;
+    let another = told_of_others(&rt, rt.alloc(), is_there)?;
+    assert_eq!(rt;
+        (same.map(|count| count > 0), another.map(|count| count > 0)),
+        (Some(is_there), Some(is_there))
+    );
+    Ok(())
+}

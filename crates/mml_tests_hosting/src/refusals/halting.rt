@@ -1,0 +1,120 @@
+//! A grant over a sink in memory, with each of its requests for memory refused in turn: the sink's own want
+//! of memory halts, each other one leaves the hall as it was.
+use super::MOST;
+use super::library::{is_there, refuse, was_none_refused};
+use mml_codec::{JOURNAL_LINE, MEMORY_LINE, write_reply};
+use mml_fakes::labs::PATH_OF_THREE;
+use mml_fakes::scripts::{TEN_LINES, first_lines};
+use mml_hall::Hall;
+use mml_journal::MemorySink;
+use mml_lab::read_lab;
+use std::alloc::Global;
+use std::test::Fail;
+
+/// The reply line to a request of connection 1 whose nth request for memory is refused, and whether none
+/// was.
+fn answered(
+    alloc: Global,
+    hall: &mut Hall<MemorySink>,
+    request: &str,
+    nth: usize,
+    is_there: bool,
+) -> Option<(Vec<u8>, bool)> {
+    refuse(alloc, nth);
+    let reply = hall.answer(alloc, 1, request.as_bytes());
+    let was_none = was_none_refused(alloc, is_there);
+    let mut out = Vec::new(alloc);
+    let (ids, roster) = (hall.lab().ids(), hall.lab().roster());
+    write_reply(alloc, ids, roster, &reply, &mut out).ok()?;
+    Some((out, was_none))
+}
+
+const HELLO: &str = r#"{"do":"hello","key":"a-key","name":"ana"}"#;
+
+const MOVE: &str = r#"{"at":0,"do":"move","node":1,"rule":"seduction"}"#;
+
+const GRANTED: &str = "{\"at\":0,\"node\":1,\"ok\":\"move\",\"place\":1,\"rule\":\"seduction\"}\n";
+
+/// What became of a grant over a sink in memory.
+#[derive(Clone, Copy, Debug, PartialEq, Eq)]
+enum Grant {
+    Made,
+    /// Out of memory, with the hall as before.
+    Refused,
+    /// The sink's own out of memory, which halts.
+    Halted,
+}
+
+/// What became of a grant that got this reply, where the hall is as it should be then.
+fn grant_of(hall: &Hall<MemorySink>, reply: &[u8]) -> Option<Grant> {
+    let (found, events) = if reply == GRANTED.as_bytes() {
+        (Grant::Made, 1)
+    } else if reply == MEMORY_LINE.as_bytes() {
+        (Grant::Refused, 0)
+    } else if reply == JOURNAL_LINE.as_bytes() {
+        (Grant::Halted, 0)
+    } else {
+        return None;
+    };
+    let journal = first_lines(TEN_LINES, events);
+    let is_so = hall.events().len() as u64 == events
+        && hall.sink().bytes() == journal.as_bytes()
+        && hall.halted() == (found == Grant::Halted);
+    is_so.then_some(found)
+}
+
+/// Whether a move that is asked once more gets the line of a halted journal.
+fn stays_halted(alloc: Global, hall: &mut Hall<MemorySink>, is_there: bool) -> bool {
+    match answered(alloc, hall, MOVE, 0, is_there) {
+        Some((reply, _)) => reply.as_slice() == JOURNAL_LINE.as_bytes(),
+        None => false,
+    }
+}
+
+/// What became of a grant whose nth request for memory was refused, and whether none was. What halted is
+/// asked once more, and stays so.
+fn grant_in(
+    alloc: Global,
+    hall: &mut Hall<MemorySink>,
+    nth: usize,
+    is_there: bool,
+) -> Option<(Grant, bool)> {
+    answered(alloc, hall, HELLO, 0, is_there);
+    let (reply, was_none) = answered(alloc, hall, MOVE, nth, is_there)?;
+    let found = grant_of(hall, reply.as_slice())?;
+    let is_so = found != Grant::Halted || stays_halted(alloc, hall, is_there);
+    is_so.then_some((found, was_none))
+}
+
+/// The same in a hall of its own.
+fn granted(alloc: Global, nth: usize, is_there: bool) -> Result<Option<(Grant, bool)>, Fail> {
+    let lab = read_lab(alloc, PATH_OF_THREE.as_bytes())?;
+    let mut hall = Hall::new(alloc, lab, MemorySink::new(alloc, None))?;
+    Ok(grant_in(alloc, &mut hall, nth, is_there))
+}
+
+/// How often a grant was refused, and how often it halted, until it was made.
+fn told_of_grants(alloc: Global, is_there: bool) -> Result<Option<(usize, usize)>, Fail> {
+    let (mut refused, mut halted) = (0usize, 0usize);
+    for nth in 1..MOST {
+        match granted(alloc, nth, is_there)? {
+            Some((Grant::Made, true)) => return Ok(Some((refused, halted))),
+            Some((Grant::Refused, false)) => refused = refused.saturating_add(1),
+            Some((Grant::Halted, false)) => halted = halted.saturating_add(1),
+            _ => return Ok(None),
+        }
+    }
+    Ok(None)
+}
+
+#[test]
+fn refusals_of_a_sink_halt(rt: HostRuntime) -> Result<(), Fail> {
+    let is_there = is_there(rt.alloc());
+    let told = told_of_grants(rt.alloc(), is_there)?;
+    // The list of events and the line want memory before the sink does.
+    assert_eq!(rt;
+        told.map(|(refused, halted)| (refused > 0, halted)),
+        Some((is_there, usize::from(is_there)))
+    );
+    Ok(())
+}

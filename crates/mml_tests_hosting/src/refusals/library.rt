@@ -1,0 +1,45 @@
+//! The library of `tests/memory/refuse.c`, which the gate loads before these tests once more, as they see it.
+//! A test speaks to it by requests of more bytes than there are; without it these are just refused.
+use std::alloc::Global;
+
+const ARM: usize = 0x11 << 56;
+
+const FROM: usize = 0x12 << 56;
+
+const MADE: usize = 0x13 << 56;
+
+const MET: usize = 0x14 << 56;
+
+fn is_granted(alloc: Global, bytes: usize) -> bool {
+    let block: Result<Vec<u8>, _> = Vec::with_capacity(alloc, bytes);
+    block.is_ok()
+}
+
+/// Has the request for memory with this number refused, of those that follow, or none of them where it
+/// is 0.
+pub fn refuse(alloc: Global, nth: usize) {
+    is_granted(alloc, ARM.saturating_add(nth.min(1_000_000)));
+}
+
+/// Has each request for memory that follows refused.
+pub fn refuse_all(alloc: Global) {
+    is_granted(alloc, FROM.saturating_add(1));
+}
+
+/// Whether no request was made since then.
+pub fn was_none_made(alloc: Global) -> bool {
+    is_granted(alloc, MADE)
+}
+
+/// Whether the library is there.
+pub fn is_there(alloc: Global) -> bool {
+    refuse(alloc, 0);
+    was_none_made(alloc)
+}
+
+/// Whether none was refused since then, the library being there or not. From here on none is.
+pub fn was_none_refused(alloc: Global, is_there: bool) -> bool {
+    let was_none = !is_there || is_granted(alloc, MET);
+    refuse(alloc, 0);
+    was_none
+}

@@ -1,0 +1,149 @@
+ghost use Rattle.std.specs.Prelude.{◌≡◌, ◌<◌, ◌-◌, ◌^◌, IfSome};
+
+use crate::texts::{Count, Kept, Texts, Timed, lab_of, sent_to};
+use mml_audit::AuditFault;
+use mml_hosting::{Hosted, ServedSession};
+use mml_journal::{MemorySink, Sink};
+use mml_policy::Denial;
+use mml_resuming::{ResumeFault, Store, resume_class};
+use mml_session::NoGate;
+use std::alloc::{AllocError, Global};
+use std::collections::VecDeque;
+use std::sync::Wait;
+use std::test::Fail;
+use std::thread::Threads;
+
+/// A journal whose last line is torn: ana's move was granted, and ben's line was being written.
+const OLD: &str = "1 0 grant ana 1 seduction\n2 0 gra";
+
+/// Ana, who comes again, asks for what stands, and for what is stale.
+const ANA: &str = r#"{"do":"hello","key":"a-key","name":"ana"}
+{"at":0,"do":"move","node":1,"rule":"seduction"}
+{"at":7,"do":"move","node":1,"rule":"seduction"}
+{"do":"look","node":1}
+"#;
+
+const ANA_IS_TOLD: &str = r#"{"ok":"hello","who":"ana"}
+{"clause":3,"deny":"chosen","text":"this node is already chosen"}
+{"at":0,"clause":2,"deny":"stale","text":"this is not the current configuration"}
+{"at":0,"chosen":"seduction","m":false,"near":[{"m":false,"node":2,"p":null},{"m":false,"node":6,"p":null}],"node":1,"ok":"look","p":null,"rule":"seduction"}
+"#;
+
+const TESS: &str = r#"{"do":"hello","key":"chalk","name":"tess"}
+{"do":"close"}
+{"do":"close"}
+{"do":"bye"}
+"#;
+
+const TESS_IS_TOLD: &str = r#"{"ok":"hello","who":"tess"}
+{"at":1,"moved":[1],"ok":"close","place":2}
+{"clause":2,"deny":"empty","text":"no node is chosen"}
+{"ok":"bye"}
+"#;
+
+/// What is told before all else.
+const FIRST: &[u8] = b"listening\n".as_slice();
+
+const TOLD: &[u8] = b"listening
+resumed at place 1, configuration 0, 1 chosen
+done: 2 events, configuration 1
+".as_slice();
+
+/// More than what is left of one line.
+const LONG: &str = "1 0 grant ana 1 seduction
+2 0 close and more and more and more and more and more and more and more and more and more and more and more.";
+
+const NEW: &str = "1 0 grant ana 1 seduction\n2 0 close\n";
+
+/// Keeps a journal in memory.
+#[derive(Drop)]
+struct Shelf(Global);
+
+impl Store<MemorySink> for Shelf {
+    fn cut_to(self, whole: &[u8]) -> Option<MemorySink>
+        ensures holds { IfSome result (λ sink. sink.bytes ≡ whole.now) }
+        ensures countable { IfSome result (λ sink. sink.failures < 2 ^ 64 - 1) }
+    {
+        let mut sink = MemorySink::new(self.0, None);
+        if whole.is_empty() {
+            return Some(sink);
+        }
+        match sink.put(whole) {
+            Ok(_) => Some(sink),
+            Err(_) => None,
+        }
+    }
+}
+
+type Left = Hosted<MemorySink, ServedSession<VecDeque<u8>, Kept>>;
+
+fn resume<R: Threads + Wait + Sync>(
+    rt: &R,
+    alloc: Global,
+    events: u64,
+    old: &str,
+    out: &mut Vec<u8>,
+) -> Result<Result<Left, ResumeFault>, AllocError> {
+    let Ok(lab) = lab_of(alloc, events)? else {
+        return Ok(Err(ResumeFault::Memory));
+    };
+    let count = Count::new();
+    let tess = [Timed {
+        after: 1,
+        number: 0,
+        text: TESS,
+    }];
+    let ana = [Timed {
+        after: 0,
+        number: 1,
+        text: ANA,
+    }];
+    let at_desk = Texts::of(alloc, &tess, &count)?;
+    let at_port = Texts::of(alloc, &ana, &count)?;
+    Ok(resume_class(
+        rt,
+        alloc,
+        lab,
+        old.as_bytes(),
+        Shelf(alloc),
+        FIRST,
+        at_desk,
+        at_port,
+        &count,
+        &NoGate,
+        out,
+    ))
+}
+
+#[test]
+fn a_class_goes_on_where_its_journal_stopped(rt: HostRuntime) -> Result<(), Fail> {
+    let mut out = Vec::new(rt.alloc());
+    let Ok(left) = resume(&rt, rt.alloc(), 100, OLD, &mut out)? else {
+        return Err(Fail::from("a fault"));
+    };
+    let is_ana_told = sent_to(&left, 1) == Some(ANA_IS_TOLD.as_bytes());
+    let is_tess_told = sent_to(&left, 0) == Some(TESS_IS_TOLD.as_bytes());
+    let is_journal = left.log.sink.bytes() == NEW.as_bytes();
+    let is_told = out.as_slice() == TOLD;
+    assert_eq!(rt; [is_ana_told, is_tess_told, is_journal, is_told], [true; 4]);
+    Ok(())
+}
+
+#[test]
+fn what_is_no_journal_is_refused(rt: HostRuntime) -> Result<(), Fail> {
+    let mut out = Vec::new(rt.alloc());
+    let empty = resume(&rt, rt.alloc(), 100, "1 0 close\n", &mut out)?.err();
+    let long = resume(&rt, rt.alloc(), 1, NEW, &mut out)?.err();
+    let wanted = ResumeFault::Refused(AuditFault::Illegal(1, Denial::Empty));
+    assert_eq!(rt; (empty, out.is_empty()), (Some(wanted), true));
+    assert_eq!(rt;
+        (long, out.is_empty()),
+        (Some(ResumeFault::Refused(AuditFault::Full(2))), true)
+    );
+    let torn = resume(&rt, rt.alloc(), 100, LONG, &mut out)?.err();
+    assert_eq!(rt;
+        (torn, out.is_empty()),
+        (Some(ResumeFault::Refused(AuditFault::Torn(2))), true)
+    );
+    Ok(())
+}

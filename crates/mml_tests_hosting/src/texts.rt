@@ -1,0 +1,153 @@
+//! Connections in memory, which tell who is to come.
+ghost use Rattle.std.specs.Prelude.{Some};
+ghost use Rattle.std.specs.Vec.Iter.{into_iter_items};
+ghost use Rattle.mml_hosting.specs.Bringing.{Brings};
+
+use mml_fakes::cycles::cycle;
+use mml_fakes::meeting::wait_for;
+use mml_hosting::{Arrivals, Bell, CutOff, Hosted, Next, ServedSession};
+use mml_journal::MemorySink;
+use mml_lab::{Lab, LabFault, read_lab};
+use mml_serving::HangUp;
+use std::alloc::{AllocError, Global};
+use std::collections::VecDeque;
+use std::io;
+use std::io::Write;
+use std::sync::atomic::{AtomicU64, Ordering};
+use std::vec::IntoIter;
+
+/// Counts the sessions that have ended.
+#[derive(Drop)]
+pub struct Count(AtomicU64);
+
+impl Count {
+    pub fn new() -> Count {
+        Count(AtomicU64::new(0))
+    }
+}
+
+impl Bell for Count {
+    fn ring(&self, _is_dismissed: bool) {
+        self.0.fetch_add(1, Ordering::SeqCst);
+    }
+}
+
+/// What a connection was sent, with a number of its own.
+#[derive(Drop)]
+pub struct Kept {
+    pub number: u64,
+    pub bytes: Vec<u8>,
+}
+
+impl Write for Kept {
+    ghost contents = { λ k. Some k.bytes.items };
+
+    fn write(&mut self, bytes: &[u8]) -> io::Result<usize> {
+        self.bytes.write(bytes)
+    }
+
+    fn flush(&mut self) -> io::Result<()> {
+        self.bytes.flush()
+    }
+}
+
+impl HangUp for Kept {
+    fn hang_up(&mut self) {}
+}
+
+/// What cuts nothing off.
+#[derive(Drop)]
+pub struct Nothing;
+
+impl CutOff for Nothing {
+    fn cut_off(&self) {}
+}
+
+/// What a connection sends, and what it is sent.
+pub type TextEnds = (VecDeque<u8>, Kept);
+
+/// A text that is sent once so many sessions have ended.
+#[derive(Drop)]
+pub struct Timed<'a> {
+    pub after: u64,
+    pub number: u64,
+    pub text: &'a str,
+}
+
+/// Connections that come in their order.
+#[derive(Drop)]
+pub struct Texts<'a> {
+    coming: IntoIter<TextEnds>,
+    times: IntoIter<u64>,
+    count: &'a Count,
+}
+
+impl<'a> Texts<'a> {
+    pub fn of(
+        alloc: Global,
+        timed: &[Timed<'_>],
+        count: &'a Count,
+    ) -> Result<Texts<'a>, AllocError> {
+        let mut coming = Vec::new(alloc);
+        let mut times = Vec::new(alloc);
+        for one in timed {
+            coming.push(ends_of(alloc, one)?)?;
+            times.push(one.after)?;
+        }
+        Ok(Texts {
+            coming: coming.into_iter(),
+            times: times.into_iter(),
+            count,
+        })
+    }
+}
+
+fn ends_of(alloc: Global, timed: &Timed<'_>) -> Result<TextEnds, AllocError> {
+    let mut bytes = VecDeque::new(alloc);
+    for byte in timed.text.as_bytes() {
+        bytes.push_back(*byte)?;
+    }
+    let kept = Kept {
+        number: timed.number,
+        bytes: Vec::new(alloc),
+    };
+    Ok((bytes, kept))
+}
+
+impl<'a> Arrivals<VecDeque<u8>, Kept, Nothing> for Texts<'a> {
+    ghost to_come = { λ t. Some (into_iter_items t.coming) };
+
+    fn accept_next(&mut self) -> Next<VecDeque<u8>, Kept, Nothing>
+        ensures { Brings (Some (into_iter_items self.old.coming))
+            (Some (into_iter_items self.new.coming)) result }
+    {
+        if let Some(after) = self.times.next() {
+            wait_for(&self.count.0, after);
+        }
+        match self.coming.next() {
+            Some(ends) => Next::Came(ends, Nothing),
+            None => Next::Over,
+        }
+    }
+}
+
+/// A cycle of six nodes with so many events, and three sessions.
+pub fn lab_of(alloc: Global, events: u64) -> Result<Result<Lab, LabFault>, AllocError> {
+    let text = cycle(alloc, 6, events, 3)?;
+    Ok(read_lab(alloc, text.as_bytes()))
+}
+
+/// What the connection with the number was sent, if it was served.
+pub fn sent_to(
+    left: &Hosted<MemorySink, ServedSession<VecDeque<u8>, Kept>>,
+    number: u64,
+) -> Option<&[u8]> {
+    for record in left.desk.iter().chain(left.others.iter()) {
+        for session in record.sessions.iter() {
+            if session.writer.number == number {
+                return Some(session.writer.bytes.as_slice());
+            }
+        }
+    }
+    None
+}

@@ -1,0 +1,263 @@
+//! A board and its copy at the beginning of a run and after each event, also after ones that may not happen;
+//! and a look and a line, which take memory.
+ghost use Rattle.std.specs.Prelude.{◌<◌, length};
+
+use mml_board::{Board, Event};
+use mml_fakes::lab;
+use mml_fakes::labs::PATH_OF_THREE;
+use mml_ids::Rank;
+use mml_journal::next_line;
+use mml_lab::{Lab, Student, read_lab};
+use mml_policy::look_of;
+use mml_rules::{Regs, Rule, Scene};
+use std::alloc::{AllocError, Global};
+use std::test::Fail;
+
+// Of the two linked nodes, the higher points at the lower.
+const HIGHER_POINTS: &str = lab!(
+    "links = [[3, 5]]\n",
+    [("ana", "a-key")],
+    [(5, "ana", "p = 3\n"), (3, "ana", "")]
+);
+
+fn opening(alloc: Global, lab: &Lab) -> Result<Board, Fail> {
+    Ok(Board::new(alloc, lab)?)
+}
+
+/// The first student's request for a move.
+fn grant(index: u64, rule: Rule) -> Option<Event> {
+    let node = Rank::new(index)?;
+    Some(Event::Grant {
+        who: Student::new(0),
+        node,
+        rule,
+    })
+}
+
+/// A node's registers, and the rule that is enabled there.
+fn push_node(text: &mut String, board: &Board, node: Rank) -> Result<(), AllocError>
+    requires { node < length board.now.network.registers }
+{
+    let regs = board.regs(node);
+    let p = regs.p.map(Rank::index);
+    let kind = board.enabled(node);
+    write!(text, "; {p:?} {} {kind:?}", regs.m)
+}
+
+/// Whether nothing is chosen for a node, and its links.
+fn push_links(text: &mut String, board: &Board, node: Rank) -> Result<(), AllocError>
+    requires { node < length board.now.network.registers }
+{
+    let is_free = board.chosen(node).is_none();
+    write!(text, " {is_free} ")?;
+    for index in 0..board.size() {
+        let mark = if board.linked(node, Rank::at(index)) {
+            "-"
+        } else {
+            "."
+        };
+        text.push_str(mark)?;
+    }
+    Ok(())
+}
+
+/// The number of the step, the place in the run, how many nodes are privileged and how many moves
+/// are chosen, and then each node, with its links where these are wanted.
+fn told(alloc: Global, board: &Board, with_links: bool) -> Result<String, AllocError> {
+    let (number, place) = (board.number(), board.place());
+    let (privileged, chosen) = (board.privileged_count(), board.chosen_set().len());
+    let mut text = format!(in alloc; "{number} {place} {privileged} {chosen}")?;
+    for index in 0..board.size() {
+        push_node(&mut text, board, Rank::at(index))?;
+        if with_links {
+            push_links(&mut text, board, Rank::at(index))?;
+        }
+    }
+    Ok(text)
+}
+
+// An abandonment at 5, since 3 < 5 doesn't answer, and a marriage at 3.
+const OPENING: &str =
+    "0 0 2 0; None false Some(Marriage) true .-; Some(0) false Some(Abandonment) true -.";
+
+fn is_opening(alloc: Global, board: &Board) -> Result<bool, Fail> {
+    let told = told(alloc, board, true)?;
+    Ok(told.as_str() == OPENING)
+}
+
+fn is_copy_opening(alloc: Global, board: &Board) -> Result<bool, Fail> {
+    let copy = board.try_copy(alloc)?;
+    is_opening(alloc, &copy)
+}
+
+/// Whether a board and its copy are told so.
+fn are_opening(alloc: Global, board: &Board) -> Result<(bool, bool), Fail> {
+    Ok((is_opening(alloc, board)?, is_copy_opening(alloc, board)?))
+}
+
+/// What is shown of the first node, whose only neighbour points at it.
+fn look_at_the_first(alloc: Global, board: &Board) -> Result<String, Fail> {
+    let node = Rank::at(0);
+    if node.index() >= board.size() {
+        return Ok(String::from_str(alloc, "no node")?);
+    }
+    let look = look_of(alloc, board, node)?;
+    let mut text = format!(in alloc;
+        "{} {:?} {:?} {:?}",
+        look.at, look.regs.p, look.chosen, look.enabled
+    )?;
+    for (other, regs) in look.near.as_slice() {
+        write!(
+            text,
+            " {} {:?} {}",
+            other.index(),
+            regs.p.map(Rank::index),
+            regs.m
+        )?;
+    }
+    Ok(text)
+}
+
+/// The line of the first event, which the higher node asks for.
+fn first_line(alloc: Global, lab: &Lab, board: &Board) -> Result<Vec<u8>, Fail> {
+    let mut line = Vec::from_slice(alloc, b"what stood there")?;
+    if let Some(event) = &grant(1, Rule::Abandonment) {
+        if lab.node_count() == board.size()
+            && board.is_legal(lab.roster(), event)
+            && board.place() == 0
+        {
+            next_line(lab, board, event, &mut line)?;
+        }
+    }
+    Ok(line)
+}
+
+/// Whether a board and its copy are told so, what is shown of the first node, and the first line.
+fn are_told_at_first(alloc: Global, lab: &Lab) -> Result<(bool, bool), Fail> {
+    let board = opening(alloc, lab)?;
+    let opened = are_opening(alloc, &board)?;
+    let look = look_at_the_first(alloc, &board)?;
+    let line = first_line(alloc, lab, &board)?;
+    let is_shown = look.as_str() == "0 None None Some(Marriage) 1 Some(0) false";
+    let is_line = line.as_slice() == b"1 0 grant ana 5 abandonment".as_slice();
+    Ok((opened == (true, true), is_shown && is_line))
+}
+
+/// The same where the higher points.
+fn are_told_where_higher_points(alloc: Global) -> Result<(bool, bool), Fail> {
+    let lab = read_lab(alloc, HIGHER_POINTS.as_bytes())?;
+    are_told_at_first(alloc, &lab)
+}
+
+#[test]
+fn opening_board(rt: HostRuntime) -> Result<(), Fail> {
+    assert_eq!(rt; are_told_where_higher_points(rt.alloc())?, (true, true));
+    Ok(())
+}
+
+/// An event, if there is one, and what is told after it.
+type Part = (Option<Event>, &'static str);
+
+/// Moves are chosen and applied at once.
+fn moves() -> [Part; 5] {
+    [
+        (
+            grant(0, Rule::Seduction),
+            "0 1 2 1; None false Some(Seduction); None false Some(Seduction); None false None",
+        ),
+        // Not where a move is chosen already.
+        (
+            grant(0, Rule::Seduction),
+            "0 1 2 1; None false Some(Seduction); None false Some(Seduction); None false None",
+        ),
+        (
+            grant(1, Rule::Seduction),
+            "0 2 2 2; None false Some(Seduction); None false Some(Seduction); None false None",
+        ),
+        // Both effects are those of the configuration before.
+        (
+            Some(Event::Close),
+            "1 3 1 0; Some(1) false None; Some(2) false None; None false Some(Marriage)",
+        ),
+        // Nothing is chosen.
+        (
+            Some(Event::Close),
+            "1 3 1 0; Some(1) false None; Some(2) false None; None false Some(Marriage)",
+        ),
+    ]
+}
+
+/// A fault, a cut and a link.
+fn changes() -> [Part; 5] {
+    let [a, b, c] = [Rank::at(0), Rank::at(1), Rank::at(2)];
+    let fault = Event::Fault {
+        node: c,
+        regs: Regs {
+            p: Some(b),
+            m: true,
+        },
+    };
+    [
+        (
+            grant(2, Rule::Marriage(b)),
+            "1 4 1 1; Some(1) false None; Some(2) false None; None false Some(Marriage)",
+        ),
+        (
+            Some(fault),
+            "2 5 1 0; Some(1) false None; Some(2) false Some(Update); Some(1) true None",
+        ),
+        (
+            Some(Event::Cut { a: b, b: c }),
+            "3 6 2 0; Some(1) false None; None false Some(Marriage); None true Some(Update)",
+        ),
+        (
+            Some(Event::Link { a, b: c }),
+            "4 7 2 0; Some(1) false None; None false Some(Marriage); None true Some(Update)",
+        ),
+        // No pointer over a link that isn't there.
+        (
+            Some(Event::Cut { a: b, b: c }),
+            "4 7 2 0; Some(1) false None; None false Some(Marriage); None true Some(Update)",
+        ),
+    ]
+}
+
+/// Whether what is told after each event is as it should be.
+fn follows(alloc: Global, board: &mut Board, story: &[Part]) -> Result<bool, AllocError> {
+    let mut follows = true;
+    for (event, expected) in story {
+        if let Some(event) = event {
+            board.absorb_event(event);
+        }
+        let told = told(alloc, board, false)?;
+        if told.as_str() != *expected {
+            follows = false;
+        }
+    }
+    Ok(follows)
+}
+
+/// Whether the moves are told so, and then the changes.
+fn follow(alloc: Global, board: &mut Board) -> Result<(bool, bool), Fail> {
+    let moved = follows(alloc, board, &moves())?;
+    let changed = follows(alloc, board, &changes())?;
+    Ok((moved, changed))
+}
+
+/// The same over a lab.
+fn follow_over(alloc: Global, lab: &Lab) -> Result<(bool, bool), Fail> {
+    let mut board = opening(alloc, lab)?;
+    follow(alloc, &mut board)
+}
+
+/// The same from the beginning of a run.
+fn are_told(alloc: Global) -> Result<(bool, bool), Fail> {
+    let lab = read_lab(alloc, PATH_OF_THREE.as_bytes())?;
+    follow_over(alloc, &lab)
+}
+
+#[test]
+fn events_in_a_row_of_three(rt: HostRuntime) -> Result<(), Fail> {
+    assert_eq!(rt; are_told(rt.alloc())?, (true, true));
+    Ok(())
+}

@@ -1,0 +1,139 @@
+//! Lines of a journal that are read and written: of events that need not be legal, and ones that say nothing.
+use mml_board::Event;
+use mml_fakes::labs::PATH_OF_THREE;
+use mml_ids::{Memory, Rank};
+use mml_journal::{JournalFault, event_text, read_event};
+use mml_lab::{Lab, Student, read_lab};
+use mml_rules::{Regs, Rule};
+use std::alloc::Global;
+use std::test::Fail;
+
+fn grant(who: u16, node: Rank, rule: Rule) -> Event {
+    Event::Grant {
+        who: Student::new(who),
+        node,
+        rule,
+    }
+}
+
+fn path_of_three(alloc: Global) -> Result<Lab, Fail> {
+    Ok(read_lab(alloc, PATH_OF_THREE.as_bytes())?)
+}
+
+fn fault_of(lab: &Lab, line: &[u8]) -> Option<JournalFault> {
+    match read_event(line, lab.ids(), lab.roster()) {
+        Ok(_) => None,
+        Err(fault) => Some(fault),
+    }
+}
+
+/// Lines of no event.
+const SHAPES: &str = "
+1 0
+01 0 close
+1 00 close
+ 1 0 close
+1  0 close
+1 0 close\x20
+1 0 close 1
+1 0 Close
+1 0 close\r
++1 0 close
+18446744073709551616 0 close
+1 18446744073709551616 close
+1 0 release -
+1 0 release 01
+1 0 grant Zoe 1 update
+1 0 grant zoe 1 marriage
+1 0 grant zoe 9 marriage 02
+1 0 fault 9 - True
+1 0 link 1";
+
+/// Lines of events that name no student or no node of the lab.
+const UNKNOWNS: &str = "1 0 release 0
+1 0 release 4
+1 0 release 18446744073709551616
+1 0 release 18446744073709551617
+1 0 grant zoe 1 update
+1 0 grant tess 1 update
+1 0 fault 1 9 true
+1 0 cut 1 4";
+
+/// Whether each of the lines has that error.
+fn have_fault(lab: &Lab, lines: &str, fault: JournalFault) -> bool {
+    for line in lines.split('\n') {
+        if fault_of(lab, line.as_bytes()) != Some(fault) {
+            return false;
+        }
+    }
+    true
+}
+
+/// Lines of the other events, which need not be legal.
+const OTHERS: [&[u8]; 6] = [
+    b"18446744073709551615 18446744073709551615 release 3",
+    b"0 0 fault 2 - true",
+    b"1 0 fault 2 1 false",
+    b"1 0 link 1 1",
+    b"1 0 cut 3 1",
+    b"1 0 grant ana 3 update",
+];
+
+/// What they say.
+fn other_events() -> [Event; 6] {
+    let (first, second, third) = (Rank::at(0), Rank::at(1), Rank::at(2));
+    [
+        Event::Release { node: third },
+        Event::Fault {
+            node: second,
+            regs: Regs { p: None, m: true },
+        },
+        Event::Fault {
+            node: second,
+            regs: Regs {
+                p: Some(first),
+                m: false,
+            },
+        },
+        Event::Link { a: first, b: first },
+        Event::Cut { a: third, b: first },
+        grant(0, third, Rule::Update),
+    ]
+}
+
+/// Whether the line is read as that event, and is its text.
+fn is_read_and_written(
+    alloc: Global,
+    lab: &Lab,
+    line: &[u8],
+    event: &Event,
+) -> Result<bool, Memory> {
+    let Ok((place, before, found)) = read_event(line, lab.ids(), lab.roster()) else {
+        return Ok(false);
+    };
+    let text = event_text(alloc, place, before, &found, lab.ids(), lab.roster())?;
+    Ok(found == *event && text.as_slice() == line)
+}
+
+fn are_read_and_written(alloc: Global, lab: &Lab) -> Result<bool, Fail> {
+    for (line, event) in OTHERS.iter().zip(other_events().iter()) {
+        if !is_read_and_written(alloc, lab, line, event)? {
+            return Ok(false);
+        }
+    }
+    Ok(true)
+}
+
+/// Whether the shapes have their error, the unknowns theirs, and the events are read and written.
+fn are_told(alloc: Global) -> Result<(bool, bool, bool), Fail> {
+    let lab = path_of_three(alloc)?;
+    let shapes = have_fault(&lab, SHAPES, JournalFault::Shape);
+    let unknowns = have_fault(&lab, UNKNOWNS, JournalFault::Unknown);
+    Ok((shapes, unknowns, are_read_and_written(alloc, &lab)?))
+}
+
+#[test]
+fn lines_are_read_and_written(rt: HostRuntime) -> Result<(), Fail> {
+    assert_eq!(rt; are_told(rt.alloc())?, (true, true, true));
+    Ok(())
+}

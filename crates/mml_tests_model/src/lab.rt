@@ -1,0 +1,162 @@
+//! What a document is read as, through the readers of a lab.
+ghost use Rattle.std.specs.Prelude.{◌<◌, length};
+
+use mml_ids::{Memory, Rank};
+use mml_lab::{Lab, Roster, Student, Who, read_lab};
+use mml_rules::{Network, Scene};
+use std::alloc::{AllocError, Global};
+use std::test::Fail;
+
+/// How a node stands to another: `-` where they are linked, `>` where it points at the other too.
+fn mark(lab: &Lab, node: Rank, other: Rank) -> &'static str
+    requires { node < length lab.now.ids }
+{
+    let points = lab.regs(node).p == Some(other);
+    match (lab.linked(node, other), points) {
+        (true, true) => ">",
+        (true, false) => "-",
+        (false, true) => "!",
+        (false, false) => ".",
+    }
+}
+
+fn push_owners(text: &mut String, lab: &Lab, node: Rank) -> Result<(), AllocError> {
+    let roster = lab.roster();
+    for place in 0..roster.student_count() {
+        let student = &Who::Student(Student::new(place as u16));
+        if roster.owns(*student, node) {
+            text.push_str(roster.name_of(*student))?;
+        }
+    }
+    Ok(())
+}
+
+fn push_marks(text: &mut String, lab: &Lab, node: Rank) -> Result<(), AllocError>
+    requires { node < length lab.now.ids }
+{
+    for index in 0..lab.node_count() {
+        text.push_str(mark(lab, node, Rank::at(index)))?;
+    }
+    Ok(())
+}
+
+fn push_node(text: &mut String, lab: &Lab, node: Rank) -> Result<(), AllocError>
+    requires { node < length lab.now.ids }
+{
+    let id = lab.ids().id_of(node);
+    let m = lab.regs(node).m;
+    write!(text, "\n{id} {m} ")?;
+    push_owners(text, lab, node)?;
+    text.push_str(" ")?;
+    push_marks(text, lab, node)
+}
+
+/// The counts of a lab on a line, and a line for each node: its identifier, m, its owners, and how
+/// it stands to each node.
+fn shown(alloc: Global, lab: &Lab) -> Result<String, AllocError> {
+    let mut text = String::new(alloc);
+    for count in [
+        lab.events(),
+        u64::from(lab.sessions()),
+        lab.node_count(),
+        lab.link_count(),
+        lab.student_count(),
+    ] {
+        write!(text, "{count} ")?;
+    }
+    for index in 0..lab.node_count() {
+        push_node(&mut text, lab, Rank::at(index))?;
+    }
+    Ok(text)
+}
+
+// Students in another order than their nodes, two owners, and a pointer from the highest node.
+const DOCUMENT: &[u8] = br#"
+events = 100
+sessions = 4
+links = [[1, 4], [7, 1], [1, 65535]]
+teacher = { name = "tess", key = "chalk" }
+student = [
+  { name = "ana", key = "a-key" },
+  { name = "ben", key = "b-key" },
+  { name = "cyd", key = "c-key" },
+]
+node = [
+  { id = 1, owner = "ben" },
+  { id = 4, owners = ["cyd", "ben"] },
+  { id = 65535, owner = "ana", m = true, p = 1 },
+  { id = 7, owner = "ben" },
+]
+"#;
+
+const SHOWN: &str =
+    "100 4 4 3 3 \n1 false ben .---\n4 false bencyd -...\n7 false ben -...\n65535 true ana >...";
+
+// A name, and the place of the student with that name.
+const PLACES: [(&str, Option<u16>); 7] = [
+    ("ana", Some(0)),
+    ("ben", Some(1)),
+    ("cyd", Some(2)),
+    ("tess", None),
+    ("Ana", None),
+    ("an", None),
+    ("", None),
+];
+
+/// The first name of these whose student stands elsewhere.
+fn first_other_place(roster: &Roster) -> Option<&'static str> {
+    for (name, place) in PLACES {
+        if roster.student_named(name).map(Student::place) != place {
+            return Some(name);
+        }
+    }
+    None
+}
+
+/// Whether a network has the links and registers of another at a node.
+fn is_same_at(network: &Network, other: &Network, node: Rank) -> bool {
+    if node.index() >= network.size() || node.index() >= other.size() {
+        return false;
+    }
+    let (row, its) = (network.neighbours(node), other.neighbours(node));
+    let is_linked_so = row.without(its).len() == 0 && its.without(row).len() == 0;
+    is_linked_so && network.registers(node) == other.registers(node)
+}
+
+/// Whether a copy of a network has its nodes, links and registers.
+fn is_copied(alloc: Global, network: &Network) -> Result<bool, Memory> {
+    let copy = network.try_copy(alloc)?;
+    for index in 0..network.size() {
+        if !is_same_at(network, &copy, Rank::at(index)) {
+            return Ok(false);
+        }
+    }
+    Ok(copy.size() == network.size())
+}
+
+/// What a lab shows, whether its network is copied, and the first name with another place.
+fn told(alloc: Global, lab: &Lab) -> Result<(String, bool, Option<&'static str>), Fail> {
+    let text = shown(alloc, lab)?;
+    Ok((
+        text,
+        is_copied(alloc, lab.network())?,
+        first_other_place(lab.roster()),
+    ))
+}
+
+/// The same of a document, with whether it shows that.
+fn told_of(
+    alloc: Global,
+    document: &[u8],
+    wanted: &str,
+) -> Result<(bool, bool, Option<&'static str>), Fail> {
+    let lab = read_lab(alloc, document)?;
+    let (text, is_copied, other) = told(alloc, &lab)?;
+    Ok((text.as_str() == wanted, is_copied, other))
+}
+
+#[test]
+fn a_document_is_read(rt: HostRuntime) -> Result<(), Fail> {
+    assert_eq!(rt; told_of(rt.alloc(), DOCUMENT, SHOWN)?, (true, true, None));
+    Ok(())
+}

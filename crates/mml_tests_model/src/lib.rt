@@ -1,0 +1,20 @@
+//! Tests of the model and the journal, of what no script, audit or lab file reaches: sets, sinks that
+//! fail, and each public call that can answer want of memory, with ample memory.
+#![tactic(auto)]
+
+#[cfg(test)]
+mod board;
+#[cfg(test)]
+mod ids;
+#[cfg(test)]
+mod journal;
+#[cfg(test)]
+mod lab;
+#[cfg(test)]
+mod policy;
+#[cfg(test)]
+mod report;
+#[cfg(test)]
+mod sets;
+#[cfg(test)]
+mod sinks;

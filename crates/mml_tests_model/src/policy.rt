@@ -1,0 +1,102 @@
+//! What comes of a command where the limit of events is reached, or the journal is halted, and a look.
+use mml_board::Board;
+use mml_fakes::labs::PATH_OF_THREE;
+use mml_ids::{Memory, Rank};
+use mml_lab::{Lab, Who, read_lab};
+use mml_policy::{Asked, Command, Course, Ruling, rule_on};
+use mml_rules::Scene;
+use std::alloc::Global;
+use std::test::Fail;
+
+/// A lab, and its board at the beginning of a run.
+#[derive(Drop)]
+struct Opening {
+    lab: Lab,
+    board: Board,
+}
+
+/// That of a path of three.
+fn path_of_three(alloc: Global) -> Result<Opening, Fail> {
+    let lab = read_lab(alloc, PATH_OF_THREE.as_bytes())?;
+    let board = Board::new(alloc, &lab)?;
+    Ok(Opening { lab, board })
+}
+
+fn word_of(ruling: &Ruling) -> &'static str {
+    match ruling {
+        Ruling::Denied(_) => "denied",
+        Ruling::Seen(_) => "seen",
+        Ruling::Looked(_) => "looked",
+        Ruling::Reported => "reported",
+        Ruling::Full => "full",
+        Ruling::Journal => "journal",
+        Ruling::Granted { .. } => "granted",
+    }
+}
+
+/// How many events may take place, whether the journal is halted, and a command.
+type Case = (u64, bool, Command);
+
+/// What comes of a case of one who takes part, if board and identifiers are of one size.
+fn ruled(
+    alloc: Global,
+    lab: &Lab,
+    board: &Board,
+    who: Who,
+    case: &Case,
+) -> Result<&'static str, Memory> {
+    let (ids, roster) = (lab.ids(), lab.roster());
+    let (limit, is_halted, command) = case;
+    if ids.len() != board.size() {
+        return Ok("another size");
+    }
+    let course = Course { board, ids, roster };
+    let ruling = rule_on(alloc, &course, *limit, *is_halted, who, command)?;
+    Ok(word_of(&ruling))
+}
+
+/// What comes of each of these of ana, in a row.
+fn rulings(alloc: Global, lab: &Lab, board: &Board, cases: &[Case]) -> Result<String, Fail> {
+    let mut text = String::new(alloc);
+    for case in cases {
+        let word = match lab.roster().hello("ana", "a-key") {
+            Some(who) => ruled(alloc, lab, board, who, case)?,
+            None => "nobody",
+        };
+        write!(text, "{word} ")?;
+    }
+    Ok(text)
+}
+
+/// The same over a path of three.
+fn rulings_over_the_path(alloc: Global, cases: &[Case]) -> Result<String, Fail> {
+    let opening = path_of_three(alloc)?;
+    rulings(alloc, &opening.lab, &opening.board, cases)
+}
+
+fn seduction(node: u64) -> Command {
+    Command::Move {
+        node,
+        rule: Asked::Seduction,
+        at: 0,
+    }
+}
+
+#[test]
+fn a_halted_journal_comes_after_the_limit(rt: HostRuntime) -> Result<(), Fail> {
+    let told = rulings_over_the_path(
+        rt.alloc(),
+        &[
+            (1, false, seduction(1)),
+            (1, true, seduction(1)),
+            (0, true, seduction(1)),
+            (0, true, seduction(2)),
+            (1, true, Command::See { node: 1 }),
+            (1, true, Command::Look { node: 1 }),
+            (1, true, Command::Report),
+        ],
+    )?;
+    let wanted = "granted journal full denied seen looked denied ";
+    assert_eq!(rt; told.as_str(), wanted);
+    Ok(())
+}

@@ -1,0 +1,91 @@
+//! What is told of a run.
+use mml_board::Board;
+use mml_ids::Rank;
+use mml_lab::{Lab, read_lab};
+use mml_rules::Kind;
+use mml_stable::{OpenLink, Report, report};
+use std::alloc::{AllocError, Global};
+use std::test::Fail;
+
+/// The lists of a report, by ranks.
+fn told(alloc: Global, report: &Report) -> Result<String, AllocError> {
+    let mut text = format!(in alloc; "{} {};", report.at, report.stable)?;
+    push_lists(&mut text, report)?;
+    Ok(text)
+}
+
+fn push_lists(text: &mut String, report: &Report) -> Result<(), AllocError> {
+    push_pairs(text, report.pairs.as_slice())?;
+    push_free(text, report.free.as_slice())?;
+    push_privileged(text, report.privileged.as_slice())?;
+    for link in report.open_links.as_slice() {
+        push_link(text, link)?;
+    }
+    Ok(())
+}
+
+fn push_pairs(text: &mut String, pairs: &[(Rank, Rank)]) -> Result<(), AllocError> {
+    for (lower, greater) in pairs {
+        write!(text, " {}={}", lower.index(), greater.index())?;
+    }
+    text.push_str(";")
+}
+
+fn push_free(text: &mut String, nodes: &[Rank]) -> Result<(), AllocError> {
+    for node in nodes {
+        write!(text, " {}", node.index())?;
+    }
+    text.push_str(";")
+}
+
+fn push_privileged(text: &mut String, nodes: &[(Rank, Kind)]) -> Result<(), AllocError> {
+    for (node, kind) in nodes {
+        write!(text, " {} {kind:?}", node.index())?;
+    }
+    text.push_str(";")
+}
+
+fn push_link(text: &mut String, link: &OpenLink) -> Result<(), AllocError> {
+    let [a, b, node] = [link.a.index(), link.b.index(), link.node.index()];
+    write!(text, " {a}-{b} {node} {:?}", link.kind)
+}
+
+// Two pairs, of which one isn't written down, and a link between two that are free.
+const DOCUMENT: &[u8] = br#"
+events = 100
+sessions = 1
+links = [[1, 2], [2, 3], [3, 4], [4, 5], [5, 6]]
+teacher = { name = "t", key = "t" }
+student = [{ name = "s", key = "s" }]
+node = [
+  { id = 1, owner = "s", p = 2, m = true },
+  { id = 2, owner = "s", p = 1, m = true },
+  { id = 3, owner = "s", p = 4, m = true },
+  { id = 4, owner = "s", p = 3 },
+  { id = 5, owner = "s", p = 6 },
+  { id = 6, owner = "s" },
+]
+"#;
+
+const TOLD: &str = "0 false; 0=1 2=3; 4 5; 3 Update 5 Marriage; 4-5 5 Marriage";
+
+fn told_of_board(alloc: Global, board: &Board) -> Result<String, Fail> {
+    let report = report(alloc, board)?;
+    Ok(told(alloc, &report)?)
+}
+
+fn told_of_lab(alloc: Global, lab: &Lab) -> Result<String, Fail> {
+    let board = Board::new(alloc, lab)?;
+    told_of_board(alloc, &board)
+}
+
+fn told_of(alloc: Global, document: &[u8]) -> Result<String, Fail> {
+    let lab = read_lab(alloc, document)?;
+    told_of_lab(alloc, &lab)
+}
+
+#[test]
+fn report_of_two_pairs_and_an_open_link(rt: HostRuntime) -> Result<(), Fail> {
+    assert_eq!(rt; told_of(rt.alloc(), DOCUMENT)?.as_str(), TOLD);
+    Ok(())
+}

@@ -1,0 +1,133 @@
+//! Sets of ranks, beside plain lists.
+use mml_ids::{MAX_NODES, NodeSet, Rank};
+
+/// Whether these ranks are taken out of the set in this order, and then none.
+fn gives_in_order(set: NodeSet, ranks: &[u64]) -> bool {
+    let mut left = set;
+    for index in ranks {
+        if left.take_least().map(Rank::index) != Some(*index) {
+            return false;
+        }
+    }
+    left.take_least().is_none()
+}
+
+/// Whether a set has these ranks, of which the first is the least and the last the greatest, and no
+/// other.
+fn has_only(set: NodeSet, ranks: &[u64]) -> bool {
+    let least = set.least().map(Rank::index);
+    let greatest = set.greatest().map(Rank::index);
+    let has_all = ranks.iter().all(|index| match Rank::new(*index) {
+        Some(rank) => set.has(rank),
+        None => false,
+    });
+    has_all
+        && set.len() == ranks.len() as u64
+        && least == ranks.first().copied()
+        && greatest == ranks.last().copied()
+        && gives_in_order(set, ranks)
+}
+
+/// The first row of sets with other ranks, and how many ranks are above 63.
+fn told_of_sets() -> (Option<usize>, u64) {
+    let none = NodeSet::empty();
+    let some = none
+        .with(Rank::at(0))
+        .with(Rank::at(63))
+        .with(Rank::at(64))
+        .with(Rank::at(255));
+    let above = NodeSet::above(Rank::at(63));
+    let high = NodeSet::above(Rank::at(252));
+    let sets: [(NodeSet, &[u64]); 7] = [
+        (none, &[]),
+        (some, &[0, 63, 64, 255]),
+        (some.with(Rank::at(64)), &[0, 63, 64, 255]),
+        (high, &[253, 254, 255]),
+        (some.both(above), &[64, 255]),
+        (some.without(above), &[0, 63]),
+        (NodeSet::above(Rank::at(255)), &[]),
+    ];
+    let other = sets.iter().position(|(set, ranks)| !has_only(*set, ranks));
+    (other, above.len())
+}
+
+/// Whether a rank is in the set drawn by a seed: in some words many are, in others few.
+fn is_drawn(seed: u64, index: u64) -> bool {
+    let spread = seed.wrapping_add(index.wrapping_mul(37));
+    spread % 16 < 1 + (index / 64).wrapping_mul(seed) % 16
+}
+
+fn drawn_set(seed: u64) -> NodeSet {
+    let mut set = NodeSet::empty();
+    for index in 0..MAX_NODES {
+        if is_drawn(seed, index) {
+            set = set.with(Rank::at(index));
+        }
+    }
+    set
+}
+
+/// The set has the ranks whose places are true in the list, and no others.
+fn is_list(set: NodeSet, list: &[bool]) -> bool {
+    let members = list.iter().enumerate().all(|(index, there)| {
+        Rank::new(index as u64).is_some_and(|rank| set.has(rank) == *there)
+    });
+    let least = list.iter().position(|there| *there);
+    let greatest = list.iter().rposition(|there| *there);
+    members
+        && set.len() == list.iter().filter(|there| **there).count() as u64
+        && set.least().map(Rank::index) == least.map(|index| index as u64)
+        && set.greatest().map(Rank::index) == greatest.map(|index| index as u64)
+}
+
+/// The first two sets, what both have, what only the first has, and the ranks above one are as in plain
+/// lists.
+fn sets_are_lists(a: u64, b: u64, rank: Rank) -> bool {
+    let mut first = [false; 256];
+    let mut both = [false; 256];
+    let mut without = [false; 256];
+    let mut above = [false; 256];
+    for index in 0..256usize {
+        let (in_a, in_b) = (is_drawn(a, index as u64), is_drawn(b, index as u64));
+        first[index] = in_a;
+        both[index] = in_a && in_b;
+        without[index] = in_a && !in_b;
+        above[index] = rank.index() < index as u64;
+    }
+    let (set_a, set_b) = (drawn_set(a), drawn_set(b));
+    is_list(set_a, &first)
+        && is_list(set_a.both(set_b), &both)
+        && is_list(set_a.without(set_b), &without)
+        && is_list(NodeSet::above(rank), &above)
+}
+
+// Two seeds, and a rank.
+const SEEDS: [(u64, u64, u64); 8] = [
+    (0, 3, 0),
+    (5, 9, 62),
+    (6, 1, 63),
+    (11, 14, 64),
+    (12, 7, 127),
+    (13, 2, 191),
+    (14, 8, 254),
+    (15, 4, 255),
+];
+
+/// The first seeds of these whose sets aren't as plain lists.
+fn first_unlike_lists() -> Option<(u64, u64, u64)> {
+    for (a, b, index) in SEEDS {
+        let agree = match Rank::new(index) {
+            Some(rank) => sets_are_lists(a, b, rank),
+            None => false,
+        };
+        if !agree {
+            return Some((a, b, index));
+        }
+    }
+    None
+}
+
+#[test]
+fn sets_of_ranks(rt: HostRuntime) {
+    assert_eq!(rt; (told_of_sets(), first_unlike_lists()), ((None, 192), None));
+}

@@ -1,0 +1,146 @@
+//! Sinks that fail at each put, and at each byte.
+ghost use Rattle.std.specs.Prelude.{◌-◌, Some};
+
+use mml_fakes::labs::PATH_OF_THREE;
+use mml_fakes::scripts::TEN_LINES;
+use mml_ids::Memory;
+use mml_journal::{Journal, MemorySink, Sink, SinkFault, event_text, read_event};
+use mml_lab::{Lab, read_lab};
+use std::alloc::{AllocError, Global};
+use std::test::Fail;
+
+fn path_of_three(alloc: Global) -> Result<Lab, Fail> {
+    Ok(read_lab(alloc, PATH_OF_THREE.as_bytes())?)
+}
+
+/// Takes one byte a put, and fails for good after so many.
+#[derive(Drop)]
+struct ByteSink {
+    taken: Vec<u8>,
+    left: usize,
+    failures: u64,
+}
+
+impl Sink for ByteSink {
+    ghost contents = { λ s. Some s.taken.items };
+
+    ghost failures = { λ s. s.failures };
+
+    fn put(&mut self, bytes: &[u8]) -> Result<usize, SinkFault> {
+        if self.left == 0 || self.taken.push(bytes[0]).is_err() {
+            self.failures += 1;
+            return Err(SinkFault);
+        }
+        self.left -= 1;
+        Ok(1)
+    }
+}
+
+/// Puts the line of an event, and tells whether it was taken.
+fn put_line<S: Sink>(
+    alloc: Global,
+    lab: &Lab,
+    journal: &mut Journal<S>,
+    line: &[u8],
+) -> Result<bool, Memory> {
+    let Ok((place, before, event)) = read_event(line, lab.ids(), lab.roster()) else {
+        return Ok(false);
+    };
+    let text = event_text(alloc, place, before, &event, lab.ids(), lab.roster())?;
+    Ok(journal.append(&text).is_ok())
+}
+
+/// Puts the lines of the ten events, and tells how many were taken.
+fn put_lines<S: Sink>(alloc: Global, lab: &Lab, journal: &mut Journal<S>) -> Result<usize, Memory> {
+    let mut count = 0usize;
+    for line in TEN_LINES.lines() {
+        let is_taken = put_line(alloc, lab, journal, line.as_bytes())?;
+        count = usize::saturating_add(count, usize::from(is_taken));
+    }
+    Ok(count)
+}
+
+/// The first lines, so many.
+fn first_lines(alloc: Global, count: usize) -> Result<String, AllocError> {
+    let mut text = String::new(alloc);
+    for line in TEN_LINES.lines().take(count) {
+        text.push_str(line)?;
+        text.push('\n')?;
+    }
+    Ok(text)
+}
+
+/// Whether the sink has exactly that many lines, with what is left of the journal unless it fails
+/// there.
+fn takes_lines(alloc: Global, lab: &Lab, fail_at: Option<u64>, lines: usize) -> Result<bool, Fail> {
+    let text = first_lines(alloc, lines)?;
+    let mut journal = Journal::new(MemorySink::new(alloc, fail_at));
+    let count = put_lines(alloc, lab, &mut journal)?;
+    let is_halted = journal.halted() == (lines < 10);
+    Ok(count == lines && is_halted && journal.into_sink().bytes() == text.as_bytes())
+}
+
+/// How many lines come through before the first put that fails and takes others with it.
+fn lines_that_hold(alloc: Global, lab: &Lab) -> Result<usize, Fail> {
+    for lines in 0..=10usize {
+        if !takes_lines(alloc, lab, Some(lines as u64 + 1), lines)? {
+            return Ok(lines);
+        }
+    }
+    Ok(11)
+}
+
+/// The same; and what comes of a first put numbered 0, and with no put that fails.
+fn lines_taken(alloc: Global, lab: &Lab) -> Result<(usize, bool, bool), Fail> {
+    let hold = lines_that_hold(alloc, lab)?;
+    let none = takes_lines(alloc, lab, Some(0), 0)?;
+    let all = takes_lines(alloc, lab, None, 10)?;
+    Ok((hold, none, all))
+}
+
+/// The same of the path of three.
+fn lines_of_the_path_taken(alloc: Global) -> Result<(usize, bool, bool), Fail> {
+    let lab = path_of_three(alloc)?;
+    lines_taken(alloc, &lab)
+}
+
+#[test]
+fn memory_sink_fails_at_each_put(rt: HostRuntime) -> Result<(), Fail> {
+    assert_eq!(rt; lines_of_the_path_taken(rt.alloc())?, (11, true, true));
+    Ok(())
+}
+
+/// Whether the sink has exactly that many bytes of the text, and the journal is then halted.
+fn takes_bytes(alloc: Global, lab: &Lab, text: &[u8], left: usize) -> Result<bool, Memory> {
+    let sink = ByteSink {
+        taken: Vec::new(alloc),
+        left,
+        failures: 0,
+    };
+    let mut journal = Journal::new(sink);
+    put_lines(alloc, lab, &mut journal)?;
+    let is_halted = journal.halted() == (left < text.len());
+    let taken = &journal.sink().taken;
+    Ok(is_halted && taken.len() == left.min(text.len()) && text.starts_with(taken.as_slice()))
+}
+
+fn takes_each_number_of_bytes(alloc: Global, lab: &Lab) -> Result<bool, Fail> {
+    let text = TEN_LINES.as_bytes();
+    for left in 0..=text.len() {
+        if !takes_bytes(alloc, lab, text, left)? {
+            return Ok(false);
+        }
+    }
+    Ok(true)
+}
+
+fn takes_each_number_of_the_ten(alloc: Global) -> Result<bool, Fail> {
+    let lab = path_of_three(alloc)?;
+    takes_each_number_of_bytes(alloc, &lab)
+}
+
+#[test]
+fn one_byte_a_put_and_a_failure_at_each(rt: HostRuntime) -> Result<(), Fail> {
+    assert!(rt; takes_each_number_of_the_ten(rt.alloc())?);
+    Ok(())
+}

@@ -1,0 +1,5 @@
+//! The program's library: its calls where there is memory, and what no program shows.
+mod answering;
+mod faults;
+mod files;
+mod words;

@@ -1,0 +1,124 @@
+//! What `check`, `audit` and `script` write, over writers that fail after so many writes or flushes.
+use mml_fakes::FakeWriter;
+use mml_fakes::labs::PATH_OF_THREE;
+use mml_fakes::scripts::{FIRST_LOOK, FIRST_LOOK_REPLIES, TEN_LINES};
+use mml_journal::NullSink;
+use mml_lab::{Lab, read_lab};
+use mml_program::{BUILT_IN, Fault, answer_script, write_audit, write_size};
+use mml_serving::write_listening;
+use std::alloc::Global;
+use std::test::Fail;
+
+/// Whether a call that ended so has told it, and what it wrote is that.
+fn is_told(
+    ended: Result<(), Fault>,
+    writer: &FakeWriter,
+    wanted: Option<Fault>,
+    out: &[u8],
+) -> bool {
+    ended.err() == wanted && writer.taken.as_slice() == out
+}
+
+const SIZE: &[u8] = b"ok: 3 nodes, 2 links, 3 students\n";
+
+const AUDITED: &[u8] = b"ok: 10 events, configuration 4, stable\n";
+
+const LISTENING: &[u8] = b"listening on port 7000\n";
+
+/// Whether a server's first line goes out in one write.
+fn is_listening_told(alloc: Global) -> bool {
+    let mut first = FakeWriter::failing_after(1, alloc);
+    write_listening(alloc, 7000, &mut first) == Ok(()) && first.taken.as_slice() == LISTENING
+}
+
+/// Whether the lines of a lab and of a journal each go out in one write, and a write that fails is told.
+fn are_lines_told(alloc: Global, lab: &Lab) -> bool {
+    let mut size = FakeWriter::failing_after(1, alloc);
+    let is_size = write_size(alloc, lab, &mut size);
+    let mut audit = FakeWriter::failing_after(1, alloc);
+    let is_audit = write_audit(alloc, lab, TEN_LINES.as_bytes(), &mut audit);
+    let mut failing = FakeWriter::failing_after(0, alloc);
+    let is_failed = write_size(alloc, lab, &mut failing);
+    is_told(is_size, &size, None, SIZE)
+        && is_told(is_audit, &audit, None, AUDITED)
+        && is_told(is_failed, &failing, Some(Fault::Write), b"")
+}
+
+#[test]
+fn lines_go_out_in_one_write(rt: HostRuntime) -> Result<(), Fail> {
+    let lab = read_lab(rt.alloc(), BUILT_IN.as_bytes())?;
+    let are_told = is_listening_told(rt.alloc()) && are_lines_told(rt.alloc(), &lab);
+    let is_path = PATH_OF_THREE.strip_prefix('\n') == Some(BUILT_IN);
+    assert_eq!(rt; (are_told, is_path), (true, true));
+    Ok(())
+}
+
+const BYE: &str = "1 {\"do\":\"bye\"}\n";
+
+const LEFT: &str = "1 {\"ok\":\"bye\"}\n";
+
+const BAD_SECOND_LINE: &str = "1 {\"do\":\"bye\"}\n5 {\"do\":\"bye\"}\n";
+
+/// A script and how often it stands there, after how many writes and flushes its writer fails, what is told
+/// at the end, and what was written: a text, so many times.
+type Row = (
+    &'static str,
+    usize,
+    usize,
+    usize,
+    Option<Fault>,
+    &'static str,
+    usize,
+);
+
+/// Before each read there is a flush, and all replies go out. A write or a flush that fails is told in the
+/// place of a good end and of the error that would be told after it. A read has at most 4096 bytes, so 273
+/// of these byes, whose replies go out in one write.
+const ROWS: &[Row] = &[
+    ("", 1, 1, 2, None, "", 1),
+    (FIRST_LOOK, 1, 1, 2, None, FIRST_LOOK_REPLIES, 1),
+    (BAD_SECOND_LINE, 1, 1, 2, Some(Fault::BadLine(2)), LEFT, 1),
+    (FIRST_LOOK, 1, 0, 2, Some(Fault::Write), "", 1),
+    (FIRST_LOOK, 1, 1, 0, Some(Fault::Write), "", 1),
+    (
+        FIRST_LOOK,
+        1,
+        1,
+        1,
+        Some(Fault::Write),
+        FIRST_LOOK_REPLIES,
+        1,
+    ),
+    (BAD_SECOND_LINE, 1, 1, 1, Some(Fault::Write), LEFT, 1),
+    (BYE, 1000, 1, 100, Some(Fault::Write), LEFT, 273),
+    (BYE, 1000, 100, 100, None, LEFT, 1000),
+];
+
+/// Whether that comes of a script over the built-in lab.
+fn is_answered(alloc: Global, row: &Row) -> Result<bool, Fail> {
+    let (script, times, writes, flushes, wanted, replies, count) = row;
+    let script = script.repeat(alloc, *times)?;
+    let replies = replies.repeat(alloc, *count)?;
+    let mut writer = FakeWriter::failing_after(*writes, alloc);
+    writer.good_flushes = *flushes;
+    let lab = read_lab(alloc, BUILT_IN.as_bytes())?;
+    let mut reader = script.as_bytes();
+    let ended = answer_script(alloc, lab, &mut reader, &mut writer, NullSink::new());
+    Ok(ended.err() == *wanted && writer.taken.as_slice() == replies.as_bytes())
+}
+
+/// The first row of which something else comes.
+fn first_other(alloc: Global) -> Result<Option<usize>, Fail> {
+    for (number, row) in ROWS.iter().enumerate() {
+        if !is_answered(alloc, row)? {
+            return Ok(Some(number));
+        }
+    }
+    Ok(None)
+}
+
+#[test]
+fn scripts_are_answered_up_to_a_failed_write(rt: HostRuntime) -> Result<(), Fail> {
+    assert_eq!(rt; first_other(rt.alloc())?, None);
+    Ok(())
+}

@@ -1,0 +1,26 @@
+//! Error lines and statuses that no use of the program meets, and errors that want of memory is told by.
+use mml_ids::IdFault;
+use mml_lab::LabFault;
+use mml_program::Fault;
+use std::alloc::{AllocError, Global};
+use std::test::Fail;
+
+fn is_told(alloc: Global, fault: &Fault, wanted: &str) -> Result<bool, AllocError> {
+    let status = fault.status();
+    let told = format!(in alloc; "{status} {fault}")?;
+    Ok(told.as_str() == wanted)
+}
+
+#[test]
+fn faults_that_are_not_met_have_lines(rt: HostRuntime) -> Result<(), Fail> {
+    let astray = is_told(
+        rt.alloc(),
+        &Fault::Astray,
+        "4 serve: the tally does not fit",
+    )?;
+    let place = is_told(rt.alloc(), &Fault::Place, "5 serve: no place for a window")?;
+    let lab = Fault::from(LabFault::Memory) == Fault::Memory;
+    let id = Fault::from(LabFault::Id(IdFault::Memory)) == Fault::Memory;
+    assert_eq!(rt; [astray, place, lab, id], [true; 4]);
+    Ok(())
+}

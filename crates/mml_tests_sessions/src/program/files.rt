@@ -1,0 +1,83 @@
+//! The words that were given, files that are read whole, and a journal's file that is begun.
+use mml_ends::hold_streams;
+use mml_files::OpenJournal;
+use mml_journal::Sink;
+use mml_program::{BUILT_IN, Fault, begin_journal_with, lab_of, read_file, read_journal, words_of};
+use std::path::{Path, PathBuf};
+use std::test::Fail;
+use std::{env, fs, process};
+
+const LINE: &[u8] = b"1 0 grant ana 1 seduction\n";
+
+/// A path of this process alone, with this end.
+fn path_of_process(rt: &HostRuntime, end: &str) -> Result<PathBuf, Fail> {
+    let name = format!(in rt.alloc(); "mml_tests_sessions_{}{end}", process::id(rt.process()))?;
+    let folder = env::temp_dir(rt)?;
+    Ok(folder.join(rt.alloc(), name.as_str())?)
+}
+
+/// Whether bytes of a lab, a script or a journal are read so.
+fn is_read(found: Result<Vec<u8>, Fault>, wanted: Result<&[u8], Fault>) -> bool {
+    match (found, wanted) {
+        (Ok(bytes), Ok(wanted)) => bytes.as_slice() == wanted,
+        (Err(fault), Err(wanted)) => fault == wanted,
+        _ => false,
+    }
+}
+
+/// Whether a journal is begun in a file, and takes a line.
+fn is_begun(rt: &HostRuntime, path: &str) -> bool {
+    let Ok(journal) = OpenJournal::open(rt, path, &[]) else {
+        return false;
+    };
+    let needed: Result<u64, Fault> = Ok(7);
+    match begin_journal_with(rt, journal, needed) {
+        Ok((needed, mut sink)) => needed == 7 && sink.put(LINE) == Ok(LINE.len()),
+        Err(_) => false,
+    }
+}
+
+/// Whether a lab is read from a file, and then a journal begun in its place, which is read, while what
+/// stood there is kept.
+fn is_kept(rt: &HostRuntime, path: &str, kept: &str) -> bool {
+    let old = lab_of(rt, path).is_ok_and(|lab| lab.node_count() == 3);
+    let is_begun = is_begun(rt, path);
+    let new = is_read(read_journal(rt, path), Ok(LINE));
+    let kept = is_read(
+        read_file(rt, kept, Fault::ReadScript),
+        Ok(BUILT_IN.as_bytes()),
+    );
+    old && is_begun && new && kept
+}
+
+/// The same of two paths, whose files are taken away again.
+fn told_of_paths(rt: &HostRuntime, path: Path<'_>, kept: Path<'_>) -> Result<bool, Fail> {
+    fs::write(rt, path, BUILT_IN.as_bytes())?;
+    let text = path.to_str().ok_or("a path")?;
+    let is_kept = is_kept(rt, text, kept.to_str().ok_or("a path")?);
+    fs::remove_file(rt, path)?;
+    fs::remove_file(rt, kept)?;
+    Ok(is_kept)
+}
+
+#[test]
+fn files_are_read_and_journals_begun(rt: HostRuntime) -> Result<(), Fail> {
+    let path = path_of_process(&rt, "")?;
+    let kept = path_of_process(&rt, ".~1~")?;
+    let is_kept = told_of_paths(&rt, path.as_path(), kept.as_path())?;
+    let has_words = words_of(&rt).is_ok_and(|words| !words.is_empty());
+    let are_held = hold_streams(&rt).is_ok();
+    assert_eq!(rt; (is_kept, has_words, are_held), (true, true, true));
+    Ok(())
+}
+
+/// No command line has such a path.
+#[test]
+fn a_path_with_a_null_is_not_read(rt: HostRuntime) {
+    let lab = is_read(read_file(&rt, "a\0b", Fault::ReadLab), Err(Fault::ReadLab));
+    let script = is_read(
+        read_file(&rt, "a\0b", Fault::ReadScript),
+        Err(Fault::ReadScript),
+    );
+    assert_eq!(rt; (lab, script), (true, true));
+}

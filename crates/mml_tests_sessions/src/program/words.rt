@@ -1,0 +1,85 @@
+//! What the words of the command line ask for.
+use mml_program::read_words;
+use std::alloc::Global;
+use std::test::Fail;
+
+/// The words of a line, the program's name first; two spaces have an empty word between them.
+fn given(alloc: Global, line: &str) -> Result<Vec<String>, Fail> {
+    let mut words = Vec::new(alloc);
+    for word in line.split(' ') {
+        let word = word.to_string(alloc)?;
+        words.push(word)?;
+    }
+    Ok(words)
+}
+
+/// A command line, and what it asks for.
+const FORMS: &[(&str, &str)] = &[
+    ("mml", "BuiltIn"),
+    ("mml check a", "Check { lab: \"a\" }"),
+    (
+        "mml check some/lab.toml",
+        "Check { lab: \"some/lab.toml\" }",
+    ),
+    ("mml check check", "Check { lab: \"check\" }"),
+    ("mml check help", "Check { lab: \"help\" }"),
+    ("mml check ", "Check { lab: \"\" }"),
+    (
+        "mml script a b",
+        "Script(ScriptTask { lab: \"a\", script: \"b\", journal: None })",
+    ),
+    (
+        "mml script a a",
+        "Script(ScriptTask { lab: \"a\", script: \"a\", journal: None })",
+    ),
+    (
+        "mml script a b c",
+        "Script(ScriptTask { lab: \"a\", script: \"b\", journal: Some(\"c\") })",
+    ),
+    (
+        "mml script a b ",
+        "Script(ScriptTask { lab: \"a\", script: \"b\", journal: Some(\"\") })",
+    ),
+    ("mml audit a b", "Audit { lab: \"a\", journal: \"b\" }"),
+    (
+        "mml script help version",
+        "Script(ScriptTask { lab: \"help\", script: \"version\", journal: None })",
+    ),
+    (
+        "mml serve a 1 1",
+        "Serve(ServeTask { lab: \"a\", port: 1, connections: 1, journal: None })",
+    ),
+    (
+        "mml serve a 65535 16 b",
+        "Serve(ServeTask { lab: \"a\", port: 65535, connections: 16, journal: Some(\"b\") })",
+    ),
+    (
+        "mml serve 7000 7000 10 ",
+        "Serve(ServeTask { lab: \"7000\", port: 7000, connections: 10, journal: Some(\"\") })",
+    ),
+];
+
+/// Whether that is what words ask for.
+fn is_asked(alloc: Global, words: &[String], wanted: &str) -> Result<bool, Fail> {
+    let task = read_words(alloc, words)?;
+    let found = format!(in alloc; "{task:?}")?;
+    Ok(found.as_str() == wanted)
+}
+
+/// The first line that asks for something else.
+fn first_other(alloc: Global) -> Result<Option<&'static str>, Fail> {
+    for (line, wanted) in FORMS {
+        let words = given(alloc, line)?;
+        if !is_asked(alloc, words.as_slice(), wanted)? {
+            return Ok(Some(*line));
+        }
+    }
+    Ok(None)
+}
+
+#[test]
+fn each_form_is_taken(rt: HostRuntime) -> Result<(), Fail> {
+    let are_none_taken = is_asked(rt.alloc(), &[], "BuiltIn")?;
+    assert_eq!(rt; (first_other(rt.alloc())?, are_none_taken), (None, true));
+    Ok(())
+}

@@ -1,0 +1,104 @@
+//! A put that goes on, under the lock, until another session has come for the lock and a third was answered.
+use super::steps::{Hold, Holds, Steps};
+use super::{ANA_GRANTED, ANA_MOVES, are_answered, serve};
+use mml_journal::{Sink, SinkFault};
+use mml_session::Point;
+use std::alloc::Global;
+use std::sync::Wait;
+use std::test::Fail;
+use std::thread;
+use std::thread::Threads;
+
+/// The number under which the first put is held, beside those of three sessions.
+const PUT: u8 = 4;
+
+/// How often the put looks round once the second session is about to ask.
+const TURNS: u64 = 100_000;
+
+/// The second and the third session wait with their second line for the put, and that for the second one's
+/// line and for the third one's reply.
+const HOLDS: &[Hold] = &[
+    (2, 2, PUT, 1),
+    (3, 2, PUT, 1),
+    (PUT, 0, 2, 3),
+    (PUT, 0, 3, 4),
+];
+
+/// Takes all that it is given, the first time once all are there.
+#[derive(Drop)]
+struct Slow<'a> {
+    bytes: Vec<u8>,
+    failures: u64,
+    steps: &'a Steps<'a>,
+}
+
+impl<'a> Sink for Slow<'a> {
+    ghost use Rattle.std.specs.Prelude.{None};
+
+    ghost contents = { λ _. None };
+
+    ghost failures = { λ s. s.failures };
+
+    fn put(&mut self, bytes: &[u8]) -> Result<usize, SinkFault> {
+        if self.bytes.is_empty() {
+            self.steps.come(PUT, Point::Line);
+            for _ in 0..TURNS {
+                thread::yield_now();
+            }
+        }
+        if self.bytes.extend_from_slice(bytes).is_err() {
+            self.failures += 1;
+            return Err(SinkFault);
+        }
+        Ok(bytes.len())
+    }
+}
+
+const BEN_MOVES: &str = r#"{"do":"hello","key":"b-key","name":"ben"}
+{"at":0,"do":"move","node":2,"rule":"seduction"}
+{"do":"bye"}
+"#;
+
+const CYD_LOOKS: &str = r#"{"do":"hello","key":"c-key","name":"cyd"}
+{"do":"see","node":2}
+{"do":"bye"}
+"#;
+
+const BEN: &str = r#"{"ok":"hello","who":"ben"}
+{"at":0,"node":2,"ok":"move","place":2,"rule":"seduction"}
+{"ok":"bye"}
+"#;
+
+const CYD: &str = r#"{"ok":"hello","who":"cyd"}
+{"at":0,"m":false,"node":2,"ok":"see","p":null}
+{"ok":"bye"}
+"#;
+
+const JOURNAL: &str = "1 0 grant ana 1 seduction\n2 0 grant ben 2 seduction\n";
+
+/// Whether all three are answered, and whether the put was held until the others were there.
+fn told_of_a_slow_put<R: Threads + Wait + Sync>(
+    rt: &R,
+    alloc: Global,
+) -> Result<(bool, bool), Fail> {
+    let steps = Steps::new(alloc, PUT, Holds::Each(HOLDS))?;
+    let sink = Slow {
+        bytes: Vec::new(alloc),
+        failures: 0,
+        steps: &steps,
+    };
+    let mut out = Vec::new(alloc);
+    let scripts = [ANA_MOVES, BEN_MOVES, CYD_LOOKS];
+    let Ok(house) = serve(rt, alloc, sink, &scripts, 3, &steps, &mut out)? else {
+        return Ok((false, false));
+    };
+    let are_so = are_answered(&house, &[ANA_GRANTED, BEN, CYD])
+        && house.log.sink.bytes.as_slice() == JOURNAL.as_bytes();
+    Ok((are_so, steps.were_led()))
+}
+
+#[test]
+fn a_lock_that_is_held_is_waited_for_by_acts_alone(rt: HostRuntime) -> Result<(), Fail> {
+    assert_eq!(rt; told_of_a_slow_put(&rt, rt.alloc())?, (true, true));
+    Ok(())
+}

@@ -1,0 +1,107 @@
+//! A gate that knows each session's steps: its first line, its first reply, its second line, and so on.
+use mml_fakes::meeting::wait_for;
+use mml_session::{Gate, Point};
+use std::alloc::{AllocError, Global};
+use std::sync::atomic::{AtomicU64, Ordering};
+
+/// A connection, one of its steps from 0 on, and the connection that it waits for there until that one
+/// has come to so many steps.
+pub type Hold = (u8, u64, u8, u64);
+
+/// Where sessions are held.
+#[derive(Clone, Copy)]
+pub enum Holds<'a> {
+    /// At each step until all have come to it.
+    Together,
+    /// Each of these.
+    Each(&'a [Hold]),
+}
+
+/// Holds sessions where they are told to wait, and counts what each passes.
+#[derive(Drop)]
+pub struct Steps<'a> {
+    holds: Holds<'a>,
+    steps: Vec<AtomicU64>,
+    given_up: AtomicU64,
+    misled: AtomicU64,
+}
+
+impl<'a> Steps<'a> {
+    /// For so many connections.
+    pub fn new(alloc: Global, connections: u8, holds: Holds<'a>) -> Result<Steps<'a>, AllocError> {
+        let mut steps = Vec::new(alloc);
+        for _ in 0..connections {
+            steps.push(AtomicU64::new(0))?;
+        }
+        Ok(Steps {
+            holds,
+            steps,
+            given_up: AtomicU64::new(0),
+            misled: AtomicU64::new(0),
+        })
+    }
+
+    fn come_of(&self, connection: u8) -> Option<&AtomicU64> {
+        self.steps.get(usize::from(connection.saturating_sub(1)))
+    }
+
+    fn wait_until(&self, come: Option<&AtomicU64>, wanted: u64) {
+        let has_come = match come {
+            Some(come) => wait_for(come, wanted),
+            None => false,
+        };
+        if !has_come {
+            self.given_up.fetch_add(1, Ordering::SeqCst);
+        }
+    }
+
+    fn hold(&self, connection: u8, step: u64) {
+        match self.holds {
+            Holds::Together => {
+                for come in self.steps.iter() {
+                    self.wait_until(Some(come), step.saturating_add(1));
+                }
+            }
+            Holds::Each(holds) => {
+                for (held, at, other, wanted) in holds.iter() {
+                    if *held == connection && *at == step {
+                        self.wait_until(self.come_of(*other), *wanted);
+                    }
+                }
+            }
+        }
+    }
+
+    /// Whether all passed lines and replies in turn, and nobody gave up.
+    pub fn were_led(&self) -> bool {
+        self.given_up.load(Ordering::SeqCst) == 0 && self.misled.load(Ordering::SeqCst) == 0
+    }
+
+    /// The same, and whether each connection passed so many steps.
+    pub fn were_kept(&self, steps: u64) -> bool {
+        self.were_led()
+            && self
+                .steps
+                .iter()
+                .all(|come| come.load(Ordering::SeqCst) == steps)
+    }
+
+    /// Comes to the next step of a connection, and is held there.
+    pub fn come(&self, connection: u8, point: Point) {
+        let step = match self.come_of(connection) {
+            Some(come) => come.fetch_add(1, Ordering::SeqCst),
+            None => u64::MAX,
+        };
+        let is_line = matches!(point, Point::Line);
+        if is_line != (step % 2 == 0) {
+            self.misled.fetch_add(1, Ordering::SeqCst);
+        }
+        self.hold(connection, step);
+    }
+}
+
+impl<'a> Gate for Steps<'a> {
+    fn pass(&self, connection: u8, point: Point) {
+        self.come(connection, point);
+    }
+}

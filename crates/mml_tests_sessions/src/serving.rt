@@ -1,0 +1,116 @@
+//! Connections over sockets of this machine, numbered as they come: only a gate sees their numbers.
+//! Clients connect and send before the server accepts: the system holds what they sent, and what they are
+//! answered.
+use mml_fakes::labs::PATH_OF_THREE;
+use mml_fakes::meeting::wait_for;
+use mml_journal::MemorySink;
+use mml_lab::read_lab;
+use mml_serving::serve_on;
+use mml_session::{Gate, Point};
+use std::alloc::Global;
+use std::io;
+use std::io::Write;
+use std::net::{Ipv4Addr, Net, Shutdown, SocketAddr, TcpListener, TcpStream};
+use std::sync::Wait;
+use std::sync::atomic::{AtomicU64, Ordering};
+use std::test::Fail;
+use std::thread::Threads;
+
+/// Lets another connection than the first begin when that has had so many replies.
+#[derive(Drop)]
+struct After {
+    replies: AtomicU64,
+    wanted: u64,
+}
+
+impl Gate for After {
+    fn pass(&self, connection: u8, point: Point) {
+        if connection == 1 && point == Point::Told {
+            self.replies.fetch_add(1, Ordering::SeqCst);
+        }
+        if connection != 1 {
+            wait_for(&self.replies, self.wanted);
+        }
+    }
+}
+
+/// Connects a client, which sends all that it says.
+fn client<R: Net<Listener = TcpListener, Stream = TcpStream>>(
+    rt: &R,
+    address: SocketAddr,
+    text: &str,
+) -> io::Result<TcpStream> {
+    let mut stream = TcpStream::connect(rt, address)?;
+    stream.write_all(text.as_bytes())?;
+    stream.shutdown(Shutdown::Write)?;
+    Ok(stream)
+}
+
+/// Serves two connections of a listener over the path of three, and tells whether that went well and it
+/// wrote this of itself.
+fn is_served<R: Threads + Wait + Sync>(
+    rt: &R,
+    alloc: Global,
+    listener: TcpListener,
+    last: &str,
+) -> Result<bool, Fail> {
+    let lab = read_lab(alloc, PATH_OF_THREE.as_bytes())?;
+    if lab.sessions() < 2 {
+        return Ok(false);
+    }
+    let gate = After {
+        replies: AtomicU64::new(0),
+        wanted: 2,
+    };
+    let sink = MemorySink::new(alloc, None);
+    let mut out = Vec::new(alloc);
+    let ended = serve_on(rt, alloc, lab, listener, 2, sink, &gate, &mut out);
+    Ok(ended == Ok(()) && out.as_slice() == last.as_bytes())
+}
+
+/// Whether a client was answered so, and its connection ended.
+fn is_answered(alloc: Global, stream: TcpStream, replies: &str) -> io::Result<bool> {
+    let found = io::read_to_string(alloc, &stream)?;
+    Ok(found.as_str() == replies)
+}
+
+const MOVE: &str = "{\"do\":\"hello\",\"key\":\"a-key\",\"name\":\"ana\"}
+{\"at\":0,\"do\":\"move\",\"node\":1,\"rule\":\"seduction\"}
+";
+
+const GRANTED: &str = "{\"ok\":\"hello\",\"who\":\"ana\"}
+{\"at\":0,\"node\":1,\"ok\":\"move\",\"place\":1,\"rule\":\"seduction\"}
+";
+
+const STEP: &str = "{\"do\":\"hello\",\"key\":\"chalk\",\"name\":\"tess\"}
+{\"do\":\"close\"}
+";
+
+const STEP_REPLIES: &str = "{\"ok\":\"hello\",\"who\":\"tess\"}
+{\"at\":1,\"moved\":[1],\"ok\":\"close\",\"place\":2}
+";
+
+/// Whether the second of two clients closes a step once the first one's move was answered.
+fn told_of_two<
+    R: Net<Listener = TcpListener, Stream = TcpStream> + Threads + Wait + Sync + AllocGlobal,
+>(rt: &R) -> Result<(bool, bool, bool), Fail> {
+    let listener = TcpListener::bind(rt, SocketAddr::from((Ipv4Addr::LOCALHOST, 0)))?;
+    let address = listener.local_addr()?;
+    let first = client(rt, address, MOVE)?;
+    let second = client(rt, address, STEP)?;
+    let is_served = is_served(
+        rt,
+        rt.alloc(),
+        listener,
+        "done: 2 events, configuration 1\n",
+    )?;
+    let is_granted = is_answered(rt.alloc(), first, GRANTED)?;
+    let is_closed = is_answered(rt.alloc(), second, STEP_REPLIES)?;
+    Ok((is_served, is_granted, is_closed))
+}
+
+#[test]
+fn connections_are_numbered_as_they_come(rt: HostRuntime) -> Result<(), Fail> {
+    assert_eq!(rt; told_of_two(&rt)?, (true, true, true));
+    Ok(())
+}

@@ -1,0 +1,217 @@
+//! One session: how it ends at its reader and its writer, and what stands then.
+use mml_fakes::scripts::{ANA_MOVES, ANA_WELCOME};
+use mml_fakes::{FakeReader, FakeWriter};
+use mml_fakes_houses::{Ending, Pair, Visit, ending_of, is_first_close, visit_path};
+use mml_journal::MemorySink;
+use mml_lab::Who;
+use mml_policy::Command;
+use mml_session::SessionEnd;
+use mml_window::House;
+use std::alloc::{AllocError, Global};
+use std::io::ErrorKind;
+use std::sync::Wait;
+use std::test::Fail;
+
+const REPLIES: &str = r#"{"ok":"hello","who":"ana"}
+{"at":0,"node":1,"ok":"move","place":1,"rule":"seduction"}
+"#;
+
+/// A session between a reader and a writer.
+#[derive(Drop)]
+struct Session<'a> {
+    reader: FakeReader<'a>,
+    writer: FakeWriter,
+}
+
+/// What came of a session.
+#[derive(Drop)]
+struct Served<'a> {
+    end: SessionEnd,
+    reader: FakeReader<'a>,
+    writer: FakeWriter,
+    /// Whether the teacher's close after it applied a move of node 1.
+    is_closed: bool,
+}
+
+impl<'a> Visit<MemorySink> for Session<'a> {
+    type Told = Served<'a>;
+
+    fn visit<H: House, R: Wait>(self, seats: &mut Pair<'_, MemorySink, H, R>) -> Served<'a> {
+        let Session {
+            mut reader,
+            mut writer,
+        } = self;
+        let end = seats.one.serve(&mut reader, &mut writer);
+        let closed = seats.two.ask(Who::Teacher, &Command::Close);
+        Served {
+            end,
+            reader,
+            writer,
+            is_closed: is_first_close(&closed),
+        }
+    }
+}
+
+/// What came of a session over the path of three, and whether its house ended well, with a move and its
+/// close or with no event.
+fn serve<'a, R: Wait>(
+    rt: &R,
+    alloc: Global,
+    reader: FakeReader<'a>,
+    writer: FakeWriter,
+) -> Result<(Served<'a>, bool), Fail> {
+    let sink = MemorySink::new(alloc, None);
+    match visit_path(rt, alloc, sink, Session { reader, writer })? {
+        (Some(served), end) => {
+            let wanted = ending_after(served.is_closed);
+            Ok((served, ending_of(&end) == wanted))
+        }
+        (None, _) => Err(Fail::from("no window")),
+    }
+}
+
+/// The end of a house with a move and its close, or with no event.
+fn ending_after(is_closed: bool) -> Ending {
+    Ending::Log {
+        events: if is_closed { 2 } else { 0 },
+        number: if is_closed { 1 } else { 0 },
+        halted: false,
+    }
+}
+
+/// A bye with so many spaces behind it, and then these bytes.
+fn bye(alloc: Global, spaces: usize, end: &str) -> Result<Vec<u8>, AllocError> {
+    let mut line = b"{\"do\":\"bye\"}".to_vec(alloc)?;
+    for _ in 0..spaces {
+        line.push(b' ')?;
+    }
+    line.extend_from_slice(end.as_bytes())?;
+    Ok(line)
+}
+
+const BYE: &str = "{\"ok\":\"bye\"}\n";
+
+/// How many spaces are behind a bye, and what ends its line and follows, all of which is read byte by
+/// byte; how the session ends, what it writes, how many reads it makes, and how many bytes it leaves.
+type Row = (usize, &'static str, SessionEnd, &'static str, usize, usize);
+
+const BYES: &[Row] = &[
+    (4084, "\n", SessionEnd::Bye, BYE, 4097, 0),
+    (4085, "\n", SessionEnd::TooLong, "", 4097, 1),
+    (0, "", SessionEnd::End, "", 13, 0),
+    (4084, "", SessionEnd::End, "", 4097, 0),
+    (0, "\n{\"do\":\"bye\"}\n", SessionEnd::Bye, BYE, 13, 13),
+];
+
+/// Whether a session over such a line ends so.
+fn is_told<R: Wait>(rt: &R, alloc: Global, row: &Row) -> Result<bool, Fail> {
+    let (spaces, after, end, written, reads, rest) = row;
+    let line = bye(alloc, *spaces, after)?;
+    let reader = FakeReader::failing_after(usize::MAX, line.as_slice());
+    let (served, is_ended) = serve(rt, alloc, reader, FakeWriter::patient(alloc))?;
+    Ok(
+        is_ended
+            && served.end == *end
+            && served.writer.taken.as_slice() == written.as_bytes()
+            && (served.reader.reads, served.reader.rest.len()) == (*reads, *rest),
+    )
+}
+
+/// The first row of these that ends otherwise.
+fn first_row_told_otherwise<R: Wait>(rt: &R, alloc: Global) -> Result<Option<usize>, Fail> {
+    for (number, row) in BYES.iter().enumerate() {
+        if !is_told(rt, alloc, row)? {
+            return Ok(Some(number));
+        }
+    }
+    Ok(None)
+}
+
+#[test]
+fn lines_have_limits_and_nothing_is_read_after_a_bye(rt: HostRuntime) -> Result<(), Fail> {
+    assert_eq!(rt; first_row_told_otherwise(&rt, rt.alloc())?, None);
+    Ok(())
+}
+
+/// Whether a writer that fails after so many bytes ends the session, and has the beginning of what is
+/// wanted, while a granted event stands though its reply couldn't be written, so that the close applies it.
+fn tells_a_write<R: Wait>(rt: &R, alloc: Global, good: usize) -> Result<bool, Fail> {
+    let reader = FakeReader {
+        rest: ANA_MOVES.as_bytes(),
+        step: usize::MAX,
+        good: usize::MAX,
+        kind: ErrorKind::Other,
+        reads: 0,
+    };
+    let mut writer = FakeWriter::failing_after(good, alloc);
+    writer.step = 1;
+    let (served, is_ended) = serve(rt, alloc, reader, writer)?;
+    let (out, rest) = REPLIES.as_bytes().split_at(good.min(REPLIES.len()));
+    let wanted = if rest.is_empty() {
+        SessionEnd::End
+    } else {
+        SessionEnd::WriteFault
+    };
+    Ok(
+        is_ended
+            && served.end == wanted
+            && served.writer.taken.as_slice() == out
+            && served.is_closed == (good >= ANA_WELCOME.len()),
+    )
+}
+
+/// The first number of good writes after which something else is told.
+fn first_untold_write<R: Wait>(rt: &R, alloc: Global) -> Result<Option<usize>, Fail> {
+    for good in 0..=REPLIES.len() {
+        if !tells_a_write(rt, alloc, good)? {
+            return Ok(Some(good));
+        }
+    }
+    Ok(None)
+}
+
+#[test]
+fn failed_writes_are_told(rt: HostRuntime) -> Result<(), Fail> {
+    assert_eq!(rt; first_untold_write(&rt, rt.alloc())?, None);
+    Ok(())
+}
+
+/// What is answered to the whole lines among so many bytes.
+fn answered(good: usize) -> &'static str {
+    if good == ANA_MOVES.len() {
+        REPLIES
+    } else if good > 41 {
+        ANA_WELCOME
+    } else {
+        ""
+    }
+}
+
+/// Whether a reader that fails after so many bytes ends the session, where exactly the lines that it
+/// gave were answered.
+fn tells_a_read<R: Wait>(rt: &R, alloc: Global, good: usize) -> Result<bool, Fail> {
+    let reader = FakeReader::failing_after(good, ANA_MOVES.as_bytes());
+    let (served, is_ended) = serve(rt, alloc, reader, FakeWriter::patient(alloc))?;
+    Ok(
+        is_ended
+            && served.end == SessionEnd::ReadFault
+            && served.writer.taken.as_slice() == answered(good).as_bytes()
+            && served.is_closed == (good == ANA_MOVES.len()),
+    )
+}
+
+/// The first number of good reads after which something else is told.
+fn first_untold_read<R: Wait>(rt: &R, alloc: Global) -> Result<Option<usize>, Fail> {
+    for good in 0..=ANA_MOVES.len() {
+        if !tells_a_read(rt, alloc, good)? {
+            return Ok(Some(good));
+        }
+    }
+    Ok(None)
+}
+
+#[test]
+fn failed_reads_are_told(rt: HostRuntime) -> Result<(), Fail> {
+    assert_eq!(rt; first_untold_read(&rt, rt.alloc())?, None);
+    Ok(())
+}

@@ -1,0 +1,231 @@
+//! Windows of one house in one thread, with some of them left out at its end.
+ghost use Rattle.std.specs.Prelude.{◌≡◌, length};
+ghost use Rattle.mml_window.specs.Houses.{house_of};
+
+use mml_board::Done;
+use mml_fakes_houses::{
+    Ending, Pair, Seat, Visit, ending_of, has_journal, is_first_close, open_path, seduction,
+    student, visit_windows,
+};
+use mml_ids::{Memory, Rank};
+use mml_journal::MemorySink;
+use mml_lab::Who;
+use mml_policy::{Command, Denial};
+use mml_rules::Kind;
+use mml_window::{Answer, Astray, Blank, Book, Brand, Closed, House, Refusal, SightFault, Window};
+use std::alloc::Global;
+use std::sync::Wait;
+use std::test::Fail;
+
+/// Whether a move of node 1 and the close after it are granted, at places 1 and 2.
+fn plays<H: House, R: Wait>(seats: &mut Pair<'_, MemorySink, H, R>) -> bool {
+    let granted = seats.two.ask(student(0), &seduction(1, 0));
+    let closed = seats.one.ask(Who::Teacher, &Command::Close);
+    is_first_move(&granted) && is_first_close(&closed)
+}
+
+fn is_first_move(answer: &Answer) -> bool {
+    match answer {
+        Answer::Granted {
+            place: 1,
+            number: 0,
+            done: Done::Move { node, kind },
+        } => node.index() == 0 && *kind == Kind::Seduction,
+        _ => false,
+    }
+}
+
+/// Whether each view of the teacher's window is of configuration 1, in which node 1 points at node 2.
+fn sees_the_close<H: House, R: Wait>(teacher: &mut Seat<'_, MemorySink, H, R>) -> bool {
+    let number = teacher.window.number() == Ok(1);
+    let see = match teacher.window.see(Who::Teacher, 1) {
+        Ok(see) => see.at == 1 && see.regs.p == Some(Rank::at(1)),
+        Err(_) => false,
+    };
+    let look = match teacher.window.look(teacher.alloc, student(0), 1) {
+        Ok(look) => look.at == 1 && look.regs.p == Some(Rank::at(1)),
+        Err(_) => false,
+    };
+    let report = match teacher.window.report(teacher.alloc, Who::Teacher) {
+        Ok(report) => report.at == 1 && report.free.as_slice().len() == 3,
+        Err(_) => false,
+    };
+    number && see && look && report
+}
+
+/// Whether a window that has asked nothing since meets the close, and its move is told to be stale.
+fn meets_the_close<H: House, R: Wait>(ana: &mut Seat<'_, MemorySink, H, R>) -> bool {
+    let number = ana.window.number() == Ok(1);
+    let answer = ana.ask(student(0), &seduction(1, 0));
+    number && matches!(answer, Answer::Denied(Denial::Stale(1)))
+}
+
+/// A move of ana's and a close of the teacher's, who sits at the first window.
+#[derive(Clone, Copy)]
+struct MoveAndClose;
+
+impl Visit<MemorySink> for MoveAndClose {
+    /// Whether both are granted, and then seen through both windows.
+    type Told = bool;
+
+    fn visit<H: House, R: Wait>(self, seats: &mut Pair<'_, MemorySink, H, R>) -> bool {
+        plays(seats) && sees_the_close(&mut seats.one) && meets_the_close(&mut seats.two)
+    }
+}
+
+/// Whether there are four windows, and each of them shows that number.
+fn are_at<H: House>(windows: &mut [Window<H>], number: u64) -> bool {
+    let mut count = 0usize;
+    for window in windows.iter_mut() {
+        if window.number() != Ok(number) {
+            return false;
+        }
+        count = count.saturating_add(1);
+    }
+    count == 4
+}
+
+const JOURNAL: &str = "1 0 grant ana 1 seduction\n2 0 close\n";
+
+/// What is told of a house whose windows are all visited, or only view.
+#[derive(Clone, Copy, Debug, PartialEq, Eq)]
+struct Told {
+    /// Whether the visit went well.
+    is_visited: bool,
+    /// Whether all windows show number 0 before the visit and number 1 after it.
+    are_shown: bool,
+    ending: Ending,
+    has_journal: bool,
+}
+
+/// What is told of a house that ends with all windows or all but ana's.
+fn in_house<H: House, R: Wait>(
+    rt: &R,
+    alloc: Global,
+    blank: Blank<MemorySink>,
+    with_both: bool,
+) -> Result<Told, Memory>
+    requires { blank ≡ house_of H.name H.lab }
+{
+    let (desk, mut windows) = blank.start::<H>(alloc)?;
+    let is_before = are_at(&mut windows, 0);
+    let visited = visit_windows(rt, alloc, &desk, &mut windows, MoveAndClose);
+    let is_after = are_at(&mut windows, 1);
+    if !with_both {
+        windows.pop();
+    }
+    let end = desk.finish(rt, windows);
+    Ok(Told {
+        is_visited: visited == Some(true),
+        are_shown: is_before && is_after,
+        ending: ending_of(&end),
+        has_journal: has_journal(&end, JOURNAL),
+    })
+}
+
+fn ended_with<R: Wait>(rt: &R, alloc: Global, with_both: bool) -> Result<Told, Fail> {
+    let blank = open_path(rt, alloc, None)?;
+    Ok(in_house::<Brand, _>(rt, alloc, blank, with_both)?)
+}
+
+/// What is told where all went well, and the house ended so.
+fn good(ending: Ending, has_journal: bool) -> Told {
+    Told {
+        is_visited: true,
+        are_shown: true,
+        ending,
+        has_journal,
+    }
+}
+
+#[test]
+fn a_house_ends_with_all_its_windows(rt: HostRuntime) -> Result<(), Fail> {
+    let all = ended_with(&rt, rt.alloc(), true)?;
+    let fewer = ended_with(&rt, rt.alloc(), false)?;
+    let log = Ending::Log {
+        events: 2,
+        number: 1,
+        halted: false,
+    };
+    let astray = Ending::Astray(Astray { told: 1, found: 2 });
+    assert_eq!(rt; (all, fewer), (good(log, true), good(astray, false)));
+    Ok(())
+}
+
+/// Whether each view of a window tells that it is closed.
+fn is_closed<H: House>(alloc: Global, window: &mut Window<H>) -> bool {
+    let see = window.see(Who::Teacher, 1);
+    let look = window.look(alloc, Who::Teacher, 1);
+    let report = window.report(alloc, Who::Teacher);
+    window.number() == Err(Closed)
+        && matches!(see, Err(SightFault::Closed))
+        && matches!(look, Err(SightFault::Closed))
+        && matches!(report, Err(SightFault::Closed))
+}
+
+/// Whether a window that asked and viewed nothing is closed once its house has ended without it.
+fn is_closed_after<H: House, R: Wait>(
+    rt: &R,
+    alloc: Global,
+    blank: Blank<MemorySink>,
+) -> Result<(Option<bool>, Ending), Memory>
+    requires { blank ≡ house_of H.name H.lab }
+{
+    let (desk, mut windows) = blank.start::<H>(alloc)?;
+    let mut kept = windows.pop();
+    let ending = ending_of(&desk.finish(rt, windows));
+    let is_closed = kept.as_mut().map(|window| is_closed(alloc, window));
+    Ok((is_closed, ending))
+}
+
+#[test]
+fn a_window_that_outlives_its_house_is_closed(rt: HostRuntime) -> Result<(), Fail> {
+    let blank = open_path(&rt, rt.alloc(), None)?;
+    let found = is_closed_after::<Brand, _>(&rt, rt.alloc(), blank)?;
+    let wanted = Ending::Log {
+        events: 0,
+        number: 0,
+        halted: false,
+    };
+    assert_eq!(rt; found, (Some(true), wanted));
+    Ok(())
+}
+
+/// Whether a book whose sink fails at its second line grants the first move, refuses the second, and
+/// still denies what is chosen.
+fn refuses_the_second<H: House, R: Wait>(
+    rt: &R,
+    alloc: Global,
+    book: &mut Book<MemorySink, H>,
+) -> bool {
+    let first = book.decide(rt, alloc, student(0), &seduction(1, 0));
+    let second = book.decide(rt, alloc, student(1), &seduction(2, 0));
+    let denied = book.decide(rt, alloc, student(0), &seduction(1, 0));
+    is_first_move(&first)
+        && matches!(second, Answer::Refused(Refusal::Journal))
+        && matches!(denied, Answer::Denied(Denial::Chosen))
+        && book.events().len() == 1
+}
+
+/// The same of a house, of which no window keeps the place.
+fn decides_alone<H: House, R: Wait>(
+    rt: &R,
+    alloc: Global,
+    blank: Blank<MemorySink>,
+) -> Result<(bool, Ending), Memory>
+    requires { blank ≡ house_of H.name H.lab }
+{
+    let (desk, windows) = blank.start::<H>(alloc)?;
+    let mut book = desk.into_book();
+    let holds = refuses_the_second(rt, alloc, &mut book);
+    Ok((holds, ending_of(&book.finish(rt, windows))))
+}
+
+#[test]
+fn a_book_decides_alone(rt: HostRuntime) -> Result<(), Fail> {
+    let blank = open_path(&rt, rt.alloc(), Some(2))?;
+    let found = decides_alone::<Brand, _>(&rt, rt.alloc(), blank)?;
+    let wanted = Ending::Astray(Astray { told: 0, found: 1 });
+    assert_eq!(rt; found, (true, wanted));
+    Ok(())
+}

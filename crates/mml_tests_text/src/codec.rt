@@ -1,0 +1,164 @@
+//! Requests and replies as lines.
+mod replies;
+
+use mml_codec::{LineFault, Request, read_request, read_request_with, write_request};
+use mml_ids::Word;
+use mml_plain::{Fields, LineScratch, read_plain};
+use std::alloc::Global;
+use std::test::Fail;
+
+/// The canonical text of what was read, or why it is no request.
+fn told(alloc: Global, read: Result<Request, LineFault>) -> Result<String, Fail> {
+    match read {
+        Ok(request) => written(alloc, &request),
+        Err(fault) => Ok(format!(in alloc; "{fault:?}")?),
+    }
+}
+
+/// The text of a request, written over another.
+fn written(alloc: Global, request: &Request) -> Result<String, Fail> {
+    let mut out = b"before".to_vec(alloc)?;
+    write_request(alloc, request, &mut out)?;
+    Ok(String::from_utf8(out)?)
+}
+
+// A line, and what it is read as: numbers as great as they may be, each kind of register, and lines that
+// are no plain objects.
+const LINES: &[(&[u8], &str)] = &[
+    (br#"{"do":"bye"}"#, r#"{"do":"bye"}"#),
+    (
+        b" { \"node\" : 18446744073709551615, \"do\":\"see\", \"colour\":\"red\" }\r",
+        r#"{"do":"see","node":18446744073709551615}"#,
+    ),
+    (br#"{"do":"look","node":0}"#, r#"{"do":"look","node":0}"#),
+    (
+        br#"{"do":"move","node":1,"rule":"update","at":18446744073709551615,"with":2}"#,
+        r#"{"at":18446744073709551615,"do":"move","node":1,"rule":"update"}"#,
+    ),
+    (
+        br#"{"do":"move","node":3,"rule":"marriage","with":18446744073709551615,"at":1,"x":[]}"#,
+        r#"{"at":1,"do":"move","node":3,"rule":"marriage","with":18446744073709551615}"#,
+    ),
+    (
+        br#"{"do":"move","node":1,"rule":"abandonment","at":3}"#,
+        r#"{"at":3,"do":"move","node":1,"rule":"abandonment"}"#,
+    ),
+    (
+        br#"{"do":"move","node":1,"rule":"seduction","at":3}"#,
+        r#"{"at":3,"do":"move","node":1,"rule":"seduction"}"#,
+    ),
+    (
+        br#"{"do":"fault","node":1,"p":18446744073709551615,"m":true}"#,
+        r#"{"do":"fault","m":true,"node":1,"p":18446744073709551615}"#,
+    ),
+    (
+        br#"{"do":"fault","node":1,"p":null,"m":false}"#,
+        r#"{"do":"fault","m":false,"node":1,"p":null}"#,
+    ),
+    (
+        br#"{"do":"link","b":18446744073709551615,"a":2}"#,
+        r#"{"a":2,"b":18446744073709551615,"do":"link"}"#,
+    ),
+    (
+        br#"{"do":"cut","a":18446744073709551615,"b":2}"#,
+        r#"{"a":18446744073709551615,"b":2,"do":"cut"}"#,
+    ),
+    (br#"{"do":"close"}"#, r#"{"do":"close"}"#),
+    (
+        br#"{"do":"release","node":1}"#,
+        r#"{"do":"release","node":1}"#,
+    ),
+    (br#"{"do":"report","node":1}"#, r#"{"do":"report"}"#),
+    (br#"{"do":"dance"}"#, "Malformed"),
+    (b"[1]", "Malformed"),
+];
+
+/// Whether a line is read as that, with memory of its own or kept memory.
+fn is_told(
+    alloc: Global,
+    scratch: &mut LineScratch,
+    line: &[u8],
+    wanted: &str,
+) -> Result<bool, Fail> {
+    let own = told(alloc, read_request(alloc, line))?;
+    let kept = told(alloc, read_request_with(alloc, line, scratch))?;
+    Ok(own.as_str() == wanted && kept.as_str() == wanted)
+}
+
+/// The first row of these that is read as something else.
+fn first_line_read_otherwise(
+    alloc: Global,
+    scratch: &mut LineScratch,
+) -> Result<Option<usize>, Fail> {
+    for (row, (line, wanted)) in LINES.iter().enumerate() {
+        if !is_told(alloc, scratch, line, wanted)? {
+            return Ok(Some(row));
+        }
+    }
+    Ok(None)
+}
+
+// A part of a name, how it is written, and how often it stands; the same of the key; and how long the
+// text of the greeting is.
+const HELLOS: &[(&str, &str, usize, &str, &str, usize, usize)] = &[
+    ("ana", "ana", 1, "a-key", "a-key", 1, 41),
+    ("\"\n", r#"\"\n"#, 1, "\\", r"\\", 1, 39),
+    ("n", "n", 2000, "k", "k", 2000, 4033),
+    ("n", "n", 4000, "k", "k", 0, 4033),
+    ("n", "n", 0, "k", "k", 4000, 4033),
+    ("\"", r#"\""#, 983, "k", "k", 2001, 4000),
+];
+
+/// Whether a greeting is written so, and read as its own text.
+fn is_hello(
+    alloc: Global,
+    scratch: &mut LineScratch,
+    name: String,
+    key: String,
+    text: &str,
+) -> Result<bool, Fail> {
+    let (name, key) = (Word::of(name), Word::of(key));
+    let written = written(alloc, &Request::Hello { name, key })?;
+    Ok(written.as_str() == text && is_told(alloc, scratch, text.as_bytes(), text)?)
+}
+
+/// The first row of these that is written or read otherwise.
+fn first_hello_told_otherwise(
+    alloc: Global,
+    scratch: &mut LineScratch,
+) -> Result<Option<usize>, Fail> {
+    for (row, (name, shown_name, names, key, shown_key, keys, len)) in HELLOS.iter().enumerate() {
+        let (shown_name, shown_key) = (
+            shown_name.repeat(alloc, *names)?,
+            shown_key.repeat(alloc, *keys)?,
+        );
+        let text = format!(in alloc;
+            "{{\"do\":\"hello\",\"key\":\"{shown_key}\",\"name\":\"{shown_name}\"}}"
+        )?;
+        let (name, key) = (name.repeat(alloc, *names)?, key.repeat(alloc, *keys)?);
+        if text.len() != *len || !is_hello(alloc, scratch, name, key, text.as_str())? {
+            return Ok(Some(row));
+        }
+    }
+    Ok(None)
+}
+
+/// The node that a line names, where it is read as a plain object.
+fn plain_node(scratch: &mut LineScratch, line: &[u8]) -> Result<Option<u64>, Fail> {
+    let mut fields = Fields::empty();
+    if read_plain(line, scratch, &mut fields)? {
+        return Ok(fields.node);
+    }
+    Ok(None)
+}
+
+#[test]
+fn requests_are_read_and_written(rt: HostRuntime) -> Result<(), Fail> {
+    let mut scratch = LineScratch::new(rt.alloc(), 4096)?;
+    let line = first_line_read_otherwise(rt.alloc(), &mut scratch)?;
+    let hello = first_hello_told_otherwise(rt.alloc(), &mut scratch)?;
+    let plain = plain_node(&mut scratch, br#"{"do":"see","node":2}"#)?;
+    let nested = plain_node(&mut scratch, br#"{"do":"see","node":2,"x":[]}"#)?;
+    assert_eq!(rt; (line, hello, plain, nested), (None, None, Some(2), None));
+    Ok(())
+}

@@ -1,0 +1,87 @@
+//! Replies, over a lab of two nodes far apart.
+ghost use Rattle.mml_codec.specs.Replies.{IsAbout};
+
+use mml_board::Board;
+use mml_codec::{REPLY_ROOM, Reply, reply_of, write_reply};
+use mml_fakes::labs::FAR_APART;
+use mml_lab::{Lab, read_lab};
+use mml_policy::{Denial, Ruling, See};
+use mml_rules::{Regs, Scene};
+use std::alloc::Global;
+use std::test::Fail;
+
+/// The line of a reply, written over an older text.
+fn line_of(alloc: Global, lab: &Lab, reply: &Reply) -> Result<String, Fail>
+    requires { IsAbout lab.now.ids lab.now.roster reply.now }
+{
+    let mut out = b"older text".to_vec(alloc)?;
+    write_reply(alloc, lab.ids(), lab.roster(), reply, &mut out)?;
+    Ok(String::from_utf8(out)?)
+}
+
+/// What is shown of the node 65535, whose pointer leads to the node 7.
+fn sight(alloc: Global, lab: &Lab) -> Result<String, Fail> {
+    let p = lab.ids().rank_of(7);
+    match lab.ids().rank_of(65535) {
+        Some(node) => {
+            let regs = Regs { p, m: true };
+            let at = u64::MAX;
+            line_of(alloc, lab, &Reply::See(See { at, node, regs }))
+        }
+        None => line_of(alloc, lab, &Reply::Bye),
+    }
+}
+
+/// The report on the lab's opening world, or no text where it isn't of the lab's size.
+fn report_line(alloc: Global, lab: &Lab) -> Result<String, Fail> {
+    let board = Board::new(alloc, lab)?;
+    if lab.ids().len() != board.size() {
+        return Ok(String::new(alloc));
+    }
+    let reply = reply_of(alloc, &board, Ruling::Reported)?;
+    line_of(alloc, lab, &reply)
+}
+
+/// The room of a vector at first, and after each of two denials: one with room doesn't grow, and isn't
+/// given back.
+fn rooms(alloc: Global, lab: &Lab) -> Result<[usize; 3], Fail> {
+    let mut out = Vec::with_capacity(alloc, REPLY_ROOM)?;
+    let mut rooms = [out.capacity(); 3];
+    write_reply(
+        alloc,
+        lab.ids(),
+        lab.roster(),
+        &Reply::Deny(Denial::Greeted),
+        &mut out,
+    )?;
+    rooms[1] = out.capacity();
+    write_reply(
+        alloc,
+        lab.ids(),
+        lab.roster(),
+        &Reply::Deny(Denial::Hidden),
+        &mut out,
+    )?;
+    rooms[2] = out.capacity();
+    Ok(rooms)
+}
+
+/// What is shown, the report, and whether a vector stays in its room.
+fn told(alloc: Global) -> Result<(String, String, bool), Fail> {
+    let lab = read_lab(alloc, FAR_APART.as_bytes())?;
+    let rooms = rooms(alloc, &lab)?;
+    let stays = rooms[1] == rooms[0] && rooms[2] == rooms[0];
+    Ok((sight(alloc, &lab)?, report_line(alloc, &lab)?, stays))
+}
+
+#[test]
+fn replies_are_written(rt: HostRuntime) -> Result<(), Fail> {
+    let (sight, report, stays) = told(rt.alloc())?;
+    let wanted = (
+        "{\"at\":18446744073709551615,\"m\":true,\"node\":65535,\"ok\":\"see\",\"p\":7}\n",
+        "{\"at\":0,\"free\":[7,65535],\"ok\":\"report\",\"open\":[],\"pairs\":[],\"privileged\":[],\"stable\":true}\n",
+        true,
+    );
+    assert_eq!(rt; (sight.as_str(), report.as_str(), stays), wanted);
+    Ok(())
+}

@@ -1,0 +1,25 @@
+//! Scripts from the bytes that come in to the bytes that go out, over the path of three.
+mod answers;
+mod counts;
+mod journals;
+mod reads;
+mod waiting;
+mod writes;
+
+use mml_fakes::labs::PATH_OF_THREE;
+use mml_hall::{ScriptFault, run_script};
+use mml_journal::NullSink;
+use mml_lab::read_lab;
+use std::alloc::Global;
+use std::io::{Read, Write};
+use std::test::Fail;
+
+/// What came of a script.
+fn fault_of<R: Read, W: Write>(
+    alloc: Global,
+    reader: &mut R,
+    writer: &mut W,
+) -> Result<Option<ScriptFault>, Fail> {
+    let lab = read_lab(alloc, PATH_OF_THREE.as_bytes())?;
+    Ok(run_script(alloc, lab, reader, writer, NullSink::new()).err())
+}

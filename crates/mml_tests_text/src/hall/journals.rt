@@ -1,0 +1,46 @@
+//! A sink in which each byte may be the last: what it has then, and what the hall says of itself.
+use mml_fakes::labs::PATH_OF_THREE;
+use mml_fakes::scripts::{GREETINGS, TEN_ACTS, TEN_LINES};
+use mml_fakes::{Drip, FakeWriter};
+use mml_hall::{Hall, run_script};
+use mml_lab::read_lab;
+use std::alloc::Global;
+use std::test::Fail;
+
+/// Whether a hall has the first bytes of the journal, so many at most, and the events of its whole lines,
+/// and is halted by one failed put unless these are all.
+fn has_dripped(hall: &Hall<Drip>, puts: usize) -> bool {
+    let (wanted, _) = TEN_LINES.as_bytes().split_at(puts.min(TEN_LINES.len()));
+    let lines = wanted.iter().filter(|byte| **byte == b'\n').count();
+    hall.sink().bytes.as_slice() == wanted
+        && hall.halted() == (puts < TEN_LINES.len())
+        && hall.sink().failures == u64::from(hall.halted())
+        && hall.events().len() == lines
+        && hall.board().place() == lines as u64
+}
+
+/// Whether a script leaves such a hall over a sink that takes one byte a put and fails after so many.
+fn drips(alloc: Global, script: &str, puts: usize) -> Result<bool, Fail> {
+    let lab = read_lab(alloc, PATH_OF_THREE.as_bytes())?;
+    let sink = Drip::failing_after(puts, alloc);
+    let mut writer = FakeWriter::patient(alloc);
+    let hall = run_script(alloc, lab, &mut script.as_bytes(), &mut writer, sink)?;
+    Ok(has_dripped(&hall, puts))
+}
+
+/// The first number of bytes after which something else is left.
+fn first_byte_told_otherwise(alloc: Global) -> Result<Option<usize>, Fail> {
+    let script = format!(in alloc; "{GREETINGS}{TEN_ACTS}")?;
+    for puts in 0..=TEN_LINES.len() {
+        if !drips(alloc, script.as_str(), puts)? {
+            return Ok(Some(puts));
+        }
+    }
+    Ok(None)
+}
+
+#[test]
+fn each_byte_of_a_journal_may_be_the_last(rt: HostRuntime) -> Result<(), Fail> {
+    assert_eq!(rt; first_byte_told_otherwise(rt.alloc())?, None);
+    Ok(())
+}

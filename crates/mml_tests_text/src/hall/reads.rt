@@ -1,0 +1,119 @@
+//! Each read of a script is made once, and none after its end: what is told of one that fails, and how
+//! far the replies go then.
+use super::fault_of;
+use mml_fakes::scripts::{FIRST_LOOK, FIRST_LOOK_REPLIES, GREETING, GREETING_REPLIES, first_lines};
+use mml_fakes::{FakeReader, FakeWriter};
+use mml_hall::ScriptFault;
+use std::alloc::{AllocError, Global};
+use std::test::Fail;
+
+/// What comes of a script: how many reads are good, the error, and how many bytes are unread.
+type End = (usize, Option<ScriptFault>, usize);
+
+const FAILED: Option<ScriptFault> = Some(ScriptFault::Read);
+
+/// Whether a script that comes in reads of so many bytes has exactly these replies and that end, and is
+/// read no more often: the good reads, and the one that fails.
+fn is_told(
+    alloc: Global,
+    script: &str,
+    replies: &str,
+    step: usize,
+    end: End,
+) -> Result<bool, Fail> {
+    let (good, wanted, unread) = end;
+    let mut reader = FakeReader::failing_after(good, script.as_bytes());
+    reader.step = step;
+    let mut writer = FakeWriter::patient(alloc);
+    let fault = fault_of(alloc, &mut reader, &mut writer)?;
+    let reads = good.saturating_add(usize::from(wanted == FAILED));
+    let is_rest = reader.rest.len() == unread && script.as_bytes().ends_with(reader.rest);
+    let is_answered = writer.taken.as_slice() == replies.as_bytes();
+    Ok(fault == wanted && reader.reads == reads && is_rest && is_answered)
+}
+
+/// Whether a script is answered by a read for each byte, and by one for all, each time with one more that
+/// finds the end.
+fn is_read_once(alloc: Global, script: &str, replies: &str) -> Result<bool, Fail> {
+    let by_bytes = (script.len().saturating_add(1), None, 0);
+    let is_read_by_bytes = is_told(alloc, script, replies, 1, by_bytes)?;
+    let is_read_at_once = is_told(alloc, script, replies, 4096, (2, None, 0))?;
+    Ok(is_read_by_bytes && is_read_at_once)
+}
+
+fn line_ends(bytes: &[u8]) -> usize {
+    bytes.iter().filter(|byte| **byte == b'\n').count()
+}
+
+/// The first number of good reads of a byte after which the error isn't told, or other lines are
+/// answered than those that came whole.
+fn first_untold_read(alloc: Global) -> Result<Option<usize>, Fail> {
+    let script = GREETING.as_bytes();
+    for good in 0..=script.len() {
+        let (given, rest) = script.split_at(good.min(script.len()));
+        let replies = first_lines(GREETING_REPLIES, line_ends(given) as u64);
+        if !is_told(alloc, GREETING, replies, 1, (good, FAILED, rest.len()))? {
+            return Ok(Some(good));
+        }
+    }
+    Ok(None)
+}
+
+// How many of 600 byes are answered, and what comes of them in reads of a whole buffer.
+const BUFFERS: [(usize, End); 5] = [
+    (0, (0, FAILED, 9000)),
+    (273, (1, FAILED, 4904)),
+    (546, (2, FAILED, 808)),
+    (600, (3, FAILED, 0)),
+    (600, (4, None, 0)),
+];
+
+/// The first row of these of which something else is told.
+fn first_other_buffer(alloc: Global) -> Result<Option<usize>, Fail> {
+    let script = "2 {\"do\":\"bye\"}\n".repeat(alloc, 600)?;
+    for (row, (answered, end)) in BUFFERS.iter().enumerate() {
+        let replies = "2 {\"ok\":\"bye\"}\n".repeat(alloc, *answered)?;
+        if !is_told(alloc, script.as_str(), replies.as_str(), usize::MAX, *end)? {
+            return Ok(Some(row));
+        }
+    }
+    Ok(None)
+}
+
+/// A greeting of 4,036 bytes that nobody may say.
+fn long_greeting(alloc: Global) -> Result<String, AllocError> {
+    let (name, key) = ("n".repeat(alloc, 2000)?, "k".repeat(alloc, 2000)?);
+    format!(in alloc; "1 {{\"do\":\"hello\",\"key\":\"{key}\",\"name\":\"{name}\"}}\n")
+}
+
+const UNKNOWN: &str =
+    "1 {\"clause\":2,\"deny\":\"unknown\",\"text\":\"name and key do not match\"}\n";
+
+/// Whether such a greeting is answered by one read, and one that finds the end.
+fn is_long_greeting_answered(alloc: Global) -> Result<bool, Fail> {
+    let script = long_greeting(alloc)?;
+    let is_told = is_told(alloc, script.as_str(), UNKNOWN, usize::MAX, (2, None, 0))?;
+    Ok(is_told && script.len() == 4036)
+}
+
+/// Whether nothing is read after a bad line.
+fn is_bad_line_told(alloc: Global) -> Result<bool, Fail> {
+    let script = "2 {\"do\":\"bye\"}\n\n2 {\"do\":\"bye\"}\n";
+    let end = (16, Some(ScriptFault::BadLine(2)), 15);
+    is_told(alloc, script, "2 {\"ok\":\"bye\"}\n", 1, end)
+}
+
+#[test]
+fn each_read_is_made_once(rt: HostRuntime) -> Result<(), Fail> {
+    let look = is_read_once(rt.alloc(), FIRST_LOOK, FIRST_LOOK_REPLIES)?;
+    let greeting = is_read_once(rt.alloc(), GREETING, GREETING_REPLIES)?;
+    let long = is_long_greeting_answered(rt.alloc())?;
+    let bad = is_bad_line_told(rt.alloc())?;
+    let (byte, buffer) = (
+        first_untold_read(rt.alloc())?,
+        first_other_buffer(rt.alloc())?,
+    );
+    let found = ((look, greeting, long, bad), (byte, buffer));
+    assert_eq!(rt; found, ((true, true, true, true), (None, None)));
+    Ok(())
+}

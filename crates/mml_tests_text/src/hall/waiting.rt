@@ -1,0 +1,130 @@
+//! Replies wait for no line: all of them are out and flushed before each read, many in one write.
+use super::fault_of;
+use mml_fakes::scripts::{FIRST_LOOK, FIRST_LOOK_REPLIES, GREETING, GREETING_REPLIES};
+use mml_fakes::{FakeWriter, Parts};
+use std::alloc::Global;
+use std::cell::Cell;
+use std::io;
+use std::io::{Read, Write};
+use std::test::Fail;
+
+/// What a reader and a writer both see: how many replies were written, and how many of their bytes
+/// aren't flushed.
+#[derive(Drop)]
+struct Line {
+    replies: Cell<usize>,
+    unflushed: Cell<usize>,
+}
+
+/// Gives one line in each read, and sees by then one reply more, flushed.
+#[derive(Drop)]
+struct Asker<'a> {
+    script: &'a str,
+    line: &'a Line,
+    reads: usize,
+    is_late: bool,
+}
+
+impl<'a> Read for Asker<'a> {
+    fn read(&mut self, buf: &mut [u8]) -> io::Result<usize> {
+        if self.line.unflushed.get() > 0 || self.line.replies.get() != self.reads {
+            self.is_late = true;
+        }
+        self.reads = self.reads.saturating_add(1);
+        let line = self.script.split_inclusive('\n').next().unwrap_or("");
+        self.script = self.script.strip_prefix(line).unwrap_or("");
+        line.as_bytes().read(buf)
+    }
+}
+
+#[derive(Drop)]
+struct Answered<'a> {
+    taken: Vec<u8>,
+    line: &'a Line,
+}
+
+impl<'a> Write for Answered<'a> {
+    fn write(&mut self, buf: &[u8]) -> io::Result<usize> {
+        self.taken.extend_from_slice(buf)?;
+        let ends = buf.iter().filter(|byte| **byte == b'\n').count();
+        let replies = &self.line.replies;
+        replies.set(replies.get().saturating_add(ends));
+        let unflushed = &self.line.unflushed;
+        unflushed.set(unflushed.get().saturating_add(buf.len()));
+        Ok(buf.len())
+    }
+
+    fn flush(&mut self) -> io::Result<()> {
+        self.line.unflushed.set(0);
+        Ok(())
+    }
+}
+
+/// Whether a conversation has these replies, each out and flushed before the next line is asked for, and
+/// how often it was asked.
+fn asked(alloc: Global, script: &str, replies: &str) -> Result<(bool, usize), Fail> {
+    let line = Line {
+        replies: Cell::new(0),
+        unflushed: Cell::new(0),
+    };
+    let mut asker = Asker {
+        script,
+        line: &line,
+        reads: 0,
+        is_late: false,
+    };
+    let mut writer = Answered {
+        taken: Vec::new(alloc),
+        line: &line,
+    };
+    let fault = fault_of(alloc, &mut asker, &mut writer)?;
+    let is_told = fault.is_none() && writer.taken.as_slice() == replies.as_bytes();
+    Ok((
+        is_told && !asker.is_late && line.unflushed.get() == 0,
+        asker.reads,
+    ))
+}
+
+/// How often a writer was written to and flushed.
+fn calls(writer: &FakeWriter) -> (usize, usize) {
+    (
+        usize::MAX.saturating_sub(writer.good),
+        usize::MAX.saturating_sub(writer.good_flushes),
+    )
+}
+
+/// Whether a pipe that is cut in two has the replies of the whole script in at most two writes, with a
+/// flush before each read.
+fn is_the_same_cut(alloc: Global, cut: usize) -> Result<bool, Fail> {
+    let (first, second) = FIRST_LOOK.as_bytes().split_at(cut.min(FIRST_LOOK.len()));
+    let mut reader = Parts {
+        first,
+        second,
+        step: usize::MAX,
+    };
+    let mut writer = FakeWriter::patient(alloc);
+    let fault = fault_of(alloc, &mut reader, &mut writer)?;
+    let (writes, flushes) = calls(&writer);
+    let is_told = fault.is_none() && writer.taken.as_slice() == FIRST_LOOK_REPLIES.as_bytes();
+    Ok(is_told && writes <= 2 && flushes <= 3)
+}
+
+/// The first cut that changes something.
+fn first_cut_that_changes(alloc: Global) -> Result<Option<usize>, Fail> {
+    for cut in 0..=FIRST_LOOK.len() {
+        if !is_the_same_cut(alloc, cut)? {
+            return Ok(Some(cut));
+        }
+    }
+    Ok(None)
+}
+
+#[test]
+fn replies_go_out_before_the_next_read(rt: HostRuntime) -> Result<(), Fail> {
+    let looks = asked(rt.alloc(), FIRST_LOOK, FIRST_LOOK_REPLIES)?;
+    let greets = asked(rt.alloc(), GREETING, GREETING_REPLIES)?;
+    let cut = first_cut_that_changes(rt.alloc())?;
+    // A read for each line, and one that finds the end.
+    assert_eq!(rt; (looks, greets, cut), ((true, 5), (true, 8), None));
+    Ok(())
+}

@@ -1,5 +1,0 @@
-use Rattle.mml_tests_threads.proofs.windows.all_windows_end_a_house.Given as goal
-
--- the house that was just opened
-abbrev pub ghosts-in_house : goal.ghosts-in_house
-ghosts-in_house g a = record { name = a.blank.name; lab = a.blank.lab }

@@ -1,5 +1,0 @@
-use Rattle.mml_tests_threads.proofs.windows.seats.shown_of.Given as goal
-
--- the house that was just opened
-abbrev pub ghosts-shown_at_start : goal.ghosts-shown_at_start
-ghosts-shown_at_start g a = record { name = a.blank.name; lab = a.blank.lab }

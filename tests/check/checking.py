@@ -1,0 +1,126 @@
+"""A check from its first line to its last."""
+from __future__ import annotations
+
+import os
+import shutil
+import signal
+import tempfile
+from pathlib import Path
+
+from tests.check.measure import figures
+from tests.check.needs import install, missing, told
+from tests.check.parts import PROOFS, TOP, Part, minutes
+from tests.check.processes import adopt_orphans
+from tests.check.results import not_tried, result
+from tests.check.running import Crew, Done
+from tests.check.signals import HEED, Killed
+
+Stages = list[list[Part]]
+
+
+def is_gate() -> bool:
+    """Whether nothing may be left out."""
+    return bool(os.environ.get("CI"))
+
+
+def tell(line: str) -> None:
+    """Prints a line at once."""
+    print(line, flush=True)
+
+
+class Count:
+    """How many tests passed and failed, what each part took, and what was left out."""
+
+    def __init__(self, left_out: list[str]) -> None:
+        self.passed, self.failed = 0, 0
+        self.minutes: dict[str, float] = {}
+        self.left_out = left_out
+
+    def add(self, done: Done) -> bool:
+        """Tells what became of a part, and all that it wrote where it failed; answers whether it passed."""
+        it = result(done)
+        self.passed += it.passed
+        self.failed += it.failed
+        self.minutes[done.part.name] = done.processor_minutes
+        if it.failed:
+            tell(done.output.rstrip("\n"))
+        tell(f"{'FAILED' if it.failed else 'ok':6} {done.seconds:5.0f} s  {done.part.name}: {it.line}")
+        self.left_out += [f"of {done.part.name}: {why}" for why in not_tried(done.output)]
+        return not it.failed
+
+    def with_needs(self, parts: list[Part]) -> list[Part]:
+        """Those of these parts that have what they need; the others are told, or fail where none may be left out."""
+        lacks = missing(parts)
+        for name, need in lacks.items():
+            names = [it.name for it in parts if name in it.needs + it.likes]
+            why = f"{', '.join(names)}: needs {told(need)}"
+            if is_gate() or need.is_a_must:
+                self.failed += len(names)
+                tell(f"FAILED {why}")
+            else:
+                self.left_out.append(why)
+        return [it for it in parts if not set(it.needs) & set(lacks)]
+
+    def close(self, crew: Crew) -> int:
+        """What was left out, what all took, and the last line; answers the status."""
+        for line in self.left_out:
+            tell(f"left out: {line}")
+        tell(figures(crew.checks, self.minutes).rstrip("\n"))
+        if self.passed + self.failed == 0:
+            tell("FAILED: no test ran")
+            self.failed = 1
+        tell(f"{self.passed} passed, {self.failed} failed")
+        return 1 if self.failed else 0
+
+
+def begin(stages: Stages, processors: int) -> None:
+    """Gets what is missing, where nothing may be left out; tells how long it will take."""
+    if is_gate():
+        install([part for stage in stages for part in stage])
+    takes = [(stage[0].name if len(stage) == 1 else "scripts", minutes(stage, processors)) for stage in stages]
+    each = ", ".join(f"{name} {it:.1f}" for name, it in takes)
+    tell(f"check: some {max(1, round(sum(it for _, it in takes)))} minutes on {processors} processors ({each})")
+
+
+def run(stages: Stages, crew: Crew, count: Count) -> None:
+    """Runs the stages one after another; where the proofs fail, there is no program to go on with."""
+    for number, stage in enumerate(stages):
+        for done in crew.run(count.with_needs(stage)):
+            is_well = count.add(done)
+            if done.part.name == PROOFS.name:
+                forget_records()
+            later = [it.name for after in stages[number + 1:] for it in after]
+            if not is_well and done.part.name == PROOFS.name and later:
+                tell(f"not begun, since the proofs failed: {', '.join(later)}")
+                return
+
+
+def forget_records() -> None:
+    """Removes the records beside programs that `rt ci` has made anew: they tell of older ones."""
+    for record in TOP.glob("crates/*/out/*.sources"):
+        record.unlink()
+
+
+def check(stages: Stages, left_out: list[str]) -> int:
+    """Runs the stages in a folder of their own, and leaves no process and no file however that ends."""
+    processors = len(os.sched_getaffinity(0))
+    adopt_orphans()
+    room = Path(tempfile.mkdtemp(prefix="check-"))
+    crew, count = Crew(room, processors), Count(left_out)
+    try:
+        HEED.begin()
+        room.chmod(0o711)  # `rt ci` runs programs as nobody, in folders below.
+        begin(stages, processors)
+        run(stages, crew, count)
+        return count.close(crew)
+    except Killed as killed:
+        HEED.end()
+        unfinished = crew.end()
+        tell(f"check: ended by {signal.Signals(killed.number).name}, in {', '.join(unfinished) or 'its beginning'}")
+        count.failed += max(1, len(unfinished))
+        count.close(crew)
+        return 128 + killed.number
+    finally:
+        HEED.end()
+        crew.end()
+        shutil.rmtree(room, ignore_errors=True)

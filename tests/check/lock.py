@@ -1,0 +1,28 @@
+"""One check at a time in a tree."""
+from __future__ import annotations
+
+import fcntl
+import os
+from collections.abc import Iterator
+from contextlib import contextmanager
+
+from tests.check.parts import TOP
+
+
+class Taken(Exception):
+    """Another check runs in this tree."""
+
+
+@contextmanager
+def alone() -> Iterator[None]:
+    """Holds a lock on the tree's file `check`, which goes with this process, however that ends."""
+    file = os.open(TOP / "check", os.O_RDONLY | os.O_CLOEXEC)
+    try:
+        fcntl.flock(file, fcntl.LOCK_EX | fcntl.LOCK_NB)
+    except BlockingIOError:
+        os.close(file)
+        raise Taken from None
+    try:
+        yield
+    finally:
+        os.close(file)

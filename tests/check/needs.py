@@ -1,0 +1,128 @@
+"""What the parts need of the machine: programs and Debian's packages, in the one place that installs any.
+
+    python3 -B -m tests.check.needs FOLDER     fetches the packages that are never installed into a folder
+"""
+from __future__ import annotations
+
+import os
+import shutil
+import subprocess
+import sys
+from collections.abc import Callable
+from dataclasses import dataclass
+from functools import cache
+from pathlib import Path
+
+from tests.check.parts import TOP, Part
+
+APT = ("apt-get", "-y", "-o", "DPkg::Lock::Timeout=600", "--no-install-recommends")
+NEVER_INSTALLED = "openssh-server"  # Its installation would start a server.
+
+
+@dataclass(frozen=True)
+class Need:
+    """What has to be there, how that is told, and the Debian packages that bring it."""
+
+    what: str
+    is_there: Callable[[], bool]
+    packages: tuple[str, ...] = ()
+    is_a_must: bool = False  # Without it a check says nothing, so that its parts fail.
+
+
+def on_path(*programs: str) -> Callable[[], bool]:
+    """Whether all these programs are on the path."""
+    return lambda: all(shutil.which(it) for it in programs)
+
+
+def is_installed(package: str) -> bool:
+    """Whether Debian's package manager says so."""
+    words = ["dpkg-query", "-W", "-f", "${Status}", package]
+    try:
+        return subprocess.run(words, capture_output=True, text=True, check=False).stdout == "install ok installed"
+    except OSError:
+        return False
+
+
+def installed(*packages: str) -> Callable[[], bool]:
+    """Whether all these packages are installed."""
+    return lambda: all(map(is_installed, packages))
+
+
+@cache
+def is_built() -> bool:
+    """Whether both programs are built from these sources."""
+    calls = (("./mml", "--built"), ("./mml", "host", "--built"))
+    return all(subprocess.run(it, cwd=TOP, capture_output=True, check=False).returncode == 0 for it in calls)
+
+
+def is_built_or_named() -> bool:
+    """The same, or whether the environment names others."""
+    return bool(os.environ.get("MML_PROGRAM") and os.environ.get("MML_HOST")) or is_built()
+
+
+def has_tests() -> bool:
+    """Whether there is a program of a crate's tests."""
+    return any(TOP.glob("crates/*/out/*_tests"))
+
+
+def can_be_fetched() -> bool:
+    """Whether the package that is never installed is here, or can be had."""
+    return is_installed(NEVER_INSTALLED) or apt("--print-uris", "install", NEVER_INSTALLED)
+
+
+BROWSER = ("chromium", "chromium-driver", "python3-selenium")
+RELEASE = ("python3", "stunnel4", "openssl", "openssh-client", "systemd")
+NEEDS = {
+    "rt": Need("the command rt of the Rattle toolchain on the path (README.md)", on_path("rt")),
+    "programs": Need("both programs, built from these sources: ./mml build", is_built_or_named, is_a_must=True),
+    "built": Need("both programs in their places, built from these sources: ./mml build", is_built, is_a_must=True),
+    "tests": Need("the tests inside the crates, as ./check proofs leaves them", has_tests),
+    "git": Need("the command git", on_path("git"), ("git",)),
+    "python3": Need("Debian's own Python", on_path("/usr/bin/python3"), ("python3",)),
+    "browser": Need("a browser with its driver", installed(*BROWSER), BROWSER),
+    "java": Need("the command java", on_path("java"), ("default-jdk-headless",)),
+    "release": Need("what a release is tried with", installed(*RELEASE), RELEASE),
+    "root": Need("the right to make a root of its own: call it as root", lambda: os.geteuid() == 0),
+    NEVER_INSTALLED: Need("a server of SSH", can_be_fetched, (NEVER_INSTALLED,)),
+}
+
+
+def apt(*words: str) -> bool:
+    """Calls the package manager quietly."""
+    try:
+        return subprocess.run([*APT, *words], stdin=subprocess.DEVNULL, capture_output=True, check=False).returncode == 0
+    except OSError:
+        return False
+
+
+def missing(parts: list[Part]) -> dict[str, Need]:
+    """What these parts need or like and isn't there, by its name."""
+    is_built.cache_clear()
+    names = dict.fromkeys(name for part in parts for name in (*part.needs, *part.likes))
+    return {name: NEEDS[name] for name in names if not NEEDS[name].is_there()}
+
+
+def told(need: Need) -> str:
+    """A need as a reader can fill it."""
+    lacking = [it for it in need.packages if not is_installed(it)] or [*need.packages]
+    return f"{need.what} (Debian's {' '.join(lacking)})" if lacking else need.what
+
+
+def install(parts: list[Part]) -> None:
+    """Installs the packages that these parts need or like, where that can be done."""
+    needs = [NEEDS[name] for part in parts for name in (*part.needs, *part.likes) if NEEDS[name].packages]
+    packages = {it for need in needs if not need.is_there() for it in need.packages if not is_installed(it)}
+    if packages and os.geteuid() == 0 and apt("update"):
+        apt("install", *sorted(packages - {NEVER_INSTALLED}))
+
+
+def fetch(folder: Path) -> None:
+    """Puts the package that is never installed, with what it needs, into a folder."""
+    (folder / "partial").mkdir(parents=True, exist_ok=True)
+    words = ["-o", f"Dir::Cache::archives={folder}", "-o", "APT::Sandbox::User=root", "--download-only", "install", NEVER_INSTALLED]
+    if not (apt(*words) or apt("update") and apt(*words)):
+        sys.exit(f"{NEVER_INSTALLED} can't be had here")
+
+
+if __name__ == "__main__":
+    fetch(Path(sys.argv[1]))

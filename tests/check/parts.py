@@ -1,0 +1,106 @@
+"""The parts of a check: another one is a line of QUICK.
+
+A part is a call at the top whose status is 0 where it passed, and whose last line tells how much it tried.
+Its figures were measured on four processors: they tell beforehand what a check takes, and bound nothing.
+"""
+from __future__ import annotations
+
+import re
+from collections.abc import Iterator
+from dataclasses import dataclass, replace
+from pathlib import Path
+
+TOP = Path(__file__).resolve().parents[2]
+ALL = 1_000_000  # wider than any machine: such a part runs alone
+
+
+@dataclass(frozen=True)
+class Part:
+    """A call, what it takes, and what it needs."""
+
+    name: str
+    command: tuple[str, ...]
+    work: float  # processor minutes
+    least: float  # minutes of the clock, however many processors there are
+    width: int = 1  # how many processors it keeps busy
+    needs: tuple[str, ...] = ()  # names of `needs.NEEDS`
+    likes: tuple[str, ...] = ()  # what a few of its tests need, which are left out without it
+    shows: str = ""  # the lines of its output that are shown as they come
+
+    def minutes(self, processors: int) -> float:
+        """What it takes of the clock."""
+        return max(self.least, self.work / min(self.width, processors))
+
+    def over(self, crates: list[str]) -> Part:
+        """The same over some crates."""
+        return replace(self, command=(*self.command, *crates))
+
+
+def module(name: str, *words: str) -> tuple[str, ...]:
+    """The call of a module of tests."""
+    return ("python3", "-B", "-m", f"tests.{name}", *words)
+
+
+def cases(*names: str, python: str = "python3") -> tuple[str, ...]:
+    """The call of modules of test cases."""
+    return (python, "-B", "-m", "unittest", "-v", *(f"tests.{name}" for name in names))
+
+
+BUILT = ("programs",)
+PROOFS = Part("proofs", ("rt", "ci"), 110, 10, ALL, ("rt",), shows=r"^rt: ")
+WRONG = Part("wrong", module("wrong"), 70, 5, ALL, ("rt",), shows=r"")
+
+
+# Processor minutes of those modules that take more than a few seconds.
+CLASSROOM = {"class-large": 1.0, "class-check": 0.8, "class-new": 0.5, "class-mark": 0.4}
+
+
+def classroom() -> Iterator[Part]:
+    """The modules of tests/classroom, each with servers, and some with a browser, of its own."""
+    for it in sorted((TOP / "tests/classroom").glob("test_*.py")):
+        text = it.read_text(encoding="utf-8")
+        needs = (*BUILT, "python3", *["browser"] * ("tests.classroom.browser" in text))
+        likes = ("java",) if '"java"' in text else ()
+        name = it.stem.replace("test_", "class-")
+        work = CLASSROOM.get(name, 0.2)
+        yield Part(name, cases(f"classroom.{it.stem}", python="/usr/bin/python3"), work, max(work, 0.4), 1, needs, likes)
+
+
+# What needs no proof. The first that fits is begun first, so that the long ones stand before the short ones.
+QUICK = [
+    Part("large", module("program.large"), 1.0, 1.0, 1, BUILT),
+    Part("random", module("random"), 1.0, 1.0, 1, BUILT),
+    Part("hostile", module("hostile"), 0.2, 1.2, 2, BUILT),
+    Part("release", ("bash", "tests/release/run"), 0.7, 1.0, 1, ("built", "root", "release", "openssh-server", "git")),
+    *classroom(),
+    Part("launchers", ("bash", "tests/program/launchers"), 0.7, 0.7, 1, ("built", "rt")),
+    Part("host", module("host"), 0.4, 0.8, 2, BUILT),
+    Part("hostile-host", module("hostile", "15", "host"), 0.2, 0.5, 2, BUILT),
+    Part("memory", module("memory", "uses"), 0.5, 0.6, 1, (*BUILT, "rt")),
+    Part("faults", module("faults"), 0.5, 0.6, 1, (*BUILT, "rt")),
+    Part("program", ("bash", "tests/program/run"), 0.4, 0.4, 1, BUILT),
+    Part("calls", module("program"), 0.4, 0.4, 1, BUILT),
+    Part("labs", module("labs"), 0.3, 0.3, 1, BUILT),
+    Part("lines", module("program.lines"), 0.2, 0.2, 1, BUILT),
+    Part("audits", module("program.audits"), 0.2, 0.2, 1, BUILT),
+    Part("halted", module("program.halted"), 0.2, 0.2, 1, BUILT),
+    Part("refusals", module("memory", "tests"), 0.3, 0.3, 1, ("tests", "rt")),
+    Part("check", cases("check.test_check", "check.test_pieces"), 0.2, 0.6, 1),
+    Part("resume", module("resume"), 0.8, 1.0, 2, (*BUILT, "rt")),
+    Part("journals", ("bash", "tests/journals/run"), 0.1, 0.2, 1, BUILT),
+    Part("documents", module("documents"), 0.1, 0.1, 1, ("git",)),
+    Part("kit", module("check.kit"), 0.1, 0.1, 1, ("rt",)),
+]
+
+
+def crates() -> list[str]:
+    """The names of all crates."""
+    return re.findall(r"(?m)^(\w+):", (TOP / "crates.txt").read_text(encoding="utf-8"))
+
+
+def minutes(parts: list[Part], processors: int) -> float:
+    """What these take of the clock: those that fill the machine one after another, the others side by side."""
+    alone = [it.minutes(processors) for it in parts if it.width >= processors]
+    beside = [it for it in parts if it.width < processors]
+    shared = sum(it.width * it.minutes(processors) for it in beside) / processors
+    return sum(alone) + max([shared, *(it.minutes(processors) for it in beside)])

@@ -1,0 +1,108 @@
+"""What the system tells of processes, and the end of all that stand below this one."""
+from __future__ import annotations
+
+import ctypes
+import os
+import signal
+import time
+from collections.abc import Callable, Iterable
+from dataclasses import dataclass
+
+TICKS = os.sysconf("SC_CLK_TCK")
+PAGE = os.sysconf("SC_PAGE_SIZE")
+PR_SET_CHILD_SUBREAPER = 36
+PAUSE = 0.05
+
+
+@dataclass(frozen=True)
+class Process:
+    """A process's name, parent, state and start, the seconds that it and those it has waited for used, its memory."""
+
+    name: str
+    parent: int
+    state: str
+    start: str
+    used: float
+    held: int
+
+
+def process(pid: int) -> Process:
+    """What the system tells of a process."""
+    with open(f"/proc/{pid}/stat", encoding="utf-8", errors="replace") as it:
+        text = it.read()
+    name = text[text.index("(") + 1 : text.rindex(")")]
+    fields = text[text.rindex(")") + 2 :].split()
+    used = sum(int(field) for field in fields[11:15]) / TICKS
+    return Process(name, int(fields[1]), fields[0], fields[19], used, int(fields[21]) * PAGE)
+
+
+def processes() -> dict[int, Process]:
+    """All of them, but for those that end meanwhile."""
+    found = {}
+    for pid in map(int, filter(str.isdigit, os.listdir("/proc"))):
+        try:
+            found[pid] = process(pid)
+        except (OSError, ValueError):
+            continue
+    return found
+
+
+def below(top: int) -> list[int]:
+    """The processes below one that haven't ended."""
+    found = processes()
+    near = {top}
+    while True:
+        more = {pid for pid, it in found.items() if it.parent in near} - near
+        if not more:
+            return [pid for pid in near - {top} if found[pid].state != "Z"]
+        near |= more
+
+
+def adopt_orphans() -> None:
+    """Becomes the parent of each process below whose parent ends, in whatever session it is."""
+    if ctypes.CDLL(None, use_errno=True).prctl(PR_SET_CHILD_SUBREAPER, 1, 0, 0, 0) != 0:
+        raise OSError(ctypes.get_errno(), "prctl")
+
+
+def send(pids: list[int], number: signal.Signals, to: Callable[[int, int], None] = os.kill) -> None:
+    """Sends a signal to processes, or by `os.killpg` to groups, of which some may have ended."""
+    for pid in pids:
+        try:
+            to(pid, number)
+        except ProcessLookupError:
+            continue
+
+
+def reap() -> None:
+    """Takes leave of the children that have ended."""
+    try:
+        while os.waitpid(-1, os.WNOHANG)[0] != 0:
+            continue
+    except ChildProcessError:
+        return
+
+
+def gone(pids: Callable[[], Iterable[int]], seconds: float) -> bool:
+    """Waits until none of these is there, for so many seconds."""
+    until = time.monotonic() + seconds
+    while set(pids()) & set(below(os.getpid())):
+        if time.monotonic() > until:
+            return False
+        time.sleep(PAUSE)
+        reap()
+    return True
+
+
+def end_all(groups: list[int], patience: float) -> None:
+    """Ends all processes below this one: asks these groups first, whose leaders clear up, then each, and kills who stays."""
+    def rest() -> list[int]:
+        return below(os.getpid())
+
+    send(groups, signal.SIGTERM, os.killpg)
+    gone(lambda: groups, patience)
+    send(rest(), signal.SIGTERM)
+    if not gone(rest, patience / 4):
+        while rest():
+            send(rest(), signal.SIGKILL)
+            gone(rest, patience / 4)
+    reap()

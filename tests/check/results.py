@@ -1,0 +1,49 @@
+"""What became of a part, from its status and what it wrote."""
+from __future__ import annotations
+
+import re
+from dataclasses import dataclass
+
+from tests.check.running import Done
+
+SUM = re.compile(r"(\d+) passed, (\d+) failed(?: \(.*\))?")  # `rt ci` says of some crates that they aren't all.
+
+
+@dataclass(frozen=True)
+class Result:
+    """How many tests of a part passed and failed, as it counts them or else as one, and its last line."""
+
+    passed: int
+    failed: int
+    line: str
+
+
+def of_cases(output: str) -> str | None:
+    """What a run of test cases tells, without those that were left out; None where it isn't one."""
+    ran = re.search(r"^Ran (\d+) tests? in (.*)$", output, re.MULTILINE)
+    if ran is None:
+        return None
+    left_out = re.search(r"skipped=(\d+)", output[ran.end():])
+    return f"{int(ran[1]) - int(left_out[1] if left_out else 0)} test cases in {ran[2]}"
+
+
+def last_line(output: str) -> str:
+    """The last line that says something."""
+    return next((line for line in reversed(output.splitlines()) if line.strip()), "")
+
+
+def result(done: Done) -> Result:
+    """What became of a part. One that doesn't tell of a test, or of none, has failed."""
+    line = of_cases(done.output) or last_line(done.output)
+    counted = SUM.fullmatch(line)
+    passed, failed = (int(counted[1]), int(counted[2])) if counted else (int(done.status == 0), 0)
+    if done.status != 0:
+        return Result(passed if counted else 0, max(failed, 1), line or f"status {done.status}")
+    if not re.search(r"(?<![\w.])[1-9]\d*(?![\w.]*\d)", line):
+        return Result(0, 1, f"no test ran: {line}")
+    return Result(passed, failed, line)
+
+
+def not_tried(output: str) -> list[str]:
+    """Why test cases were left out."""
+    return sorted(set(re.findall(r"^.* skipped [\"'](.*)[\"']$", output, re.MULTILINE)))

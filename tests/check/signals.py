@@ -1,0 +1,55 @@
+"""The signals that end a check."""
+from __future__ import annotations
+
+import signal
+from collections.abc import Iterator
+from contextlib import contextmanager
+from types import FrameType
+
+ALL = (signal.SIGINT, signal.SIGTERM, signal.SIGHUP)
+
+
+class Killed(Exception):
+    """One of them has come."""
+
+    def __init__(self, number: int) -> None:
+        super().__init__(number)
+        self.number = number
+
+
+class Heed:
+    """What they do: they raise `Killed`, at once or at the end of a block that mustn't be broken off."""
+
+    def __init__(self) -> None:
+        self.is_held = False
+        self.came = 0
+
+    def __call__(self, number: int, _: FrameType | None) -> None:
+        self.came = number
+        if not self.is_held:
+            raise Killed(number)
+
+    def begin(self) -> None:
+        """From now on; what whoever called the check has it ignore goes on to be ignored."""
+        for number in ALL:
+            if signal.getsignal(number) is not signal.SIG_IGN:
+                signal.signal(number, self)
+
+    def end(self) -> None:
+        """From now on they do nothing, since the check clears up."""
+        for number in ALL:
+            signal.signal(number, signal.SIG_IGN)
+
+    @contextmanager
+    def held(self) -> Iterator[None]:
+        """A block that is done to its end."""
+        self.is_held = True
+        try:
+            yield
+        finally:
+            self.is_held = False
+        if self.came:
+            raise Killed(self.came)
+
+
+HEED = Heed()

@@ -1,0 +1,104 @@
+"""What becomes of parts, what they take, and how they share the processors."""
+from __future__ import annotations
+
+import tempfile
+import unittest
+from pathlib import Path
+
+from tests.check.kit import fault
+from tests.check.measure import Checks, figures
+from tests.check.parts import ALL, QUICK, Part, minutes
+from tests.check.results import not_tried, result
+from tests.check.running import Crew, Done
+
+SHELL = ("sh", "-c")
+
+
+def done(output: str, status: int = 0) -> Done:
+    """A part that ended so."""
+    return Done(Part("it", ("true",), 1, 1), status, 1.0, 0.5, output)
+
+
+class Results(unittest.TestCase):
+    """What is read from a part's output."""
+
+    def test_results(self) -> None:
+        for output, status, wanted in (
+            ("12 calls\n", 0, (1, 0)), ("so\n40 passed, 0 failed\n\n", 0, (40, 0)), ("40 passed, 2 failed\n", 1, (40, 2)),
+            ("40 passed, 0 failed\n", 2, (40, 1)), ("19 passed, 0 failed (one alone: not the gate)\n", 0, (19, 0)),
+            ("0 passed, 0 failed\n", 0, (0, 1)), ("40 passed, 2 failed\n", 0, (40, 2)), ("12 calls\n", -9, (0, 1)),
+            ("all\n", 0, (0, 1)), ("0 calls in 3.5 seconds\n", 0, (0, 1)), ("", 0, (0, 1)), ("", 1, (0, 1)),
+            ("Ran 3 tests in 1.0s\n\nOK\n", 0, (1, 0)), ("Ran 3 tests in 1.0s\n\nOK (skipped=3)\n", 0, (0, 1)),
+            ("Ran 3 tests in 1.0s\n\nOK (skipped=2)\n", 0, (1, 0)), ("Ran 3 tests in 1.0s\n\nFAILED (errors=1)\n", 1, (0, 1)),
+        ):
+            it = result(done(output, status))
+            self.assertEqual((it.passed, it.failed), wanted, output)
+
+    def test_what_was_left_out(self) -> None:
+        said = "test_a (x.Y) ... ok\ntest_b (x.Y) ... skipped 'not tried: java'\ntest_c (x.Y) ... skipped \"not tried: java\"\n"
+        self.assertEqual(not_tried(said), ["not tried: java"])
+
+    def test_kits(self) -> None:
+        page = "# A\n\nIt is proved with `kit-2 logic a0`.\nMore.\n"
+        self.assertEqual(fault(page, "kit-2 logic a0"), "")
+        self.assertIn("README.md names kit-2 logic a0, and rt is kit-3 logic a0", fault(page, "kit-3 logic a0"))
+        self.assertIn("no toolchain", fault("# A\n", "kit-2 logic a0"))
+        self.assertIn("more than one", fault(page + page, "kit-2 logic a0"))
+
+
+class Figures(unittest.TestCase):
+    """The table at the end."""
+
+    def test_one_table(self) -> None:
+        checks = Checks()
+        for pid, work, seconds in ((1, ("one", "proof"), 60.0), (2, ("one", "wrong"), 30.0), (3, ("two", "tests"), 90.0), (4, ("one", "proof"), 6.0)):
+            checks.works[pid, "0"] = work
+            checks.used[pid, "0"] = seconds
+        lines = figures(checks, {"proofs": 4.0, "program": 0.5, "wrong": 1.0, "host": 0.25}).splitlines()
+        self.assertEqual([line.split() for line in lines[:4]], [
+            ["processor", "minutes", "proof", "tests", "wrong"], ["one", "1.1", "0.0", "0.5"], ["two", "0.0", "1.5", "0.0"],
+            ["sum", "1.1", "1.5", "0.5"],
+        ])
+        self.assertIn("scripts: program 0.5, host 0.2", lines)
+        self.assertEqual(lines[-1], "processor minutes in all: 5.8: proof 1.1, tests 1.5, wrong 0.5, scripts 0.8, the rest 1.9")
+
+
+class Sharing(unittest.TestCase):
+    """How parts share processors."""
+
+    def test_minutes(self) -> None:
+        narrow, long, wide = Part("n", (), 2, 1), Part("l", (), 1, 5), Part("w", (), 8, 1, ALL)
+        self.assertEqual(minutes([narrow], 4), 2)
+        self.assertEqual(minutes([narrow, narrow, narrow, narrow], 2), 4)
+        self.assertEqual(minutes([narrow, narrow, long], 4), 5)
+        self.assertEqual([minutes([wide], number) for number in (1, 2, 4, 16)], [8, 4, 2, 1])
+        self.assertEqual(minutes([narrow, wide], 2), 6)
+
+    def test_side_by_side(self) -> None:
+        """Parts share the processors; one that is as wide as the machine runs alone, on one processor too."""
+        for processors in (1, 2, 4):
+            with tempfile.TemporaryDirectory() as folder:
+                log = Path(folder) / "log"
+                line = f'echo "begin $0" >> {log}; sleep 0.3; echo "end $0" >> {log}; echo 1 call'
+                parts = [Part(name, (*SHELL, line, name), 1, 1, width) for name, width in (("a", 1), ("w", ALL), ("b", 1), ("c", 2))]
+                ended = [it.part.name for it in Crew(Path(folder), processors).run(parts)]
+                self.assertEqual(sorted(ended), ["a", "b", "c", "w"])
+                lines = log.read_text(encoding="utf-8").splitlines()
+                at = lines.index("begin w")
+                self.assertEqual(lines[at + 1], "end w")
+                beside = sum(1 if line.startswith("begin") else -1 for line in lines[:at])
+                self.assertEqual(beside, 0)
+                if processors == 1:
+                    self.assertEqual([line.split()[1] for line in lines], [name for name in ended for _ in range(2)])
+                if processors == 4:
+                    self.assertEqual(sorted(lines[:3]), ["begin a", "begin b", "begin c"])
+
+    def test_the_tables(self) -> None:
+        names = [it.name for it in QUICK]
+        self.assertEqual(len(set(names)), len(names))
+        for it in QUICK:
+            self.assertTrue(it.work > 0 and it.least > 0 and it.width > 0)
+
+
+if __name__ == "__main__":
+    unittest.main()

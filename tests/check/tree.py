@@ -1,0 +1,120 @@
+"""A tree with a `./check` whose parts are scripts of the tests."""
+from __future__ import annotations
+
+import os
+import shutil
+import subprocess
+import tempfile
+import time
+import unittest
+from pathlib import Path
+
+TOP = Path(__file__).resolve().parents[2]
+LIMIT = 300.0  # seconds after which something hangs
+# In the place of the tables: each part is a line of a shell.
+TABLES = '''
+PROOFS = Part("proofs", ("sh", "-c", {proofs!r}, "proofs"), 8, 1, ALL, (), shows="^rt: ")
+WRONG = Part("wrong", ("sh", "-c", {wrong!r}, "wrong"), 4, 1, ALL)
+QUICK = [Part(name, ("sh", "-c", line), 1, 0.5, width, needs, likes) for name, line, width, needs, likes in {quick!r}]
+'''
+# What nobody has, as a need.
+NEED = '''
+NEEDS["nothing"] = Need("a thing that nobody has", lambda: False, ("no-such-package",))
+NEEDS["must"] = Need("what a check is of", lambda: False, is_a_must=True)
+'''
+WELL = "echo 3 calls as wanted"
+
+Quick = tuple[str, str, int, tuple[str, ...], tuple[str, ...]]
+
+
+def part(name: str, line: str, width: int = 1, needs: tuple[str, ...] = (), likes: tuple[str, ...] = ()) -> Quick:
+    """A part of the stand-in tables."""
+    return name, line, width, needs, likes
+
+
+class InTree(unittest.TestCase):
+    """A test with a tree of its own, and a folder for temporary files that has to be empty at the end."""
+
+    def setUp(self) -> None:
+        room = tempfile.TemporaryDirectory()
+        self.addCleanup(room.cleanup)
+        self.room, self.tree, self.temporary = (Path(room.name) / name for name in ("", "tree", "tmp"))
+        self.temporary.mkdir()
+        (self.tree / "tests").mkdir(parents=True)
+        for name in ("check", "tests/__init__.py"):
+            shutil.copy(TOP / name, self.tree / name)
+        shutil.copytree(TOP / ".ci", self.tree / ".ci")
+        shutil.copytree(TOP / "tests/check", self.tree / "tests/check", ignore=shutil.ignore_patterns("__pycache__"))
+        (self.tree / "crates.txt").write_text("# A line a crate.\none:\ntwo: one\n", encoding="utf-8")
+        self.original = (self.tree / "tests/check/parts.py").read_text(encoding="utf-8")
+        needs = self.tree / "tests/check/needs.py"
+        text = needs.read_text(encoding="utf-8")
+        needs.write_text(text.replace("\ndef apt(", NEED + "\n\ndef apt("), encoding="utf-8")
+
+    def stand_in(self, *quick: Quick, proofs: str = "echo 5 passed, 0 failed", wrong: str = "echo 7 passed, 0 failed") -> None:
+        """Sets the parts, and notes what stands in the tree then."""
+        tables = TABLES.format(quick=[*quick], proofs=proofs, wrong=wrong)
+        (self.tree / "tests/check/parts.py").write_text(self.original + tables, encoding="utf-8")
+        self.stood = self.files()
+
+    def files(self) -> list[str]:
+        """The paths of all files of the tree."""
+        return sorted(str(it.relative_to(self.tree)) for it in self.tree.rglob("*"))
+
+    def environment(self, **more: str) -> dict[str, str]:
+        """The environment of a check: no gate, and temporary files where they are counted."""
+        kept = {name: it for name, it in os.environ.items() if name != "CI"}
+        return {**kept, "TMPDIR": str(self.temporary), "ROOM": str(self.room), **more}
+
+    def check(self, *words: str, program: str = "check", **more: str) -> subprocess.CompletedProcess[str]:
+        """Calls the check to its end, which leaves nothing."""
+        done = self.check_beside(*words, program=program, **more)
+        self.nothing_left()
+        return done
+
+    def check_beside(self, *words: str, program: str = "check", **more: str) -> subprocess.CompletedProcess[str]:
+        """The same beside another, or after one that was killed at once."""
+        return subprocess.run(
+            [self.tree / program, *words], cwd="/", stdin=subprocess.DEVNULL, capture_output=True, text=True,
+            env=self.environment(**more), timeout=LIMIT, check=False,
+        )
+
+    def nothing_left(self) -> None:
+        """Wants no temporary file, and no file that wasn't there."""
+        self.assertEqual([*self.temporary.iterdir()], [])
+        self.assertEqual(self.files(), self.stood)
+
+    def begun(self, *words: str) -> subprocess.Popen[str]:
+        """Starts the check as the leader of a group, and waits until one of its parts has made the file `begun`."""
+        going = subprocess.Popen(
+            [self.tree / "check", *words], stdin=subprocess.DEVNULL, stdout=subprocess.PIPE, stderr=subprocess.STDOUT,
+            text=True, env=self.environment(), start_new_session=True,
+        )
+        self.addCleanup(ended, going)
+        self.waits(lambda: (self.room / "begun").exists() or going.poll() is not None)
+        if going.poll() is not None:
+            self.fail(going.communicate()[0])
+        return going
+
+    def waits(self, holds: object) -> None:
+        """Waits until that holds."""
+        assert callable(holds)
+        until = time.monotonic() + LIMIT
+        while not holds():
+            self.assertLess(time.monotonic(), until)
+            time.sleep(0.02)
+
+
+def ended(going: subprocess.Popen[str]) -> None:
+    """Ends a check where it goes on."""
+    if going.poll() is None:
+        going.terminate()
+        going.communicate(timeout=LIMIT)
+
+
+def is_there(pid: int) -> bool:
+    """Whether a process hasn't ended."""
+    try:
+        return Path(f"/proc/{pid}/stat").read_text(encoding="utf-8").rpartition(") ")[2][0] != "Z"
+    except OSError:
+        return False

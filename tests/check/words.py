@@ -1,0 +1,75 @@
+"""The words of `./check`."""
+from __future__ import annotations
+
+import argparse
+import os
+import sys
+
+from tests.check.checking import Stages, check
+from tests.check.lock import Taken, alone
+from tests.check.parts import PROOFS, QUICK, WRONG, crates, minutes
+
+TAKEN = 3
+LEFT_OUT = {
+    "proofs": "proofs and the tests inside the crates: ./check proofs",
+    "wrong": "wrong bodies: ./check wrong",
+}
+
+
+def taking(least: float) -> str:
+    """About how long that takes."""
+    return f"some {least + 0.5:.0f} minutes on four processors"
+
+
+def parser() -> argparse.ArgumentParser:
+    """All words."""
+    whole = sum(minutes(stage, 4) for stage in ([PROOFS], QUICK, [WRONG]))
+    every = argparse.ArgumentParser(
+        prog="check", description=f"Tests all of it, {taking(whole)}: proofs, scripts, wrong bodies.",
+        epilog="The last line is 'N passed, M failed'. The status is 0 where all passed, 1 where a part failed, "
+        f"2 where the words aren't understood, {TAKEN} where another check runs in this tree.",
+    )
+    each = every.add_subparsers(title="words, for a part of it", dest="word", metavar="WORD")
+    quick = each.add_parser("quick", help=f"what needs no proof, over the programs that are built: {taking(minutes(QUICK, 4))}")
+    quick.add_argument("names", nargs="*", metavar="PART", help="only these: " + ", ".join(it.name for it in QUICK))
+    proofs = each.add_parser("proofs", help=f"rt ci, every proof and the tests inside: {taking(minutes([PROOFS], 4))}")
+    proofs.add_argument("names", nargs="*", metavar="CRATE", help="only these crates and those below them")
+    wrong = each.add_parser("wrong", help=f"the bodies that the prover must refuse: {taking(minutes([WRONG], 4))}")
+    wrong.add_argument("names", nargs="*", metavar="CRATE", help="only those of these crates")
+    return every
+
+
+def unknown(word: str | None, names: list[str]) -> str:
+    """What is wrong with names, if anything."""
+    known = [it.name for it in QUICK] if word == "quick" else crates() if names else []
+    wrong = [it for it in names if it not in known]
+    return f"there is no {'part' if word == 'quick' else 'crate'} {wrong[0]}; there are: {', '.join(known)}" if wrong else ""
+
+
+def stages_of(word: str | None, names: list[str]) -> tuple[Stages, list[str]]:
+    """What these words ask for, one stage after another, and what that leaves out."""
+    if word == "quick":
+        return [[it for it in QUICK if not names or it.name in names]], [] if names else [*LEFT_OUT.values()]
+    if word == "proofs":
+        return [[PROOFS.over(names)]], []
+    if word == "wrong":
+        return [[WRONG.over(names)]], []
+    return [[PROOFS], QUICK, [WRONG]], []
+
+
+def main(words: list[str] | None = None) -> int:
+    """Does what the words say, and answers the exit status."""
+    every = parser()
+    asked = every.parse_args(words)
+    names: list[str] = getattr(asked, "names", [])
+    if fault := unknown(asked.word, names):
+        every.error(fault)
+    try:
+        with alone():
+            return check(*stages_of(asked.word, names))
+    except Taken:
+        print("check: another ./check runs in this tree; this one did nothing", file=sys.stderr)
+        return TAKEN
+    except BrokenPipeError:  # Whoever read the output has enough of it.
+        os.dup2(os.open(os.devnull, os.O_WRONLY), sys.stdout.fileno())
+        return 1

@@ -1,0 +1,79 @@
+"""Journals that fail in the middle of a run, with what is answered then, by hand."""
+from pathlib import Path
+
+from tests.common.preload import Client, Ended, Preloaded, Server, Story, fail, play, run
+
+SCRIPT = b"""\
+1 {"do":"hello","key":"a-key","name":"ana"}
+2 {"do":"hello","key":"b-key","name":"ben"}
+4 {"do":"hello","key":"chalk","name":"tess"}
+1 {"at":0,"do":"move","node":1,"rule":"seduction"}
+2 {"at":0,"do":"move","node":2,"rule":"seduction"}
+2 {"at":0,"do":"move","node":2,"rule":"seduction"}
+4 {"do":"close"}
+1 {"at":0,"do":"move","node":1,"rule":"seduction"}
+2 {"do":"look","node":2}
+"""
+REPLIES = b"""\
+1 {"ok":"hello","who":"ana"}
+2 {"ok":"hello","who":"ben"}
+4 {"ok":"hello","who":"tess"}
+1 {"at":0,"node":1,"ok":"move","place":1,"rule":"seduction"}
+2 {"refuse":"journal"}
+2 {"refuse":"journal"}
+4 {"refuse":"journal"}
+1 {"clause":3,"deny":"chosen","text":"this node is already chosen"}
+2 {"at":0,"chosen":null,"m":false,"near":[{"m":false,"node":1,"p":null},{"m":false,"node":3,"p":null}],"node":2,"ok":"look","p":null,"rule":"seduction"}
+"""
+JOURNAL = b"1 0 grant ana 1 seduction\n"
+END = Ended(4, b"", b"journal fault\n")
+NO_ACCEPT = Ended(4, b"", b"serve: cannot accept\n")
+EIO, EMFILE = "5", "24"
+
+
+def failing(library: Preloaded, kind: str, nth: int, error: str) -> dict[str, str]:
+    """The variables of a run whose nth call of that kind fails."""
+    return library.variables({"FAIL": kind, "FAIL_AT": str(nth), "FAIL_WITH": error})
+
+
+def scripted(lab: Path, room: Path, library: Preloaded) -> None:
+    """The put of a script's second event fails: its second write."""
+    script, journal = room / "halted.script", room / "halted.journal"
+    script.write_bytes(SCRIPT)
+    journal.unlink(missing_ok=True)
+    ended = run(["script", str(lab), str(script), str(journal)], b"", failing(library, "write", 2, EIO))
+    if (ended.status, ended.out, ended.error) != (END.status, REPLIES, END.error) or journal.read_bytes() != JOURNAL:
+        fail(f"a script whose second put fails: {ended}")
+
+
+def served(lab: Path, room: Path, library: Preloaded) -> None:
+    """The same of a server: that put comes after the first line, four replies and the first put."""
+    journal = room / "halted.journal"
+    journal.unlink(missing_ok=True)
+    words = ["serve", str(lab)]
+    server = Server(lambda port: [*words, str(port), "3", str(journal)], failing(library, "write", 7, EIO))
+    replies, _ = play(Story(lab, SCRIPT, room), server.port)
+    ended = server.end()
+    if ended != END or b"".join(replies) != REPLIES or journal.read_bytes() != JOURNAL:
+        fail(f"a server whose second put fails: {ended}, {replies}")
+
+
+def unaccepted(lab: Path, library: Preloaded) -> None:
+    """A journal that takes nothing, and a connection that can't be taken: the one before is served to its end."""
+    words = ["serve", str(lab)]
+    server = Server(lambda port: [*words, str(port), "2", "/dev/full"], failing(library, "accept", 2, EMFILE))
+    client = Client(server.port)
+    lines, wanted = (text.splitlines(keepends=True) for text in (SCRIPT, REPLIES))
+    replies = [client.ask(lines[at][2:]) for at in (0, 3)]
+    client.close()
+    ended = server.end()
+    if ended != NO_ACCEPT or replies != [wanted[0][2:], wanted[4][2:]]:
+        fail(f"a server that can't accept, with a journal that takes nothing: {ended}, {replies}")
+
+
+def halted(lab: Path, room: Path, library: Preloaded) -> str:
+    """All three."""
+    scripted(lab, room, library)
+    served(lab, room, library)
+    unaccepted(lab, library)
+    return "journals that fail in a run: 3"

@@ -1,0 +1,1 @@
+"""Lab files, with what the program reads there."""

@@ -1,0 +1,77 @@
+"""Rows of the tables of labs, each a document with what the program says of it.
+
+A table is a TOML file. Its rows are the tables of the array `labs`, each with the document in one of two ways:
+
+- `text` (or `bytes`, of which each letter is a byte) behind `before` and ahead of `after`, which stand at the
+  head of the table or in the row;
+- `old` and `new`: the lab that is built into the program, or the table's own `base`, with `new` in the place of
+  `old`, which must stand there once. With `goes_on = true` it is the document of the row before.
+
+And with one of these:
+
+- `says`: the line of `check`: an error, which begins with `lab: `, or the lab's size, which begins with `ok: `;
+- `shows`: all that the lab has, by `tests.labs.shown`; its students are ana, ben and cyd, or the first of these.
+"""
+import tomllib
+from dataclasses import dataclass
+from pathlib import Path
+from typing import Any
+
+from tests.common.preload import TOP, fail
+
+HERE = Path(__file__).resolve().parent
+PEOPLE = (("ana", "a-key"), ("ben", "b-key"), ("cyd", "c-key"))
+TEACHER = ("tess", "chalk")
+
+
+@dataclass(frozen=True)
+class Row:
+    """A document and what is said of it, or shown; its teacher and its students."""
+
+    name: str
+    document: bytes
+    says: str = ""
+    shows: str = ""
+    teacher: tuple[str, str] = TEACHER
+    students: tuple[tuple[str, str], ...] = PEOPLE
+
+
+def built_in() -> str:
+    """The lab that is built into the program."""
+    return (TOP / "docs/LAB.md").read_text(encoding="utf-8").split("```toml\n", 1)[1].split("```", 1)[0]
+
+
+def changed(name: str, base: str, row: dict[str, Any]) -> str:
+    """A document with a new text in the place of one that stands there once."""
+    if base.count(row["old"]) != 1:
+        fail(f"{name}: {row['old']!r} doesn't stand once in its document")
+    return base.replace(row["old"], row["new"])
+
+
+def document_of(name: str, table: dict[str, Any], row: dict[str, Any], last: str) -> bytes:
+    """The document of a row, where the document of the row before is the last one."""
+    if "old" in row:
+        base = last if row.get("goes_on") else table.get("base", built_in())
+        return changed(name, base, row).encode()
+    before, after = (row.get(key, table.get(key, "")) for key in ("before", "after"))
+    middle = row["bytes"].encode("latin-1") if "bytes" in row else row["text"].encode()
+    return before.encode("latin-1") + middle + after.encode("latin-1")
+
+
+def rows_of(path: Path) -> list[Row]:
+    """The rows of a table."""
+    table = tomllib.loads(path.read_text(encoding="utf-8"))
+    rows: list[Row] = []
+    last = b""
+    for number, row in enumerate(table["labs"], 1):
+        name = f"{path.name}, row {number}"
+        last = document_of(name, table, row, last.decode("utf-8", "replace"))
+        if ("says" in row) == ("shows" in row):
+            fail(f"{name}: it wants one of `says` and `shows`")
+        rows.append(Row(name, last, row.get("says", ""), row.get("shows", "")))
+    return rows
+
+
+def all_rows() -> list[Row]:
+    """The rows of all tables of this folder."""
+    return [row for path in sorted(HERE.glob("*.toml")) for row in rows_of(path)]

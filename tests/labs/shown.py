@@ -1,0 +1,120 @@
+"""All that a lab has, as the program shows it over scripts and an audit.
+
+It is written `EVENTS SESSIONS NODES LINKS STUDENTS`, and then for each node, after a semicolon, its identifier, m,
+its owners and a mark for each node in rising order: `-` where they are linked, `>` where it points at that one
+too, else `.`.
+"""
+import json
+from collections.abc import Sequence
+from pathlib import Path
+from typing import Any
+
+from tests.common.preload import Ended, fail, run
+from tests.labs.rows import Row
+
+Look = dict[str, Any]
+PART = 100
+
+
+def hello(name: str, key: str) -> str:
+    """A greeting on the first connection."""
+    return f'1 {json.dumps({"do": "hello", "name": name, "key": key})}\n'
+
+
+def looks(people: Sequence[tuple[str, str]], nodes: list[int]) -> list[str]:
+    """Each of these looks at each node."""
+    lines = []
+    for name, key in people:
+        lines += [hello(name, key), *(f'1 {{"do":"look","node":{i}}}\n' for i in nodes), '1 {"do":"bye"}\n']
+    return lines
+
+
+class Shown:
+    """A lab in a file, of which the program is asked."""
+
+    def __init__(self, row: Row, room: Path) -> None:
+        self.row = row
+        self.lab, self.script, self.journal = room / "shown.toml", room / "shown.script", room / "shown.journal"
+        self.lab.write_bytes(row.document)
+
+    def fail(self, why: str) -> None:
+        """The row isn't shown so."""
+        fail(f"{self.row.name}: {why}")
+
+    def size(self) -> list[str]:
+        """The counts of nodes, links and students, by `check`."""
+        said = run(["check", str(self.lab)], b"", {})
+        words = said.out.decode().split()
+        if said.status != 0 or len(words) != 7:
+            self.fail(f"no size: {said}")
+        return words[1::2]
+
+    def replies(self, people: Sequence[tuple[str, str]], nodes: list[int], sessions: int) -> list[dict[str, Any]]:
+        """The replies to all looks of these.
+
+        At the end a line of the last connection is answered, and one of a connection more is no line of the script.
+        """
+        lines = looks(people, nodes)
+        last = f'{sessions} {{"do":"bye"}}\n{sessions + 1} {{"do":"bye"}}\n'
+        self.script.write_text("".join(lines) + last, encoding="utf-8")
+        found = run(["script", str(self.lab), str(self.script)], b"", {})
+        bad = b"script: line %d: bad line\n" % (len(lines) + 2)
+        if (found.status, found.error) != (2, bad):
+            self.fail(f"another number of sessions than {sessions}: {found.error!r}")
+        return [json.loads(line.split(b" ", 1)[1]) for line in found.out.splitlines()[:-1]]
+
+    def all_replies(self, students: int, nodes: list[int], sessions: int) -> list[dict[str, Any]]:
+        """Those to the looks of the teacher and of each student, over scripts that aren't too large."""
+        people = [self.row.teacher, *self.row.students[:students]]
+        replies = []
+        for start in range(0, len(people), PART):
+            replies += self.replies(people[start : start + PART], nodes, sessions)
+        return replies
+
+    def takes(self, node: int, events: int) -> Ended:
+        """The audit of a journal of so many events."""
+        lines = (f"{place} {place - 1} fault {node} - false\n" for place in range(1, events + 1))
+        self.journal.write_text("".join(lines), encoding="ascii")
+        return run(["audit", str(self.lab), str(self.journal)], b"", {})
+
+    def limit(self, node: int, events: int) -> None:
+        """Wants that so many events may be, and not one more."""
+        found = self.takes(node, events)
+        if not found.out.startswith(b"ok: %d events, configuration %d, " % (events, events)):
+            self.fail(f"fewer events than {events}: {found.error!r}")
+        if self.takes(node, events + 1).error != b"audit: line %d: over the limit of events\n" % (events + 1):
+            self.fail(f"more events than {events}")
+
+
+def mark(look: Look, node: int) -> str:
+    """How a node that is looked at stands to another."""
+    if not any(other["node"] == node for other in look["near"]):
+        return "."
+    return ">" if look["p"] == node else "-"
+
+
+def text_of(nodes: list[int], students: list[str], replies: list[dict[str, Any]]) -> str:
+    """What the replies to all looks show of the nodes."""
+    width = len(nodes) + 2
+    seen = [replies[start + 1 : start + 1 + len(nodes)] for start in range(0, width * (len(students) + 1), width)]
+    text = ""
+    for at, look in enumerate(seen[0]):
+        owners = "".join(name for name, own in zip(students, seen[1:]) if own[at].get("ok") == "look")
+        marks = "".join(mark(look, node) for node in nodes)
+        text += f"; {look['node']} {json.dumps(look['m'])} {owners} {marks}"
+    return text
+
+
+def compare(row: Row, room: Path) -> None:
+    """Wants that the lab of a row shows what the row says."""
+    shown = Shown(row, room)
+    head, *parts = row.shows.split("; ")
+    events, sessions = (int(word) for word in head.split()[:2])
+    nodes = [int(part.split()[0]) for part in parts]
+    size = shown.size()
+    students = [name for name, _ in row.students[: int(size[2])]]
+    replies = shown.all_replies(len(students), nodes, sessions)
+    found = " ".join([str(events), str(sessions), *size]) + text_of(nodes, students, replies)
+    if found != row.shows:
+        shown.fail(f"it shows {found!r}, not {row.shows!r}")
+    shown.limit(nodes[0], events)

@@ -1,0 +1,134 @@
+"""Audits of journals that are right, and of those that aren't in each way.
+
+    python3 -B -m tests.program.audits
+
+The rows are written by hand. Then each front of a whole journal is audited, and that journal with each byte
+replaced by others: what is said of these is the model's.
+"""
+from pathlib import Path
+
+from tests.common.preload import TOP, Ended, built_in, fail, in_room, run
+from tests.model import audit, read_lab
+
+JOURNAL = (TOP / "examples/whole-run.journal").read_bytes()
+OTHERS = b" \n0123a-"
+ANA, BEN, CYD = "1 0 grant ana 1 seduction\n", "2 0 grant ben 2 seduction\n", "1 0 grant cyd 3 marriage 2\n"
+
+# A journal over the built-in lab, and what is said of it: the first bad line, or that it passes.
+ROWS = [
+    ("", "ok: 0 events, configuration 0, not stable"),
+    (JOURNAL.decode(), "ok: 10 events, configuration 4, stable"),
+    (ANA, "ok: 1 events, configuration 0, not stable"),
+    (ANA[:-1], "audit: line 1: torn"),
+    ("no event", "audit: line 1: torn"),
+    ("\n", "audit: line 1: not an event"),
+    ("1 0 closed\n", "audit: line 1: not an event"),
+    ("5 5 closed\n", "audit: line 1: not an event"),
+    (ANA + "\n", "audit: line 2: not an event"),
+    ("0 0 grant ana 1 seduction\n", "audit: line 1: wrong place or configuration"),
+    ("2 0 grant ana 1 seduction\n", "audit: line 1: wrong place or configuration"),
+    ("1 1 grant ana 1 seduction\n", "audit: line 1: wrong place or configuration"),
+    ("2 0 close\n", "audit: line 1: wrong place or configuration"),
+    ("1 0 grant ben 1 seduction\n", "audit: line 1: illegal, not-owner"),
+    (CYD, "audit: line 1: illegal, guard"),
+    ("1 0 close\n", "audit: line 1: illegal, empty"),
+    ("1 0 release 1\n", "audit: line 1: illegal, not-chosen"),
+    ("1 0 fault 1 3 true\n", "audit: line 1: illegal, bad-register"),
+    ("1 0 link 1 1\n", "audit: line 1: illegal, loop"),
+    ("1 0 link 2 1\n", "audit: line 1: illegal, linked"),
+    ("1 0 cut 3 1\n", "audit: line 1: illegal, not-linked"),
+    ("1 0 fault 1 2 true\n2 1 link 3 1\n3 2 cut 1 2\n", "ok: 3 events, configuration 3, not stable"),
+    (ANA + "2 0 grant ana 1 seduction\n", "audit: line 2: illegal, chosen"),
+    (ANA + ANA, "audit: line 2: wrong place or configuration"),
+    (ANA + "2 0 grant zoe 1 seduction\n", "audit: line 2: not an event"),
+    (ANA + "2 0 close\n3 0 grant ben 2 seduction\n", "audit: line 3: wrong place or configuration"),
+]
+
+# The same where node 2 is of ana too, and two events are allowed. What is false is told before the limit.
+SHARED = [
+    ("1 0 grant ana 2 seduction\n", "ok: 1 events, configuration 0, not stable"),
+    ("1 0 grant ben 2 seduction\n", "ok: 1 events, configuration 0, not stable"),
+    ("1 0 grant cyd 2 seduction\n", "audit: line 1: illegal, not-owner"),
+    (ANA + BEN, "ok: 2 events, configuration 0, not stable"),
+    (ANA + BEN + "3 0 close\n", "audit: line 3: over the limit of events"),
+    (ANA + "2 0 close\n3 1 close\n", "audit: line 3: illegal, empty"),
+    (ANA + "2 0 close\n3 0 close\n", "audit: line 3: wrong place or configuration"),
+]
+
+
+class Auditor:
+    """The audits over a lab, counted."""
+
+    def __init__(self, room: Path, lab: Path) -> None:
+        self.lab, self.journal = lab, room / "audited.journal"
+        self.model = read_lab(lab.read_bytes())
+        self.calls = self.passed = 0
+
+    def wants(self, journal: bytes, line: str) -> None:
+        """Wants this line of an audit: on standard output with status 0, or as an error with status 3."""
+        self.journal.write_bytes(journal)
+        found = run(["audit", str(self.lab), str(self.journal)], b"", {})
+        text = f"{line}\n".encode()
+        passes = line.startswith("ok: ")
+        if found != (Ended(0, text, b"") if passes else Ended(3, b"", text)):
+            fail(f"an audit of {journal!r} says {found}, not {line!r}")
+        self.calls += 1
+        self.passed += passes
+
+    def all_of(self, rows: list[tuple[str, str]]) -> None:
+        """Wants what the rows say, and that the model says it too."""
+        for text, line in rows:
+            if audit(self.model, text.encode()) != line:
+                fail(f"the model says of {text!r}: {audit(self.model, text.encode())}")
+            self.wants(text.encode(), line)
+
+
+def fronts(auditor: Auditor) -> None:
+    """Each byte of the journal is the last: whole lines pass, and a torn one is named."""
+    for end in range(len(JOURNAL) + 1):
+        front = JOURNAL[:end]
+        lines = front.count(b"\n")
+        is_torn = not front.endswith(b"\n") and bool(front)
+        wanted = audit(auditor.model, front)
+        if is_torn and wanted != f"audit: line {lines + 1}: torn":
+            fail(f"the model says of {front!r}: {wanted}")
+        auditor.wants(front, wanted)
+
+
+def replaced(auditor: Auditor) -> None:
+    """Each byte of the journal is replaced by others; it passes only where the byte is the one that stood there."""
+    before = auditor.passed
+    for at in range(len(JOURNAL)):
+        for other in OTHERS:
+            text = JOURNAL[:at] + bytes([other]) + JOURNAL[at + 1 :]
+            auditor.wants(text, audit(auditor.model, text))
+    same = sum(byte in OTHERS for byte in JOURNAL)
+    if auditor.passed - before != same:
+        fail(f"{auditor.passed - before} journals with a byte replaced pass, not {same}")
+
+
+def shared_lab(room: Path, lab: Path) -> Path:
+    """The built-in lab where node 2 is of ana too, and two events are allowed."""
+    text = lab.read_text(encoding="ascii")
+    for old, new in (("events = 100", "events = 2"), ('owner = "ben"', 'owners = ["ana", "ben"]')):
+        if text.count(old) != 1:
+            fail(f"the built-in lab has no line {old}")
+        text = text.replace(old, new)
+    shared = room / "shared.toml"
+    shared.write_text(text, encoding="ascii")
+    return shared
+
+
+def work(room: Path) -> str:
+    """All audits."""
+    lab = built_in(room)
+    auditor, shared = Auditor(room, lab), Auditor(room, shared_lab(room, lab))
+    auditor.all_of(ROWS)
+    shared.all_of(SHARED)
+    fronts(auditor)
+    replaced(auditor)
+    return f"{auditor.calls + shared.calls} audits of right, torn and hurt journals say what is wanted"
+
+
+if __name__ == "__main__":
+    in_room(work)

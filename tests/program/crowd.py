@@ -1,0 +1,176 @@
+"""Plays three clients of one server at once: two ask for moves and views, the teacher closes and disturbs.
+
+    python3 -B -m tests.program.crowd [SEED]
+
+Each answer has to be the plain model's at a beginning of the journal's list, and the beginnings of one client never
+fall back; each event stands in the list where the reply to it says.
+"""
+import json
+import sys
+import threading
+from pathlib import Path
+from random import Random
+
+from tests.common.preload import Client, Ended, Server, fail, in_room
+from tests.model import Lab, Model, audit, read_lab
+from tests.model.events import grant
+from tests.model.journal import read_line
+from tests.model.policy import denial
+from tests.model.requests import read_request
+
+SEEDS = range(1, 5)
+NODES = 64
+TURNS = 250
+HELLOS = {"ana": ("ana", "a-key"), "ben": ("ben", "b-key"), "tess": ("tess", "chalk")}
+ACTS = ("move", "close", "fault")
+Heard = list[tuple[bytes, bytes]]
+
+
+def lab_text() -> str:
+    """A cycle, half of it ana's and half ben's."""
+    links = ", ".join(f"[{node}, {node % NODES + 1}]" for node in range(1, NODES + 1))
+    owned = [f'{{ id = {node}, owner = "{"ana" if 2 * node <= NODES else "ben"}" }}' for node in range(1, NODES + 1)]
+    return (
+        f'events = 100000\nsessions = 3\nlinks = [{links}]\nteacher = {{ name = "tess", key = "chalk" }}\n'
+        'student = [{ name = "ana", key = "a-key" }, { name = "ben", key = "b-key" }]\n'
+        f"node = [{', '.join(owned)}]\n"
+    )
+
+
+def line_of(**keys: object) -> bytes:
+    """A request."""
+    return json.dumps(keys, sort_keys=True, separators=(",", ":")).encode() + b"\n"
+
+
+class Player:
+    """A client that keeps what it asked and was answered."""
+
+    def __init__(self, port: int, name: str) -> None:
+        self.client, self.heard = Client(port), Heard()
+        self.name = name
+        who, key = HELLOS[name]
+        self.ask([line_of(do="hello", key=key, name=who)])
+
+    def ask(self, lines: list[bytes]) -> bytes:
+        """Sends lines together, and waits for all replies; answers the last."""
+        assert self.client.open is not None
+        self.client.open.sendall(b"".join(lines))
+        replies = [self.client.replies.readline() for _ in lines]
+        self.heard += zip(lines, replies)
+        return replies[-1]
+
+    def moves(self, rng: Random, first: int) -> None:
+        """Asks for moves of its nodes by what the last look told, after views of them."""
+        half = NODES // 2
+        move = line_of(do="see", node=0)
+        for _ in range(TURNS):
+            node = first + rng.randrange(half)
+            look = json.loads(self.ask([move, line_of(do="see", node=rng.randrange(NODES + 2)), line_of(do="look", node=node)]))
+            asked = {"at": look["at"], "do": "move", "node": node, "rule": look["rule"] or "seduction"}
+            suitors = [near["node"] for near in look["near"] if near["p"] == node]
+            move = line_of(**asked, **({"with": suitors[0] if suitors else 0} if asked["rule"] == "marriage" else {}))
+
+    def closes(self, rng: Random, others: list[threading.Thread]) -> None:
+        """Closes until the others have ended, with a fault and a report now and then, and at the end views of all."""
+        while any(other.is_alive() for other in others):
+            lines = [line_of(do="close")] * rng.randrange(1, 4)
+            if rng.randrange(8) == 0:
+                lines.append(line_of(do="fault", m=bool(rng.randrange(2)), node=rng.randrange(1, NODES + 1), p=None))
+            if rng.randrange(16) == 0:
+                lines.append(line_of(do="report"))
+            self.ask(lines)
+        nodes = [line_of(do="see", node=node) for node in range(1, NODES + 1)]
+        self.ask([line_of(do="close"), line_of(do="report"), *nodes])
+
+
+class Replay:
+    """The plain model after a beginning of a list of events."""
+
+    def __init__(self, lab: Lab, journal: list[str]) -> None:
+        self.lab, self.journal = lab, journal
+        self.model = Model(lab)
+
+    def step(self) -> bool:
+        """Lets the next event happen, if there is one."""
+        world = self.model.world
+        if world.place == len(self.journal):
+            return False
+        read = read_line(self.journal[world.place].encode(), self.lab)
+        assert read is not None
+        grant(world, read[3])
+        return True
+
+    def tells(self, line: bytes, reply: bytes) -> bool:
+        """Whether this is what is answered here. What is granted here is the list's next event."""
+        asked = read_request(line[:-1])
+        assert asked is not None
+        world = self.model.world
+        granted = b'"place":' in reply
+        who = self.model.names.get(1, "")
+        if asked.do in ACTS and (denial(self.lab, world, who, asked) is None) != granted:
+            return False
+        if granted and json.loads(reply)["place"] != world.place + 1:
+            return False
+        place = world.place
+        is_told = self.model.answer(1, line[:-1]).encode() + b"\n" == reply
+        return is_told and (not granted or self.model.journal.pop() == self.journal[place])
+
+    def meets(self, heard: Heard) -> str:
+        """The first answer that isn't met, if there is one."""
+        for line, reply in heard:
+            while not self.tells(line, reply):
+                if not self.step():
+                    return f"{reply!r} to {line!r}"
+        return ""
+
+
+def played(server: Server, seed: int) -> list[Player]:
+    """Three who have played at once."""
+    players = [Player(server.port, name) for name in HELLOS]
+    ana, ben, tess = players
+    students = [
+        threading.Thread(target=one.moves, args=[Random(f"{seed} {one.name}"), first])
+        for one, first in ((ana, 1), (ben, NODES // 2 + 1))
+    ]
+    for student in students:
+        student.start()
+    tess.closes(Random(f"{seed} tess"), students)
+    for student in students:
+        student.join()
+    for player in players:
+        player.client.close()
+    return players
+
+
+def crowd(room: Path, seed: int) -> int:
+    """One run; answers how many events it had."""
+    file, kept = room / "crowd.toml", room / "crowd.journal"
+    file.write_text(lab_text(), encoding="ascii")
+    lab = read_lab(file.read_bytes())
+    kept.unlink(missing_ok=True)
+    server = Server(lambda port: ["serve", str(file), str(port), "3", str(kept)], {})
+    players = played(server, seed)
+    ended, journal = server.end(), kept.read_text(encoding="ascii")
+    lines = journal.splitlines()
+    for player in players:
+        replay = Replay(lab, lines)
+        fault = replay.meets(player.heard)
+        if fault or player.name == "tess" and replay.model.world.place != len(lines):
+            fail(f"crowd {seed}: {player.name} is told what no beginning of the list tells from there on: {fault}")
+    told = sum(b'"place":' in reply for player in players for _, reply in player.heard)
+    number = replay.model.world.number
+    if told != len(lines) or number == 0 or ended != Ended(0, b"done: %d events, configuration %d\n" % (told, number), b""):
+        fail(f"crowd {seed}: {told} events were told of {len(lines)}, and it ended so: {ended}")
+    if not audit(lab, journal.encode()).startswith(f"ok: {told} events, configuration {number}, "):
+        fail(f"crowd {seed}: {audit(lab, journal.encode())}")
+    return told
+
+
+def work(room: Path) -> str:
+    """All runs."""
+    seeds = [int(word) for word in sys.argv[1:] if word.isdigit()] or SEEDS
+    return f"three at once, {len(seeds)} times: {sum(crowd(room, seed) for seed in seeds)} events"
+
+
+if __name__ == "__main__":
+    in_room(work)

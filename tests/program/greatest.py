@@ -1,0 +1,155 @@
+"""The largest lab: 256 nodes with the greatest identifiers, all linked, and 256 students with the longest names.
+
+What it answers is written down here, by the form of a reply and the numbers of the request. In the story each student
+but the last has a move, and all happen at once.
+"""
+from dataclasses import dataclass, field
+from pathlib import Path
+
+from tests.common.preload import Client, Ended, Server, fail, good, run
+
+NODES = range(65280, 65536)
+LAST = NODES[-1]
+SESSIONS = 16
+EVENTS = 100_000
+TESS, WELCOME = '{"do":"hello","key":"chalk","name":"tess"}', '{"ok":"hello","who":"tess"}'
+
+
+def name(number: int) -> str:
+    """The name of a student, of 32 bytes."""
+    return f"s{number:031}"
+
+
+def document() -> str:
+    """The lab: each node is of the student of its number and of the next."""
+    links = ",\n".join(f"[{a},{b}]" for a in NODES for b in NODES if b < a)
+    people = "".join(f'[[student]]\nname = "{name(number)}"\nkey = "{number:064}"\n' for number in range(256))
+    nodes = "".join(
+        f'[[node]]\nid = {node}\nowners = ["{name(node % 256)}", "{name((node + 1) % 256)}"]\n' for node in NODES
+    )
+    limits = f"events = {EVENTS}\nsessions = {SESSIONS}\n"
+    return f'{limits}links = [\n{links}]\nteacher = {{ name = "tess", key = "chalk" }}\n{people}{nodes}'
+
+
+def report(has_suitors: bool) -> str:
+    """The report before the moves, or after them: each link is open, and its witness is its lower end, or the last node."""
+    links = [(a, b) for a in NODES for b in NODES if a < b]
+    if has_suitors:
+        opened = ",".join(f'[{a},{b},{LAST},"marriage"]' for a, b in links)
+        privileged = f'[{LAST},"marriage"]'
+    else:
+        opened = ",".join(f'[{a},{b},{a},"seduction"]' for a, b in links)
+        privileged = ",".join(f'[{node},"seduction"]' for node in NODES[:-1])
+    free = ",".join(map(str, NODES))
+    lists = f'"free":[{free}],"ok":"report","open":[{opened}],"pairs":[],"privileged":[{privileged}]'
+    return f'{{"at":{int(has_suitors)},{lists},"stable":false}}'
+
+
+@dataclass
+class Tale:
+    """A script, the replies to it, and its journal."""
+
+    script: list[str] = field(default_factory=list)
+    replies: list[str] = field(default_factory=list)
+    journal: list[str] = field(default_factory=list)
+
+    def say(self, connection: int, line: str, reply: str) -> None:
+        """A line and its reply."""
+        self.script.append(f"{connection} {line}\n")
+        self.replies.append(f"{connection} {reply}\n")
+
+    def leave(self, connection: int) -> None:
+        """A bye."""
+        self.say(connection, '{"do":"bye"}', '{"ok":"bye"}')
+
+    def greet(self, connection: int, number: int) -> None:
+        """The student of a number greets."""
+        hello = f'{{"do":"hello","key":"{number:064}","name":"{name(number)}"}}'
+        self.say(connection, hello, f'{{"ok":"hello","who":"{name(number)}"}}')
+
+    def seduce(self, connection: int, number: int) -> None:
+        """The student asks for a move at the node of that number."""
+        node, place = NODES[number], number + 1
+        line = f'{{"at":0,"do":"move","node":{node},"rule":"seduction"}}'
+        self.say(connection, line, f'{{"at":0,"node":{node},"ok":"move","place":{place},"rule":"seduction"}}')
+        self.journal.append(f"{place} 0 grant {name(number)} {node} seduction\n")
+
+    def see(self, connection: int, node: int, p: str) -> None:
+        """A node is seen after the close."""
+        line = f'{{"do":"see","node":{node}}}'
+        self.say(connection, line, f'{{"at":1,"m":false,"node":{node},"ok":"see","p":{p}}}')
+
+    def close(self, connection: int) -> None:
+        """All moves happen."""
+        moved = ",".join(map(str, NODES[:-1]))
+        self.say(connection, '{"do":"close"}', f'{{"at":1,"moved":[{moved}],"ok":"close","place":256}}')
+        self.journal.append("256 0 close\n")
+
+
+def told() -> Tale:
+    """The teacher has a report, all but the last student move, in turn on all connections, and it is looked round."""
+    tale = Tale()
+    for has_moved in (False, True):
+        tale.say(SESSIONS, TESS, WELCOME)
+        if has_moved:
+            tale.close(SESSIONS)
+        tale.say(SESSIONS, '{"do":"report"}', report(has_moved))
+        tale.leave(SESSIONS)
+        for number in [] if has_moved else range(255):
+            connection = number % SESSIONS + 1
+            tale.greet(connection, number)
+            tale.seduce(connection, number)
+            tale.leave(connection)
+    for connection in range(1, SESSIONS + 1):
+        tale.greet(connection, connection - 1)
+        tale.see(connection, NODES[connection - 1], str(LAST))
+        tale.see(connection, LAST, "null")
+    # The first owns the last node too, at which all point.
+    near = ",".join(f'{{"m":false,"node":{node},"p":{LAST}}}' for node in NODES[:-1])
+    shown = f'"chosen":null,"m":false,"near":[{near}],"node":{LAST},"ok":"look","p":null,"rule":"marriage"'
+    tale.say(1, f'{{"do":"look","node":{LAST}}}', f'{{"at":1,{shown}}}')
+    return tale
+
+
+def scripted(room: Path, lab: Path) -> None:
+    """The story as a script, with its journal, which passes; and a line on a connection too many."""
+    tale = told()
+    script, journal = room / "greatest.script", room / "greatest.journal"
+    script.write_text("".join(tale.script), encoding="ascii")
+    if good(["script", str(lab), str(script), str(journal)]).decode() != "".join(tale.replies):
+        fail("another reply over the largest lab")
+    if journal.read_text(encoding="ascii") != "".join(tale.journal):
+        fail("another journal over the largest lab")
+    if good(["audit", str(lab), str(journal)]) != b"ok: 256 events, configuration 1, not stable\n":
+        fail("another audit over the largest lab")
+    script.write_text(f'{SESSIONS + 1} {{"do":"bye"}}\n', encoding="ascii")
+    if run(["script", str(lab), str(script)], b"", {}) != Ended(2, b"", b"script: line 1: bad line\n"):
+        fail("the largest lab has a connection too many")
+
+
+def served(lab: Path) -> None:
+    """The same world over a connection: both copies that are published begin as the script's, and change alike."""
+    server = Server(lambda port: ["serve", str(lab), str(port), "1"], {})
+    teacher = Client(server.port)
+    node, form = NODES[0], '{{"at":{0},"dropped":0,"node":{1},"ok":"fault","place":{0}}}'
+    lines = [(TESS, WELCOME), ('{"do":"report"}', report(False))]
+    for place, (p, kept) in enumerate([(LAST, "null"), ("null", LAST), (LAST, "null")], 1):
+        shown = f'{{"at":{place - 1},"m":false,"node":{node},"ok":"see","p":{kept}}}'
+        lines += [(f'{{"do":"see","node":{node}}}', shown)]
+        lines += [(f'{{"do":"fault","m":false,"node":{node},"p":{p}}}', form.format(place, node))]
+    for line, reply in lines:
+        if teacher.ask(f"{line}\n".encode()) != f"{reply}\n".encode():
+            fail(f"another reply of a server of the largest lab to {line}")
+    teacher.close()
+    if server.end() != Ended(0, b"done: 3 events, configuration 3\n", b""):
+        fail("another end of a server of the largest lab")
+
+
+def greatest(room: Path) -> None:
+    """All that is done with the largest lab."""
+    lab = room / "greatest.toml"
+    lab.write_text(document(), encoding="ascii")
+    if good(["check", str(lab)]) != b"ok: 256 nodes, 32640 links, 256 students\n":
+        fail("another size of the largest lab")
+    scripted(room, lab)
+    served(lab)

@@ -1,0 +1,122 @@
+"""A journal whose file takes so many bytes and no more: each byte may be the last.
+
+    python3 -B -m tests.program.halted
+
+The limit is that of the system on a file's size, so a write that passes it does a part, and the next one fails. What
+is answered is written by hand where the second line doesn't fit, and else follows from the whole run's replies.
+"""
+import resource
+import signal
+import subprocess
+from pathlib import Path
+
+from tests.common.preload import LIMIT, PROGRAM, TOP, Ended, built_in, fail, in_room
+
+JOURNAL = (TOP / "examples/whole-run.journal").read_bytes()
+HALT = b'{"refuse":"journal"}\n'
+GREETINGS = b"""1 {"do":"hello","key":"a-key","name":"ana"}
+2 {"do":"hello","key":"b-key","name":"ben"}
+3 {"do":"hello","key":"c-key","name":"cyd"}
+4 {"do":"hello","key":"chalk","name":"tess"}
+"""
+WELCOMES = b"""1 {"ok":"hello","who":"ana"}
+2 {"ok":"hello","who":"ben"}
+3 {"ok":"hello","who":"cyd"}
+4 {"ok":"hello","who":"tess"}
+"""
+
+# What is asked once the second move found no room, and after it: views and denials are answered as ever.
+ASKED = b"""1 {"at":0,"do":"move","node":1,"rule":"seduction"}
+2 {"at":0,"do":"move","node":2,"rule":"seduction"}
+2 {"do":"look","node":2}
+1 {"at":0,"do":"move","node":1,"rule":"seduction"}
+2 {"at":0,"do":"move","node":2,"rule":"seduction"}
+4 {"do":"close"}
+4 {"do":"release","node":1}
+4 {"do":"fault","m":true,"node":3,"p":null}
+4 {"a":1,"b":3,"do":"link"}
+4 {"a":1,"b":2,"do":"cut"}
+4 {"a":1,"b":3,"do":"cut"}
+3 {"do":"bye"}
+"""
+ANSWERED = b"""1 {"at":0,"node":1,"ok":"move","place":1,"rule":"seduction"}
+2 {"refuse":"journal"}
+2 {"at":0,"chosen":null,"m":false,"near":[{"m":false,"node":1,"p":null},{"m":false,"node":3,"p":null}],"node":2,"ok":"look","p":null,"rule":"seduction"}
+1 {"clause":3,"deny":"chosen","text":"this node is already chosen"}
+2 {"refuse":"journal"}
+4 {"refuse":"journal"}
+4 {"refuse":"journal"}
+4 {"refuse":"journal"}
+4 {"refuse":"journal"}
+4 {"refuse":"journal"}
+4 {"clause":3,"deny":"not-linked","text":"these nodes are not linked"}
+3 {"ok":"bye"}
+"""
+
+
+class Limited:
+    """Scripts over the built-in lab, whose journal's file has a limit."""
+
+    def __init__(self, room: Path) -> None:
+        self.lab, self.script, self.journal = built_in(room), room / "limited.script", room / "limited.journal"
+
+    def run(self, script: bytes, most: int) -> tuple[Ended, bytes]:
+        """How a script ends where the journal takes so many bytes, and the journal."""
+        self.script.write_bytes(script)
+        self.journal.unlink(missing_ok=True)
+
+        def limit() -> None:
+            """A write beyond the limit is an error then, and no signal."""
+            signal.signal(signal.SIGXFSZ, signal.SIG_IGN)
+            resource.setrlimit(resource.RLIMIT_FSIZE, (most, most))
+
+        words = [PROGRAM, "script", self.lab, self.script, self.journal]
+        done = subprocess.run(words, capture_output=True, env={}, timeout=LIMIT, check=False, preexec_fn=limit)
+        return Ended(done.returncode, done.stdout, done.stderr), self.journal.read_bytes()
+
+
+def first_part(script: bytes, replies: bytes) -> tuple[list[bytes], list[bytes]]:
+    """The lines of a script that make its events and those that only look, left out; with their replies."""
+    pairs = list(zip(script.splitlines(keepends=True), replies.splitlines(keepends=True)))
+    acts = [(line, reply) for line, reply in pairs if b'"place":' in reply or b'"hello"' in reply]
+    return [line for line, _ in acts], [reply for _, reply in acts]
+
+
+def is_refused(reply: bytes) -> bool:
+    """Whether a reply denies, or tells that the journal takes no line."""
+    return reply.endswith(HALT) or b'"deny":' in reply
+
+
+def fault_of(ended: Ended, most: int, replies: list[bytes]) -> str:
+    """What is wrong with a run of the whole acts where so many bytes of the journal are taken, if anything."""
+    if most >= len(JOURNAL):
+        return "" if ended == Ended(0, b"".join(replies), b"") else "it doesn't end well"
+    granted = 4 + JOURNAL[:most].count(b"\n")
+    found = ended.out.splitlines(keepends=True)
+    if (ended.status, ended.error) != (4, b"journal fault\n"):
+        return "another status or error line"
+    if found[:granted] != replies[:granted] or len(found) != len(replies):
+        return "another reply to an event whose line was taken"
+    if not found[granted].endswith(HALT) or not all(map(is_refused, found[granted:])):
+        return "an event whose line wasn't taken"
+    return ""
+
+
+def work(room: Path) -> str:
+    """Each byte the last, and what is refused after a halt."""
+    limited = Limited(room)
+    ended, journal = limited.run(GREETINGS + ASKED, JOURNAL.index(b"\n") + 1)
+    if ended != Ended(4, WELCOMES + ANSWERED, b"journal fault\n") or journal != b"1 0 grant ana 1 seduction\n":
+        fail(f"another end of a run whose second line isn't taken: {ended} {journal!r}")
+    script, out = (TOP / f"examples/whole-run.{kind}" for kind in ("script", "out"))
+    acts, replies = first_part(script.read_bytes(), out.read_bytes())
+    for most in range(len(JOURNAL) + 2):
+        ended, journal = limited.run(b"".join(acts), most)
+        fault = fault_of(ended, most, replies) or ("" if journal == JOURNAL[:most] else f"another journal {journal!r}")
+        if fault:
+            fail(f"where {most} bytes of the journal are taken: {fault}: {ended}")
+    return f"{len(JOURNAL) + 2} journals that were cut off have each byte that was taken, and no event behind it"
+
+
+if __name__ == "__main__":
+    in_room(work)

@@ -1,0 +1,172 @@
+"""Scripts with lines that are none: what is answered before them, and which line is told.
+
+    python3 -B -m tests.program.lines
+
+The rows are written by hand. Then pairs of scripts whose lines say the same in two ways, as a plain object and with
+an array that nothing names, are answered alike.
+"""
+from pathlib import Path
+from random import Random
+
+from tests.common.preload import Ended, built_in, fail, in_room, run
+
+BYE, LEFT = '4 {"do":"bye"}\n', '4 {"ok":"bye"}\n'
+MALFORMED = '1 {"refuse":"malformed"}\n'
+UNKNOWN = '1 {"clause":2,"deny":"unknown","text":"name and key do not match"}\n'
+
+
+def long_bye(length: int, end: str) -> str:
+    """A bye on connection 1 whose request has so many bytes."""
+    return "1 " + '{"do":"bye"}'.ljust(length) + end
+
+
+# A script over the built-in lab, what is answered, and the number of the line that is none.
+ROWS = [
+    ("", "", None),
+    ("1 \n", MALFORMED, None),
+    ('1  {"do":"dance"}\n', MALFORMED, None),
+    (BYE, LEFT, None),
+    # Bytes after the last newline are no line.
+    (BYE + BYE[:-1], LEFT, None),
+    ("0", "", None),
+    ('0 {"do":"bye"}\n', "", 1),
+    ('5 {"do":"bye"}\n', "", 1),
+    ('01 {"do":"bye"}\n', "", 1),
+    ('{"do":"bye"}\n', "", 1),
+    (' 1 {"do":"bye"}\n', "", 1),
+    ('1{"do":"bye"}\n', "", 1),
+    ("1\n", "", 1),
+    ("\n", "", 1),
+    (BYE + "\n" + BYE, LEFT, 2),
+    (long_bye(4096, "\n"), '1 {"ok":"bye"}\n', None),
+    (long_bye(4097, "\n"), "", 1),
+    (long_bye(4098, "\n"), "", 1),
+    # 4099 bytes without a newline may stand at the end, and no more.
+    (long_bye(4097, ""), "", None),
+    (long_bye(4098, ""), "", 1),
+    ('1 {"do":"hello","key":"' + "k" * 2000 + '","name":"' + "n" * 2000 + '"}\n', UNKNOWN, None),
+    ('1 {"do":"hello","key":"' + "k" * 4001 + '","name":""}\n', UNKNOWN, None),
+]
+
+
+def on_each(connections: int, text: str) -> str:
+    """The text on each connection up to a number."""
+    return "".join(f"{connection} {text}\n" for connection in range(1, connections + 1))
+
+
+HELLO, WELCOME = '{"do":"hello","key":"chalk","name":"tess"}', '{"ok":"hello","who":"tess"}'
+# The same over the built-in lab with 16 connections.
+SIXTEEN = [
+    (on_each(16, HELLO), on_each(16, WELCOME), None),
+    (on_each(17, HELLO), on_each(16, WELCOME), 17),
+]
+
+
+def wants(room: Path, lab: Path, rows: list[tuple[str, str, int | None]]) -> None:
+    """Wants these answers and ends."""
+    script = room / "lines.script"
+    for text, answers, bad in rows:
+        script.write_text(text, encoding="ascii")
+        found = run(["script", str(lab), str(script)], b"", {})
+        end = (0, "") if bad is None else (2, f"script: line {bad}: bad line\n")
+        if found != Ended(end[0], answers.encode(), end[1].encode()):
+            fail(f"another end of {text[:100]!r}: {found}")
+
+
+# Members of requests, and keys, values and bytes that are put beside and into them.
+REQUESTS = [
+    '"do":"see","node":2',
+    '"do":"look","node":18446744073709551615',
+    '"do":"look","node":3',
+    '"at":0,"do":"move","node":1,"rule":"update"',
+    '"at":0,"do":"move","node":1,"rule":"seduction"',
+    '"at":1,"do":"move","node":3,"rule":"marriage","with":2',
+    '"do":"fault","m":false,"node":1,"p":null',
+    '"do":"fault","m":true,"node":1,"p":2',
+    '"a":2,"b":1,"do":"link"',
+    '"a":1,"b":3,"do":"link"',
+    '"do":"hello","key":"a-key","name":"ana"',
+    '"do":"hello","key":"chalk","name":"tess"',
+    '"do":"close"',
+    '"do":"report"',
+    ' "d\\u006f" : "cut" , "a":1,"b":2',
+]
+KEYS = [
+    '"do":', '"d\\u006f":', '"node":', ' "node" : ', '"n\\u006fde":', '"at":', '"p":', '"m":', '"b":', '"rule":',
+    '"name":', '"colour":', '"\\ud800":',
+]
+VALUES = [
+    "0", "1", "2", "7", "-0", "-1", "1.0", "1e0", "01", "1e999", "18446744073709551615", "18446744073709551616", "null",
+    "true", "false", '"see"', '"r\\u0065port"', '"bye"', '"seduction"', '"\\ud83d\\ude00"', '"\\ud800"', "[]",
+    '{"do":"bye"}', "[{},[1]]",
+]
+HURTS = b'{}[]":,\\ \t0-.eEn\x00\x1f\x7f\xc3\xff'
+LINES = 4000
+PART = 40
+
+
+def others(rng: Random) -> str:
+    """None, one or two members."""
+    return "".join(rng.choice(KEYS) + rng.choice(VALUES) + "," for _ in range(rng.randrange(3)))
+
+
+def drawn_line(rng: Random) -> bytes:
+    """A request's members with others before or after them; one line of three has a byte replaced."""
+    after = f',{others(rng)}"x":0' if rng.random() < 0.5 else ""
+    line = bytearray(f"{{{others(rng)}{rng.choice(REQUESTS)}{after}}}".encode())
+    place = rng.randrange(3 * len(line))
+    if place < len(line):
+        line[place] = rng.choice(HURTS)
+    return bytes(line)
+
+
+def with_array(line: bytes) -> bytes:
+    """The line with an array as its first member, where it has a brace."""
+    return line.replace(b"{", b'{"":[],', 1)
+
+
+def answered(room: Path, lab: Path, lines: list[bytes]) -> tuple[bytes, bytes]:
+    """The replies to lines of connections, and the journal."""
+    script, journal = room / "lines.script", room / "lines.journal"
+    script.write_bytes(b"".join(line + b"\n" for line in lines))
+    found = run(["script", str(lab), str(script), str(journal)], b"", {})
+    if found.status != 0 or found.error:
+        fail(f"another end of drawn lines: {found}")
+    return found.out, journal.read_bytes()
+
+
+def either_way(room: Path, lab: Path) -> tuple[int, int]:
+    """How many drawn lines are requests, and how many events they make; each is answered the same either way."""
+    rng = Random(5)
+    requests = events = 0
+    greetings = [b'1 {"do":"hello","key":"chalk","name":"tess"}', b'2 {"do":"hello","key":"a-key","name":"ana"}']
+    for _ in range(LINES // PART):
+        drawn = [(rng.choice([b"1", b"1", b"2", b"3", b"4"]), drawn_line(rng)) for _ in range(PART)]
+        plainly = answered(room, lab, greetings + [b"%s %s" % pair for pair in drawn])
+        by_value = answered(room, lab, greetings + [b"%s %s" % (one, with_array(line)) for one, line in drawn])
+        if plainly != by_value:
+            pairs = zip(plainly[0].splitlines(), by_value[0].splitlines(), greetings + [line for _, line in drawn])
+            other = next((it for it in pairs if it[0] != it[1]), "the journal")
+            fail(f"a line is answered otherwise with an array: {other}")
+        requests += sum(b"malformed" not in reply for reply in plainly[0].splitlines()[len(greetings) :])
+        events += plainly[1].count(b"\n")
+    return requests, events
+
+
+def work(room: Path) -> str:
+    """All rows, and all drawn lines."""
+    lab = built_in(room)
+    wants(room, lab, ROWS)
+    sixteen = room / "sixteen.toml"
+    sixteen.write_text(lab.read_text(encoding="ascii").replace("sessions = 4", "sessions = 16"), encoding="ascii")
+    wants(room, sixteen, SIXTEEN)
+    requests, events = either_way(room, lab)
+    # So that neither way is tried on malformed lines alone, nor on lines without an effect.
+    if not (500 < requests < 3500 and 50 < events):
+        fail(f"{requests} of {LINES} drawn lines are requests, with {events} events")
+    ended = len(ROWS) + len(SIXTEEN)
+    return f"{ended} scripts end where they should, and {LINES} drawn lines are read alike either way"
+
+
+if __name__ == "__main__":
+    in_room(work)

@@ -1,0 +1,169 @@
+"""Serves clients that meet, race, go away or end in a line; what each is answered was written by hand.
+
+    python3 -B -m tests.program.serving
+"""
+import socket
+import time
+from pathlib import Path
+
+from tests.common.preload import LIMIT, TOP, Client, Ended, Server, built_in, fail, in_room
+
+HELLO_ANA = b'{"do":"hello","key":"a-key","name":"ana"}\n'
+HELLO_BEN = b'{"do":"hello","key":"b-key","name":"ben"}\n'
+HELLO_TESS = b'{"do":"hello","key":"chalk","name":"tess"}\n'
+MOVE = b'{"at":%d,"do":"move","node":1,"rule":"seduction"}\n'
+CLOSE = b'{"do":"close"}\n'
+FAULT = b'{"do":"fault","m":false,"node":1,"p":null}\n'
+GRANTED = b'{"at":%d,"node":1,"ok":"move","place":%d,"rule":"seduction"}\n'
+CLOSED = b'{"at":%d,"moved":[1],"ok":"close","place":%d}\n'
+FAULTED = b'{"at":%d,"dropped":0,"node":1,"ok":"fault","place":%d}\n'
+CHOSEN = b'{"clause":3,"deny":"chosen","text":"this node is already chosen"}\n'
+EMPTY = b'{"clause":2,"deny":"empty","text":"no node is chosen"}\n'
+ROUNDS = 300
+
+
+def lab_of(room: Path, old: str, new: str) -> Path:
+    """The built-in lab with one text in the place of another."""
+    lab = room / "changed.toml"
+    lab.write_text(built_in(room).read_text(encoding="utf-8").replace(old, new, 1), encoding="utf-8")
+    return lab
+
+
+def serving(lab: Path, connections: int, *journal: str) -> Server:
+    """A server that listens."""
+    server = Server(lambda port: ["serve", str(lab), str(port), str(connections), *journal], {})
+    if not server.listens:
+        fail(f"serving: it doesn't listen: {server.end()}")
+    return server
+
+
+def ends(server: Server, done: bytes) -> None:
+    """Wants that a server ends well, with that last line."""
+    ended = server.end()
+    if ended != Ended(0, done, b""):
+        fail(f"serving: another end: {ended}, not {done!r}")
+
+
+def opened(server: Server) -> socket.socket:
+    """A connection."""
+    return socket.create_connection(("127.0.0.1", server.port), LIMIT)
+
+
+def whole(it: socket.socket) -> bytes:
+    """All that a connection is sent until its end."""
+    with it.makefile("rb") as replies:
+        return replies.read()
+
+
+def in_a_line(room: Path) -> None:
+    """A line that isn't ended is not answered, and ends its own connection alone."""
+    server = serving(built_in(room), 4)
+    texts = [b'{"do":"hel', HELLO_ANA + MOVE % 0, b"", b'{"do":"bye"}\n{"do":"bye"}']
+    wanted = [b"", b'{"ok":"hello","who":"ana"}\n' + GRANTED % (0, 1), b"", b'{"ok":"bye"}\n']
+    clients = [opened(server) for _ in texts]
+    for client, text in zip(clients, texts):
+        client.sendall(text)
+        client.shutdown(socket.SHUT_WR)
+    found = [whole(client) for client in clients]
+    for client in clients:
+        client.close()
+    if found != wanted:
+        fail(f"serving: other replies to lines without an end: {found}")
+    ends(server, b"done: 1 events, configuration 0\n")
+
+
+def gone(room: Path) -> None:
+    """A client that is gone before it is answered leaves its event, and another to be served to its end."""
+    server = serving(built_in(room), 2)
+    with opened(server) as client:
+        client.sendall(HELLO_ANA + MOVE % 0)
+    teacher = Client(server.port)
+    if teacher.ask(HELLO_TESS) != b'{"ok":"hello","who":"tess"}\n':
+        fail("serving: another reply beside a client that is gone")
+    while (reply := teacher.ask(CLOSE)) == EMPTY:
+        time.sleep(0.01)
+    if reply != CLOSED % (1, 2):
+        fail(f"serving: the move of a client that is gone doesn't stand: {reply!r}")
+    teacher.close()
+    ends(server, b"done: 2 events, configuration 1\n")
+
+
+def sixteen(room: Path) -> None:
+    """Sixteen of one name are in a line all at once, and each is answered as if it were alone."""
+    server = serving(lab_of(room, "sessions = 4", "sessions = 16"), 16)
+    lines, replies = (
+        b"".join(line[2:] for line in (TOP / f"examples/first-look.{end}").read_bytes().splitlines(keepends=True))
+        for end in ("script", "out")
+    )
+    clients = [opened(server) for _ in range(16)]
+    for client in clients:
+        client.sendall(lines[:10])
+    threads = Path(f"/proc/{server.process.pid}/task")
+    begun = time.monotonic()
+    while len(list(threads.iterdir())) != 17:
+        if time.monotonic() - begun > LIMIT:
+            fail("serving: sixteen clients haven't a thread each")
+        time.sleep(0.01)
+    for client in clients:
+        client.sendall(lines[10:])
+        client.shutdown(socket.SHUT_WR)
+    for client in clients:
+        if whole(client) != replies:
+            fail("serving: one of sixteen is answered otherwise")
+        client.close()
+    ends(server, b"done: 0 events, configuration 0\n")
+
+
+def won(one: Client, two: Client, line: bytes, granted: bytes, denied: bytes) -> int:
+    """Sends a line on two connections at once, and wants that one of them is granted; answers which."""
+    for client in (one, two):
+        assert client.open is not None
+        client.open.sendall(line)
+    found = [client.replies.readline() for client in (one, two)]
+    if sorted(found) != sorted([granted, denied]):
+        fail(f"serving: a race is told {found}, not {granted!r} and {denied!r}")
+    return found.index(granted)
+
+
+def races(room: Path) -> None:
+    """Of two owners one is granted a node's move, and the journal names that one; of two closes one applies it."""
+    journal = room / "raced.journal"
+    lab = lab_of(room, 'owner = "ana"', 'owners = ["ana", "ben"]')
+    server = serving(lab_of_more(lab), 4, str(journal))
+    clients = [Client(server.port) for _ in range(4)]
+    for client, line in zip(clients, (HELLO_ANA, HELLO_BEN, HELLO_TESS, HELLO_TESS)):
+        client.ask(line)
+    ana, ben, tess, other = clients
+    lines = []
+    for turn in range(ROUNDS):
+        number, place = 2 * turn, 3 * turn
+        pairs = ((ana, ben), (tess, other)) if turn % 2 else ((ben, ana), (other, tess))
+        winner = won(*pairs[0], MOVE % number, GRANTED % (number, place + 1), CHOSEN)
+        won(*pairs[1], CLOSE, CLOSED % (number + 1, place + 2), EMPTY)
+        if tess.ask(FAULT) != FAULTED % (number + 2, place + 3):
+            fail("serving: another reply to a fault after a race")
+        name = "ana" if pairs[0][winner] is ana else "ben"
+        lines += [f"{place + 1} {number} grant {name} 1 seduction", f"{place + 2} {number} close",
+                  f"{place + 3} {number + 1} fault 1 - false"]
+    for client in clients:
+        client.close()
+    ends(server, b"done: %d events, configuration %d\n" % (3 * ROUNDS, 2 * ROUNDS))
+    if journal.read_text(encoding="ascii").splitlines() != lines:
+        fail("serving: another journal of races")
+
+
+def lab_of_more(lab: Path) -> Path:
+    """The same lab with more events."""
+    lab.write_text(lab.read_text(encoding="utf-8").replace("events = 100\n", "events = 10000\n"), encoding="utf-8")
+    return lab
+
+
+def work(room: Path) -> str:
+    """All servers."""
+    for case in (in_a_line, gone, sixteen, races):
+        case(room)
+    return f"servers of clients that meet, race and go away: 4, {2 * ROUNDS} races"
+
+
+if __name__ == "__main__":
+    in_room(work)

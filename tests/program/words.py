@@ -1,0 +1,213 @@
+"""Calls the program with words that it hasn't, and with files that can't be read, and counts its writes.
+
+    python3 -B -m tests.program.words
+"""
+import shutil
+import socket
+import subprocess
+from pathlib import Path
+
+from tests.common.preload import LIMIT, PROGRAM, TOP, Ended, built_in, fail, in_room
+
+# Command lines after the program's name; two spaces, or one at an end, have an empty word beside them.
+NOT_UNDERSTOOD = """\
+a
+help
+help check
+help script
+help help
+version
+-
+--
+---
+-h
+-V
+-v
+-x
+--help
+--version
+--check
+--lab
+-- check a
+- check a
+check
+check a b
+check a b c
+check -
+check --
+check -- a
+check -- -a
+check a --
+check a -
+check -a
+check -1
+check -h
+check --help
+check a --help
+check a -h
+check --version
+check -V
+check --lab a
+check --lab=a
+Check a
+CHECK a
+chec a
+c a
+checks a
+check=a
+audit
+audit a
+audit a b c
+audit a -
+script
+script a
+script a b -
+script a b c d
+script a -
+script - b
+script -- a b
+script a b --
+script a --script b
+Script a b
+check a script a b
+serve
+serve a
+serve a 1
+serve a 1 1 b c
+serve a 1 1 -
+serve a -1 1
+serve a 0 1
+serve a 65536 1
+serve a 65537 1
+serve a 99999999999999999999 1
+serve a 01 1
+serve a +1 1
+serve a 1. 1
+serve a x 1
+serve a  1 1
+serve a 1 0
+serve a 1 17
+serve a 1 256
+serve a 1 257
+serve a 1 01
+serve a 1 +1
+serve a 1 x
+Serve a 1 1
+"""
+WITH_EMPTY_WORDS = [" ", "serve a 1 "]
+SIZE = b"ok: 3 nodes, 2 links, 3 students\n"
+NO_LAB = Ended(2, b"", b"lab: events is missing\n")
+UNREAD_LAB = Ended(4, b"", b"read fault: lab\n")
+UNREAD_SCRIPT = Ended(4, b"", b"read fault: script\n")
+UNREAD_JOURNAL = Ended(4, b"", b"read fault: journal\n")
+BROKEN_JOURNAL = Ended(4, b"", b"journal fault\n")
+# Command lines in a folder where the files `a`, `check`, `help`, `version` and `7000` are the built-in lab, `b` is a
+# script, `hash` has one byte and `empty` none; each form is taken for what it is, which shows at the files.
+TAKEN = [
+    ("check a", Ended(0, SIZE, b"")),
+    ("check ./a", Ended(0, SIZE, b"")),
+    ("check check", Ended(0, SIZE, b"")),
+    ("check help", Ended(0, SIZE, b"")),
+    ("check ", UNREAD_LAB),
+    ("check .", UNREAD_LAB),
+    ("check no-such-folder/no-such-file", UNREAD_LAB),
+    ("check hash", NO_LAB),
+    ("check empty", NO_LAB),
+    ("script a b", Ended(0, b'1 {"ok":"bye"}\n', b"")),
+    ("script a b c", Ended(0, b'1 {"ok":"bye"}\n', b"")),
+    ("script a b ", BROKEN_JOURNAL),
+    ("script a empty", Ended(0, b"", b"")),
+    ("script a a", Ended(2, b"", b"script: line 1: bad line\n")),
+    ("script a hash", Ended(0, b"", b"")),
+    ("script help version", Ended(2, b"", b"script: line 1: bad line\n")),
+    ("script a ", UNREAD_SCRIPT),
+    ("script a .", UNREAD_SCRIPT),
+    ("script a no-such-folder/no-such-file", UNREAD_SCRIPT),
+    ("script b b", Ended(2, b"", b"lab: not a TOML document\n")),
+    ("audit a c", Ended(0, b"ok: 0 events, configuration 0, not stable\n", b"")),
+    ("audit a ", UNREAD_JOURNAL),
+    ("serve  1 1", UNREAD_LAB),
+    ("serve a 65535 5", Ended(2, b"", b"serve: more connections than sessions\n")),
+    ("serve a 65535 16 b", Ended(2, b"", b"serve: more connections than sessions\n")),
+    ("serve 7000 7000 4 ", BROKEN_JOURNAL),
+    ("serve a 1 1 .", BROKEN_JOURNAL),
+]
+
+
+def called(line: str, folder: Path) -> Ended:
+    """How a call with the words of a line ends in a folder."""
+    words = [PROGRAM.resolve(), *line.split(" ")]
+    done = subprocess.run(
+        words, stdin=subprocess.DEVNULL, capture_output=True, cwd=folder, timeout=LIMIT, check=False
+    )
+    return Ended(done.returncode, done.stdout, done.stderr)
+
+
+def wants(line: str, folder: Path, wanted: Ended) -> None:
+    """Wants a call to end so."""
+    ended = called(line, folder)
+    if ended != wanted:
+        fail(f"{ended}, not {wanted}: {line!r}")
+
+
+def words_of(folder: Path) -> int:
+    """Words that aren't understood, and forms that are; answers how many there were."""
+    for name in ("a", "check", "help", "version", "7000"):
+        shutil.copy(built_in(folder), folder / name)
+    (folder / "b").write_text('1 {"do":"bye"}\n', encoding="ascii")
+    (folder / "hash").write_text("#", encoding="ascii")
+    (folder / "empty").write_text("", encoding="ascii")
+    lines = NOT_UNDERSTOOD.splitlines() + WITH_EMPTY_WORDS
+    for line in lines:
+        wants(line, folder, Ended(1, b"", b"command line: not understood\n"))
+    for line, wanted in TAKEN:
+        wants(line, folder, wanted)
+    return len(lines) + len(TAKEN)
+
+
+def writes(words: list[str], given: bytes) -> list[bytes]:
+    """What each write of a call to its standard output has, which is a socket that keeps them apart."""
+    ours, theirs = socket.socketpair(socket.AF_UNIX, socket.SOCK_SEQPACKET)
+    with ours, theirs:
+        ours.settimeout(LIMIT)
+        script = subprocess.Popen([PROGRAM, *words], stdin=subprocess.PIPE, stdout=theirs, stderr=subprocess.DEVNULL)
+        theirs.close()
+        assert script.stdin is not None
+        script.stdin.write(given)
+        script.stdin.close()
+        found = []
+        while packet := ours.recv(1 << 20):
+            found.append(packet)
+        script.wait(LIMIT)
+        return found
+
+
+def in_one_write(folder: Path) -> int:
+    """The replies to lines that come in one read go out in one write, those before a bad line too. A read has at most
+    4096 bytes, so 273 of these byes. Answers how many calls there were."""
+    bye, left = b'1 {"do":"bye"}\n', b'1 {"ok":"bye"}\n'
+    look, told = ((TOP / f"examples/first-look.{end}").read_bytes() for end in ("script", "out"))
+    bad = bye + b'5 {"do":"bye"}\n'
+    many = folder / "many.script"
+    many.write_bytes(bye * 1000)
+    calls: list[tuple[list[str], bytes, list[bytes]]] = [
+        ([], b"", []),
+        ([], look, [told]),
+        ([], bad, [left]),
+        (["check", str(built_in(folder))], b"", [SIZE]),
+        (["script", str(built_in(folder)), str(many)], b"", [left * 273, left * 273, left * 273, left * 181]),
+    ]
+    for words, given, wanted in calls:
+        found = writes(words, given)
+        if found != wanted:
+            fail(f"{len(found)} writes, not {len(wanted)} or not those: {words}: {found[:1]!r:.200}")
+    return len(calls)
+
+
+def work(room: Path) -> str:
+    """All calls."""
+    return f"words: {words_of(room)} as wanted; outputs by write: {in_one_write(room)}"
+
+
+if __name__ == "__main__":
+    in_room(work)

@@ -1,0 +1,1 @@
+"""Drawn runs of the program beside the plain model."""

@@ -1,0 +1,156 @@
+"""Plays drawn scripts over drawn labs by the program and by the plain model, and compares each byte.
+
+    python3 -B -m tests.random [SEED]
+
+Replies and journal, what the audit says of that journal, and of it with a byte changed, are those of the
+model; so are a thousand events over large meshes, told after each; and runs under three daemons end in a
+maximal matching, within the bounds on moves and rounds. With a number, only that seed's run is played, and
+its files are left in the working folder.
+"""
+import re
+import sys
+from collections import Counter
+from pathlib import Path
+from random import Random
+
+from tests.common.preload import TOP, fail, in_room
+from tests.model import Lab, audit, play, read_lab
+from tests.model.policy import DENIALS
+from tests.random import ends
+from tests.random.files import Files, first_other, said
+from tests.random.labs import drawn_lab
+from tests.random.meshes import mesh, mesh_script
+from tests.random.scripts import drawn_script
+
+SEEDS = range(1, 501)
+LINES = 80
+HURTS = 3
+WORLDS = range(1, 301)
+MESHES = (64, 256)
+EVENTS = 1000
+REPLACEMENTS = b" 03-eA\n\xff"
+GRANTS = ("move", "close", "fault", "link", "cut", "release")
+WORDS = [*DENIALS, *GRANTS, "hello", "bye", "see", "look", "report", "malformed", "full"]
+# So many reports tell pairs, and as many open links.
+REPORTS = 300
+TOLD = re.compile(rb'"(?:ok|deny|refuse)":"([a-z-]+)"')
+LISTED = re.compile(rb'"(open|pairs)":\[\[')
+
+
+def hurt(rng: Random, journal: bytes) -> bytes:
+    """A journal with a byte changed, left out or put twice."""
+    at = rng.randrange(len(journal))
+    digits = b"0123456789"
+    byte = bytes([rng.choice(digits if journal[at] in digits else b" \n-0aestz\r\xff")])
+    return journal[:at] + rng.choice([byte, byte, byte, b"", journal[at : at + 1] * 2]) + journal[at + 1 :]
+
+
+def audits_of(rng: Random, files: Files, lab: Lab, journal: bytes) -> str:
+    """What is wrong with the audits of a journal, if anything."""
+    texts = [journal] + [hurt(rng, journal) for _ in range(HURTS if journal else 0)]
+    for text in texts:
+        wanted = said(audit(lab, text))
+        found = files.audited(text)
+        if found != wanted:
+            return f"another audit of {text!r}: {found}, not {wanted}"
+    return ""
+
+
+def compare(room: Path, seed: int) -> tuple[str, Counter[bytes]]:
+    """What is wrong with the run of a seed, if anything, and what its replies tell."""
+    rng = Random(seed)
+    document = drawn_lab(rng)
+    lab = read_lab(document.encode())
+    script = drawn_script(rng, lab, LINES)
+    files = Files(room, document, script)
+    model = play(lab, script)
+    bad = b"" if model.bad_line is None else b"script: line %d: bad line\n" % model.bad_line
+    found = files.played()
+    told = Counter(TOLD.findall(found.out) + LISTED.findall(found.out))
+    if found.out != model.replies:
+        return f"another output: {first_other(found.out, model.replies)}", told
+    if (found.status, found.error) != (2 if bad else 0, bad):
+        return f"another end: {found.status} {found.error!r}, not {bad!r}", told
+    if files.journal.read_bytes() != model.journal:
+        return f"another journal: {first_other(files.journal.read_bytes(), model.journal)}", told
+    return audits_of(rng, files, lab, model.journal), told
+
+
+def scripts(room: Path) -> None:
+    """All drawn scripts, in which each word of a reply is told."""
+    told: Counter[bytes] = Counter()
+    for seed in SEEDS:
+        fault, words = compare(room, seed)
+        if fault:
+            fail(f"seed {seed}: {fault}")
+        told += words
+    missing = [word for word in WORDS if not told[word.encode()]]
+    if missing:
+        fail(f"no drawn run is told {missing}")
+    if min(told[b"pairs"], told[b"open"]) < REPORTS:
+        fail(f"only {told[b'pairs']} reports have pairs, and {told[b'open']} open links")
+
+
+def runs_to_an_end(room: Path) -> int:
+    """All drawn runs to an end; how many had a move."""
+    moving = 0
+    for seed in WORLDS:
+        for daemon in ends.DAEMONS:
+            rng = Random(seed)
+            document = ends.drawn_lab(rng, 1 + seed % 40)
+            course = ends.course(rng, document, daemon)
+            found = Files(room, document, course.script.encode()).played().out.decode()
+            if found != course.replies:
+                fail(f"world {seed} under {daemon.__name__}: {first_other(found.encode(), course.replies.encode())}")
+            fault = course.fault(found)
+            if fault:
+                fail(f"world {seed} under {daemon.__name__}: {fault}")
+            moving += '"moved":' in found
+    return moving
+
+
+def meshes(room: Path) -> None:
+    """A thousand events of each kind over a mesh, with a report and looks after each."""
+    for count in MESHES:
+        document = mesh(count)
+        script, replies = mesh_script(Random(count), read_lab(document.encode()), EVENTS)
+        found = Files(room, document, script).played()
+        if found.out != replies:
+            fail(f"a mesh of {count} nodes: {first_other(found.out, replies)}")
+        told = Counter(TOLD.findall(found.out))
+        if sum(told[word.encode()] for word in GRANTS) != EVENTS or not all(told[word.encode()] for word in GRANTS):
+            fail(f"a mesh of {count} nodes: not {EVENTS} events of all kinds")
+
+
+def replaced(room: Path) -> int:
+    """The journal of docs/JOURNAL.md with each byte replaced by each of some others; how many audits that were."""
+    document = (TOP / "examples/built-in.toml").read_text(encoding="ascii")
+    lab = read_lab(document.encode())
+    files = Files(room, document, b"")
+    journal = (TOP / "examples/whole-run.journal").read_bytes()
+    for at in range(len(journal)):
+        for byte in REPLACEMENTS:
+            text = journal[:at] + bytes([byte]) + journal[at + 1 :]
+            wanted = said(audit(lab, text))
+            found = files.audited(text)
+            if found != wanted:
+                fail(f"another audit with {bytes([byte])!r} in place {at}: {found}, not {wanted}")
+    return len(journal) * len(REPLACEMENTS)
+
+
+def work(room: Path) -> str:
+    """All comparisons."""
+    scripts(room)
+    meshes(room)
+    audits = replaced(room)
+    count = len(WORLDS) * len(ends.DAEMONS)
+    moving = runs_to_an_end(room)
+    if moving < 0.9 * count:
+        fail(f"only {moving} of {count} runs to an end had a move")
+    return f"{len(SEEDS)} drawn scripts, {audits} audits and {count} drawn runs to an end, as the model has them"
+
+
+if __name__ == "__main__":
+    if len(sys.argv) > 1:
+        sys.exit(compare(Path.cwd(), int(sys.argv[1]))[0] or None)
+    in_room(work)

@@ -1,0 +1,149 @@
+"""Runs to where no node is privileged, under three daemons, from worlds that are drawn."""
+import json
+from collections.abc import Callable
+from dataclasses import dataclass
+from random import Random
+from typing import Any
+
+from tests.model import Lab, Model, read_lab
+from tests.model.world import Move, World
+from tests.random.labs import Link, Registers, complete, registers
+
+Daemon = Callable[[Random, list[int]], list[int]]
+HELLOS = ['{"do":"hello","key":"s-key","name":"student"}', '{"do":"hello","key":"t-key","name":"teacher"}']
+PEOPLE = """teacher = { name = "teacher", key = "t-key" }
+student = [{ name = "student", key = "s-key" }]
+events = 100000
+sessions = 2
+"""
+
+
+def single(rng: Random, nodes: list[int]) -> list[int]:
+    """One privileged node moves."""
+    return [rng.choice(nodes)]
+
+
+def full(rng: Random, nodes: list[int]) -> list[int]:
+    """All privileged nodes move."""
+    return nodes
+
+
+def drawn(rng: Random, nodes: list[int]) -> list[int]:
+    """A set of privileged nodes moves, which is drawn and not empty."""
+    some = [i for i in nodes if rng.random() < 0.5]
+    return some or single(rng, nodes)
+
+
+DAEMONS: list[Daemon] = [single, full, drawn]
+
+
+def lab_of(links: list[Link], found: Registers) -> str:
+    """The file of a lab with these links and registers, all nodes of one student."""
+    text = f"{PEOPLE}links = {json.dumps(links)}\nnode = [\n"
+    for i, p in found.p.items():
+        pointer = "" if p is None else f", p = {p}"
+        text += f'  {{ id = {i}, owner = "student", m = {json.dumps(found.m[i])}{pointer} }},\n'
+    return text + "]\n"
+
+
+def drawn_lab(rng: Random, count: int) -> str:
+    """A lab of so many nodes, with links and registers that are drawn; some nodes point at none and hold
+    themselves married."""
+    nodes = list(range(1, count + 1))
+    every = complete(rng, nodes)
+    links = rng.sample(every, min(len(every), rng.randint(0, 2 * count)))
+    found = registers(rng, nodes, links)
+    for i in nodes:
+        if rng.random() < 0.25:
+            found.p[i], found.m[i] = None, True
+    return lab_of(links, found)
+
+
+@dataclass
+class Course:
+    """A run's script and replies, the links and nodes of its network, and the rounds that its steps took."""
+
+    script: str
+    replies: str
+    nodes: int
+    links: int
+    rounds: int
+
+    def moves(self, replies: list[dict[str, Any]]) -> int:
+        """How many moves the closes applied, as these replies tell."""
+        return sum(len(reply["moved"]) for reply in replies if reply.get("ok") == "close")
+
+    def fault(self, text: str) -> str:
+        """What is wrong with the end of a run with these replies, if anything."""
+        replies = [json.loads(line.split(" ", 1)[1]) for line in text.splitlines()]
+        last = replies[-1]
+        if not last["stable"] or last["privileged"] or last["open"]:
+            return "it doesn't end in a maximal matching where no node is privileged"
+        if 2 * len(last["pairs"]) + len(last["free"]) != self.nodes:
+            return "its end tells another number of nodes"
+        if self.moves(replies) > 3 * self.nodes + 2 * self.links:
+            return "it takes more moves than three for each node and two for each link"
+        if self.rounds > 2 * self.nodes - self.nodes % 2:
+            return "it takes more rounds than two for each node, one less where their number is odd"
+        return ""
+
+
+class Runner:
+    """A run in the making: moves are asked for and steps closed until no node is privileged."""
+
+    def __init__(self, rng: Random, lab: Lab, daemon: Daemon) -> None:
+        self.rng, self.daemon = rng, daemon
+        self.model = Model(lab)
+        self.script: list[str] = []
+        self.replies: list[str] = []
+        self.rounds = 0
+
+    def ask(self, connection: int, line: str) -> None:
+        """A line, and what the model answers."""
+        self.script.append(f"{connection} {line}\n")
+        self.replies.append(f"{connection} {self.model.answer(connection, line.encode())}\n")
+
+    def move(self, i: int, move: Move) -> None:
+        """Asks for a move."""
+        asked = {"do": "move", "node": i, "rule": move.rule, "at": self.model.world.number}
+        if move.rule == "marriage":
+            asked["with"] = move.partner
+        self.ask(1, json.dumps(asked))
+
+    def run(self, steps: int) -> None:
+        """Lets the daemon choose until no node is privileged, or so many steps were taken.
+
+        A round ends when each node that was privileged at its beginning has moved, or wasn't privileged in between.
+        """
+        moves = moves_of(self.model.world)
+        waiting = set(moves)
+        while moves and steps > 0:
+            chosen = self.daemon(self.rng, list(moves))
+            for i in chosen:
+                self.move(i, self.rng.choice(moves[i]))
+            self.ask(2, '{"do":"close"}')
+            moves = moves_of(self.model.world)
+            waiting = (waiting - set(chosen)) & set(moves)
+            if not waiting:
+                self.rounds += 1
+                waiting = set(moves)
+            steps -= 1
+
+
+def moves_of(world: World) -> dict[int, list[Move]]:
+    """The privileged nodes, each with the moves whose guard holds there."""
+    found = {i: world.moves(i) for i in world.nodes()}
+    return {i: moves for i, moves in found.items() if moves}
+
+
+def course(rng: Random, document: str, daemon: Daemon) -> Course:
+    """A run over a lab under a daemon."""
+    lab = read_lab(document.encode())
+    runner = Runner(rng, lab, daemon)
+    links = sum(len(near) for near in lab.world.links.values()) // 2
+    nodes = len(lab.world.links)
+    for connection, line in enumerate(HELLOS, 1):
+        runner.ask(connection, line)
+    runner.run(3 * nodes + 2 * links + 1)
+    runner.ask(2, '{"do":"report"}')
+    return Course("".join(runner.script), "".join(runner.replies), nodes, links, runner.rounds)

@@ -1,0 +1,102 @@
+"""Runs over large meshes, whose events are drawn and always granted, with what the teacher is told after each."""
+import json
+from random import Random
+from typing import Any, Optional
+
+from tests.model import Lab, Model
+from tests.model.world import Move
+
+Asked = dict[str, Any]
+PEOPLE = """teacher = { name = "teacher", key = "t-key" }
+student = [{ name = "student", key = "s-key" }]
+sessions = 2
+events = 2000
+"""
+HELLOS = ['{"do":"hello","key":"s-key","name":"student"}', '{"do":"hello","key":"t-key","name":"teacher"}']
+
+
+def mesh(count: int) -> str:
+    """A ring of so many nodes, each linked with one further on too, all of one student."""
+    ids = range(1, count + 1)
+    links = [[i, i % count + 1] for i in ids] + [[i, (i + count // 3) % count + 1] for i in ids]
+    nodes = "".join(f'  {{ id = {i}, owner = "student" }},\n' for i in ids)
+    return f"{PEOPLE}links = {json.dumps(links)}\nnode = [\n{nodes}]\n"
+
+
+class Meshing:
+    """A script in the making."""
+
+    def __init__(self, rng: Random, lab: Lab) -> None:
+        self.rng = rng
+        self.model = Model(lab)
+        self.lines: list[str] = []
+        self.replies: list[str] = []
+
+    def ask(self, connection: int, line: str) -> None:
+        """A line, and what the model answers."""
+        self.lines.append(f"{connection} {line}\n")
+        self.replies.append(f"{connection} {self.model.answer(connection, line.encode())}\n")
+
+    def after(self, start: int, steps: int) -> int:
+        """The node so many places after another, round the end."""
+        return (start + steps - 1) % len(self.model.world.links) + 1
+
+    def grant(self, start: int) -> Optional[Asked]:
+        """A move of the first node from here on that may move and isn't chosen."""
+        world = self.model.world
+        for steps in range(len(world.links)):
+            i = self.after(start, steps)
+            moves: list[Move] = [] if i in world.chosen else world.moves(i)
+            if moves:
+                asked = {"do": "move", "node": i, "rule": moves[0].rule, "at": world.number}
+                return {**asked, "with": moves[0].partner} if moves[0].rule == "marriage" else asked
+        return None
+
+    def release(self, start: int) -> Optional[Asked]:
+        """A release of the first chosen node from here on."""
+        chosen = self.model.world.chosen
+        nodes = [i for i in (self.after(start, steps) for steps in range(len(self.model.world.links))) if i in chosen]
+        return {"do": "release", "node": nodes[0]} if nodes else None
+
+    def fault(self, start: int) -> Asked:
+        """A fault with a pointer to a neighbour, or none."""
+        p = self.rng.choice([None, *self.model.world.near(start)])
+        return {"do": "fault", "node": start, "p": p, "m": self.rng.random() < 0.5}
+
+    def drawn(self) -> Asked:
+        """What is asked next: mostly a move, now and then a close of all that are chosen."""
+        world, start = self.model.world, self.rng.choice(self.model.world.nodes())
+        kind = self.rng.randrange(16)
+        asked: Optional[Asked] = None
+        if kind <= 8:
+            asked = self.grant(start)
+        elif kind == 9 and world.chosen:
+            asked = {"do": "close"}
+        elif kind in (10, 11):
+            asked = self.release(start)
+        elif kind in (12, 13):
+            end = self.rng.choice(world.nodes())
+            asked = None if end == start or end in world.links[start] else {"do": "link", "a": start, "b": end}
+        elif kind == 14 and world.links[start]:
+            asked = {"do": "cut", "a": start, "b": world.near(start)[-1]}
+        return asked or self.fault(start)
+
+    def event(self) -> None:
+        """An event, then a report, and looks at what it named and at the neighbours."""
+        asked = self.drawn()
+        self.ask(1 if asked["do"] == "move" else 2, json.dumps(asked))
+        self.ask(2, '{"do":"report"}')
+        world = self.model.world
+        named = {asked[key] for key in ("node", "a", "b") if key in asked}
+        for i in sorted(named.union(*(world.links[i] for i in named))):
+            self.ask(2, f'{{"do":"look","node":{i}}}')
+
+
+def mesh_script(rng: Random, lab: Lab, events: int) -> tuple[bytes, bytes]:
+    """A script with so many events, and its replies."""
+    meshing = Meshing(rng, lab)
+    for connection, line in enumerate(HELLOS, 1):
+        meshing.ask(connection, line)
+    for _ in range(events):
+        meshing.event()
+    return "".join(meshing.lines).encode(), "".join(meshing.replies).encode()

@@ -1,0 +1,113 @@
+"""Scripts that are drawn over a lab: what connections ask mostly fits the world, as the model tells it."""
+from random import Random
+from typing import Any
+
+from tests.model import Lab, Model
+from tests.model.world import RULES, Move
+from tests.random.lines import odd, spelled
+
+Asked = dict[str, Any]
+GREATEST = 2**64 - 1
+# Lines that are none of a script: the number is another, or nothing is asked.
+BAD_LINES = [
+    b"", b"0 {}", b"01 {}", b"17 {}", b"1", b"1\t{}", b" 1 {}", b"{}", b"-1 {}", b"1 " + b" " * 4097, b"100 {}", b"x",
+]
+# What one asks who has no name.
+NAMELESS = [{"do": "close"}, {"do": "report"}, {"do": "bye"}]
+
+
+class Drawing:
+    """A script in the making."""
+
+    def __init__(self, rng: Random, lab: Lab) -> None:
+        self.rng, self.lab = rng, lab
+        self.model = Model(lab)
+        self.nodes = self.model.world.nodes()
+
+    def node(self) -> int:
+        """A node, now and then one that isn't there."""
+        if self.rng.random() < 0.04:
+            return self.rng.choice([0, 1, 65535, 65536, GREATEST])
+        return self.rng.choice(self.nodes)
+
+    def hello(self) -> Asked:
+        """A greeting, mostly of one who isn't there, with a right key."""
+        names = list(self.lab.keys)
+        absent = [name for name in names if name not in self.model.names.values()]
+        name = self.rng.choice(absent if absent and self.rng.random() < 0.8 else names)
+        key = self.lab.keys[self.rng.choice(names) if self.rng.random() < 0.1 else name]
+        return {"do": "hello", "name": name if self.rng.random() < 0.97 else "nobody", "key": key}
+
+    def move(self, who: str) -> Asked:
+        """A move, mostly of a node of one's own, which is current and whose guard holds."""
+        world, rng = self.model.world, self.rng
+        own = [i for i in self.nodes if who in self.lab.owners[i]]
+        some = rng.sample(own, min(len(own), 8))
+        ready = [i for i in some if i not in world.chosen and world.enabled(i) is not None]
+        i = rng.choice(ready or own) if own and rng.random() < 0.9 else self.node()
+        moves = world.moves(i) if i in world.links else []
+        move = rng.choice(moves) if moves and rng.random() < 0.9 else Move(rng.choice(RULES), self.node())
+        stale = [0, max(world.number - 1, 0), world.number + 1, GREATEST]
+        at = world.number if rng.random() < 0.9 else rng.choice(stale)
+        asked = {"do": "move", "node": i, "at": at, "rule": move.rule}
+        return {**asked, "with": move.partner} if move.rule == "marriage" else asked
+
+    def fault(self) -> Asked:
+        """A fault, mostly with a pointer to a neighbour or none."""
+        i = self.node()
+        near = self.model.world.near(i) if i in self.model.world.links else []
+        p = self.rng.choice([None, *near]) if self.rng.random() < 0.8 else self.node()
+        return {"do": "fault", "node": i, "p": p, "m": self.rng.random() < 0.5}
+
+    def change(self) -> Asked:
+        """A link or a cut, mostly of two nodes that aren't, or are, linked."""
+        do = self.rng.choice(["link", "cut"])
+        a, b = self.node(), self.node()
+        near = self.model.world.near(a) if a in self.model.world.links else []
+        if do == "cut" and near and self.rng.random() < 0.7:
+            b = self.rng.choice(near)
+        return {"do": do, "a": a, "b": b}
+
+    def release(self) -> Asked:
+        """A release, mostly of a node that is chosen."""
+        chosen = list(self.model.world.chosen)
+        return {"do": "release", "node": self.rng.choice(chosen) if chosen and self.rng.random() < 0.8 else self.node()}
+
+    def asked(self, connection: int) -> Asked:
+        """What a connection asks next."""
+        rng = self.rng
+        who = self.model.names.get(connection)
+        if who is None:
+            return self.hello() if rng.random() < 0.9 else rng.choice([*NAMELESS, self.move("")])
+        if rng.random() < 0.03:
+            return rng.choice([{"do": "bye"}, self.hello()])
+        views = [{"do": "see", "node": self.node()}, {"do": "look", "node": self.node()}, {"do": "report"}]
+        if who == self.lab.teacher:
+            acts = [self.fault(), self.change(), self.release(), self.move(who)]
+            return rng.choice([{"do": "close"}] * 3 + acts if rng.random() < 0.6 else views)
+        if rng.random() < 0.05:
+            return rng.choice([{"do": "close"}, self.fault(), self.change(), self.release()])
+        return self.move(who) if rng.random() < 0.7 else rng.choice(views)
+
+    def line(self, connection: int) -> bytes:
+        """The next line of a connection, which the model answers."""
+        asked = self.asked(connection)
+        line = odd(self.rng, asked) if self.rng.random() < 0.06 else spelled(self.rng, asked)
+        self.model.answer(connection, line)
+        return line
+
+
+def drawn_script(rng: Random, lab: Lab, lines: int) -> bytes:
+    """A script of so many lines; some end in a line that is none, or in one without its newline."""
+    drawing = Drawing(rng, lab)
+    connections = [rng.randint(1, lab.sessions) for _ in range(4)]
+    text = b""
+    for _ in range(lines):
+        connection = rng.choice(connections)
+        text += b"%d %s\n" % (connection, drawing.line(connection))
+    kind = rng.randrange(10)
+    if kind == 0:
+        return text + rng.choice(BAD_LINES) + b"\n" + text[:200]
+    if kind == 1:
+        return text + b'1 {"do":"bye"}' * rng.choice([1, 1, 400])
+    return text
