@@ -67,7 +67,7 @@ QUICK = [
     Part("release", ("bash", "tests/release/run"), 0.6, 1.0, 1, ("built", "root", "release", "openssh-server", "git")),
     Part("random", module("random"), 1.0, 1.0, 1, BUILT),
     *classroom(),
-    Part("launchers", ("bash", "tests/program/launchers"), 0.6, 0.7, 1, ("built", "rt")),
+    Part("launchers", ("bash", "tests/program/launchers"), 1.2, 1.3, 1, ("built", "rt")),
     Part("host", module("host"), 0.3, 0.8, 2, BUILT),
     Part("hostile-host", module("hostile", "15", "host"), 0.2, 0.5, 2, BUILT),
     Part("resume", module("resume"), 0.5, 1.0, 2, (*BUILT, "rt")),
