@@ -7,6 +7,7 @@ use mml_fakes::labs::FAR_APART;
 use mml_lab::{Lab, read_lab};
 use mml_policy::{Denial, Ruling, See};
 use mml_rules::{Regs, Scene};
+use mml_stable::report;
 use std::alloc::Global;
 use std::test::Fail;
 
@@ -32,14 +33,21 @@ fn sight(alloc: Global, lab: &Lab) -> Result<String, Fail> {
     }
 }
 
-/// The report on the lab's opening world, or no text where it isn't of the lab's size.
+/// The report on the lab's opening world, or no text where it isn't of the lab's size, or where the reply
+/// to a report that is granted is another.
 fn report_line(alloc: Global, lab: &Lab) -> Result<String, Fail> {
     let board = Board::new(alloc, lab)?;
     if lab.ids().len() != board.size() {
         return Ok(String::new(alloc));
     }
-    let reply = reply_of(alloc, &board, Ruling::Reported)?;
-    line_of(alloc, lab, &reply)
+    let told = report(alloc, &board)?;
+    let (at, stable) = (told.at, told.stable);
+    match reply_of(alloc, &board, Ruling::Reported)? {
+        Reply::Report(other) if other.at == at && other.stable == stable => {
+            line_of(alloc, lab, &Reply::Report(told))
+        }
+        _ => Ok(String::new(alloc)),
+    }
 }
 
 /// The room of a vector at first, and after each of two denials: one with room doesn't grow, and isn't
