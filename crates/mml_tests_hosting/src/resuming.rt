@@ -42,12 +42,12 @@ const TESS_IS_TOLD: &str = r#"{"ok":"hello","who":"tess"}
 "#;
 
 /// What is told before all else.
-const FIRST: &[u8] = b"listening\n".as_slice();
+const FIRST: &str = "listening\n";
 
-const TOLD: &[u8] = b"listening
+const TOLD: &str = "listening
 resumed at place 1, configuration 0, 1 chosen
 done: 2 events, configuration 1
-".as_slice();
+";
 
 /// More than what is left of one line.
 const LONG: &str = "1 0 grant ana 1 seduction
@@ -106,7 +106,7 @@ fn resume<R: Threads + Wait + Sync>(
         lab,
         old.as_bytes(),
         Shelf(alloc),
-        FIRST,
+        FIRST.as_bytes(),
         at_desk,
         at_port,
         &count,
@@ -124,7 +124,7 @@ fn a_class_goes_on_where_its_journal_stopped(rt: HostRuntime) -> Result<(), Fail
     let is_ana_told = sent_to(&left, 1) == Some(ANA_IS_TOLD.as_bytes());
     let is_tess_told = sent_to(&left, 0) == Some(TESS_IS_TOLD.as_bytes());
     let is_journal = left.log.sink.bytes() == NEW.as_bytes();
-    let is_told = out.as_slice() == TOLD;
+    let is_told = out.as_slice() == TOLD.as_bytes();
     assert_eq!(rt; [is_ana_told, is_tess_told, is_journal, is_told], [true; 4]);
     Ok(())
 }
