@@ -122,6 +122,11 @@ class Judging(unittest.TestCase):
         found = judged(line + kept("three_bodies.txt"), NEVER, ELSEWHERE)
         self.assertEqual((found.of_round, found.of_edit), ([], {}))
 
+    def test_what_rests_on_an_answer(self) -> None:
+        """An answer that cites one with an error of its own adds nothing."""
+        line = "./proofs/retrying/Retrying/new/Answers.antt:9:5: error: 1 declaration that depends on `a`, which was rejected, was not checked: b\n"
+        self.assertEqual(judged(line + kept("three_bodies.txt"), NEVER, THERE).of_round, [])
+
     def test_a_caller_of_what_is_refused(self) -> None:
         """What only rests on a refused function counts as refused, and needs no edit."""
         output = kept("three_bodies.txt").replace("is_out_of_memory: proved", "is_out_of_memory: no proof: it calls `a::b`, which is not proved")
