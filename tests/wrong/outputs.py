@@ -7,7 +7,7 @@ from dataclasses import dataclass, field
 LINE = re.compile(r"fn (\S+): (.*)")
 OPEN = re.compile(r"`search` did not prove ((?:`[^`]+`(?:, )?)+)")
 RESTS = re.compile(r"it (?:calls|passes) [^;]*which (?:is|are) not proved")
-ERROR = re.compile(r"(?:\./)?(\S+?):\d+:\d+: error\b.*")
+ERROR = re.compile(r"\S+?(?::\d+:\d+)?: error\b.*|error\b.*")
 GOAL = re.compile(r"(?:\./)?proofs/(\S+)/(?:Answers|Invariants|Proof)\.antt:\d+:\d+: error: `([^`]+)`: (.*)")
 LOST = re.compile(r"has no field|is not in scope|has no `|was not admitted")
 # What rests on an answer that has an error of its own.
@@ -63,7 +63,7 @@ def read_output(crate: str, output: str) -> Told:
     for line in output.splitlines():
         if found := LINE.fullmatch(line):
             told.add_function(found[1].removeprefix(f"{crate}::"), found[2])
-        elif ERROR.fullmatch(line) or line.startswith(("error", "rattle: error")):
+        elif ERROR.fullmatch(line):
             told.add_error(line)
         elif found := ENDING.fullmatch(line):
             told.ending = int(found[1]), int(found[2])
