@@ -12,13 +12,15 @@ from collections.abc import Iterable, Iterator
 from pathlib import Path
 
 from classroom import lab as labs
-from classroom import places
+from classroom import networks, places
+from classroom.printable import printable
 from classroom.program import TOP, Answer, Fault, call
+from classroom.statuses import WARNED
 
 KNOWN = {
     "": ("events", "sessions", "teacher", "student", "node", "links"),
     "teacher": ("name", "key"),
-    "student": ("name", "key"),
+    "student": ("name", "key", "written", "id"),
     "node": ("id", "owner", "owners", "p", "m"),
 }
 ENOUGH_BITS = 64
@@ -138,24 +140,21 @@ def network_warnings(lab: labs.Lab) -> Iterator[str]:
     """Students without a node, nodes without a neighbour, a network in parts."""
     owners = {owner for node in lab.nodes for owner in node.owners}
     yield from (f"{name} has no node" for name in lab.students if name not in owners)
-    near: dict[int, set[int]] = {node.id: set() for node in lab.nodes}
-    for a, b in lab.links:
-        near[a].add(b)
-        near[b].add(a)
+    near = networks.neighbours((node.id for node in lab.nodes), lab.links)
     yield from (f"node {node} has no neighbour" for node, others in near.items() if not others)
     parts = parts_of(near)
     if parts > 1:
         yield f"the network is in {parts} parts"
 
 
-def parts_of(near: dict[int, set[int]]) -> int:
+def parts_of(near: dict[int, list[int]]) -> int:
     """In how many parts the network is."""
     left, parts = set(near), 0
     while left:
         parts += 1
         reached = [left.pop()]
         while reached:
-            further = near[reached.pop()] & left
+            further = left.intersection(near[reached.pop()])
             left -= further
             reached += further
     return parts
@@ -201,13 +200,14 @@ def warnings(path: Path) -> Iterator[str]:
 
 
 def check(words: argparse.Namespace) -> int:
-    """Status 0, 1 for warnings alone, and the program's own where it refuses the lab."""
+    """Status 0, 5 for warnings alone, and the program's own where it refuses the lab."""
     path = Path(words.lab)
     answer: Answer = call("check", path)
     if answer.status != 0:
-        print(*(refused(path, answer.error) if answer.status == 2 else [f"{path}: {answer.error}"]), sep="\n")
+        found = refused(path, answer.error) if answer.status == 2 else [labs.unread(path, answer.error)]
+        print(*map(printable, found), sep="\n")
         return answer.status
     print(answer.output.strip())
-    found = list(warnings(path))
-    print(*(f"warning: {each}\n" for each in found), sep="", end="")
-    return 1 if found else 0
+    warned = list(warnings(path))
+    print(*(f"warning: {printable(each)}\n" for each in warned), sep="", end="")
+    return WARNED if warned else 0

@@ -1,21 +1,24 @@
 #!/usr/bin/env python3
 """The whole protocol for a student's or a teacher's program, in one file without other libraries.
 
-    with Client(4711, "gus", "heron-31") as me:
+    with Client.from_slip("gus.slip") as me:
         look = me.look(4)
         if look.rule is not None and look.chosen is None:
             me.move(look)
 
-`python3 client.py PORT` is a line editor over a connection: what is typed is sent, what comes is shown.
+By hand: python3 client.py SLIP, or client.py PORT NAME KEYFILE, either with --log FILE. It greets; then what is typed
+is sent, and what comes is shown.
 """
 from __future__ import annotations
 
 import json
+import re
 import socket
 import sys
 import time
-from collections.abc import Iterable
+from collections.abc import Callable, Iterable
 from dataclasses import dataclass
+from pathlib import Path
 from types import TracebackType
 from typing import Any
 
@@ -38,6 +41,18 @@ class Refused(Exception):
 
 class Closed(Exception):
     """The connection has ended, or an answer didn't come in time."""
+
+
+class NoServer(Closed):
+    """Nobody listens at the port, or another program does."""
+
+
+class NoSlip(Exception):
+    """A slip, or a word in its place, that can't be taken."""
+
+
+class NotReply(Closed):
+    """A line that is none of the server's."""
 
 
 class Moving(Exception):
@@ -109,27 +124,99 @@ class Report:
     open: tuple[tuple[int, int, int, str], ...]
 
 
+@dataclass(frozen=True)
+class Slip:
+    """What a student's sheet says. As a file it has a line each: `port 4711`, `name ana`, `key ..`, `nodes 1,4`."""
+
+    port: int
+    name: str
+    key: str
+    nodes: tuple[int, ...]
+
+    @staticmethod
+    def read(path: str | Path) -> Slip:
+        """The slip of a file."""
+        lines = [line.split(None, 1) for line in text_of(path).splitlines() if not line.startswith("#")]
+        it = {words[0]: words[1].strip() for words in lines if len(words) == 2}
+        missing = [word for word in ("port", "name", "key") if word not in it]
+        if missing:
+            raise NoSlip(f"{path}: no line `{missing[0]} ..`, so it is no slip")
+        return Slip(port_of(it["port"]), it["name"], it["key"], nodes_of(it.get("nodes", "")))
+
+    @staticmethod
+    def of(words: list[str]) -> tuple[Slip, list[str]]:
+        """The slip that the words of a program name, SLIP or PORT NAME KEYFILE NODE,.., and the words after it."""
+        if words and not words[0].isdecimal():
+            return Slip.read(words[0]), words[1:]
+        if len(words) < 3:
+            raise NoSlip("SLIP, or PORT NAME KEYFILE NODE,..")
+        key = re.search(r"^key\s+(.+)$", text_of(words[2]), re.MULTILINE)
+        nodes = words[3:4] if words[3:4] and re.fullmatch(r"[\d,]*", words[3]) else []
+        slip = Slip(port_of(words[0]), words[1], key[1] if key else text_of(words[2]).strip(), nodes_of(*nodes))
+        return slip, words[3 + len(nodes):]
+
+
+def text_of(path: str | Path) -> str:
+    """The text of a file."""
+    try:
+        return Path(path).read_text(encoding="utf-8-sig")
+    except (OSError, UnicodeDecodeError) as error:
+        raise NoSlip(f"{path}: {getattr(error, 'strerror', None) or error}") from None
+
+
+def port_of(word: str) -> int:
+    """A port's number."""
+    if not (word.isascii() and word.isdecimal() and 1 <= int(word) <= 65535):
+        raise NoSlip(f"{word} is no port: 1 to 65535")
+    return int(word)
+
+
+def nodes_of(word: str = "") -> tuple[int, ...]:
+    """Nodes with commas between them."""
+    words = word.replace(",", " ").split()
+    if not all(node.isascii() and node.isdecimal() for node in words):
+        raise NoSlip(f"nodes {word}: no numbers with commas between them")
+    return tuple(map(int, words))
+
+
 class Client:
     """A connection that has said hello. Not for several threads at once."""
 
     def __init__(self, port: int, name: str, key: str, host: str = "127.0.0.1", limit: float = 30.0) -> None:
         """`limit` is how many seconds an answer may take."""
-        self.name, self.limit = name, limit
+        self.name, self.port, self.limit = name, port, limit
         try:
             self._socket = socket.create_connection((host, port), timeout=limit)
         except OSError as error:
-            raise Closed(f"no server at port {port}: {error}") from None
+            raise NoServer(f"no server at port {port}: {error}") from None
         self._rest = b""
         try:
             self.ask(do="hello", name=name, key=key)
+        except NotReply as error:
+            self._socket.close()
+            raise NoServer(f"at port {port} is another program: it answers {error}") from None
         except BaseException:
             self._socket.close()
             raise
+
+    @staticmethod
+    def from_slip(path: str | Path, limit: float = 30.0) -> Client:
+        """A connection as a slip says."""
+        return Client.of(Slip.read(path), limit)
+
+    @staticmethod
+    def of(slip: Slip, limit: float = 30.0) -> Client:
+        """The same, of a slip that was read."""
+        return Client(slip.port, slip.name, slip.key, limit=limit)
 
     def own_port(self) -> int:
         """The port of this end."""
         port: int = self._socket.getsockname()[1]
         return port
+
+    def hang_up(self) -> None:
+        """Ends the connection without a word."""
+        self._socket.close()
 
     def __enter__(self) -> Client:
         return self
@@ -169,7 +256,7 @@ class Client:
             self._socket.sendall(json.dumps(request).encode() + b"\n")
         except OSError:
             pass  # What the server wrote before it hung up is read all the same.
-        reply: dict[str, Any] = json.loads(self._line())
+        reply = reply_of(self._line())
         if "deny" in reply:
             raise Denied(reply["clause"], reply["deny"], reply["text"], reply.get("at"))
         if "refuse" in reply:
@@ -243,23 +330,217 @@ class Client:
         return Report(it["at"], it["stable"], lists["pairs"], tuple(it["free"]), lists["privileged"], lists["open"])
 
 
-def converse(port: int) -> int:
+def reply_of(line: bytes) -> dict[str, Any]:
+    """The reply of a line."""
+    try:
+        reply = json.loads(line)
+    except ValueError:
+        reply = None
+    if not isinstance(reply, dict) or not reply.keys() & {"ok", "deny", "refuse"}:
+        raise NotReply(repr(line[:60].decode(errors="replace")))
+    return reply
+
+
+# Why a program stops, with its exit status; 0 is the run's end, 1 wrong words.
+STOPS = {
+    "unknown": (2, "name and key don't match: take both from your slip"),
+    "not-owner": (3, "a node isn't yours: correct the nodes by your slip"),
+    "hidden": (3, "a node isn't shown to you: correct the nodes by your slip"),
+    "not-teacher": (3, "this is the teacher's alone"),
+    "malformed": (3, "the server takes a line for no request: correct the program"),
+    "busy": (5, "all places were taken for a minute: come again later"),
+    "full": (6, "nothing is granted any longer: tell your teacher"),
+    "journal": (6, "nothing is granted any longer: tell your teacher"),
+}
+
+
+def stop(error: Exception) -> tuple[int, str]:
+    """The status and the sentence by which a program ends."""
+    word = error.name if isinstance(error, Denied) else error.word if isinstance(error, Refused) else ""
+    if word in STOPS:
+        return STOPS[word]
+    if isinstance(error, NoSlip):
+        return 1, str(error)
+    if isinstance(error, NoServer):
+        return 4, f"{error}; your teacher tells the port"
+    return (0, f"the run is over, or the connection was lost: {error}") if isinstance(error, Closed) else (3, str(error))
+
+
+def goes_on(error: Denied) -> bool:
+    """Whether a denial is one of those that a bot meets: it looks again."""
+    return error.name not in STOPS
+
+
+def enter(slip: Slip, patience: float = 60.0) -> Client:
+    """Greets; where no place is free, again each second, for so many seconds."""
+    end = time.monotonic() + patience
+    while True:
+        try:
+            return Client.of(slip)
+        except Refused as refused:
+            if refused.word != "busy" or time.monotonic() >= end:
+                raise
+        time.sleep(1)
+
+
+def run(program: Callable[[list[str]], None], usage: str) -> None:
+    """Runs a program with its words; what ends it is a line, and a status."""
+    words = sys.argv[1:]
+    if not words or words[0] in ("-h", "--help"):
+        print(usage, file=sys.stderr)
+        sys.exit(1)
+    try:
+        program(words)
+    except (Denied, Refused, Closed, NoSlip) as error:
+        status, sentence = stop(error)
+        print(f"{Path(sys.argv[0]).name}: {sentence}", file=sys.stderr)
+        sys.exit(status)
+    except KeyboardInterrupt:
+        sys.exit(130)
+
+
+# The keys of each request with what they have to be.
+NODE = "a number"
+KEYS: dict[str, dict[str, str]] = {
+    "hello": {"name": "a string", "key": "a string"}, "bye": {}, "see": {"node": NODE}, "look": {"node": NODE},
+    "move": {"node": NODE, "at": NODE, "rule": "a rule"}, "close": {}, "report": {}, "release": {"node": NODE},
+    "fault": {"node": NODE, "p": "a number or null", "m": "true or false"},
+    "link": {"a": NODE, "b": NODE}, "cut": {"a": NODE, "b": NODE},
+}
+RULES = ("update", "marriage", "seduction", "abandonment")
+MOST = 4096  # bytes of a line
+
+
+def is_a(kind: str, value: object) -> bool:
+    """Whether a value is of that kind."""
+    number = isinstance(value, int) and not isinstance(value, bool) and 0 <= value < 2**64
+    return {"a number": number, "a number or null": number or value is None, "a string": isinstance(value, str),
+            "true or false": isinstance(value, bool), "a rule": value in RULES}[kind]
+
+
+def said(value: object) -> str:
+    """What a value is, in a word or two."""
+    kinds = {bool: "true or false", str: "a string", type(None): "null", dict: "an object", list: "a list",
+             float: "no whole number"}
+    return kinds.get(type(value), "out of range")
+
+
+def wrong(line: str) -> str | None:
+    """What is wrong with a line as a request, for which the server has one word; None where nothing is."""
+    if len(line.encode(errors="replace")) >= MOST:
+        return f"more than {MOST} bytes: the server ends the connection"
+    if line.startswith("\ufeff"):
+        return "a byte order mark at its beginning"
+    if "\n" in line or "\r" in line:
+        return "several lines: a request is one"
+    doubled: list[str] = []
+
+    def once(pairs: list[tuple[str, Any]]) -> dict[str, Any]:
+        names = [name for name, _ in pairs]
+        doubled.extend(name for name in names if names.count(name) > 1)
+        return dict(pairs)
+
+    try:
+        asked = json.loads(line, object_pairs_hook=once)
+    except json.JSONDecodeError as error:
+        if error.pos >= len(line.rstrip()) and line.strip():
+            return "not JSON: it isn't closed at its end, and a request is one line"
+        return f"not JSON at byte {len(line[:error.pos].encode(errors='replace')) + 1}"
+    except RecursionError:
+        return "nested too deep"
+    return f"{doubled[0]} stands twice" if doubled else wrong_keys(asked)
+
+
+def wrong_keys(asked: object) -> str | None:
+    """What is wrong with the keys of a request."""
+    if not isinstance(asked, dict):
+        return f"{said(asked)}, not an object"
+    if "do" not in asked:
+        return 'missing "do"'
+    word = asked["do"]
+    if not isinstance(word, str) or word not in KEYS:
+        return f"unknown do: {word}"
+    keys = KEYS[word] | ({"with": NODE} if asked.get("rule") == "marriage" and word == "move" else {})
+    for key, kind in keys.items():
+        if key not in asked:
+            return f'missing "{key}"'
+        if not is_a(kind, asked[key]):
+            return f"{key} is {said(asked[key])}, not {'one of ' + ', '.join(RULES) if kind == 'a rule' else kind}"
+    return None
+
+
+class ByHand:
+    """A conversation by hand."""
+
+    def __init__(self, slip: Slip | None, port: int, log: Path | None) -> None:
+        self.log = log
+        self.since = time.monotonic()
+        self.greeted = False
+        self.ended = False
+        try:
+            self.connection = socket.create_connection(("127.0.0.1", port))
+        except OSError as error:
+            raise NoServer(f"no server at port {port}: {error}") from None
+        self.answers = self.connection.makefile("rb")
+        if slip is not None:
+            self.send(json.dumps({"do": "hello", "name": slip.name, "key": slip.key}), shown=False)
+
+    def keep(self, line: str) -> None:
+        """Adds a line to the log."""
+        if self.log is not None:
+            with self.log.open("a", encoding="utf-8") as it:
+                it.write(f"{time.strftime('%H:%M:%S')} {line}\n")
+
+    def send(self, line: str, shown: bool = True) -> None:
+        """Sends a line, and shows what answers it. A key isn't kept in the log."""
+        note = wrong(line) if shown else None
+        if note:
+            print(f"client: {note}", file=sys.stderr, flush=True)
+            self.keep(f"! {note}")
+        self.keep("> " + re.sub(r'("key" *: *)"[^"]*"', r'\1".."', line))
+        waited, self.since = time.monotonic() - self.since, time.monotonic()
+        try:
+            self.connection.sendall(line.encode(errors="replace") + b"\n")
+            answer = self.answers.readline().decode(errors="replace").rstrip("\n")
+        except OSError:
+            answer = ""
+        if answer:
+            reply_of(answer.encode())
+        else:
+            answer = f"the server has closed the connection: {self.why(line, waited)}"
+        print(answer, flush=True)
+        self.keep(f"< {answer}")
+        self.ended = '"ok":"bye"' in answer or "closed the connection" in answer or '"refuse":"busy"' in answer
+        self.greeted = self.greeted or '"ok":"hello"' in answer
+
+    def why(self, line: str, waited: float) -> str:
+        """Why it ended, as far as that can be known here."""
+        if len(line.encode(errors="replace")) >= MOST:
+            return f"a line has at most {MOST} bytes"
+        if not self.greeted and waited >= 10:
+            return "the first line came later than ten seconds"
+        if waited >= 600:
+            return "no line came for ten minutes"
+        return "the class is over, or it was cut off"
+
+
+def by_hand(words: list[str]) -> None:
     """Sends each line of standard input, and shows the line that answers it."""
-    with socket.create_connection(("127.0.0.1", port)) as connection:
-        answers = connection.makefile("r", encoding="utf-8", newline="\n")
-        for line in sys.stdin:
-            connection.sendall(line.rstrip("\r\n").encode() + b"\n")
-            answer = answers.readline()
-            print(answer or "the server has closed the connection", end="" if answer else "\n", flush=True)
-            if not answer or '"ok":"bye"' in answer:
-                break
-    return 0
+    log = None
+    if "--log" in words[:-1]:
+        place = words.index("--log")
+        log = Path(words[place + 1])
+        words = words[:place] + words[place + 2:]
+    if len(words) == 1 and words[0].isdecimal():
+        talk = ByHand(None, port_of(words[0]), log)
+    else:
+        slip, _ = Slip.of(words)
+        talk = ByHand(slip, slip.port, log)
+    for line in [] if talk.ended else sys.stdin:
+        talk.send(line.rstrip("\r\n"))
+        if talk.ended:
+            break
 
 
 if __name__ == "__main__":
-    if len(sys.argv) != 2 or not sys.argv[1].isdecimal():
-        sys.exit("usage: python3 client.py PORT")
-    try:
-        sys.exit(converse(int(sys.argv[1])))
-    except (OSError, KeyboardInterrupt) as end:
-        sys.exit(f"client: {end}")
+    run(by_hand, "usage: python3 client.py SLIP, or PORT NAME KEYFILE, or PORT; each with --log FILE")

@@ -3,11 +3,12 @@ from __future__ import annotations
 
 import os
 import time
-from collections.abc import Iterable, Iterator
+from collections.abc import Iterator
 from pathlib import Path
 
 PROC = Path("/proc")
 ESTABLISHED, LISTENING = "01", "0A"
+ELSEWHERE = "someone from elsewhere"
 PAUSE = 1.0  # seconds between two looks
 AGAIN = 0.02  # seconds between two readings of one look
 READINGS = 5
@@ -29,30 +30,27 @@ def leads_to(end: Path, wanted: str) -> bool:
         return False
 
 
-def owner(number: str, students: Iterable[str]) -> str:
-    """Whose the client's end of a connection is: the student that the process was called with, and the process.
-    Of a process that this one may not look into, or of another machine's, nothing is known."""
+def owner(number: str) -> str:
+    """Which process has the client's end of a connection. Of one that this may not look into, or of another
+    machine's, nothing is known; and whose it is stands in no process."""
     wanted = f"socket:[{number}]"
     for process in PROC.iterdir():
         if not process.name.isdecimal():
             continue
         try:
             if any(leads_to(end, wanted) for end in (process / "fd").iterdir()):
-                words = (process / "cmdline").read_bytes().decode(errors="replace").split("\0")
-                named = next((word for word in words if word in students), None)
-                program = (process / "comm").read_text(encoding="utf-8", errors="replace").strip()
-                return f"{named or 'someone'} ({program}, process {process.name})"
+                return f"process {process.name}"
         except OSError:
             continue
-    return "someone"
+    return ELSEWHERE
 
 
 class Connected:
     """What there is to tell of who comes and goes at the students' port."""
 
-    def __init__(self, port: int, places: int, students: Iterable[str], but: int) -> None:
+    def __init__(self, port: int, places: int, but: int) -> None:
         """`but` is the port of the desk's own end."""
-        self.port, self.places, self.students, self.but = port, places, set(students), but
+        self.port, self.places, self.but = port, places, but
         self.known: dict[int, str] = {}
         self.full = False
         self.due = 0.0
@@ -91,16 +89,15 @@ class Connected:
         ends, here = self.ends(found), self.served(found)
         gone = [self.known.pop(port) for port in sorted(self.known.keys() - here)]
         come = sorted(here - self.known.keys())
-        self.known |= {port: owner(ends[port], self.students) if port in ends else "someone" for port in come}
+        self.known |= {port: owner(ends[port]) if port in ends else ELSEWHERE for port in come}
         lines = [f"connected: {self.known[port]}" for port in come] + [f"gone: {who}" for who in gone]
         listens = any(own == self.port and state == LISTENING for own, _, state, _ in found)
-        full = len(here) >= self.places or not listens
-        if full and not self.full:
-            taken = "all places are taken" if listens else "each connection of this server was used"
-            lines.append(f"{taken}, and who comes now isn't let in; connected: {self.who()}")
-        self.full = full
+        if not self.full and (len(here) >= self.places or not listens):
+            self.full = True
+            lines.append("all places are taken: who comes now is told so; who tells whose they are" if listens else
+                         "each connection of this server was used: who comes now isn't let in")
         return lines
 
     def who(self) -> str:
-        """Who is there, in the order in which they were seen to come."""
-        return ", ".join(self.known.values()) or "nobody"
+        """How many of the places are taken, and by whom, in the order in which they were seen to come."""
+        return f"{len(self.known)} of {self.places} places: {', '.join(self.known.values()) or 'nobody'}"

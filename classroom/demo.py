@@ -4,10 +4,11 @@ from __future__ import annotations
 import argparse
 import subprocess
 import sys
+import tempfile
 from pathlib import Path
 
 from classroom import lab as labs
-from classroom import run
+from classroom import run, slips
 from classroom.program import TOP
 
 LAB = TOP / "examples/cycle.toml"
@@ -17,19 +18,22 @@ def demo(words: argparse.Namespace) -> int:
     """Runs the cycle of `examples/` with a bot for each of its four students, until it is stable."""
     lab = labs.read(LAB)
     bots: list[subprocess.Popen[bytes]] = []
+    room = tempfile.TemporaryDirectory()
 
     def start_bots(port: int) -> None:
-        for name, key in lab.students.items():
-            nodes = ",".join(map(str, lab.nodes_of(name)))
+        slips.write_all(lab, port, Path(room.name, "slips"))
+        for name in lab.students:
             bots.append(subprocess.Popen(
-                [sys.executable, TOP / "examples/bot.py", str(port), name, key, nodes],
+                [sys.executable, TOP / "examples/bot.py", Path(room.name, "slips", f"{name}.slip")],
                 stdin=subprocess.DEVNULL, stdout=subprocess.DEVNULL, stderr=subprocess.DEVNULL,
             ))
 
     print(f"a cycle of {len(lab.nodes)} nodes after a fault, and the bots of {len(lab.students)} students", flush=True)
-    asked = argparse.Namespace(port=4711, close=("every", 0.5), into=words.into, until="stable", typed=False, page=None, serve=False)
+    asked = argparse.ArgumentParser()
+    run.add_words(asked)
+    asked_for = [str(LAB), "--close", "every:0.5", "--until", "stable", "--beside", "--into", words.into]
     try:
-        return run.one(Path(LAB), asked, start_bots)
+        return run.one(asked.parse_args(asked_for), start_bots)
     finally:
         for bot in bots:
             try:
@@ -37,3 +41,4 @@ def demo(words: argparse.Namespace) -> int:
             except subprocess.TimeoutExpired:
                 bot.kill()
                 bot.wait()
+        room.cleanup()

@@ -8,6 +8,8 @@ from dataclasses import dataclass, field
 from pathlib import Path
 from typing import Any
 
+from classroom.lists import Person
+from classroom.printable import printable
 from classroom.program import Fault, call
 
 MOST_EVENTS = 100_000
@@ -34,6 +36,7 @@ class Lab:
     students: dict[str, str]
     nodes: list[Node]
     links: list[tuple[int, int]] = field(default_factory=list)
+    people: dict[str, Person] = field(default_factory=dict)
 
     def most_moves(self) -> int:
         """How many moves suffice from any start: 3n + 2L (docs/TEACHER.md)."""
@@ -64,9 +67,20 @@ def document(path: Path) -> dict[str, Any]:
         raise Fault(f"{path}: Python's TOML reader doesn't read it: {error}", 2) from None
 
 
+def unread(path: Path, error: str) -> str:
+    """Why a file that the program couldn't read can't be read, as far as the system says it."""
+    try:
+        with path.open("rb"):
+            return f"{path}: {error}"
+    except OSError as why:
+        return f"{path}: {why.strerror}"
+
+
 def read(path: Path) -> Lab:
     """A lab that the program has taken."""
     answer = call("check", path)
+    if answer.status == 4:
+        raise Fault(unread(path, answer.error), 4)
     if answer.status != 0:
         raise Fault(f"{path}: {answer.error}; `./class check {path}` says more", answer.status)
     it = document(path)
@@ -76,12 +90,13 @@ def read(path: Path) -> Lab:
     ]
     students = {each["name"]: each["key"] for each in it["student"]}
     links = [(a, b) for a, b in it.get("links", [])]
-    return Lab(it["events"], it["sessions"], (it["teacher"]["name"], it["teacher"]["key"]), students, nodes, links)
+    people = {each["name"]: Person(str(each.get("written", each["name"])), str(each.get("id", ""))) for each in it["student"]}
+    return Lab(it["events"], it["sessions"], (it["teacher"]["name"], it["teacher"]["key"]), students, nodes, links, people)
 
 
 def quoted(word: str) -> str:
     """A string as TOML and JSON both have it."""
-    return json.dumps(word)
+    return json.dumps(word, ensure_ascii=False)
 
 
 def text(lab: Lab) -> str:
@@ -92,6 +107,9 @@ def text(lab: Lab) -> str:
     lines += ["", "[teacher]", f"name = {quote(lab.teacher[0])}", f"key = {quote(lab.teacher[1])}"]
     for name, key in lab.students.items():
         lines += ["", "[[student]]", f"name = {quote(name)}", f"key = {quote(key)}"]
+        person = lab.people.get(name)
+        lines += [f"written = {quote(printable(person.written))}"] if person else []
+        lines += [f"id = {quote(printable(person.id))}"] if person and person.id else []
     for node in lab.nodes:
         lines += ["", "[[node]]", f"id = {node.id}"]
         owners = ", ".join(map(quote, node.owners))

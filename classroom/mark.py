@@ -11,9 +11,11 @@ from pathlib import Path
 from typing import Any
 
 from classroom import lab as labs
-from classroom import replay
+from classroom import folders, lists, replay, totals
 from classroom.journal import RULES, Book, Tally, events
+from classroom.printable import printable
 from classroom.program import Fault, call
+from classroom.statuses import WARNED
 
 UNTOLD = (
     "Not in a journal: what was asked for and denied, when a line was written, and who used a name.",
@@ -80,20 +82,6 @@ def refusal(journal: Path, error: str) -> str:
     return f"{journal}: {error}: {lines[int(line[1]) - 1].decode(errors='replace')}"
 
 
-def given(words: list[str]) -> list[tuple[Path, Path]]:
-    """Lab and journal of each run: folders of runs, or a lab and its journals."""
-    first = Path(words[0])
-    if first.is_dir():
-        folders = [Path(word) for word in words]
-        for folder in folders:
-            if not (folder / "lab.toml").is_file() or not (folder / "journal").is_file():
-                raise Fault(f"{folder}: no folder of a run: it has lab.toml and journal")
-        return [(folder / "lab.toml", folder / "journal") for folder in folders]
-    if len(words) == 1:
-        raise Fault(f"{first} is no folder of a run; of a lab its journals are named too")
-    return [(first, Path(word)) for word in words[1:]]
-
-
 def rows(runs: list[Run]) -> list[list[str]]:
     """A line for each student and run, below a line of heads."""
     table = [["journal", "student", "granted", "applied", *RULES, "steps", "first", "last", "shared"]]
@@ -131,8 +119,18 @@ def as_json(runs: list[Run]) -> str:
 
 def mark(words: argparse.Namespace) -> int:
     """Prints the marks of all journals, or refuses the first that the audit refuses."""
-    runs = [marked(lab, journal) for lab, journal in given(words.runs)]
-    if words.json:
+    roster = lists.read(Path(words.roster), words) if words.roster else None
+    runs = [marked(lab, journal) for lab, journal in folders.given(words.runs)]
+    students = [(run.lab, run.tally.students) for run in runs]
+    if roster is not None:
+        rows_of, left = totals.by_roster(students, roster)
+        totals.write(rows_of, roster.delimiter)
+        for name in left:
+            print(printable(f"class: {words.roster} has no {name}"), file=sys.stderr)
+        return WARNED if left else 0
+    if words.total:
+        totals.write(totals.by_labs(students))
+    elif words.json:
         print(as_json(runs), end="")
     elif words.csv:
         csv.writer(sys.stdout, lineterminator="\n").writerows(rows(runs))

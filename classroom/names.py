@@ -1,14 +1,12 @@
 """Names as people write them, made names that a lab takes."""
 from __future__ import annotations
 
-import csv
-import io
 import re
 import unicodedata
+from collections import Counter
 from collections.abc import Iterable
-from pathlib import Path
 
-from classroom.program import Fault
+from classroom.lists import Person
 
 MOST_BYTES = 32
 SPELLED = {
@@ -23,6 +21,16 @@ SPELLED |= dict(zip(
     "αβγδεζηθικλμνξοπρσςτυφχψω", "a v g d e z i th i k l m n x o p r s s t y f ch ps o".split(" "), strict=True,
 ))
 NAMED = ("HIRAGANA LETTER", "KATAKANA LETTER", "HANGUL SYLLABLE", "GEORGIAN LETTER", "ARMENIAN SMALL LETTER")
+# Letters whose name says how they sound, as `ARABIC LETTER MEEM`.
+SOUNDS = {
+    "alef": "a", "bet": "b", "gimel": "g", "dalet": "d", "he": "h", "vav": "v", "zayin": "z", "het": "h", "tet": "t", "yod": "y",
+    "kaf": "k", "lamed": "l", "mem": "m", "nun": "n", "samekh": "s", "ayin": "a", "pe": "p", "tsadi": "ts", "qof": "q", "resh": "r",
+    "shin": "sh", "tav": "t", "beh": "b", "teh": "t", "theh": "th", "jeem": "j", "hah": "h", "khah": "kh", "dal": "d", "thal": "dh",
+    "reh": "r", "zain": "z", "seen": "s", "sheen": "sh", "sad": "s", "dad": "d", "tah": "t", "zah": "z", "ain": "a", "ghain": "gh",
+    "feh": "f", "qaf": "q", "lam": "l", "meem": "m", "noon": "n", "heh": "h", "waw": "w", "yeh": "y", "peh": "p", "gaf": "g",
+    "hamza": "", "marbuta": "a", "maksura": "a",
+}
+SYLLABLES = ("DEVANAGARI", "BENGALI", "GURMUKHI", "GUJARATI", "TAMIL", "TELUGU", "KANNADA", "MALAYALAM", "SINHALA")
 
 
 def letters(char: str) -> str:
@@ -32,54 +40,58 @@ def letters(char: str) -> str:
     named = unicodedata.name(char, "")
     if named.startswith(NAMED):
         return "".join(filter(str.isascii, named.split()[-1].lower())).replace("-", "")
+    sound = sounds(named.split())
+    if sound is not None:
+        return sound
     plain = [each for each in unicodedata.normalize("NFKD", char) if not unicodedata.combining(each)]
     if plain == [char]:
         return char if char.isascii() and char.isalnum() else ""
     return "".join(letters(each) for each in plain)
 
 
+def sounds(named: list[str]) -> str | None:
+    """How a letter sounds by the words of its name; None where that isn't known."""
+    if len(named) < 3:
+        return None
+    if named[0] in ("ARABIC", "HEBREW") and named[1] == "LETTER":
+        return next((SOUNDS[word.lower()] for word in reversed(named) if word.lower() in SOUNDS), None)
+    if named[0] in SYLLABLES and (named[1] == "LETTER" or named[1:3] == ["VOWEL", "SIGN"]):
+        return named[-1].lower() if named[-1].isalpha() else None
+    if named[:2] == ["THAI", "CHARACTER"]:
+        return named[-1].lower() if named[2] == "SARA" else named[2].lower().removesuffix("o")
+    return None
+
+
 def one(name: str) -> str:
-    """A name's form in a lab, without regard to others: `Zoë Müller` is `zoe-mueller`."""
-    folded = unicodedata.normalize("NFC", name).lower()
+    """A name's form in a lab, without regard to others: `Zoë Müller` is `zoe-mueller`, and so is `Müller, Zoë`.
+    It is empty where no letter of it is known."""
+    last, comma, first = name.partition(",")
+    folded = unicodedata.normalize("NFC", f"{first} {last}" if comma and "," not in first else name).lower()
     spelled = "".join("-" if char.isspace() or char in "-_.,/" else letters(char) for char in folded)
     short = re.sub("-+", "-", spelled).strip("-")
-    if not short:
-        return "student"
-    return (short if short[0].isalpha() else f"s-{short}")[:MOST_BYTES].rstrip("-")
+    return (short if not short or short[0].isalpha() else f"s-{short}")[:MOST_BYTES].rstrip("-")
 
 
-def all_of(names: Iterable[str], taken: Iterable[str] = ()) -> dict[str, str]:
-    """The lab's names, each with the name that people write; two that come out alike get numbers."""
-    used, made = set(taken), dict[str, str]()
-    for name in names:
-        first = short = one(name)
-        number = 1
+def with_end(short: str, end: str) -> str:
+    """A name with an end that tells it apart."""
+    return f"{short[: MOST_BYTES - len(end) - 1].rstrip('-')}-{end}"
+
+
+def all_of(people: Iterable[Person], taken: Iterable[str] = ()) -> dict[str, Person]:
+    """The lab's names, each with its person. Those that come out alike are told apart by what the list has, else by
+    numbers; so is a name of which no letter is known."""
+    listed = list(people)
+    forms = [one(person.written) for person in listed]
+    ids = [re.sub("[^a-z0-9]+", "-", person.id.lower()).strip("-") for person in listed]
+    counts, used, made = Counter([*forms, *taken]), set(taken), dict[str, Person]()
+    for place, (person, form, identifier) in enumerate(zip(listed, forms, ids), 1):
+        short = form or f"s-{identifier or place}"[:MOST_BYTES].rstrip("-")
+        if form and identifier and counts[form] > 1:
+            short = with_end(form, identifier)
+        first, number = short, 1
         while short in used:
             number += 1
-            short = f"{first[: MOST_BYTES - len(str(number)) - 1]}-{number}"
+            short = with_end(first, str(number))
         used.add(short)
-        made[short] = name
+        made[short] = person
     return made
-
-
-def read(path: Path, column: str | None) -> list[str]:
-    """The names of a file: one a line, or a column of a CSV."""
-    try:
-        content = path.read_text(encoding="utf-8-sig")
-    except OSError as error:
-        raise Fault(f"{path}: {error.strerror}", 4) from None
-    except UnicodeDecodeError:
-        raise Fault(f"{path}: the bytes aren't UTF-8") from None
-    if column is None and path.suffix.lower() != ".csv":
-        found = content.splitlines()
-    else:
-        rows = csv.DictReader(io.StringIO(content), delimiter=";" if content.partition("\n")[0].count(";") else ",")
-        wanted = column or "name"
-        heads = {head.strip().lower(): head for head in rows.fieldnames or [] if head}
-        if wanted.lower() not in heads:
-            raise Fault(f"{path}: no column {wanted}; there are: {', '.join(heads)}. --column NAME names it")
-        found = [row[heads[wanted.lower()]] or "" for row in rows]
-    names = [name.strip() for name in found if name.strip()]
-    if not names:
-        raise Fault(f"{path}: no names")
-    return names

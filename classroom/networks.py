@@ -4,12 +4,23 @@ from __future__ import annotations
 import itertools
 import random
 import re
+from collections.abc import Iterable
 from pathlib import Path
 
 from classroom.program import Fault
 
 Links = list[tuple[int, int]]
-MOST_NODES = 256
+MOST_NODES, MOST_IDENTIFIER = 256, 65535
+
+
+def neighbours(nodes: Iterable[int], links: Iterable[tuple[int, int]]) -> dict[int, list[int]]:
+    """Each node's neighbours; a link that leads elsewhere counts for none."""
+    near: dict[int, list[int]] = {node: [] for node in nodes}
+    for a, b in links:
+        if a in near and b in near:
+            near[a].append(b)
+            near[b].append(a)
+    return near
 
 
 def random_links(count: int, links: int, chance: random.Random) -> Links:
@@ -70,14 +81,47 @@ def plain(word: str, nodes: int) -> Links:
 def from_file(path: Path, count: int | None) -> tuple[list[int], Links]:
     """The identifiers and links of a file with a link a line: `1 2`; with a count also 1 to that."""
     links: Links = []
+    seen: dict[frozenset[int], int] = {}
     try:
         lines = path.read_text(encoding="utf-8-sig").splitlines()
-    except (OSError, UnicodeDecodeError) as error:
-        raise Fault(f"{path}: {error}", 4) from None
+    except OSError as error:
+        raise Fault(f"{path}: {error.strerror}", 4) from None
+    except UnicodeDecodeError:
+        raise Fault(f"{path}: the bytes aren't UTF-8") from None
     for number, line in enumerate(lines, 1):
         words = line.partition("#")[0].replace(",", " ").replace("-", " ").split()
-        if words and (len(words) != 2 or not all(word.isascii() and word.isdecimal() for word in words)):
-            raise Fault(f"{path}: line {number}: not two numbers: {line.strip()}")
-        links += [(int(words[0]), int(words[1]))] if words else []
-    named = {end for link in links for end in link}
-    return sorted(named | set(range(1, (count or 0) + 1))), links
+        if not words:
+            continue
+        what = wrong_link(words, seen)
+        if what:
+            raise Fault(f"{path}: line {number}: {what}: {line.strip()}")
+        links.append((int(words[0]), int(words[1])))
+        seen[frozenset(links[-1])] = number
+    identifiers = sorted({end for link in links for end in link} | set(range(1, (count or 0) + 1)))
+    if not identifiers:
+        raise Fault(f"{path}: no links; each stands in a line: 1 2")
+    within(len(identifiers))
+    return identifiers, links
+
+
+def wrong_link(words: list[str], seen: dict[frozenset[int], int]) -> str | None:
+    """What is wrong with the words of a link, after those that were seen in other lines."""
+    if len(words) != 2 or not all(word.isascii() and word.isdecimal() for word in words):
+        return "not two numbers"
+    a, b = map(int, words)
+    if not (1 <= a <= MOST_IDENTIFIER and 1 <= b <= MOST_IDENTIFIER):
+        return f"a node is 1 to {MOST_IDENTIFIER}"
+    if a == b:
+        return "a node isn't linked to itself"
+    return f"these are linked in line {seen[frozenset((a, b))]} already" if frozenset((a, b)) in seen else None
+
+
+def enough(word: str, nodes: int) -> str:
+    """The words for the next network of a family that has so many nodes."""
+    sized = re.fullmatch(r"grid:(\d+)x(\d+)|random:(\d+):(\d+)", word)
+    if sized and sized[1]:
+        width = int(sized[1])
+        return f"--family grid:{width}x{-(-nodes // width)}"
+    if sized:
+        return f"--family random:{nodes}:{int(sized[4]) + nodes - int(sized[3])}"
+    return f"--nodes {nodes}"

@@ -8,7 +8,9 @@ import secrets
 from pathlib import Path
 
 from classroom import lab as labs
-from classroom import names, networks
+from classroom import lists, names, networks, slips
+from classroom.lists import Person
+from classroom.printable import printable
 from classroom.program import Fault, call
 
 KEY_BYTES = 16
@@ -24,32 +26,11 @@ def deal(identifiers: list[int], students: list[str], each: int) -> list[labs.No
 
 def start(made: labs.Lab, word: str, chance: random.Random) -> None:
     """Registers at the beginning: all clean; at random at every node; or hurt at one node in three."""
-    near: dict[int, list[int]] = {node.id: [] for node in made.nodes}
-    for a, b in made.links:
-        if a in near and b in near:
-            near[a].append(b)
-            near[b].append(a)
+    near = networks.neighbours((node.id for node in made.nodes), made.links)
     count = {"clean": 0, "random": len(made.nodes), "hurt": (len(made.nodes) + 2) // 3}[word]
     for node in chance.sample(made.nodes, count):
         node.p = chance.choice([None, *near[node.id]]) if word == "random" or not near[node.id] else chance.choice(near[node.id])
         node.m = chance.choice([True, False])
-
-
-def slips(made: labs.Lab, people: dict[str, str], path: Path) -> str:
-    """A page to print and cut: for each student the name, the key, the nodes, and how to connect."""
-    pages = [f"Slips of {path.name}: one for each student, to cut out. The teacher is {made.teacher[0]}."]
-    for name, key in made.students.items():
-        nodes = made.nodes_of(name)
-        shared = [f"{node} (with {other})" for node in nodes for other in made.owners(node) if other != name]
-        lines = [
-            people[name], f"  name   {name}", f"  key    {key}", f"  nodes  {', '.join(map(str, nodes)) or 'none'}",
-            *([f"  shared {', '.join(shared)}"] if shared else []),
-            f"  python3 client.py PORT               then  {{\"do\":\"hello\",\"name\":\"{name}\",\"key\":\"{key}\"}}",
-            f"  python3 bot.py PORT {name} {key} {','.join(map(str, nodes))}",
-            "  PORT is told by the teacher; files client.py and bot.py; docs/STUDENT.md says the rest.",
-        ]
-        pages.append("\n".join(lines))
-    return f"\n{'- ' * 40}\n".join(pages) + "\n"
 
 
 def groups(people: list[str], count: int) -> list[list[str]]:
@@ -59,7 +40,7 @@ def groups(people: list[str], count: int) -> list[list[str]]:
     return [people[index::count] for index in range(count)]
 
 
-def make(words: argparse.Namespace, people: dict[str, str], chance: random.Random) -> labs.Lab:
+def make(words: argparse.Namespace, people: dict[str, Person], chance: random.Random) -> labs.Lab:
     """A lab for these students."""
     students = list(people)
     if words.links:
@@ -69,30 +50,35 @@ def make(words: argparse.Namespace, people: dict[str, str], chance: random.Rando
         identifiers = list(range(1, count + 1))
     nodes = deal(identifiers, students, 2 if words.pairs else 1)
     keys = {name: secrets.token_hex(KEY_BYTES) for name in students}
-    teacher = names.one(words.teacher), secrets.token_hex(KEY_BYTES)
-    made = labs.Lab(1, words.sessions or min(labs.MOST_SESSIONS, len(students) + 1), teacher, keys, nodes, links)
-    made.events = words.events or min(labs.MOST_EVENTS, max(100, 2 * made.most_events()))
+    teacher = names.one(words.teacher) or "teacher", secrets.token_hex(KEY_BYTES)
+    made = labs.Lab(words.events or labs.MOST_EVENTS, words.sessions or labs.MOST_SESSIONS, teacher, keys, nodes, links, people)
     start(made, words.start, chance)
     return made
 
 
-def paths(path: Path, count: int) -> list[tuple[Path, Path]]:
-    """The files of each lab and of its slips."""
-    stems = [path.with_suffix("")] if count == 1 else [path.with_name(f"{path.stem}-{k}") for k in range(1, count + 1)]
-    return [(stem.with_name(f"{stem.name}.toml"), stem.with_name(f"{stem.name}-slips.txt")) for stem in stems]
+def paths(path: Path, count: int) -> list[tuple[Path, Path, Path]]:
+    """The files of each lab and of its slips to print, and the folder of those for programs."""
+    name = path.name.removesuffix(".toml")
+    if not name.strip("."):
+        raise Fault(f"{path} is no file's name: NAME.toml")
+    names_of = [name] if count == 1 else [f"{name}-{number}" for number in range(1, count + 1)]
+    return [
+        (path.with_name(f"{name}.toml"), path.with_name(f"{name}-slips.txt"), path.with_name(f"{name}-slips"))
+        for name in names_of
+    ]
 
 
 def new(words: argparse.Namespace) -> int:
     """Makes the labs and their slips, and tells where they lie and how names were changed."""
-    people = names.read(Path(words.students), words.column)
+    people = lists.read(Path(words.students), words).people
     chance = random.Random(words.seed)
-    everywhere = names.all_of(people, [names.one(words.teacher)])
+    everywhere = names.all_of(people, [names.one(words.teacher) or "teacher"])
     parts = groups(list(everywhere), words.groups)
     files = paths(Path(words.lab), words.groups)
     for file in itertools.chain(*files):
         if file.exists() or file.is_symlink():
             raise Fault(f"{file} is there already, and isn't overwritten")
-    for (lab_file, slips_file), part in zip(files, parts, strict=True):
+    for index, ((lab_file, slips_file, slips_folder), part) in enumerate(zip(files, parts, strict=True)):
         here = {name: everywhere[name] for name in part}
         made = make(words, here, chance)
         labs.write_new(lab_file, labs.text(made))
@@ -100,12 +86,25 @@ def new(words: argparse.Namespace) -> int:
         if answer.status != 0:
             lab_file.unlink()
             raise Fault(f"this would be no lab: {answer.error}", answer.status)
-        labs.write_new(slips_file, slips(made, here, lab_file))
-        print(f"{lab_file}: {answer.output.strip().removeprefix('ok: ')}; slips: {slips_file}")
+        labs.write_new(slips_file, slips.page(made, here, words.port + index, lab_file))
+        slips.write_all(made, words.port + index, slips_folder)
+        size = answer.output.strip().removeprefix("ok: ")
+        print(f"{lab_file}: {size}; slips: {slips_file} to print, {slips_folder} for programs")
         if made.sessions < len(part) + 1:
             print(f"note: {made.sessions} sessions for {len(part)} students and a teacher: "
                   f"--groups {-(-len(everywhere) // (labs.MOST_SESSIONS - 1))} makes labs in which all have a place")
-    for name, written in everywhere.items():
-        if name != written:
-            print(f"{written} is {name}")
+        tell_idle(made, words)
+    for name, person in everywhere.items():
+        if name != person.written:
+            print(printable(f"{person.written}{f' ({person.id})' if person.id else ''} is {name}"))
     return 0
+
+
+def tell_idle(made: labs.Lab, words: argparse.Namespace) -> None:
+    """Who has no node, and which network has enough."""
+    idle = [name for name in made.students if not made.nodes_of(name)]
+    if not idle:
+        return
+    need = -(-len(made.students) // (2 if words.pairs else 1))
+    more = f"a file with {need} nodes has enough" if words.links else f"{networks.enough(words.family, need)} has enough"
+    print(f"note: no node for {', '.join(idle)}: {more}")

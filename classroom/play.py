@@ -5,21 +5,12 @@ import argparse
 from itertools import islice
 from pathlib import Path
 
+from classroom import folders
 from classroom.drawing import Drawing, standalone
 from classroom.frames import Frame, frames_of
 from classroom.layout import lay_out
 from classroom.page import page_of
 from classroom.program import Fault
-
-
-def given(words: list[str]) -> tuple[Path, Path]:
-    """Lab and journal: those of a run's folder, or the two that are named."""
-    first = Path(words[0])
-    if len(words) == 1 and first.is_dir():
-        return first / "lab.toml", first / "journal"
-    if len(words) != 2:
-        raise Fault("play: the folder of a run, or a lab and a journal")
-    return first, Path(words[1])
 
 
 def page(lab_file: Path, journal: Path) -> str:
@@ -43,7 +34,10 @@ def picture(lab_file: Path, journal: Path, place: int) -> str:
 
 def play(words: argparse.Namespace) -> int:
     """Writes the file and says where it lies. Status 3 where the audit says no."""
-    lab_file, journal = given(words.run)
+    runs = folders.given(words.run)
+    if len(runs) != 1:
+        raise Fault("play: the folder of a run, or a lab and a journal")
+    lab_file, journal = runs[0]
     output = Path(words.output or ("run.html" if words.svg is None else f"{words.svg}.svg"))
     text = page(lab_file, journal) if words.svg is None else picture(lab_file, journal, words.svg)
     output.write_text(text, encoding="utf-8")

@@ -51,6 +51,11 @@ def host() -> Path | None:
     return path if os.access(path, os.X_OK) and not path.is_dir() else None
 
 
+def ports_from(port: int, tries: int = 50) -> range:
+    """The ports of which the first free one is taken."""
+    return range(port, min(port + tries, 65536))
+
+
 def call(*words: str | Path) -> Answer:
     """Calls the program to its end."""
     done = subprocess.run([program(), *map(plain, words)], stdin=subprocess.DEVNULL, capture_output=True, check=False)

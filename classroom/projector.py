@@ -19,10 +19,9 @@ from classroom.frames import Frame
 from classroom.lab import Lab
 from classroom.layout import lay_out
 from classroom.page import Frames, live_page
-from classroom.program import Fault
+from classroom.program import Fault, ports_from
 from classroom.watch import Now, Present
 
-TRIES = 50
 LISTED = 25  # events and lines that a page is told of at once
 STILL_HERE = 10.0  # seconds without news after which a page is told that there are none
 LAST_WORD = 5.0  # seconds in which the pages may learn that the run is over
@@ -162,7 +161,7 @@ def message(rows: Frames, before: Now | None, now: Now) -> dict[str, Any]:
 
 def open_pages(port: int, title: str, lab: Lab, typed: queue.SimpleQueue[str]) -> Pages:
     """At that port, or the next that is free."""
-    for number in range(port, min(port + TRIES, 65536)):
+    for number in ports_from(port):
         try:
             return Pages(number, title, lab, typed)
         except OSError:

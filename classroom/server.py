@@ -1,48 +1,85 @@
 """The one place where a server is started, and where it ends."""
 from __future__ import annotations
 
+import os
 import re
+import signal
 import subprocess
+import time
+from collections.abc import Iterator
 from dataclasses import dataclass
 from pathlib import Path
 
-from classroom.program import Fault, host, is_clone, plain, program
+from classroom.folders import Process, Record
+from classroom.program import Fault, host, is_clone, plain, ports_from, program
 
-TRIES = 50
-LISTENING = re.compile(r"listening on port (\d+)(?:, desk on port (\d+))?\n")
+LISTENING = re.compile(r"(?m)^listening on port (?P<port>\d+)(?:, desk on port (?P<desk>\d+))?$")
+AGAIN = 0.01  # seconds between two looks at what a server has printed
 
 
 @dataclass
 class Server:
     """A server that listens. What it prints goes to `server.txt` of its folder."""
 
-    process: subprocess.Popen[bytes]
+    process: Process
     port: int
     desk: int
     hosted: bool
     output: Path
+    child: subprocess.Popen[bytes] | None = None  # None where another process has started it.
 
-    def ended(self) -> bool:
-        """Whether its process has ended."""
-        return self.process.poll() is not None
-
-    def finish(self, seconds: float) -> int:
-        """Waits for its end after the teacher's bye, and ends it where it doesn't come; gives the status.
-        A server for a number of connections can't be told that no more will come: it is ended."""
+    def ended(self, seconds: float = 0.0) -> bool:
+        """Whether its process has ended, or ends in that time."""
+        if self.child is None:
+            end = time.monotonic() + seconds
+            while self.process.lives():
+                if time.monotonic() >= end:
+                    return False
+                time.sleep(AGAIN)
+            return True
         try:
-            status = self.process.wait(seconds if self.hosted else 0)
+            self.child.wait(seconds)
         except subprocess.TimeoutExpired:
-            self.process.terminate()
-            self.process.wait()
-            status = 4 if self.hosted else 0
-        if self.process.stdout is not None:
-            with self.process.stdout as rest, self.output.open("ab") as it:
-                it.write(rest.read())
-        return status
+            return False
+        return True
+
+    def status(self) -> int:
+        """Its status, once it has ended; of another process's server what it said last tells whether it ended well."""
+        if self.child is not None:
+            return self.child.wait()
+        return 0 if self.printed().rpartition("\n")[2].startswith("done: ") else 4
+
+    def stop(self) -> int:
+        """Ends it, where it doesn't end by a bye; gives the status."""
+        if not self.ended():
+            os.kill(self.process.number, signal.SIGTERM)
+        while not self.ended(AGAIN):
+            pass
+        return self.status()
 
     def printed(self) -> str:
-        """What it printed, after its first line."""
-        return self.output.read_text(encoding="utf-8", errors="replace").strip()
+        """What it printed, after the line that tells its ports."""
+        text = self.output.read_text(encoding="utf-8", errors="replace")
+        return LISTENING.split(text)[-1].strip()
+
+
+def first_line(process: subprocess.Popen[bytes], output: Path, before: int) -> str:
+    """The line in which a server tells its ports, or all that it printed where it ends before. `before` are the bytes
+    that stood there."""
+    while True:
+        ended = process.poll() is not None
+        text = output.read_bytes()[before:].decode(errors="replace")
+        told = LISTENING.search(text)
+        if told or ended:
+            return told[0] if told else text.strip()
+        time.sleep(AGAIN)
+
+
+def ports_of(port: int, resumed: Record | None) -> Iterator[tuple[int, int]]:
+    """The ports that are tried, the desk's 0 where the system chooses it; where a class goes on, its own first."""
+    if resumed is not None:
+        yield resumed.port, resumed.desk
+    yield from ((number, 0) for number in ports_from(resumed.port if resumed else port))
 
 
 def ready(by_number: bool) -> None:
@@ -53,28 +90,28 @@ def ready(by_number: bool) -> None:
         raise Fault(f"mml_host isn't built: {how}; --serve takes a server for as many connections in all as the lab has sessions")
 
 
-def start(folder: Path, lab: Path, port: int, sessions: int, journal: Path, by_number: bool = False) -> Server:
-    """Starts a host over a lab at the first free port from that on; or, by number, a server for so many
-    connections as the lab has sessions, of which the teacher's desk is one."""
-    ready(by_number)
-    hosting = None if by_number else host()
-    for number in range(port, min(port + TRIES, 65536)):
-        last = (plain(lab), str(number), "0") if hosting else (plain(lab), str(number), str(sessions))
-        words: list[str | Path] = [hosting, "host", *last] if hosting else [program(), "serve", *last]
+def start(folder: Path, lab: Path, port: int, journal: Path, by_number: int | None = None,
+          resumed: Record | None = None) -> Server:
+    """Starts a host over a lab at the first free port from that on, or one that goes on with a class; or, by number, a
+    server for so many connections, of which the teacher's desk is one."""
+    ready(by_number is not None)
+    hosting = host() if by_number is None else None
+    for number, desk in ports_of(port, resumed):
+        ports = (str(number), str(desk if by_number is None else by_number))
+        words: list[str | Path] = [hosting, "resume" if resumed else "host"] if hosting else [program(), "serve"]
         output = folder / "server.txt"
-        with output.open("wb") as errors:
+        with output.open("ab" if resumed else "wb") as prints:
+            before = prints.tell()
             process = subprocess.Popen(
-                [*words, plain(journal)], stdin=subprocess.DEVNULL, stdout=subprocess.PIPE, stderr=errors,
+                [*words, plain(lab), *ports, plain(journal)], stdin=subprocess.DEVNULL, stdout=prints, stderr=prints,
                 start_new_session=True,
             )
-        assert process.stdout is not None
-        line = process.stdout.readline().decode(errors="replace")
+        line = first_line(process, output, before)
         told = LISTENING.fullmatch(line)
         if told:
-            return Server(process, int(told[1]), int(told[2] or told[1]), hosting is not None, output)
+            desk_port = int(told["desk"] or told["port"])
+            return Server(Process.of(process.pid), int(told["port"]), desk_port, hosting is not None, output, process)
         status = process.wait()
-        process.stdout.close()
-        error = output.read_text(encoding="utf-8", errors="replace").strip()
-        if not error.endswith("cannot listen"):
-            raise Fault(f"the server doesn't start: {error or line.strip()}", status or 4)
+        if not line.endswith("cannot listen"):
+            raise Fault(f"the server doesn't start: {line}", status or 4)
     raise Fault(f"no port is free from {port} to {number}", 4)

@@ -10,7 +10,7 @@ from collections import deque
 from itertools import combinations
 from operator import mul
 
-from classroom.networks import Links
+from classroom.networks import Links, neighbours
 
 FEW_NODES = 100  # more take seconds
 TURNS = 60  # of the power method, and of the majorization
@@ -37,10 +37,7 @@ def by_springs(nodes: list[int], links: Links) -> dict[int, Point] | None:
 
 def distances(nodes: list[int], links: Links) -> Rows:
     """How many links part each two nodes; where no path joins them, one more than the longest path has."""
-    near: dict[int, list[int]] = {node: [] for node in nodes}
-    for a, b in links:
-        near[a].append(b)
-        near[b].append(a)
+    near = neighbours(nodes, links)
     found = []
     for node in nodes:
         steps, queue = {node: 0}, deque([node])

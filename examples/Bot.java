@@ -1,26 +1,74 @@
 import java.io.BufferedReader;
+import java.io.IOException;
 import java.io.InputStreamReader;
 import java.io.PrintStream;
 import java.net.Socket;
+import java.nio.file.Files;
+import java.nio.file.Path;
+import java.util.Map;
 import java.util.regex.Matcher;
 import java.util.regex.Pattern;
 
-/** Plays a student's nodes with no library: java Bot.java PORT NAME KEY NODE... Lines are taken apart by hand. */
+/**
+ * Plays a student's nodes with no library: java Bot.java SLIP, or java Bot.java PORT NAME KEYFILE NODE,..
+ * Lines are taken apart by hand.
+ */
 public class Bot {
     static final Pattern NEAR = Pattern.compile("\\{\"m\":(?:true|false),\"node\":(\\d+),\"p\":(\\d+|null)\\}");
+    /** Denials and refusals that end the bot: its status, a space, and a sentence. The others mean: look again. */
+    static final Map<String, String> STOPS = Map.of(
+        "unknown", "2 name and key don't match: take both from your slip",
+        "not-owner", "3 a node isn't yours: correct the nodes by your slip",
+        "malformed", "3 the server takes a line for no request: correct the program",
+        "busy", "5 all places were taken for a minute: come again later",
+        "full", "6 nothing is granted any longer: tell your teacher",
+        "journal", "6 nothing is granted any longer: tell your teacher");
     static PrintStream out;
     static BufferedReader in;
 
+    static void stop(int status, String sentence) {
+        System.err.println("Bot: " + sentence);
+        System.exit(status);
+    }
+
     /** Sends a line, and gives the line that answers it. */
-    static String ask(String line) throws Exception {
+    static String ask(String line) {
         out.print(line + "\n");
         out.flush();
-        String reply = in.readLine();
-        if (reply == null) {
-            System.out.println("the server has closed the connection");
-            System.exit(0);
+        String reply = null;
+        try {
+            reply = in.readLine();
+        } catch (IOException error) {
+            // It was cut off.
+        }
+        if (reply == null) stop(0, "the run is over, or the connection was lost");
+        Matcher no = Pattern.compile("\"(?:deny|refuse)\":\"([a-z-]+)\"").matcher(reply);
+        if (no.find() && STOPS.containsKey(no.group(1)) && !no.group(1).equals("busy")) {
+            String why = STOPS.get(no.group(1));
+            stop(why.charAt(0) - '0', why.substring(2));
         }
         return reply;
+    }
+
+    /** Connects and says hello; where no place is free, again each second, for a minute. */
+    static void enter(int port, String name, String key) throws Exception {
+        for (int second = 0; second <= 60; second++) {
+            try {
+                Socket socket = new Socket("127.0.0.1", port);
+                out = new PrintStream(socket.getOutputStream(), false, "UTF-8");
+                in = new BufferedReader(new InputStreamReader(socket.getInputStream(), "UTF-8"));
+            } catch (IOException error) {
+                stop(4, "no server at port " + port + "; your teacher tells the port");
+            }
+            String reply = ask("{\"do\":\"hello\",\"name\":\"" + name + "\",\"key\":\"" + key + "\"}");
+            if (reply.startsWith("{\"ok\":\"hello\"")) {
+                System.out.println(reply);
+                return;
+            }
+            if (!reply.contains("\"busy\"")) stop(4, "at port " + port + " is another program; your teacher tells the port");
+            Thread.sleep(1000);
+        }
+        stop(5, STOPS.get("busy").substring(2));
     }
 
     /** What stands at a key of the reply itself, not of a neighbour in it; null where that is null. */
@@ -37,19 +85,36 @@ public class Bot {
         return null;
     }
 
+    /** What stands after a word at the beginning of a line of a slip, or else the text itself. */
+    static String after(String slip, String word) {
+        Matcher found = Pattern.compile("(?m)^" + word + "\\s+(\\S+)\\s*$").matcher(slip);
+        return found.find() ? found.group(1) : slip.trim();
+    }
+
+    static String read(String file) {
+        try {
+            return Files.readString(Path.of(file));
+        } catch (IOException error) {
+            stop(1, file + " can't be read");
+            return "";
+        }
+    }
+
     public static void main(String[] words) throws Exception {
-        Socket socket = new Socket("127.0.0.1", Integer.parseInt(words[0]));
-        out = new PrintStream(socket.getOutputStream(), false, "UTF-8");
-        in = new BufferedReader(new InputStreamReader(socket.getInputStream(), "UTF-8"));
-        System.out.println(ask("{\"do\":\"hello\",\"name\":\"" + words[1] + "\",\"key\":\"" + words[2] + "\"}"));
+        if (words.length != 1 && words.length != 4) stop(1, "usage: java Bot.java SLIP, or PORT NAME KEYFILE NODE,..");
+        String slip = read(words[words.length == 1 ? 0 : 2]);
+        String port = words.length == 1 ? after(slip, "port") : words[0];
+        if (!port.matches("\\d{1,5}")) stop(1, "no port in " + words[0]);
+        enter(Integer.parseInt(port), words.length == 1 ? after(slip, "name") : words[1], after(slip, "key"));
+        String[] nodes = (words.length == 1 ? after(slip, "nodes") : words[3]).split(",");
         while (true) {
-            for (int k = 3; k < words.length; k++) {
-                String look = ask("{\"do\":\"look\",\"node\":" + words[k] + "}");
+            for (String node : nodes) {
+                String look = ask("{\"do\":\"look\",\"node\":" + node + "}");
                 String rule = at(look, "rule");
                 if (rule == null || at(look, "chosen") != null) continue;
-                String with = rule.equals("marriage") ? ",\"with\":" + suitor(look, words[k]) : "";
+                String with = rule.equals("marriage") ? ",\"with\":" + suitor(look, node) : "";
                 String move = ",\"at\":" + at(look, "at") + ",\"rule\":\"" + rule + "\"" + with + "}";
-                System.out.println(ask("{\"do\":\"move\",\"node\":" + words[k] + move));
+                System.out.println(ask("{\"do\":\"move\",\"node\":" + node + move));
             }
             Thread.sleep(100);
         }

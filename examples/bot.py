@@ -1,26 +1,31 @@
 #!/usr/bin/env python3
-"""Plays a student's nodes, until the run ends or nothing was new: bot.py PORT NAME KEY NODE,.. [SECONDS]"""
+"""Plays a student's nodes, until the run ends or nothing was new for SECONDS:
+bot.py SLIP [SECONDS], or bot.py PORT NAME KEYFILE NODE,.. [SECONDS]"""
 import sys, time
 from pathlib import Path
 
 sys.path.append(str(Path(__file__).resolve().parent.parent / "classroom"))
-from client import Client, Closed, Denied, Refused
+from client import Denied, Slip, enter, goes_on, run
 
-if len(sys.argv) < 5:
-    sys.exit(__doc__)
-port, name, key, nodes, *patience = sys.argv[1:]
-try:
-    with Client(int(port), name, key) as me:
+
+def play(words: list[str]) -> None:
+    """Looks at each node again and again, and asks for its enabled rule."""
+    slip, rest = Slip.of(words)
+    patience = float(rest[0]) if rest else float("inf")
+    with enter(slip, min(60.0, patience)) as me:
         newest, since = -1, time.monotonic()
-        while not patience or time.monotonic() - since < float(patience[0]):
-            for look in [me.look(int(node)) for node in nodes.split(",")]:
+        while time.monotonic() - since < patience:
+            for look in [me.look(node) for node in slip.nodes]:
                 if look.at > newest:
                     newest, since = look.at, time.monotonic()
                 try:
                     if look.rule and not look.chosen:
-                        print(name, me.move(look), flush=True)
+                        print(slip.name, me.move(look), flush=True)
                 except Denied as denied:  # A step was closed since, or another program was quicker.
-                    print(name, look.node, denied, flush=True)
+                    print(slip.name, look.node, denied, flush=True)
+                    if not goes_on(denied):
+                        raise
             time.sleep(0.1)
-except (Closed, Refused) as end:  # The run has ended, or no place is free.
-    print(name, end, flush=True)
+
+
+run(play, __doc__ or "")

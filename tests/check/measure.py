@@ -14,6 +14,7 @@ import time
 from tests.check.processes import Process, processes
 
 KINDS = ("proof", "tests", "wrong")
+PROVING = ("proofs", "wrong")  # The parts whose checks are told by crate; all others are scripts.
 PAUSE = 0.5
 
 Check = tuple[int, str]
@@ -106,7 +107,7 @@ def figures(checks: Checks, parts: dict[str, float]) -> str:
         held = checks.most_held / 1e9, checks.most_held_in_all / 1e9
         lines.append(f"memory: at most {held[0]:.1f} GB in one check, {held[1]:.1f} GB in those side by side")
         lines.append(f"the machine: mml_rules proof {sums.get(('mml_rules', 'proof'), 0):.2f}")
-    scripts = {name: it for name, it in parts.items() if name not in ("proofs", "wrong")}
+    scripts = {name: it for name, it in parts.items() if name not in PROVING}
     whole = sum(parts.values())
     of_scripts = sum(scripts.values())
     rest = max(0.0, whole - sum(of_kind.values()) - of_scripts)

@@ -51,10 +51,6 @@ PROOFS = Part("proofs", ("rt", "ci"), 110, 10, ALL, ("rt",), shows=r"^rt: ")
 WRONG = Part("wrong", module("wrong"), 70, 5, ALL, ("rt",), shows=r"")
 
 
-# Processor minutes of those modules that take more than a few seconds.
-CLASSROOM = {"class-large": 1.0, "class-check": 0.8, "class-new": 0.5, "class-mark": 0.4}
-
-
 def classroom() -> Iterator[Part]:
     """The modules of tests/classroom, each with servers, and some with a browser, of its own."""
     for it in sorted((TOP / "tests/classroom").glob("test_*.py")):
@@ -62,33 +58,32 @@ def classroom() -> Iterator[Part]:
         needs = (*BUILT, "python3", *["browser"] * ("tests.classroom.browser" in text))
         likes = ("java",) if '"java"' in text else ()
         name = it.stem.replace("test_", "class-")
-        work = CLASSROOM.get(name, 0.2)
-        yield Part(name, cases(f"classroom.{it.stem}", python="/usr/bin/python3"), work, max(work, 0.4), 1, needs, likes)
+        yield Part(name, cases(f"classroom.{it.stem}", python="/usr/bin/python3"), 0.2, 0.4, 1, needs, likes)
 
 
 # What needs no proof. The first that fits is begun first, so that the long ones stand before the short ones.
 QUICK = [
-    Part("large", module("program.large"), 1.0, 1.0, 1, BUILT),
+    Part("hostile", module("hostile"), 0.1, 1.1, 2, BUILT),
+    Part("release", ("bash", "tests/release/run"), 0.6, 1.0, 1, ("built", "root", "release", "openssh-server", "git")),
     Part("random", module("random"), 1.0, 1.0, 1, BUILT),
-    Part("hostile", module("hostile"), 0.2, 1.2, 2, BUILT),
-    Part("release", ("bash", "tests/release/run"), 0.7, 1.0, 1, ("built", "root", "release", "openssh-server", "git")),
     *classroom(),
-    Part("launchers", ("bash", "tests/program/launchers"), 0.7, 0.7, 1, ("built", "rt")),
-    Part("host", module("host"), 0.4, 0.8, 2, BUILT),
+    Part("launchers", ("bash", "tests/program/launchers"), 1.2, 1.3, 1, ("built", "rt")),
+    Part("host", module("host"), 0.3, 0.8, 2, BUILT),
     Part("hostile-host", module("hostile", "15", "host"), 0.2, 0.5, 2, BUILT),
-    Part("memory", module("memory", "uses"), 0.5, 0.6, 1, (*BUILT, "rt")),
-    Part("faults", module("faults"), 0.5, 0.6, 1, (*BUILT, "rt")),
+    Part("resume", module("resume"), 0.5, 1.0, 2, (*BUILT, "rt")),
     Part("wrong-tests", cases("wrong.test_wrong"), 0.6, 0.6, 1, ("rt",)),
-    Part("program", ("bash", "tests/program/run"), 0.4, 0.4, 1, BUILT),
-    Part("calls", module("program"), 0.4, 0.4, 1, BUILT),
-    Part("labs", module("labs"), 0.3, 0.3, 1, BUILT),
-    Part("lines", module("program.lines"), 0.2, 0.2, 1, BUILT),
-    Part("audits", module("program.audits"), 0.2, 0.2, 1, BUILT),
-    Part("halted", module("program.halted"), 0.2, 0.2, 1, BUILT),
-    Part("refusals", module("memory", "tests"), 0.3, 0.3, 1, ("tests", "rt")),
     Part("check", cases("check.test_check", "check.test_pieces"), 0.2, 0.6, 1),
-    Part("resume", module("resume"), 0.8, 1.0, 2, (*BUILT, "rt")),
+    Part("memory", module("memory", "uses"), 0.2, 0.4, 1, (*BUILT, "rt")),
+    Part("calls", module("program"), 0.2, 0.3, 1, BUILT),
+    Part("refusals", module("memory", "tests"), 0.2, 0.2, 1, ("tests", "rt")),
+    Part("program", ("bash", "tests/program/run"), 0.1, 0.2, 1, BUILT),
+    Part("faults", module("faults"), 0.1, 0.2, 1, (*BUILT, "rt")),
+    Part("audits", module("program.audits"), 0.2, 0.2, 1, BUILT),
+    Part("labs", module("labs"), 0.1, 0.1, 1, BUILT),
+    Part("lines", module("program.lines"), 0.1, 0.1, 1, BUILT),
+    Part("halted", module("program.halted"), 0.1, 0.1, 1, BUILT),
     Part("journals", ("bash", "tests/journals/run"), 0.1, 0.2, 1, BUILT),
+    Part("large", module("program.large"), 0.1, 0.1, 1, BUILT),
     Part("documents", module("documents"), 0.1, 0.1, 1, ("git",)),
     Part("kit", module("check.kit"), 0.1, 0.1, 1, ("rt",)),
 ]

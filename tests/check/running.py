@@ -9,7 +9,7 @@ from collections.abc import Iterator
 from dataclasses import dataclass, field
 from pathlib import Path
 
-from tests.check.measure import Checks
+from tests.check.measure import PROVING, Checks
 from tests.check.parts import TOP, Part
 from tests.check.processes import end_all
 from tests.check.signals import HEED
@@ -108,7 +108,7 @@ class Crew:
             yield from self.ended()
             for it in self.running.values():
                 it.show()
-            self.checks.look({pid: it.part.name for pid, it in self.running.items()})
+            self.checks.look({pid: it.part.name for pid, it in self.running.items() if it.part.name in PROVING})
             if self.running:
                 time.sleep(POLL)
 

@@ -20,7 +20,7 @@ touch "$ROOM/begun"
 while :; do sleep 1000; done
 """
 # Waits until the test lets it end.
-WAITS = 'touch "$ROOM/begun"; until [ -e "$ROOM/go" ]; do sleep 0.05; done; echo 1 test'
+WAITS = 'touch "$ROOM/begun"; until [ -e "$ROOM/go" ] || [ ! -d "$ROOM" ]; do sleep 0.05; done; echo 1 test'
 
 
 class Words(InTree):

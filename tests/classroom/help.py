@@ -50,17 +50,18 @@ class InRoom(unittest.TestCase):
 class Going:
     """A run that is going on; its lines are read one by one."""
 
-    def __init__(self, test: InRoom, lab: Path, *more: str, before: tuple[str, ...] = (), **environment: str) -> None:
-        """`before` are words before the call: another program that makes it."""
+    def __init__(self, test: InRoom, lab: Path | None, *more: str | Path, before: tuple[str, ...] = (), **environment: str) -> None:
+        """`before` are words before the call: another program that makes it. Without a lab, `more` are all words."""
         self.lines: list[str] = []
+        at = str(random.randint(20000, 50000))
+        words: list[str | Path] = ["run", lab, "--into", test.room / "runs", "--port", at, *more] if lab else [*more]
         self.process = subprocess.Popen(
-            [*before, sys.executable, TOP / "class", "run", lab, "--into", test.room / "runs", "--port",
-             str(random.randint(20000, 50000)), "--typed", *more],
+            [*before, sys.executable, TOP / "class", *words, "--typed"],
             stdin=subprocess.PIPE, stdout=subprocess.PIPE, stderr=subprocess.STDOUT, text=True,
             env={**os.environ, **environment},
         )
         test.addCleanup(self.close)
-        told = re.search(r"^port (\d+), for .*; folder (.*)$", self.until("^port .*folder"))
+        told = re.search(r"^port (\d+), .*; folder (.*)$", self.until("^port .*folder"))
         assert told is not None
         self.port, self.folder = int(told[1]), Path(told[2])
         self.until("^words: ")
@@ -135,16 +136,18 @@ class Cycle(InRoom):
 
     def bot(self, going: Going, name: str, *command: str | Path) -> subprocess.Popen[bytes]:
         """A student's bot."""
-        lab = read(CYCLE)
-        nodes = list(map(str, lab.nodes_of(name)))
-        named = [",".join(nodes)] if not command else nodes
         bot = subprocess.Popen(
-            [*(command or (sys.executable, EXAMPLES / "bot.py")), str(going.port), name, KEYS[name], *named],
+            [*(command or (sys.executable, EXAMPLES / "bot.py")), self.slip(going.port, name)],
             stdin=subprocess.DEVNULL, stdout=subprocess.DEVNULL, stderr=subprocess.DEVNULL,
         )
         self.addCleanup(bot.wait)
         self.addCleanup(bot.kill)
         return bot
+
+    def slip(self, port: int, name: str) -> Path:
+        """A student's slip."""
+        nodes = ",".join(map(str, read(CYCLE).nodes_of(name)))
+        return self.file(f"{name}-{port}.slip", f"port {port}\nname {name}\nkey {KEYS[name]}\nnodes {nodes}\n")
 
     def whole(self, folder: Path) -> int:
         """Wants a finished folder; gives the number of its events."""

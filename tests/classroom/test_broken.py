@@ -17,11 +17,11 @@ from collections import Counter
 from collections.abc import Callable
 from pathlib import Path
 
-from classroom import connected, run
+from classroom import connected, ending
 from classroom.client import Client, Closed, Refused
 from classroom.connected import Connected
 from classroom.program import host
-from tests.classroom.help import CYCLE, EXAMPLES, KEYS, LIMIT, Cycle, Going, InTerminal
+from tests.classroom.help import CYCLE, EXAMPLES, KEYS, LIMIT, Cycle, Going
 
 MOUNT = "mount -t tmpfs -o size=128k tmpfs \"$1\" && shift && exec \"$@\""
 
@@ -51,7 +51,7 @@ class Broken(Cycle):
                 move("jonas", 7), typed("cut 1 3"), typed("link 2 4")]
         for moment in range(10):
             with self.subTest(moment=moment):
-                going = Going(self, self.lab("cycle.toml", 16), "--close", "by-hand")
+                going = Going(self, self.lab("cycle.toml", 16), "--close", "by-hand", "--beside")
                 for act in acts[:moment]:
                     act(going)
                 os.kill(going.server(), signal.SIGKILL)
@@ -90,13 +90,14 @@ class Broken(Cycle):
     def test_a_full_disk(self) -> None:
         going = Going(self, CYCLE, "--close", "by-hand", before=self.mounted())
         self.fill(Path(f"/proc/{going.process.pid}/root{going.folder}"))
+        going.until("^the disk is full: the next line of the journal can't be written, and from then on nothing is granted; make room$")
         with Client(going.port, "gus", KEYS["gus"]) as gus:
             with self.assertRaises(Refused) as refused:
                 gus.move(gus.look(4))
             self.assertEqual((refused.exception.word, gus.look(4).chosen), ("journal", None))
         going.type("fault 1 2 true")
         going.until("^no: journal")
-        going.type("end")
+        going.until("^nothing more is granted: journal: ")
         self.assertEqual(going.ends(), 4, going.lines)
         self.assertTrue(any(line.startswith("ok: 0 events") for line in going.lines), going.lines)
         self.assertTrue(any("No space left on device; the journal is" in line for line in going.lines), going.lines)
@@ -107,32 +108,25 @@ class Broken(Cycle):
         going = Going(self, lab, "--close", "every:0.1")
         with Client(going.port, "gus", KEYS["gus"]) as gus:
             gus.move(gus.look(4))
-        self.assertEqual(going.ends(), 0, going.lines)
-        self.assertIn("nothing more is granted: full", going.lines)
+        self.assertEqual(going.ends(), 5, going.lines)
+        self.assertTrue(any(line.startswith("nothing more is granted: full: events 1 of 1; ") for line in going.lines), going.lines)
         self.assertEqual(self.whole(going.folder), 1)
 
     def test_a_folder_that_takes_nothing_more(self) -> None:
         going = Going(self, CYCLE)
-        going.type("end")
+        going.type("end\nend")
         self.assertEqual(going.ends(), 0)
         (going.folder / "marks.txt").unlink()
         (going.folder / "marks.txt").symlink_to("/dev/full")
         lines: list[str] = []
-        self.assertEqual(run.finish(going.folder, lines.append), 4)
+        self.assertEqual(ending.finish(going.folder, lines.append), 4)
         self.assertRegex(lines[-1], "No space left on device; the journal is .*/journal$")
-
-    def test_a_terminal_that_goes_away(self) -> None:
-        terminal = InTerminal(self)
-        terminal.type(b"fault 1 2 true\n", b" 0 of at most 35 moves")
-        os.close(terminal.ours)
-        self.assertEqual(terminal.process.wait(LIMIT), 0)
-        self.assertEqual(self.whole(next((self.room / "runs").iterdir())), 1)
 
     def test_nobody_reads_any_more(self) -> None:
         going = Going(self, CYCLE, "--close", "by-hand")
         assert going.process.stdout is not None
         going.process.stdout.close()
-        for line in ("fault 1 2 true", "link 1 3", "end"):
+        for line in ("fault 1 2 true", "link 1 3", "end", "end"):
             going.type(line)
         self.assertEqual(going.process.wait(LIMIT), 0)
         self.assertEqual(self.whole(going.folder), 2)
@@ -141,10 +135,9 @@ class Broken(Cycle):
     def test_busy(self) -> None:
         with socket.create_server(("127.0.0.1", 0)) as full:
             def turn_away() -> None:
-                for _ in range(2):
-                    connection, _ = full.accept()
-                    with connection:
-                        connection.sendall(b'{"refuse":"busy"}\n')
+                connection, _ = full.accept()
+                with connection:
+                    connection.sendall(b'{"refuse":"busy"}\n')
 
             away = threading.Thread(target=turn_away)
             away.start()
@@ -152,46 +145,43 @@ class Broken(Cycle):
             with self.assertRaises(Refused) as refused:
                 Client(port, "gus", "key")
             self.assertEqual(refused.exception.word, "busy")
-            bot = subprocess.run([sys.executable, EXAMPLES / "bot.py", str(port), "gus", "key", "1"], capture_output=True, text=True,
-                                 timeout=LIMIT, check=False)
-            self.assertEqual((bot.returncode, bot.stdout), (0, "gus busy: all places are taken; come again later\n"))
             away.join()
 
     def test_programs_of_the_examples_tell_their_words(self) -> None:
         for name in ("bot.py", "teacher.py"):
             said = subprocess.run([sys.executable, EXAMPLES / name, "--help"], capture_output=True, text=True, timeout=LIMIT, check=False)
             self.assertEqual((said.returncode, said.stdout), (1, ""))
-            self.assertIn(f"{name} PORT NAME KEY", said.stderr)
+            self.assertIn(f"{name} SLIP", said.stderr)
             self.assertNotIn("Traceback", said.stderr)
 
     def test_all_places_are_taken(self) -> None:
         going = Going(self, self.lab("cycle.toml", 3), "--close", "by-hand")
         gus = self.bot(going, "gus")
-        self.assertRegex(going.until("^connected: "), r"^connected: gus \(.*, process \d+\)$")
+        going.until(f"^connected: process {gus.pid}$")
         self.bot(going, "hana")
-        line = going.until("and who comes now isn't let in")
-        self.assertRegex(line, r"; connected: gus \(.*\), hana \(.*\)$")
+        going.until("^all places are taken|^each connection of this server was used")
         with self.assertRaises(Refused if host() else Closed):
             Client(going.port, "ines", KEYS["ines"])
         gus.kill()
-        self.assertRegex(going.until("^gone: "), r"^gone: gus \(")
-        going.type("end")
+        going.until(f"^gone: process {gus.pid}$")
+        going.type("end\nend")
         self.assertEqual(going.ends(), 0, going.lines)
         self.whole(going.folder)
 
     def test_who_is_connected(self) -> None:
         listens = (4711, 0, "0A", "1")
         served = [(4711, port, "01", "2") for port in (5, 6, 7)]
-        found = Connected(4711, 2, [], 7)
+        found = Connected(4711, 2, 7)
         self.assertEqual(found.compared([listens, served[2]]), [])
-        self.assertEqual(found.compared([listens, *served[1:]]), ["connected: someone"])
+        self.assertEqual(found.compared([listens, *served[1:]]), ["connected: someone from elsewhere"])
         lines = found.compared([listens, *served])
-        self.assertEqual((lines[0], lines[1][:24]), ("connected: someone", "all places are taken, an"))
+        self.assertEqual((lines[0], lines[1][:21]), ("connected: someone from elsewhere", "all places are taken:"))
         self.assertEqual(found.compared([listens, *served]), [])
-        self.assertEqual(found.compared([listens, *served[1:]]), ["gone: someone"])
-        self.assertEqual(found.compared(served[1:])[0][:35], "each connection of this server was ")
+        self.assertEqual(found.compared([listens, *served[1:]]), ["gone: someone from elsewhere"])
+        self.assertEqual(found.compared([listens, *served]), ["connected: someone from elsewhere"])
+        self.assertEqual(Connected(4711, 2, 7).compared(served[1:])[1][:35], "each connection of this server was ")
         found.known = {6: "first", 5: "second"}
-        self.assertEqual(found.who(), "first, second")
+        self.assertEqual(found.who(), "2 of 2 places: first, second")
 
     def test_a_newcomer_whose_own_end_is_read_later_is_named(self) -> None:
         listens, served = (4711, 0, "0A", "1"), (4711, 5, "01", "2")
@@ -200,9 +190,9 @@ class Broken(Cycle):
             for late in range(connected.READINGS):
                 readings = [[listens, served]] * late + [[listens, served, own]]
                 with unittest.mock.patch.object(connected, "rows", side_effect=readings):
-                    self.assertRegex(Connected(4711, 2, [], 7).news()[0], r"^connected: someone \(.*, process \d+\)$")
+                    self.assertEqual(Connected(4711, 2, 7).news()[0], f"connected: process {os.getpid()}")
         with unittest.mock.patch.object(connected, "rows", side_effect=[[listens, served]] * connected.READINGS):
-            self.assertEqual(Connected(4711, 2, [], 7).news(), ["connected: someone"])
+            self.assertEqual(Connected(4711, 2, 7).news(), ["connected: someone from elsewhere"])
 
     def test_bots_that_race_and_guess(self) -> None:
         lab = self.lab("cycle.toml", 16)

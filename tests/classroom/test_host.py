@@ -32,7 +32,7 @@ class Hosted(Cycle):
         self.assertEqual(going.ends(), 0, going.lines)
         events = self.whole(going.folder)
         self.assertRegex((going.folder / "server.txt").read_text(encoding="utf-8"),
-                         rf"^done: {events} events, configuration \d+\n$")
+                         rf"^listening on port \d+, desk on port \d+\ndone: {events} events, configuration \d+\n$")
 
     def let_in(self, port: int, name: str, key: str) -> Client:
         """A connection, as soon as a place is free."""
@@ -64,23 +64,26 @@ class Hosted(Cycle):
     def test_a_full_house(self) -> None:
         going = self.begin(3, "--close", "by-hand")
         gus = self.bot(going, "gus")
-        going.until("^connected: gus ")
-        self.bot(going, "hana")
-        self.assertRegex(going.until("^all places are taken, and who comes now isn't let in; connected: "), "gus.*hana")
+        going.until(f"^connected: process {gus.pid}$")
+        hana = self.bot(going, "hana")
+        going.until("^all places are taken: who comes now is told so; who tells whose they are$")
+        going.type("who")
+        self.assertRegex(going.until("^connected: "), rf"^connected: 2 of 2 places: process {gus.pid}, process {hana.pid}$")
         for _ in range(3):
             with self.assertRaises(Refused) as refused:
                 Client(going.port, "ines", KEYS["ines"])
             self.assertEqual(refused.exception.word, "busy")
         gus.kill()
-        going.until("^gone: gus ")
+        going.until(f"^gone: process {gus.pid}$")
         with self.let_in(going.port, "ines", KEYS["ines"]) as ines:
             self.assertEqual(ines.look(3).at, 0)
-            self.assertRegex(going.until("^all places are taken"), "hana")
+            going.until("^connected: process ")
         going.until("^gone: ")
-        self.bot(going, "jonas")
-        going.until("^connected: jonas ")
-        going.type("end")
+        jonas = self.bot(going, "jonas")
+        going.until(f"^connected: process {jonas.pid}$")
+        going.type("end\nend")
         self.ended(going)
+        self.assertEqual(sum("all places are taken" in line for line in going.lines), 1)
 
     def test_the_desk_is_held_and_the_teacher_comes_to_the_port_too(self) -> None:
         going = self.begin(4, "--close", "by-hand")
@@ -93,7 +96,7 @@ class Hosted(Cycle):
         going.until("^configuration 1: 4 \\(gus\\) update")
         going.type("fault 1 2 true")
         going.until("^configuration 2: fault 1 2 true")
-        going.type("end")
+        going.type("end\nend")
         self.ended(going)
 
     def test_the_host_goes_on_where_the_run_is_killed(self) -> None:
@@ -126,7 +129,7 @@ class Hosted(Cycle):
         os.close(terminal.ours)
         folder = next((self.room / "runs").iterdir())
         self.assertEqual(self.whole(folder), 1)
-        self.assertEqual((folder / "server.txt").read_text(encoding="utf-8"), "done: 1 events, configuration 1\n")
+        self.assertRegex((folder / "server.txt").read_text(encoding="utf-8"), r"\ndone: 1 events, configuration 1\n$")
 
 
 if __name__ == "__main__":

@@ -100,6 +100,25 @@ class Mark(InRoom):
         self.assertEqual(words("mark", folder).returncode, 1)
         self.assertEqual(words("mark", lab, self.room / "none").returncode, 4)
 
+    def test_a_row_a_person_over_all_runs(self) -> None:
+        students = self.file("class.csv", 'Student;SIS User ID;Section\nPoints Possible;;\n"Müller, Zoë";s1;A\nBen;s2;B\nEva;s3;B\n')
+        made = words("new", self.room / "lab.toml", "--students", students, "--family", "path", "--groups", "1", "--nodes", "3")
+        self.assertEqual(made.returncode, 0, made.stderr)
+        lab = self.room / "lab.toml"
+        one = self.file("one", "1 0 grant zoe-mueller 1 seduction\n2 0 close\n3 1 grant ben 2 marriage 1\n4 1 close\n")
+        two = self.file("two", "1 0 grant zoe-mueller 1 seduction\n2 0 release 1\n")
+        done = words("mark", lab, one, two, "--roster", students, "--total")
+        self.assertEqual((done.returncode, done.stderr), (0, ""))
+        self.assertEqual(done.stdout.splitlines(), [
+            "Student;SIS User ID;Section;granted;applied;update;marriage;seduction;abandonment;steps;shared;runs",
+            "Points Possible;;;;;;;;;;;", "Müller, Zoë;s1;A;2;1;0;0;1;0;1;0;2", "Ben;s2;B;1;1;0;1;0;0;1;0;2", "Eva;s3;B;0;0;0;0;0;0;0;0;2",
+        ])
+        shorter = self.file("shorter.csv", "Name,ID\nZoë M.,s1\nBen,s2\nNew,s9\n")
+        done = words("mark", lab, one, "--roster", shorter)
+        self.assertEqual((done.returncode, done.stderr), (5, f"class: {shorter} has no Eva\n"))
+        self.assertEqual([line.split(",")[:3] for line in done.stdout.splitlines()[1:]], [["Zoë M.", "s1", "1"], ["Ben", "s2", "1"], ["New", "s9", "0"]])
+        self.assertEqual(words("mark", lab, one, two, "--total").stdout.splitlines()[1], '"Müller, Zoë",s1,2,1,0,0,1,0,1,0,2')
+
     def test_forms(self) -> None:
         lab = self.file("lab.toml", GOOD)
         journal = self.file("journal", "1 0 grant ana 11 seduction\n2 0 close\n")

@@ -1,15 +1,20 @@
 """`./class new`."""
 from __future__ import annotations
 
+import argparse
 import random
 import re
+import shutil
 import tempfile
 import tomllib
 import unittest
 import unittest.mock
 from pathlib import Path
 
-from classroom import names, program, words as words_of
+from classroom import lab as labs
+from classroom import lists, names, program
+from classroom import words as words_of
+from classroom.lists import Person
 from tests.classroom.help import InRoom, words
 
 SCRIPTS = (
@@ -23,7 +28,7 @@ class Names(unittest.TestCase):
     """Names as people write them."""
 
     def test_forms(self) -> None:
-        made = names.all_of([*SCRIPTS, *SCRIPTS])
+        made = names.all_of(map(Person, [*SCRIPTS, *SCRIPTS]))
         self.assertEqual(len(made), 2 * len(SCRIPTS))
         for name in made:
             self.assertRegex(name, FORM)
@@ -31,12 +36,57 @@ class Names(unittest.TestCase):
 
     def test_known(self) -> None:
         known = {"Zoë Müller": "zoe-mueller", "Łukasz Żółć": "lukasz-zolc", "Иван Жуков": "ivan-zhukov", "김철수": "gimceolsu",
-                 "かな さくら": "kana-sakura", "O'Brien": "obrien", "1337": "s-1337", "王小明": "student"}
+                 "かな さくら": "kana-sakura", "O'Brien": "obrien", "1337": "s-1337", "王小明": "",
+                 "Müller, Zoë": "zoe-mueller", "محمد علي": "mhmd-aly", "שרה לוי": "shrh-lvy", "आरव शर्मा": "aarava-sharamaaa"}
         for name, form in known.items():
             self.assertEqual(names.one(name), form)
 
     def test_numbers(self) -> None:
-        self.assertEqual(list(names.all_of(["Ana", "ana", "Ána", "Teacher"], ["teacher"])), ["ana", "ana-2", "ana-3", "teacher-2"])
+        listed = map(Person, ["Ana", "ana", "Ána", "Teacher", "王小明"])
+        self.assertEqual(list(names.all_of(listed, ["teacher"])), ["ana", "ana-2", "ana-3", "teacher-2", "s-5"])
+
+    def test_two_of_one_name_are_told_apart_by_what_the_list_has(self) -> None:
+        listed = [Person("Ana Lima", "77"), Person("Ben", "78"), Person("Ana Lima", "A 9"), Person("王小明", "80"), Person("-", "")]
+        made = names.all_of(listed)
+        self.assertEqual(list(made), ["ana-lima-77", "ben", "ana-lima-a-9", "s-80", "s-5"])
+        self.assertEqual(list(made.values()), listed)
+        long = names.all_of([Person("a" * 80, "123456"), Person("a" * 80, "123457")])
+        self.assertEqual(list(long), [f"{'a' * 25}-123456", f"{'a' * 25}-123457"])
+
+
+class Lists(InRoom):
+    """Lists of people in the forms in which they come."""
+
+    def people(self, content: bytes, name: str = "list.csv", **words: str) -> list[tuple[str, str]]:
+        """Written names and ids of a file."""
+        path = self.room / name
+        path.write_bytes(content)
+        asked = argparse.Namespace(**{"column": None, "first_name": None, "last_name": None, "id": None} | words)
+        return [(person.written, person.id) for person in lists.read(path, asked).people]
+
+    def test_encodings(self) -> None:
+        text = "Name;ID number\nZoë Müller;1\nŁukasz Żółć;2\n"
+        wanted = [("Zoë Müller", "1"), ("Łukasz Żółć", "2")]
+        for encoding in ("utf-8", "utf-8-sig", "utf-16", "utf-16-le", "utf-16-be"):
+            self.assertEqual(self.people(text.encode(encoding)), wanted, encoding)
+        self.assertEqual(self.people("Name,ID\r\nZoë Müller,1\r\n".encode("latin-1")), [("Zoë Müller", "1")])
+        self.assertEqual(self.people("Zoë\nBen\n".encode("utf-16"), "names.txt"), [("Zoë", ""), ("Ben", "")])
+
+    def test_moodle_and_canvas_as_they_come(self) -> None:
+        moodle = '"First name","Last name","ID number","Email address"\nZoë,Müller,1001,z@x.example\nAna,"Lima, dos",1002,a@x.example\n'
+        self.assertEqual(self.people(moodle.encode("utf-8-sig")), [("Zoë Müller", "1001"), ("Ana Lima, dos", "1002")])
+        canvas = ('Student,ID,SIS User ID,SIS Login ID,Section,Quiz (1)\n"    Points Possible",,,,,10.00\n'
+                  '"Müller, Zoë",31,s1001,zoe,A,\n"Lima, Ana",32,s1002,ana,A,\n"Student, Test",33,,x,A,\n')
+        self.assertEqual(self.people(canvas.encode()), [("Müller, Zoë", "s1001"), ("Lima, Ana", "s1002")])
+
+    def test_columns_that_are_named(self) -> None:
+        content = "who\tgiven\tfamily\tno\nx\tZoë\tMüller\t7\n".encode()
+        for name in ("list.tsv", "list.txt"):
+            self.assertEqual(self.people(content, name, first_name="given", last_name="FAMILY", id="no"), [("Zoë Müller", "7")])
+        self.assertEqual(self.people(content, column="who"), [("x", "")])
+        for wrong in ({"id": "none"}, {"column": "none"}, {"first_name": "none"}):
+            with self.assertRaisesRegex(program.Fault, "no column none; there are: who, given, family, no"):
+                self.people(content, **wrong)
 
 
 class New(InRoom):
@@ -49,17 +99,48 @@ class New(InRoom):
         self.assertEqual(done.returncode, status, done.stderr)
         return done.stdout + done.stderr
 
+    def clean(self) -> None:
+        """Takes away what was made."""
+        for file in self.room.glob("lab*"):
+            if file.is_dir():
+                shutil.rmtree(file)
+            else:
+                file.unlink()
+
     def test_families(self) -> None:
         sizes = {"path": (5, 4), "cycle": (5, 5), "star": (5, 4), "complete": (5, 10), "tree": (5, 4), "grid:4x3": (12, 17),
                  "random:9:14": (9, 14)}
         for family, (nodes, links) in sizes.items():
-            for file in self.room.glob("lab*"):
-                file.unlink()
+            self.clean()
             self.assertIn(f"{nodes} nodes, {links} links, 5 students", self.new("--family", family, "--start", "random"))
 
     def test_links_of_a_file(self) -> None:
         links = self.file("links", "1 2\n2 7 # a far one\n\n7-9\n")
         self.assertIn("4 nodes, 3 links", self.new("--links", str(links)))
+        self.clean()
+        for line, what in (("3 3", "a node isn't linked to itself"), ("2 1", "these are linked in line 1 already"), ("0 1", "a node is 1 to 65535"),
+                           ("1 65536", "a node is 1 to 65535"), ("1 2 3", "not two numbers"), ("a b", "not two numbers")):
+            links = self.file("links", f"1 2\n\n{line}  # this\n")
+            self.assertIn(f"class: {links}: line 3: {what}: {line}  # this\n", self.new("--links", str(links), status=1))
+
+    def test_students_without_a_node_are_told_with_a_network_that_has_enough(self) -> None:
+        for more, offered in ((("--family", "grid:2x2"), "--family grid:2x3"), (("--nodes", "4"), "--nodes 5"),
+                              (("--family", "random:4:5"), "--family random:5:6"), (("--pairs", "--nodes", "3", "--family", "path"), None)):
+            self.clean()
+            told = self.new(*more)
+            if offered is None:
+                self.assertNotIn("note: no node", told)
+            else:
+                self.assertIn(f"note: no node for student-4: {offered} has enough\n", told)
+
+    def test_the_lab_keeps_written_names_and_ids(self) -> None:
+        students = self.file("class.csv", 'Name,ID\n"Zoë ""Z"" Müller",7\n😀 王,8\nBen,\n')
+        done = words("new", self.room / "lab.toml", "--students", students, "--family", "path")
+        self.assertEqual(done.returncode, 0, done.stderr)
+        self.assertIn('Zoë "Z" Müller (7) is zoe-z-mueller\n😀 王 (8) is s-8\n', done.stdout)
+        people = labs.read(self.room / "lab.toml").people
+        self.assertEqual(people, {"zoe-z-mueller": Person('Zoë "Z" Müller', "7"), "s-8": Person("😀 王", "8"), "ben": Person("Ben")})
+        self.assertNotIn("is no key of a lab", words("check", self.room / "lab.toml").stdout)
 
     def test_pairs_keys_and_slips(self) -> None:
         self.new("--pairs", "--nodes", "6")
@@ -88,7 +169,7 @@ class New(InRoom):
         self.assertNotIn("note", told)
         for number in (1, 2):
             it = tomllib.loads((self.room / f"lab-{number}.toml").read_text(encoding="utf-8"))
-            self.assertEqual((len(it["student"]), it["sessions"]), (12, 13))
+            self.assertEqual((len(it["student"]), it["sessions"], it["events"]), (12, 16, 100_000))
 
     def test_a_csv(self) -> None:
         self.file("class.csv", "number;Name\n1;Zoë Müller\n2;Ana\n")

@@ -67,7 +67,7 @@ class Live(InRoom):
 
     def end(self) -> Path:
         """Ends the run, whose last frame is what the page has shown; gives its folder."""
-        self.going.type("end")
+        self.going.type("end\nend")
         self.assertEqual(self.going.ends(), 0, self.going.lines)
         until(self.driver, lambda driver: "over" in driver.find_element("id", "connection").text)
         last = shown(self.driver)

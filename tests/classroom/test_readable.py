@@ -82,7 +82,7 @@ class Readable(Played):
         told = {}
         for node, texts in drawn:
             told[node] = [names.get(word) for text, _ in texts for word in re.split("[ ,]+", text)]
-            boxes += [tuple(box) for _, box in texts]
+            boxes += [(box[0], box[1], box[2], box[3]) for _, box in texts]
         self.assertEqual(told, {node.id: node.owners for node in lab.nodes})
         self.assertEqual([(a, b) for a, b in combinations(boxes, 2) if overlap(a, b)], [])
 

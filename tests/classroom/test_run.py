@@ -7,6 +7,7 @@ import socket
 import subprocess
 import sys
 import unittest
+from pathlib import Path
 
 from classroom.client import Client, Closed, Denied, Refused
 from tests.classroom.help import CYCLE, EXAMPLES, KEYS, LIMIT, Cycle, Going, words
@@ -55,7 +56,7 @@ class Run(Cycle):
         going.until(r"^configuration \d+, not stable: .*privileged .*\((seduction|abandonment|marriage|update)\)")
         going.type("link 1 1")
         going.until("^no: loop")
-        going.type("end")
+        going.type("end\nend")
         self.assertEqual(going.ends(), 0, going.lines)
         self.assertGreaterEqual(self.whole(going.folder), 4)
 
@@ -70,7 +71,7 @@ class Run(Cycle):
         self.assertGreater(self.whole(going.folder), 10)
 
     def test_signals(self) -> None:
-        for number in (signal.SIGINT, signal.SIGTERM, signal.SIGHUP):
+        for number in (signal.SIGINT, signal.SIGTERM):
             going = Going(self, CYCLE, "--close", "by-hand")
             going.process.send_signal(number)
             self.assertEqual(going.ends(), 0, going.lines)
@@ -82,7 +83,7 @@ class Run(Cycle):
             going = Going(self, CYCLE, "--port", str(port))
             self.assertGreater(going.port, port)
             self.assertIn(f"port {port} is in use", going.lines)
-            going.type("end")
+            going.type("end\nend")
             self.assertEqual(going.ends(), 0)
 
     def test_nothing_built(self) -> None:
@@ -93,20 +94,21 @@ class Run(Cycle):
 
     def test_no_host_built(self) -> None:
         """A run wants a host, and says how to get one; who wants a server for a number of connections says so."""
-        none = {"MML_HOST": str(self.room / "none")}
-        for given in (["run", CYCLE], ["demo"]):
-            done = words(*given, "--into", self.room / "runs", **none)
+        none = str(self.room / "none")
+        asked: tuple[list[str | Path], ...] = (["run", CYCLE], ["demo"])
+        for given in asked:
+            done = words(*given, "--into", self.room / "runs", MML_HOST=none)
             self.assertEqual(done.returncode, 1)
             self.assertIn("mml_host isn't built: `./mml build` builds it", done.stderr)
             self.assertIn("--serve", done.stderr)
         self.assertFalse((self.room / "runs").exists())
-        going = Going(self, CYCLE, "--close", "by-hand", "--serve", **none)
+        going = Going(self, CYCLE, "--close", "by-hand", "--serve", MML_HOST=none)
         self.assertTrue(any("connections in all" in line for line in going.lines), going.lines)
         with Client(going.port, "gus", KEYS["gus"]) as gus:
             gus.move(gus.look(4))
         going.type("close")
         going.until("^configuration 1: 4 \\(gus\\) update")
-        going.type("end")
+        going.type("end\nend")
         self.assertEqual(going.ends(), 0, going.lines)
         self.assertEqual(self.whole(going.folder), 2)
 

@@ -102,7 +102,8 @@ UNREAD_SCRIPT = Ended(4, b"", b"read fault: script\n")
 UNREAD_JOURNAL = Ended(4, b"", b"read fault: journal\n")
 BROKEN_JOURNAL = Ended(4, b"", b"journal fault\n")
 # Command lines in a folder where the files `a`, `check`, `help`, `version` and `7000` are the built-in lab, `b` is a
-# script, `hash` has one byte and `empty` none; each form is taken for what it is, which shows at the files.
+# script, `long` one whose line 300 is none, `hash` has one byte and `empty` none; each form is taken for what it is,
+# which shows at the files.
 TAKEN = [
     ("check a", Ended(0, SIZE, b"")),
     ("check ./a", Ended(0, SIZE, b"")),
@@ -119,6 +120,7 @@ TAKEN = [
     ("script a empty", Ended(0, b"", b"")),
     ("script a a", Ended(2, b"", b"script: line 1: bad line\n")),
     ("script a hash", Ended(0, b"", b"")),
+    ("script a long", Ended(2, b'1 {"ok":"bye"}\n' * 299, b"script: line 300: bad line\n")),
     ("script help version", Ended(2, b"", b"script: line 1: bad line\n")),
     ("script a ", UNREAD_SCRIPT),
     ("script a .", UNREAD_SCRIPT),
@@ -155,6 +157,7 @@ def words_of(folder: Path) -> int:
     for name in ("a", "check", "help", "version", "7000"):
         shutil.copy(built_in(folder), folder / name)
     (folder / "b").write_text('1 {"do":"bye"}\n', encoding="ascii")
+    (folder / "long").write_text('1 {"do":"bye"}\n' * 299 + "no line\n", encoding="ascii")
     (folder / "hash").write_text("#", encoding="ascii")
     (folder / "empty").write_text("", encoding="ascii")
     lines = NOT_UNDERSTOOD.splitlines() + WITH_EMPTY_WORDS

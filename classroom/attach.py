@@ -1,0 +1,56 @@
+"""`./class attach`: takes the desk of a class whose `run` is gone, or has lost its terminal, and goes on as it does."""
+from __future__ import annotations
+
+import argparse
+import os
+import signal
+import time
+from pathlib import Path
+
+from classroom import lab as labs
+from classroom.closing import closing
+from classroom.folders import Record, of_folder
+from classroom.holding import Running, to_the_end
+from classroom.program import Fault
+from classroom.run import add_desk_words
+from classroom.server import Server
+from classroom.teller import Teller
+
+PATIENCE = 60.0  # seconds in which a `run` without its terminal lets go of the desk
+
+
+def add_words(words: argparse.ArgumentParser) -> None:
+    """The words of `attach`."""
+    words.add_argument("folder", metavar="FOLDER", help="the run's folder, which knows the ports")
+    add_desk_words(words)
+    words.set_defaults(work=attach)
+
+
+def free(folder: Path, record: Record) -> None:
+    """Wants the desk free: who has lost its terminal lets go of it."""
+    holder = record.run
+    if holder.lives() and not record.left:
+        raise Fault(f"{folder}: process {holder.number} holds its desk")
+    if holder.lives():
+        os.kill(holder.number, signal.SIGUSR1)
+        end = time.monotonic() + PATIENCE
+        while holder.lives():
+            if time.monotonic() > end:
+                raise Fault(f"{folder}: process {holder.number} doesn't let go of its desk")
+            time.sleep(0.05)
+
+
+def attach(words: argparse.Namespace) -> int:
+    """Takes the desk of a folder's run."""
+    folder = Path(words.folder)
+    lab_file, _ = of_folder(folder)
+    record = Record.read(folder)
+    if record is None or not record.server.lives():
+        raise Fault(f"{folder}: its server has ended: ./class run --resume {folder}")
+    lab = labs.read(lab_file)
+    free(folder, record)
+    run = Running(folder, Path(record.lab), lab, words.close or closing(record.close), words.until or record.until,
+                  words.page or record.page, words.typed, Teller(folder), goes_on=True)
+    it = Server(record.server, record.port, record.desk, True, folder / "server.txt")
+    run.tell(f"port {it.port}, desk {it.desk}; folder {folder}")
+    return to_the_end(run, lambda: it)

@@ -1,0 +1,266 @@
+"""The teacher's desk: what the journal tells as it grows, and what the teacher's words do."""
+from __future__ import annotations
+
+import time
+from collections.abc import Callable
+from pathlib import Path
+
+from classroom import lab as labs
+from classroom.client import Client, Closed, Denied, Refused, Report
+from classroom.closing import Closing, closing, spelled
+from classroom.connected import Connected
+from classroom.journal import Book, Event, events
+from classroom.typed import EOF, helped, understood
+from classroom.watch import Watch
+
+MOST_TOLD = 0.9  # of the limit of events, from which on what is left is told
+
+
+def listed(report: Report) -> str:
+    """A report as a line."""
+    lists = {
+        "pairs": [f"{a}-{b}" for a, b in report.pairs],
+        "free": [str(node) for node in report.free],
+        "privileged": [f"{node} ({rule})" for node, rule in report.privileged],
+        "open": [f"{a}-{b} ({node} {rule})" for a, b, node, rule in report.open],
+    }
+    told = "; ".join(f"{name} {', '.join(them)}" for name, them in lists.items() if them)
+    return f"configuration {report.at}, {'' if report.stable else 'not '}stable: {told}"
+
+
+class Desk:
+    """The teacher's connection, and what the journal tells as it grows."""
+
+    def __init__(self, lab: labs.Lab, journal: Path, client: Client, how: Closing, tell: Callable[[str], None]) -> None:
+        self.lab, self.client, self.tell, self.closing = lab, client, tell, how
+        self.folder = journal.parent
+        self.go_on = f"./class run --resume {self.folder}"
+        self.journal = journal.open("rb")
+        self.book = Book(list(lab.students), set())
+        self.rest = b""
+        self.news = time.monotonic()
+        self.told_waiting = ""
+        self.report: Report = client.report()
+        self.is_old = False  # The report wasn't given when it was last asked for.
+        self.watch: Watch | None = None
+        self.connected: Connected | None = None
+        self.count = 0
+        self.over = ""
+        self.asked_to_end = False
+        self.lost = ""  # Why the desk was lost, until it is held again.
+        self.past: list[Event] = []
+
+    def again(self) -> bool:
+        """Greets again at the desk where its connection was lost; says whether it is held."""
+        if not self.lost:
+            return True
+        try:
+            self.client = Client(self.client.port, *self.lab.teacher, limit=self.client.limit)
+        except (Closed, Refused) as error:
+            self.lost = str(error)
+            return False
+        if self.watch:
+            self.watch.client = self.client
+        if self.connected:
+            self.connected.but = self.client.own_port()
+        self.lost, self.is_old = "", True
+        self.tell("the desk is held again")
+        return True
+
+    def catch_up(self) -> None:
+        """Counts what the journal has already, and tells nothing of it."""
+        whole, found, self.rest = self.journal.read().rpartition(b"\n")
+        self.past = events((whole + found).decode("ascii"))
+        for event in self.past:
+            self.book.add(event)
+            self.count = event.place
+        self.ask_report()
+        self.tell(f"gone on from configuration {self.report.at}, {self.counted()}")
+        if self.count >= self.lab.events:
+            self.end_by("full")
+
+    def lose(self, error: Closed) -> None:
+        """The connection has ended, or an answer is late: it is made again while the server lives."""
+        self.lost = str(error)
+        self.client.hang_up()
+        self.tell(f"the desk: {error}; it is greeted again")
+
+    def read(self) -> None:
+        """Reads what the journal has got, and tells each step as a line."""
+        if self.is_old:
+            self.ask_report()
+        self.rest += self.journal.read()
+        whole, found, rest = self.rest.rpartition(b"\n")
+        self.rest = rest
+        for event in events((whole + found).decode("ascii")):
+            self.take(event)
+        if self.watch:
+            try:
+                self.watch.turn(self.report, self.book.tally)
+            except Refused as refused:
+                self.wait_for_memory(refused)
+
+    def take(self, event: Event) -> None:
+        """Counts an event, and tells it where it is a step."""
+        moved = self.book.add(event)
+        self.news = time.monotonic()
+        self.count = event.place
+        word = event.words[0]
+        if word == "close":
+            self.step(event.at + 1, ", ".join(f"{node} ({name}) {rule}" for node, name, rule in moved))
+        elif word != "grant":
+            self.step(event.at + (word != "release"), " ".join(event.words))
+        if self.watch:
+            self.watch.note(event)
+        if self.count == int(MOST_TOLD * self.lab.events) > 0:
+            self.tell(f"{self.counted()}: nothing more is granted after the last")
+        if self.count >= self.lab.events:
+            self.end_by("full")
+
+    def counted(self) -> str:
+        """How many events there are of how many."""
+        return f"events {self.count} of {self.lab.events}"
+
+    def ask_report(self) -> None:
+        """Asks for the report; where memory was short, it is asked for again at the next turn."""
+        try:
+            self.report = self.client.report()
+            self.is_old = False
+        except Refused as refused:
+            self.wait_for_memory(refused)
+            self.is_old = True
+
+    def wait_for_memory(self, refused: Refused) -> None:
+        """Another refusal than for memory is none that passes."""
+        if refused.word != "memory":
+            raise refused
+
+    def watched(self) -> Watch:
+        """What pages are shown, which is looked at from now on."""
+        self.watch = Watch(self.lab, self.client, self.report, spelled(self.closing))
+        for event in self.past:
+            self.watch.note(event)
+        return self.watch
+
+    def step(self, at: int, what: str) -> None:
+        """The line of a step: configuration, who moved, how many are privileged, moves beside the bound, and events."""
+        self.ask_report()
+        tally = self.book.tally
+        most = self.lab.most_moves() + 2 * (tally.links - tally.cuts)
+        state = "stable" if self.report.stable else f"{len(self.report.privileged)} privileged"
+        now = f"{state}, " if self.report.at == at else ""
+        self.tell(f"configuration {at}: {what}; {now}{tally.since[0]} of at most {most} moves; {self.counted()}")
+
+    def waiting(self) -> str:
+        """Whose nodes are privileged and have no chosen move."""
+        return ", ".join(
+            f"{node} ({' and '.join(self.lab.owners(node))}): {rule}"
+            for node, rule in self.report.privileged if node not in self.book.chosen
+        )
+
+    def tell_waiting(self) -> None:
+        """Tells it where it is new."""
+        now = self.waiting()
+        if now and now != self.told_waiting:
+            self.tell(f"waiting for {now}")
+        self.told_waiting = now
+
+    def close(self) -> None:
+        """Closes a step, if a node is chosen."""
+        try:
+            self.client.close()
+        except Denied as denied:
+            if denied.name != "empty":
+                raise
+            self.tell_waiting()
+        except Refused as refused:
+            if refused.word not in ("full", "journal"):
+                return  # It is asked for again.
+            self.read()
+            self.end_by(refused.word)
+
+    def end_by(self, word: str) -> None:
+        """Nothing is granted any longer: says so at once, with what to do, and ends the run."""
+        if self.over:
+            return
+        self.over = word
+        if word == "journal":
+            what = f"journal: no line can be written to it; make room on the disk, then {self.go_on}"
+        elif self.lab.events < labs.MOST_EVENTS:
+            raised = f"raise `events` in {self.folder}/lab.toml, to at most {labs.MOST_EVENTS}"
+            what = f"full: {self.counted()}; {raised}, then {self.go_on}"
+        else:
+            what = f"full: {self.counted()}, the most that a lab has; go on with a new lab"
+        self.tell(f"nothing more is granted: {what}")
+
+    def command(self, line: str) -> bool:
+        """Does a line of the teacher's; false where it ends the run."""
+        if line == EOF:
+            self.tell("to end the run type end")
+            return True
+        asked, self.asked_to_end = self.asked_to_end, False
+        try:
+            word, *rest = understood(line)
+            if word == "end":
+                return self.may_end(asked)
+            self.do(word, rest)
+        except (Denied, Refused) as no:
+            self.tell(f"no: {no}")
+            if isinstance(no, Refused) and no.word in ("full", "journal"):
+                self.read()
+                self.end_by(no.word)
+        except ValueError as error:
+            self.tell(str(error))
+        return True
+
+    def may_end(self, asked: bool) -> bool:
+        """False where the run ends: where it isn't stable, it is asked for twice."""
+        self.ask_report()
+        if asked or self.report.stable:
+            return False
+        self.asked_to_end = True
+        self.tell(f"not stable, {len(self.report.privileged)} privileged: end once more ends the run all the same")
+        return True
+
+    def do(self, word: str, rest: list[str]) -> None:
+        """Does what a word says, whose form is right."""
+        self.read()
+        if word == "close":
+            self.client.close()
+        elif word == "report":
+            self.ask_report()
+            self.tell(f"{listed(self.report)}; {self.counted()}")
+        elif word == "wait":
+            self.told_waiting = self.waiting()
+            self.tell(f"waiting for {self.told_waiting or 'nobody'}")
+        elif word == "who":
+            self.tell_who()
+        elif word == "help":
+            self.tell(helped())
+        elif word in ("every", "when-idle", "by-hand"):
+            self.close_by(":".join([word, *rest]))
+        else:
+            self.edit(word, rest)
+
+    def tell_who(self) -> None:
+        """Who is connected, as far as the system tells it, and who hasn't moved, as the journal tells it."""
+        if self.connected:
+            self.tell(f"connected: {self.connected.who()}")
+        idle = [name for name, marks in self.book.tally.students.items() if not marks.granted]
+        self.tell(f"no move was granted yet to {', '.join(idle) or 'nobody'}")
+
+    def close_by(self, word: str) -> None:
+        """Closes steps in another way from now on."""
+        self.closing = closing(word)
+        self.tell(f"steps are closed {spelled(self.closing)}")
+        if self.watch:
+            self.watch.present.put(closing=spelled(self.closing))
+
+    def edit(self, word: str, rest: list[str]) -> None:
+        """A fault, a link, a cut or a release."""
+        if word == "fault":
+            self.client.fault(int(rest[0]), None if rest[1] in ("-", "null") else int(rest[1]), rest[2] == "true")
+        elif word == "release":
+            self.client.release(int(rest[0]))
+        else:
+            (self.client.link if word == "link" else self.client.cut)(int(rest[0]), int(rest[1]))

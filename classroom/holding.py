@@ -1,0 +1,178 @@
+"""The desk of a run, held from its greeting to the run's end: by who began the run, and by who goes on with it."""
+from __future__ import annotations
+
+import os
+import queue
+import signal
+import sys
+import threading
+from collections.abc import Callable
+from dataclasses import dataclass, field, replace
+from pathlib import Path
+
+from classroom import projector, server
+from classroom import lab as labs
+from classroom.attend import TICK, Room, attend
+from classroom.client import Client, Closed, Denied, Refused
+from classroom.closing import Closing, spelled
+from classroom.connected import Connected
+from classroom.desk import Desk
+from classroom.ending import finish
+from classroom.folders import Process, Record
+from classroom.statuses import FAILED, WARNED
+from classroom.teller import Teller
+from classroom.typed import HELP, HUNG, LEAVE, NOW, Terminal, Typed, read_lines
+
+LATE = 10.0  # seconds after which it is told that the server's end is waited for
+SIGNALS = {signal.SIGINT: NOW, signal.SIGTERM: NOW, signal.SIGHUP: HUNG, signal.SIGUSR1: LEAVE}
+
+
+def nobody(port: int) -> None:
+    """No programs of its own beside the server."""
+
+
+@dataclass
+class Running:
+    """A run whose desk is held."""
+
+    folder: Path
+    lab_file: Path
+    lab: labs.Lab
+    close: Closing
+    until: str | None
+    page: int | None
+    takes_lines: bool
+    tell: Teller
+    beside: Callable[[int], None] = nobody
+    goes_on: bool = False  # Whether it had begun before.
+    by_number: bool = False  # Whether its server is one for a number of connections.
+    typed: Typed = field(default_factory=queue.SimpleQueue)
+    pages: projector.Pages | None = None
+    terminal: Terminal | None = None
+
+    def record(self, it: server.Server) -> Record:
+        """What its folder keeps while it goes on."""
+        return Record(str(self.lab_file.resolve()), it.port, it.desk, self.page, spelled(self.close), self.until,
+                      Process.of(os.getpid()), it.process)
+
+    def hung(self) -> None:
+        """Goes on without its terminal."""
+        record = Record.read(self.folder)
+        if record is not None:
+            replace(record, left=True).write(self.folder)
+        self.tell.around = str
+        self.tell(f"the terminal went away, and the run goes on: ./class attach {self.folder} takes it")
+
+
+def open_desk(it: server.Server, run: Running) -> Desk:
+    """Greets at the desk, which is kept in the folder."""
+    run.record(it).write(run.folder)
+    desk = Desk(run.lab, run.folder / "journal", Client(it.desk, *run.lab.teacher), run.close, run.tell)
+    desk.connected = Connected(it.port, run.lab.sessions - 1, desk.client.own_port())
+    if run.goes_on:
+        desk.catch_up()
+    return desk
+
+
+def show(pages: projector.Pages, desk: Desk, tell: Teller) -> None:
+    """Opens the page, and tells it what is told from now on."""
+    watch = desk.watched()
+    tell(f"page {pages.address}")
+    tell.also.append(lambda line: watch.present.put(line=line))
+    pages.show(watch.present)
+
+
+def listen(run: Running) -> None:
+    """Takes what is typed from now on, where there is who types."""
+    at_terminal = sys.stdin is not None and sys.stdin.isatty()
+    if not at_terminal and not run.takes_lines:
+        return
+    run.tell(f"words: {HELP}")
+    if at_terminal:
+        run.terminal = Terminal([str(node.id) for node in run.lab.nodes])
+        run.tell.around = run.terminal.around
+    read = run.terminal.read if run.terminal else read_lines
+    threading.Thread(target=read, args=[run.typed.put], daemon=True).start()
+
+
+def obey_signals(typed: Typed) -> None:
+    """Each signal is a word."""
+    for number in SIGNALS:
+        signal.signal(number, lambda number, _: typed.put(SIGNALS[signal.Signals(number)]))
+
+
+def hold(run: Running, it: server.Server) -> int | None:
+    """Holds the desk to the end of the run, and gives the status; None where it is left to another process."""
+    try:
+        desk = open_desk(it, run)
+        run.beside(it.port)
+        listen(run)
+        if run.pages is not None:
+            show(run.pages, desk, run.tell)
+    except (Closed, Refused, Denied) as error:
+        run.tell(f"the server: {error}")
+        ended = it.ended()
+        status = it.stop()
+        run.tell(f"the server {'has ended by itself' if ended else 'was ended'}, status {status}: {it.printed()}")
+        return FAILED
+    why = attend(desk, it, run.until == "stable", run.typed, Room(run.folder), run.hung)
+    return take_leave(it, desk, why, run)
+
+
+def take_leave(it: server.Server, desk: Desk, why: str, run: Running) -> int | None:
+    """Says bye, and waits for the server's end, which may be late."""
+    tell = run.tell
+    if why == "left":
+        desk.client.hang_up()
+        tell("another process takes the desk")
+        return None
+    try:
+        if why != "died":
+            desk.client.bye()
+    except (Closed, Refused, Denied) as error:
+        tell(f"the desk: {error}")
+    if not it.hosted and why != "died":
+        it.stop()
+    elif not waits(it, run):
+        tell(f"the server is left to itself, process {it.process.number}: while it goes on, ./class attach {run.folder} "
+             "takes its desk; then ./class mark tells the marks")
+        return None
+    elif why == "died" or it.status() != 0:
+        tell(f"the server has ended by itself, status {it.status()}: {it.printed()}")
+        tell(f"to go on: {desk.go_on}")
+        return FAILED
+    tell("stable, and so the run is ended" if why == "stable" else "the run is ended")
+    return {"journal": FAILED, "full": WARNED}.get(why, 0)
+
+
+def waits(it: server.Server, run: Running) -> bool:
+    """Waits for the server's end, and says so where it is late; false where the teacher doesn't wait any longer."""
+    if it.ended(LATE):
+        return True
+    while not run.typed.empty():
+        run.typed.get()  # What was typed before isn't meant so.
+    run.tell(f"waiting for the server's end, process {it.process.number}; end leaves it to itself")
+    while not it.ended(TICK):
+        if not run.typed.empty() and run.typed.get() in (NOW, "end"):
+            return False
+    return True
+
+
+def to_the_end(run: Running, start: Callable[[], server.Server]) -> int:
+    """Holds the desk of a server that is started or found, and leaves marks and page in the folder."""
+    try:
+        if run.page is not None:
+            run.pages = projector.open_pages(run.page, run.lab_file.stem, run.lab, run.typed)
+        obey_signals(run.typed)
+        status = hold(run, start())
+        if status is None:
+            return FAILED
+        record = Record.read(run.folder)
+        if record is not None:
+            replace(record, ended=status != FAILED).write(run.folder)
+        return finish(run.folder, run.tell) or status
+    finally:
+        if run.pages is not None:
+            run.pages.stop()
+        if run.terminal is not None:
+            run.terminal.leave()

@@ -1,0 +1,41 @@
+"""What a run says: on the terminal, in its folder, and to who else hears it."""
+from __future__ import annotations
+
+import os
+import sys
+from collections.abc import Callable
+from pathlib import Path
+
+from classroom.printable import printable
+
+
+class Teller:
+    """Prints lines and keeps them in the folder; a terminal that went away or a full disk ends nothing."""
+
+    def __init__(self, folder: Path) -> None:
+        self.path = folder / "run.txt"
+        self.also: list[Callable[[str], None]] = []
+        self.around: Callable[[str], str] = str  # What a terminal shows instead while a line is typed there.
+
+    def __call__(self, line: str) -> None:
+        line = printable(line)
+        for hear in self.also:
+            hear(line)
+        for put in (self.keep, self.say):
+            try:
+                put(line)
+            except OSError:
+                pass
+
+    def say(self, line: str) -> None:
+        """Prints it; where nobody reads any more, nothing is printed from then on."""
+        try:
+            print(self.around(line + "\n"), end="", flush=True)
+        except OSError:
+            with open(os.devnull, "w", encoding="utf-8") as nowhere:
+                os.dup2(nowhere.fileno(), sys.stdout.fileno())
+
+    def keep(self, line: str) -> None:
+        """Adds a line to `run.txt`."""
+        with self.path.open("a", encoding="utf-8") as it:
+            it.write(line + "\n")

@@ -1,0 +1,136 @@
+"""A class outlives the `run` that began it, and its terminal: `./class attach`."""
+from __future__ import annotations
+
+import json
+import os
+import signal
+import time
+import unittest
+from pathlib import Path
+
+from classroom.client import Client
+from classroom.folders import Process
+from classroom.program import host
+from tests.classroom.help import CYCLE, KEYS, LIMIT, Cycle, Going, InTerminal, words
+
+
+@unittest.skipUnless(host(), "not tried: no host is built")
+class Attach(Cycle):
+    """Runs over the cycle of `examples/`."""
+
+    def killed(self, *more: str) -> Going:
+        """A run that was killed after a move, a close and a fault; its server lives."""
+        going = Going(self, CYCLE, "--close", "by-hand", *more)
+        server = going.server()
+        self.addCleanup(self.end, server)
+        with Client(going.port, "gus", KEYS["gus"]) as gus:
+            gus.move(gus.look(4))
+        going.type("close")
+        going.until("^configuration 1: 4 ")
+        going.type("fault 1 2 true")
+        going.until("^configuration 2: fault 1 2 true")
+        going.process.kill()
+        going.process.wait()
+        self.assertTrue(Process.of(server).lives())
+        return going
+
+    def end(self, server: int) -> None:
+        """Ends a server that a test has left."""
+        if Process.of(server).lives():
+            os.kill(server, signal.SIGKILL)
+
+    def marks(self, folder: Path) -> dict[str, int]:
+        """How many moves each student had applied."""
+        students = json.loads((folder / "marks.json").read_text(encoding="utf-8"))["runs"][0]["students"]
+        return {name: sum(it["applied"].values()) for name, it in students.items()}
+
+    def test_a_run_that_was_killed_is_gone_on_with(self) -> None:
+        going = self.killed()
+        again = Going(self, None, "attach", going.folder)
+        self.assertEqual((again.port, again.folder), (going.port, going.folder))
+        self.assertIn("gone on from configuration 2, events 3 of 1000", again.lines)
+        self.assertFalse(any(line.startswith("configuration ") for line in again.lines), again.lines)
+        with Client(again.port, "gus", KEYS["gus"]) as gus:
+            gus.move(gus.look(1))
+        again.type("close")
+        again.until("^configuration 3: 1 \\(gus\\) update; .* 1 of at most 35 moves; events 5 of 1000$")
+        again.type("end\nend")
+        self.assertEqual(again.ends(), 0, again.lines)
+        self.assertEqual(self.whole(going.folder), 5)
+        self.assertEqual(self.marks(going.folder), {"gus": 2, "hana": 0, "ines": 0, "jonas": 0})
+        told = (going.folder / "run.txt").read_text(encoding="utf-8")
+        for line in ("configuration 1: 4 (gus) update", "configuration 2: fault", "configuration 3: 1 (gus) update"):
+            self.assertEqual(told.count(line), 1, line)
+
+    def test_a_page_shows_what_was_before(self) -> None:
+        going = self.killed("--page", "29500")
+        again = Going(self, None, "attach", going.folder)
+        self.assertRegex(again.until("^page "), "^page http://127.0.0.1:295")
+        again.type("link 1 3")
+        again.until("^configuration 3: link 1 3")
+        again.type("end\nend")
+        self.assertEqual(again.ends(), 0, again.lines)
+
+    def test_a_second_run_offers_it(self) -> None:
+        going = self.killed()
+        done = words("run", CYCLE, "--into", self.room / "runs")
+        self.assertEqual(done.returncode, 1)
+        self.assertEqual(done.stderr, f"class: a run of {CYCLE} goes on at port {going.port}, folder {going.folder}; "
+                                      f"./class attach {going.folder} takes it; --beside starts another class\n")
+
+    def test_a_terminal_that_goes_away(self) -> None:
+        terminal = InTerminal(self)
+        terminal.type(b"fault 1 2 true\n", b" 0 of at most 35 moves")
+        os.close(terminal.ours)
+        folder = next((self.room / "runs").iterdir())
+        self.until_told(folder, f"the terminal went away, and the run goes on: ./class attach {folder} takes it\n")
+        self.assertIsNone(terminal.process.poll())
+        again = Going(self, None, "attach", folder)
+        terminal.process.wait(LIMIT)
+        again.type("link 1 3")
+        again.until("^configuration 2: link 1 3")
+        again.type("end\nend")
+        self.assertEqual(again.ends(), 0, again.lines)
+        self.assertEqual(self.whole(folder), 2)
+
+    def test_a_server_that_is_late_may_be_left(self) -> None:
+        going = Going(self, CYCLE, "--close", "by-hand")
+        server = going.server()
+        going.type("fault 1 2 true")
+        going.until("^configuration 1: ")
+        os.kill(server, signal.SIGSTOP)
+        self.addCleanup(self.end, server)
+        going.process.send_signal(signal.SIGTERM)
+        going.until("^the desk: no answer in ")
+        going.until(f"^waiting for the server's end, process {server}; end leaves it to itself$")
+        going.type("end")
+        self.assertEqual(going.ends(), 4, going.lines)
+        self.assertTrue(going.lines[-1].startswith(f"the server is left to itself, process {server}: "), going.lines)
+        self.assertTrue(Process.of(server).lives())
+        os.kill(server, signal.SIGCONT)
+        end = time.monotonic() + LIMIT
+        while Process.of(server).lives():  # It has the bye.
+            self.assertLess(time.monotonic(), end)
+            time.sleep(0.05)
+        self.assertIn("1 events, configuration 1, ", words("mark", going.folder).stdout)
+
+    def until_told(self, folder: Path, line: str) -> None:
+        """Waits until a run's own lines have one."""
+        end = time.monotonic() + LIMIT
+        while line not in (folder / "run.txt").read_text(encoding="utf-8"):
+            self.assertLess(time.monotonic(), end)
+            time.sleep(0.05)
+
+    def test_what_can_not_be_taken(self) -> None:
+        going = Going(self, CYCLE, "--close", "by-hand")
+        done = words("attach", going.folder)
+        self.assertEqual((done.returncode, done.stderr), (1, f"class: {going.folder}: process {going.process.pid} holds its desk\n"))
+        going.type("end\nend")
+        self.assertEqual(going.ends(), 0, going.lines)
+        done = words("attach", going.folder)
+        self.assertEqual((done.returncode, done.stderr), (1, f"class: {going.folder}: its server has ended: ./class run --resume {going.folder}\n"))
+        self.assertEqual(words("attach", self.room / "none").returncode, 1)
+
+
+if __name__ == "__main__":
+    unittest.main()

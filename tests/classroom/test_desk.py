@@ -1,0 +1,267 @@
+"""The desk of `./class run`: its words, what it says of limits and of late servers, and its terminal."""
+from __future__ import annotations
+
+import os
+import re
+import signal
+import subprocess
+import sys
+import threading
+import time
+import unittest
+import unittest.mock
+from pathlib import Path
+
+from classroom import server
+from classroom import lab as labs
+from classroom.attend import Room, attend
+from classroom.client import Client
+from classroom.desk import Desk
+from classroom.printable import printable
+from classroom.program import host
+from classroom.typed import FORMS, NOW, Typed, understood
+from tests.classroom.help import CYCLE, EXAMPLES, KEYS, LIMIT, Cycle, Going, InRoom, InTerminal, words
+
+
+class Forms(unittest.TestCase):
+    """The words alone."""
+
+    def test_each_word_has_one_form(self) -> None:
+        for line in ("close", "fault 1 2 true", "fault 1 null false", "fault 1 - false", "link 1 2", "cut 1 2", "release 3", "report",
+                     "wait", "who", "every 5", "every 0.5", "when-idle 2", "by-hand", "help", "end"):
+            self.assertEqual(understood(line), line.split())
+        self.assertEqual(understood(""), ["wait"])
+        for line in ("close 3", "fault 1 2", "fault 1 2 yes", "link 1", "cut 1 2 3", "release", "release x", "report 1", "who ana",
+                     "every", "every x", "every -1", "by-hand 2", "end now", "release ٣"):
+            with self.assertRaises(ValueError) as error:
+                understood(line)
+            self.assertEqual(str(error.exception), f"not understood; it is {FORMS[line.split()[0]]}")
+        with self.assertRaisesRegex(ValueError, "^not understood; did you mean close\\? words: close, fault NODE"):
+            understood("clsoe")
+
+    def test_what_others_write_is_printable(self) -> None:
+        self.assertEqual(printable("Zoë\x1b[2J\nk\x07 \u202e"), "Zoë\\x1b[2J\nk\\x07 \\u202e")
+
+
+class Words(Cycle):
+    """Runs that are told what to do."""
+
+    def test_the_end_is_asked_for_twice(self) -> None:
+        going = Going(self, CYCLE, "--close", "by-hand")
+        going.type("end")
+        going.until("^not stable, 3 privileged: end once more ends the run all the same$")
+        going.type("close 3")
+        going.until("^not understood; it is close$")
+        going.type("end")
+        going.until("^not stable, 3 privileged: ")
+        going.type("end")
+        self.assertEqual(going.ends(), 0, going.lines)
+
+    def test_who_report_and_help(self) -> None:
+        going = Going(self, CYCLE, "--close", "by-hand")
+        with Client(going.port, "gus", KEYS["gus"]) as gus:
+            gus.move(gus.look(4))
+            going.until(f"^connected: process {os.getpid()}$")
+            going.type("who")
+            going.until(rf"^connected: 1 of \d+ places: process {os.getpid()}$")
+            going.until("^no move was granted yet to hana, ines, jonas$")
+            going.type("report")
+            going.until(r"^configuration 0, not stable: .*; events 1 of \d+$")
+            going.type("help")
+            for form in FORMS.values():
+                going.until(f"^  {re.escape(form)} ")
+
+    def test_no_word_of_a_process_is_told(self) -> None:
+        going = Going(self, CYCLE, "--close", "by-hand")
+        held = subprocess.Popen(
+            [sys.executable, "-c", f"import socket; it = socket.create_connection(('127.0.0.1', {going.port})); it.recv(1)", "hana"],
+        )
+        self.addCleanup(held.wait)
+        self.addCleanup(held.kill)
+        self.assertEqual(going.until("^connected: "), f"connected: process {held.pid}")
+
+    def test_events_are_counted_and_few_are_told(self) -> None:
+        lab = self.file("cycle.toml", re.sub(r"(?m)^events = \d+", "events = 10", CYCLE.read_text(encoding="utf-8")))
+        going = Going(self, lab, "--close", "by-hand")
+        for number in range(1, 11):
+            going.type("fault 1 2 true")
+            going.until(f"^configuration {number}: .*; events {number} of 10$")
+            if number == 9:
+                going.until("^events 9 of 10: nothing more is granted after the last$")
+        line = going.until("^nothing more is granted: ")
+        self.assertRegex(line, "full: events 10 of 10; ")
+        self.assertEqual(going.ends(), 5, going.lines)
+        self.assertEqual(self.whole(going.folder), 10)
+
+    def test_the_page_of_several_and_their_words(self) -> None:
+        students = self.file("students", "".join(f"S {number}\n" for number in range(6)))
+        self.assertEqual(words("new", self.room / "lab.toml", "--students", students, "--groups", "2", "--start", "random").returncode, 0)
+        process = subprocess.Popen(
+            [sys.executable, EXAMPLES.parent / "class", "run", self.room / "lab-1.toml", self.room / "lab-2.toml", "--into",
+             self.room / "runs", "--port", "28100", "--page", "28200", "--close", "by-hand", "--typed"],
+            stdin=subprocess.PIPE, stdout=subprocess.PIPE, stderr=subprocess.STDOUT, text=True, bufsize=1,
+        )
+        assert process.stdout is not None and process.stdin is not None
+        self.addCleanup(process.stdin.close)
+        told: list[str] = []
+        with process.stdout:
+            for line in process.stdout:
+                told.append(line)
+                if sum(": page http" in each for each in told) == 2 and line.count(": page "):
+                    process.stdin.write("2: fault 1 null true\n9: close\n")
+                if "lab-2: configuration 1: fault 1 - true" in line:
+                    process.stdin.write("end\nend\n")
+        self.assertEqual(process.wait(LIMIT), 0, told)
+        self.assertIn("not understood; runs are 1: lab-1, 2: lab-2\n", told)
+        self.assertFalse(any(line.startswith("lab-1: configuration 1: ") for line in told))
+
+
+class InATerminal(Cycle):
+    """A terminal of its own."""
+
+    def test_editing_history_completion_and_the_end_of_input(self) -> None:
+        terminal = InTerminal(self)
+        terminal.type(b"fau\t1 2 true\n", b"fault 1 2 true; ")
+        terminal.type(b"\x1b[A\n", b"configuration 2: fault 1 2 true; ")
+        terminal.type(b"clossse\x1b[D\x7f\x7f\n", b"no: empty")
+        terminal.type(b"\x04", b"to end the run type end")
+        terminal.type(b"end\n", b"end once more ends the run")
+        terminal.type(b"end\n", b"all of it is in ")
+        self.assertEqual(terminal.process.wait(LIMIT), 0)
+        os.close(terminal.ours)
+
+
+@unittest.skipUnless(host(), "not tried: no host is built")
+class Late(Cycle):
+    """Servers that are late, and runs that go on already."""
+
+    def test_a_server_that_is_late_is_waited_for(self) -> None:
+        lab = labs.read(CYCLE)
+        it = server.start(self.room, CYCLE, 29000, self.room / "journal")
+        self.addCleanup(lambda: it.ended() or it.stop())
+        lines: list[str] = []
+        desk = Desk(lab, self.room / "journal", Client(it.desk, *lab.teacher, limit=0.5), ("by-hand", 0.0), lines.append)
+        typed, found = Typed(), []
+        holding = threading.Thread(target=lambda: found.append(attend(desk, it, False, typed, Room(self.room), lambda: None)))
+        holding.start()
+        os.kill(it.process.number, signal.SIGSTOP)
+        typed.put("fault 1 2 true")
+        self.until(lambda: any(line.startswith("the desk: no answer in 0.5 seconds") for line in lines))
+        os.kill(it.process.number, signal.SIGCONT)
+        self.until(lambda: "the desk is held again" in lines)
+        typed.put("link 1 3")
+        self.until(lambda: any("link 1 3" in line for line in lines))
+        self.assertTrue(any("configuration 1: fault 1 2 true" in line for line in lines), lines)
+        typed.put(NOW)
+        holding.join(LIMIT)
+        desk.journal.close()
+        self.assertEqual(found, ["end"])
+        desk.client.bye()
+        self.assertTrue(it.ended(LIMIT))
+
+    def until(self, holds: object) -> None:
+        """Waits for it."""
+        end = time.monotonic() + LIMIT
+        assert callable(holds)
+        while not holds():
+            self.assertLess(time.monotonic(), end)
+            time.sleep(0.01)
+
+    def test_a_server_whose_end_is_late_is_not_killed(self) -> None:
+        going = Going(self, CYCLE, "--close", "by-hand")
+        number = going.server()
+        with Client(going.port, "gus", KEYS["gus"]):
+            os.kill(number, signal.SIGSTOP)
+            going.process.send_signal(signal.SIGTERM)
+            time.sleep(1)
+            os.kill(number, signal.SIGCONT)
+        self.assertEqual(going.ends(), 0, going.lines)
+        self.assertFalse(any("by itself" in line for line in going.lines), going.lines)
+
+    def test_a_second_run_says_where_the_first_is(self) -> None:
+        going = Going(self, CYCLE, "--close", "by-hand")
+        second = words("run", CYCLE, "--into", self.room / "runs")
+        self.assertEqual((second.returncode, second.stdout), (1, ""))
+        self.assertEqual(second.stderr, f"class: a run of {CYCLE} goes on at port {going.port}, folder {going.folder}; "
+                                        "--beside starts another class\n")
+        self.assertEqual(len(list((self.room / "runs").iterdir())), 1)
+        beside = Going(self, CYCLE, "--close", "by-hand", "--beside")
+        for run in (beside, going):
+            run.type("end\nend")
+            self.assertEqual(run.ends(), 0)
+        third = Going(self, CYCLE, "--close", "by-hand")
+        third.type("end\nend")
+        self.assertEqual(third.ends(), 0)
+
+
+class Disk(InRoom):
+    """What is told of a disk."""
+
+    def test_little_room_none_and_room_again(self) -> None:
+        room, told = Room(self.room), []
+        for left in (10**9, 65536, 65535, 4096, 0, 0, 10**9, 10**9):
+            room.due = 0.0
+            with unittest.mock.patch.object(room, "left", return_value=left):
+                told.append([line.partition(":")[0] for line in room.news()])
+        self.assertEqual(told, [[], [], ["the disk has little room"], [], ["the disk is full"], [], ["the disk has room again"], []])
+
+
+class Refused(Cycle):
+    """What can't be done is told in a line, and no folder is left."""
+
+    def says(self, status: int, line: str, *asked: str | Path) -> None:
+        """Wants a status and one line of error."""
+        done = words(*asked)
+        self.assertEqual((done.returncode, done.stdout), (status, ""), done.stderr)
+        self.assertRegex(done.stderr, f"^{line}\n$")
+
+    def test_a_line_each(self) -> None:
+        into = self.room / "runs"
+        for word, port in (("--port", "65536"), ("--port", "0"), ("--page", "70000"), ("--page", "x")):
+            self.says(1, f"class run: argument {word}: {port} is no port: 1 to 65535; class run --help tells the words",
+                      "run", CYCLE, word, port, "--into", into)
+        self.says(4, f"class: {self.room}/none.toml: No such file or directory", "run", self.room / "none.toml", "--into", into)
+        self.says(4, f"class: {self.room}: .*", "run", self.room, "--into", into)
+        self.says(1, "class: the following arguments are required: .*; class --help tells the words")
+        file = self.file("file", "")
+        self.says(4, f"class: {file}/.*: Not a directory; --into FOLDER names another place", "run", CYCLE, "--into", file)
+        self.says(4, "class: /proc/none/.*; --into FOLDER names another place", "run", CYCLE, "--into", "/proc/none")
+        self.assertFalse(into.exists() and list(into.iterdir()))
+
+    def test_no_folder_is_left_where_no_server_starts(self) -> None:
+        broken = self.file("broken", "#!/bin/sh\necho no >&2\nexit 4\n")
+        broken.chmod(0o755)
+        with unittest.mock.patch.dict(os.environ, {"MML_HOST": str(broken)}):
+            self.says(4, "class: the server doesn't start: no", "run", CYCLE, "--into", self.room / "runs")
+        self.assertEqual(list((self.room / "runs").iterdir()), [])
+
+    def test_each_word_has_an_example(self) -> None:
+        everything = words("--help").stdout
+        self.assertIn("exit status: 0 done; ", " ".join(everything.split()))
+        for word in ("new", "check", "run", "attach", "mark", "play", "demo"):
+            self.assertIn(f"    {word} ", everything)
+            said = " ".join(words(word, "--help").stdout.split())
+            self.assertRegex(said, f"Examples?: class {word}")
+            for form in FORMS.values() if word in ("run", "attach") else ():
+                self.assertIn(form, said)
+
+    def test_names_with_dots(self) -> None:
+        students = self.file("students", "Ana\nBen\nCyd\n")
+        for name in ("..", "..."):
+            self.says(1, "class: .* is no file's name: NAME.toml", "new", f"{self.room}/x/{name}", "--students", students)
+        for name, made in (("maths.2026", "maths.2026.toml"), ("a.b.toml", "a.b.toml")):
+            self.assertEqual(words("new", self.room / name, "--students", students).returncode, 0)
+            self.assertTrue((self.room / made).is_file())
+
+    def test_who_reads_no_more(self) -> None:
+        journal = self.file("journal", "")
+        ours, theirs = os.pipe()
+        os.close(ours)
+        done = subprocess.run([sys.executable, EXAMPLES.parent / "class", "mark", CYCLE, journal], stdout=theirs,
+                              stderr=subprocess.PIPE, check=False, timeout=LIMIT)
+        os.close(theirs)
+        self.assertEqual((done.returncode, done.stderr), (4, b""))
+
+
+if __name__ == "__main__":
+    unittest.main()

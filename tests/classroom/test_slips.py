@@ -1,0 +1,195 @@
+"""Slips, and the programs that take them: what each says where something is wrong, and its status."""
+from __future__ import annotations
+
+import json
+import shutil
+import socket
+import subprocess
+import sys
+import threading
+import unittest
+from pathlib import Path
+
+from classroom.client import Client, NoServer, NoSlip, Slip, wrong
+from classroom.lab import read
+from tests.classroom.help import CYCLE, EXAMPLES, KEYS, LIMIT, Cycle, Going, InRoom, words
+
+TOP = EXAMPLES.parent
+BOT, TEACHER = (sys.executable, EXAMPLES / "bot.py"), (sys.executable, EXAMPLES / "teacher.py")
+BY_HAND = (sys.executable, TOP / "classroom/client.py")
+JAVA = ("java", EXAMPLES / "Bot.java")
+BOTS = (BOT, JAVA) if shutil.which("java") else (BOT,)
+Command = tuple[str | Path, ...]
+
+
+def call(*command: str | Path, typed: str = "") -> subprocess.CompletedProcess[str]:
+    """Calls a program to its end."""
+    return subprocess.run(command, input=typed, capture_output=True, text=True, check=False, timeout=LIMIT)
+
+
+class Files(InRoom):
+    """Slips as files."""
+
+    def test_what_new_makes(self) -> None:
+        students = self.file("students", "Zoë Müller\nBen\nCyd\nDan\n")
+        done = words("new", self.room / "lab.toml", "--students", students, "--groups", "2", "--family", "path", "--port", "5000")
+        self.assertEqual(done.returncode, 0, done.stderr)
+        found = {}
+        for number in (1, 2):
+            lab = read(self.room / f"lab-{number}.toml")
+            folder = self.room / f"lab-{number}-slips"
+            self.assertEqual(folder.stat().st_mode & 0o777, 0o700)
+            self.assertEqual({file.stem for file in folder.iterdir()}, {*lab.students, "teacher"})
+            for file in folder.iterdir():
+                self.assertEqual(file.stat().st_mode & 0o777, 0o600)
+                found[file.stem] = Slip.read(file)
+                self.assertEqual(found[file.stem].port, 4999 + number)
+            for name, key in lab.students.items():
+                self.assertEqual((found[name].name, found[name].key), (name, key))
+                self.assertEqual(list(found[name].nodes), lab.nodes_of(name))
+            self.assertEqual(found["teacher"].key, lab.teacher[1])
+            printed = (self.room / f"lab-{number}-slips.txt").read_text(encoding="utf-8")
+            self.assertNotIn(lab.teacher[1], printed)
+            for name, key in lab.students.items():
+                self.assertIn(f"  key {key}\n", printed)
+                self.assertIn(f"  python3 bot.py {name}.slip\n", printed)
+                self.assertEqual([line for line in printed.splitlines() if "python3" in line and key in line], [])
+
+    def test_what_a_slip_is(self) -> None:
+        slip = self.file("ana.slip", "# Ana\nport 4711\nname ana\nkey a b\nnodes 1,4\n")
+        self.assertEqual(Slip.read(slip), Slip(4711, "ana", "a b", (1, 4)))
+        self.assertEqual(Slip.of([str(slip), "5"]), (Slip(4711, "ana", "a b", (1, 4)), ["5"]))
+        key = self.file("key", "k-1\n")
+        self.assertEqual(Slip.of(["80", "ben", str(key), "7,8", "5"]), (Slip(80, "ben", "k-1", (7, 8)), ["5"]))
+        self.assertEqual(Slip.of(["80", "tess", str(slip)]), (Slip(80, "tess", "a b", ()), []))
+        for content, error in (("port 4711\nname ana\n", "no line `key ..`"), ("port x\nname a\nkey b\n", "x is no port"),
+                               ("port 1\nname a\nkey b\nnodes one\n", "nodes one: no numbers")):
+            with self.assertRaisesRegex(NoSlip, error):
+                Slip.read(self.file("bad.slip", content))
+        with self.assertRaisesRegex(NoSlip, "No such file"):
+            Slip.read(self.room / "none.slip")
+
+    def test_what_is_wrong_with_a_line(self) -> None:
+        move = '{"do":"move","node":1,"at":0,"rule":"update"}'
+        for line in (move, ' {"do" : "close"} ', '{"do":"move","node":2,"rule":"marriage","with":1,"at":4,"more":[]}',
+                     '{"do":"fault","node":1,"p":null,"m":true}', '{"do":"hello","name":"a","key":"b"}'):
+            self.assertIsNone(wrong(line), line)
+        for line, what in (
+            (move.replace(',"at":0', ""), 'missing "at"'), (move.replace(":1", ':"1"'), "node is a string, not a number"),
+            ("hello", "not JSON at byte 1"), ('{"é":1,}', "not JSON at byte 9"), ('{"do":"lok"}', "unknown do: lok"),
+            ("\ufeff" + move, "a byte order mark at its beginning"), ('{"do":\n"close"}', "several lines: a request is one"),
+            ('{"do":"close"', "not JSON: it isn't closed at its end, and a request is one line"), ("", "not JSON at byte 1"),
+            ('{"node":1}', 'missing "do"'), ("[1]", "a list, not an object"), ('{"do":"see","do":"see","node":1}', "do stands twice"),
+            ('{"do":"see","node":true}', "node is true or false, not a number"), ('{"do":"see","node":1.0}', "node is no whole number, not a number"),
+            ('{"do":"see","node":-1}', "node is out of range, not a number"), ('{"do":"move","node":2,"rule":"marriage","at":4}', 'missing "with"'),
+            ('{"do":"move","node":2,"rule":"dance","at":4}', "rule is a string, not one of update, marriage, seduction, abandonment"),
+            ('{"do":"see","node":1,"x":"' + "a" * 4096 + '"}', "more than 4096 bytes: the server ends the connection"),
+        ):
+            self.assertEqual(wrong(line), what, line[:60])
+
+
+class Fake(InRoom):
+    """Servers that are none, or that have no place."""
+
+    def answers(self, line: bytes, times: int = 1) -> int:
+        """Answers so many connections by a line, and gives the port."""
+        listener = socket.create_server(("127.0.0.1", 0))
+        self.addCleanup(listener.close)
+
+        def serve() -> None:
+            for _ in range(times):
+                connection, _ = listener.accept()
+                with connection:
+                    connection.sendall(line)
+                    connection.settimeout(LIMIT)
+                    while connection.recv(4096):
+                        pass
+
+        threading.Thread(target=serve, daemon=True).start()
+        port: int = listener.getsockname()[1]
+        return port
+
+    def slip(self, port: int) -> Path:
+        """A slip for that port."""
+        return self.file(f"{port}.slip", f"port {port}\nname gus\nkey heron\nnodes 1\n")
+
+    def test_the_port_of_another_program_and_of_none(self) -> None:
+        with socket.create_server(("127.0.0.1", 0)) as free:
+            none = free.getsockname()[1]
+        for command in (*BOTS, BY_HAND):
+            said = call(*command, self.slip(none))
+            self.assertEqual((said.returncode, said.stdout), (4, ""), said.stderr)
+            self.assertRegex(said.stderr, rf"^\w+(\.py)?: no server at port {none}.*\n$")
+        for command in BOTS:
+            port = self.answers(b"HTTP/1.1 400 Bad Request\r\n")
+            said = call(*command, self.slip(port))
+            self.assertEqual((said.returncode, said.stdout), (4, ""), said.stderr)
+            self.assertRegex(said.stderr, rf"^\w+(\.py)?: at port {port} is another program.*\n$")
+        with self.assertRaises(NoServer):
+            Client.from_slip(self.slip(self.answers(b"220 mail\r\n")))
+
+    def test_no_place_is_free(self) -> None:
+        said = call(*BOT, self.slip(self.answers(b'{"refuse":"busy"}\n', 9)), "0.5")
+        self.assertEqual((said.returncode, said.stdout), (5, ""))
+        self.assertEqual(said.stderr, "bot.py: all places were taken for a minute: come again later\n")
+
+    def test_wrong_words(self) -> None:
+        for command in (*BOTS, TEACHER, BY_HAND):
+            wrong_words: tuple[str | Path, ...] = ("none.slip", "4711", self.file("bad.slip", "no slip\n"))
+            for more in wrong_words:
+                if command is BY_HAND and more == "4711":
+                    continue
+                said = call(*command, more)
+                self.assertEqual((said.returncode, said.stdout), (1, ""), (command, more))
+                self.assertEqual(said.stderr.count("\n"), 1, said.stderr)
+                self.assertNotIn("Traceback", said.stderr)
+
+
+class Talking(Cycle):
+    """Programs at a run."""
+
+    def edited(self, slip: Path, name: str, old: str, new: str) -> Path:
+        """A slip with another line."""
+        return self.file(name, slip.read_text(encoding="utf-8").replace(old, new))
+
+    def test_a_wrong_key_and_a_wrong_node(self) -> None:
+        going = Going(self, CYCLE, "--close", "by-hand")
+        good = self.slip(going.port, "gus")
+        for command in BOTS:
+            said = call(*command, self.edited(good, "key.slip", KEYS["gus"], "another"))
+            self.assertEqual(said.returncode, 2)
+            self.assertRegex(said.stderr, r"^\w+(\.py)?: name and key don't match: take both from your slip\n$")
+            said = call(*command, self.edited(good, "node.slip", "nodes 1", "nodes 2"))
+            self.assertEqual(said.returncode, 3)
+            self.assertRegex(said.stderr, r"^\w+(\.py)?: a node isn't yours: correct the nodes by your slip\n$")
+
+    def test_the_run_s_end(self) -> None:
+        going = Going(self, CYCLE, "--close", "by-hand")
+        slip = self.slip(going.port, "gus")
+        bots = [subprocess.Popen([*command, slip], stdout=subprocess.DEVNULL, stderr=subprocess.PIPE, text=True) for command in BOTS]
+        for _ in bots:
+            going.until("^connected: ")
+        going.type("end\nend")
+        self.assertEqual(going.ends(), 0, going.lines)
+        for bot in bots:
+            self.assertRegex(bot.communicate(timeout=LIMIT)[1], r"^\w+(\.py)?: the run is over, or the connection was lost.*\n$")
+            self.assertEqual(bot.returncode, 0)
+
+    def test_by_hand(self) -> None:
+        going = Going(self, CYCLE, "--close", "by-hand")
+        log = self.room / "log"
+        said = call(*BY_HAND, self.slip(going.port, "gus"), "--log", log, typed='{"do":"look"}\n{"do":"look","node":4}\n{"do":"bye"}\n')
+        self.assertEqual(said.returncode, 0, said.stderr)
+        replies = [json.loads(line) for line in said.stdout.splitlines()]
+        self.assertEqual([list(reply.values())[-1] for reply in replies[:2]], ["gus", "malformed"])
+        self.assertEqual([reply["ok"] for reply in replies[2:]], ["look", "bye"])
+        self.assertEqual(said.stderr, 'client: missing "node"\n')
+        kept = log.read_text(encoding="utf-8")
+        self.assertNotIn(KEYS["gus"], kept)
+        self.assertEqual([line.split(" ")[1] for line in kept.splitlines()], [">", "<", "!", ">", "<", ">", "<", ">", "<"])
+        said = call(*BY_HAND, self.slip(going.port, "gus"), typed="x" * 5000 + "\n")
+        self.assertIn("the server has closed the connection: a line has at most 4096 bytes", said.stdout)
+
+
+if __name__ == "__main__":
+    unittest.main()
