@@ -7,9 +7,11 @@ from dataclasses import dataclass, field
 LINE = re.compile(r"fn (\S+): (.*)")
 OPEN = re.compile(r"`search` did not prove ((?:`[^`]+`(?:, )?)+)")
 RESTS = re.compile(r"it (?:calls|passes) [^;]*which (?:is|are) not proved")
-ERROR = re.compile(r"(?:\./)?(\S+?):\d+:\d+: error\b.*")
+ERROR = re.compile(r"\S+?(?::\d+:\d+)?: error\b.*|error\b.*")
 GOAL = re.compile(r"(?:\./)?proofs/(\S+)/(?:Answers|Invariants|Proof)\.antt:\d+:\d+: error: `([^`]+)`: (.*)")
 LOST = re.compile(r"has no field|is not in scope|has no `|was not admitted")
+# What rests on an answer that has an error of its own.
+RESTS_ON_ANSWER = re.compile(r"error: \d+ declarations? that depends? on `[^`]+`, which was rejected, (?:was|were) not checked")
 ENDING = re.compile(r"only=(\d+) proved=(\d+)")
 
 
@@ -47,6 +49,8 @@ class Told:
     def add_error(self, line: str) -> None:
         """An error, which is of a goal where a proof's answer doesn't show it any more."""
         found = GOAL.fullmatch(line)
+        if RESTS_ON_ANSWER.search(line):
+            return
         if found and not LOST.search(found[3]):
             self.add_goal(found[1].replace("/", "::"), found[2])
         else:
@@ -59,7 +63,7 @@ def read_output(crate: str, output: str) -> Told:
     for line in output.splitlines():
         if found := LINE.fullmatch(line):
             told.add_function(found[1].removeprefix(f"{crate}::"), found[2])
-        elif ERROR.fullmatch(line) or line.startswith(("error", "rattle: error")):
+        elif ERROR.fullmatch(line):
             told.add_error(line)
         elif found := ENDING.fullmatch(line):
             told.ending = int(found[1]), int(found[2])

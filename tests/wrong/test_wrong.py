@@ -116,11 +116,22 @@ class Judging(unittest.TestCase):
         found = judged(line + kept("three_bodies.txt"), NEVER, THERE)
         self.assertEqual(found.of_round, [f"an error of no goal: {line.strip()}"])
 
+    def test_an_error_of_a_whole_file(self) -> None:
+        """An error needs no line: a body that the borrow checker doesn't cover has answers that aren't read."""
+        for line in ("./proofs/a/f/Answers.antt: error: rattle does not read `Answers.antt` of `mml_ends::a::f`", "rattle: error: `mml_ends` has no function `f`"):
+            found = judged(f"{line}\n{kept('three_bodies.txt')}", NEVER, THERE)
+            self.assertEqual(found.of_round, [f"an error of no goal: {line}"])
+
     def test_an_answer_that_shows_its_goal_no_more(self) -> None:
         """An answer's own error is a refusal at its goal."""
         line = "./proofs/retrying/Retrying/new/Answers.antt:9:5: error: `returns-clause-inner`: `search`: no proof of `a ≡ b` was found\n"
         found = judged(line + kept("three_bodies.txt"), NEVER, ELSEWHERE)
         self.assertEqual((found.of_round, found.of_edit), ([], {}))
+
+    def test_what_rests_on_an_answer(self) -> None:
+        """An answer that cites one with an error of its own adds nothing."""
+        line = "./proofs/retrying/Retrying/new/Answers.antt:9:5: error: 1 declaration that depends on `a`, which was rejected, was not checked: b\n"
+        self.assertEqual(judged(line + kept("three_bodies.txt"), NEVER, THERE).of_round, [])
 
     def test_a_caller_of_what_is_refused(self) -> None:
         """What only rests on a refused function counts as refused, and needs no edit."""
