@@ -91,6 +91,19 @@ fn is_outcome(
         && are_answered(house, replies)
 }
 
+fn is_some_outcome(
+    house: &ServedHouse<MemorySink, &[u8], Vec<u8>>,
+    out: &[u8],
+    outcomes: &[Outcome],
+) -> bool {
+    for wanted in outcomes.iter() {
+        if is_outcome(house, out, wanted) {
+            return true;
+        }
+    }
+    false
+}
+
 /// Whether one of these outcomes comes of a race in which all were held.
 fn is_run<R: Threads + Wait + Sync>(rt: &R, alloc: Global, race: &Race) -> Result<bool, Fail> {
     let (scripts, holds, steps, outcomes) = race;
@@ -101,10 +114,7 @@ fn is_run<R: Threads + Wait + Sync>(rt: &R, alloc: Global, race: &Race) -> Resul
     let Ok(house) = serve(rt, alloc, sink, scripts, connections, &gate, &mut out)? else {
         return Ok(false);
     };
-    let is_one = outcomes
-        .iter()
-        .any(|wanted| is_outcome(&house, &out, wanted));
-    Ok(is_one && gate.were_kept(*steps))
+    Ok(is_some_outcome(&house, &out, outcomes) && gate.were_kept(*steps))
 }
 
 const ANA_MOVES: &str = r#"{"do":"hello","key":"a-key","name":"ana"}
@@ -309,7 +319,10 @@ fn told_of_arrivals<R: Threads + Wait + Sync>(rt: &R, alloc: Global) -> Result<(
         &mut out,
     )?;
     let wanted: Outcome = (&[ANA_GRANTED, "{\"ok\":\"bye\"}\n"], ANA_JOURNAL, ONE_MOVED);
-    let are_two = two.is_ok_and(|house| is_outcome(&house, &out, &wanted));
+    let are_two = match two {
+        Ok(house) => is_outcome(&house, &out, &wanted),
+        Err(_) => false,
+    };
     let mut none = Vec::new(alloc);
     let sink = MemorySink::new(alloc, None);
     let one = serve(rt, alloc, sink, &[ANA_MOVES], 2, &NoGate, &mut none)?;

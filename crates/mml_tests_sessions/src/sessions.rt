@@ -61,12 +61,13 @@ fn serve<'a, R: Wait>(
     writer: FakeWriter,
 ) -> Result<(Served<'a>, bool), Fail> {
     let sink = MemorySink::new(alloc, None);
-    match visit_path(rt, alloc, sink, Session { reader, writer })? {
-        (Some(served), end) => {
+    let (told, end) = visit_path(rt, alloc, sink, Session { reader, writer })?;
+    match told {
+        Some(served) => {
             let wanted = ending_after(served.is_closed);
             Ok((served, ending_of(&end) == wanted))
         }
-        (None, _) => Err(Fail::from("no window")),
+        None => Err(Fail::from("no window")),
     }
 }
 

@@ -55,20 +55,24 @@ impl<'a> Steps<'a> {
         }
     }
 
+    fn hold_together(&self, step: u64) {
+        for come in self.steps.iter() {
+            self.wait_until(Some(come), step.saturating_add(1));
+        }
+    }
+
+    fn hold_each(&self, holds: &[Hold], connection: u8, step: u64) {
+        for (held, at, other, wanted) in holds.iter() {
+            if *held == connection && *at == step {
+                self.wait_until(self.come_of(*other), *wanted);
+            }
+        }
+    }
+
     fn hold(&self, connection: u8, step: u64) {
         match self.holds {
-            Holds::Together => {
-                for come in self.steps.iter() {
-                    self.wait_until(Some(come), step.saturating_add(1));
-                }
-            }
-            Holds::Each(holds) => {
-                for (held, at, other, wanted) in holds.iter() {
-                    if *held == connection && *at == step {
-                        self.wait_until(self.come_of(*other), *wanted);
-                    }
-                }
-            }
+            Holds::Together => self.hold_together(step),
+            Holds::Each(holds) => self.hold_each(holds, connection, step),
         }
     }
 
