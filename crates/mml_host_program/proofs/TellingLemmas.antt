@@ -16,7 +16,7 @@ pub told_resumed : {S K R W : Type 0} (lab : LabValue) (old first : List ℕ) (s
     → TellsResumed lab old port desk wrote wrote'
 told_resumed lab old first sink remaining contents shows to_desk to_come wrote wrote' house port desk r same = record {
   begun = r.begun;
-  events = house.log.events.items;
+  events = house.log.events;
   between = r.between;
   journal = r.journal;
   begins = r.hosts.begins;
