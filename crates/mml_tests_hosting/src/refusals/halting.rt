@@ -12,7 +12,7 @@ use std::alloc::Global;
 use std::test::Fail;
 
 /// The reply line to a request of connection 1 whose nth request for memory is refused, and whether none
-/// was.
+/// was; none where the lab has no such connection.
 fn answered(
     alloc: Global,
     hall: &mut Hall<MemorySink>,
@@ -20,6 +20,9 @@ fn answered(
     nth: usize,
     is_there: bool,
 ) -> Option<(Vec<u8>, bool)> {
+    if hall.lab().sessions() < 1 {
+        return None;
+    }
     refuse(alloc, nth);
     let reply = hall.answer(alloc, 1, request.as_bytes());
     let was_none = was_none_refused(alloc, is_there);
