@@ -5,7 +5,7 @@ import threading
 from dataclasses import dataclass
 
 from classroom import lab as labs
-from classroom.client import Client, Report
+from classroom.client import Client, Denied, Refused, Report
 from classroom.frames import State
 from classroom.journal import Event, Tally
 
@@ -82,6 +82,8 @@ class Watch:
             return
         last = self.events[-1]
         number = last.at + last.makes_configuration
+        if any(event.kind in ("grant", "release") for event in self.events):
+            self.settle()
         if report.at != number or self.look() != {number}:
             return
         self.take(report)
@@ -89,6 +91,15 @@ class Watch:
         self.named.clear()
         self.present.put(self.state.copy(), tuple(self.events))
         self.events.clear()
+
+    def settle(self) -> None:
+        """Waits until what the journal's last line says has happened, since the line is there first: an act comes after
+        it, also one that is denied, as that a node be linked to itself."""
+        node = min(self.state.pointers)
+        try:
+            self.client.link(node, node)
+        except (Denied, Refused):
+            pass
 
     def look(self) -> set[int]:
         """Looks at the named nodes; gives the numbers of the configurations in which they were seen."""

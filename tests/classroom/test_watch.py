@@ -1,0 +1,46 @@
+"""What a live page shows of a move whose line is in the journal before it is chosen."""
+import unittest
+from typing import cast
+
+from classroom import lab as labs
+from classroom.client import Client, Denied, Edit, Look, Report
+from classroom.journal import Event, Tally
+from classroom.program import TOP
+from classroom.watch import Watch
+
+REPORT = Report(0, False, (), (), ((4, "update"),), ())
+
+
+class Late:
+    """A desk where node 4 is chosen, as views see it from the next act on."""
+
+    def __init__(self) -> None:
+        self.acts = 0
+        self.is_granted = False
+
+    def look(self, node: int) -> Look:
+        """A look at a node."""
+        chosen = "update" if node == 4 and self.is_granted and self.acts else None
+        return Look(node, None, False, 0, "update" if node == 4 else None, chosen, ())
+
+    def link(self, a: int, b: int) -> Edit:
+        """A link that is denied."""
+        self.acts += 1
+        raise Denied(2, "loop", "a node cannot be linked to itself")
+
+
+class Lines(unittest.TestCase):
+    """A journal's lines come before what they say is seen."""
+
+    def test_a_line_before_its_move(self) -> None:
+        desk = Late()
+        watch = Watch(labs.read(TOP / "examples/cycle.toml"), cast(Client, desk), REPORT, "by-hand")
+        self.assertEqual((watch.present.now.state.chosen, desk.acts), ({}, 0))
+        desk.is_granted = True
+        watch.note(Event(1, 0, ("grant", "gus", "4", "update")))
+        watch.turn(REPORT, Tally())
+        self.assertEqual(watch.present.now.state.chosen, {4: "update"})
+
+
+if __name__ == "__main__":
+    unittest.main()
