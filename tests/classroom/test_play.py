@@ -101,7 +101,7 @@ class Play(Played):
 
     def test_words_that_are_wrong(self) -> None:
         lab, journal = edited_run(self.room)
-        self.assertEqual(self.call("play").returncode, 2)
+        self.assertEqual(self.call("play").returncode, 1)
         self.assertEqual(self.call("play", self.room / "none", journal).returncode, 4)
         self.assertEqual(self.call("play", lab, journal, "-o", self.room / "none" / "run.html").returncode, 4)
 
