@@ -6,18 +6,15 @@ With words, only the tests whose names have one of them. The tests go side by si
 """
 import re
 import socket
-import sys
-import tempfile
 import threading
 import time
-from collections.abc import Callable
-from concurrent.futures import ProcessPoolExecutor
 from pathlib import Path
 
 from tests.common.hosting import (
-    BID, BUSY, BYE, HOST, NODES, Bot, Caller, Host, Talk, audit, called, hello, lab_of, let_in, look
+    BID, BUSY, BYE, NODES, Bot, Caller, Host, Talk, audit, called, hello, lab_of, let_in, look
 )
 from tests.common.preload import Ended, fail, good
+from tests.common.side_by_side import Test, try_all
 
 NOT_LISTENING = Ended(4, b"", b"host: cannot listen\n")
 NONE = Ended(0, b"done: 0 events, configuration 0\n", b"")
@@ -473,34 +470,11 @@ def words(room: Path) -> None:
                 fail(f"host: with the words {given} it ends otherwise")
 
 
-TESTS: list[Callable[[Path], None]] = [
+TESTS: list[Test] = [
     connect_and_close, deadlines, one_after_another, ended_while_asked, few_descriptors, through_one_place,
     killed_in_a_line, says_busy, two_of_one_name, raced, byes_that_end_nothing, ports, words,
 ]
 
 
-def tried(test: Callable[[Path], None]) -> float:
-    """Tries a test in a folder of its own; answers what time it took."""
-    begun = time.monotonic()
-    with tempfile.TemporaryDirectory() as room:
-        test(Path(room))
-    return time.monotonic() - begun
-
-
-def main() -> None:
-    """All tests, or those with one of the words."""
-    if not HOST.is_file():
-        fail("no host's program is built")
-    chosen = [test for test in TESTS if not sys.argv[1:] or any(word in test.__name__ for word in sys.argv[1:])]
-    begun = time.monotonic()
-    with ProcessPoolExecutor(4) as pool:
-        times = list(pool.map(tried, chosen))
-    slowest = max(zip(times, chosen, strict=True), key=lambda pair: pair[0])
-    print(
-        f"a host whose connections come and go: {len(chosen)} tests in {time.monotonic() - begun:.0f} seconds, "
-        f"of which {slowest[1].__name__} took {slowest[0]:.0f}"
-    )
-
-
 if __name__ == "__main__":
-    main()
+    try_all("a host whose connections come and go", TESTS)

@@ -6,17 +6,15 @@ With words, only the tests whose names have one of them. The tests go side by si
 """
 import os
 import shutil
-import sys
-import tempfile
 import threading
 import time
-from collections.abc import Callable, Sequence
-from concurrent.futures import ProcessPoolExecutor
+from collections.abc import Sequence
 from pathlib import Path
 from typing import Optional
 
-from tests.common.hosting import HOST, Caller, Host, audit, called, hello, lab_of, let_in
+from tests.common.hosting import Caller, Host, audit, called, hello, lab_of, let_in
 from tests.common.preload import Ended, Preloaded, fail
+from tests.common.side_by_side import Test, try_all
 from tests.resume.players import CLOSE, Players
 
 NO_COPY = b"resume: no copy of the lab beside the journal, the audit alone vouches for it\n"
@@ -324,33 +322,10 @@ def files(room: Path) -> None:
     goes_on(lab, journal, b"resumed at place 0, configuration 0, 0 chosen\n", NO_COPY, "an empty journal")
 
 
-TESTS: list[Callable[[Path], None]] = [
+TESTS: list[Test] = [
     kills, power_cuts, torn_tails, other_labs, full_disk, failed_sync, copies_are_kept, asks_again, held, files,
 ]
 
 
-def tried(test: Callable[[Path], None]) -> float:
-    """Tries a test in a folder of its own; answers what time it took."""
-    begun = time.monotonic()
-    with tempfile.TemporaryDirectory() as room:
-        test(Path(room))
-    return time.monotonic() - begun
-
-
-def main() -> None:
-    """All tests, or those with one of the words."""
-    if not HOST.is_file():
-        fail("no host's program is built")
-    chosen = [test for test in TESTS if not sys.argv[1:] or any(word in test.__name__ for word in sys.argv[1:])]
-    begun = time.monotonic()
-    with ProcessPoolExecutor(4) as pool:
-        times = list(pool.map(tried, chosen))
-    slowest = max(zip(times, chosen, strict=True), key=lambda pair: pair[0])
-    print(
-        f"classes that go on from their journals: {len(chosen)} tests in {time.monotonic() - begun:.0f} seconds, "
-        f"of which {slowest[1].__name__} took {slowest[0]:.0f}"
-    )
-
-
 if __name__ == "__main__":
-    main()
+    try_all("classes that go on from their journals", TESTS)

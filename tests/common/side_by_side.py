@@ -1,0 +1,35 @@
+"""Tests of a host that go side by side, since most of them wait, each in a folder of its own."""
+import sys
+import tempfile
+import time
+from collections.abc import Callable, Sequence
+from concurrent.futures import ProcessPoolExecutor
+from pathlib import Path
+
+from tests.common.hosting import HOST
+from tests.common.preload import fail
+
+Test = Callable[[Path], None]
+
+
+def tried(test: Test) -> float:
+    """Tries a test in a folder of its own; answers what time it took."""
+    begun = time.monotonic()
+    with tempfile.TemporaryDirectory() as room:
+        test(Path(room))
+    return time.monotonic() - begun
+
+
+def try_all(of: str, tests: Sequence[Test]) -> None:
+    """All tests, or those with one of the words of the command line; tells of what they were."""
+    if not HOST.is_file():
+        fail("no host's program is built")
+    chosen = [test for test in tests if not sys.argv[1:] or any(word in test.__name__ for word in sys.argv[1:])]
+    begun = time.monotonic()
+    with ProcessPoolExecutor(4) as pool:
+        times = list(pool.map(tried, chosen))
+    slowest = max(zip(times, chosen, strict=True), key=lambda pair: pair[0])
+    print(
+        f"{of}: {len(chosen)} tests in {time.monotonic() - begun:.0f} seconds, "
+        f"of which {slowest[1].__name__} took {slowest[0]:.0f}"
+    )
