@@ -25,6 +25,7 @@ SEDUCES = b'{"at":0,"do":"move","node":1,"rule":"seduction"}\n'
 FIRST = b"1 0 grant ana 1 seduction\n2 0 close\n"
 THIRD = b"3 1 grant ben 2 marriage 1"
 LONGEST = 101
+KILLS = 100
 
 
 def kept(journal: Path) -> dict[str, bytes]:
@@ -77,7 +78,7 @@ def kills(room: Path) -> None:
     """A host that is killed at random points goes on each time with what was replied, to a stable end."""
     lab, journal = lab_of(room, 4, 100_000), room / "journal"
     players = Players(47)
-    for turn in range(25):
+    for turn in range(KILLS):
         with Host(lab, 0, 0, journal, word="resume" if turn else "host") as host:
             if not host.listens:
                 fail(f"resume: after {turn} kills it ends with {host.end()}")
@@ -91,9 +92,9 @@ def kills(room: Path) -> None:
         resumed(host)
         ended = host.dismissed(players.play_out(host))
     if ended.status != 0 or ended.out != b"done: %d events, " % players.told + ended.out.split(b"events, ")[-1]:
-        fail(f"resume: after 25 kills it ends with {ended}, and place {players.told} was told last")
+        fail(f"resume: after {KILLS} kills it ends with {ended}, and place {players.told} was told last")
     if b", stable" not in audit(lab, journal, players.told) or players.told < 50:
-        fail(f"resume: after 25 kills and {players.told} events the run isn't stable")
+        fail(f"resume: after {KILLS} kills and {players.told} events the run isn't stable")
 
 
 def power_cuts(room: Path) -> None:
