@@ -1,0 +1,281 @@
+-- In a step each node pays for its move by its part, but where some nodes are newly married: then each of these is lent 1, and each other 2.
+use Rattle.std.proofs.Common.{◌≡◌, ℕ, ◌+◌, ◌<◌, ◌≤◌, Bool, true, false, cond, not, ◌&&◌, inl, inr, Option, None, Some, is_some, refl, ap, ◌∙◌, arith, nat_lt}
+use Rattle.std.specs.Option.{option_map_or}
+use Rattle.std.proofs.lemmas.Bool.{and_parts, and_from, both_ways, ltb-true, lt-ltb, cases_Bool, false_from_ne_true, not-true}
+use Rattle.mml_rules.specs.declared.rule.Rule.{Rule}
+use Rattle.mml_rules.specs.Configuration.{Configuration, IsLawful, holds}
+use Rattle.mml_rules.specs.Rules.{is_married, moved, step, AllHold}
+use Rattle.mml_rules.proofs.ConfigurationLemmas.{holds-true}
+use Rattle.mml_rules.proofs.RulesLemmas.{married-null, married-at, married-from}
+use Rattle.mml_rules.proofs.StepLemmas.{step-lawful}
+use Rattle.mml_stable.proofs.StepLemmas.{step-married, moved-m}
+use Rattle.mml_stable.proofs.MovesLemmas.{updates, marries, seduces, seduced, abandons, abandoned, drops}
+use Rattle.mml_stable.proofs.MarriedCountLemmas.{Calm}
+use Rattle.mml_bounds.specs.Courtships.{is_courting, pointer_part, node_part}
+
+-- ---- the parts
+
+-- by the pointer alone
+part_at : (d : Configuration) (i : ℕ) (o : Option ℕ) → ℕ
+part_at d i o = cond (option_map_or (λ j. nat_lt i j && (not (d.m j) && not (is_married d j))) o false) 0 (cond (is_some o) 2 1)
+
+pub pointer_most : (d : Configuration) (i : ℕ) → pointer_part d i ≤ 2
+pointer_most d i = most (is_courting d i) (is_some (d.p i))
+  where
+    most : (k p : Bool) → cond k 0 (cond p 2 1) ≤ 2
+    most true p = omega arith
+    most false true = omega arith
+    most false false = omega arith
+
+free_part : (d : Configuration) (i : ℕ) → is_married d i ≡ false → node_part d i ≡ cond (d.m i) 1 0 + pointer_part d i
+free_part d i e = ap (λ b. cond b (cond (d.m i) 0 1) (cond (d.m i) 1 0 + pointer_part d i)) e
+
+wed_part : (d : Configuration) (i : ℕ) → is_married d i ≡ true → node_part d i ≡ cond (d.m i) 0 1
+wed_part d i e = ap (λ b. cond b (cond (d.m i) 0 1) (cond (d.m i) 1 0 + pointer_part d i)) e
+
+null_part : (d : Configuration) (i : ℕ) → d.p i ≡ None → pointer_part d i ≡ 1
+null_part d i e =
+    ap (λ o. cond {A = ℕ} (option_map_or (λ j. nat_lt i j && (not (d.m j) && not (is_married d j))) o false) 0 (cond (is_some o) 2 1)) e
+
+-- what courting means
+court : (d : Configuration) (i j : ℕ) → d.p i ≡ Some j → i < j → d.m j ≡ false → is_married d j ≡ false → pointer_part d i ≡ 0
+court d i j e lt off free =
+    let on : is_courting d i ≡ true =
+    ap (λ o. option_map_or (λ j. nat_lt i j && (not (d.m j) && not (is_married d j))) o false) e
+    ∙ and_from (nat_lt i j) (not (d.m j) && not (is_married d j)) (lt-ltb i j lt) (and_from _ _ (ap not off) (ap not free)) in
+    ap (λ b. cond {A = ℕ} b 0 (cond (is_some (d.p i)) 2 1)) on
+
+-- a pointer at a node that is lower, or whose m is true
+pub vain_part : (d : Configuration) (i j : ℕ) → d.p i ≡ Some j → nat_lt i j && (not (d.m j) && not (is_married d j)) ≡ false → pointer_part d i ≡ 2
+vain_part d i j e off =
+    let none : is_courting d i ≡ false = ap (λ o. option_map_or (λ j. nat_lt i j && (not (d.m j) && not (is_married d j))) o false) e ∙ off in
+    ap (λ b. cond {A = ℕ} b 0 (cond (is_some (d.p i)) 2 1)) none ∙ ap (λ o. cond {A = ℕ} (is_some o) 2 1) e
+
+wed_most : (b : Bool) → cond b 0 1 ≤ 1
+wed_most true = omega arith
+wed_most false = omega arith
+
+module _ (c : Configuration) (chosen : ℕ → Option Rule) (l : IsLawful c) (h : AllHold c chosen) where
+  -- the configuration after the step
+  abbrev next : Configuration
+  next = step c chosen
+
+  lawful : IsLawful next
+  lawful = step-lawful c chosen l h
+
+  m_after : (i : ℕ) (o : Option Rule) → chosen i ≡ o → next.m i ≡ (moved c i o).m
+  m_after i o e = ap (λ o. (moved c i o).m) e
+
+  p_after : (i : ℕ) (o : Option Rule) → chosen i ≡ o → next.p i ≡ (moved c i o).p
+  p_after i o e = ap (λ o. (moved c i o).p) e
+
+  -- ---- a node that was married
+
+  pub wed_pays : (i : ℕ) (o : Option Rule) → chosen i ≡ o → is_married c i ≡ true → node_part next i + cond (is_some o) 1 0 ≤ node_part c i
+  wed_pays i o e a = go o e
+    where
+      before : node_part c i ≡ cond (c.m i) 0 1
+      before = wed_part c i a
+
+      after : node_part next i ≡ cond (next.m i) 0 1
+      after = wed_part next i (step-married c chosen l h i a)
+
+      go : (o : Option Rule) → chosen i ≡ o → node_part next i + cond (is_some o) 1 0 ≤ node_part c i
+      go None e =
+          let same : cond {A = ℕ} (next.m i) 0 1 ≡ cond (c.m i) 0 1 = ap (λ b. cond {A = ℕ} b 0 1) (m_after i None e) in
+          omega (arith, before, after, same)
+      go (Some Rule.Update) e =
+          let wrong : cond {A = ℕ} (c.m i) 0 1 ≡ 1 = ap (λ b. cond {A = ℕ} b 0 1) (updates c i (h i Rule.Update e) ∙ ap not a) in
+          let right : cond {A = ℕ} (next.m i) 0 1 ≡ 0 = ap (λ b. cond {A = ℕ} b 0 1) (m_after i (Some Rule.Update) e ∙ a) in
+          omega (arith, before, after, wrong, right)
+      go (Some (Rule.Marriage j)) e =
+          let g = marries c i j (h i (Rule.Marriage j) e) in
+          absurd (both_ways (is_married c i) (married-null c i g.null) a)
+      go (Some Rule.Seduction) e =
+          let some = seduced c i (h i Rule.Seduction e) in
+          let g = seduces c i some.0 (h i Rule.Seduction e) some.1 in
+          absurd (both_ways (is_married c i) (married-null c i g.null) a)
+      go (Some Rule.Abandonment) e =
+          let some = abandoned c i (h i Rule.Abandonment e) in
+          let g = abandons c i some.0 (h i Rule.Abandonment e) some.1 in
+          absurd (both_ways (is_married c i) (married-at c i some.0 l some.1 ∙ g.unanswered) a)
+
+  -- ---- a node that is newly married
+
+  pub newly_pays : (i : ℕ) (o : Option Rule) → chosen i ≡ o → is_married c i ≡ false → is_married next i ≡ true
+      → node_part next i + cond (is_some o) 1 0 ≤ node_part c i + 1
+  newly_pays i o e a b = go o e
+    where
+      before : node_part c i ≡ cond (c.m i) 1 0 + pointer_part c i
+      before = free_part c i a
+
+      after : node_part next i ≡ cond (next.m i) 0 1
+      after = wed_part next i b
+
+      small : cond (next.m i) 0 1 ≤ 1
+      small = wed_most (next.m i)
+
+      go : (o : Option Rule) → chosen i ≡ o → node_part next i + cond (is_some o) 1 0 ≤ node_part c i + 1
+      go None e = omega (arith, before, after, small)
+      go (Some Rule.Update) e =
+          let wrong : cond {A = ℕ} (c.m i) 1 0 ≡ 1 = ap (λ b. cond {A = ℕ} b 1 0) (updates c i (h i Rule.Update e) ∙ ap not a) in
+          omega (arith, before, after, small, wrong)
+      go (Some (Rule.Marriage j)) e =
+          let null = null_part c i (marries c i j (h i (Rule.Marriage j) e)).null in
+          omega (arith, before, after, small, null)
+      go (Some Rule.Seduction) e =
+          let some = seduced c i (h i Rule.Seduction e) in
+          let null = null_part c i (seduces c i some.0 (h i Rule.Seduction e) some.1).null in
+          omega (arith, before, after, small, null)
+      go (Some Rule.Abandonment) e = absurd (both_ways (is_married next i) (married-null next i (p_after i (Some Rule.Abandonment) e)) b)
+
+  -- ---- a node that isn't married after the step
+
+  m_right : (i : ℕ) → is_married c i ≡ false → c.m i ≡ is_married c i → c.m i ≡ false
+  m_right i a e = e ∙ a
+
+  pub free_pays : (i : ℕ) (o : Option Rule) → chosen i ≡ o → is_married c i ≡ false → is_married next i ≡ false
+      → node_part next i + cond (is_some o) 1 0 ≤ node_part c i + 2
+  free_pays i o e a b = go o e
+    where
+      before : node_part c i ≡ cond (c.m i) 1 0 + pointer_part c i
+      before = free_part c i a
+
+      after : node_part next i ≡ cond (next.m i) 1 0 + pointer_part next i
+      after = free_part next i b
+
+      small : pointer_part next i ≤ 2
+      small = pointer_most next i
+
+      go : (o : Option Rule) → chosen i ≡ o → node_part next i + cond (is_some o) 1 0 ≤ node_part c i + 2
+      go None e =
+          let same : cond {A = ℕ} (next.m i) 1 0 ≡ cond (c.m i) 1 0 = ap (λ b. cond {A = ℕ} b 1 0) (m_after i None e) in
+          omega (arith, before, after, small, same)
+      go (Some Rule.Update) e =
+          let wrong : cond {A = ℕ} (c.m i) 1 0 ≡ 1 = ap (λ b. cond {A = ℕ} b 1 0) (updates c i (h i Rule.Update e) ∙ ap not a) in
+          let right : cond {A = ℕ} (next.m i) 1 0 ≡ 0 = ap (λ b. cond {A = ℕ} b 1 0) (m_after i (Some Rule.Update) e ∙ a) in
+          omega (arith, before, after, small, wrong, right)
+      go (Some (Rule.Marriage j)) e =
+          let g = marries c i j (h i (Rule.Marriage j) e) in
+          let null = null_part c i g.null in
+          let same : cond {A = ℕ} (next.m i) 1 0 ≡ cond (c.m i) 1 0 = ap (λ b. cond {A = ℕ} b 1 0) (m_after i (Some (Rule.Marriage j)) e) in
+          omega (arith, before, after, small, null, same)
+      go (Some Rule.Seduction) e =
+          let some = seduced c i (h i Rule.Seduction e) in
+          let null = null_part c i (seduces c i some.0 (h i Rule.Seduction e) some.1).null in
+          let same : cond {A = ℕ} (next.m i) 1 0 ≡ cond (c.m i) 1 0 = ap (λ b. cond {A = ℕ} b 1 0) (m_after i (Some Rule.Seduction) e) in
+          omega (arith, before, after, small, null, same)
+      go (Some Rule.Abandonment) e =
+          let null = null_part next i (p_after i (Some Rule.Abandonment) e) in
+          let same : cond {A = ℕ} (next.m i) 1 0 ≡ cond (c.m i) 1 0 = ap (λ b. cond {A = ℕ} b 1 0) (m_after i (Some Rule.Abandonment) e) in
+          omega (arith, before, after, null, same)
+
+  -- ---- where no node is newly married
+
+  module _ (calm : Calm c chosen) where
+    stays_free : (j : ℕ) → is_married c j ≡ false → is_married next j ≡ false
+    stays_free j a = false_from_ne_true (is_married next j) (λ m. both_ways (is_married c j) a (calm j m))
+
+    stays_off : (j : ℕ) → is_married c j ≡ false → c.m j ≡ false → next.m j ≡ false
+    stays_off j a off = elim (moved-m c j (chosen j) (h j)) [ inl same ↦ same ∙ off | inr changed ↦ changed.0 ∙ a ]
+
+    -- who points at such a node courts it after the step
+    courts_then : (i j : ℕ) → next.p i ≡ Some j → i < j → is_married c j ≡ false → c.m j ≡ false → pointer_part next i ≡ 0
+    courts_then i j e lt a off = court next i j e lt (stays_off j a off) (stays_free j a)
+
+    -- a pointer that stays
+    pointer_kept : (i : ℕ) → next.p i ≡ c.p i → pointer_part next i ≤ pointer_part c i
+    pointer_kept i same = go (c.p i) refl
+      where
+        go : (o : Option ℕ) → c.p i ≡ o → pointer_part next i ≤ pointer_part c i
+        go None e =
+            let before = null_part c i e in
+            let after = null_part next i (same ∙ e) in
+            omega (arith, before, after)
+        go (Some j) e = elim (cases_Bool (nat_lt i j && (not (c.m j) && not (is_married c j)))) [
+          | inl on ↦
+              let x = and_parts (nat_lt i j) (not (c.m j) && not (is_married c j)) on in
+              let y = and_parts (not (c.m j)) (not (is_married c j)) x.1 in
+              let after = courts_then i j (same ∙ e) (ltb-true i j x.0) (not-true _ y.1) (not-true _ y.0) in
+              omega (arith, after)
+          | inr off ↦
+              let before = vain_part c i j e off in
+              let after = pointer_most next i in
+              omega (arith, before, after)
+        ]
+
+    calm_free : (i : ℕ) (o : Option Rule) → chosen i ≡ o → is_married c i ≡ false → node_part next i + cond (is_some o) 1 0 ≤ node_part c i
+    calm_free i o e a = go o e
+      where
+        before : node_part c i ≡ cond (c.m i) 1 0 + pointer_part c i
+        before = free_part c i a
+
+        after : node_part next i ≡ cond (next.m i) 1 0 + pointer_part next i
+        after = free_part next i (stays_free i a)
+
+        go : (o : Option Rule) → chosen i ≡ o → node_part next i + cond (is_some o) 1 0 ≤ node_part c i
+        go None e =
+            let same : cond {A = ℕ} (next.m i) 1 0 ≡ cond (c.m i) 1 0 = ap (λ b. cond {A = ℕ} b 1 0) (m_after i None e) in
+            let kept = pointer_kept i (p_after i None e) in
+            omega (arith, before, after, same, kept)
+        go (Some Rule.Update) e =
+            let wrong : cond {A = ℕ} (c.m i) 1 0 ≡ 1 = ap (λ b. cond {A = ℕ} b 1 0) (updates c i (h i Rule.Update e) ∙ ap not a) in
+            let right : cond {A = ℕ} (next.m i) 1 0 ≡ 0 = ap (λ b. cond {A = ℕ} b 1 0) (m_after i (Some Rule.Update) e ∙ a) in
+            let kept = pointer_kept i (p_after i (Some Rule.Update) e) in
+            omega (arith, before, after, wrong, right, kept)
+        go (Some (Rule.Marriage j)) e =
+            let g = marries c i j (h i (Rule.Marriage j) e) in
+            let null = null_part c i g.null in
+            let to : next.p i ≡ Some j = p_after i (Some (Rule.Marriage j)) e in
+            let gone : holds (next.p j) i ≡ false = false_from_ne_true (holds (next.p j) i) (λ back.
+            both_ways (is_married next i) (stays_free i a) (married-from next i j lawful to (holds-true (next.p j) i back))) in
+            let left = drops c j i (chosen j) (h j) g.suitor gone in
+            let alone : is_married c j ≡ false = married-at c j i l g.suitor ∙ ap (λ o. holds o j) g.null in
+            let lt : i < j = elim left.0.vain [ inl m ↦ absurd (both_ways (c.m i) (g.right ∙ a) m) | inr lt ↦ lt ] in
+            let court = courts_then i j to lt alone (left.0.right ∙ alone) in
+            let off : cond {A = ℕ} (next.m i) 1 0 ≡ 0 = ap (λ b. cond {A = ℕ} b 1 0) (m_after i (Some (Rule.Marriage j)) e ∙ g.right ∙ a) in
+            omega (arith, before, after, null, court, off)
+        go (Some Rule.Seduction) e =
+            let some = seduced c i (h i Rule.Seduction e) in
+            let j = some.0 in
+            let g = seduces c i j (h i Rule.Seduction e) some.1 in
+            let null = null_part c i g.null in
+            let court = courts_then i j (p_after i (Some Rule.Seduction) e ∙ some.1) g.higher (married-null c j g.free) g.m in
+            let off : cond {A = ℕ} (next.m i) 1 0 ≡ 0 = ap (λ b. cond {A = ℕ} b 1 0) (m_after i (Some Rule.Seduction) e ∙ g.right ∙ a) in
+            omega (arith, before, after, null, court, off)
+        go (Some Rule.Abandonment) e =
+            let some = abandoned c i (h i Rule.Abandonment e) in
+            let j = some.0 in
+            let g = abandons c i j (h i Rule.Abandonment e) some.1 in
+            let vain : nat_lt i j && (not (c.m j) && not (is_married c j)) ≡ false = false_from_ne_true _ (λ on.
+            let x = and_parts (nat_lt i j) (not (c.m j) && not (is_married c j)) on in
+            elim g.vain [
+              | inl m ↦ both_ways (c.m j) (not-true _ (and_parts (not (c.m j)) (not (is_married c j)) x.1).0) m
+              | inr lt ↦ let gt = ltb-true i j x.0 in omega (arith, lt, gt)
+            ]) in
+            let two = vain_part c i j some.1 vain in
+            let null = null_part next i (p_after i (Some Rule.Abandonment) e) in
+            let same : cond {A = ℕ} (next.m i) 1 0 ≡ cond (c.m i) 1 0 = ap (λ b. cond {A = ℕ} b 1 0) (m_after i (Some Rule.Abandonment) e) in
+            omega (arith, before, after, two, null, same)
+
+    -- each node pays for its own move
+    pub calm_pays : (i : ℕ) → node_part next i + cond (is_some (chosen i)) 1 0 ≤ node_part c i
+    calm_pays i = elim (cases_Bool (is_married c i)) [ inl on ↦ wed_pays i (chosen i) refl on | inr off ↦ calm_free i (chosen i) refl off ]
+
+  -- ---- each node pays for its own move, with what it is lent
+
+  pub lent_pays : (i : ℕ) → node_part next i + cond (is_some (chosen i)) 1 0 ≤ node_part c i + cond (is_married next i) (cond (is_married c i) 0 1) 2
+  lent_pays i = elim (cases_Bool (is_married c i)) [
+    | inl on ↦ let paid = wed_pays i (chosen i) refl on in omega (arith, paid)
+    | inr off ↦ elim (cases_Bool (is_married next i)) [
+      | inl new ↦
+          let paid = newly_pays i (chosen i) refl off new in
+          let lent : cond {A = ℕ} (is_married next i) (cond (is_married c i) 0 1) 2 ≡ 1 =
+          ap (λ b. cond {A = ℕ} b (cond (is_married c i) 0 1) 2) new ∙ ap (λ b. cond {A = ℕ} b 0 1) off in
+          omega (arith, paid, lent)
+      | inr still ↦
+          let paid = free_pays i (chosen i) refl off still in
+          let lent : cond {A = ℕ} (is_married next i) (cond (is_married c i) 0 1) 2 ≡ 2 = ap (λ b. cond {A = ℕ} b (cond (is_married c i) 0 1) 2) still in
+          omega (arith, paid, lent)
+    ]
+  ]

@@ -1,0 +1,78 @@
+-- Nodes at which no rule may be applied, and nodes at which a certain one may.
+use Rattle.std.proofs.Common.{◌≡◌, ℕ, ◌<◌, ◌≤◌, ◌⊎◌, inl, inr, Bool, true, false, not, None, Some, sym, refl, ap, ◌∙◌, arith}
+use Rattle.std.specs.Bool.{beq}
+use Rattle.std.proofs.lemmas.Bool.{both_ways, false≢true, false_from_ne_true, not-true}
+use Rattle.mml_rules.specs.declared.rule.Rule.{Rule}
+use Rattle.mml_rules.specs.Configuration.{Configuration, IsLawful, holds}
+use Rattle.mml_rules.specs.Rules.{is_married, greatest_candidate, guard, is_privileged}
+use Rattle.mml_rules.specs.Meaning.{IsMRight, IsCandidate}
+use Rattle.mml_rules.proofs.ConfigurationLemmas.{holds-from}
+use Rattle.mml_rules.proofs.RulesLemmas.{married-null, married-at, married-from}
+use Rattle.mml_rules.proofs.MeaningLemmas.{beq-same, right-means, guard-means, greatest-means, privileged-means}
+use Rattle.mml_stable.proofs.MovesLemmas.{updates, marries, seduces, seduced, abandons, abandoned}
+
+module _ (c : Configuration) (l : IsLawful c) where
+  -- no rule's guard holds
+  idle : (i : ℕ) → ((rule : Rule) → guard c i rule ≡ true → ⊥) → is_privileged c i ≡ false
+  idle i none = false_from_ne_true (is_privileged c i) (λ e. let x = (privileged-means c i l).0 e in none x.0 x.1)
+
+  pub privileged : (i : ℕ) (rule : Rule) → guard c i rule ≡ true → is_privileged c i ≡ true
+  privileged i rule g = (privileged-means c i l).1 (rule, g)
+
+  -- a node of a pair whose m is true
+  pub settled : (i j : ℕ) → c.p i ≡ Some j → c.p j ≡ Some i → c.m i ≡ true → is_privileged c i ≡ false
+  settled i j a b m = idle i go
+    where
+      go : (rule : Rule) → guard c i rule ≡ true → ⊥
+      go Rule.Update g = both_ways (is_married c i) (not-true _ (sym (updates c i g) ∙ m)) (married-from c i j l a b)
+      go (Rule.Marriage k) g = let null = (marries c i k g).null in cc
+      go Rule.Seduction g = let some = seduced c i g in let null = (seduces c i some.0 g some.1).null in cc
+      go Rule.Abandonment g = both_ways (holds (c.p j) i) (abandons c i j g a).unanswered (holds-from (c.p j) i b)
+
+  -- a node that points at a higher one, which doesn't point back and has m false
+  pub waiting : (i j : ℕ) → c.p i ≡ Some j → holds (c.p j) i ≡ false → c.m i ≡ false → c.m j ≡ false → i < j → is_privileged c i ≡ false
+  waiting i j a off m n lt = idle i go
+    where
+      go : (rule : Rule) → guard c i rule ≡ true → ⊥
+      go Rule.Update g = both_ways (c.m i) m (updates c i g ∙ ap not (married-at c i j l a ∙ off))
+      go (Rule.Marriage k) g = let null = (marries c i k g).null in cc
+      go Rule.Seduction g = let some = seduced c i g in let null = (seduces c i some.0 g some.1).null in cc
+      go Rule.Abandonment g = elim (abandons c i j g a).vain [ inl on ↦ both_ways (c.m j) n on | inr gt ↦ omega (arith, lt, gt) ]
+
+  -- a node that points nowhere, at which nobody points, and of whose higher neighbours each points somewhere
+  pub lonely : (i : ℕ) → c.p i ≡ None → c.m i ≡ false → ((j : ℕ) → c.p j ≡ Some i → ⊥) → ((j : ℕ) → c.linked i j ≡ true → i < j → c.p j ≡ None → ⊥)
+      → is_privileged c i ≡ false
+  lonely i a m none top = idle i go
+    where
+      go : (rule : Rule) → guard c i rule ≡ true → ⊥
+      go Rule.Update g = both_ways (c.m i) m (updates c i g ∙ ap not (married-null c i a))
+      go (Rule.Marriage k) g = none k (marries c i k g).suitor
+      go Rule.Seduction g = let some = seduced c i g in let s = seduces c i some.0 g some.1 in top some.0 s.linked s.higher s.free
+      go Rule.Abandonment g = let some = abandoned c i g in let e = some.1 in cc
+
+  differ : (a b : Bool) → a ≡ not b → not (beq a b) ≡ true
+  differ true true e = absurd (false≢true (sym e))
+  differ true false e = refl
+  differ false true e = refl
+  differ false false e = absurd (false≢true e)
+
+  pub may_update : (i : ℕ) → c.m i ≡ not (is_married c i) → guard c i Rule.Update ≡ true
+  may_update i e = differ (c.m i) (is_married c i) e
+
+  right : (i : ℕ) → c.m i ≡ is_married c i → IsMRight c i
+  right i e = (right-means c i l).0 (beq-same (c.m i) (is_married c i) e)
+
+  pub may_marry : (i j : ℕ) → c.p i ≡ None → c.m i ≡ false → c.linked i j ≡ true → c.p j ≡ Some i → guard c i (Rule.Marriage j) ≡ true
+  may_marry i j a m linked b = (guard-means c i (Rule.Marriage j) l).1 (right i (m ∙ sym (married-null c i a)), a, linked, b)
+
+  pub may_abandon : (i j : ℕ) → c.p i ≡ Some j → holds (c.p j) i ≡ false → c.m i ≡ false → (c.m j ≡ true) ⊎ (j < i) → guard c i Rule.Abandonment ≡ true
+  may_abandon i j a off m vain =
+      (guard-means c i Rule.Abandonment l).1
+      (right i (m ∙ sym (married-at c i j l a ∙ off)), (j, a, (λ b. both_ways (holds (c.p j) i) off (holds-from (c.p j) i b)), vain))
+
+  pub may_seduce : (i j : ℕ) → c.p i ≡ None → c.m i ≡ false → ((k : ℕ) → c.p k ≡ Some i → ⊥) → IsCandidate c i j → guard c i Rule.Seduction ≡ true
+  may_seduce i j a m none candidate =
+      (guard-means c i Rule.Seduction l).1 (right i (m ∙ sym (married-null c i a)), a, (λ suitor. none suitor.0 suitor.2), (j, candidate))
+
+  pub seduces_greatest : (i j : ℕ) → IsCandidate c i j → ((k : ℕ) → IsCandidate c i k → k ≤ j) → greatest_candidate c i ≡ Some j
+  seduces_greatest i j candidate most = (greatest-means c i j l).1 (candidate, most)

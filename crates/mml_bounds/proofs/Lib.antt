@@ -1,0 +1,12 @@
+pub mod NumbersLemmas
+mod CourtshipLemmas
+pub mod WholeLemmas
+mod FewLemmas
+mod UniformLemmas
+mod IdleLemmas
+mod PhaseLemmas
+mod RunLemmas
+mod ReachedLemmas
+mod CountLemmas
+mod CrowdLemmas
+mod MovesReachedLemmas

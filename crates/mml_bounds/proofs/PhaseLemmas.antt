@@ -1,0 +1,452 @@
+-- A phase of four steps: the low nodes seduce the highest free node, it marries the lowest, both update, the others abandon it.
+use Rattle.std.proofs.Common.{◌≡◌, ℕ, suc, ◌+◌, ◌*◌, ◌-◌, ◌<◌, ◌≤◌, ◌⊎◌, inl, inr, Bool, true, false, cond, not, ◌&&◌, ◌||◌, ◌==◌, nat_lt, Option, None, Some}
+use Rattle.std.proofs.Common.{sym, refl, ap, ◌∙◌, subst, arith}
+use Rattle.std.proofs.lemmas.Bool.{both_ways, false_from_ne_true, and_parts, and_from, or_cases, or_left, or_right, or_from, cases_lt, cases_eq, cases_Bool}
+use Rattle.std.proofs.lemmas.Bool.{ltb-true, lt-ltb, eqb-true, eq-eqb, ne_eqb}
+use Rattle.mml_rules.specs.declared.rule.Rule.{Rule}
+use Rattle.mml_rules.specs.Configuration.{Configuration, IsLawful, holds}
+use Rattle.mml_rules.specs.Rules.{moved, effect, guard, is_privileged}
+use Rattle.mml_rules.specs.Meaning.{IsCandidate}
+use Rattle.mml_rules.proofs.RulesLemmas.{married-from}
+use Rattle.mml_bounds.proofs.UniformLemmas.{IsMoved}
+use Rattle.mml_bounds.proofs.IdleLemmas.{settled, waiting, lonely, may_update, may_marry, may_abandon, may_seduce, seduces_greatest}
+
+-- n nodes of which some are low: before phase r each low node that is free is linked to the highest free node, and only low nodes are linked to higher ones
+pub record Shape (n : ℕ) (low : ℕ → Bool) (c : Configuration) : Type 0 where
+  pub size : c.size ≡ n
+  pub lawful : IsLawful c
+  pub joined : (r b i : ℕ) → r + b + 1 ≡ n → 2 * r + 2 ≤ n → r ≤ i → i < b → low i ≡ true → (c.linked i b ≡ true) × (c.linked b i ≡ true)
+  pub upward : (i j : ℕ) → c.linked i j ≡ true → i < j → low i ≡ true
+  pub lowest : (r : ℕ) → 2 * r + 2 ≤ n → low r ≡ true
+
+-- the first r nodes and the last r are pairs, first with last, with m true
+abbrev pub Couples : (n r : ℕ) → Configuration → Type 0
+Couples n r c = (i j : ℕ) → i < r → i + j + 1 ≡ n → (c.p i ≡ Some j) × (c.p j ≡ Some i) × (c.m i ≡ true) × (c.m j ≡ true)
+
+-- these nodes from r on and below b hold that
+abbrev pub Between : (r b : ℕ) (low : ℕ → Bool) (is_low : Bool) → Option ℕ → Configuration → Type 0
+Between r b low is_low at c = (i : ℕ) → r ≤ i → i < b → low i ≡ is_low → (c.p i ≡ at) × (c.m i ≡ false)
+
+-- each node is one of a couple, or free
+abbrev pub Class : (n r i : ℕ) → Type 0
+Class n r i = ((j : ℕ) × (i + j + 1 ≡ n) × ((i < r) ⊎ (j < r))) ⊎ ((r ≤ i) × (i + r < n))
+
+pub class : (n r i : ℕ) → i < n → Class n r i
+class n r i lt = elim (cases_lt i r) [
+  | inl less ↦ inl (n - (i + 1), omega (arith, lt), inl less)
+  | inr ge ↦ elim (cases_lt (i + r) n) [
+    | inr far ↦ inl (n - (i + 1), omega (arith, lt), inr (omega (arith, far, lt)))
+    | inl near ↦ inr (ge, near)
+  ]
+]
+
+-- what a couple's node holds
+pub mate : (n r i j : ℕ) (c : Configuration) → Couples n r c → i + j + 1 ≡ n → (i < r) ⊎ (j < r) → (c.p i ≡ Some j) × (c.p j ≡ Some i) × (c.m i ≡ true)
+mate n r i j c couples e (inl lt) = let x = couples i j lt e in (x.0, x.1, x.2)
+mate n r i j c couples e (inr lt) = let x = couples j i lt (omega (arith, e)) in (x.1, x.0, x.3)
+
+some_same : (a b : ℕ) → Some a ≡ Some b → a ≡ b
+some_same a b e = cc
+
+-- what a step leaves where the rule is applied, and elsewhere
+module _ (c d : Configuration) (t : ℕ → Bool) (rule : Rule) (e : IsMoved c d t rule) where
+  pub kept : (i : ℕ) → i < c.size → t i ≡ false → (d.p i ≡ c.p i) × (d.m i ≡ c.m i)
+  kept i lt off =
+      (e.p i lt ∙ ap (λ b. (moved c i (cond b (Some rule) None)).p) off, e.m i lt ∙ ap (λ b. (moved c i (cond b (Some rule) None)).m) off)
+
+  pub turned : (i : ℕ) → i < c.size → t i ≡ true → (d.p i ≡ (effect c i rule).p) × (d.m i ≡ (effect c i rule).m)
+  turned i lt on =
+      (e.p i lt ∙ ap (λ b. (moved c i (cond b (Some rule) None)).p) on, e.m i lt ∙ ap (λ b. (moved c i (cond b (Some rule) None)).m) on)
+
+  pub shaped : (n : ℕ) (low : ℕ → Bool) → Shape n low c → Shape n low d
+  shaped n low s = record {
+    size = e.size ∙ s.size;
+    lawful = e.lawful;
+    joined = λ r b i sum room from below is_low. let z = s.joined r b i sum room from below is_low in (e.linked i b ∙ z.0, e.linked b i ∙ z.1);
+    upward = λ i j linked lt. s.upward i j (sym (e.linked i j) ∙ linked) lt;
+    lowest = s.lowest;
+  }
+
+-- couples that stand where the rule isn't applied
+pub couples_kept : (n r : ℕ) (c d : Configuration) (t : ℕ → Bool) (rule : Rule) → IsMoved c d t rule → c.size ≡ n → 2 * r ≤ n → Couples n r c
+    → ((i : ℕ) → i < n → (i < r) ⊎ (n ≤ i + r) → t i ≡ false) → Couples n r d
+couples_kept n r c d t rule e size few couples off i j lt sum =
+    let x = couples i j lt sum in
+    let a = kept c d t rule e i (omega (arith, lt, sum, size, few)) (off i (omega (arith, lt, sum)) (inl lt)) in
+    let b = kept c d t rule e j (omega (arith, lt, sum, size)) (off j (omega (arith, sum)) (inr (omega (arith, lt, sum)))) in
+    (a.0 ∙ x.0, b.0 ∙ x.1, a.1 ∙ x.2, b.1 ∙ x.3)
+
+between_kept : (n r b q : ℕ) (low : ℕ → Bool) (is_low : Bool) (at : Option ℕ) (c d : Configuration) (t : ℕ → Bool) (rule : Rule) → IsMoved c d t rule → c.size ≡ n
+    → b < n → r ≤ q → Between r b low is_low at c → ((i : ℕ) → q ≤ i → i < b → low i ≡ is_low → t i ≡ false) → Between q b low is_low at d
+between_kept n r b q low is_low at c d t rule e size b_in le between off i from below is =
+    let x = between i (omega (arith, from, le)) below is in
+    let a = kept c d t rule e i (omega (arith, below, b_in, size)) (off i from below is) in
+    (a.0 ∙ x.0, a.1 ∙ x.1)
+
+-- a pointer's owner is a node
+owner_in : (n : ℕ) (low : ℕ → Bool) (c : Configuration) → Shape n low c → (j i : ℕ) → c.p j ≡ Some i → j < n
+owner_in n low c s j i e = let range = s.lawful.in_range j i (s.lawful.to_linked j i e) in omega (arith, range.0, s.size)
+
+-- a node that isn't low, and at which nobody points
+high_idle : (n : ℕ) (low : ℕ → Bool) (c : Configuration) → Shape n low c → (i : ℕ) → low i ≡ false → c.p i ≡ None → c.m i ≡ false
+    → ((j : ℕ) → c.p j ≡ Some i → ⊥) → is_privileged c i ≡ false
+high_idle n low c s i high null off none = lonely c s.lawful i null off none (λ j linked lt free. both_ways (low i) high (s.upward i j linked lt))
+
+couple_idle : (n r : ℕ) (low : ℕ → Bool) (c : Configuration) → Shape n low c → Couples n r c → (i j : ℕ) → i + j + 1 ≡ n → (i < r) ⊎ (j < r)
+    → is_privileged c i ≡ false
+couple_idle n r low c s couples i j e side = let x = mate n r i j c couples e side in settled c s.lawful i j x.0 x.1 x.2
+
+-- ---- phase r, in which b, the highest free node, is married to r
+
+module _ (n : ℕ) (low : ℕ → Bool) (r b : ℕ) (sum : r + b + 1 ≡ n) (room : 2 * r + 2 ≤ n) where
+  -- before it: who isn't married points nowhere
+  pub record Seated (c : Configuration) : Type 0 where
+    pub shape : Shape n low c
+    pub couples : Couples n r c
+    pub free : (i : ℕ) → r ≤ i → i + r < n → (c.p i ≡ None) × (c.m i ≡ false)
+
+  -- the low nodes court b
+  pub record Courted (c : Configuration) : Type 0 where
+    pub shape : Shape n low c
+    pub couples : Couples n r c
+    pub courting : Between r b low true (Some b) c
+    pub rest : Between r b low false None c
+    pub bride : (c.p b ≡ None) × (c.m b ≡ false)
+
+  -- b has married r
+  pub record Engaged (c : Configuration) : Type 0 where
+    pub shape : Shape n low c
+    pub couples : Couples n r c
+    pub courting : Between r b low true (Some b) c
+    pub rest : Between r b low false None c
+    pub bride : (c.p b ≡ Some r) × (c.m b ≡ false)
+
+  -- both know it
+  pub record Wed (c : Configuration) : Type 0 where
+    pub shape : Shape n low c
+    pub couples : Couples n (suc r) c
+    pub courting : Between (suc r) b low true (Some b) c
+    pub rest : Between (suc r) b low false None c
+
+  -- ---- who seduces, marries, updates and abandons
+
+  abbrev pub courts : ℕ → Bool
+  courts i = nat_lt r (i + 1) && (nat_lt i b && low i)
+
+  abbrev pub marries_now : ℕ → Bool
+  marries_now i = i == b
+
+  abbrev pub learns : ℕ → Bool
+  learns i = (i == b) || (i == r)
+
+  abbrev pub leaves : ℕ → Bool
+  leaves i = nat_lt r i && (nat_lt i b && low i)
+
+  pub courts-means : (i : ℕ) → courts i ≡ true → (r ≤ i) × (i < b) × (low i ≡ true)
+  courts-means i on =
+      let x = and_parts (nat_lt r (i + 1)) (nat_lt i b && low i) on in
+      let y = and_parts (nat_lt i b) (low i) x.1 in
+      let from = ltb-true r (i + 1) x.0 in
+      (omega (arith, from), ltb-true i b y.0, y.1)
+
+  pub courts-from : (i : ℕ) → r ≤ i → i < b → low i ≡ true → courts i ≡ true
+  courts-from i from below is = and_from _ _ (lt-ltb r (i + 1) (omega (arith, from))) (and_from _ _ (lt-ltb i b below) is)
+
+  pub leaves-means : (i : ℕ) → leaves i ≡ true → (r < i) × (i < b) × (low i ≡ true)
+  leaves-means i on =
+      let x = and_parts (nat_lt r i) (nat_lt i b && low i) on in
+      let y = and_parts (nat_lt i b) (low i) x.1 in
+      (ltb-true r i x.0, ltb-true i b y.0, y.1)
+
+  pub leaves-from : (i : ℕ) → r < i → i < b → low i ≡ true → leaves i ≡ true
+  leaves-from i from below is = and_from _ _ (lt-ltb r i from) (and_from _ _ (lt-ltb i b below) is)
+
+  low_r : {c : Configuration} → Shape n low c → low r ≡ true
+  low_r s = s.lowest r room
+
+  -- ---- the step from Seated
+
+  seated_free : (c : Configuration) → Seated c → (i j : ℕ) → r ≤ i → i + r < n → c.p j ≡ Some i → ⊥
+  seated_free c k i j from near e = elim (class n r j (owner_in n low c k.shape j i e)) [
+    | inl x ↦
+        let to = mate n r j x.0 c k.couples x.1 x.2 in
+        let same = some_same x.0 i (sym to.0 ∙ e) in
+        elim x.2 [ inl lt ↦ omega (arith, lt, same, x.1, near) | inr lt ↦ omega (arith, lt, same, from) ]
+    | inr x ↦ let to = (k.free j x.0 x.1).0 in cc
+  ]
+
+  candidate : (c : Configuration) → Seated c → (i : ℕ) → r ≤ i → i < b → low i ≡ true → IsCandidate c i b
+  candidate c k i from below is =
+      let x = k.free b (omega (arith, sum, room)) (omega (arith, sum)) in
+      ((k.shape.joined r b i sum room from below is).0, below, x.0, x.1)
+
+  above_b : (c : Configuration) → Seated c → (j : ℕ) → b < j → j < n → c.p j ≡ None → ⊥
+  above_b c k j above lt null =
+      let e : j + (n - (j + 1)) + 1 ≡ n = omega (arith, lt) in
+      let to = (mate n r j (n - (j + 1)) c k.couples e (inr (omega (arith, above, sum, lt)))).0 in
+      cc
+
+  greatest : (c : Configuration) → Seated c → (i : ℕ) → (j : ℕ) → IsCandidate c i j → j ≤ b
+  greatest c k i j x = elim (cases_lt b j) [
+    | inr le ↦ le
+    | inl above ↦
+        let range = k.shape.lawful.in_range i j x.0 in
+        absurd (above_b c k j above (omega (arith, range.1, k.shape.size)) x.2)
+  ]
+
+  pub courts_hold : (c : Configuration) → Seated c → (i : ℕ) → i < c.size → courts i ≡ true → guard c i Rule.Seduction ≡ true
+  courts_hold c k i lt on =
+      let x = courts-means i on in
+      let near : i + r < n = omega (arith, x.1, sum) in
+      let y = k.free i x.0 near in
+      may_seduce c k.shape.lawful i b y.0 y.1 (λ j. seated_free c k i j x.0 near) (candidate c k i x.0 x.1 x.2)
+
+  pub seated_others : (c : Configuration) → Seated c → (i : ℕ) → i < c.size → courts i ≡ false → is_privileged c i ≡ false
+  seated_others c k i lt off = elim (class n r i (omega (arith, lt, k.shape.size))) [
+    | inl x ↦ couple_idle n r low c k.shape k.couples i x.0 x.1 x.2
+    | inr x ↦
+        let y = k.free i x.0 x.1 in
+        lonely c k.shape.lawful i y.0 y.1 (λ j. seated_free c k i j x.0 x.1) (λ j linked up null.
+        let range = k.shape.lawful.in_range i j linked in
+        elim (cases_lt i b) [
+          | inl below ↦ both_ways (courts i) off (courts-from i x.0 below (k.shape.upward i j linked up))
+          | inr past ↦ above_b c k j (omega (arith, past, up)) (omega (arith, range.1, k.shape.size)) null
+        ])
+  ]
+
+  pub then_courted : (c d : Configuration) → Seated c → IsMoved c d courts Rule.Seduction → Courted d
+  then_courted c d k e = record {
+    shape = shaped c d courts Rule.Seduction e n low k.shape;
+    couples = couples_kept n r c d courts Rule.Seduction e k.shape.size (omega (arith, room)) k.couples
+        (λ i lt side. false_from_ne_true (courts i) (λ on. let x = courts-means i on in elim side [
+          | inl a ↦ omega (arith, a, x.0)
+          | inr a ↦ omega (arith, a, x.1, sum)
+        ]));
+    courting = λ i from below is.
+        let x = k.free i from (omega (arith, below, sum)) in
+        let y = turned c d courts Rule.Seduction e i (omega (arith, below, sum, k.shape.size)) (courts-from i from below is) in
+        (y.0 ∙ seduces_greatest c k.shape.lawful i b (candidate c k i from below is) (greatest c k i), y.1 ∙ x.1);
+    rest = λ i from below is.
+        let x = k.free i from (omega (arith, below, sum)) in
+        let y = kept c d courts Rule.Seduction e i (omega (arith, below, sum, k.shape.size))
+        (false_from_ne_true (courts i) (λ on. both_ways (low i) is (courts-means i on).2)) in
+        (y.0 ∙ x.0, y.1 ∙ x.1);
+    bride =
+        let x = k.free b (omega (arith, sum, room)) (omega (arith, sum)) in
+        let y = kept c d courts Rule.Seduction e b (omega (arith, sum, k.shape.size))
+        (false_from_ne_true (courts b) (λ on. let x = courts-means b on in omega (arith, x.1))) in
+        (y.0 ∙ x.0, y.1 ∙ x.1);
+  }
+
+  -- ---- who points at a node that isn't low, once b is courted
+
+  nobody : (c : Configuration) → Shape n low c → Couples n r c → Between r b low true (Some b) c → Between r b low false None c
+      → ((c.p b ≡ None) ⊎ (c.p b ≡ Some r)) → (i j : ℕ) → r ≤ i → i < b → low i ≡ false → c.p j ≡ Some i → ⊥
+  nobody c s couples courting rest bride i j from below high e = elim (class n r j (owner_in n low c s j i e)) [
+    | inl x ↦
+        let to = mate n r j x.0 c couples x.1 x.2 in
+        let same = some_same x.0 i (sym to.0 ∙ e) in
+        elim x.2 [ inl lt ↦ omega (arith, lt, same, x.1, below, sum) | inr lt ↦ omega (arith, lt, same, from) ]
+    | inr x ↦ elim (cases_eq j b) [
+      | inl here ↦ at_b (ap c.p (sym here) ∙ e) bride
+      | inr other ↦
+          let lt : j < b = omega (arith, x, other, sum) in
+          elim (cases_Bool (low j)) [
+            | inl on ↦ let same = some_same b i (sym (courting j x.0 lt on).0 ∙ e) in omega (arith, same, below)
+            | inr off ↦ let to = (rest j x.0 lt off).0 in cc
+          ]
+    ]
+  ]
+    where
+      at_b : c.p b ≡ Some i → ((c.p b ≡ None) ⊎ (c.p b ≡ Some r)) → ⊥
+      at_b f (inl null) = cc
+      at_b f (inr to) = let same = some_same r i (sym to ∙ f) in both_ways (low i) high (subst (λ z. low z ≡ true) same (low_r s))
+
+  -- ---- the step from Courted
+
+  pub marriage_holds : (c : Configuration) → Courted c → (i : ℕ) → i < c.size → marries_now i ≡ true → guard c i (Rule.Marriage r) ≡ true
+  marriage_holds c k i lt on = subst (λ z. guard c z (Rule.Marriage r) ≡ true) (sym (eqb-true i b on)) at_b
+    where
+      at_b : guard c b (Rule.Marriage r) ≡ true
+      at_b =
+          let y = k.courting r (omega arith) (omega (arith, room, sum)) (low_r k.shape) in
+          may_marry c k.shape.lawful b r k.bride.0 k.bride.1 (k.shape.joined r b r sum room (omega arith) (omega (arith, room, sum)) (low_r k.shape)).1 y.0
+
+  pub courted_others : (c : Configuration) → Courted c → (i : ℕ) → i < c.size → marries_now i ≡ false → is_privileged c i ≡ false
+  courted_others c k i lt off = elim (class n r i (omega (arith, lt, k.shape.size))) [
+    | inl x ↦ couple_idle n r low c k.shape k.couples i x.0 x.1 x.2
+    | inr x ↦
+        let below : i < b = other x (cases_eq i b) in
+        elim (cases_Bool (low i)) [
+          | inl on ↦
+              let y = k.courting i x.0 below on in
+              waiting c k.shape.lawful i b y.0 (ap (λ o. holds o i) k.bride.0) y.1 k.bride.1 below
+          | inr high ↦
+              let y = k.rest i x.0 below high in
+              high_idle n low c k.shape i high y.0 y.1 (λ j. nobody c k.shape k.couples k.courting k.rest (inl k.bride.0) i j x.0 below high)
+        ]
+  ]
+    where
+      other : (r ≤ i) × (i + r < n) → (i ≡ b) ⊎ (i ≡ b → ⊥) → i < b
+      other x (inl e) = absurd (both_ways (marries_now i) off (eq-eqb i b e))
+      other x (inr ne) = omega (arith, x, ne, sum)
+
+  not_b : (i : ℕ) → i < b → marries_now i ≡ false
+  not_b i below = ne_eqb i b (λ same. omega (arith, same, below))
+
+  pub then_engaged : (c d : Configuration) → Courted c → IsMoved c d marries_now (Rule.Marriage r) → Engaged d
+  then_engaged c d k e = record {
+    shape = shaped c d marries_now (Rule.Marriage r) e n low k.shape;
+    couples = couples_kept n r c d marries_now (Rule.Marriage r) e k.shape.size (omega (arith, room)) k.couples
+        (λ i lt side. ne_eqb i b (λ same. elim side [ inl a ↦ omega (arith, a, same, sum, room) | inr a ↦ omega (arith, a, same, sum) ]));
+    courting = between_kept n r b r low true (Some b) c d marries_now (Rule.Marriage r) e k.shape.size (omega (arith, sum)) (omega arith) k.courting
+        (λ i from below is. not_b i below);
+    rest = between_kept n r b r low false None c d marries_now (Rule.Marriage r) e k.shape.size (omega (arith, sum)) (omega arith) k.rest
+        (λ i from below is. not_b i below);
+    bride =
+        let y = turned c d marries_now (Rule.Marriage r) e b (omega (arith, sum, k.shape.size)) (eq-eqb b b refl) in
+        (y.0, y.1 ∙ k.bride.1);
+  }
+
+  -- ---- the step from Engaged
+
+  groom : (c : Configuration) → Engaged c → (c.p r ≡ Some b) × (c.m r ≡ false)
+  groom c k = k.courting r (omega arith) (omega (arith, room, sum)) (low_r k.shape)
+
+  pub updates_hold : (c : Configuration) → Engaged c → (i : ℕ) → i < c.size → learns i ≡ true → guard c i Rule.Update ≡ true
+  updates_hold c k i lt on = elim (or_cases (i == b) (i == r) on) [
+    | inl e ↦ subst (λ z. guard c z Rule.Update ≡ true) (sym (eqb-true i b e)) at_b
+    | inr e ↦ subst (λ z. guard c z Rule.Update ≡ true) (sym (eqb-true i r e)) at_r
+  ]
+    where
+      at_b : guard c b Rule.Update ≡ true
+      at_b = may_update c k.shape.lawful b (k.bride.1 ∙ sym (ap not (married-from c b r k.shape.lawful k.bride.0 (groom c k).0)))
+
+      at_r : guard c r Rule.Update ≡ true
+      at_r = may_update c k.shape.lawful r ((groom c k).1 ∙ sym (ap not (married-from c r b k.shape.lawful (groom c k).0 k.bride.0)))
+
+  unequal : (i : ℕ) → learns i ≡ false → ((i ≡ b) ⊎ (i ≡ r)) → ⊥
+  unequal i off (inl e) = both_ways (learns i) off (or_left (i == b) (i == r) (eq-eqb i b e))
+  unequal i off (inr e) = both_ways (learns i) off (or_right (i == b) (i == r) (eq-eqb i r e))
+
+  pub engaged_others : (c : Configuration) → Engaged c → (i : ℕ) → i < c.size → learns i ≡ false → is_privileged c i ≡ false
+  engaged_others c k i lt off = elim (class n r i (omega (arith, lt, k.shape.size))) [
+    | inl x ↦ couple_idle n r low c k.shape k.couples i x.0 x.1 x.2
+    | inr x ↦
+        let below : i < b = other x (cases_eq i b) in
+        elim (cases_Bool (low i)) [
+          | inl on ↦
+              let y = k.courting i x.0 below on in
+              let gone : holds (c.p b) i ≡ false = ap (λ o. holds o i) k.bride.0 ∙ ne_eqb r i (λ e. unequal i off (inr (sym e))) in
+              waiting c k.shape.lawful i b y.0 gone y.1 k.bride.1 below
+          | inr high ↦
+              let y = k.rest i x.0 below high in
+              high_idle n low c k.shape i high y.0 y.1 (λ j. nobody c k.shape k.couples k.courting k.rest (inr k.bride.0) i j x.0 below high)
+        ]
+  ]
+    where
+      other : (r ≤ i) × (i + r < n) → (i ≡ b) ⊎ (i ≡ b → ⊥) → i < b
+      other x (inl e) = absurd (unequal i off (inl e))
+      other x (inr ne) = omega (arith, x, ne, sum)
+
+  learns_not : (i : ℕ) → (i ≡ b → ⊥) → (i ≡ r → ⊥) → learns i ≡ false
+  learns_not i x y = or_from (i == b) (i == r) (ne_eqb i b x) (ne_eqb i r y)
+
+  pub then_wed : (c d : Configuration) → Engaged c → IsMoved c d learns Rule.Update → Wed d
+  then_wed c d k e = record {
+    shape = shaped c d learns Rule.Update e n low k.shape;
+    couples = λ i j lt total. elim (cases_eq i r) [
+      | inl same ↦ both i j same (omega (arith, same, total, sum))
+      | inr other ↦ before i j (omega (arith, lt, other)) total
+    ];
+    courting = between_kept n r b (suc r) low true (Some b) c d learns Rule.Update e k.shape.size (omega (arith, sum)) (omega arith) k.courting
+        (λ i from below is. learns_not i (λ same. omega (arith, below, same)) (λ same. omega (arith, from, same)));
+    rest = between_kept n r b (suc r) low false None c d learns Rule.Update e k.shape.size (omega (arith, sum)) (omega arith) k.rest
+        (λ i from below is. learns_not i (λ same. omega (arith, below, same)) (λ same. omega (arith, from, same)));
+  }
+    where
+      before : Couples n r d
+      before = couples_kept n r c d learns Rule.Update e k.shape.size (omega (arith, room)) k.couples
+          (λ i lt side. learns_not i
+          (λ same. elim side [ inl a ↦ omega (arith, a, same, sum, room) | inr a ↦ omega (arith, a, same, sum) ])
+          (λ same. elim side [ inl a ↦ omega (arith, a, same) | inr a ↦ omega (arith, a, same, room) ]))
+
+      pair : (d.p r ≡ Some b) × (d.p b ≡ Some r) × (d.m r ≡ true) × (d.m b ≡ true)
+      pair =
+          let y = groom c k in
+          let a = turned c d learns Rule.Update e r (omega (arith, sum, k.shape.size)) (or_right (r == b) (r == r) (eq-eqb r r refl)) in
+          let z = turned c d learns Rule.Update e b (omega (arith, sum, k.shape.size)) (or_left (b == b) (b == r) (eq-eqb b b refl)) in (
+            a.0 ∙ y.0,
+            z.0 ∙ k.bride.0,
+            a.1 ∙ married-from c r b k.shape.lawful y.0 k.bride.0,
+            z.1 ∙ married-from c b r k.shape.lawful k.bride.0 y.0,
+          )
+
+      both : (i j : ℕ) → i ≡ r → j ≡ b → (d.p i ≡ Some j) × (d.p j ≡ Some i) × (d.m i ≡ true) × (d.m j ≡ true)
+      both i j x y = subst (λ z. (d.p z ≡ Some j) × (d.p j ≡ Some z) × (d.m z ≡ true) × (d.m j ≡ true)) (sym x)
+          (subst (λ z. (d.p r ≡ Some z) × (d.p z ≡ Some r) × (d.m r ≡ true) × (d.m z ≡ true)) (sym y) pair)
+
+  -- ---- the step from Wed
+
+  wed_pair : (c : Configuration) → Wed c → (c.p r ≡ Some b) × (c.p b ≡ Some r) × (c.m r ≡ true) × (c.m b ≡ true)
+  wed_pair c k = k.couples r b (omega arith) sum
+
+  wed_free : (c : Configuration) → Wed c → (i j : ℕ) → r < i → i < b → c.p j ≡ Some i → ⊥
+  wed_free c k i j from below e = elim (class n (suc r) j (owner_in n low c k.shape j i e)) [
+    | inl x ↦
+        let to = mate n (suc r) j x.0 c k.couples x.1 x.2 in
+        let same = some_same x.0 i (sym to.0 ∙ e) in
+        elim x.2 [ inl lt ↦ omega (arith, lt, same, x.1, below, sum) | inr lt ↦ omega (arith, lt, same, from) ]
+    | inr x ↦
+        let lt : j < b = omega (arith, x, sum) in
+        elim (cases_Bool (low j)) [
+          | inl on ↦ let same = some_same b i (sym (k.courting j x.0 lt on).0 ∙ e) in omega (arith, same, below)
+          | inr off ↦ let to = (k.rest j x.0 lt off).0 in cc
+        ]
+  ]
+
+  pub abandonments_hold : (c : Configuration) → Wed c → (i : ℕ) → i < c.size → leaves i ≡ true → guard c i Rule.Abandonment ≡ true
+  abandonments_hold c k i lt on =
+      let x = leaves-means i on in
+      let y = k.courting i (omega (arith, x.0)) x.1 x.2 in
+      let z = wed_pair c k in
+      may_abandon c k.shape.lawful i b y.0 (ap (λ o. holds o i) z.1 ∙ ne_eqb r i (λ e. omega (arith, e, x.0))) y.1 (inl z.3)
+
+  pub wed_others : (c : Configuration) → Wed c → (i : ℕ) → i < c.size → leaves i ≡ false → is_privileged c i ≡ false
+  wed_others c k i lt off = elim (class n (suc r) i (omega (arith, lt, k.shape.size))) [
+    | inl x ↦ couple_idle n (suc r) low c k.shape k.couples i x.0 x.1 x.2
+    | inr x ↦
+        let below : i < b = omega (arith, x, sum) in
+        elim (cases_Bool (low i)) [
+          | inl on ↦ absurd (both_ways (leaves i) off (leaves-from i (omega (arith, x)) below on))
+          | inr high ↦
+              let y = k.rest i x.0 below high in
+              high_idle n low c k.shape i high y.0 y.1 (λ j. wed_free c k i j (omega (arith, x)) below)
+        ]
+  ]
+
+  -- what is left is as before the next phase
+  pub then_free : (c d : Configuration) → Wed c → IsMoved c d leaves Rule.Abandonment
+      → Shape n low d × Couples n (suc r) d × ((i : ℕ) → suc r ≤ i → i + suc r < n → (d.p i ≡ None) × (d.m i ≡ false))
+  then_free c d k e = (
+    shaped c d leaves Rule.Abandonment e n low k.shape,
+    couples_kept n (suc r) c d leaves Rule.Abandonment e k.shape.size (omega (arith, room)) k.couples
+        (λ i lt side. false_from_ne_true (leaves i) (λ on. let x = leaves-means i on in elim side [
+          | inl a ↦ omega (arith, a, x.0)
+          | inr a ↦ omega (arith, a, x.1, sum)
+        ])),
+    (λ i from near. free i from near (cases_Bool (low i))),
+  )
+    where
+      free : (i : ℕ) → suc r ≤ i → i + suc r < n → (low i ≡ true) ⊎ (low i ≡ false) → (d.p i ≡ None) × (d.m i ≡ false)
+      free i from near (inl on) =
+          let below : i < b = omega (arith, near, sum) in
+          let x = k.courting i from below on in
+          let y = turned c d leaves Rule.Abandonment e i (omega (arith, near, k.shape.size)) (leaves-from i (omega (arith, from)) below on) in
+          (y.0, y.1 ∙ x.1)
+      free i from near (inr off) =
+          let below : i < b = omega (arith, near, sum) in
+          let x = k.rest i from below off in
+          let y = kept c d leaves Rule.Abandonment e i (omega (arith, near, k.shape.size))
+          (false_from_ne_true (leaves i) (λ on. both_ways (low i) off (leaves-means i on).2)) in
+          (y.0 ∙ x.0, y.1 ∙ x.1)

@@ -1,0 +1,31 @@
+-- Courtships: pointers of nodes that aren't married at higher ones that may still marry them.
+use Rattle.std.specs.Prelude.{ℕ, zero, suc, ◌+◌, ◌*◌, Bool, false, not, ◌&&◌, is_some, nat_lt, if◌then◌else◌}
+use Rattle.std.specs.Option.{option_map_or}
+use Rattle.mml_ids.specs.Search.{count_below}
+use Rattle.mml_rules.specs.Configuration.{Configuration}
+use Rattle.mml_rules.specs.Rules.{is_married}
+use Rattle.mml_stable.specs.Potential.{sum_below}
+
+-- i points at a higher node that isn't married and whose m is false
+abbrev pub is_courting : Configuration → ℕ → Bool
+is_courting c i = option_map_or (λ j. nat_lt i j && (not (c.m j) && not (is_married c j))) (c.p i) false
+
+-- by the pointer of a node that isn't married: 0 where it courts, 2 where it points at another, 1 where it is null
+abbrev pub pointer_part : Configuration → ℕ → ℕ
+pointer_part c i = if is_courting c i then 0 else if is_some (c.p i) then 2 else 1
+
+-- married: 0 where m is true, else 1; not married: 1 where m is true, and the pointer's part
+abbrev pub node_part : Configuration → ℕ → ℕ
+node_part c i =
+    if is_married c i then (if c.m i then 0 else 1)
+    else (if c.m i then 1 else 0) + pointer_part c i
+
+-- the most courtships among n nodes that aren't married: of each two that marry each other node courts one at the most, and one of the two the other
+abbrev pub most_courtships : ℕ → ℕ
+most_courtships zero = 0
+most_courtships (suc zero) = 0
+most_courtships (suc (suc n)) = n + 1 + most_courtships n
+
+-- the parts of all nodes together, and 2 for each courtship that the nodes that aren't married may have at the most
+unfoldable pub courting_potential : Configuration → ℕ
+courting_potential c = sum_below c.size (node_part c) + 2 * most_courtships (count_below c.size (λ i. not (is_married c i)))

@@ -1,0 +1,25 @@
+-- The network of which each two nodes are linked that are close enough, on which a run takes as many moves as any may.
+use Rattle.std.specs.Prelude.{ℕ, ◌+◌, ◌*◌, ◌-◌, Bool, true, not, ◌&&◌, ◌==◌, nat_lt, nat_le, Some, map, if◌then◌else◌}
+use Rattle.std.specs.List.{range_with_len}
+use Rattle.mml_ids.specs.Sets.{those_below}
+use Rattle.mml_rules.specs.Network.{Network}
+use Rattle.mml_board.specs.World.{World, opening_of}
+
+-- two nodes with i + j + 1 of n at the least
+abbrev pub is_near : ℕ → ℕ → ℕ → Bool
+is_near n i j = not (i == j) && (nat_lt i n && (nat_lt j n && nat_le n (i + j + 1)))
+
+-- the first half points at the last, first at last; the others each at the next, and the last at 1
+abbrev pub first_pointer : ℕ → ℕ → ℕ
+first_pointer n i = if nat_lt (2 * i + 1) n then n - (i + 1) else if nat_lt (i + 1) n then i + 1 else 1
+
+-- n nodes linked so; each points so, with m true
+abbrev pub crowd : ℕ → Network
+crowd n = record {
+  neighbours = map (λ i. those_below n (is_near n i)) (range_with_len 0 n);
+  registers = map (λ i. record { p = Some (first_pointer n i); m = true }) (range_with_len 0 n);
+}
+
+-- that network at the beginning
+abbrev pub crowd_world : ℕ → World
+crowd_world n = opening_of (crowd n)

@@ -1,0 +1,3 @@
+pub mod Courtships
+pub mod Halves
+pub mod Crowd

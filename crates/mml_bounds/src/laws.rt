@@ -1,0 +1,77 @@
+//! Laws of how many moves there are at the most. Each is the clause of a function that does nothing.
+ghost use Rattle.std.specs.Prelude.{◌≡◌, ℕ, ◌+◌, ◌-◌, ◌*◌, ◌<◌, ◌≤◌, min, true, List, Option};
+ghost use Rattle.std.specs.List.{list_all};
+ghost use Rattle.mml_ids.specs.Search.{count_below};
+ghost use Rattle.mml_ids.specs.declared.TheConstants.{MAX_NODES};
+ghost use Rattle.mml_rules.specs.declared.rule.Rule.{Rule};
+ghost use Rattle.mml_rules.specs.Configuration.{Configuration, IsLawful};
+ghost use Rattle.mml_rules.specs.Rules.{step, AllHold};
+ghost use Rattle.mml_rules.specs.Matching.{IsStable};
+ghost use Rattle.mml_lab.specs.Labs.{link_count};
+ghost use Rattle.mml_lab.specs.declared.who.Who.{Who};
+ghost use Rattle.mml_lab.specs.Rosters.{RosterValue, owns};
+ghost use Rattle.mml_board.specs.declared.event.Event.{Event};
+ghost use Rattle.mml_board.specs.World.{World, IsWorld, size, configuration};
+ghost use Rattle.mml_board.specs.Runs.{is_legal_list, world_of};
+ghost use Rattle.mml_stable.specs.Runs.{is_of_step};
+ghost use Rattle.mml_stable.specs.Moves.{moves, applied_over};
+ghost use Rattle.mml_stable.specs.Rest.{is_grant_or_close};
+ghost use Rattle.mml_stable.specs.Rounds.{Rounds, rounds_for};
+ghost use Rattle.mml_bounds.specs.Courtships.{most_courtships, courting_potential};
+ghost use Rattle.mml_bounds.specs.Halves.{halves_world};
+ghost use Rattle.mml_bounds.specs.Crowd.{crowd_world};
+
+/// From any world, the closes of a legal list of grants, releases and closes apply at most 3 moves for each
+/// of n nodes in all, and 2 for each link or, where these are more than n²/4, 2 for each of n²/4, however
+/// the moves are chosen.
+pub fn moves_are_few()
+    ensures { (r : RosterValue) (w : World) (es : List Event) → IsWorld w →
+        is_legal_list r w es ≡ true → list_all is_of_step es ≡ true →
+        applied_over w es ≤ 3 * size w + 2 * min (link_count w.network) (most_courtships (size w)) }
+{}
+
+/// The most courtships among n nodes are n²/4, rounded down.
+pub fn courtships_in_numbers()
+    ensures even { (k : ℕ) → most_courtships (2 * k) ≡ k * k }
+    ensures odd { (k : ℕ) → most_courtships (2 * k + 1) ≡ k * k + k }
+{}
+
+/// In a step of moves whose guards hold, this potential falls by at least the number of nodes that move; and
+/// it is at most 3 for each of n nodes, and 2 for each of n²/4.
+pub fn step_lowers_courting_potential()
+    ensures lower { (c : Configuration) (chosen : ℕ → Option Rule) → IsLawful c → AllHold c chosen →
+        courting_potential (step c chosen) + count_below c.size (moves chosen) ≤ courting_potential c }
+    ensures most { (c : Configuration) →
+        courting_potential c ≤ 3 * c.size + 2 * most_courtships c.size }
+{}
+
+/// The bound on rounds is reached for each number of nodes from 2 on that a lab may have: whoever owns each
+/// node of the two halves has a legal list of grants and closes with one round less than the bound, after
+/// which some node is privileged.
+pub fn rounds_are_reached()
+    ensures world { (n : ℕ) → n ≤ MAX_NODES →
+        IsWorld (halves_world n) × (size (halves_world n) ≡ n) }
+    ensures reached { (r : RosterValue) (s n : ℕ) → 2 ≤ n → n ≤ MAX_NODES →
+        ((i : ℕ) → i < n → owns r (Who.Student s) i ≡ true) →
+        (es : List Event) × (is_legal_list r (halves_world n) es ≡ true) ×
+        (list_all is_grant_or_close es ≡ true) × Rounds (rounds_for n - 1) (halves_world n) es ×
+        (¬ IsStable (configuration (world_of (halves_world n) es))) }
+{}
+
+/// The bound on moves is reached for each even number of nodes from 4 on that a lab may have, and missed by
+/// one for each odd number: whoever owns each node of the crowd has a legal list of grants and closes that
+/// applies so many.
+pub fn moves_are_reached()
+    ensures world { (n : ℕ) → 4 ≤ n → n ≤ MAX_NODES →
+        IsWorld (crowd_world n) × (size (crowd_world n) ≡ n) }
+    ensures even { (r : RosterValue) (s k : ℕ) → 2 ≤ k → 2 * k ≤ MAX_NODES →
+        ((i : ℕ) → i < 2 * k → owns r (Who.Student s) i ≡ true) →
+        (es : List Event) × (is_legal_list r (crowd_world (2 * k)) es ≡ true) ×
+        (list_all is_grant_or_close es ≡ true) ×
+        (applied_over (crowd_world (2 * k)) es ≡ 3 * (2 * k) + 2 * most_courtships (2 * k)) }
+    ensures odd { (r : RosterValue) (s k : ℕ) → 2 ≤ k → 2 * k + 1 ≤ MAX_NODES →
+        ((i : ℕ) → i < 2 * k + 1 → owns r (Who.Student s) i ≡ true) →
+        (es : List Event) × (is_legal_list r (crowd_world (2 * k + 1)) es ≡ true) ×
+        (list_all is_grant_or_close es ≡ true) ×
+        (applied_over (crowd_world (2 * k + 1)) es ≡ 3 * (2 * k + 1) + 2 * most_courtships (2 * k + 1) - 1) }
+{}
