@@ -1,0 +1,110 @@
+-- How runs end.
+use Rattle.std.proofs.Common.{◌≡◌, ◌≢◌, ◌<◌, ◌≤◌, ◌+◌, ◌*◌, ℕ, Bool, true, false, List, ◌++◌, length, None, Some, Ok, refl, sym, ap, ◌∙◌, subst, arith}
+use Rattle.std.specs.List.{list_all}
+use Rattle.std.proofs.lemmas.Bool.{and_parts, false_from_ne_true}
+use Rattle.mml_rules.specs.Matching.{IsStable}
+use Rattle.mml_lab.specs.Labs.{LabValue, IsLab, lab_of, link_count}
+use Rattle.mml_lab.proofs.LabMeaningLemmas.{lawful}
+use Rattle.mml_lab.proofs.OwnersLemmas.{one_or_two}
+use Rattle.mml_board.specs.declared.event.Event.{Event}
+use Rattle.mml_board.specs.declared.event.Event.TheVariants as event
+use Rattle.mml_board.specs.World.{World, IsWorld, size, configuration, opening_of}
+use Rattle.mml_board.specs.Events.{is_legal, done_by}
+use Rattle.mml_board.specs.Runs.{is_legal_list, world_of}
+use Rattle.mml_board.proofs.RunsLemmas.{list-world, legal-append, place-world_of}
+use Rattle.mml_policy.specs.Alike.{IsWorldOf}
+use Rattle.mml_policy.specs.Asking.{asker, command_of, id_of, asked_of}
+use Rattle.mml_policy.specs.Rulings.{event_of}
+use Rattle.mml_policy.proofs.AskingLemmas.{granted_iff}
+use Rattle.mml_audit.specs.AuditMeaning.{IsJournalOf, world_after}
+use Rattle.mml_stable.specs.Listed.{IsMaximalMatching}
+use Rattle.mml_stable.specs.Moves.{applied_over, count_closes}
+use Rattle.mml_stable.specs.Reports.{report_of}
+use Rattle.mml_stable.specs.Rest.{IsOver}
+use Rattle.mml_stable.specs.Runs.{is_of_step}
+use Rattle.mml_stable.proofs.AppliedLemmas.{moves_bounded, closes_bounded}
+use Rattle.mml_stable.proofs.ListedLemmas.{listed_matching}
+use Rattle.mml_stable.proofs.MatchingLemmas.{stable-means}
+use Rattle.mml_stable.proofs.RestLemmas.{ended}
+use Rattle.mml_window.specs.Lists.{world_in, ruling_while}
+use Rattle.mml_laws.specs.Ends.{GrantsNoStep}
+use Rattle.mml_laws.proofs.ChoicesLemmas.{opening}
+use Rattle.mml_laws.proofs.RestWithinLemmas.{size-world_of}
+use Rattle.mml_laws.proofs.RuledLemmas.{ruled_granted}
+
+some_not_none : (e : Event) → Some e ≢ None
+some_not_none e h = cc
+
+-- ---- a world that events leave
+
+module _ (lab : LabValue) (is : IsLab lab) (es : List Event) (legal : is_legal_list lab.roster (opening_of lab.network) es ≡ true) where
+  pub world_there : IsWorld (world_of (opening_of lab.network) es)
+  world_there = list-world lab.roster (opening_of lab.network) es (opening lab is) legal
+
+  pub nodes_there : size (world_of (opening_of lab.network) es) ≡ length lab.ids
+  nodes_there = size-world_of (opening_of lab.network) es ∙ is.nodes
+
+  pub in_lab : IsWorldOf lab.ids (world_of (opening_of lab.network) es)
+  in_lab = record { world = world_there; nodes = sym nodes_there }
+
+-- ---- a house that is over
+
+module _ (lab : LabValue) (is : IsLab lab) (w : World) (in_w : IsWorldOf lab.ids w) (halted : Bool) (room : w.place < lab.events) (running : halted ≡ false) where
+  -- a legal event is granted to the one who asks for it
+  pub legal_takes_place : (e : Event) → is_legal lab.roster w e ≡ true → event_of (ruling_while lab halted w (asker e) (command_of lab.ids w e)) ≡ Some e
+  legal_takes_place e legal =
+      ap event_of ((ruled_granted lab.ids lab.roster lab.events halted w (asker e) (command_of lab.ids w e) e (done_by w e)).1
+      ((granted_iff lab.ids is.ids w in_w lab.roster e).0 legal, room, running, refl))
+
+  over : GrantsNoStep lab halted w → IsOver lab.roster w
+  over none = record {
+    no_grant =
+        λ s i rule. false_from_ne_true (is_legal lab.roster w (event.Grant s i rule)) (λ legal.
+        some_not_none (event.Grant s i rule)
+        (sym (legal_takes_place (event.Grant s i rule) legal) ∙ none.no_move s (id_of lab.ids i) (asked_of lab.ids rule) w.number));
+    no_close =
+        false_from_ne_true (is_legal lab.roster w event.Close) (λ legal.
+        some_not_none event.Close (sym (legal_takes_place event.Close legal) ∙ none.no_close));
+  }
+
+pub over_is_stable : (bytes : List ℕ) (lab : LabValue) (es : List Event) (w : World) (halted : Bool) → lab_of bytes ≡ Ok lab
+    → is_legal_list lab.roster (opening_of lab.network) es ≡ true → w ≡ world_in lab es → length es < lab.events → halted ≡ false
+    → GrantsNoStep lab halted w → IsStable (configuration w) × IsMaximalMatching (configuration w) (report_of w).pairs
+over_is_stable bytes lab es w halted spelled legal here room running none =
+    subst (λ (v : World). IsStable (configuration v) × IsMaximalMatching (configuration v) (report_of v).pairs) (sym here) (stable, matching)
+  where
+    is : IsLab lab
+    is = lawful bytes lab spelled
+
+    place : (world_in lab es).place < lab.events
+    place = omega (arith, room, place-world_of (opening_of lab.network) es)
+
+    stable : IsStable (configuration (world_in lab es))
+    stable =
+        (ended lab.roster (opening_of lab.network) es (opening lab is)
+        (λ i lt. (one_or_two bytes lab i spelled (omega (arith, lt, is.nodes))).0) legal
+        (over lab is (world_in lab es) (in_lab lab is es legal) halted place running (subst (GrantsNoStep lab halted) here none))).0
+
+    matching : IsMaximalMatching (configuration (world_in lab es)) (report_of (world_in lab es)).pairs
+    matching =
+        listed_matching _ (world_there lab is es legal).network.lawful ((stable-means (configuration (world_in lab es))).1 stable)
+
+-- ---- the moves that follow
+
+module _ (lab : LabValue) (es fs : List Event) (bytes : List ℕ) (is : IsLab lab) (journal : IsJournalOf lab (es ++ fs) bytes) (steps : list_all is_of_step fs ≡ true) where
+  both_legal : (is_legal_list lab.roster (opening_of lab.network) es ≡ true) × (is_legal_list lab.roster (world_after lab es) fs ≡ true)
+  both_legal =
+      and_parts (is_legal_list lab.roster (opening_of lab.network) es) (is_legal_list lab.roster (world_after lab es) fs)
+      (sym (legal-append lab.roster (opening_of lab.network) es fs) ∙ journal.legal)
+
+  pub few_moves : applied_over (world_after lab es) fs ≤ 2 * link_count (world_after lab es).network + 3 * length lab.ids
+  few_moves =
+      let few = moves_bounded lab.roster (world_after lab es) fs (world_there lab is es both_legal.0) both_legal.1 steps in
+      let nodes = nodes_there lab is es both_legal.0 in
+      omega (arith, few, nodes)
+
+  pub few_closes : count_closes fs ≤ 2 * link_count (world_after lab es).network + 3 * length lab.ids
+  few_closes =
+      let few = closes_bounded lab.roster (world_after lab es) fs (world_there lab is es both_legal.0) both_legal.1 steps in
+      let nodes = nodes_there lab is es both_legal.0 in
+      omega (arith, few, nodes)

@@ -1,0 +1,13 @@
+pub mod RuledLemmas
+pub mod LooksLemmas
+pub mod GreetedLemmas
+pub mod ChoicesLemmas
+pub mod RestWithinLemmas
+pub mod JournalsLemmas
+pub mod EndsLemmas
+pub mod ToldAtLemmas
+pub mod HallPlacesLemmas
+pub mod SessionPlacesLemmas
+pub mod WordsLemmas
+pub mod FilesLemmas
+pub mod WitnessesLemmas

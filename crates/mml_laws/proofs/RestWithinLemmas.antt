@@ -1,0 +1,189 @@
+-- Grants and closes are paid for by twice the potential.
+use Rattle.std.proofs.Common.{◌≡◌, ◌≢◌, ◌⊎◌, ◌<◌, ◌≤◌, ◌+◌, ◌*◌, min, ℕ, zero, suc, Bool, true, false, cond, List, [], ◌∷◌, ◌++◌, length, Option, None, Some, Ok, is_some, is_none, inl, inr, refl, sym, ap, ◌∙◌, subst, arith}
+use Rattle.std.specs.List.{list_all}
+use Rattle.std.proofs.lemmas.Bool.{and_parts, and_from, false≢true, ltb-true, cases_eq}
+use Rattle.std.proofs.lemmas.List.{get_or-set_same, get_or-set_other}
+use Rattle.mml_ids.specs.Search.{count_below, some_below}
+use Rattle.mml_ids.proofs.SearchLemmas.{some_below-find, some_below-none}
+use Rattle.mml_rules.specs.declared.rule.Rule.{Rule}
+use Rattle.mml_rules.specs.Configuration.{Configuration}
+use Rattle.mml_rules.specs.Rules.{is_privileged}
+use Rattle.mml_rules.specs.Matching.{IsStable}
+use Rattle.mml_lab.specs.Labs.{LabValue, lab_of, link_count}
+use Rattle.mml_lab.proofs.LabMeaningLemmas.{lawful}
+use Rattle.mml_lab.proofs.OwnersLemmas.{one_or_two}
+use Rattle.mml_lab.specs.Rosters.{RosterValue}
+use Rattle.mml_board.specs.declared.event.Event.{Event}
+use Rattle.mml_board.specs.declared.event.Event.TheVariants as event
+use Rattle.mml_board.specs.World.{World, IsWorld, size, configuration, chosen_at, opening_of}
+use Rattle.mml_board.specs.Events.{is_legal, is_node, is_chosen, after, chosen_count}
+use Rattle.mml_board.specs.Runs.{is_legal_list, world_of}
+use Rattle.mml_board.proofs.WorldLemmas.{closed-step, after-world, size-after}
+use Rattle.mml_board.proofs.RunsLemmas.{legal-possible, list-world, legal-one_more, place-world_of}
+use Rattle.mml_stable.specs.Potential.{whole_potential}
+use Rattle.mml_stable.specs.Rest.{EachHasOwner, is_grant_or_close}
+use Rattle.mml_stable.proofs.SumsLemmas.{count_same}
+use Rattle.mml_stable.proofs.AppliedLemmas.{close_pays, close_moves, network_most}
+use Rattle.mml_stable.proofs.RestLemmas.{any_chosen, may_move, first_owner}
+use Rattle.mml_bounds.specs.Courtships.{most_courtships, courting_potential}
+use Rattle.mml_bounds.proofs.NumbersLemmas.{courtships_kept, courtships_even}
+use Rattle.mml_bounds.proofs.WholeLemmas.{courting_fell, courting_most}
+use Rattle.mml_laws.specs.Rest.{events_to_rest}
+use Rattle.mml_laws.proofs.ChoicesLemmas.{opening}
+
+-- ---- one more is chosen
+
+-- a test that is true of one number more counts one more
+count_one_more : (n i : ℕ) (t u : ℕ → Bool) → i < n → t i ≡ false → u i ≡ true → ((j : ℕ) → j ≢ i → u j ≡ t j)
+    → count_below n u ≡ count_below n t + 1
+count_one_more zero i t u lt off on same = absurd (omega arith)
+count_one_more (suc n) i t u lt off on same = elim (cases_eq i n) [
+  | inl here ↦
+      let below = count_same n u t (λ j l. same j (λ e. omega (arith, e, l, here))) in
+      let on_here : u n ≡ true = subst (λ k. u k ≡ true) here on in
+      let off_here : t n ≡ false = subst (λ k. t k ≡ false) here off in
+      let one : cond {A = ℕ} (u n) 1 0 ≡ 1 = ap (λ b. cond {A = ℕ} b 1 0) on_here in
+      let none : cond {A = ℕ} (t n) 1 0 ≡ 0 = ap (λ b. cond {A = ℕ} b 1 0) off_here in
+      omega (arith, below, one, none)
+  | inr other ↦
+      let below = count_one_more n i t u (omega (arith, lt, other)) off on same in
+      let alike : cond {A = ℕ} (u n) 1 0 ≡ cond {A = ℕ} (t n) 1 0 = ap (λ b. cond {A = ℕ} b 1 0) (same n (λ e. other (sym e))) in
+      omega (arith, below, alike)
+]
+
+grant_chooses : (r : RosterValue) (w : World) (s i : ℕ) (q : Rule) → IsWorld w → is_legal r w (event.Grant s i q) ≡ true
+    → chosen_count (after w (event.Grant s i q)) ≡ chosen_count w + 1
+unfolding chosen_count
+grant_chooses r w s i q k legal =
+    let possible = and_parts (is_node w i) _ (legal-possible r w (event.Grant s i q) legal) in
+    let lt = ltb-true i (size w) possible.0 in
+    let free = (and_parts (is_none (chosen_at w.chosen i)) _ possible.1).0 in
+    count_one_more (size w) i (is_chosen w) (is_chosen (after w (event.Grant s i q))) lt (off (chosen_at w.chosen i) free)
+    (ap is_some (get_or-set_same w.chosen i (Some q) None (omega (arith, lt, k.choices))))
+    (λ j ne. ap is_some (get_or-set_other w.chosen i j (Some q) None ne))
+  where
+    off : (o : Option Rule) → is_none o ≡ true → is_some o ≡ false
+    off None e = refl
+    off (Some p) e = absurd (false≢true e)
+
+-- ---- the events are paid for
+
+-- by a potential from which each close takes the moves that it applies
+module _ (potential : Configuration → ℕ)
+    (pays : (w : World) → IsWorld w → chosen_count w + potential (configuration (after w event.Close)) ≤ potential (configuration w)) where
+  events_paid : (r : RosterValue) (w : World) (es : List Event) → IsWorld w → is_legal_list r w es ≡ true → list_all is_grant_or_close es ≡ true
+      → length es + chosen_count w ≤ 2 * potential (configuration w)
+  events_paid r w [] k legal forward = let paid = pays w k in omega (arith, paid)
+  events_paid r w (e ∷ es) k legal forward =
+      let both = and_parts (is_legal r w e) (is_legal_list r (after w e) es) legal in
+      let kinds = and_parts (is_grant_or_close e) (list_all is_grant_or_close es) forward in
+      let rest = events_paid r (after w e) es (after-world w e k (legal-possible r w e both.0)) both.1 kinds.1 in
+      one e both.0 kinds.0 rest
+    where
+      one : (e : Event) → is_legal r w e ≡ true → is_grant_or_close e ≡ true
+          → length es + chosen_count (after w e) ≤ 2 * potential (configuration (after w e))
+          → suc (length es) + chosen_count w ≤ 2 * potential (configuration w)
+      one (event.Grant s i q) l g rest = let more = grant_chooses r w s i q k l in omega (arith, more, rest)
+      one event.Close l g rest = let paid = pays w k in let moves = close_moves w k l in omega (arith, paid, moves, rest)
+      one (event.Release i) l g rest = absurd (false≢true g)
+      one (event.Fault i registers) l g rest = absurd (false≢true g)
+      one (event.Link a b) l g rest = absurd (false≢true g)
+      one (event.Cut a b) l g rest = absurd (false≢true g)
+
+courting_pays : (w : World) → IsWorld w → chosen_count w + courting_potential (configuration (after w event.Close)) ≤ courting_potential (configuration w)
+unfolding chosen_count
+courting_pays w k =
+    let pays = courting_fell (configuration w) (chosen_at w.chosen) k.network.lawful k.hold in
+    let same : courting_potential (configuration (after w event.Close)) ≡ courting_potential _ = ap courting_potential (closed-step w k.choices) in
+    omega (arith, pays, same)
+
+least : (a n l q : ℕ) → a ≤ 4 * l + 6 * n → a ≤ 6 * n + 4 * q → a ≤ 6 * n + 4 * min l q
+least a n l q by_links by_nodes = grind (arith, by_links, by_nodes)
+
+pub events_few : (r : RosterValue) (w : World) (es : List Event) → IsWorld w → is_legal_list r w es ≡ true → list_all is_grant_or_close es ≡ true
+    → length es + chosen_count w ≤ events_to_rest (size w) (link_count w.network)
+events_few r w es k legal forward =
+    let by_links = events_paid whole_potential close_pays r w es k legal forward in
+    let links_most = network_most w.network k.network in
+    let by_nodes = events_paid courting_potential courting_pays r w es k legal forward in
+    let nodes_most = courting_most (configuration w) in
+    least (length es + chosen_count w) (size w) (link_count w.network) (most_courtships (size w)) (omega (arith, by_links, links_most))
+    (omega (arith, by_nodes, nodes_most))
+
+within : (n l q : ℕ) → n ≤ 256 → q ≤ 16384 → 6 * n + 4 * min l q ≤ 67072
+within n l q few small = grind (arith, few, small)
+
+pub events_most : (nodes links : ℕ) → nodes ≤ 256 → events_to_rest nodes links ≤ 67072
+events_most nodes links few =
+    let kept = courtships_kept nodes 256 few in
+    let whole : most_courtships 256 ≡ 16384 = courtships_even 128 in
+    within nodes links (most_courtships nodes) few (omega (arith, kept, whole))
+
+-- ---- until a run rests, one event more is legal
+
+record NextEvent (r : RosterValue) (w : World) : Type 0 where
+  event : Event
+  legal : is_legal r w event ≡ true
+  forward : is_grant_or_close event ≡ true
+
+next_event : (r : RosterValue) (w : World) → IsWorld w → EachHasOwner r (size w) → IsStable (configuration w) ⊎ NextEvent r w
+next_event r w k owned = go (some_below (size w) (is_privileged (configuration w))) refl
+  where
+    at : (i : ℕ) → i < size w → is_privileged (configuration w) i ≡ true → (o : Option Rule) → chosen_at w.chosen i ≡ o → NextEvent r w
+    at i lt privileged None e =
+        let move = may_move r w i k lt privileged e in
+        let owner = first_owner r i (owned i lt) in
+        record { event = event.Grant owner.0 i move.0; legal = move.1 owner.0 owner.1; forward = refl }
+    at i lt privileged (Some q) e = record { event = event.Close; legal = any_chosen w.chosen i (ap is_some e); forward = refl }
+
+    go : (b : Bool) → some_below (size w) (is_privileged (configuration w)) ≡ b → IsStable (configuration w) ⊎ NextEvent r w
+    go false e = inl (λ i lt. some_below-none (size w) i (is_privileged (configuration w)) e lt)
+    go true e =
+        let found = some_below-find (size w) (is_privileged (configuration w)) e in
+        inr (at found.0 found.1 found.2 (chosen_at w.chosen found.0) refl)
+
+pub size-world_of : (w : World) (es : List Event) → size (world_of w es) ≡ size w
+size-world_of w [] = refl
+size-world_of w (e ∷ es) = size-world_of (after w e) es ∙ size-after w e
+
+all_more : (es : List Event) (e : Event) → list_all is_grant_or_close es ≡ true → is_grant_or_close e ≡ true
+    → list_all is_grant_or_close (es ++ e ∷ []) ≡ true
+all_more [] e h g = and_from (is_grant_or_close e) true g refl
+all_more (f ∷ es) e h g =
+    let both = and_parts (is_grant_or_close f) (list_all is_grant_or_close es) h in
+    and_from (is_grant_or_close f) (list_all is_grant_or_close (es ++ e ∷ [])) both.0 (all_more es e both.1 g)
+
+length_more : (es : List Event) (e : Event) → length (es ++ e ∷ []) ≡ length es + 1
+length_more [] e = refl
+length_more (f ∷ es) e = let rest = length_more es e in omega (arith, rest)
+
+fewer : (r : RosterValue) (w : World) (es : List Event) → IsWorld w → EachHasOwner r (size w) → is_legal_list r w es ≡ true
+    → list_all is_grant_or_close es ≡ true → ¬ IsStable (configuration (world_of w es)) → length es + 1 ≤ events_to_rest (size w) (link_count w.network)
+fewer r w es k owned legal forward restless =
+    elim (next_event r (world_of w es) (list-world r w es k legal) (λ i lt. owned i (omega (arith, lt, size-world_of w es)))) [
+      | inl stable ↦ absurd (restless stable)
+      | inr next ↦
+          let longer = legal-one_more r w es next.event ∙ and_from (is_legal_list r w es) (is_legal r (world_of w es) next.event) legal next.legal in
+          let few = events_few r w (es ++ next.event ∷ []) k longer (all_more es next.event forward next.forward) in
+          let one = length_more es next.event in
+          omega (arith, few, one)
+    ]
+
+pub room_left : (r : RosterValue) (w : World) (es : List Event) (limit : ℕ) → IsWorld w → EachHasOwner r (size w) → is_legal_list r w es ≡ true
+    → list_all is_grant_or_close es ≡ true → w.place + events_to_rest (size w) (link_count w.network) ≤ limit
+    → ¬ IsStable (configuration (world_of w es)) → (world_of w es).place < limit
+room_left r w es limit k owned legal forward room restless =
+    let few = fewer r w es k owned legal forward restless in
+    let place = place-world_of w es in
+    omega (arith, few, place, room)
+
+pub room_in_lab : (bytes : List ℕ) (lab : LabValue) (es : List Event) → lab_of bytes ≡ Ok lab
+    → is_legal_list lab.roster (opening_of lab.network) es ≡ true → list_all is_grant_or_close es ≡ true
+    → events_to_rest (length lab.ids) (link_count lab.network) ≤ lab.events → ¬ IsStable (configuration (world_of (opening_of lab.network) es))
+    → length es < lab.events
+room_in_lab bytes lab es spelled legal forward room restless =
+    let is = lawful bytes lab spelled in
+    let few = fewer lab.roster (opening_of lab.network) es (opening lab is) (λ i lt. (one_or_two bytes lab i spelled (omega (arith, lt, is.nodes))).0) legal forward restless in
+    let nodes : events_to_rest (size (opening_of lab.network)) (link_count lab.network) ≡ events_to_rest (length lab.ids) (link_count lab.network) =
+    ap (λ n. events_to_rest n (link_count lab.network)) is.nodes in
+    omega (arith, few, room, nodes)

@@ -1,0 +1,90 @@
+-- The event that a reply names.
+use Rattle.std.proofs.Common.{◌≡◌, ◌≤◌, ◌+◌, ℕ, Bool, true, false, List, [], ◌∷◌, ◌++◌, length, Some, refl, sym, ap, ◌∙◌, subst, arith, append_assoc}
+use Rattle.std.specs.List.{slice_get}
+use Rattle.std.proofs.lemmas.Bool.{and_parts}
+use mathlib.Core.List.{IsPrefix}
+use Rattle.mml_lab.specs.declared.who.Who.{Who}
+use Rattle.mml_lab.specs.Labs.{LabValue, IsLab}
+use Rattle.mml_board.specs.declared.done.Done.{Done}
+use Rattle.mml_board.specs.declared.event.Event.{Event}
+use Rattle.mml_board.specs.World.{World, opening_of}
+use Rattle.mml_board.specs.Events.{is_legal, after}
+use Rattle.mml_board.specs.Runs.{is_legal_list, world_of}
+use Rattle.mml_board.proofs.EventsLemmas.{next_place}
+use Rattle.mml_policy.specs.declared.command.Command.{Command}
+use Rattle.mml_policy.specs.declared.ruling.Ruling.{Ruling}
+use Rattle.mml_policy.specs.declared.ruling.Ruling.TheVariants.{Denied, Seen, Looked, Reported, Full, Journal, Granted}
+use Rattle.mml_policy.specs.Rulings.{after_ruling}
+use Rattle.mml_journal.specs.EventLines.{event_line}
+use Rattle.mml_audit.proofs.AuditMeaningLemmas.{IsReached, reached_next, reached_first}
+use Rattle.mml_codec.specs.declared.reply.Reply.{Reply}
+use Rattle.mml_codec.specs.Replies.{place_in}
+use Rattle.mml_codec.specs.Rulings.{reply_of, reply_of_done}
+use Rattle.mml_codec.proofs.RulingsLemmas.{place_of_done}
+use Rattle.mml_window.specs.Lists.{is_legal_in, world_in, ruling_while}
+use Rattle.mml_window.proofs.ListLemmas as lists
+use Rattle.mml_laws.specs.Told.{IsToldAt}
+use Rattle.mml_laws.proofs.JournalsLemmas.{lines, lines_next, line}
+use Rattle.mml_laws.proofs.RuledLemmas.{ruled_granted}
+
+-- ---- the line of an event
+
+line_at : (lab : LabValue) (is : IsLab lab) (w : World) (before : List Event) (e : Event) (later : List Event) → IsReached lab w
+    → is_legal_list lab.roster w (before ++ e ∷ later) ≡ true → w.place + length (before ++ e ∷ later) ≤ lab.events
+    → slice_get (lines lab is w (before ++ e ∷ later)) (length before) ≡ Some (line lab is (world_of w before) e)
+line_at lab is w [] e later on legal few =
+    let both = and_parts (is_legal lab.roster w e) (is_legal_list lab.roster (after w e) later) legal in
+    ap (λ (ls : List (List ℕ)). slice_get ls 0) (lines_next lab is w e later on both.0 (omega (arith, few)))
+line_at lab is w (f ∷ before) e later on legal few =
+    let both = and_parts (is_legal lab.roster w f) (is_legal_list lab.roster (after w f) (before ++ e ∷ later)) legal in
+    ap (λ (ls : List (List ℕ)). slice_get ls (length (f ∷ before))) (lines_next lab is w f (before ++ e ∷ later) on both.0 (omega (arith, few)))
+    ∙ line_at lab is (after w f) before e later (reached_next lab w f on both.0) both.1 (omega (arith, few, next_place w f))
+
+-- ---- a reply that names a place tells a grant
+
+pub names_grant : (w : World) (ruled : Ruling) (p : ℕ) → place_in (reply_of (after_ruling w ruled) ruled) ≡ Some p
+    → (e : Event) × (done : Done) × (ruled ≡ Granted e done) × (p ≡ w.place + 1)
+names_grant w (Denied d) p h = absurd cc
+names_grant w (Seen s) p h = absurd cc
+names_grant w (Looked l) p h = absurd cc
+names_grant w Reported p h = absurd cc
+names_grant w Full p h = absurd cc
+names_grant w Journal p h = absurd cc
+names_grant w (Granted e done) p h = (e, done, refl, place (sym (place_of_done (after w e).number (after w e).place done) ∙ h) ∙ next_place w e)
+  where
+    place : {n : ℕ} → Some n ≡ Some p → p ≡ n
+    place h = cc
+
+module _ (lab : LabValue) (is : IsLab lab) (l before : List Event) (e : Event) (later : List Event) (done : Done) (x : Who) (c : Command) (r : Reply)
+    (halted : Bool) (order : l ≡ before ++ e ∷ later) (legal : is_legal_in lab l ≡ true) (few : length l ≤ lab.events) where
+  pub told_at : ruling_while lab halted (world_in lab before) x c ≡ Granted e done
+      → r ≡ reply_of_done (after (world_in lab before) e).number (after (world_in lab before) e).place done
+      → IsToldAt lab l (length before + 1) x c r
+  told_at ruled reply =
+      let w = world_in lab before in
+      let place = lists.place_in lab before in
+      let facts = (ruled_granted lab.ids lab.roster lab.events halted w x c e done).0 ruled in
+      let opening = opening_of lab.network in
+      let at =
+      line_at lab is opening before e later (reached_first lab is) (subst (λ (k : List Event). is_legal_in lab k ≡ true) order legal)
+      (omega (arith, few, ap length order)) in
+      let next : (after w e).place ≡ length before + 1 = omega (arith, next_place w e, place) in
+      record {
+        before = before;
+        event = e;
+        later = later;
+        done = done;
+        order = order;
+        place = refl;
+        ruled = (ruled_granted lab.ids lab.roster lab.events false w x c e done).1 (facts.0, facts.1, refl, facts.3);
+        line =
+            ap (λ (k : List Event). slice_get (lines lab is opening k) (length before)) order ∙ at
+            ∙ ap (λ n. Some (event_line lab.ids lab.roster (n + 1) w.number e)) place;
+        reply =
+            reply ∙ ap (λ n. reply_of_done (after w e).number n done) next
+            ∙ ap (λ (v : World). reply_of_done v.number (length before + 1) done) (sym (lists.world-one_more lab before e));
+      }
+
+-- what a beginning of a list has is in the list
+pub longer : {A : Type 0} (before : List A) (e : A) (l : List A) → IsPrefix (before ++ e ∷ []) l → (later : List A) × (l ≡ before ++ e ∷ later)
+longer before e l p = (p.0, sym p.1 ∙ append_assoc before (e ∷ []) p.0)

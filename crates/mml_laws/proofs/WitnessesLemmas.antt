@@ -1,0 +1,92 @@
+-- From which end a witness is sought.
+use Rattle.std.proofs.Common.{◌≡◌, ◌≢◌, ◌<◌, ℕ, true, false, Option, Some, None, inl, refl, ap, ◌∙◌, subst, nat_lt, unwrap_or}
+use Rattle.std.proofs.lemmas.Bool.{and_parts, both_ways, not-true}
+use Rattle.mml_rules.specs.declared.rule.Kind.{Kind}
+use Rattle.mml_rules.specs.Configuration.{Configuration, IsLawful}
+use Rattle.mml_rules.specs.Rules.{enabled_kind, is_married}
+use Rattle.mml_stable.specs.Reports.{is_open, is_free}
+use Rattle.mml_stable.specs.Walk.{certificate, LeadsTo, privileged, null, onward, top, walk, unless_seduction}
+use Rattle.mml_stable.proofs.WalkLemmas.{top-ends}
+use Rattle.mml_laws.specs.Witnesses.{EndsIn, IsIdle}
+
+next_same : (o : Option ℕ) (i j : ℕ) → o ≡ Some i → o ≡ Some j → i ≡ j
+next_same o i j e f = cc
+
+not_null : (o : Option ℕ) (j : ℕ) → o ≡ None → o ≡ Some j → ⊥
+not_null o j e f = cc
+
+module _ (c : Configuration) where
+  -- the way leads to one node
+  leads_once : {i x : ℕ} → LeadsTo c i x → (y : ℕ) → LeadsTo c i y → x ≡ y
+  leads_once (privileged p) y (privileged q) = refl
+  leads_once (privileged p) y (null q e) = absurd (both_ways _ q p)
+  leads_once (privileged p) y (onward q e m) = absurd (both_ways _ q p)
+  leads_once (null p e) y (privileged q) = absurd (both_ways _ p q)
+  leads_once (null p e) y (null q f) = refl
+  leads_once (null p e) y (onward q f m) = absurd (not_null _ _ e f)
+  leads_once (onward p e l) y (privileged q) = absurd (both_ways _ p q)
+  leads_once (onward p e l) y (null q f) = absurd (not_null _ _ f e)
+  leads_once (onward p e l) y (onward q f m) = leads_once l y (subst (λ k. LeadsTo c k y) (next_same _ _ _ f e) m)
+
+  module _ (lawful : IsLawful c) (i x : ℕ) (there : i < c.size) (free : is_married c i ≡ false) (leads : LeadsTo c i x) where
+    top_there : top c i ≡ x
+    top_there = leads_once (top-ends c lawful i there (inl free)).leads x leads
+
+    walk_there : walk c i ≡ unless_seduction x (enabled_kind c x)
+    walk_there = ap (λ y. unless_seduction y (enabled_kind c y)) top_there
+
+    shown : (kind : Kind) → EndsIn c x kind → walk c i ≡ Some (x, kind)
+    shown kind ends = walk_there ∙ ap (unless_seduction x) ends.0 ∙ by kind ends.1
+      where
+        by : (k : Kind) → k ≢ Kind.Seduction → unless_seduction x (Some k) ≡ Some (x, k)
+        by Kind.Update apart = refl
+        by Kind.Marriage apart = refl
+        by Kind.Seduction apart = absurd (apart refl)
+        by Kind.Abandonment apart = refl
+
+    idle : IsIdle c x → walk c i ≡ None
+    idle none = walk_there ∙ by (enabled_kind c x) none
+      where
+        by : (o : Option Kind) → ((kind : Kind) → o ≡ Some kind → kind ≡ Kind.Seduction) → unless_seduction x o ≡ None
+        by None each = refl
+        by (Some k) each = ap (λ j. unless_seduction x (Some j)) (each k refl)
+
+  module _ (a b : ℕ) (lawful : IsLawful c) (open_ : is_open c a b ≡ true) where
+    parts : (c.linked a b ≡ true) × (is_married c a ≡ false) × (is_married c b ≡ false)
+    parts =
+        let one = and_parts (c.linked a b) _ open_ in
+        let two = and_parts (nat_lt a b) _ one.1 in
+        let three = and_parts (is_free c a) (is_free c b) two.1 in
+        (one.0, not-true _ three.0, not-true _ three.1)
+
+    from_lower : (x : ℕ) (kind : Kind) → LeadsTo c a x → EndsIn c x kind → certificate c a b ≡ (x, kind)
+    unfolding certificate
+    from_lower x kind leads ends =
+        let here = lawful.in_range a b parts.0 in
+        ap (λ o. unwrap_or o (unwrap_or (walk c b) (a, Kind.Seduction))) (shown lawful a x here.0 parts.1 leads kind ends)
+
+    from_higher : (x y : ℕ) (kind : Kind) → LeadsTo c a x → IsIdle c x → LeadsTo c b y → EndsIn c y kind → certificate c a b ≡ (y, kind)
+    unfolding certificate
+    from_higher x y kind leads none leads_b ends =
+        let here = lawful.in_range a b parts.0 in
+        ap (λ o. unwrap_or o (unwrap_or (walk c b) (a, Kind.Seduction))) (idle lawful a x here.0 parts.1 leads none)
+        ∙ ap (λ o. unwrap_or o (a, Kind.Seduction)) (shown lawful b y here.1 parts.2 leads_b kind ends)
+
+    from_neither : (x y : ℕ) → LeadsTo c a x → IsIdle c x → LeadsTo c b y → IsIdle c y → certificate c a b ≡ (a, Kind.Seduction)
+    unfolding certificate
+    from_neither x y leads none leads_b none_b =
+        let here = lawful.in_range a b parts.0 in
+        ap (λ o. unwrap_or o (unwrap_or (walk c b) (a, Kind.Seduction))) (idle lawful a x here.0 parts.1 leads none)
+        ∙ ap (λ o. unwrap_or o (a, Kind.Seduction)) (idle lawful b y here.1 parts.2 leads_b none_b)
+
+pub sought_lower : (c : Configuration) (a b x : ℕ) (kind : Kind) → IsLawful c → is_open c a b ≡ true → LeadsTo c a x → EndsIn c x kind
+    → certificate c a b ≡ (x, kind)
+sought_lower c a b x kind lawful is_it leads ends = from_lower c a b lawful is_it x kind leads ends
+
+pub sought_higher : (c : Configuration) (a b x y : ℕ) (kind : Kind) → IsLawful c → is_open c a b ≡ true → LeadsTo c a x → IsIdle c x → LeadsTo c b y
+    → EndsIn c y kind → certificate c a b ≡ (y, kind)
+sought_higher c a b x y kind lawful is_it leads none leads_b ends = from_higher c a b lawful is_it x y kind leads none leads_b ends
+
+pub sought_neither : (c : Configuration) (a b x y : ℕ) → IsLawful c → is_open c a b ≡ true → LeadsTo c a x → IsIdle c x → LeadsTo c b y → IsIdle c y
+    → certificate c a b ≡ (a, Kind.Seduction)
+sought_neither c a b x y lawful is_it leads none leads_b none_b = from_neither c a b lawful is_it x y leads none leads_b none_b

@@ -1,0 +1,14 @@
+-- When a house is over.
+use Rattle.std.specs.Prelude.{◌≡◌, ℕ, Bool, None}
+use Rattle.mml_lab.specs.declared.who.Who.TheVariants as who
+use Rattle.mml_lab.specs.Labs.{LabValue}
+use Rattle.mml_board.specs.World.{World}
+use Rattle.mml_policy.specs.declared.command.Asked.{Asked}
+use Rattle.mml_policy.specs.declared.command.Command.TheVariants as command
+use Rattle.mml_policy.specs.Rulings.{event_of}
+use Rattle.mml_window.specs.Lists.{ruling_while}
+
+-- no move that a student asks for is granted in the world, and no close that the teacher asks for
+pub record GrantsNoStep (lab : LabValue) (is_halted : Bool) (w : World) : Type 0 where
+  pub no_move : (s id : ℕ) (asked : Asked) (at : ℕ) → event_of (ruling_while lab is_halted w (who.Student s) (command.Move id asked at)) ≡ None
+  pub no_close : event_of (ruling_while lab is_halted w who.Teacher command.Close) ≡ None

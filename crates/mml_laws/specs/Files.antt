@@ -1,0 +1,55 @@
+-- The errors of a lab file in their order.
+use Rattle.std.specs.Prelude.{◌≡◌, ℕ, ◌<◌, not, nat_lt, List, [], ◌∷◌, length, position, Option, Some, None, option_map}
+use Rattle.std.specs.List.{slice_get}
+use Rattle.mml_ids.specs.Gives.{fault_if}
+use Rattle.mml_ids.specs.Search.{first_below}
+use Rattle.mml_lab.specs.declared.TheConstants.{MAX_EVENTS, MAX_SESSIONS, MAX_STUDENTS}
+use Rattle.mml_lab.specs.declared.lab_fault.LabFault.{LabFault}
+use Rattle.mml_lab.specs.declared.lab_fault.LabFault.TheVariants as fault
+use Rattle.mml_lab.specs.declared.lab_fault.Key.TheVariants as key
+use Rattle.mml_lab.specs.Shape.{RawSpec}
+use Rattle.mml_lab.specs.Rosters.{name_twice}
+use Rattle.mml_lab.specs.Labs.{both_fault, ids_fault, forms_fault, no_owner_fault, owner_twice_fault, pointers_fault, lacks_end, is_loop}
+use Rattle.mml_lab.specs.Labs.{is_link_again, is_within}
+
+-- the place of an error of a file that has all keys, each of its kind, in the order in which they are told: both keys for owners,
+-- identifiers, names and keys, names that stand twice, owners that are no students, owners that are one twice, ends that are no nodes,
+-- loops, links that stand twice, pointers, and the numbers of events, sessions and students
+abbrev pub order_of : LabFault → ℕ
+order_of (fault.BothOwners i) = 0
+order_of (fault.Id f) = 1
+order_of (fault.Name i) = 2
+order_of (fault.NameTwice i) = 3
+order_of (fault.NoOwner i) = 4
+order_of (fault.OwnerTwice i) = 5
+order_of (fault.LinkEnd i) = 6
+order_of (fault.Loop i) = 7
+order_of (fault.LinkTwice i) = 8
+order_of (fault.BadPointer i) = 9
+order_of (fault.Limit key.Events) = 10
+order_of (fault.Limit key.Sessions) = 11
+order_of (fault.Limit key.Student) = 12
+order_of _ = 13
+
+-- for each of these what the file has of it, if anything: the first, where it has more
+abbrev pub errors_of : RawSpec → List (Option LabFault)
+errors_of raw =
+    both_fault raw.nodes
+    ∷ ids_fault raw.nodes
+    ∷ forms_fault (raw.teacher ∷ raw.students)
+    ∷ name_twice (raw.teacher ∷ raw.students)
+    ∷ no_owner_fault raw.students raw.nodes
+    ∷ owner_twice_fault raw.nodes
+    ∷ option_map fault.LinkEnd (position (lacks_end raw.nodes) raw.links)
+    ∷ option_map fault.Loop (position is_loop raw.links)
+    ∷ option_map fault.LinkTwice (first_below (is_link_again raw.links) (length raw.links))
+    ∷ pointers_fault raw.links raw.nodes
+    ∷ fault_if (not (is_within MAX_EVENTS raw.events)) (fault.Limit key.Events)
+    ∷ fault_if (not (is_within MAX_SESSIONS raw.sessions)) (fault.Limit key.Sessions)
+    ∷ fault_if (nat_lt MAX_STUDENTS (length raw.students)) (fault.Limit key.Student)
+    ∷ []
+
+-- the file has this error, and none that comes before it in the order
+pub record IsFirstError (raw : RawSpec) (f : LabFault) : Type 0 where
+  pub here : slice_get (errors_of raw) (order_of f) ≡ Some (Some f)
+  pub before : (k : ℕ) → k < order_of f → slice_get (errors_of raw) k ≡ Some None

@@ -1,0 +1,10 @@
+pub mod Ruled
+pub mod Looks
+pub mod Greeted
+pub mod Choices
+pub mod Ends
+pub mod Told
+pub mod Words
+pub mod Files
+pub mod Witnesses
+pub mod Rest

@@ -1,0 +1,62 @@
+-- The event that a reply names.
+use Rattle.std.specs.Prelude.{◌≡◌, ℕ, ◌+◌, List, [], ◌∷◌, ◌++◌, length, Some, Ok}
+use Rattle.std.specs.List.{slice_get}
+use Rattle.mml_lines.specs.LinesOf.{lines_of}
+use Rattle.mml_lab.specs.declared.who.Who.{Who}
+use Rattle.mml_lab.specs.Labs.{LabValue}
+use Rattle.mml_board.specs.declared.done.Done.{Done}
+use Rattle.mml_board.specs.declared.event.Event.{Event}
+use Rattle.mml_policy.specs.declared.command.Command.{Command}
+use Rattle.mml_policy.specs.declared.ruling.Ruling.TheVariants.{Granted}
+use Rattle.mml_journal.specs.EventLines.{event_line}
+use Rattle.mml_codec.specs.declared.reply.Reply.{Reply}
+use Rattle.mml_codec.specs.declared.request.Request.TheVariants.{Do}
+use Rattle.mml_codec.specs.Lines.{request_in}
+use Rattle.mml_codec.specs.Replies.{place_in}
+use Rattle.mml_codec.specs.Rulings.{reply_of_done}
+use Rattle.mml_hall.specs.Turns.{State, RequestLine, Run, known_on}
+use Rattle.mml_session.specs.Turns as session
+use Rattle.mml_window.specs.Lists.{world_in, ruling_at, text_in}
+
+-- event p of the list is the one that x is granted for the command after the events before it, line p of the list's journal is its
+-- line, and the reply tells what it did, with its place and the number of the configuration after it
+pub record IsToldAt (lab : LabValue) (l : List Event) (p : ℕ) (x : Who) (command : Command) (r : Reply) : Type 0 where
+  pub before : List Event
+  pub event : Event
+  pub later : List Event
+  pub done : Done
+  pub order : l ≡ before ++ event ∷ later
+  pub place : p ≡ length before + 1
+  pub ruled : ruling_at lab (world_in lab before) x command ≡ Granted event done
+  pub line : slice_get (lines_of (text_in lab l)) (length before) ≡ Some (event_line lab.ids lab.roster p (world_in lab before).number event)
+  pub reply : r ≡ reply_of_done (world_in lab (before ++ event ∷ [])).number p done
+
+-- where the reply on a connection of a hall names a place of the list, the event there is the one that the line asked for
+abbrev pub NamesItsEvent : LabValue → List Event → State → RequestLine → Reply → Type 0
+NamesItsEvent lab l st line r =
+    (p : ℕ) → place_in r ≡ Some p
+    → (x : Who) × (command : Command) × (known_on st line.connection ≡ Some x) × (request_in line.request ≡ Ok (Do command)) × IsToldAt lab l p x command r
+
+-- so it is at each turn of a run
+abbrev pub EachNamesItsEvent : (lab : LabValue) (l : List Event) (st : State) (lines : List RequestLine) (rs : List Reply) (end : State)
+    → Run lab st lines rs end → Type 0
+EachNamesItsEvent lab l st [] [] end run = Unit {0}
+EachNamesItsEvent lab l st [] (r ∷ rs) end run = Unit {0}
+EachNamesItsEvent lab l st (line ∷ lines) [] end run = Unit {0}
+EachNamesItsEvent lab l st (line ∷ lines) (r ∷ rs) end run =
+    NamesItsEvent lab l st line r × EachNamesItsEvent lab l run.0 lines rs end run.2
+
+-- where the reply in a session names a place of the list, the event there is the one that the line asked for
+abbrev pub NamesItsEventIn : LabValue → List Event → session.Standing → List ℕ → Reply → Type 0
+NamesItsEventIn lab l st line r =
+    (p : ℕ) → place_in r ≡ Some p
+    → (x : Who) × (command : Command) × (st.known ≡ Some x) × (request_in line ≡ Ok (Do command)) × IsToldAt lab l p x command r
+
+-- so it is at each turn of a session
+abbrev pub EachNamesItsEventIn : (lab : LabValue) (l : List Event) (st : session.Standing) (lines : List (List ℕ)) (rs : List Reply)
+    (end : session.Standing) → session.Run lab st lines rs end → Type 0
+EachNamesItsEventIn lab l st [] [] end run = Unit {0}
+EachNamesItsEventIn lab l st [] (r ∷ rs) end run = Unit {0}
+EachNamesItsEventIn lab l st (line ∷ lines) [] end run = Unit {0}
+EachNamesItsEventIn lab l st (line ∷ lines) (r ∷ rs) end run =
+    NamesItsEventIn lab l st line r × EachNamesItsEventIn lab l run.0 lines rs end run.2

@@ -1,0 +1,13 @@
+-- What a way along the pointers shows at its end.
+use Rattle.std.specs.Prelude.{◌≡◌, ◌≢◌, ℕ, Some}
+use Rattle.mml_rules.specs.declared.rule.Kind.{Kind}
+use Rattle.mml_rules.specs.Configuration.{Configuration}
+use Rattle.mml_rules.specs.Rules.{enabled_kind}
+
+-- a rule of this kind is enabled there, and it is no seduction
+abbrev pub EndsIn : Configuration → ℕ → Kind → Type 0
+EndsIn c x kind = (enabled_kind c x ≡ Some kind) × (kind ≢ Kind.Seduction)
+
+-- none is, or a seduction
+abbrev pub IsIdle : Configuration → ℕ → Type 0
+IsIdle c x = (kind : Kind) → enabled_kind c x ≡ Some kind → kind ≡ Kind.Seduction

@@ -1,0 +1,112 @@
+-- The words of the protocol, as its reader has them.
+use Rattle.std.specs.Prelude.{◌≡◌, ℕ, Bool, true, false, List, [], ◌∷◌, codes, Option, None, Some, slice_index}
+use Rattle.mml_rules.specs.declared.rule.Kind.{Kind}
+use Rattle.mml_rules.specs.declared.rule.Kind.TheVariants as kind
+use Rattle.mml_lab.specs.Rosters.{RosterValue, name_of}
+use Rattle.mml_policy.specs.declared.denial.Denial.{Denial}
+use Rattle.mml_policy.specs.declared.denial.Denial.TheVariants as denial
+use Rattle.mml_policy.specs.Denials.{clause_of, denial_name, text_of}
+use Rattle.mml_codec.specs.declared.reply.Refused.{Refused}
+use Rattle.mml_codec.specs.declared.reply.Refused.TheVariants as refused
+use Rattle.mml_codec.specs.declared.reply.Reply.{Reply}
+use Rattle.mml_codec.specs.declared.reply.Reply.TheVariants as reply
+use Rattle.mml_codec.specs.Facts as fact
+use Rattle.mml_codec.specs.Facts.{Fact}
+use Rattle.mml_codec.specs.Fields.{Field, number, word, text, truth, null}
+
+-- the denial has this clause, name and text
+pub record IsDenial (d : Denial) (clause : ℕ) (name said : List ℕ) : Type 0 where
+  pub clause_is : clause_of d ≡ clause
+  pub name_is : denial_name d ≡ name
+  pub text_is : text_of d ≡ said
+
+-- what a request asks, by its word
+abbrev pub does : List ℕ → List ℕ × Field
+does w = (codes "do", word w)
+
+-- ---- a reply by its keys, as its reader has them
+
+abbrev pub kind_word : Kind → List ℕ
+kind_word kind.Update = codes "update"
+kind_word kind.Marriage = codes "marriage"
+kind_word kind.Seduction = codes "seduction"
+kind_word kind.Abandonment = codes "abandonment"
+
+-- the identifier of a node
+abbrev pub node_field : List ℕ → ℕ → Field
+node_field ids i = number (slice_index ids i)
+
+-- null, or the identifier of a node
+abbrev pub register_field : List ℕ → Option ℕ → Field
+register_field ids None = null
+register_field ids (Some i) = node_field ids i
+
+-- null, or the word of a rule
+abbrev pub rule_field : Option Kind → Field
+rule_field None = null
+rule_field (Some k) = word (kind_word k)
+
+-- what each granted event is told with
+abbrev pub granted_fields : List ℕ → ℕ → ℕ → List (List ℕ × Field)
+granted_fields told at place = (codes "ok", word told) ∷ (codes "at", number at) ∷ (codes "place", number place) ∷ []
+
+-- the registers of a node
+abbrev pub register_fields : List ℕ → ℕ → Option ℕ → Bool → List (List ℕ × Field)
+register_fields ids i p m = (codes "node", node_field ids i) ∷ (codes "p", register_field ids p) ∷ (codes "m", truth m) ∷ []
+
+abbrev pub refused_word : Refused → List ℕ
+refused_word refused.Malformed = codes "malformed"
+refused_word refused.Full = codes "full"
+refused_word refused.Journal = codes "journal"
+refused_word refused.Memory = codes "memory"
+
+-- the current number, which one who is late is told
+abbrev pub late_fields : Denial → List (List ℕ × Field)
+late_fields (denial.Stale at) = (codes "at", number at) ∷ []
+late_fields _ = []
+
+abbrev pub denied_fields : Denial → List (List ℕ × Field)
+denied_fields d = (codes "deny", word (denial_name d)) ∷ (codes "clause", number (clause_of d)) ∷ (codes "text", word (text_of d)) ∷ late_fields d
+
+-- what a reader finds in a reply, by which key: each number, word, truth value and register
+abbrev pub read_fields : List ℕ → RosterValue → Reply → List (List ℕ × Field)
+read_fields ids roster (reply.Hello who) = (codes "ok", word (codes "hello")) ∷ (codes "who", text (name_of roster who)) ∷ []
+read_fields ids roster reply.Bye = (codes "ok", word (codes "bye")) ∷ []
+read_fields ids roster (reply.See s) = (codes "ok", word (codes "see")) ∷ (codes "at", number s.at) ∷ register_fields ids s.node s.regs.p s.regs.m
+read_fields ids roster (reply.Look l) =
+    (codes "ok", word (codes "look")) ∷ (codes "at", number l.at) ∷ (codes "chosen", rule_field l.chosen) ∷ (codes "rule", rule_field l.enabled)
+    ∷ register_fields ids l.node l.regs.p l.regs.m
+read_fields ids roster (reply.Move at place i k) =
+    (codes "node", node_field ids i) ∷ (codes "rule", word (kind_word k)) ∷ granted_fields (codes "move") at place
+read_fields ids roster (reply.Close at place moved) = granted_fields (codes "close") at place
+read_fields ids roster (reply.Fault at place i dropped) =
+    (codes "node", node_field ids i) ∷ (codes "dropped", number dropped) ∷ granted_fields (codes "fault") at place
+read_fields ids roster (reply.Link at place a b dropped) =
+    (codes "a", node_field ids a) ∷ (codes "b", node_field ids b) ∷ (codes "dropped", number dropped) ∷ granted_fields (codes "link") at place
+read_fields ids roster (reply.Cut at place a b dropped) =
+    (codes "a", node_field ids a) ∷ (codes "b", node_field ids b) ∷ (codes "dropped", number dropped) ∷ granted_fields (codes "cut") at place
+read_fields ids roster (reply.Release at place i) = (codes "node", node_field ids i) ∷ granted_fields (codes "release") at place
+read_fields ids roster (reply.Report r) = (codes "ok", word (codes "report")) ∷ (codes "at", number r.at) ∷ (codes "stable", truth r.stable) ∷ []
+read_fields ids roster (reply.Deny d) = denied_fields d
+read_fields ids roster (reply.Refuse r) = (codes "refuse", word (refused_word r)) ∷ []
+
+-- ---- which replies tell registers
+
+-- the fact tells a register, or what is computed of registers
+abbrev pub tells_registers : Fact → Bool
+tells_registers (fact.truth b) = true
+tells_registers (fact.pointer p) = true
+tells_registers (fact.rule_or_null k) = true
+tells_registers (fact.nodes is) = true
+tells_registers (fact.near ns) = true
+tells_registers (fact.pairs ps) = true
+tells_registers (fact.privileged ns) = true
+tells_registers (fact.open_links ls) = true
+tells_registers _ = false
+
+-- it shows a node or tells a report
+abbrev pub is_view : Reply → Bool
+is_view (reply.See s) = true
+is_view (reply.Look l) = true
+is_view (reply.Report r) = true
+is_view _ = false

@@ -1,0 +1,13 @@
+//! Laws of the chain, by their subjects. Each is the clause of a function that does nothing.
+
+pub mod choices;
+pub mod ends;
+pub mod files;
+pub mod greetings;
+pub mod journals;
+pub mod looks;
+pub mod places;
+pub mod rest;
+pub mod rulings;
+pub mod witnesses;
+pub mod words;

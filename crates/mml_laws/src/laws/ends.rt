@@ -1,0 +1,42 @@
+//! How runs end. Each law is the clause of a function that does nothing.
+ghost use Rattle.std.specs.Prelude.{◌≡◌, ◌+◌, ◌*◌, ◌<◌, ◌≤◌, ℕ, true, false, List, ◌++◌, length, Option, Ok};
+ghost use Rattle.std.specs.List.{list_all};
+ghost use Rattle.mml_rules.specs.Matching.{IsStable};
+ghost use Rattle.mml_lab.specs.Labs.{LabValue, IsLab, lab_of, link_count};
+ghost use Rattle.mml_board.specs.declared.event.Event.{Event};
+ghost use Rattle.mml_board.specs.World.{configuration};
+ghost use Rattle.mml_audit.specs.AuditMeaning.{IsJournalOf, world_after};
+ghost use Rattle.mml_stable.specs.Listed.{IsMaximalMatching};
+ghost use Rattle.mml_stable.specs.Moves.{applied_over, count_closes};
+ghost use Rattle.mml_stable.specs.Reports.{report_of};
+ghost use Rattle.mml_stable.specs.Runs.{is_of_step};
+ghost use Rattle.mml_window.specs.declared.log.Log.{Log};
+ghost use Rattle.mml_window.specs.Logs.{IsLogFrom};
+ghost use Rattle.mml_window.specs.Windows.{WindowValue};
+ghost use Rattle.mml_laws.specs.Ends.{GrantsNoStep};
+
+/// A house that is neither full nor halted, and in which no move of a student and no close would be granted
+/// any longer, has ended where no node is privileged, and the pairs that its report lists are a
+/// maximal matching.
+pub fn a_house_that_is_over_is_stable<S>()
+    ensures { (bytes : List ℕ) (lab : LabValue) (first : ℕ)
+        (contents : S → Option (List ℕ)) (windows : List WindowValue) (log : Log S) →
+        lab_of bytes ≡ Ok lab → IsLogFrom first lab contents windows log →
+        length log.events < lab.events → log.halted ≡ false →
+        GrantsNoStep lab log.halted log.board →
+        IsStable (configuration log.board)
+        × IsMaximalMatching (configuration log.board) (report_of log.board).pairs }
+{}
+
+/// Behind any place of a journal after which no fault, link or cut comes, as that of the last of these, at
+/// most two moves for each link of that time and three for each node are applied, by at most so many
+/// closes.
+pub fn few_moves_follow_the_last_fault()
+    ensures moves { (lab : LabValue) (es fs : List Event) (bytes : List ℕ) → IsLab lab →
+        IsJournalOf lab (es ++ fs) bytes → list_all is_of_step fs ≡ true →
+        applied_over (world_after lab es) fs
+        ≤ 2 * link_count (world_after lab es).network + 3 * length lab.ids }
+    ensures closes { (lab : LabValue) (es fs : List Event) (bytes : List ℕ) → IsLab lab →
+        IsJournalOf lab (es ++ fs) bytes → list_all is_of_step fs ≡ true →
+        count_closes fs ≤ 2 * link_count (world_after lab es).network + 3 * length lab.ids }
+{}

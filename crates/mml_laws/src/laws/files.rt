@@ -1,0 +1,12 @@
+//! The errors of lab files. Each law is the clause of a function that does nothing.
+ghost use Rattle.std.specs.Prelude.{◌≡◌, Some};
+ghost use Rattle.mml_lab.specs.declared.lab_fault.LabFault.{LabFault};
+ghost use Rattle.mml_lab.specs.Labs.{lab_fault};
+ghost use Rattle.mml_lab.specs.Shape.{RawSpec};
+ghost use Rattle.mml_laws.specs.Files.{IsFirstError};
+
+/// The error that is told of a lab file is one that it has, and it has none that comes before it in the order
+/// of the errors: each is looked for in the whole file before the next.
+pub fn errors_are_told_in_order()
+    ensures { (raw : RawSpec) (f : LabFault) → lab_fault raw ≡ Some f → IsFirstError raw f }
+{}

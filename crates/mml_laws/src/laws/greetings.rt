@@ -1,0 +1,68 @@
+//! Who a connection is known as. Each law is the clause of a function that does nothing.
+ghost use Rattle.std.specs.Prelude.{◌≡◌, ◌⊎◌, ℕ, List, Some, None, Ok};
+ghost use Rattle.mml_lab.specs.declared.who.Who.{Who};
+ghost use Rattle.mml_lab.specs.Labs.{LabValue};
+ghost use Rattle.mml_lab.specs.Rosters.{RosterValue, IsRoster};
+ghost use Rattle.mml_lab.specs.RosterMeaning.{IsKnownAs};
+ghost use Rattle.mml_policy.specs.declared.command.Command.{Command};
+ghost use Rattle.mml_policy.specs.declared.denial.Denial.TheVariants as denial;
+ghost use Rattle.mml_policy.specs.Rulings.{ruling};
+ghost use Rattle.mml_codec.specs.declared.greeting.Greeting.TheVariants.{Answered, LeftToJudge};
+ghost use Rattle.mml_codec.specs.declared.request.Request.TheVariants as requests;
+ghost use Rattle.mml_codec.specs.declared.reply.Reply.{Reply};
+ghost use Rattle.mml_codec.specs.declared.reply.Reply.TheVariants as reply;
+ghost use Rattle.mml_codec.specs.Greetings.{greeting};
+ghost use Rattle.mml_codec.specs.Lines.{request_in};
+ghost use Rattle.mml_hall.specs.Turns as hall;
+ghost use Rattle.mml_session.specs.Turns as session;
+ghost use Rattle.mml_laws.specs.Greeted.{IsTold, IsDenied};
+
+/// On a connection that is known, a hello is denied as `greeted`, whatever its name and key, and the
+/// connection stays known as it was; its commands are judged as those of the one who is known. On a
+/// connection that isn't, a command is denied as `not-greeted`, and the name and key of nobody as `unknown`.
+pub fn a_connection_is_known_as_one()
+    ensures again { (r : RosterValue) (x : Who) (name key : List ℕ) →
+        greeting r (Some x) (requests.Hello name key)
+        ≡ Answered (reply.Deny denial.Greeted) (Some x) }
+    ensures judged { (r : RosterValue) (x : Who) (c : Command) →
+        greeting r (Some x) (requests.Do c) ≡ LeftToJudge x c }
+    ensures unknown { (r : RosterValue) (c : Command) →
+        greeting r None (requests.Do c) ≡ Answered (reply.Deny denial.NotGreeted) None }
+    ensures nobody { (r : RosterValue) (name key : List ℕ) → IsRoster r →
+        ((w : Who) → ¬ IsKnownAs r w name key) →
+        greeting r None (requests.Hello name key) ≡ Answered (reply.Deny denial.Unknown) None }
+{}
+
+/// So it is on each connection of a hall: whatever befell the turn, a denied hello or command changes
+/// nothing, and where nothing did, a known connection's command is ruled on as that of the one who is
+/// known.
+pub fn a_hall_knows_its_connections_so()
+    ensures again { (lab : LabValue) (st : hall.State) (k : ℕ) (line : List ℕ) (out : hall.Outcome)
+        (x : Who) (name key : List ℕ) → hall.known_on st k ≡ Some x →
+        request_in line ≡ Ok (requests.Hello name key) → hall.Turn lab st k line out →
+        IsTold st (reply.Deny denial.Greeted) out }
+    ensures judged { (lab : LabValue) (st : hall.State) (k : ℕ) (line : List ℕ) (x : Who)
+        (c : Command) → hall.known_on st k ≡ Some x → request_in line ≡ Ok (requests.Do c) →
+        hall.plain_turn lab st k line
+        ≡ hall.told st (ruling lab.ids lab.roster lab.events st.halted st.world x c) }
+    ensures unknown { (lab : LabValue) (st : hall.State) (k : ℕ) (line : List ℕ)
+        (out : hall.Outcome) (c : Command) → hall.known_on st k ≡ None →
+        request_in line ≡ Ok (requests.Do c) → hall.Turn lab st k line out →
+        IsTold st (reply.Deny denial.NotGreeted) out }
+{}
+
+/// So it is in a session.
+pub fn a_session_knows_its_connection_so()
+    ensures again { (lab : LabValue) (st next : session.Standing) (line : List ℕ) (r : Reply)
+        (x : Who) (name key : List ℕ) → st.known ≡ Some x →
+        request_in line ≡ Ok (requests.Hello name key) → session.Turn lab st line r next →
+        IsDenied denial.Greeted st r next }
+    ensures judged { (lab : LabValue) (st next : session.Standing) (line : List ℕ) (r : Reply)
+        (x : Who) (c : Command) → st.known ≡ Some x → request_in line ≡ Ok (requests.Do c) →
+        session.Turn lab st line r next →
+        ((next.known ≡ Some x) × session.Told lab st.window x c r next.window)
+        ⊎ session.Unread st r next }
+    ensures unknown { (lab : LabValue) (st next : session.Standing) (line : List ℕ) (r : Reply)
+        (c : Command) → st.known ≡ None → request_in line ≡ Ok (requests.Do c) →
+        session.Turn lab st line r next → IsDenied denial.NotGreeted st r next }
+{}

@@ -1,0 +1,46 @@
+//! What is shown. Each law is the clause of a function that does nothing.
+ghost use Rattle.std.specs.Prelude.{◌≡◌, ◌↔◌, ◌⊎◌, ℕ, Bool, true, Some, List};
+ghost use Rattle.mml_ids.specs.Ids.{rank_in};
+ghost use Rattle.mml_rules.specs.Configuration.{IsLawful};
+ghost use Rattle.mml_rules.specs.Network.{registers_at};
+ghost use Rattle.mml_lab.specs.declared.who.Who.{Who};
+ghost use Rattle.mml_lab.specs.declared.who.Who.TheVariants as who;
+ghost use Rattle.mml_lab.specs.Rosters.{RosterValue, owns};
+ghost use Rattle.mml_board.specs.World.{World, configuration};
+ghost use Rattle.mml_policy.specs.declared.command.Command.TheVariants as command;
+ghost use Rattle.mml_policy.specs.declared.look.Look.{Look};
+ghost use Rattle.mml_policy.specs.declared.see.See.{See};
+ghost use Rattle.mml_policy.specs.declared.ruling.Ruling.TheVariants.{Seen, Looked};
+ghost use Rattle.mml_policy.specs.Rulings.{ruling};
+ghost use Rattle.mml_policy.specs.Shown.{look_of};
+ghost use Rattle.mml_stable.specs.Reports.{report_of};
+ghost use Rattle.mml_laws.specs.Looks.{IsWholeLook};
+
+/// A look is answered exactly where there is such a node and one of its owners or the teacher asks, and the
+/// answer is whole: the node's registers, the number of the configuration, the kind of the move that
+/// is chosen and of the rule that may be applied, where there is one, and exactly the linked nodes with
+/// their registers, in rising order.
+pub fn a_look_is_whole()
+    ensures answered { (ids : List ℕ) (r : RosterValue) (limit : ℕ) (is_halted : Bool) (w : World)
+        (x : Who) (id : ℕ) (l : Look) →
+        (ruling ids r limit is_halted w x (command.Look id) ≡ Looked l) ↔
+        ((i : ℕ) × (rank_in ids id ≡ Some i) × ((x ≡ who.Teacher) ⊎ (owns r x i ≡ true))
+        × (l ≡ look_of w i)) }
+    ensures whole { (w : World) (i : ℕ) → IsLawful (configuration w) →
+        IsWholeLook w i (look_of w i) }
+{}
+
+/// What is shown is of the world at hand: a see names the node that was asked for and its registers, and a
+/// see, a look and a report name the number of the configuration.
+pub fn what_is_shown_is_of_the_present()
+    ensures see { (ids : List ℕ) (r : RosterValue) (limit : ℕ) (is_halted : Bool) (w : World)
+        (x : Who) (id : ℕ) (s : See) → IsLawful (configuration w) →
+        ruling ids r limit is_halted w x (command.See id) ≡ Seen s →
+        (s.at ≡ w.number) × (rank_in ids id ≡ Some s.node)
+        × (s.regs ≡ registers_at w.network.registers s.node) }
+    ensures look { (ids : List ℕ) (r : RosterValue) (limit : ℕ) (is_halted : Bool) (w : World)
+        (x : Who) (id : ℕ) (l : Look) →
+        ruling ids r limit is_halted w x (command.Look id) ≡ Looked l →
+        (l.at ≡ w.number) × (rank_in ids id ≡ Some l.node) }
+    ensures report { (w : World) → (report_of w).at ≡ w.number }
+{}

@@ -1,0 +1,44 @@
+//! The places that replies name. Each law is the clause of a function that does nothing.
+ghost use Rattle.std.specs.Prelude.{◌≡◌, ◌+◌, ◌≤◌, ℕ, true, List, length, flat_map};
+ghost use Rattle.std.specs.List.{range_with_len};
+ghost use mathlib.Core.List.{IsPrefix};
+ghost use Rattle.mml_lab.specs.Labs.{LabValue, IsLab};
+ghost use Rattle.mml_board.specs.declared.event.Event.{Event};
+ghost use Rattle.mml_codec.specs.declared.reply.Reply.{Reply};
+ghost use Rattle.mml_hall.specs.Halls.{IsHall};
+ghost use Rattle.mml_hall.specs.Turns as hall;
+ghost use Rattle.mml_session.specs.Talks.{Talk, LineTurn};
+ghost use Rattle.mml_session.specs.Turns as session;
+ghost use Rattle.mml_session.specs.Turns.{places_in};
+ghost use Rattle.mml_window.specs.Lists.{is_legal_in};
+ghost use Rattle.mml_laws.specs.Told.{EachNamesItsEvent, NamesItsEventIn, EachNamesItsEventIn};
+
+/// In a run of a hall a reply that names place p answers one who was known on its connection, and event p of
+/// the events at the end is the one that this one's command is granted after the first p - 1; line p
+/// of their journal is its line. And each event behind those with which the run began has exactly
+/// one reply that names it, in order.
+pub fn replies_of_a_hall_name_their_events()
+    ensures told { (lab : LabValue) (st end : hall.State) (lines : List hall.RequestLine)
+        (rs : List Reply) (run : hall.Run lab st lines rs end) → IsHall lab st →
+        EachNamesItsEvent lab end.events st lines rs end run }
+    ensures once { (lab : LabValue) (st end : hall.State) (lines : List hall.RequestLine)
+        (rs : List Reply) (more : ℕ) → IsHall lab st → hall.Run lab st lines rs end →
+        length end.events ≡ length st.events + more →
+        flat_map places_in rs ≡ range_with_len (length st.events + 1) more }
+    ensures kept { (lab : LabValue) (st end : hall.State) (lines : List hall.RequestLine)
+        (rs : List Reply) → IsHall lab st → hall.Run lab st lines rs end →
+        IsPrefix st.events end.events }
+{}
+
+/// So it is in a session, and at its last line, beside any legal list of the lab's events that begins with
+/// what its window has seen at the end: the events of a house, which all of its windows have seen a
+/// beginning of.
+pub fn replies_of_a_session_name_their_events()
+    ensures talk { (lab : LabValue) (st : session.Standing) (t : Talk lab st) (l : List Event) →
+        IsLab lab → is_legal_in lab l ≡ true → length l ≤ lab.events →
+        IsPrefix t.end.window.seen l →
+        EachNamesItsEventIn lab l st t.lines t.replies t.end t.run }
+    ensures turn { (lab : LabValue) (st after : session.Standing) (t : LineTurn lab st after)
+        (l : List Event) → IsLab lab → is_legal_in lab l ≡ true → length l ≤ lab.events →
+        IsPrefix after.window.seen l → NamesItsEventIn lab l st t.line t.reply }
+{}

@@ -1,0 +1,34 @@
+//! When a run comes to rest. Each law is the clause of a function that does nothing.
+ghost use Rattle.std.specs.Prelude.{◌≡◌, ℕ, ◌+◌, ◌<◌, ◌≤◌, true, List, length, Ok};
+ghost use Rattle.std.specs.List.{list_all};
+ghost use Rattle.mml_rules.specs.Matching.{IsStable};
+ghost use Rattle.mml_lab.specs.Labs.{LabValue, lab_of, link_count};
+ghost use Rattle.mml_lab.specs.Rosters.{RosterValue};
+ghost use Rattle.mml_board.specs.declared.event.Event.{Event};
+ghost use Rattle.mml_board.specs.World.{World, IsWorld, size, configuration, opening_of};
+ghost use Rattle.mml_board.specs.Events.{chosen_count};
+ghost use Rattle.mml_board.specs.Runs.{is_legal_list, world_of};
+ghost use Rattle.mml_stable.specs.Rest.{EachHasOwner, is_grant_or_close};
+ghost use Rattle.mml_laws.specs.Rest.{events_to_rest};
+
+/// A legal list of grants and closes alone has at most 6 events for each of n nodes, and 4 for each link or,
+/// where these are more than n²/4, 4 for each of n²/4; less one for each move that was chosen before it.
+/// So where as many events may still follow, a run of grants and closes rests before the limit is
+/// reached: until no node is privileged, there is room for one event more. For 256 nodes that are
+/// 67072 events at the most, and a lab may have 100000.
+pub fn rest_comes_within_a_limit()
+    ensures few { (r : RosterValue) (w : World) (es : List Event) → IsWorld w →
+        is_legal_list r w es ≡ true → list_all is_grant_or_close es ≡ true →
+        length es + chosen_count w ≤ events_to_rest (size w) (link_count w.network) }
+    ensures room { (r : RosterValue) (w : World) (es : List Event) (limit : ℕ) → IsWorld w →
+        EachHasOwner r (size w) → is_legal_list r w es ≡ true →
+        list_all is_grant_or_close es ≡ true →
+        w.place + events_to_rest (size w) (link_count w.network) ≤ limit →
+        ¬ IsStable (configuration (world_of w es)) → (world_of w es).place < limit }
+    ensures lab { (bytes : List ℕ) (lab : LabValue) (es : List Event) → lab_of bytes ≡ Ok lab →
+        is_legal_list lab.roster (opening_of lab.network) es ≡ true →
+        list_all is_grant_or_close es ≡ true →
+        events_to_rest (length lab.ids) (link_count lab.network) ≤ lab.events →
+        ¬ IsStable (configuration (world_of (opening_of lab.network) es)) → length es < lab.events }
+    ensures most { (nodes links : ℕ) → nodes ≤ 256 → events_to_rest nodes links ≤ 67072 }
+{}

@@ -1,0 +1,42 @@
+//! What comes of a command, by its verdict. Each law is the clause of a function that does nothing.
+ghost use Rattle.std.specs.Prelude.{◌≡◌, ◌↔◌, ◌<◌, ◌≤◌, ℕ, Bool, true, false, List};
+ghost use Rattle.mml_lab.specs.declared.who.Who.{Who};
+ghost use Rattle.mml_lab.specs.Rosters.{RosterValue};
+ghost use Rattle.mml_board.specs.declared.done.Done.{Done};
+ghost use Rattle.mml_board.specs.declared.event.Event.{Event};
+ghost use Rattle.mml_board.specs.World.{World};
+ghost use Rattle.mml_board.specs.Events.{done_by};
+ghost use Rattle.mml_policy.specs.declared.command.Command.{Command};
+ghost use Rattle.mml_policy.specs.declared.denial.Denial.{Denial};
+ghost use Rattle.mml_policy.specs.declared.ruling.Ruling.TheVariants as rulings;
+ghost use Rattle.mml_policy.specs.declared.verdict.Verdict.TheVariants as verdicts;
+ghost use Rattle.mml_policy.specs.Rulings.{ruling};
+ghost use Rattle.mml_policy.specs.Verdicts.{verdict};
+ghost use Rattle.mml_laws.specs.Ruled.{IsGrantable, IsShown};
+
+/// What comes of a command is what the verdict says of it. It is denied exactly where the verdict denies it,
+/// for the same cause, and something is shown exactly where the verdict says so. What the verdict grants
+/// is `full` exactly where the place has reached the limit, `journal` exactly where there is room and the
+/// journal is halted, and else takes place, with what it does in that world.
+pub fn the_ruling_is_the_verdicts()
+    ensures denied { (ids : List ℕ) (r : RosterValue) (limit : ℕ) (is_halted : Bool) (w : World)
+        (x : Who) (c : Command) (d : Denial) →
+        (ruling ids r limit is_halted w x c ≡ rulings.Denied d) ↔
+        (verdict ids r w x c ≡ verdicts.Deny d) }
+    ensures shown { (ids : List ℕ) (r : RosterValue) (limit : ℕ) (is_halted : Bool) (w : World)
+        (x : Who) (c : Command) →
+        IsShown (ruling ids r limit is_halted w x c) ↔ (verdict ids r w x c ≡ verdicts.Show) }
+    ensures full { (ids : List ℕ) (r : RosterValue) (limit : ℕ) (is_halted : Bool) (w : World)
+        (x : Who) (c : Command) →
+        (ruling ids r limit is_halted w x c ≡ rulings.Full) ↔
+        (IsGrantable ids r w x c × (limit ≤ w.place)) }
+    ensures journal { (ids : List ℕ) (r : RosterValue) (limit : ℕ) (is_halted : Bool) (w : World)
+        (x : Who) (c : Command) →
+        (ruling ids r limit is_halted w x c ≡ rulings.Journal) ↔
+        (IsGrantable ids r w x c × (w.place < limit) × (is_halted ≡ true)) }
+    ensures granted { (ids : List ℕ) (r : RosterValue) (limit : ℕ) (is_halted : Bool) (w : World)
+        (x : Who) (c : Command) (e : Event) (done : Done) →
+        (ruling ids r limit is_halted w x c ≡ rulings.Granted e done) ↔
+        ((verdict ids r w x c ≡ verdicts.Grant e) × (w.place < limit) × (is_halted ≡ false)
+        × (done ≡ done_by w e)) }
+{}

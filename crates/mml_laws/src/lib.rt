@@ -1,0 +1,4 @@
+//! Laws of the chain that a class would cite, each read alone.
+#![tactic(auto)]
+
+pub mod laws;
