@@ -1,0 +1,183 @@
+-- The closes that applied moves come in order, so one pass counts each once.
+use Rattle.std.proofs.Common.{◌≡◌, ◌⊎◌, ℕ, zero, suc, ◌+◌, ◌<◌, ◌≤◌, Bool, true, false, cond, ◌&&◌, ◌||◌, eqb, ltb, List, [], ◌∷◌, length}
+use Rattle.std.proofs.Common.{Some, None, unwrap_or, inl, inr, refl, ap, ◌∙◌, sym, arith}
+use Rattle.std.specs.List.{filter, list_any}
+use Rattle.std.proofs.lemmas.Bool.{cases_eq, cases_order, or_cases, eq-eqb, ne_eqb, eqb-true, lt-ltb, le-ltb, false_from_ne_true, and_right}
+use Rattle.mml_ids.specs.Search.{count_below}
+use Rattle.mml_board.specs.declared.event.Event.{Event}
+use Rattle.mml_board.specs.declared.event.Event.TheVariants as event
+use Rattle.mml_stable.proofs.SumsLemmas.{count_same, count_none}
+use Rattle.mml_tally.specs.declared.fate.Fate.{Fate}
+use Rattle.mml_tally.specs.declared.fate.Fate.TheVariants as fate
+use Rattle.mml_tally.specs.declared.granted_move.Move.{Move}
+use Rattle.mml_tally.specs.Moves.{fate_of, moves_from, moves}
+use Rattle.mml_tally.specs.Marks.{is_fate_at, is_applied_at, count_closes}
+use Rattle.mml_tally.specs.inside.Closes.{close_of, count_new}
+use Rattle.mml_tally.proofs.CountsLemmas.{one, count_split, count_one}
+
+-- ---- a move is applied by the close that comes next, or by none
+
+-- the place of that close, or behind the last event
+abbrev pub next_close : ℕ → List Event → ℕ
+next_close q [] = q
+next_close q (event.Close ∷ es) = q
+next_close q (_ ∷ es) = next_close (q + 1) es
+
+pub next_after : (q : ℕ) (es : List Event) → q ≤ next_close q es
+next_after q [] = omega arith
+next_after q (event.Close ∷ es) = omega arith
+next_after q (_ ∷ es) = let rest = next_after (q + 1) es in omega (arith, rest)
+
+-- what is told of the close of a move that is chosen before event q, where the close before it has place `last`
+pub record IsNext (last q : ℕ) (es : List Event) (close : ℕ) : Type 0 where
+  pub which : (close ≡ last) ⊎ ((close ≡ next_close q es) × (next_close q es < q + length es))
+
+-- the same, told one event earlier
+next_earlier : (last q : ℕ) (e : Event) (es : List Event) (close : ℕ) → next_close q (e ∷ es) ≡ next_close (q + 1) es → IsNext last (q + 1) es close
+    → IsNext last q (e ∷ es) close
+next_earlier last q e es close same h = elim h.which [
+  | inl e ↦ record { which = inl e }
+  | inr f ↦ record { which = inr (f.0 ∙ sym same, omega (arith, f.1, same)) }
+]
+
+pub fate_next : (last i q : ℕ) (es : List Event) → IsNext last q es (close_of last (fate_of i q es))
+fate_next last i q [] = record { which = inl refl }
+fate_next last i q (event.Grant s j rule ∷ es) = next_earlier last q (event.Grant s j rule) es _ refl (fate_next last i (q + 1) es)
+fate_next last i q (event.Release j ∷ es) = go (eqb j i) (fate_next last i (q + 1) es)
+  where
+    go : (b : Bool) → IsNext last (q + 1) es (close_of last (fate_of i (q + 1) es))
+        → IsNext last q (event.Release j ∷ es) (close_of last (unwrap_or (cond b (Some fate.Released) None) (fate_of i (q + 1) es)))
+    go true h = record { which = inl refl }
+    go false h = next_earlier last q (event.Release j) es _ refl h
+fate_next last i q (event.Close ∷ es) = record { which = inr (refl, omega arith) }
+fate_next last i q (event.Fault j registers ∷ es) = record { which = inl refl }
+fate_next last i q (event.Link a b ∷ es) = record { which = inl refl }
+fate_next last i q (event.Cut a b ∷ es) = record { which = inl refl }
+
+-- ---- so they come in order
+
+-- the closes of these moves come in order from `last` on, up to n
+abbrev pub Rising : ℕ → ℕ → List Move → Type 0
+Rising n last [] = Unit {0}
+Rising n last (m ∷ ms) = (last ≤ close_of last m.fate) × (close_of last m.fate ≤ n) × Rising n (close_of last m.fate) ms
+
+pub rising_moves : (n last q : ℕ) (es : List Event) → last ≤ next_close q es → q + length es ≤ n + 1 → last ≤ n → Rising n last (moves_from q es)
+rising_moves n last q [] le within few = tt
+rising_moves n last q (event.Grant s i rule ∷ es) le within few =
+    elim (fate_next last i (q + 1) es).which [
+      | inl e ↦ (omega (arith, e), omega (arith, e), rising_moves n (close_of last (fate_of i (q + 1) es)) (q + 1) es (omega (arith, e)) (omega arith) (omega (arith, e)))
+      | inr f ↦ (omega (arith, f.0), omega (arith, f.0, f.1), rising_moves n (close_of last (fate_of i (q + 1) es)) (q + 1) es (omega (arith, f.0)) (omega arith) (omega (arith, f.0, f.1)))
+    ]
+rising_moves n last q (event.Close ∷ es) le within few =
+    let after = next_after (q + 1) es in
+    rising_moves n last (q + 1) es (omega (arith, after)) (omega arith) few
+rising_moves n last q (_ ∷ es) le within few = rising_moves n last (q + 1) es le (omega arith) few
+
+-- an earlier place to come from serves as well
+pub rising_less : (n a b : ℕ) (ms : List Move) → a ≤ b → Rising n b ms → Rising n a ms
+rising_less n a b [] le h = tt
+rising_less n a b (m ∷ ms) le h = go m.fate (rising_less n a b ms le) h.0 h.1 h.2
+  where
+    go : (f : Fate) → (Rising n b ms → Rising n a ms) → b ≤ close_of b f → close_of b f ≤ n → Rising n (close_of b f) ms
+        → (a ≤ close_of a f) × (close_of a f ≤ n) × Rising n (close_of a f) ms
+    go (fate.Applied p) less x y z = (omega arith, omega arith, z)
+    go fate.Released less x y z = (omega arith, omega arith, less z)
+    go fate.Dropped less x y z = (omega arith, omega arith, less z)
+    go fate.Chosen less x y z = (omega arith, omega arith, less z)
+
+-- and those that a test leaves do
+pub rising_filter : (test : Move → Bool) (n last : ℕ) (ms : List Move) → Rising n last ms → Rising n last (filter test ms)
+rising_filter test n last [] h = tt
+rising_filter test n last (m ∷ ms) h = go (test m) (rising_filter test n (close_of last m.fate) ms h.2)
+  where
+    go : (b : Bool) → Rising n (close_of last m.fate) (filter test ms) → Rising n last (cond b (m ∷ filter test ms) (filter test ms))
+    go true rest = (h.0, h.1, rest)
+    go false rest = rising_less n last (close_of last m.fate) (filter test ms) h.0 rest
+
+-- ---- and one pass counts each place once
+
+-- a close at place q applied one of the moves
+abbrev pub some_at : ℕ → List Move → Bool
+some_at q ms = list_any (is_applied_at q) ms
+
+at_close : (last q : ℕ) (f : Fate) → is_fate_at q f ≡ true → close_of last f ≡ q
+at_close last q (fate.Applied p) e = eqb-true p q e
+at_close last q fate.Released e = cc
+at_close last q fate.Dropped e = cc
+at_close last q fate.Chosen e = cc
+
+pub none_before : (n last q : ℕ) (ms : List Move) → Rising n last ms → some_at q ms ≡ true → last ≤ q
+none_before n last q [] h e = cc
+none_before n last q (m ∷ ms) h e = elim (or_cases (is_fate_at q m.fate) (some_at q ms) e) [
+  | inl here ↦ let at = at_close last q m.fate here in omega (arith, at, h.0)
+  | inr later ↦ let rest = none_before n (close_of last m.fate) q ms h.2 later in omega (arith, rest, h.0)
+]
+
+-- ---- tests of a place, before and after the close of the first move is taken out
+
+at_it : (after is_it beyond rest : Bool) → after ≡ true → is_it ≡ true → beyond ≡ false → one (after && (is_it || rest)) ≡ one is_it + one (beyond && rest)
+at_it after is_it beyond rest a b c = rw (a, b, c) refl
+
+past_it : (after is_it beyond rest : Bool) → after ≡ true → is_it ≡ false → beyond ≡ true → one (after && (is_it || rest)) ≡ one is_it + one (beyond && rest)
+past_it after is_it beyond rest a b c = rw (a, b, c) (omega arith)
+
+before_it : (after is_it beyond rest : Bool) → is_it ≡ false → rest ≡ false → beyond ≡ false → one (after && (is_it || rest)) ≡ one is_it + one (beyond && rest)
+before_it true is_it beyond rest a b c = rw (a, b, c) refl
+before_it false is_it beyond rest a b c = rw (a, b, c) refl
+
+one_more : (n last p : ℕ) (ms : List Move) → Rising n p ms → last < p → (j : ℕ)
+    → one (ltb last j && (eqb p j || some_at j ms)) ≡ one (eqb p j) + one (ltb p j && some_at j ms)
+one_more n last p ms h lt j = elim (cases_order p j) [
+  | inl e ↦ at_it (ltb last j) (eqb p j) (ltb p j) (some_at j ms) (lt-ltb last j (omega arith)) (eq-eqb p j e) (le-ltb p j (omega arith))
+  | inr o ↦ elim o [
+    | inl past ↦ past_it (ltb last j) (eqb p j) (ltb p j) (some_at j ms) (lt-ltb last j (omega arith)) (ne_eqb p j (λ e. omega arith)) (lt-ltb p j past)
+    | inr before ↦ before_it (ltb last j) (eqb p j) (ltb p j) (some_at j ms) (ne_eqb p j (λ e. omega arith))
+        (false_from_ne_true (some_at j ms) (λ s. let le = none_before n p j ms h s in omega arith)) (le-ltb p j (omega arith))
+  ]
+]
+
+no_more : (p j : ℕ) (rest : Bool) → (ltb p j && rest) ≡ (ltb p j && (eqb p j || rest))
+no_more p j rest = elim (cases_order p j) [
+  | inl e ↦ rw (le-ltb p j (omega arith)) refl
+  | inr o ↦ rw (ne_eqb p j (λ e. elim o [ inl a ↦ omega arith | inr b ↦ omega arith ])) refl
+]
+
+pub counted : (n last : ℕ) (ms : List Move) → Rising n last ms → count_new last ms ≡ count_below (n + 1) (λ q. ltb last q && some_at q ms)
+counted n last [] h = sym (count_none (n + 1) (λ q. ltb last q && false) (λ j lt. and_right (ltb last j) false refl))
+counted n last (m ∷ ms) h = go m.fate (counted n (close_of last m.fate) ms h.2) h.0 h.1 h.2
+  where
+    same : (k : ℕ) → k ≡ count_below (n + 1) (λ q. ltb last q && some_at q ms) → cond (eqb last last) 0 1 + k ≡ count_below (n + 1) (λ q. ltb last q && some_at q ms)
+    same k e = let off : cond {A = ℕ} (eqb last last) 0 1 ≡ 0 = ap (λ b. cond b 0 1) (eq-eqb last last refl) in omega (arith, e, off)
+
+    go : (f : Fate) → count_new (close_of last f) ms ≡ count_below (n + 1) (λ q. ltb (close_of last f) q && some_at q ms) → last ≤ close_of last f
+        → close_of last f ≤ n → Rising n (close_of last f) ms
+        → cond (eqb (close_of last f) last) 0 1 + count_new (close_of last f) ms ≡ count_below (n + 1) (λ q. ltb last q && (is_fate_at q f || some_at q ms))
+    go (fate.Applied p) rest le within rising = elim (cases_eq p last) [
+      | inl e ↦
+          let off : cond {A = ℕ} (eqb p last) 0 1 ≡ 0 = ap (λ b. cond b 0 1) (eq-eqb p last e) in
+          let alike = count_same (n + 1) (λ q. ltb p q && some_at q ms) (λ q. ltb last q && (eqb p q || some_at q ms))
+          (λ j lt. no_more p j (some_at j ms) ∙ ap (λ z. ltb z j && (eqb p j || some_at j ms)) e) in
+          omega (arith, rest, off, alike)
+      | inr ne ↦
+          let on : cond {A = ℕ} (eqb p last) 0 1 ≡ 1 = ap (λ b. cond b 0 1) (ne_eqb p last ne) in
+          let split = count_split (n + 1) (λ q. ltb last q && (eqb p q || some_at q ms)) (eqb p) (λ q. ltb p q && some_at q ms)
+          (λ j lt. one_more n last p ms rising (omega (arith, ne)) j) in
+          let it = count_one (n + 1) p (omega arith) in
+          omega (arith, rest, on, split, it)
+    ]
+    go fate.Released rest le within rising = same _ rest
+    go fate.Dropped rest le within rising = same _ rest
+    go fate.Chosen rest le within rising = same _ rest
+
+pub closes_counted : (test : Move → Bool) (es : List Event) → count_new 0 (filter test (moves es)) ≡ count_closes (length es) (filter test (moves es))
+closes_counted test [] = refl
+closes_counted test (e ∷ es) =
+    let n = length (e ∷ es) in
+    let own = filter test (moves (e ∷ es)) in
+    let rising = rising_filter test n 1 (moves (e ∷ es)) (rising_moves n 1 1 (e ∷ es) (next_after 1 (e ∷ es)) (omega arith) (omega arith)) in
+    counted n 0 own (rising_less n 0 1 own (omega arith) rising)
+    ∙ count_same (n + 1) (λ q. ltb 0 q && some_at q own) (λ q. some_at q own) (λ j lt. from_one n j own rising)
+  where
+    from_one : (n j : ℕ) (own : List Move) → Rising n 1 own → (ltb 0 j && some_at j own) ≡ some_at j own
+    from_one n zero own rising = sym (false_from_ne_true (some_at 0 own) (λ s. let le = none_before n 1 0 own rising s in omega arith))
+    from_one n (suc j) own rising = rw (lt-ltb 0 (suc j) (omega arith)) refl

@@ -1,0 +1,55 @@
+-- A move is applied by a close exactly where what comes between leaves it.
+use Rattle.std.proofs.Common.{◌≡◌, ◌↔◌, ℕ, ◌+◌, Bool, true, false, not, cond, ◌&&◌, eqb, List, [], ◌∷◌, ◌++◌, Some, None, unwrap_or}
+use Rattle.std.proofs.Common.{refl, ap, ◌∙◌, sym, arith, length}
+use Rattle.std.specs.List.{list_all}
+use Rattle.std.proofs.lemmas.Bool.{and_parts, not-true, false≢true}
+use Rattle.mml_board.specs.declared.event.Event.{Event}
+use Rattle.mml_board.specs.declared.event.Event.TheVariants as event
+use Rattle.mml_tally.specs.declared.fate.Fate.TheVariants as fate
+use Rattle.mml_tally.specs.Moves.{fate_of}
+use Rattle.mml_tally.specs.Meaning.{leaves, IsNextClose}
+
+-- one event more between
+earlier : (i q p : ℕ) (e : Event) (es : List Event) → leaves i e ≡ true → IsNextClose i (q + 1) p es → IsNextClose i q p (e ∷ es)
+earlier i q p e es here h = record {
+  between = e ∷ h.between;
+  later = h.later;
+  events = ap (λ t. e ∷ t) h.events;
+  leave = λ k. (here ∙ refl) k && h.leave k;
+  place = omega (arith, h.place);
+}
+
+pub close_found : (i q p : ℕ) (es : List Event) → fate_of i q es ≡ fate.Applied p → IsNextClose i q p es
+close_found i q p [] h = cc
+close_found i q p (event.Grant s j rule ∷ es) h = earlier i q p (event.Grant s j rule) es refl (close_found i (q + 1) p es h)
+close_found i q p (event.Release j ∷ es) h = go (eqb j i) refl h (close_found i (q + 1) p es)
+  where
+    go : (b : Bool) → eqb j i ≡ b → unwrap_or (cond b (Some fate.Released) None) (fate_of i (q + 1) es) ≡ fate.Applied p
+        → (fate_of i (q + 1) es ≡ fate.Applied p → IsNextClose i (q + 1) p es) → IsNextClose i q p (event.Release j ∷ es)
+    go true e h more = cc
+    go false e h more = earlier i q p (event.Release j) es (ap not e) (more h)
+close_found i q p (event.Close ∷ es) h =
+    let same : q ≡ p = cc in
+    record { between = []; later = es; events = refl; leave = refl; place = omega (arith, same) }
+close_found i q p (event.Fault j registers ∷ es) h = cc
+close_found i q p (event.Link a b ∷ es) h = cc
+close_found i q p (event.Cut a b ∷ es) h = cc
+
+applied_past : (i q : ℕ) (between later : List Event) → list_all (leaves i) between ≡ true
+    → fate_of i q (between ++ event.Close ∷ later) ≡ fate.Applied (q + length between)
+applied_past i q [] later h = ap fate.Applied (omega arith)
+applied_past i q (event.Grant s j rule ∷ between) later h = applied_past i (q + 1) between later h ∙ ap fate.Applied (omega arith)
+applied_past i q (event.Release j ∷ between) later h =
+    let parts = and_parts (not (eqb j i)) (list_all (leaves i) between) h in
+    ap (λ b. unwrap_or (cond b (Some fate.Released) None) (fate_of i (q + 1) (between ++ event.Close ∷ later))) (not-true (eqb j i) parts.0)
+    ∙ applied_past i (q + 1) between later parts.1 ∙ ap fate.Applied (omega arith)
+applied_past i q (event.Close ∷ between) later h = absurd (false≢true h)
+applied_past i q (event.Fault j registers ∷ between) later h = absurd (false≢true h)
+applied_past i q (event.Link a b ∷ between) later h = absurd (false≢true h)
+applied_past i q (event.Cut a b ∷ between) later h = absurd (false≢true h)
+
+pub applied_by_close : (i q p : ℕ) (es : List Event) → (fate_of i q es ≡ fate.Applied p) ↔ IsNextClose i q p es
+applied_by_close i q p es = (
+  close_found i q p es,
+  λ h. ap (fate_of i q) h.events ∙ applied_past i q h.between h.later h.leave ∙ ap fate.Applied (sym h.place),
+)

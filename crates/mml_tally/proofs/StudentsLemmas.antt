@@ -1,0 +1,73 @@
+-- Who asked in a legal list is a student of the lab, so all their marks together are the list's.
+use Rattle.std.proofs.Common.{◌≡◌, ℕ, ◌+◌, ◌<◌, true, List, [], ◌∷◌, None, inl, inr, ◌∙◌, subst, arith, length}
+use Rattle.std.specs.Prelude.{All, Contains, count_by}
+use Rattle.std.proofs.lemmas.Bool.{cases_lt, and_parts}
+use Rattle.std.proofs.lemmas.List.{get_or_past}
+use Rattle.std.proofs.lemmas.List.Elements.{All-get_or}
+use Rattle.mml_lab.specs.declared.who.Who.TheVariants as who
+use Rattle.mml_lab.specs.Labs.{LabValue, IsLab}
+use Rattle.mml_lab.specs.Rosters.{RosterValue, IsRoster, owners_of, owns}
+use Rattle.mml_lab.proofs.RosterMeaningLemmas.{owns-student}
+use Rattle.mml_board.specs.declared.event.Event.{Event}
+use Rattle.mml_board.specs.declared.event.Event.TheVariants as event
+use Rattle.mml_board.specs.World.{World, IsWorld, size, configuration, opening_of}
+use Rattle.mml_board.specs.Events.{is_legal, is_possible, after}
+use Rattle.mml_board.specs.Runs.{is_legal_list}
+use Rattle.mml_board.proofs.WorldLemmas.{length-none, hold-none}
+use Rattle.mml_stable.specs.Potential.{sum_below}
+use Rattle.mml_stable.specs.Moves.{applied_over}
+use Rattle.mml_tally.specs.Moves.{moves_from, moves}
+use Rattle.mml_tally.specs.Marks.{is_applied, moves_by, marks_of}
+use Rattle.mml_tally.specs.Runs.{run_of}
+use Rattle.mml_tally.specs.Meaning.{total}
+use Rattle.mml_tally.proofs.AppliedLemmas.{nothing_pending, unchosen, applied_is}
+use Rattle.mml_tally.proofs.MarksLemmas.{AllOf, students_sum, total_applied}
+
+-- an owner is a student
+owner_there : (r : RosterValue) (s i : ℕ) → IsRoster r → owns r (who.Student s) i ≡ true → s < length r.students
+owner_there r s i known owner =
+    let found : Contains (owners_of r i) s = (owns-student r s i).0 owner in
+    elim (cases_lt i (length r.owners)) [
+      | inl within ↦
+          let each : All (λ t. t < length r.students) (owners_of r i) = All-get_or (All (λ t. t < length r.students)) r.owners i [] within known.owned in
+          subst (λ t. t < length r.students) found.2 (All-get_or (λ t. t < length r.students) (owners_of r i) found.0 s found.1 each)
+      | inr past ↦
+          let none : owners_of r i ≡ [] = get_or_past r.owners i [] past in
+          absurd (omega (arith, found.1, subst (λ (xs : List ℕ). found.0 < length xs) none found.1))
+    ]
+
+askers_there : (r : RosterValue) (w : World) (q : ℕ) (es : List Event) → IsRoster r → is_legal_list r w es ≡ true → AllOf (length r.students) (moves_from q es)
+askers_there r w q [] known legal = tt
+askers_there r w q (event.Grant s i rule ∷ es) known legal =
+    let e = event.Grant s i rule in
+    let here = and_parts (is_legal r w e) (is_legal_list r (after w e) es) legal in
+    let asked = and_parts (owns r (who.Student s) i) (is_possible w e) here.0 in
+    (owner_there r s i known asked.0, askers_there r (after w e) (q + 1) es known here.1)
+askers_there r w q (event.Release i ∷ es) known legal = askers_there r _ (q + 1) es known (and_parts (is_legal r w (event.Release i)) _ legal).1
+askers_there r w q (event.Close ∷ es) known legal = askers_there r _ (q + 1) es known (and_parts (is_legal r w event.Close) _ legal).1
+askers_there r w q (event.Fault i registers ∷ es) known legal = askers_there r _ (q + 1) es known (and_parts (is_legal r w (event.Fault i registers)) _ legal).1
+askers_there r w q (event.Link a b ∷ es) known legal = askers_there r _ (q + 1) es known (and_parts (is_legal r w (event.Link a b)) _ legal).1
+askers_there r w q (event.Cut a b ∷ es) known legal = askers_there r _ (q + 1) es known (and_parts (is_legal r w (event.Cut a b)) _ legal).1
+
+opening-world : (lab : LabValue) → IsLab lab → IsWorld (opening_of lab.network)
+opening-world lab known = record {
+  network = known.network;
+  choices = length-none (length lab.network.registers) None;
+  hold = hold-none (length lab.network.registers) (configuration (opening_of lab.network));
+}
+
+pub run_applies : (lab : LabValue) (es : List Event) → IsLab lab → is_legal_list lab.roster (opening_of lab.network) es ≡ true
+    → (run_of es).moves ≡ applied_over (opening_of lab.network) es
+run_applies lab es known legal =
+    let w = opening_of lab.network in
+    let all = applied_is lab.roster w 1 es (opening-world lab known) legal in
+    let none = nothing_pending w (size w) 1 es (unchosen (length lab.network.registers)) in
+    omega (arith, all, none)
+
+pub students_apply : (lab : LabValue) (es : List Event) → IsLab lab → is_legal_list lab.roster (opening_of lab.network) es ≡ true
+    → sum_below (length lab.roster.students) (λ s. total (marks_of lab.roster es s).applied) ≡ applied_over (opening_of lab.network) es
+students_apply lab es known legal =
+    let n = length lab.roster.students in
+    let each : sum_below n (λ s. total (marks_of lab.roster es s).applied) ≡ sum_below n (λ s. count_by is_applied (moves_by s (moves es))) =
+    λ k. sum_below n (λ s. total_applied (moves_by s (moves es)) k) in
+    each ∙ students_sum is_applied n (moves es) (askers_there lab.roster (opening_of lab.network) 1 es known.roster legal) ∙ run_applies lab es known legal

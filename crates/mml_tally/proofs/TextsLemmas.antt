@@ -1,0 +1,27 @@
+-- A text with one line more.
+use Rattle.std.proofs.Common.{◌≡◌, ℕ, ◌+◌, add-one, List, ◌++◌, append_assoc, ap, ◌∙◌, sym, refl}
+use Rattle.mml_lab.specs.declared.who.Who.TheVariants as who
+use Rattle.mml_lab.specs.Labs.{LabValue}
+use Rattle.mml_lab.specs.Rosters.{RosterValue, name_of}
+use Rattle.mml_board.specs.declared.event.Event.{Event}
+use Rattle.mml_tally.specs.declared.marks.Marks.{Marks}
+use Rattle.mml_tally.specs.Marks.{marks_of}
+use Rattle.mml_tally.specs.Texts.{student_line, students_text}
+
+-- the line of a student whose name and marks were told
+line_of : (r r' : RosterValue) (s s' : ℕ) (name : List ℕ) (marks : Marks) (es : List Event) → r ≡ r' → s ≡ s' → name ≡ name_of r (who.Student s)
+    → marks ≡ marks_of r es s → student_line name marks ≡ student_line (name_of r' (who.Student s')) (marks_of r' es s')
+line_of r r' s s' name marks es er es' en em =
+    let n : name ≡ name_of r' (who.Student s') = en ∙ ap (λ z. name_of z (who.Student s)) er ∙ ap (λ z. name_of r' (who.Student z)) es' in
+    let m : marks ≡ marks_of r' es s' = em ∙ ap (λ z. marks_of z es s) er ∙ ap (λ z. marks_of r' es z) es' in
+    λ k. student_line (n k) (m k)
+
+pub next_student : (lab : LabValue) (es : List Event) (now before first : List ℕ) (r : RosterValue) (s place : ℕ) (name : List ℕ) (marks : Marks)
+    → before ≡ first ++ students_text lab es place → now ≡ before ++ student_line name marks → r ≡ lab.roster → s ≡ place
+    → name ≡ name_of r (who.Student s) → marks ≡ marks_of r es s → now ≡ first ++ students_text lab es (place + 1)
+next_student lab es now before first r s place name marks b n er es' en em =
+    let line = line_of r lab.roster s place name marks es er es' en em in
+    let more : students_text lab es (place + 1) ≡ students_text lab es place ++ student_line (name_of lab.roster (who.Student place)) (marks_of lab.roster es place) =
+    rw add-one refl in
+    n ∙ ap (λ t. t ++ student_line name marks) b ∙ append_assoc first (students_text lab es place) (student_line name marks)
+    ∙ ap (λ t. first ++ (students_text lab es place ++ t)) line ∙ ap (λ t. first ++ t) (sym more)

@@ -1,0 +1,92 @@
+-- What a list of events tells of a student.
+use Rattle.std.specs.Prelude.{ℕ, ◌+◌, ◌-◌, ◌==◌, Bool, true, false, List, length, Option, option_map, count_by}
+use Rattle.std.specs.List.{filter, list_any, slice_get}
+use Rattle.mml_ids.specs.Search.{count_below}
+use Rattle.mml_rules.specs.declared.rule.Kind.{Kind}
+use Rattle.mml_rules.specs.declared.rule.Kind.TheVariants as kind
+use Rattle.mml_lab.specs.Rosters.{RosterValue}
+use Rattle.mml_board.specs.declared.event.Event.{Event}
+use Rattle.mml_tally.specs.declared.fate.Fate.{Fate}
+use Rattle.mml_tally.specs.declared.fate.Fate.TheVariants as fate
+use Rattle.mml_tally.specs.declared.granted_move.Move.{Move}
+use Rattle.mml_tally.specs.declared.marks.ByRule.{ByRule}
+use Rattle.mml_tally.specs.declared.marks.Marks.{Marks}
+use Rattle.mml_tally.specs.Moves.{moves}
+use Rattle.mml_tally.specs.Owners.{is_shared}
+
+-- the same rule, whoever the partner
+abbrev pub is_kind : Kind → Kind → Bool
+is_kind kind.Update kind.Update = true
+is_kind kind.Marriage kind.Marriage = true
+is_kind kind.Seduction kind.Seduction = true
+is_kind kind.Abandonment kind.Abandonment = true
+is_kind _ _ = false
+
+-- the close at place q applied it
+abbrev pub is_fate_at : ℕ → Fate → Bool
+is_fate_at q (fate.Applied p) = p == q
+is_fate_at q fate.Released = false
+is_fate_at q fate.Dropped = false
+is_fate_at q fate.Chosen = false
+
+abbrev pub is_applied_at : ℕ → Move → Bool
+is_applied_at q m = is_fate_at q m.fate
+
+-- some close applied it
+abbrev pub is_fate_applied : Fate → Bool
+is_fate_applied (fate.Applied p) = true
+is_fate_applied fate.Released = false
+is_fate_applied fate.Dropped = false
+is_fate_applied fate.Chosen = false
+
+abbrev pub is_applied : Move → Bool
+is_applied m = is_fate_applied m.fate
+
+-- the moves of a student, those at a node, and those that a close applied
+abbrev pub moves_by : ℕ → List Move → List Move
+moves_by s ms = filter (λ m. m.who == s) ms
+
+abbrev pub moves_at : ℕ → List Move → List Move
+moves_at i ms = filter (λ m. m.node == i) ms
+
+abbrev pub applied : List Move → List Move
+applied ms = filter is_applied ms
+
+-- how many there are of each rule
+abbrev pub by_rule : List Move → ByRule
+by_rule ms = record {
+  update = count_by (λ m. is_kind kind.Update m.kind) ms;
+  marriage = count_by (λ m. is_kind kind.Marriage m.kind) ms;
+  seduction = count_by (λ m. is_kind kind.Seduction m.kind) ms;
+  abandonment = count_by (λ m. is_kind kind.Abandonment m.kind) ms;
+}
+
+-- at how many of the first n places a close applied one of the moves
+abbrev pub count_closes : ℕ → List Move → ℕ
+count_closes n ms = count_below (n + 1) (λ q. list_any (is_applied_at q) ms)
+
+-- the place of the first grant, and of the last
+abbrev pub first_place : List Move → Option ℕ
+first_place ms = option_map (λ m. m.place) (slice_get ms 0)
+
+abbrev pub last_place : List Move → Option ℕ
+last_place ms = option_map (λ m. m.place) (slice_get ms (length ms - 1))
+
+-- how many of the moves are at nodes that several own
+abbrev pub count_shared : RosterValue → List Move → ℕ
+count_shared r ms = count_by (λ m. is_shared r m.node) ms
+
+-- what n events tell of one whose moves these are
+abbrev pub marks_from : RosterValue → ℕ → List Move → Marks
+marks_from r n own = record {
+  granted = by_rule own;
+  applied = by_rule (applied own);
+  closes = count_closes n own;
+  first = first_place own;
+  last = last_place own;
+  shared = count_shared r (applied own);
+}
+
+-- what events tell of a student
+abbrev pub marks_of : RosterValue → List Event → ℕ → Marks
+marks_of r es s = marks_from r (length es) (moves_by s (moves es))

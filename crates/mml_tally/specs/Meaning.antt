@@ -1,0 +1,67 @@
+-- The tally, told as facts.
+use Rattle.std.specs.Prelude.{◌≡◌, ℕ, ◌+◌, ◌==◌, Bool, true, false, not, List, ◌∷◌, ◌++◌, length}
+use Rattle.std.specs.List.{list_all}
+use Rattle.mml_board.specs.declared.event.Event.{Event}
+use Rattle.mml_board.specs.declared.event.Event.TheVariants as event
+use Rattle.mml_tally.specs.declared.fate.Fate.{Fate}
+use Rattle.mml_tally.specs.declared.fate.Fate.TheVariants as fate
+use Rattle.mml_tally.specs.declared.granted_move.Move.{Move}
+use Rattle.mml_tally.specs.declared.marks.ByRule.{ByRule}
+
+-- the event leaves what is chosen at i: it is no release of i, close, fault, link or cut
+abbrev pub leaves : ℕ → Event → Bool
+leaves i (event.Grant s j rule) = true
+leaves i (event.Release j) = not (j == i)
+leaves i event.Close = false
+leaves i (event.Fault j registers) = false
+leaves i (event.Link a b) = false
+leaves i (event.Cut a b) = false
+
+-- the first of these events has place q, the close that comes next has place p, and what comes between leaves what is chosen at i
+pub record IsNextClose (i q p : ℕ) (es : List Event) : Type 0 where
+  pub between : List Event
+  pub later : List Event
+  pub events : es ≡ between ++ event.Close ∷ later
+  pub leave : list_all (leaves i) between ≡ true
+  pub place : p ≡ q + length between
+
+-- of all rules together
+abbrev pub total : ByRule → ℕ
+total n = n.update + n.marriage + n.seduction + n.abandonment
+
+abbrev pub is_fate_released : Fate → Bool
+is_fate_released (fate.Applied p) = false
+is_fate_released fate.Released = true
+is_fate_released fate.Dropped = false
+is_fate_released fate.Chosen = false
+
+abbrev pub is_fate_dropped : Fate → Bool
+is_fate_dropped (fate.Applied p) = false
+is_fate_dropped fate.Released = false
+is_fate_dropped fate.Dropped = true
+is_fate_dropped fate.Chosen = false
+
+abbrev pub is_fate_left : Fate → Bool
+is_fate_left (fate.Applied p) = false
+is_fate_left fate.Released = false
+is_fate_left fate.Dropped = false
+is_fate_left fate.Chosen = true
+
+-- the teacher released it, a fault, a link or a cut dropped it, or it is chosen still
+abbrev pub is_released : Move → Bool
+is_released m = is_fate_released m.fate
+
+abbrev pub is_dropped : Move → Bool
+is_dropped m = is_fate_dropped m.fate
+
+abbrev pub is_left : Move → Bool
+is_left m = is_fate_left m.fate
+
+-- the same event, asked for under another name
+abbrev pub asked_as : (ℕ → ℕ) → Event → Event
+asked_as f (event.Grant s i rule) = event.Grant (f s) i rule
+asked_as f (event.Release i) = event.Release i
+asked_as f event.Close = event.Close
+asked_as f (event.Fault i registers) = event.Fault i registers
+asked_as f (event.Link a b) = event.Link a b
+asked_as f (event.Cut a b) = event.Cut a b

@@ -1,0 +1,34 @@
+-- The moves that were granted, and what became of each, told by the list of events alone. Places count from 1.
+use Rattle.std.specs.Prelude.{ℕ, ◌+◌, ◌==◌, if◌then◌else◌, List, [], ◌∷◌, Option, None, Some, unwrap_or}
+use Rattle.mml_rules.specs.Rules.{kind_of}
+use Rattle.mml_board.specs.declared.event.Event.{Event}
+use Rattle.mml_board.specs.declared.event.Event.TheVariants as event
+use Rattle.mml_tally.specs.declared.fate.Fate.{Fate}
+use Rattle.mml_tally.specs.declared.fate.Fate.TheVariants as fate
+use Rattle.mml_tally.specs.declared.granted_move.Move.{Move}
+
+-- what the event at place q makes of the move that is chosen at i, where it ends it: a close applies it, its release takes it back, and a
+-- fault, a link or a cut drops it
+abbrev pub ended_by : ℕ → ℕ → Event → Option Fate
+ended_by i q (event.Grant s j rule) = None
+ended_by i q (event.Release j) = if j == i then Some fate.Released else None
+ended_by i q event.Close = Some (fate.Applied q)
+ended_by i q (event.Fault j registers) = Some fate.Dropped
+ended_by i q (event.Link a b) = Some fate.Dropped
+ended_by i q (event.Cut a b) = Some fate.Dropped
+
+-- what becomes of it is what the first event makes of it that ends it: the events are those after its grant, and the first of them has
+-- place q
+abbrev pub fate_of : ℕ → ℕ → List Event → Fate
+fate_of i q [] = fate.Chosen
+fate_of i q (e ∷ es) = unwrap_or (ended_by i q e) (fate_of i (q + 1) es)
+
+-- the moves that these events grant, of which the first has place q
+abbrev pub moves_from : ℕ → List Event → List Move
+moves_from q [] = []
+moves_from q (event.Grant s i rule ∷ es) =
+    record { place = q; who = s; node = i; kind = kind_of rule; fate = fate_of i (q + 1) es } ∷ moves_from (q + 1) es
+moves_from q (_ ∷ es) = moves_from (q + 1) es
+
+abbrev pub moves : List Event → List Move
+moves es = moves_from 1 es

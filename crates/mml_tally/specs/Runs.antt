@@ -1,0 +1,62 @@
+-- What a list of events tells of its run.
+use Rattle.std.specs.Prelude.{ℕ, ◌+◌, Bool, true, false, nat_lt, if◌then◌else◌, List, [], ◌∷◌, drop, count_by}
+use Rattle.mml_board.specs.declared.event.Event.{Event}
+use Rattle.mml_board.specs.declared.event.Event.TheVariants as event
+use Rattle.mml_stable.specs.Moves.{is_close}
+use Rattle.mml_tally.specs.declared.fate.Fate.{Fate}
+use Rattle.mml_tally.specs.declared.fate.Fate.TheVariants as fate
+use Rattle.mml_tally.specs.declared.granted_move.Move.{Move}
+use Rattle.mml_tally.specs.declared.run.Run.{Run}
+use Rattle.mml_tally.specs.Moves.{moves}
+use Rattle.mml_tally.specs.Marks.{is_applied}
+
+abbrev pub is_fault : Event → Bool
+is_fault (event.Fault i registers) = true
+is_fault _ = false
+
+abbrev pub is_link : Event → Bool
+is_link (event.Link a b) = true
+is_link _ = false
+
+abbrev pub is_cut : Event → Bool
+is_cut (event.Cut a b) = true
+is_cut _ = false
+
+-- a fault, a link or a cut
+abbrev pub is_change : Event → Bool
+is_change (event.Grant s i rule) = false
+is_change (event.Release i) = false
+is_change event.Close = false
+is_change (event.Fault i registers) = true
+is_change (event.Link a b) = true
+is_change (event.Cut a b) = true
+
+-- the place of the last fault, link or cut, which is `last` so far: the next event has place q
+abbrev pub last_change : ℕ → ℕ → List Event → ℕ
+last_change last q [] = last
+last_change last q (e ∷ es) = last_change (if is_change e then q else last) (q + 1) es
+
+-- a close after that place applied the move
+abbrev pub is_fate_after : ℕ → Fate → Bool
+is_fate_after k (fate.Applied p) = nat_lt k p
+is_fate_after k fate.Released = false
+is_fate_after k fate.Dropped = false
+is_fate_after k fate.Chosen = false
+
+abbrev pub is_applied_after : ℕ → Move → Bool
+is_applied_after k m = is_fate_after k m.fate
+
+-- what events tell of their run, of which the last fault, link or cut has that place
+abbrev pub run_since : ℕ → List Event → Run
+run_since since es = record {
+  closes = count_by is_close es;
+  faults = count_by is_fault es;
+  links = count_by is_link es;
+  cuts = count_by is_cut es;
+  moves = count_by is_applied (moves es);
+  moves_since = count_by (is_applied_after since) (moves es);
+  closes_since = count_by is_close (drop since es);
+}
+
+abbrev pub run_of : List Event → Run
+run_of es = run_since (last_change 0 1 es) es

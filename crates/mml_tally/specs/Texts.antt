@@ -1,0 +1,75 @@
+-- What is told of a run, in lines of words with one space between.
+use Rattle.std.specs.Prelude.{ℕ, ◌==◌, Bool, true, false, List, [], ◌∷◌, ◌++◌, length, codes, decimal, slice_index, Option, None, Some, if◌then◌else◌}
+use Rattle.mml_lab.specs.declared.who.Who.TheVariants as who
+use Rattle.mml_lab.specs.Labs.{LabValue}
+use Rattle.mml_lab.specs.Rosters.{RosterValue, name_of}
+use Rattle.mml_board.specs.declared.event.Event.{Event}
+use Rattle.mml_board.specs.World.{World, configuration, privileged_count}
+use Rattle.mml_stable.specs.Reports.{each_below}
+use Rattle.mml_tally.specs.declared.granted_move.Move.{Move}
+use Rattle.mml_tally.specs.declared.marks.ByRule.{ByRule}
+use Rattle.mml_tally.specs.declared.marks.Marks.{Marks}
+use Rattle.mml_tally.specs.declared.run.Run.{Run}
+use Rattle.mml_tally.specs.Moves.{moves}
+use Rattle.mml_tally.specs.Owners.{owners_in_order, is_shared}
+use Rattle.mml_tally.specs.Marks.{by_rule, moves_by, moves_at, marks_of}
+use Rattle.mml_tally.specs.Runs.{run_of}
+
+-- each number with a space before it
+abbrev pub numbers_text : List ℕ → List ℕ
+numbers_text [] = []
+numbers_text (n ∷ ns) = codes " " ++ (decimal n ++ numbers_text ns)
+
+-- a place, or - where there is none
+abbrev pub place_text : Option ℕ → List ℕ
+place_text None = codes " -"
+place_text (Some p) = numbers_text (p ∷ [])
+
+-- in the order of the rules
+abbrev pub rules_text : ByRule → List ℕ
+rules_text n = numbers_text (n.update ∷ n.marriage ∷ n.seduction ∷ n.abandonment ∷ [])
+
+-- granted and applied by rule, closes with one, first and last place, applied at nodes that others own too
+abbrev pub marks_text : Marks → List ℕ
+marks_text m =
+    rules_text m.granted ++ (rules_text m.applied ++ (numbers_text (m.closes ∷ []) ++ (place_text m.first ++ (place_text m.last ++ numbers_text (m.shared ∷ [])))))
+
+abbrev pub student_line : List ℕ → Marks → List ℕ
+student_line name m = codes "student " ++ (name ++ (marks_text m ++ codes "\n"))
+
+-- an owner, and the moves that were granted to it
+abbrev pub owner_text : List ℕ → ByRule → List ℕ
+owner_text name n = codes " " ++ (name ++ rules_text n)
+
+abbrev pub owners_text : RosterValue → List Move → List ℕ → List ℕ
+owners_text r there [] = []
+owners_text r there (s ∷ ss) = owner_text (name_of r (who.Student s)) (by_rule (moves_by s there)) ++ owners_text r there ss
+
+-- a node, and each of its owners
+abbrev pub node_line : LabValue → List Move → ℕ → List ℕ
+node_line lab all i =
+    codes "node" ++ (numbers_text (slice_index lab.ids i ∷ []) ++ (owners_text lab.roster (moves_at i all) (owners_in_order lab.roster i) ++ codes "\n"))
+
+-- no node is privileged
+abbrev pub stable_text : Bool → List ℕ
+stable_text true = codes " stable"
+stable_text false = codes " unstable"
+
+-- events and configuration, whether it is stable, and the run
+abbrev pub run_line : World → Run → List ℕ
+run_line w r =
+    codes "run" ++ (numbers_text (w.place ∷ w.number ∷ []) ++ (stable_text (privileged_count (configuration w) == 0)
+    ++ (numbers_text (r.closes ∷ r.faults ∷ r.links ∷ r.cuts ∷ r.moves ∷ r.moves_since ∷ r.closes_since ∷ []) ++ codes "\n")))
+
+-- a line for each student, in the lab's order
+abbrev pub students_text : LabValue → List Event → ℕ → List ℕ
+students_text lab es n = each_below n (λ s. student_line (name_of lab.roster (who.Student s)) (marks_of lab.roster es s))
+
+-- a line for each node that several own, by identifiers
+abbrev pub nodes_text : LabValue → List Event → ℕ → List ℕ
+nodes_text lab es n = each_below n (λ i. if is_shared lab.roster i then node_line lab (moves es) i else [])
+
+-- the students, the nodes of several owners, and last the run, which has led to that world
+abbrev pub tally_text : LabValue → World → List Event → List ℕ
+tally_text lab w es =
+    students_text lab es (length lab.roster.students) ++ (nodes_text lab es (length lab.ids) ++ run_line w (run_of es))

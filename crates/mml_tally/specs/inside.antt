@@ -1,0 +1,2 @@
+-- What stands apart from the model: how closes are counted in one pass. No public clause cites it.
+pub mod Closes

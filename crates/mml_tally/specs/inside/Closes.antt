@@ -1,0 +1,17 @@
+-- The closes that applied moves, counted in one pass over the moves.
+use Rattle.std.specs.Prelude.{ℕ, ◌+◌, ◌==◌, if◌then◌else◌, List, [], ◌∷◌}
+use Rattle.mml_tally.specs.declared.fate.Fate.{Fate}
+use Rattle.mml_tally.specs.declared.fate.Fate.TheVariants as fate
+use Rattle.mml_tally.specs.declared.granted_move.Move.{Move}
+
+-- the place of the close that applied a move; where none did, of the one before
+abbrev pub close_of : ℕ → Fate → ℕ
+close_of last (fate.Applied p) = p
+close_of last fate.Released = last
+close_of last fate.Dropped = last
+close_of last fate.Chosen = last
+
+-- how often it is another than the one before
+abbrev pub count_new : ℕ → List Move → ℕ
+count_new last [] = 0
+count_new last (m ∷ ms) = (if close_of last m.fate == last then 0 else 1) + count_new (close_of last m.fate) ms

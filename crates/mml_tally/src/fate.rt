@@ -1,0 +1,50 @@
+ghost use Rattle.std.specs.Prelude.{◌≡◌, ◌+◌, ◌<◌, ◌^◌, length};
+ghost use Rattle.mml_tally.specs.Moves.{ended_by, fate_of};
+
+use mml_board::Event;
+use mml_ids::Rank;
+
+/// What becomes of a granted move.
+#[derive(Clone, Copy, Debug, PartialEq, Eq)]
+pub enum Fate {
+    /// The close at this place applies it.
+    Applied(u64),
+    /// The teacher releases it.
+    Released,
+    /// A fault, a link or a cut drops it.
+    Dropped,
+    /// It is chosen still.
+    Chosen,
+}
+
+/// What the event at a place makes of the move that is chosen at a node, where it ends it.
+pub fn ended_by(node: Rank, place: u64, event: &Event) -> Option<Fate>
+    ensures { result ≡ ended_by node place event.now }
+{
+    match *event {
+        Event::Grant { .. } => None,
+        Event::Release { node: released } => {
+            if released == node {
+                Some(Fate::Released)
+            } else {
+                None
+            }
+        }
+        Event::Close => Some(Fate::Applied(place)),
+        Event::Fault { .. } | Event::Link { .. } | Event::Cut { .. } => Some(Fate::Dropped),
+    }
+}
+
+/// What becomes of the move that is chosen at a node: the events are those after its grant, and the first
+/// of them has this place.
+pub fn fate_of(node: Rank, place: u64, later: &[Event]) -> Fate
+    requires { place + length later.now < 2 ^ 64 }
+    ensures { result ≡ fate_of node place later.now }
+{
+    for (index, event) in later.iter().enumerate() {
+        if let Some(fate) = ended_by(node, place + index as u64, event) {
+            return fate;
+        }
+    }
+    Fate::Chosen
+}

@@ -1,0 +1,42 @@
+ghost use Rattle.std.specs.Prelude.{◌≡◌, ◌+◌, ◌<◌, ◌^◌, length, IfOk};
+ghost use Rattle.mml_tally.specs.Moves.{moves};
+
+use crate::fate::{Fate, fate_of};
+use mml_board::Event;
+use mml_ids::{Memory, Rank};
+use mml_lab::Student;
+use mml_rules::{Kind, kind_of};
+use std::alloc::Global;
+
+/// A move that was granted, and what became of it.
+#[derive(Clone, Copy, Debug)]
+pub struct Move {
+    /// The place of its grant.
+    pub place: u64,
+    /// Who asked for it.
+    pub who: Student,
+    pub node: Rank,
+    pub kind: Kind,
+    pub fate: Fate,
+}
+
+/// The moves that a list of events grants, in order.
+pub fn moves_of(alloc: Global, events: &[Event]) -> Result<Vec<Move>, Memory>
+    ensures { IfOk result (λ all. all.items ≡ moves events.now) }
+{
+    let mut all = Vec::new(alloc);
+    for (index, event) in events.iter().enumerate() {
+        if let Event::Grant { who, node, rule } = *event {
+            let (_, later) = events.split_at(index + 1);
+            let place = index as u64 + 1;
+            all.push(Move {
+                place,
+                who,
+                node,
+                kind: kind_of(rule),
+                fate: fate_of(node, place + 1, later),
+            })?;
+        }
+    }
+    Ok(all)
+}

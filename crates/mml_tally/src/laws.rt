@@ -1,0 +1,49 @@
+//! Laws of the tally. Each is the clause of a function that does nothing.
+ghost use Rattle.std.specs.Prelude.{◌≡◌, ◌↔◌, ◌+◌, ℕ, true, List, length, map, count_by};
+ghost use Rattle.mml_lab.specs.Labs.{LabValue, IsLab};
+ghost use Rattle.mml_lab.specs.Rosters.{RosterValue};
+ghost use Rattle.mml_board.specs.declared.event.Event.{Event};
+ghost use Rattle.mml_board.specs.World.{World, opening_of};
+ghost use Rattle.mml_board.specs.Runs.{is_legal_list};
+ghost use Rattle.mml_stable.specs.Potential.{sum_below};
+ghost use Rattle.mml_stable.specs.Moves.{applied_over};
+ghost use Rattle.mml_tally.specs.declared.fate.Fate.{Fate};
+ghost use Rattle.mml_tally.specs.Moves.{fate_of, moves};
+ghost use Rattle.mml_tally.specs.Marks.{moves_by, marks_of};
+ghost use Rattle.mml_tally.specs.Runs.{run_of};
+ghost use Rattle.mml_tally.specs.Meaning.{IsNextClose, total, is_released, is_dropped, is_left, asked_as};
+
+/// A grant at i is applied by the close at place p exactly where no release of i, close, fault, link or cut
+/// comes between. The events are those after the grant, and the first of them has place q.
+pub fn moves_are_applied_by_the_next_close()
+    ensures { (i q p : ℕ) (es : List Event) →
+        (fate_of i q es ≡ Fate.Applied p) ↔ IsNextClose i q p es }
+{}
+
+/// The applied moves of all students are those that the closes of a legal list apply to the lab, and the run
+/// is told as many.
+pub fn students_apply_all_moves()
+    ensures students { (lab : LabValue) (es : List Event) → IsLab lab →
+        is_legal_list lab.roster (opening_of lab.network) es ≡ true →
+        sum_below (length lab.roster.students) (λ s. total (marks_of lab.roster es s).applied)
+        ≡ applied_over (opening_of lab.network) es }
+    ensures run { (lab : LabValue) (es : List Event) → IsLab lab →
+        is_legal_list lab.roster (opening_of lab.network) es ≡ true →
+        (run_of es).moves ≡ applied_over (opening_of lab.network) es }
+{}
+
+/// Each granted move of a student was applied, or released, or dropped by a fault, a link or a cut, or is
+/// chosen still.
+pub fn granted_moves_have_one_fate()
+    ensures { (r : RosterValue) (es : List Event) (s : ℕ) →
+        total (marks_of r es s).granted ≡ total (marks_of r es s).applied
+        + count_by is_released (moves_by s (moves es)) + count_by is_dropped (moves_by s (moves es))
+        + count_by is_left (moves_by s (moves es)) }
+{}
+
+/// A student's marks are the same whoever the others are: under other names of theirs, and where several
+/// become one.
+pub fn marks_depend_on_no_other_name()
+    ensures { (r : RosterValue) (es : List Event) (s : ℕ) (f : ℕ → ℕ) →
+        ((t : ℕ) → (f t ≡ s) ↔ (t ≡ s)) → marks_of r (map (asked_as f) es) s ≡ marks_of r es s }
+{}

@@ -1,0 +1,189 @@
+ghost use Rattle.std.specs.Prelude.{◌≡◌, List, IfOk, count_by};
+ghost use Rattle.mml_board.specs.declared.event.Event.{Event};
+ghost use Rattle.mml_tally.specs.Moves.{moves};
+ghost use Rattle.mml_tally.specs.Marks.{is_kind, is_applied, by_rule, first_place, last_place, count_shared, moves_by, moves_at, applied, marks_of};
+ghost use Rattle.mml_tally.specs.inside.Closes.{close_of, count_new};
+
+use crate::fate::Fate;
+use crate::granted_move::Move;
+use crate::owners::is_shared;
+use mml_ids::{Memory, Rank};
+use mml_lab::{Roster, Student};
+use mml_rules::Kind;
+use std::alloc::Global;
+
+/// How many moves there are of each rule.
+#[derive(Clone, Copy, Debug, PartialEq, Eq)]
+pub struct ByRule {
+    pub update: u64,
+    pub marriage: u64,
+    pub seduction: u64,
+    pub abandonment: u64,
+}
+
+/// What a run tells of a student.
+#[derive(Clone, Copy, Debug, PartialEq, Eq)]
+pub struct Marks {
+    /// The moves that were granted.
+    pub granted: ByRule,
+    /// Those of them that a close applied.
+    pub applied: ByRule,
+    /// How many closes applied one.
+    pub closes: u64,
+    /// The places of the first and of the last grant.
+    pub first: Option<u64>,
+    pub last: Option<u64>,
+    /// The applied moves at nodes that others own too.
+    pub shared: u64,
+}
+
+/// What a run tells of a student. The moves are those that its events grant.
+pub fn marks_of(
+    alloc: Global,
+    roster: &Roster,
+    all: &[Move],
+    student: Student,
+) -> Result<Marks, Memory>
+    ensures { IfOk result (λ marks. (es : List Event) → all.now ≡ moves es →
+        marks ≡ marks_of roster.now es student) }
+{
+    let own = moves_by(alloc, all, student)?;
+    let applied = applied(alloc, &own)?;
+    Ok(Marks {
+        granted: by_rule(&own),
+        applied: by_rule(&applied),
+        closes: count_closes(&own),
+        first: first_place(&own),
+        last: last_place(&own),
+        shared: count_shared(roster, &applied),
+    })
+}
+
+/// The moves of a student, in order.
+pub fn moves_by(alloc: Global, all: &[Move], student: Student) -> Result<Vec<Move>, Memory>
+    ensures { IfOk result (λ own. own.items ≡ moves_by student all.now) }
+{
+    let mut own = Vec::new(alloc);
+    for granted in all {
+        if granted.who == student {
+            own.push(*granted)?;
+        }
+    }
+    Ok(own)
+}
+
+/// The moves at a node, in order.
+pub fn moves_at(alloc: Global, all: &[Move], node: Rank) -> Result<Vec<Move>, Memory>
+    ensures { IfOk result (λ there. there.items ≡ moves_at node all.now) }
+{
+    let mut there = Vec::new(alloc);
+    for granted in all {
+        if granted.node == node {
+            there.push(*granted)?;
+        }
+    }
+    Ok(there)
+}
+
+/// The moves that a close applied, in order.
+fn applied(alloc: Global, all: &[Move]) -> Result<Vec<Move>, Memory>
+    ensures { IfOk result (λ some. some.items ≡ applied all.now) }
+{
+    let mut some = Vec::new(alloc);
+    for granted in all {
+        if is_applied(granted) {
+            some.push(*granted)?;
+        }
+    }
+    Ok(some)
+}
+
+/// Whether a close applied the move.
+pub fn is_applied(granted: &Move) -> bool
+    ensures { result ≡ is_applied granted.now }
+{
+    match granted.fate {
+        Fate::Applied(_) => true,
+        Fate::Released | Fate::Dropped | Fate::Chosen => false,
+    }
+}
+
+/// How many moves there are of each rule.
+pub fn by_rule(all: &[Move]) -> ByRule
+    ensures { result ≡ by_rule all.now }
+{
+    ByRule {
+        update: count_kind(all, Kind::Update),
+        marriage: count_kind(all, Kind::Marriage),
+        seduction: count_kind(all, Kind::Seduction),
+        abandonment: count_kind(all, Kind::Abandonment),
+    }
+}
+
+fn count_kind(all: &[Move], kind: Kind) -> u64
+    ensures { result ≡ count_by (λ m. is_kind kind m.kind) all.now }
+{
+    all.iter()
+        .filter(|granted| is_kind(kind, granted.kind))
+        .count() as u64
+}
+
+fn is_kind(asked: Kind, kind: Kind) -> bool
+    ensures { result ≡ is_kind asked kind }
+{
+    match (asked, kind) {
+        (Kind::Update, Kind::Update)
+        | (Kind::Marriage, Kind::Marriage)
+        | (Kind::Seduction, Kind::Seduction)
+        | (Kind::Abandonment, Kind::Abandonment) => true,
+        _ => false,
+    }
+}
+
+// The moves come in the order of the closes that applied them, so a close that differs from the one before
+// is a new one.
+fn count_closes(own: &[Move]) -> u64
+    ensures { result ≡ count_new 0 own.now }
+{
+    let mut last = 0;
+    let mut closes = 0u64;
+    for granted in own {
+        let close = close_of(last, granted.fate);
+        if close != last {
+            closes += 1;
+        }
+        last = close;
+    }
+    closes
+}
+
+fn close_of(last: u64, fate: Fate) -> u64
+    ensures { result ≡ close_of last fate }
+{
+    match fate {
+        Fate::Applied(close) => close,
+        Fate::Released | Fate::Dropped | Fate::Chosen => last,
+    }
+}
+
+fn first_place(all: &[Move]) -> Option<u64>
+    ensures { result ≡ first_place all.now }
+{
+    let first = all.first()?;
+    Some(first.place)
+}
+
+fn last_place(all: &[Move]) -> Option<u64>
+    ensures { result ≡ last_place all.now }
+{
+    let last = all.last()?;
+    Some(last.place)
+}
+
+fn count_shared(roster: &Roster, all: &[Move]) -> u64
+    ensures { result ≡ count_shared roster.now all.now }
+{
+    all.iter()
+        .filter(|granted| is_shared(roster, granted.node))
+        .count() as u64
+}

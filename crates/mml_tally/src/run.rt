@@ -1,0 +1,126 @@
+ghost use Rattle.std.specs.Prelude.{◌≡◌, ◌≤◌, length, count_by};
+ghost use Rattle.mml_stable.specs.Moves.{is_close};
+ghost use Rattle.mml_tally.specs.Moves.{moves};
+ghost use Rattle.mml_tally.specs.Marks.{is_applied};
+ghost use Rattle.mml_tally.specs.Runs.{is_fault, is_link, is_cut, is_change, last_change, is_applied_after, run_of};
+
+use crate::fate::Fate;
+use crate::granted_move::Move;
+use crate::marks::is_applied;
+use mml_board::Event;
+
+/// What a run tells of itself.
+#[derive(Clone, Copy, Debug, PartialEq, Eq)]
+pub struct Run {
+    pub closes: u64,
+    pub faults: u64,
+    pub links: u64,
+    pub cuts: u64,
+    /// The moves that closes applied.
+    pub moves: u64,
+    /// Those since the last fault, link or cut.
+    pub moves_since: u64,
+    /// The closes since then.
+    pub closes_since: u64,
+}
+
+/// What a list of events tells of its run: beside it come the moves that it grants.
+pub fn run_of(events: &[Event], granted: &[Move]) -> Run
+    requires { granted.now ≡ moves events.now }
+    ensures { result ≡ run_of events.now }
+{
+    let since = last_change(events);
+    let (_, later) = events.split_at(since);
+    Run {
+        closes: count_closes(events),
+        faults: count_faults(events),
+        links: count_links(events),
+        cuts: count_cuts(events),
+        moves: count_applied(granted),
+        moves_since: count_applied_after(granted, since as u64),
+        closes_since: count_closes(later),
+    }
+}
+
+fn count_closes(events: &[Event]) -> u64
+    ensures { result ≡ count_by is_close events.now }
+{
+    events
+        .iter()
+        .filter(|event| matches!(event, Event::Close))
+        .count() as u64
+}
+
+fn count_faults(events: &[Event]) -> u64
+    ensures { result ≡ count_by is_fault events.now }
+{
+    events
+        .iter()
+        .filter(|event| matches!(event, Event::Fault { .. }))
+        .count() as u64
+}
+
+fn count_links(events: &[Event]) -> u64
+    ensures { result ≡ count_by is_link events.now }
+{
+    events
+        .iter()
+        .filter(|event| matches!(event, Event::Link { .. }))
+        .count() as u64
+}
+
+fn count_cuts(events: &[Event]) -> u64
+    ensures { result ≡ count_by is_cut events.now }
+{
+    events
+        .iter()
+        .filter(|event| matches!(event, Event::Cut { .. }))
+        .count() as u64
+}
+
+fn is_change(event: &Event) -> bool
+    ensures { result ≡ is_change event.now }
+{
+    matches!(
+        event,
+        Event::Fault { .. } | Event::Link { .. } | Event::Cut { .. }
+    )
+}
+
+/// The place of the last fault, link or cut, or 0 where there is none.
+fn last_change(events: &[Event]) -> usize
+    ensures exact { result ≡ last_change 0 1 events.now }
+    ensures within { result ≤ length events.now }
+{
+    let mut last = 0;
+    for (index, event) in events.iter().enumerate() {
+        if is_change(event) {
+            last = index + 1;
+        }
+    }
+    last
+}
+
+fn count_applied(moves: &[Move]) -> u64
+    ensures { result ≡ count_by is_applied moves.now }
+{
+    moves.iter().filter(|granted| is_applied(granted)).count() as u64
+}
+
+fn is_applied_after(granted: &Move, since: u64) -> bool
+    ensures { result ≡ is_applied_after since granted.now }
+{
+    match granted.fate {
+        Fate::Applied(close) => close > since,
+        Fate::Released | Fate::Dropped | Fate::Chosen => false,
+    }
+}
+
+fn count_applied_after(moves: &[Move], since: u64) -> u64
+    ensures { result ≡ count_by (is_applied_after since) moves.now }
+{
+    moves
+        .iter()
+        .filter(|granted| is_applied_after(granted, since))
+        .count() as u64
+}

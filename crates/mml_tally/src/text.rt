@@ -1,0 +1,180 @@
+ghost use Rattle.std.specs.Prelude.{◌≡◌, ◌<◌, ◌==◌, [], ◌∷◌, ◌++◌, All, List, length, OnOk};
+ghost use Rattle.mml_lab.specs.declared.who.Who.TheVariants.{Student as AStudent};
+ghost use Rattle.mml_lab.specs.Rosters.{name_of};
+ghost use Rattle.mml_board.specs.World.{configuration, privileged_count};
+ghost use Rattle.mml_tally.specs.Moves.{moves};
+ghost use Rattle.mml_tally.specs.Texts.{numbers_text, place_text, rules_text, marks_text, student_line, owner_text, owners_text, node_line, stable_text, run_line, students_text, nodes_text, tally_text};
+
+use crate::granted_move::{Move, moves_of};
+use crate::marks::{ByRule, Marks, by_rule, marks_of, moves_at, moves_by};
+use crate::owners::{is_shared, owners_of};
+use crate::run::{Run, run_of};
+use mml_board::{Board, Event};
+use mml_ids::{Memory, Piece, Rank, put};
+use mml_lab::{Lab, Roster, Student, Who};
+use std::alloc::Global;
+
+/// Puts what is told of a run at the end of a text: the board is the one to which the events led.
+pub fn put_tally(
+    out: &mut Vec<u8>,
+    alloc: Global,
+    lab: &Lab,
+    board: &Board,
+    events: &[Event],
+) -> Result<(), Memory>
+    ensures { OnOk result
+        (out.new.items ≡ out.old.items ++ tally_text lab.now board.now events.now) }
+{
+    let all = moves_of(alloc, events)?;
+    put_students(out, alloc, lab, &all)?;
+    put_nodes(out, alloc, lab, &all)?;
+    put_run(out, board, &run_of(events, &all))
+}
+
+fn put_students(out: &mut Vec<u8>, alloc: Global, lab: &Lab, all: &[Move]) -> Result<(), Memory>
+    ensures { OnOk result ((es : List Event) → all.now ≡ moves es →
+        out.new.items ≡ out.old.items ++ students_text lab.now es (length lab.now.roster.students)) }
+{
+    let roster = lab.roster();
+    for place in 0..roster.student_count() {
+        let student = Student::new(place as u16);
+        let marks = marks_of(alloc, roster, all, student)?;
+        put_student(out, roster.name_of(Who::Student(student)), &marks)?;
+    }
+    Ok(())
+}
+
+fn put_student(out: &mut Vec<u8>, name: &str, marks: &Marks) -> Result<(), Memory>
+    ensures { OnOk result (out.new.items ≡ out.old.items ++ student_line name.now marks.now) }
+{
+    put(out, &[Piece::Text("student "), Piece::Text(name)])?;
+    put_marks(out, marks)?;
+    put(out, &[Piece::Text("\n")])
+}
+
+fn put_marks(out: &mut Vec<u8>, marks: &Marks) -> Result<(), Memory>
+    ensures { OnOk result (out.new.items ≡ out.old.items ++ marks_text marks.now) }
+{
+    put_rules(out, &marks.granted)?;
+    put_rules(out, &marks.applied)?;
+    put_numbers(out, &[marks.closes])?;
+    put_place(out, marks.first)?;
+    put_place(out, marks.last)?;
+    put_numbers(out, &[marks.shared])
+}
+
+fn put_rules(out: &mut Vec<u8>, counts: &ByRule) -> Result<(), Memory>
+    ensures { OnOk result (out.new.items ≡ out.old.items ++ rules_text counts.now) }
+{
+    let numbers = [
+        counts.update,
+        counts.marriage,
+        counts.seduction,
+        counts.abandonment,
+    ];
+    put_numbers(out, &numbers)
+}
+
+fn put_place(out: &mut Vec<u8>, place: Option<u64>) -> Result<(), Memory>
+    ensures { OnOk result (out.new.items ≡ out.old.items ++ place_text place) }
+{
+    match place {
+        Some(place) => put_numbers(out, &[place]),
+        None => put(out, &[Piece::Text(" -")]),
+    }
+}
+
+fn put_numbers(out: &mut Vec<u8>, numbers: &[u64]) -> Result<(), Memory>
+    ensures { OnOk result (out.new.items ≡ out.old.items ++ numbers_text numbers.now) }
+{
+    for number in numbers {
+        put(out, &[Piece::Text(" "), Piece::Number(*number)])?;
+    }
+    Ok(())
+}
+
+fn put_nodes(out: &mut Vec<u8>, alloc: Global, lab: &Lab, all: &[Move]) -> Result<(), Memory>
+    ensures { OnOk result ((es : List Event) → all.now ≡ moves es →
+        out.new.items ≡ out.old.items ++ nodes_text lab.now es (length lab.now.ids)) }
+{
+    for index in 0..lab.node_count() {
+        let node = Rank::at(index);
+        if is_shared(lab.roster(), node) {
+            put_node(out, alloc, lab, all, node)?;
+        }
+    }
+    Ok(())
+}
+
+fn put_node(
+    out: &mut Vec<u8>,
+    alloc: Global,
+    lab: &Lab,
+    all: &[Move],
+    node: Rank,
+) -> Result<(), Memory>
+    requires { node < length lab.now.ids }
+    ensures { OnOk result (out.new.items ≡ out.old.items ++ node_line lab.now all.now node) }
+{
+    let owners = owners_of(alloc, lab.roster(), node)?;
+    let there = moves_at(alloc, all, node)?;
+    put(out, &[Piece::Text("node")])?;
+    put_numbers(out, &[lab.ids().id_of(node)])?;
+    put_owners(out, alloc, lab.roster(), &there, &owners)?;
+    put(out, &[Piece::Text("\n")])
+}
+
+fn put_owners(
+    out: &mut Vec<u8>,
+    alloc: Global,
+    roster: &Roster,
+    there: &[Move],
+    owners: &[Student],
+) -> Result<(), Memory>
+    requires { All (λ s. s < length roster.now.students) owners.now }
+    ensures { OnOk result
+        (out.new.items ≡ out.old.items ++ owners_text roster.now there.now owners.now) }
+{
+    for owner in owners {
+        let owner = *owner;
+        let own = moves_by(alloc, there, owner)?;
+        put_owner(out, roster.name_of(Who::Student(owner)), &by_rule(&own))?;
+    }
+    Ok(())
+}
+
+fn put_owner(out: &mut Vec<u8>, name: &str, counts: &ByRule) -> Result<(), Memory>
+    ensures { OnOk result (out.new.items ≡ out.old.items ++ owner_text name.now counts.now) }
+{
+    put(out, &[Piece::Text(" "), Piece::Text(name)])?;
+    put_rules(out, counts)
+}
+
+fn put_run(out: &mut Vec<u8>, board: &Board, run: &Run) -> Result<(), Memory>
+    ensures { OnOk result (out.new.items ≡ out.old.items ++ run_line board.now run.now) }
+{
+    put(out, &[Piece::Text("run")])?;
+    put_numbers(out, &[board.place(), board.number()])?;
+    put(out, &[Piece::Text(stable_text(board))])?;
+    let numbers = [
+        run.closes,
+        run.faults,
+        run.links,
+        run.cuts,
+        run.moves,
+        run.moves_since,
+        run.closes_since,
+    ];
+    put_numbers(out, &numbers)?;
+    put(out, &[Piece::Text("\n")])
+}
+
+fn stable_text(board: &Board) -> &'static str
+    ensures { result.now ≡ stable_text (privileged_count (configuration board.now) == 0) }
+{
+    if board.privileged_count() == 0 {
+        " stable"
+    } else {
+        " unstable"
+    }
+}
