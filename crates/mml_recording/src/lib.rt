@@ -1,0 +1,17 @@
+//! The folder in which a class is recorded: a file for each seat, and what they are read with.
+#![tactic(auto)]
+
+mod folder;
+mod paths;
+mod record_fault;
+mod record_sink;
+mod record_state;
+mod seats;
+mod tail;
+
+pub use folder::RecordFolder;
+pub use record_fault::RecordFault;
+pub use record_sink::RecordSink;
+pub use record_state::{RecordState, end_syncing, sync_until_done};
+pub use seats::{MOST, Seats};
+pub use tail::whole_entries;
