@@ -3,10 +3,9 @@ use Rattle.std.proofs.Common.{rules, ◌≡◌, ◌∙◌, ap, ℕ, Bool, true, 
 use Rattle.std.proofs.lemmas.List.{map-append}
 use Rattle.std.proofs.lemmas.List.Elements.{All-push}
 use Rattle.mml_lab.specs.Labs.{LabValue}
-use Rattle.mml_window.specs.Windows.{WindowValue}
-use Rattle.mml_session.specs.Ends.{EndedKnown}
+use Rattle.mml_session.specs.Records.{EndedRecorded}
 use Rattle.mml_hosting.specs.declared.place.ServedSession.{ServedSession}
-use Rattle.mml_hosting.specs.Places.{Chain, IsServed, IsDismissed, AreGoingOn, is_teachers_bye}
+use Rattle.mml_hosting.specs.Places.{Chain, IsServed, IsDismissed, AreGoingOn, Stand, is_teachers_bye}
 
 -- one more at the end
 chain_more : {S A : Type 0} (P : S → A → A → Type 0) (a mid last : A) (ss : List S) (s : S) → Chain P a ss mid → P s mid last → Chain P a (ss ++ s ∷ []) last
@@ -41,9 +40,9 @@ module _ {R W X : Type 0} (f : X → ServedSession R W) (xs xs' : List X) (x : X
       (All-push (λ s. is_teachers_bye s.ending ≡ false) (map f xs) (f x) (so_far at) (second desk (is_teachers_bye (f x).ending) at (sym noted ∙ so)))
 
 -- what is known of a session by its connection as it came
-pub served_so : {R W : Type 0} (lab : LabValue) (remaining : R → Option (List ℕ)) (contents : W → Option (List ℕ)) (s t : ServedSession R W) (ends : R × W)
-    (w w' : WindowValue) (wrote : Option (List ℕ))
+pub served_so : {R W : Type 0} (lab : LabValue) (remaining : R → Option (List ℕ)) (contents : W → Option (List ℕ)) (number : ℕ) (s t : ServedSession R W)
+    (ends : R × W) (a b : Stand) (wrote : Option (List ℕ))
     → s ≡ t → t.came.value ≡ ends → contents t.writer ≡ wrote
-    → EndedKnown t.ending.end t.ending.who lab w w' (remaining ends.0) (remaining t.reader) (contents ends.1) wrote
-    → IsServed lab remaining contents s w w'
-served_so lab remaining contents s t ends w w' wrote same came kept h = rw (same, came, kept) h
+    → EndedRecorded t.ending.end t.ending.who number lab a.window b.window (remaining ends.0) (remaining t.reader) (contents ends.1) wrote a.kept b.kept
+    → IsServed lab remaining contents number s a b
+served_so lab remaining contents number s t ends a b wrote same came kept h = rw (same, came, kept) h

@@ -4,7 +4,7 @@ use Rattle.std.specs.Io.KnownBytes.{prepend_known}
 use mathlib.Core.List.{IsPrefix}
 use Rattle.mml_lab.specs.Labs.{LabValue}
 use Rattle.mml_board.specs.declared.event.Event.{Event}
-use Rattle.mml_window.specs.Windows.{WindowValue, window}
+use Rattle.mml_window.specs.Windows.{WindowValue}
 use Rattle.mml_window.proofs.PrefixLemmas.{prefix_self, prefix_trans}
 use Rattle.mml_session.specs.declared.session.SessionEnd.{SessionEnd}
 use Rattle.mml_session.specs.declared.session.SessionEnd.TheVariants as end
@@ -12,7 +12,7 @@ use Rattle.mml_session.specs.Ends.{AllAnswered, LastAnswered, LastUnanswered, En
 use Rattle.mml_session.specs.Talks.{newcomer}
 use Rattle.mml_session.proofs.TalkLemmas.{talk_seen, turn_seen}
 use Rattle.mml_hosting.specs.declared.place.ServedSession.{ServedSession}
-use Rattle.mml_hosting.specs.Places.{Chain, IsServed}
+use Rattle.mml_hosting.specs.Places.{Chain, IsServed, Stand}
 
 abbrev Sees : WindowValue → WindowValue → Type 0
 Sees old new = IsPrefix old.seen new.seen
@@ -39,12 +39,12 @@ ended_seen end.TooLong lab old new input left wrote wrote' h = all_answered lab 
 ended_seen end.Closed lab old new input left wrote wrote' h = last_unanswered lab old new input (prepend_known h.0 left) wrote wrote' h.1
 ended_seen end.Memory lab old new input left wrote wrote' h = subst (λ (w : WindowValue). Sees old w) (sym h.0) (prefix_self old.seen)
 
-module _ {R W : Type 0} (lab : LabValue) (remaining : R → Option (List ℕ)) (contents : W → Option (List ℕ)) where
-  served_seen : (s : ServedSession R W) (w w' : WindowValue) → IsServed lab remaining contents s w w' → Sees w w'
-  served_seen s w w' h =
-      ended_seen s.ending.end lab w w' (remaining s.came.value.0) (remaining s.reader) (contents s.came.value.1) (contents s.writer) h.0
+module _ {R W : Type 0} (lab : LabValue) (remaining : R → Option (List ℕ)) (contents : W → Option (List ℕ)) (number : ℕ) where
+  served_seen : (s : ServedSession R W) (a b : Stand) → IsServed lab remaining contents number s a b → Sees a.window b.window
+  served_seen s a b h =
+      ended_seen s.ending.end lab a.window b.window (remaining s.came.value.0) (remaining s.reader) (contents s.came.value.1) (contents s.writer) h.0
 
   -- after sessions one after another
-  pub chain_seen : (ss : List (ServedSession R W)) (w w' : WindowValue) → Chain (IsServed lab remaining contents) w ss w' → Sees w w'
-  chain_seen [] w w' h = subst (λ (v : WindowValue). Sees w v) (sym h) (prefix_self w.seen)
-  chain_seen (s ∷ ss) w w' h = prefix_trans w.seen h.0.seen w'.seen (served_seen s w h.0 h.1) (chain_seen ss h.0 w' h.2)
+  pub chain_seen : (ss : List (ServedSession R W)) (a b : Stand) → Chain (IsServed lab remaining contents number) a ss b → Sees a.window b.window
+  chain_seen [] a b h = subst (λ (v : Stand). Sees a.window v.window) (sym h) (prefix_self a.window.seen)
+  chain_seen (s ∷ ss) a b h = prefix_trans a.window.seen h.0.window.seen b.window.seen (served_seen s a h.0 h.1) (chain_seen ss h.0 b h.2)

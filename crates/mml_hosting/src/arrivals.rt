@@ -27,7 +27,7 @@ pub trait Arrivals<R: Read + Drop, W: Write + Drop, U: CutOff + Drop> {
 
 /// What ends a connection from another thread than its own.
 pub trait CutOff {
-    /// Ends the connection: who reads or writes there meets its end.
+    /// Ends the connection: who reads or writes there meets its end. It may not be served yet.
     fn cut_off(&self);
 }
 

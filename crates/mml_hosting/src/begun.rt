@@ -1,17 +1,24 @@
-//! A house that goes on from events that came before.
+//! A house that goes on from events that came before, and from what was recorded.
 use mml_window::{Brand, House};
 
-/// Names one house, for contracts alone, and the events that came before it was opened.
+/// Names one house, for contracts alone, the events that came before it was opened, and what the recorders
+/// of its places had kept.
 pub trait Begun: House {
-    ghost use Rattle.std.specs.Prelude.{List};
+    ghost use Rattle.std.specs.Prelude.{ℕ, List, Option};
+    ghost use Rattle.mml_session.specs.Records.{Kept};
     ghost use Rattle.mml_board.specs.declared.event.Event.{Event};
 
     // The events that came before, in their order.
     ghost begun: { List Event };
+
+    // What the recorder of the place with each number had kept, where it tells.
+    ghost given: { ℕ → Option Kept };
 }
 
 impl Begun for Brand {
-    ghost use Rattle.std.specs.Prelude.{[]};
+    ghost use Rattle.std.specs.Prelude.{[], None};
 
     ghost begun = { [] };
+
+    ghost given = { λ _. None };
 }

@@ -10,6 +10,6 @@ mod port_serving;
 
 pub use arrivals::{Arrivals, Bell, CutOff, Next};
 pub use begun::Begun;
-pub use hosted::{HostFault, Hosted, Record, resume_host, serve_host};
+pub use hosted::{HostFault, Hosted, Record, Recorders, no_recorders, resume_host, serve_host};
 pub use place::{Keep, Place, ServedSession, serve_in};
 pub use port_serving::{BUSY, serve_port};

@@ -6,7 +6,7 @@ use crate::begun::Begun;
 use mml_journal::Sink;
 use mml_lab::Who;
 use mml_serving::HangUp;
-use mml_session::{Ending, Gate, SessionEnd, Setting, serve_known};
+use mml_session::{Ending, Gate, Recorder, SessionEnd, Setting, serve_recorded};
 use mml_window::Window;
 use std::io::{Read, Write};
 use std::snapshot::Snapshot;
@@ -56,15 +56,16 @@ impl<R: Drop, W: Drop> Keep<R, W> for Snapshot<ServedSession<R, W>> {
     }
 }
 
-/// A window, with the number by which a gate knows it, and what is kept of the sessions that were
-/// served through it.
+/// A window, with the number by which a gate and a record know it, what is kept of the sessions that were
+/// served through it, and what records them.
 #[derive(Drop)]
-pub struct Place<H: Begun, K: Drop> {
+pub struct Place<H: Begun, K: Drop, C: Drop> {
     pub number: u8,
     /// Whether the teacher's bye ends its service.
     pub is_desk: bool,
     pub window: Window<H>,
     pub sessions: Vec<K>,
+    pub recorder: C,
     /// Whether the last session at the desk was ended by the teacher's bye.
     pub is_dismissed: bool,
 }
@@ -75,20 +76,21 @@ pub fn serve_in<
     S: Sink + Drop,
     H: Begun,
     K: Keep<R, W> + Drop,
+    C: Recorder + Drop,
     R: Read + Drop,
     W: Write + HangUp + Drop,
     G: Gate,
 >(
     setting: &Setting<'_, Rt, S, H>,
-    place: Place<H, K>,
+    place: Place<H, K, C>,
     ends: (R, W),
     gate: &G,
     marks: &[AtomicU64],
-) -> Place<H, K>
-    requires place { IsPlace H.lab H.begun R.remaining W.contents K.shows place }
+) -> Place<H, K, C>
+    requires place { IsPlace H.lab H.begun H.given R.remaining W.contents C.kept K.shows place }
     requires open { place.is_dismissed ≡ false }
     requires room { vec_len place.sessions < vec_capacity place.sessions }
-    ensures place { IsPlace H.lab H.begun R.remaining W.contents K.shows result }
+    ensures place { IsPlace H.lab H.begun H.given R.remaining W.contents C.kept K.shows result }
     ensures came { came_to K.shows result ≡ came_to K.shows place ++ ends ∷ [] }
     ensures number { result.number ≡ place.number }
 {
@@ -98,10 +100,19 @@ pub fn serve_in<
         is_desk,
         mut window,
         mut sessions,
+        mut recorder,
         is_dismissed: _,
     } = place;
     let (mut reader, mut writer) = ends;
-    let ending = serve_known(setting, &mut window, &mut reader, &mut writer, gate, number);
+    let ending = serve_recorded(
+        setting,
+        &mut window,
+        &mut reader,
+        &mut writer,
+        gate,
+        number,
+        &mut recorder,
+    );
     // The place is known to be free before the other side sees the end, and may come again.
     set_mark(marks, number, 1);
     writer.hang_up();
@@ -118,6 +129,7 @@ pub fn serve_in<
         is_desk,
         window,
         sessions,
+        recorder,
         is_dismissed,
     }
 }

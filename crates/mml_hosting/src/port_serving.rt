@@ -1,10 +1,9 @@
 //! A port: connections are taken as they come, each to a place that is free.
 ghost use Rattle.std.specs.Prelude.{◌≡◌, ◌<◌, ◌≤◌, ◌+◌, ◌++◌, ℕ, true, false, All, IfOk, IfErr, IfSome, IfNone, [], ◌∷◌, vec_len, vec_capacity};
-ghost use Rattle.std.specs.List.{sum_by};
 ghost use Rattle.std.specs.Thread.{IsSync, IsSend};
 ghost use Rattle.mml_hosting.specs.Places.{IsPlace, came_to};
 ghost use Rattle.mml_hosting.specs.Ports.{ServesPort};
-ghost use Rattle.mml_hosting.specs.Counting.{count_free, count_busy, TakesIn};
+ghost use Rattle.mml_hosting.specs.Counting.{count_free, count_busy, count_in, TakesIn};
 
 use crate::arrivals::{Arrivals, Bell, CutOff, Next};
 use crate::begun::Begun;
@@ -13,7 +12,7 @@ use mml_ids::Memory;
 use mml_journal::Sink;
 use mml_lines::put_all;
 use mml_serving::HangUp;
-use mml_session::{Gate, Setting};
+use mml_session::{Gate, Recorder, Setting};
 use mml_window::Desk;
 use std::alloc::Global;
 use std::io::{Read, Write};
@@ -28,30 +27,46 @@ pub const BUSY: &[u8] = b"{\"refuse\":\"busy\"}\n";
 
 // That the connection was served in the place.
 #[derive(Drop)]
-struct Pledge<H: Begun, K: Drop, R: Drop, W: Drop>(Snapshot<Place<H, K>>, Snapshot<(R, W)>);
+struct Pledge<H: Begun, K: Drop, C: Drop, R: Drop, W: Drop>(
+    Snapshot<Place<H, K, C>>,
+    Snapshot<(R, W)>,
+);
 
-impl<H: Begun, K: Keep<R, W> + Drop, R: Read + Drop, W: Write + Drop> Promise<Place<H, K>>
-    for Pledge<H, K, R, W> {
+impl<H: Begun, K: Keep<R, W> + Drop, C: Recorder + Drop, R: Read + Drop, W: Write + Drop> Promise<
+    Place<H, K, C>,
+> for Pledge<H, K, C, R, W> {
     ghost use Rattle.std.specs.Prelude.{◌≡◌, ◌++◌, [], ◌∷◌};
     ghost use Rattle.mml_hosting.specs.Places.{IsPlace, came_to};
 
-    ghost kept_by = { λ pledge p. IsPlace H.lab H.begun R.remaining W.contents K.shows p
-        × (came_to K.shows p ≡ came_to K.shows pledge.0.value ++ pledge.1.value ∷ []) };
+    ghost kept_by = { λ pledge p. IsPlace H.lab H.begun H.given R.remaining W.contents C.kept K.shows p
+        × (came_to K.shows p ≡ came_to K.shows pledge.0.value ++ pledge.1.value ∷ [])
+        × (p.number ≡ pledge.0.value.number) };
 }
 
 // A place in which a connection is served.
 #[derive(Drop)]
-struct Busy<H: Begun, K: Keep<R, W> + Drop, R: Read + Drop, W: Write + Drop, U: Drop> {
+struct Busy<
+    H: Begun,
+    K: Keep<R, W> + Drop,
+    C: Recorder + Drop,
+    R: Read + Drop,
+    W: Write + Drop,
+    U: Drop,
+> {
     number: u8,
     line: U,
-    handle: PromisedHandle<Place<H, K>, Pledge<H, K, R, W>>,
+    handle: PromisedHandle<Place<H, K, C>, Pledge<H, K, C, R, W>>,
 }
 
 // The first whose thread has come to its end.
-fn first_done<H: Begun, K: Keep<R, W> + Drop, R: Read + Drop, W: Write + Drop, U: Drop>(
-    busy: &Vec<Busy<H, K, R, W, U>>,
-    marks: &[AtomicU64],
-) -> Option<usize>
+fn first_done<
+    H: Begun,
+    K: Keep<R, W> + Drop,
+    C: Recorder + Drop,
+    R: Read + Drop,
+    W: Write + Drop,
+    U: Drop,
+>(busy: &Vec<Busy<H, K, C, R, W, U>>, marks: &[AtomicU64]) -> Option<usize>
     ensures { IfSome result (λ index. index < vec_len busy.now) }
 {
     for index in 0..busy.len() {
@@ -64,31 +79,41 @@ fn first_done<H: Begun, K: Keep<R, W> + Drop, R: Read + Drop, W: Write + Drop, U
 }
 
 // Waits for one, and gives back its place.
-fn join_one<Rt: Threads, H: Begun, K: Keep<R, W> + Drop, R: Read + Drop, W: Write + Drop, U: Drop>(
-    rt: &Rt,
-    busy: &mut Vec<Busy<H, K, R, W, U>>,
-    index: usize,
-) -> Place<H, K>
+fn join_one<
+    Rt: Threads,
+    H: Begun,
+    K: Keep<R, W> + Drop,
+    C: Recorder + Drop,
+    R: Read + Drop,
+    W: Write + Drop,
+    U: Drop,
+>(rt: &Rt, busy: &mut Vec<Busy<H, K, C, R, W, U>>, index: usize) -> Place<H, K, C>
     requires { index < vec_len busy.old }
-    ensures place { IsPlace H.lab H.begun R.remaining W.contents K.shows result }
-    ensures count { (h : R × W → ℕ) →
-        count_busy K.shows h busy.new.items + sum_by h (came_to K.shows result) ≡ count_busy K.shows h busy.old.items }
+    ensures place { IsPlace H.lab H.begun H.given R.remaining W.contents C.kept K.shows result }
+    ensures count { (g : ℕ → ℕ) (h : R × W → ℕ) →
+        count_busy K.shows g h busy.new.items + count_in K.shows g h result ≡ count_busy K.shows g h busy.old.items }
     ensures len { vec_len busy.new + 1 ≡ vec_len busy.old }
     ensures capacity { vec_capacity busy.new ≡ vec_capacity busy.old }
 {
     let Busy {
         number: _,
-        line: _,
+        line,
         handle,
     } = busy.swap_remove(index);
-    handle.join(rt)
+    drop(line);
+    let place = handle.join(rt);
+    place
 }
 
 // The one to wait for next: by the marks the first whose thread has come to its end, and without marks any.
-fn next_to_join<H: Begun, K: Keep<R, W> + Drop, R: Read + Drop, W: Write + Drop, U: Drop>(
-    busy: &Vec<Busy<H, K, R, W, U>>,
-    marks: Option<&[AtomicU64]>,
-) -> Option<usize>
+fn next_to_join<
+    H: Begun,
+    K: Keep<R, W> + Drop,
+    C: Recorder + Drop,
+    R: Read + Drop,
+    W: Write + Drop,
+    U: Drop,
+>(busy: &Vec<Busy<H, K, C, R, W, U>>, marks: Option<&[AtomicU64]>) -> Option<usize>
     ensures some { IfSome result (λ index. index < vec_len busy.now) }
     ensures none { IfNone result (IfNone marks.entry (busy.now.items ≡ [])) }
 {
@@ -101,17 +126,26 @@ fn next_to_join<H: Begun, K: Keep<R, W> + Drop, R: Read + Drop, W: Write + Drop,
 
 // Takes back the places whose threads have come to their end by the marks. Without marks it waits for all
 // threads, and takes back all places.
-fn gather<Rt: Threads, H: Begun, K: Keep<R, W> + Drop, R: Read + Drop, W: Write + Drop, U: Drop>(
+fn gather<
+    Rt: Threads,
+    H: Begun,
+    K: Keep<R, W> + Drop,
+    C: Recorder + Drop,
+    R: Read + Drop,
+    W: Write + Drop,
+    U: Drop,
+>(
     rt: &Rt,
-    free: &mut Vec<Place<H, K>>,
-    busy: &mut Vec<Busy<H, K, R, W, U>>,
+    free: &mut Vec<Place<H, K, C>>,
+    busy: &mut Vec<Busy<H, K, C, R, W, U>>,
     marks: Option<&[AtomicU64]>,
 )
-    requires places { All (IsPlace H.lab H.begun R.remaining W.contents K.shows) free.old.items }
+    requires places { All (IsPlace H.lab H.begun H.given R.remaining W.contents C.kept K.shows) free.old.items }
     requires room { vec_len free.old + vec_len busy.old ≤ vec_capacity free.old }
-    ensures places { All (IsPlace H.lab H.begun R.remaining W.contents K.shows) free.new.items }
-    ensures count { (h : R × W → ℕ) → count_free K.shows h free.new.items + count_busy K.shows h busy.new.items
-        ≡ count_free K.shows h free.old.items + count_busy K.shows h busy.old.items }
+    ensures places { All (IsPlace H.lab H.begun H.given R.remaining W.contents C.kept K.shows) free.new.items }
+    ensures count { (g : ℕ → ℕ) (h : R × W → ℕ) →
+        count_free K.shows g h free.new.items + count_busy K.shows g h busy.new.items
+        ≡ count_free K.shows g h free.old.items + count_busy K.shows g h busy.old.items }
     ensures len { vec_len free.new + vec_len busy.new ≡ vec_len free.old + vec_len busy.old }
     ensures capacity { vec_capacity free.new ≡ vec_capacity free.old }
     ensures busy_capacity { vec_capacity busy.new ≡ vec_capacity busy.old }
@@ -123,19 +157,19 @@ fn gather<Rt: Threads, H: Begun, K: Keep<R, W> + Drop, R: Read + Drop, W: Write 
 }
 
 // A place that is free, where one session more may be served.
-fn next_free<H: Begun, K: Keep<R, W> + Drop, R: Read + Drop, W: Write + Drop>(
-    free: &mut Vec<Place<H, K>>,
-) -> Option<Place<H, K>>
-    requires places { All (IsPlace H.lab H.begun R.remaining W.contents K.shows) free.old.items }
-    ensures place { IfSome result (λ place. IsPlace H.lab H.begun R.remaining W.contents K.shows place
+fn next_free<H: Begun, K: Keep<R, W> + Drop, C: Recorder + Drop, R: Read + Drop, W: Write + Drop>(
+    free: &mut Vec<Place<H, K, C>>,
+) -> Option<Place<H, K, C>>
+    requires places { All (IsPlace H.lab H.begun H.given R.remaining W.contents C.kept K.shows) free.old.items }
+    ensures place { IfSome result (λ place. IsPlace H.lab H.begun H.given R.remaining W.contents C.kept K.shows place
         × (place.is_dismissed ≡ false) × (vec_len place.sessions < vec_capacity place.sessions)) }
-    ensures places { All (IsPlace H.lab H.begun R.remaining W.contents K.shows) free.new.items }
+    ensures places { All (IsPlace H.lab H.begun H.given R.remaining W.contents C.kept K.shows) free.new.items }
     ensures some { IfSome result (λ place. (vec_len free.new + 1 ≡ vec_len free.old)
-        × ((h : R × W → ℕ) → count_free K.shows h free.new.items + sum_by h (came_to K.shows place)
-        ≡ count_free K.shows h free.old.items)) }
+        × ((g : ℕ → ℕ) (h : R × W → ℕ) → count_free K.shows g h free.new.items + count_in K.shows g h place
+        ≡ count_free K.shows g h free.old.items)) }
     ensures none { IfNone result (vec_len free.new ≡ vec_len free.old) }
-    ensures same { IfNone result ((h : R × W → ℕ) →
-        count_free K.shows h free.new.items ≡ count_free K.shows h free.old.items) }
+    ensures same { IfNone result ((g : ℕ → ℕ) (h : R × W → ℕ) →
+        count_free K.shows g h free.new.items ≡ count_free K.shows g h free.old.items) }
     ensures capacity { vec_capacity free.new ≡ vec_capacity free.old }
 {
     let mut place = free.pop()?;
@@ -147,12 +181,17 @@ fn next_free<H: Begun, K: Keep<R, W> + Drop, R: Read + Drop, W: Write + Drop>(
 }
 
 // Whether one session more may be served in the place. Where it may, there is room for what is kept of it.
-fn is_made_ready<H: Begun, K: Keep<R, W> + Drop, R: Read + Drop, W: Write + Drop>(
-    place: &mut Place<H, K>,
-) -> bool
-    requires place { IsPlace H.lab H.begun R.remaining W.contents K.shows place.old }
-    ensures place { IsPlace H.lab H.begun R.remaining W.contents K.shows place.new }
+fn is_made_ready<
+    H: Begun,
+    K: Keep<R, W> + Drop,
+    C: Recorder + Drop,
+    R: Read + Drop,
+    W: Write + Drop,
+>(place: &mut Place<H, K, C>) -> bool
+    requires place { IsPlace H.lab H.begun H.given R.remaining W.contents C.kept K.shows place.old }
+    ensures place { IsPlace H.lab H.begun H.given R.remaining W.contents C.kept K.shows place.new }
     ensures came { came_to K.shows place.new ≡ came_to K.shows place.old }
+    ensures number { place.new.number ≡ place.old.number }
     ensures ready { result ≡ true → (place.new.is_dismissed ≡ false)
         × (vec_len place.new.sessions < vec_capacity place.new.sessions) }
 {
@@ -168,9 +207,14 @@ fn turn_away<R: Drop, W: Write + HangUp + Drop>(ends: (R, W)) {
 }
 
 // Ends all connections that are being served.
-fn cut_off_all<H: Begun, K: Keep<R, W> + Drop, R: Read + Drop, W: Write + Drop, U: CutOff + Drop>(
-    busy: &Vec<Busy<H, K, R, W, U>>,
-) {
+fn cut_off_all<
+    H: Begun,
+    K: Keep<R, W> + Drop,
+    C: Recorder + Drop,
+    R: Read + Drop,
+    W: Write + Drop,
+    U: CutOff + Drop,
+>(busy: &Vec<Busy<H, K, C, R, W, U>>) {
     for index in 0..busy.len() {
         busy[index].line.cut_off();
     }
@@ -207,25 +251,30 @@ impl<
     G: Gate + Sync + 's,
     B: Bell + Sync + 's,
 > Shared<'s, Rt, S, H, G, B> {
-    // Serves a connection in a place: in a thread of its own, or at once where none can be made.
+    // Serves a connection in a place in a thread of its own. Where none can be made it is ended before it
+    // is served, so that nobody behind waits for it; but at the desk it is served at once.
     fn serve_apart<
         E,
         K: Keep<R, W> + Send + Drop + 's,
+        C: Recorder + Send + Drop + 's,
         R: Read + Send + Drop + 's,
         W: Write + HangUp + Send + Drop + 's,
+        U: CutOff,
     >(
         &self,
         scope: &Scope<'s, E>,
-        place: Place<H, K>,
+        place: Place<H, K, C>,
         ends: (R, W),
-    ) -> Result<PromisedHandle<Place<H, K>, Pledge<H, K, R, W>>, Place<H, K>>
-        requires place { IsPlace H.lab H.begun R.remaining W.contents K.shows place }
+        line: &U,
+    ) -> Result<PromisedHandle<Place<H, K, C>, Pledge<H, K, C, R, W>>, Place<H, K, C>>
+        requires place { IsPlace H.lab H.begun H.given R.remaining W.contents C.kept K.shows place }
         requires open { place.is_dismissed ≡ false }
         requires room { vec_len place.sessions < vec_capacity place.sessions }
         ensures pledged { IfOk result (λ handle. (handle.promise.0.value ≡ place)
             × (handle.promise.1.value ≡ ends)) }
-        ensures served { IfErr result (λ served. IsPlace H.lab H.begun R.remaining W.contents K.shows served
-            × (came_to K.shows served ≡ came_to K.shows place ++ ends ∷ [])) }
+        ensures served { IfErr result (λ served. IsPlace H.lab H.begun H.given R.remaining W.contents C.kept K.shows served
+            × (came_to K.shows served ≡ came_to K.shows place ++ ends ∷ [])
+            × (served.number ≡ place.number)) }
     {
         let rt = self.rt;
         let alloc = self.alloc;
@@ -233,16 +282,18 @@ impl<
         let gate = self.gate;
         let bell = self.bell;
         let marks = self.marks;
+        let is_desk = place.is_desk;
         set_mark(marks, place.number, 0);
         let pledge = Pledge(Snapshot::of(&place), Snapshot::of(&ends));
         match scope.spawn_with(
             pledge,
-            move || -> Place<H, K>
-                requires { IsPlace H.lab H.begun R.remaining W.contents K.shows place
+            move || -> Place<H, K, C>
+                requires { IsPlace H.lab H.begun H.given R.remaining W.contents C.kept K.shows place
                     × (place.is_dismissed ≡ false)
                     × (vec_len place.sessions < vec_capacity place.sessions) }
-                ensures { IsPlace H.lab H.begun R.remaining W.contents K.shows result
-                    × (came_to K.shows result ≡ came_to K.shows place ++ ends ∷ []) }
+                ensures { IsPlace H.lab H.begun H.given R.remaining W.contents C.kept K.shows result
+                    × (came_to K.shows result ≡ came_to K.shows place ++ ends ∷ [])
+                    × (result.number ≡ place.number) }
             {
                 let setting = Setting { rt, alloc, desk };
                 let place = serve_in(&setting, place, ends, gate, marks);
@@ -251,7 +302,12 @@ impl<
             },
         ) {
             Ok(handle) => Ok(handle),
-            Err(refused) => Err((refused.value)()),
+            Err(refused) => {
+                if !is_desk {
+                    line.cut_off();
+                }
+                Err((refused.value)())
+            }
         }
     }
 
@@ -259,21 +315,22 @@ impl<
     fn take_in<
         E,
         K: Keep<R, W> + Send + Drop + 's,
+        C: Recorder + Send + Drop + 's,
         R: Read + Send + Drop + 's,
         W: Write + HangUp + Send + Drop + 's,
         U: CutOff + Drop,
     >(
         &self,
         scope: &Scope<'s, E>,
-        free: &mut Vec<Place<H, K>>,
-        busy: &mut Vec<Busy<H, K, R, W, U>>,
+        free: &mut Vec<Place<H, K, C>>,
+        busy: &mut Vec<Busy<H, K, C, R, W, U>>,
         ends: (R, W),
         line: U,
     )
-        requires places { All (IsPlace H.lab H.begun R.remaining W.contents K.shows) free.old.items }
+        requires places { All (IsPlace H.lab H.begun H.given R.remaining W.contents C.kept K.shows) free.old.items }
         requires room { vec_len free.old + vec_len busy.old ≤ vec_capacity free.old }
         requires busy_room { vec_len free.old + vec_len busy.old ≤ vec_capacity busy.old }
-        ensures places { All (IsPlace H.lab H.begun R.remaining W.contents K.shows) free.new.items }
+        ensures places { All (IsPlace H.lab H.begun H.given R.remaining W.contents C.kept K.shows) free.new.items }
         ensures takes { TakesIn K.shows ends free.old.items busy.old.items
             free.new.items busy.new.items }
         ensures len { vec_len free.new + vec_len busy.new ≡ vec_len free.old + vec_len busy.old }
@@ -286,7 +343,7 @@ impl<
             return;
         };
         let number = place.number;
-        match self.serve_apart(scope, place, ends) {
+        match self.serve_apart(scope, place, ends, &line) {
             Ok(handle) => busy.push_reserved(Busy {
                 number,
                 line,
@@ -300,6 +357,7 @@ impl<
     fn serve_until_over<
         E,
         K: Keep<R, W> + Send + Drop + 's,
+        C: Recorder + Send + Drop + 's,
         R: Read + Send + Drop + 's,
         W: Write + HangUp + Send + Drop + 's,
         U: CutOff + Drop,
@@ -307,11 +365,11 @@ impl<
     >(
         &self,
         scope: &Scope<'s, E>,
-        places: Vec<Place<H, K>>,
+        places: Vec<Place<H, K, C>>,
         arrivals: A,
-    ) -> Result<Vec<Place<H, K>>, Memory>
-        requires places { All (IsPlace H.lab H.begun R.remaining W.contents K.shows) places.items }
-        ensures { IfOk result (λ ps. ServesPort H.lab H.begun R.remaining W.contents K.shows
+    ) -> Result<Vec<Place<H, K, C>>, Memory>
+        requires places { All (IsPlace H.lab H.begun H.given R.remaining W.contents C.kept K.shows) places.items }
+        ensures { IfOk result (λ ps. ServesPort H.lab H.begun H.given R.remaining W.contents C.kept K.shows
             (A.to_come arrivals) places.items ps.items) }
     {
         let mut arrivals = arrivals;
@@ -336,12 +394,14 @@ impl<
 
 /// Takes connections as they come, each to a place that is free, where a thread of its own serves it,
 /// and turns away those for which none is. At the end all that are still served are hung up, and all
-/// threads have ended when it returns.
+/// threads have ended when it returns. For whom no thread can be made is ended before anything is read,
+/// but at the desk.
 pub fn serve_port<
     Rt: Threads + Wait + Sync,
     S: Sink + Send + Drop,
     H: Begun + Send + Sync,
     K: Keep<R, W> + Send + Drop,
+    C: Recorder + Send + Drop,
     R: Read + Send + Drop,
     W: Write + HangUp + Send + Drop,
     U: CutOff + Drop,
@@ -350,13 +410,13 @@ pub fn serve_port<
     B: Bell + Sync,
 >(
     setting: &Setting<'_, Rt, S, H>,
-    places: Vec<Place<H, K>>,
+    places: Vec<Place<H, K, C>>,
     arrivals: A,
     gate: &G,
     bell: &B,
-) -> Result<Vec<Place<H, K>>, Memory>
-    requires places { All (IsPlace H.lab H.begun R.remaining W.contents K.shows) places.items }
-    ensures serves { IfOk result (λ ps. ServesPort H.lab H.begun R.remaining W.contents K.shows
+) -> Result<Vec<Place<H, K, C>>, Memory>
+    requires places { All (IsPlace H.lab H.begun H.given R.remaining W.contents C.kept K.shows) places.items }
+    ensures serves { IfOk result (λ ps. ServesPort H.lab H.begun H.given R.remaining W.contents C.kept K.shows
         (A.to_come arrivals) places.items ps.items) }
 {
     let rt = setting.rt;
@@ -367,11 +427,11 @@ pub fn serve_port<
     thread::scope(
         thread::scope_env(),
         rt,
-        |scope| -> Result<Vec<Place<H, K>>, Memory>
+        |scope| -> Result<Vec<Place<H, K, C>>, Memory>
             requires { IsSync Rt.row × IsSync G.row × IsSync B.row × IsSend S.row × IsSend H.row
-                × IsSync H.row × IsSend K.row × IsSend R.row × IsSend W.row
-                × All (IsPlace H.lab H.begun R.remaining W.contents K.shows) places.items }
-            ensures { IfOk result (λ ps. ServesPort H.lab H.begun R.remaining W.contents K.shows
+                × IsSync H.row × IsSend K.row × IsSend C.row × IsSend R.row × IsSend W.row
+                × All (IsPlace H.lab H.begun H.given R.remaining W.contents C.kept K.shows) places.items }
+            ensures { IfOk result (λ ps. ServesPort H.lab H.begun H.given R.remaining W.contents C.kept K.shows
                 (A.to_come arrivals) places.items ps.items) }
         {
             let shared = Shared {

@@ -1,8 +1,9 @@
-use Rattle.std.proofs.Common.{rules, ◌≡◌, length, ap, subst, ◌∙◌, ℕ}
+use Rattle.std.proofs.Common.{rules, ◌≡◌, ◌∷◌, length, ap, subst, ◌∙◌, ℕ}
 use Rattle.std.specs.Io.KnownBytes.{Appends}
 use Rattle.mml_board.specs.World.{World}
 use Rattle.mml_window.specs.Lists.{world_in}
 use Rattle.mml_serving.specs.Closings.{done_line}
+use Rattle.mml_hosting.proofs.HouseLemmas.{are_given}
 use Rattle.mml_hosting.proofs.hosted.resume_host.Goals as goal
 
 pub returns-in-Ok-write_last-clause-hosts : goal.returns-in-Ok-write_last-clause-hosts
@@ -14,3 +15,6 @@ returns-in-Ok-write_last-clause-last g c =
     let board : log.board ≡ world_in c.args.lab log.events = (returns-in-Ok-write_last-clause-hosts g c).kept.board in
     subst (λ (w : World). Appends (g.O.Write.contents c.args.writer.now) (g.O.Write.contents c.write_last.new.writer) (done_line (length log.events) w.number))
     board c.in-Ok-write_last.ensures.told
+
+pub in_house-requires-clause-recorders : goal.in_house-requires-clause-recorders
+in_house-requires-clause-recorders g c κs within = are_given g.C.Recorder.kept 1 (c.args.recorders.desk ∷ c.args.recorders.others.items)

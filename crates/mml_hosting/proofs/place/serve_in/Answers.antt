@@ -1,6 +1,6 @@
 use Rattle.std.proofs.Common.{◌≡◌, ◌&&◌, []}
 use Rattle.mml_window.specs.Windows.{window}
-use Rattle.mml_hosting.specs.Places.{IsServed, is_teachers_bye}
+use Rattle.mml_hosting.specs.Places.{IsServed, is_teachers_bye, stand}
 use Rattle.mml_hosting.proofs.ChainLemmas.{chain_so, dismissed_so, going_on_so, served_so}
 use Rattle.mml_hosting.proofs.place.serve_in.Goals as goal
 
@@ -18,9 +18,10 @@ returns-clause-place g c =
     let noted : c.is_dismissed_by-is_dismissed.result ≡ (place.is_desk && is_teachers_bye (shows c.keep.result).ending) =
     rw same c.is_dismissed_by-is_dismissed.ensures in
     record {
-      each = chain_so (IsServed lab remaining contents) shows (window g.H.Begun.begun []) place.window _ was now c.keep.result put c.requires.place.each
-          (served_so lab remaining contents
-          (shows c.keep.result) _ c.args.ends _ _ _ same c.of-came.ensures c.hang_up.ensures c.serve_known-ending.ensures.ended);
+      each = chain_so (IsServed lab remaining contents place.number) shows (stand (window g.H.Begun.begun []) (g.H.Begun.given place.number))
+          (stand place.window (g.C.Recorder.kept place.recorder)) _ was now c.keep.result put c.requires.place.each
+          (served_so lab remaining contents place.number
+          (shows c.keep.result) _ c.args.ends _ _ _ same c.of-came.ensures c.hang_up.ensures c.serve_recorded-ending.ensures.ended);
       dismissed =
           dismissed_so shows was now c.keep.result put place.is_desk c.is_dismissed_by-is_dismissed.result noted
           (λ at. c.requires.place.going_on at c.requires.open);

@@ -1,7 +1,7 @@
 use Rattle.std.proofs.Common.{rules, List, All, length, ap, arith, subst, sym}
 use Rattle.mml_hosting.specs.Places.{IsPlace}
 use Rattle.mml_hosting.specs.declared.place.Place.{Place}
-use Rattle.mml_hosting.proofs.PortLemmas.{nothing_yet, one_came, all_attended, nobody_came}
+use Rattle.mml_hosting.proofs.PortLemmas.{nothing_yet, one_came, all_attended, all_numbered, nobody_came}
 use Rattle.mml_hosting.proofs.port_serving.Shared.serve_until_over.Goals as goal
 
 pub loop-init : goal.loop-init
@@ -9,7 +9,7 @@ loop-init g c = record {
   next = tt;
   finite = tt;
   places =
-      subst (λ (ps : List (Place _ _)). All (IsPlace g.H.House.lab g.H.Begun.begun g.R.Read.remaining g.W.Write.contents g.K.Keep.shows) ps)
+      subst (λ (ps : List (Place _ _ _)). All (IsPlace g.H.House.lab g.H.Begun.begun g.H.Begun.given g.R.Read.remaining g.W.Write.contents g.C.Recorder.kept g.K.Keep.shows) ps)
       (sym c.reserve.ensures.items) c.requires.places;
   history = nothing_yet g.K.Keep.shows (g.A.Arrivals.to_come c.args.arrivals) c.reserve.new.self.items c.in_ok-busy.busy.items c.in_ok-busy.ensures.items;
   len = search rules;
@@ -52,6 +52,10 @@ returns g c =
     record {
       places = joined.places;
       count = omega (arith, at.len, joined.len, c.reserve.ensures.len, ap length joined.all);
+      numbers =
+          rw (sym same)
+          (all_numbered g.K.Keep.shows _ _ c.reserve.new.self.items c.loop.free.items c.gather-2.new.free.items c.loop.busy.items c.gather-2.new.busy.items
+          at.history joined.all joined.count);
       attends =
           rw (sym same)
           (all_attended g.K.Keep.shows _ _ c.reserve.new.self.items c.loop.free.items c.gather-2.new.free.items c.loop.busy.items c.gather-2.new.busy.items
