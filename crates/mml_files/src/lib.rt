@@ -6,6 +6,7 @@ mod lab_copy;
 mod old_journal;
 mod open_journal;
 mod paths;
+mod pipe;
 
 pub use journal_file_fault::JournalFileFault;
 pub use old_journal::OldJournal;

@@ -1,2 +1,3 @@
 mod WordsLemmas
 pub mod TellingLemmas
+pub mod TallyLemmas

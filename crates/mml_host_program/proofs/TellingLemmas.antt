@@ -3,18 +3,19 @@ use Rattle.std.proofs.Common.{◌≡◌, ℕ, List, ◌++◌, Option, subst}
 use Rattle.std.specs.Io.KnownBytes.{Appends}
 use Rattle.mml_lab.specs.Labs.{LabValue}
 use Rattle.mml_window.specs.Lists.{world_in}
+use Rattle.mml_session.specs.Records.{Kept}
 use Rattle.mml_hosting.specs.declared.place.ServedSession.{ServedSession}
 use Rattle.mml_hosting.specs.declared.hosted.Hosted.{Hosted}
 use Rattle.mml_resuming.specs.Resuming.{resumed_line, Resumes}
 use Rattle.mml_host_program.specs.Telling.{ports_line, TellsResumed}
 
 -- a host that went on, and told the ports first
-pub told_resumed : {S K R W : Type 0} (lab : LabValue) (old first : List ℕ) (sink : S → Option (List ℕ)) (remaining : R → Option (List ℕ))
-    (contents : W → Option (List ℕ)) (shows : K → ServedSession R W) (to_desk to_come : Option (List (R × W)))
-    (wrote wrote' : Option (List ℕ)) (house : Hosted S K) (port desk : ℕ)
-    → Resumes lab old first sink remaining contents shows to_desk to_come wrote wrote' house → first ≡ ports_line port desk
+pub told_resumed : {S K C R W : Type 0} (lab : LabValue) (old first : List ℕ) (given : ℕ → Option Kept) (sink : S → Option (List ℕ)) (remaining : R → Option (List ℕ))
+    (contents : W → Option (List ℕ)) (recorded : C → Option Kept) (shows : K → ServedSession R W) (to_desk to_come : Option (List (R × W)))
+    (wrote wrote' : Option (List ℕ)) (house : Hosted S K C) (port desk : ℕ)
+    → Resumes lab old first given sink remaining contents recorded shows to_desk to_come wrote wrote' house → first ≡ ports_line port desk
     → TellsResumed lab old port desk wrote wrote'
-told_resumed lab old first sink remaining contents shows to_desk to_come wrote wrote' house port desk r same = record {
+told_resumed lab old first given sink remaining contents recorded shows to_desk to_come wrote wrote' house port desk r same = record {
   begun = r.begun;
   events = house.log.events;
   between = r.between;

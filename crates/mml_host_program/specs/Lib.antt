@@ -1,3 +1,4 @@
 pub mod Faults
 pub mod Telling
+pub mod Verifying
 pub mod Words

@@ -1,10 +1,12 @@
 //! What ends the host early: one line on standard error and a status.
 ghost use Rattle.std.specs.Prelude.{◌≡◌, true, false};
 
+use crate::record_refusal::RecordRefusal;
 use mml_files::JournalFileFault;
 use mml_hosting::HostFault;
 use mml_ids::Memory;
 use mml_program::Fault as ProgramFault;
+use mml_recording::RecordFault;
 use mml_resuming::ResumeFault;
 use thiserror::Error;
 
@@ -26,9 +28,24 @@ pub enum Fault {
     /// There was no reader's place for a window.
     #[error("host: no place for a window")]
     Place,
+    /// The system lets the program have too few files open for a class.
+    #[error("host: too few files may be open")]
+    FewFiles,
+    /// The system lets the program have too few threads for a class.
+    #[error("host: too few threads may be started")]
+    FewThreads,
     /// The copy of a lab beside the journal isn't of this lab.
     #[error("resume: another lab")]
     AnotherLab,
+    /// The record is none of the lab and the journal.
+    #[error("verify: {0}")]
+    Record(RecordRefusal),
+    /// A file of the record can't be opened or read, or is too large.
+    #[error("read fault: record")]
+    ReadRecord,
+    /// The record's folder can't be made, kept or gone on with, or didn't take all of an entry.
+    #[error("record fault")]
+    Unrecorded,
 }
 
 impl Fault {
@@ -37,8 +54,10 @@ impl Fault {
         match self {
             Fault::Common(fault) => fault.status(),
             Fault::AnotherLab => 2,
-            Fault::Listen | Fault::Accept | Fault::Astray => 4,
-            Fault::Place => 5,
+            Fault::Record(_) => 3,
+            Fault::Listen | Fault::Accept | Fault::Astray | Fault::ReadRecord | Fault::Unrecorded =>
+                4,
+            Fault::Place | Fault::FewFiles | Fault::FewThreads => 5,
         }
     }
 
@@ -68,6 +87,19 @@ impl From<ProgramFault> for Fault {
 impl From<JournalFileFault> for Fault {
     fn from(fault: JournalFileFault) -> Fault {
         Fault::Common(ProgramFault::from(fault))
+    }
+}
+
+impl From<RecordFault> for Fault {
+    ghost use Rattle.mml_host_program.specs.Faults.{of_record};
+
+    ghost from_gives = { λ fault e. e ≡ of_record fault };
+
+    fn from(fault: RecordFault) -> Fault {
+        match fault {
+            RecordFault::Refused => Fault::Unrecorded,
+            RecordFault::Memory => Fault::Common(ProgramFault::Memory),
+        }
     }
 }
 

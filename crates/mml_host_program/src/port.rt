@@ -1,16 +1,25 @@
 //! A host's ports, of whose connections no contract knows what they give and take.
-use crate::shared_socket::{Incoming, Outgoing, SharedSocket, SocketCutOff, SocketReader};
+use crate::crowd::Crowd;
+use crate::last_word::LastWord;
+use crate::shared_socket::SharedSocket;
+use crate::socket_reader::{Incoming, SocketReader};
+use crate::socket_writer::{Outgoing, SocketCutOff, WRITE_LIMIT};
 use crate::state::HostState;
 use mml_hosting::{Arrivals, Bell, Next};
+use mml_serving::HangUp;
 use std::alloc::Global;
+use std::collections::VecDeque;
 use std::io::{Error, ErrorKind};
 use std::net::{Net, SocketAddr, TcpListener, TcpStream};
 use std::sync::{Arc, Mutex, Wait};
-use std::time::{Clock, Duration};
+use std::time::{Clock, Duration, Instant};
 use std::{io, thread};
 
-/// How many seconds a write may wait until the other side takes a byte.
-pub const WRITE_LIMIT: u64 = 10;
+// How many milliseconds a newcomer waits for a place.
+const PLACE: u64 = 500;
+
+// How many newcomers may wait at a time.
+const WAITING: usize = 16;
 
 // How often a port is called that doesn't answer.
 const CALLS: u32 = 50;
@@ -18,65 +27,192 @@ const CALLS: u32 = 50;
 // How many milliseconds it is waited for each time.
 const CALL: u64 = 100;
 
-/// A port at which connections are accepted until the host is over.
+// One who has come, and isn't served yet.
+#[derive(Drop)]
+struct Newcomer<'a, Rt> {
+    reader: Incoming<'a, Rt>,
+    writer: Outgoing<'a, Rt>,
+    cut_off: SocketCutOff<'a, Rt>,
+    socket: Arc<SharedSocket, Global>,
+    since: Instant,
+}
+
+impl<'a, Rt: Clock + Wait + Eprint> Newcomer<'a, Rt> {
+    // Hangs up, and says why.
+    fn turn_away(self, rt: &'a Rt, word: LastWord) {
+        let mut newcomer = self;
+        newcomer.socket.note_last(rt, word);
+        newcomer.writer.hang_up();
+    }
+}
+
+/// A port at which connections are accepted until the host is over. One for whom there is no place waits
+/// for it a moment, while others are accepted.
 #[derive(Drop)]
 pub struct Port<'a, Rt> {
-    pub rt: &'a Rt,
-    pub alloc: Global,
-    pub state: &'a HostState,
-    pub listener: TcpListener,
-    /// How long each line of a connection after the first may take.
-    pub patience: Option<Duration>,
+    rt: &'a Rt,
+    alloc: Global,
+    state: &'a HostState,
+    crowd: &'a Crowd,
+    listener: TcpListener,
+    // How long each line of a connection after its hello may take.
+    patience: Option<Duration>,
+    waiting: VecDeque<Newcomer<'a, Rt>>,
+    // How many have come.
+    count: u64,
 }
 
 type Accepted<'a, Rt> = Next<Incoming<'a, Rt>, Outgoing<'a, Rt>, SocketCutOff<'a, Rt>>;
 
-impl<'a, Rt: Clock + Wait> Port<'a, Rt> {
-    // The next connection, for whose sake nothing is done yet.
-    fn accept(&self) -> io::Result<Accepted<'a, Rt>> {
+impl<'a, Rt: Clock + Wait + Eprint> Port<'a, Rt> {
+    /// A port to which nobody has come yet.
+    pub fn new(
+        rt: &'a Rt,
+        alloc: Global,
+        state: &'a HostState,
+        crowd: &'a Crowd,
+        listener: TcpListener,
+        patience: Option<Duration>,
+    ) -> Port<'a, Rt> {
+        Port {
+            rt,
+            alloc,
+            state,
+            crowd,
+            listener,
+            patience,
+            waiting: VecDeque::new(alloc),
+            count: 0,
+        }
+    }
+
+    // The next connection, for whose sake nothing is done yet. While others wait it isn't waited for.
+    fn accept(&mut self) -> io::Result<Newcomer<'a, Rt>> {
+        self.listener.set_nonblocking(!self.waiting.is_empty())?;
         let (stream, _) = self.listener.accept()?;
         // Where the system refuses this, replies still go out, only later.
         let _ = stream.set_nodelay(true);
         stream.set_write_timeout(Some(Duration::from_secs(WRITE_LIMIT)))?;
-        let Ok(socket) = Arc::new(self.alloc, SharedSocket::new(stream)) else {
+        self.count = self.count.wrapping_add(1);
+        let Ok(socket) = Arc::new(self.alloc, SharedSocket::new(stream, self.count)) else {
             return Err(Error::from(ErrorKind::OutOfMemory));
         };
-        let writer = Outgoing::new(self.rt, Arc::try_clone(&socket)?);
-        let cut_off = SocketCutOff::new(self.rt, Arc::try_clone(&socket)?);
-        let reader = SocketReader::new(self.rt, self.state, socket, self.patience)?;
-        Ok(Next::Came((reader, writer), cut_off))
+        let (rt, state) = (self.rt, self.state);
+        let its = Arc::try_clone(&socket)?;
+        let writer = Outgoing::new(rt, self.alloc, state, self.crowd, its);
+        let cut_off = SocketCutOff::new(rt, state, Arc::try_clone(&socket)?);
+        let reader = SocketReader::new(rt, state, Arc::try_clone(&socket)?, self.patience)?;
+        let since = Instant::now(rt)?;
+        Ok(Newcomer {
+            reader,
+            writer,
+            cut_off,
+            socket,
+            since,
+        })
+    }
+
+    // One who has come waits to be let in.
+    fn queue(&mut self, newcomer: Newcomer<'a, Rt>) {
+        if self.waiting.len() >= WAITING
+            && let Some(first) = self.waiting.pop_front()
+        {
+            first.turn_away(self.rt, LastWord::Busy);
+        }
+        if let Err(refused) = self.waiting.push_back(newcomer) {
+            self.state.note_memory(self.rt);
+            refused.value.turn_away(self.rt, LastWord::Busy);
+        }
+    }
+
+    // The first of those who wait, if there is a place. Who has waited too long is turned away.
+    fn let_in(&mut self) -> Option<Accepted<'a, Rt>> {
+        let first = self.waiting.front()?;
+        let now = Instant::now(self.rt).ok()?;
+        let waited = now.duration_since(first.since);
+        if self.crowd.has_room(self.rt, now, waited) {
+            return self.bring(now);
+        }
+        if waited >= Duration::from_millis(PLACE)
+            && let Some(first) = self.waiting.pop_front()
+        {
+            first.turn_away(self.rt, LastWord::Busy);
+        }
+        None
+    }
+
+    fn bring(&mut self, now: Instant) -> Option<Accepted<'a, Rt>> {
+        let first = self.waiting.pop_front()?;
+        let Newcomer {
+            reader,
+            writer,
+            cut_off,
+            socket,
+            since: _,
+        } = first;
+        if self.crowd.enter(self.rt, socket, now).is_err() {
+            self.state.note_memory(self.rt);
+        }
+        Some(Next::Came((reader, writer), cut_off))
+    }
+
+    // Nobody is let in any more.
+    fn close(&mut self) -> Accepted<'a, Rt> {
+        for _ in 0..self.waiting.len() {
+            if let Some(first) = self.waiting.pop_front() {
+                first.turn_away(self.rt, LastWord::Over);
+            }
+        }
+        Next::Over
+    }
+
+    // Waits for what may let the next accept succeed: a session ends, and gives back what it holds.
+    fn put_off(&mut self, kind: ErrorKind, ended: u64) {
+        match kind {
+            ErrorKind::OutOfMemory => self.state.note_memory(self.rt),
+            ErrorKind::Interrupted | ErrorKind::WouldBlock => {}
+            _ => {
+                if let Some(first) = self.waiting.pop_front() {
+                    first.turn_away(self.rt, LastWord::Busy);
+                }
+            }
+        }
+        if kind != ErrorKind::Interrupted {
+            let is_hurried = !self.waiting.is_empty();
+            self.state.wait_past(self.rt, ended, is_hurried);
+        }
     }
 }
 
-impl<'a, Rt: Clock + Wait> Arrivals<Incoming<'a, Rt>, Outgoing<'a, Rt>, SocketCutOff<'a, Rt>>
-    for Port<'a, Rt> {
+impl<'a, Rt: Clock + Wait + Eprint> Arrivals<
+    Incoming<'a, Rt>,
+    Outgoing<'a, Rt>,
+    SocketCutOff<'a, Rt>,
+> for Port<'a, Rt> {
     fn accept_next(&mut self) -> Next<Incoming<'a, Rt>, Outgoing<'a, Rt>, SocketCutOff<'a, Rt>> {
         let ended = self.state.ended(self.rt);
         if self.state.is_over(self.rt) {
-            return Next::Over;
+            return self.close();
+        }
+        if let Some(next) = self.let_in() {
+            return next;
         }
         let accepted = self.accept();
         if self.state.is_over(self.rt) {
-            return Next::Over;
+            return self.close();
         }
         match accepted {
-            Ok(next) => next,
+            Ok(newcomer) => {
+                self.queue(newcomer);
+                match self.let_in() {
+                    Some(next) => next,
+                    None => Next::Nobody,
+                }
+            }
             Err(error) => {
                 self.put_off(error.kind(), ended);
                 Next::Nobody
             }
-        }
-    }
-}
-
-impl<'a, Rt: Clock + Wait> Port<'a, Rt> {
-    // Waits for what may let the next accept succeed: a session ends, and gives back what it holds.
-    fn put_off(&self, kind: ErrorKind, ended: u64) {
-        if kind == ErrorKind::OutOfMemory {
-            self.state.note_memory(self.rt);
-        }
-        if kind != ErrorKind::Interrupted {
-            self.state.wait_past(self.rt, ended);
         }
     }
 }

@@ -1,9 +1,20 @@
 //! What the threads of a host tell one another.
+use crate::crowd::Crowd;
+use std::alloc::Global;
 use std::sync::{Condvar, CondvarTimeouts, Mutex, Wait};
-use std::time::{Clock, Duration};
+use std::time::{Clock, Duration, Instant};
 
 // How many milliseconds the wait for the end of a session takes at most.
 const PAUSE: u64 = 100;
+
+// The same while newcomers wait.
+const SHORT_PAUSE: u64 = 5;
+
+// How many milliseconds lie between two denials of a name and key, at both ports together.
+const DENIAL: u64 = 12;
+
+// The least number of such denials that is told.
+const MANY: u64 = 30;
 
 // What was told so far.
 #[derive(Drop)]
@@ -11,25 +22,38 @@ struct News {
     ended: u64,
     is_over: bool,
     lacked_memory: bool,
+    // When the next name and key may be denied, and how many were.
+    next_denial: Option<Instant>,
+    denials: u64,
+    // How many denials are told next.
+    told: u64,
 }
 
-/// How many sessions have ended, whether no more are to be served, and whether one was without memory.
+/// How many sessions have ended, whether no more are to be served, and whether one was without memory;
+/// and who is served at each port.
 #[derive(Drop)]
 pub struct HostState {
     news: Mutex<News>,
     changed: Condvar,
+    pub at_desk: Crowd,
+    pub elsewhere: Crowd,
 }
 
 impl HostState {
-    /// Nothing was told yet.
-    pub fn new() -> HostState {
+    /// Nothing was told yet, in a class of so many sessions, of which one is the desk's.
+    pub fn new(alloc: Global, sessions: u8) -> HostState {
         HostState {
             news: Mutex::new(News {
                 ended: 0,
                 is_over: false,
                 lacked_memory: false,
+                next_denial: None,
+                denials: 0,
+                told: MANY,
             }),
             changed: Condvar::new(),
+            at_desk: Crowd::new(alloc, 1),
+            elsewhere: Crowd::new(alloc, usize::from(sessions).saturating_sub(1)),
         }
     }
 
@@ -63,11 +87,37 @@ impl HostState {
         self.news.lock(rt).lacked_memory
     }
 
-    /// Waits until a session has ended since that count was taken, for a tenth of a second at most.
-    pub fn wait_past<Rt: Wait + Clock>(&self, rt: &Rt, count: u64) {
-        let pause = Duration::from_millis(PAUSE);
+    /// Waits until a session has ended since that count was taken, for a tenth of a second at most, and
+    /// while newcomers wait not for so long.
+    pub fn wait_past<Rt: Wait + Clock>(&self, rt: &Rt, count: u64, is_hurried: bool) {
+        let pause = Duration::from_millis(if is_hurried { SHORT_PAUSE } else { PAUSE });
         let _ended = self
             .changed
             .wait_timeout_while(rt, self.news.lock(rt), pause, |news| news.ended == count);
+    }
+
+    /// How long a denial of a name and key has to wait: each has its turn, whoever it is told.
+    pub fn turn_of_denial<Rt: Wait + Clock>(&self, rt: &Rt) -> Duration {
+        let Ok(now) = Instant::now(rt) else {
+            return Duration::from_millis(DENIAL);
+        };
+        let mut news = self.news.lock(rt);
+        let turn = match news.next_denial {
+            Some(next) if next > now => next,
+            _ => now,
+        };
+        news.next_denial = turn.checked_add(Duration::from_millis(DENIAL));
+        turn.duration_since(now)
+    }
+
+    /// A name and key were denied; answers how many were, where it is time to tell.
+    pub fn note_denial<Rt: Wait>(&self, rt: &Rt) -> Option<u64> {
+        let mut news = self.news.lock(rt);
+        news.denials = news.denials.saturating_add(1);
+        if news.denials < news.told {
+            return None;
+        }
+        news.told = news.told.saturating_mul(10);
+        Some(news.denials)
     }
 }

@@ -6,8 +6,8 @@ use mml_program::Fault as ProgramFault;
 use std::alloc::Global;
 use std::io;
 use std::net::{Ipv4Addr, Net, SocketAddr, TcpListener, TcpStream};
-use std::sync::Mutex;
-use std::time::Duration;
+use std::sync::{Mutex, Wait};
+use std::time::{Clock, Duration};
 
 /// How many seconds each line of a student's connection may take after the one before. At the desk it may
 /// take any time.
@@ -80,25 +80,14 @@ pub fn bell_of<'a, R>(
 }
 
 /// Where connections come to the desk, and to the other port.
-pub fn open_ports<'a, R>(
+pub fn open_ports<'a, R: Clock + Wait + Eprint>(
     rt: &'a R,
     alloc: Global,
     state: &'a HostState,
     ports: Ports,
 ) -> (Port<'a, R>, Port<'a, R>) {
-    let at_desk = Port {
-        rt,
-        alloc,
-        state,
-        listener: ports.desk_listener,
-        patience: None,
-    };
-    let at_port = Port {
-        rt,
-        alloc,
-        state,
-        listener: ports.listener,
-        patience: Some(Duration::from_secs(NEXT_LINE)),
-    };
+    let patience = Some(Duration::from_secs(NEXT_LINE));
+    let at_desk = Port::new(rt, alloc, state, &state.at_desk, ports.desk_listener, None);
+    let at_port = Port::new(rt, alloc, state, &state.elsewhere, ports.listener, patience);
     (at_desk, at_port)
 }

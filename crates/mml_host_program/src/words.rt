@@ -2,7 +2,7 @@
 ghost use Rattle.std.specs.Prelude.{MatchOption};
 ghost use Rattle.mml_host_program.specs.Words.{Names, NamesNone};
 
-use clap::{ArgMatches, Command};
+use clap::{Arg, ArgAction, ArgMatches, Command};
 use mml_program::{Fault as ProgramFault, command_of, match_words, with_journal};
 use mml_serving::read_port as read_some_port;
 use std::alloc::{AllocError, Global};
@@ -14,16 +14,23 @@ pub enum Task<'a> {
     Host(HostTask<'a>),
     /// To serve a class that goes on from its journal.
     Resume(ResumeTask<'a>),
+    /// To answer the script on standard input over the lab of a file.
+    Answer { lab: &'a str },
+    /// To verify the record of a class.
+    Verify(VerifyTask<'a>),
+    /// To tell what a journal tells of its run.
+    Tally(TallyTask<'a>),
 }
 
 /// A lab's class at two ports, each 0 where the system is to choose. The lines of the granted events go
-/// to the journal, where one is named.
+/// to the journal, where one is named, and what is said in each seat to the record, where one is.
 #[derive(Clone, Copy, Debug, PartialEq, Eq, Drop)]
 pub struct HostTask<'a> {
     pub lab: &'a str,
     pub port: u16,
     pub desk: u16,
     pub journal: Option<&'a str>,
+    pub record: Option<&'a str>,
 }
 
 /// The same, where the journal has what was granted before.
@@ -32,6 +39,22 @@ pub struct ResumeTask<'a> {
     pub lab: &'a str,
     pub port: u16,
     pub desk: u16,
+    pub journal: &'a str,
+    pub record: Option<&'a str>,
+}
+
+/// The folder of a class's record, beside its lab and its journal.
+#[derive(Clone, Copy, Debug, PartialEq, Eq, Drop)]
+pub struct VerifyTask<'a> {
+    pub lab: &'a str,
+    pub journal: &'a str,
+    pub record: &'a str,
+}
+
+/// A lab and a journal of one of its runs.
+#[derive(Clone, Copy, Debug, PartialEq, Eq, Drop)]
+pub struct TallyTask<'a> {
+    pub lab: &'a str,
     pub journal: &'a str,
 }
 
@@ -47,27 +70,63 @@ pub fn read_words<'a>(alloc: Global, words: &'a [String]) -> Result<Task<'a>, Pr
 fn whole<'a>(alloc: Global) -> Result<Command<'a>, AllocError> {
     let places = ["lab", "port", "desk"];
     command_of(alloc, "mml_host", &[])?
-        .subcommand(with_journal(alloc, command_of(alloc, "host", &places)?)?)?
-        .subcommand(command_of(alloc, "resume", &["lab", "port", "desk", "journal"])?)
+        .subcommand(with_record(
+            alloc,
+            with_journal(alloc, command_of(alloc, "host", &places)?)?,
+        )?)?
+        .subcommand(with_record(
+            alloc,
+            command_of(alloc, "resume", &["lab", "port", "desk", "journal"])?,
+        )?)?
+        .subcommand(command_of(alloc, "answer", &["lab"])?)?
+        .subcommand(command_of(alloc, "verify", &["lab", "journal", "record"])?)?
+        .subcommand(command_of(alloc, "tally", &["lab", "journal"])?)
+}
+
+// One value more, which may be left out.
+fn with_record<'a>(alloc: Global, command: Command<'a>) -> Result<Command<'a>, AllocError> {
+    command.arg(Arg::new(alloc, "record").action(ArgAction::Set))
 }
 
 fn task_of<'a>(name: &str, values: &ArgMatches<'a>) -> Option<Task<'a>> {
+    match name {
+        "verify" => Some(Task::Verify(VerifyTask {
+            lab: values.get_str("lab")?,
+            journal: values.get_str("journal")?,
+            record: values.get_str("record")?,
+        })),
+        "tally" => Some(Task::Tally(TallyTask {
+            lab: values.get_str("lab")?,
+            journal: values.get_str("journal")?,
+        })),
+        "answer" => Some(Task::Answer {
+            lab: values.get_str("lab")?,
+        }),
+        _ => class_of(name, values),
+    }
+}
+
+// A class, at its two ports.
+fn class_of<'a>(name: &str, values: &ArgMatches<'a>) -> Option<Task<'a>> {
     let lab = values.get_str("lab")?;
     let port = read_port(values.get_str("port")?)?;
     let desk = read_port(values.get_str("desk")?)?;
     let journal = values.get_str("journal");
+    let record = values.get_str("record");
     match name {
         "host" => Some(Task::Host(HostTask {
             lab,
             port,
             desk,
             journal,
+            record,
         })),
         "resume" => Some(Task::Resume(ResumeTask {
             lab,
             port,
             desk,
             journal: journal?,
+            record,
         })),
         _ => None,
     }

@@ -1,0 +1,40 @@
+//! A pipe that has a name, opened to be written to without waiting for one who reads it.
+use crate::journal_file_fault::JournalFileFault;
+use crate::paths::appending;
+use libc::net::{POLLERR, poll};
+use libc::types::pollfd;
+use std::fs::File;
+use std::os::fd::AsRawFd;
+use std::rt::Files;
+
+// How often it is looked whether somebody reads the pipe.
+const LOOKS: u32 = 50;
+
+// How many milliseconds pass from one look to the next.
+const PAUSE: i32 = 20;
+
+/// Opens the pipe, and refuses one that nobody reads within a second. An open to write alone would wait
+/// for a reader; where the pipe is open to be read too, here itself, it doesn't.
+pub fn open_pipe<R: Files<File = File>>(rt: &R, path: &str) -> Result<File, JournalFileFault> {
+    let both = appending().read(true).open(rt, path)?;
+    let file = appending().open(rt, path)?;
+    drop(both);
+    for _ in 0..LOOKS {
+        if is_read(&file) {
+            return Ok(file);
+        }
+        let _ = poll(&mut [], PAUSE);
+    }
+    Err(JournalFileFault::Refused)
+}
+
+// Whether somebody reads the pipe.
+fn is_read(file: &File) -> bool {
+    let mut ends = [pollfd {
+        fd: file.as_raw_fd(),
+        events: 0,
+        revents: 0,
+    }];
+    let _ = poll(&mut ends, 0);
+    ends[0].revents & POLLERR == 0
+}

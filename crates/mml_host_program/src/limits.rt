@@ -1,0 +1,60 @@
+//! What a class needs of the system, looked at before it begins.
+use crate::fault::Fault;
+use mml_program::Fault as ProgramFault;
+use std::alloc::Global;
+use std::fs::File;
+use std::io::ErrorKind;
+use std::rt::Files;
+use std::sync::{Mutex, Wait};
+use std::thread::Threads;
+use std::{fs, thread};
+
+// How many files more are open at least: the journal, two ports and a spare one, a connection at each
+// port, and one that is turned away.
+const FILES: usize = 7;
+
+// How many threads there are more at least: the students' port's own, and one for a connection at each.
+const THREADS: usize = 3;
+
+/// Tries whether so many files may be open, and so many threads may be started. All are given back.
+pub fn look_at_limits<R: Files<File = File> + Threads + Wait + Sync>(
+    rt: &R,
+    alloc: Global,
+) -> Result<(), Fault> {
+    let mut held = Vec::new(alloc);
+    for _ in 0..FILES {
+        match fs::open(rt, "/dev/null") {
+            Ok(file) => {
+                if held.push(file).is_err() {
+                    return Err(Fault::Common(ProgramFault::Memory));
+                }
+            }
+            Err(error) if error.kind() == ErrorKind::OutOfMemory => {
+                return Err(Fault::Common(ProgramFault::Memory));
+            }
+            Err(_) => return Err(Fault::FewFiles),
+        }
+    }
+    drop(held);
+    if has_threads(rt) {
+        Ok(())
+    } else {
+        Err(Fault::FewThreads)
+    }
+}
+
+// Whether so many threads may be there at once: none ends before the last is started.
+fn has_threads<R: Threads + Wait + Sync>(rt: &R) -> bool {
+    let door = Mutex::new(());
+    thread::scope(thread::scope_env(), rt, |scope| -> bool {
+        let shut = door.lock(rt);
+        for _ in 0..THREADS {
+            if scope.spawn(|| drop(door.lock(rt))).is_err() {
+                drop(shut);
+                return false;
+            }
+        }
+        drop(shut);
+        true
+    })
+}

@@ -1,0 +1,253 @@
+//! The end of a connection to which replies are written, and which hangs up.
+ghost use Rattle.std.specs.Prelude.{◌≡◌};
+ghost use Rattle.std.specs.Io.{WritesAtMost};
+
+use crate::crowd::Crowd;
+use crate::last_word::LastWord;
+use crate::shared_socket::SharedSocket;
+use crate::socket_reader::Incoming;
+use crate::state::HostState;
+use mml_ends::Retrying;
+use mml_hosting::{CutOff, Keep, ServedSession};
+use mml_serving::{HangUp, Socket};
+use mml_session::SessionEnd;
+use std::alloc::Global;
+use std::io::{Error, ErrorKind, Read, Write};
+use std::net::{Shutdown, TcpStream};
+use std::snapshot::Snapshot;
+use std::sync::atomic::Ordering;
+use std::sync::{Arc, Wait};
+use std::time::{Clock, Duration, Instant};
+use std::{io, thread};
+
+/// How many seconds a write may wait until the other side takes a byte.
+pub const WRITE_LIMIT: u64 = 10;
+
+// How many milliseconds one who is turned away is waited for, and a last word may take.
+const PARTING: u64 = 20;
+
+// The most bytes that are taken of one who is turned away.
+const PARTING_SIZE: usize = 4096;
+
+// How the replies begin to a hello that is granted, and to one whose name and key don't match.
+const GREETED: &[u8] = b"{\"ok\":\"hello\",";
+
+const UNKNOWN: &[u8] = b"{\"clause\":2,\"deny\":\"unknown\",";
+
+/// What a connection's writer has of its host.
+#[derive(Drop)]
+pub struct SocketWriter<'a, Rt> {
+    rt: &'a Rt,
+    alloc: Global,
+    state: &'a HostState,
+    crowd: &'a Crowd,
+    socket: Arc<SharedSocket, Global>,
+    // Whether all that was written are whole lines.
+    is_whole: bool,
+    // Whether the other side has taken nothing for too long.
+    is_deaf: bool,
+}
+
+impl<'a, Rt: Clock + Wait + Eprint> SocketWriter<'a, Rt> {
+    // Takes note of a reply before it goes out. A name and key that don't match are denied in their turn.
+    fn note(&self, reply: &[u8]) {
+        let socket = &self.socket;
+        if socket.is_greeted.load(Ordering::SeqCst) {
+            return;
+        }
+        if reply.starts_with(GREETED) {
+            self.crowd.greet(self.rt, self.alloc, socket.number, reply);
+            socket.is_greeted.store(true, Ordering::SeqCst);
+        } else if reply.starts_with(UNKNOWN) {
+            socket.note_denial();
+            if let Some(count) = self.state.note_denial(self.rt) {
+                let rt = self.rt;
+                let _ = eprintln!(rt;
+                    "host: {count} hellos had no right key: somebody may be guessing"
+                );
+            }
+            thread::sleep(self.rt, self.state.turn_of_denial(self.rt));
+        }
+    }
+
+    // Writes what the other side takes.
+    fn write_now(&mut self, buf: &[u8]) -> io::Result<usize>
+        ensures { WritesAtMost result buf.now }
+    {
+        let stream = self.socket.stream.read(self.rt);
+        match &*stream {
+            Some(stream) => {
+                let begun = Instant::now(self.rt)?;
+                let mut stream = stream;
+                let taken = stream.write(buf)?;
+                let limit = Duration::from_secs(WRITE_LIMIT);
+                self.is_deaf = taken < buf.len() && begun.elapsed(self.rt)? >= limit;
+                Ok(taken)
+            }
+            None => Err(Error::from(ErrorKind::NotConnected)),
+        }
+    }
+}
+
+impl<'a, Rt: Clock + Wait + Eprint> Write for SocketWriter<'a, Rt> {
+    fn write(&mut self, buf: &[u8]) -> io::Result<usize> {
+        if self.is_deaf {
+            return Err(Error::from(ErrorKind::TimedOut));
+        }
+        if self.is_whole {
+            self.note(buf);
+        }
+        let written = if self.socket.begin_write() {
+            self.write_now(buf)
+        } else {
+            Err(Error::from(ErrorKind::BrokenPipe))
+        };
+        self.socket.end_write();
+        let taken = written?;
+        if taken > 0 {
+            self.is_whole = buf.get(taken - 1).is_some_and(|byte| *byte == b'\n');
+        }
+        Ok(taken)
+    }
+
+    fn flush(&mut self) -> io::Result<()> {
+        Ok(())
+    }
+}
+
+/// A writer that a signal doesn't end, and by which the other side is told that nothing more comes.
+#[derive(Drop)]
+pub struct Outgoing<'a, Rt> {
+    end: Retrying<SocketWriter<'a, Rt>>,
+}
+
+impl<'a, Rt: Clock + Wait + Eprint> Outgoing<'a, Rt> {
+    /// Writes to the socket.
+    pub fn new(
+        rt: &'a Rt,
+        alloc: Global,
+        state: &'a HostState,
+        crowd: &'a Crowd,
+        socket: Arc<SharedSocket, Global>,
+    ) -> Outgoing<'a, Rt> {
+        Outgoing {
+            end: Retrying::new(SocketWriter {
+                rt,
+                alloc,
+                state,
+                crowd,
+                socket,
+                is_whole: true,
+                is_deaf: false,
+            }),
+        }
+    }
+}
+
+impl<'a, Rt: Clock + Wait + Eprint> Write for Outgoing<'a, Rt> {
+    fn write(&mut self, buf: &[u8]) -> io::Result<usize> {
+        self.end.write(buf)
+    }
+
+    fn flush(&mut self) -> io::Result<()> {
+        Ok(())
+    }
+}
+
+impl<'a, Rt: Clock + Wait + Eprint> HangUp for Outgoing<'a, Rt> {
+    // One who was turned away is waited for by the thread that accepts, and so not for long.
+    fn hang_up(&mut self) {
+        let writer = &self.end.inner;
+        let rt = writer.rt;
+        let socket = &writer.socket;
+        let is_served = socket.is_served.load(Ordering::SeqCst);
+        let stream = socket.stream.write(rt).take();
+        if let Some(stream) = stream {
+            if writer.is_whole
+                && let Some(word) = socket.last(rt)
+            {
+                say(&stream, word);
+            }
+            if is_served && !socket.is_turned_away(rt) {
+                Socket::new(stream).hang_up();
+            } else {
+                part_from(stream);
+            }
+        }
+        writer.crowd.leave(rt, socket.number);
+    }
+}
+
+// Says a last word, if the other side takes it at once.
+fn say(stream: &TcpStream, word: LastWord) {
+    let mut stream = stream;
+    if stream
+        .set_write_timeout(Some(Duration::from_millis(PARTING)))
+        .is_ok()
+    {
+        let _ = stream.write(word.line());
+    }
+}
+
+// Takes what the other side has sent, since a socket that is closed over bytes which nobody took throws
+// away what it has still to send.
+fn part_from(stream: TcpStream) {
+    let mut stream = stream;
+    let parting = Some(Duration::from_millis(PARTING));
+    // Both are refused where the other side is gone.
+    if stream.shutdown(Shutdown::Write).is_err() || stream.set_read_timeout(parting).is_err() {
+        return;
+    }
+    let mut unwanted = [0; PARTING_SIZE];
+    let _ = stream.read(&mut unwanted);
+}
+
+/// What ends the connection from another thread.
+#[derive(Drop)]
+pub struct SocketCutOff<'a, Rt> {
+    rt: &'a Rt,
+    state: &'a HostState,
+    socket: Arc<SharedSocket, Global>,
+}
+
+impl<'a, Rt: Wait> SocketCutOff<'a, Rt> {
+    /// Cuts off the socket.
+    pub fn new(
+        rt: &'a Rt,
+        state: &'a HostState,
+        socket: Arc<SharedSocket, Global>,
+    ) -> SocketCutOff<'a, Rt> {
+        SocketCutOff { rt, state, socket }
+    }
+}
+
+impl<'a, Rt: Wait> CutOff for SocketCutOff<'a, Rt> {
+    fn cut_off(&self) {
+        let word = if self.state.is_over(self.rt) {
+            LastWord::Over
+        } else {
+            LastWord::Busy
+        };
+        self.socket.end_with(self.rt, word);
+    }
+}
+
+/// Of a session over a socket nothing is kept but what a contract says of it, and that it was without
+/// memory.
+#[derive(Drop)]
+pub struct Kept<'a, Rt>(Snapshot<ServedSession<Incoming<'a, Rt>, Outgoing<'a, Rt>>>);
+
+impl<'a, Rt: Clock + Wait + Eprint> Keep<Incoming<'a, Rt>, Outgoing<'a, Rt>> for Kept<'a, Rt> {
+    ghost shows = { λ kept. kept.0.value };
+
+    fn keep(session: ServedSession<Incoming<'a, Rt>, Outgoing<'a, Rt>>) -> Kept<'a, Rt>
+        ensures { result.0.value ≡ session.entry }
+    {
+        let was_short = matches!(session.ending.end, SessionEnd::Memory);
+        let reader = &session.reader;
+        if was_short || reader.lacked_memory || session.writer.end.lacked_memory {
+            reader.inner.state.note_memory(reader.inner.rt);
+        }
+        Kept(Snapshot::of(&session))
+    }
+}

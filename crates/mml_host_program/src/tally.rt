@@ -1,0 +1,72 @@
+//! What a journal tells of its run, as a program reads it.
+ghost use Rattle.std.specs.Prelude.{IfOk, OnOk};
+ghost use Rattle.std.specs.Io.KnownBytes.{Appends};
+ghost use Rattle.mml_host_program.specs.Telling.{IsTally, TellsTally};
+
+use crate::words::TallyTask;
+use mml_audit::audit_events;
+use mml_ends::Retrying;
+use mml_lab::Lab;
+use mml_program::{Fault as ProgramFault, lab_of, memory_or, read_journal};
+use mml_tally::put_tally;
+use std::alloc::Global;
+use std::io;
+use std::io::Write;
+use std::rt::Files;
+
+/// Prints the tally of a journal's file over the lab of a file.
+pub fn tally<R: Files + Print + AllocGlobal>(
+    rt: &R,
+    task: TallyTask<'_>,
+) -> Result<(), ProgramFault> {
+    let lab = lab_of(rt, task.lab)?;
+    let journal = read_journal(rt, task.journal)?;
+    let mut writer = Retrying::new(io::writer(rt));
+    match write_tally(rt.alloc(), &lab, journal.as_slice(), &mut writer) {
+        Ok(()) => Ok(()),
+        Err(fault) => Err(fault.or_memory(writer.lacked_memory)),
+    }
+}
+
+/// Audits a journal, and writes the tally of its events. Where it doesn't pass nothing is written, and the
+/// error is the audit's.
+pub fn write_tally<W: Write>(
+    alloc: Global,
+    lab: &Lab,
+    journal: &[u8],
+    writer: &mut W,
+) -> Result<(), ProgramFault>
+    ensures { OnOk result
+        (TellsTally lab.now journal.now (W.contents writer.old) (W.contents writer.new)) }
+{
+    let text = text_of(alloc, lab, journal)?;
+    write_text(&text, writer)
+}
+
+// The tally of a journal that passes the audit.
+fn text_of(alloc: Global, lab: &Lab, journal: &[u8]) -> Result<Vec<u8>, ProgramFault>
+    ensures { IfOk result (λ text. IsTally lab.now journal.now text.items) }
+{
+    let audited = audit_events(alloc, lab, journal)?;
+    let mut text = Vec::new(alloc);
+    match put_tally(
+        &mut text,
+        alloc,
+        lab,
+        &audited.board,
+        audited.events.as_slice(),
+    ) {
+        Ok(()) => Ok(text),
+        Err(_) => Err(ProgramFault::Memory),
+    }
+}
+
+// Writes a text in one go.
+fn write_text<W: Write>(text: &[u8], writer: &mut W) -> Result<(), ProgramFault>
+    ensures { OnOk result (Appends (W.contents writer.old) (W.contents writer.new) text.now) }
+{
+    match writer.write_all(text) {
+        Ok(()) => Ok(()),
+        Err(error) => Err(memory_or(&error, ProgramFault::Write)),
+    }
+}
