@@ -1,15 +1,15 @@
 //! A house whose connections come and go, one after another.
 use crate::texts::{Count, Kept, Texts, Timed, lab_of, sent_to};
-use mml_hosting::{HostFault, Hosted, ServedSession, serve_host};
+use mml_hosting::{HostFault, Hosted, ServedSession, no_recorders, serve_host};
 use mml_journal::MemorySink;
-use mml_session::NoGate;
+use mml_session::{NoGate, NoRecorder};
 use std::alloc::{AllocError, Global};
 use std::collections::VecDeque;
 use std::sync::Wait;
 use std::test::Fail;
 use std::thread::Threads;
 
-type Left = Hosted<MemorySink, ServedSession<VecDeque<u8>, Kept>>;
+type Left = Hosted<MemorySink, ServedSession<VecDeque<u8>, Kept>, NoRecorder>;
 
 /// Who says what where, at the desk or at the port, and what that is answered.
 type Talk = (bool, &'static str, &'static str);
@@ -127,7 +127,12 @@ fn host<R: Threads + Wait + Sync>(
     let at_desk = Texts::of(alloc, &at_desk, &count)?;
     let at_port = Texts::of(alloc, &at_port, &count)?;
     let sink = MemorySink::new(alloc, None);
-    Ok(serve_host(rt, alloc, lab, sink, at_desk, at_port, &count, &NoGate, out))
+    let Ok(recorders) = no_recorders(alloc, &lab) else {
+        return Ok(Err(HostFault::Memory));
+    };
+    Ok(serve_host(
+        rt, alloc, lab, sink, recorders, at_desk, at_port, &count, &NoGate, out,
+    ))
 }
 
 /// Whether each of these talks was answered so.

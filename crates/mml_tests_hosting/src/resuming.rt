@@ -2,11 +2,11 @@ ghost use Rattle.std.specs.Prelude.{◌≡◌, ◌<◌, ◌-◌, ◌^◌, IfSome
 
 use crate::texts::{Count, Kept, Texts, Timed, lab_of, sent_to};
 use mml_audit::AuditFault;
-use mml_hosting::{Hosted, ServedSession};
+use mml_hosting::{Hosted, ServedSession, no_recorders};
 use mml_journal::{MemorySink, Sink};
 use mml_policy::Denial;
 use mml_resuming::{ResumeFault, Store, resume_class};
-use mml_session::NoGate;
+use mml_session::{NoGate, NoRecorder};
 use std::alloc::{AllocError, Global};
 use std::collections::VecDeque;
 use std::sync::Wait;
@@ -75,7 +75,7 @@ impl Store<MemorySink> for Shelf {
     }
 }
 
-type Left = Hosted<MemorySink, ServedSession<VecDeque<u8>, Kept>>;
+type Left = Hosted<MemorySink, ServedSession<VecDeque<u8>, Kept>, NoRecorder>;
 
 fn resume<R: Threads + Wait + Sync>(
     rt: &R,
@@ -100,6 +100,9 @@ fn resume<R: Threads + Wait + Sync>(
     }];
     let at_desk = Texts::of(alloc, &tess, &count)?;
     let at_port = Texts::of(alloc, &ana, &count)?;
+    let Ok(recorders) = no_recorders(alloc, &lab) else {
+        return Ok(Err(ResumeFault::Memory));
+    };
     Ok(resume_class(
         rt,
         alloc,
@@ -107,6 +110,7 @@ fn resume<R: Threads + Wait + Sync>(
         old.as_bytes(),
         Shelf(alloc),
         FIRST.as_bytes(),
+        recorders,
         at_desk,
         at_port,
         &count,

@@ -9,6 +9,7 @@ use mml_hosting::{Arrivals, Bell, CutOff, Hosted, Next, ServedSession};
 use mml_journal::MemorySink;
 use mml_lab::{Lab, LabFault, read_lab};
 use mml_serving::HangUp;
+use mml_session::NoRecorder;
 use std::alloc::{AllocError, Global};
 use std::collections::VecDeque;
 use std::io;
@@ -139,7 +140,7 @@ pub fn lab_of(alloc: Global, events: u64) -> Result<Result<Lab, LabFault>, Alloc
 
 /// What the connection with the number was sent, if it was served.
 pub fn sent_to(
-    left: &Hosted<MemorySink, ServedSession<VecDeque<u8>, Kept>>,
+    left: &Hosted<MemorySink, ServedSession<VecDeque<u8>, Kept>, NoRecorder>,
     number: u64,
 ) -> Option<&[u8]> {
     for record in left.desk.iter().chain(left.others.iter()) {

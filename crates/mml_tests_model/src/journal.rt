@@ -1,6 +1,7 @@
 //! Lines of a journal that are read and written: of events that need not be legal, and ones that say nothing.
 use mml_board::Event;
 use mml_fakes::labs::PATH_OF_THREE;
+use mml_fakes::scripts::TEN_LINES;
 use mml_ids::{Memory, Rank};
 use mml_journal::{JournalFault, event_text, read_event};
 use mml_lab::{Lab, Student, read_lab};
@@ -101,39 +102,77 @@ fn other_events() -> [Event; 6] {
     ]
 }
 
-/// Whether the line is read as that event, and is its text.
-fn is_read_and_written(
+/// What the line says, and whether it is the text of that; nothing, where it says nothing.
+fn read_and_written(
     alloc: Global,
     lab: &Lab,
     line: &[u8],
-    event: &Event,
-) -> Result<bool, Memory> {
+) -> Result<Option<(Event, bool)>, Memory> {
     let Ok((place, before, found)) = read_event(line, lab.ids(), lab.roster()) else {
-        return Ok(false);
+        return Ok(None);
     };
     let text = event_text(alloc, place, before, &found, lab.ids(), lab.roster())?;
-    Ok(found == *event && text.as_slice() == line)
+    Ok(Some((found, text.as_slice() == line)))
 }
 
 fn are_read_and_written(alloc: Global, lab: &Lab) -> Result<bool, Fail> {
     for (line, event) in OTHERS.iter().zip(other_events().iter()) {
-        if !is_read_and_written(alloc, lab, line, event)? {
+        if read_and_written(alloc, lab, line)? != Some((*event, true)) {
             return Ok(false);
         }
     }
     Ok(true)
 }
 
+// What comes in the place of each byte.
+const REPLACEMENTS: [u8; 8] = [b' ', b'0', b'3', b'-', b'e', b'A', 10, 255];
+
+/// Of a line with each byte replaced, how many say something, and of how many of these it is the event whose
+/// text they are.
+fn said_replaced(alloc: Global, lab: &Lab, line: &[u8]) -> Result<(u64, u64), Fail> {
+    let (mut said, mut written) = (0u64, 0u64);
+    for at in 0..line.len() {
+        for byte in REPLACEMENTS {
+            let mut changed = Vec::from_slice(alloc, line)?;
+            if let Some(place) = changed.get_mut(at) {
+                *place = byte;
+            }
+            if let Some((_, is_own)) = read_and_written(alloc, lab, &changed)? {
+                said = said.wrapping_add(1);
+                written = written.wrapping_add(u64::from(is_own));
+            }
+        }
+    }
+    Ok((said, written))
+}
+
+/// The same of all ten lines of a run.
+fn all_said_replaced(alloc: Global, lab: &Lab) -> Result<(u64, u64), Fail> {
+    let (mut said, mut written) = (0u64, 0u64);
+    for line in TEN_LINES.lines() {
+        let (more, own) = said_replaced(alloc, lab, line.as_bytes())?;
+        said = said.wrapping_add(more);
+        written = written.wrapping_add(own);
+    }
+    Ok((said, written))
+}
+
 /// Whether the shapes have their error, the unknowns theirs, and the events are read and written.
-fn are_told(alloc: Global) -> Result<(bool, bool, bool), Fail> {
+fn are_told(alloc: Global, lab: &Lab) -> Result<(bool, bool, bool), Fail> {
+    let shapes = have_fault(lab, SHAPES, JournalFault::Shape);
+    let unknowns = have_fault(lab, UNKNOWNS, JournalFault::Unknown);
+    Ok((shapes, unknowns, are_read_and_written(alloc, lab)?))
+}
+
+/// The same, and how many of 1,472 lines with a byte replaced say something.
+fn told(alloc: Global) -> Result<((bool, bool, bool), (u64, u64)), Fail> {
     let lab = path_of_three(alloc)?;
-    let shapes = have_fault(&lab, SHAPES, JournalFault::Shape);
-    let unknowns = have_fault(&lab, UNKNOWNS, JournalFault::Unknown);
-    Ok((shapes, unknowns, are_read_and_written(alloc, &lab)?))
+    Ok((are_told(alloc, &lab)?, all_said_replaced(alloc, &lab)?))
 }
 
 #[test]
 fn lines_are_read_and_written(rt: HostRuntime) -> Result<(), Fail> {
-    assert_eq!(rt; are_told(rt.alloc())?, (true, true, true));
+    // 60 with the byte that stood there, and 39 with a digit for another.
+    assert_eq!(rt; told(rt.alloc())?, ((true, true, true), (99, 99)));
     Ok(())
 }
