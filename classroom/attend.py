@@ -8,7 +8,7 @@ from collections.abc import Callable
 from pathlib import Path
 
 from classroom.client import Closed
-from classroom.closing import Closing
+from classroom.closing import Closing, Striker
 from classroom.desk import Desk
 from classroom.server import Server
 from classroom.typed import HUNG, LEAVE, NOW, Typed
@@ -18,32 +18,9 @@ LITTLE = 65536  # bytes of a disk at which there is little room
 AGAIN = 1.0  # seconds between two looks at the disk
 
 
-class Clock:
-    """When the next step is to be closed."""
-
-    def __init__(self) -> None:
-        self.how: Closing = ("by-hand", 0.0)
-        self.due = 0.0
-
-    def follow(self, how: Closing) -> None:
-        """From now on in that way."""
-        if how != self.how:
-            self.how = how
-            self.due = time.monotonic() + how[1]
-
-    def pause(self) -> float:
-        """How long to wait for what is typed."""
-        kind, seconds = self.how
-        return TICK if kind == "by-hand" else min(TICK, max(seconds / 4, 0.01))
-
-    def strikes(self, news: float) -> bool:
-        """Whether a step is to be closed now, where the last news came at that time."""
-        kind, seconds = self.how
-        now = time.monotonic()
-        if now < self.due or kind == "by-hand" or kind == "when-idle" and now - news < seconds:
-            return False
-        self.due = now + seconds
-        return True
+def pause(how: Closing) -> float:
+    """How long to wait for what is typed."""
+    return min(TICK, max(how.value / 4, 0.01)) if how.kind in ("every", "when-idle") else TICK
 
 
 AGAIN_ROOM = ("the disk has room again: if moves are refused as `journal`, which a line that wasn't written brings about, "
@@ -124,18 +101,17 @@ def obeys(desk: Desk, line: str | None, hung: Callable[[], None]) -> str:
 
 def attend(desk: Desk, it: Server, until_stable: bool, typed: Typed, room: Room, hung: Callable[[], None]) -> str:
     """Closes steps and does what is typed, until the run ends; says by what. `hung` is done where the terminal went away."""
-    clock = Clock()
+    striker = Striker()
     while not it.ended():
-        clock.follow(desk.closing)
         try:
             why = turn(desk, room, until_stable)
             if why:
                 return why
-            why = obeys(desk, next_typed(typed, clock.pause()), hung)
+            why = obeys(desk, next_typed(typed, pause(desk.closing)), hung)
             if why:
                 return why
-            if not desk.lost and clock.strikes(desk.news):
-                desk.close()
+            if not desk.lost:
+                striker.strike(desk)
         except Closed as error:
             if not it.ended(TICK):
                 desk.lose(error)

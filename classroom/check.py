@@ -23,6 +23,7 @@ KNOWN = {
     "student": ("name", "key", "written", "id"),
     "node": ("id", "owner", "owners", "p", "m"),
 }
+MOST_LISTED = 8
 ENOUGH_BITS = 64
 GUESSES = 100_000  # a second, over one machine's loopback
 
@@ -168,8 +169,15 @@ def limit_warnings(lab: labs.Lab) -> Iterator[str]:
                + ("; no lab has more than 16: ./class new --groups" if people > labs.MOST_SESSIONS else ""))
     need = lab.most_events()
     if lab.events < need:
-        more = " (more than a lab can have)" if need > labs.MOST_EVENTS else ""
-        yield f"{lab.events} events are fewer than the class may need: {need // 2} moves and as many closes{more}"
+        yield f"{lab.events} events are fewer than the class may need: {need // 2} moves and as many closes"
+
+
+def pair_warnings(lab: labs.Lab) -> Iterator[str]:
+    """Nodes that two share, where a count of moves goes to whose program asks first."""
+    shared = [str(node.id) for node in lab.nodes if len(node.owners) == 2]
+    if shared:
+        nodes = ("nodes " if len(shared) > 1 else "node ") + ", ".join(shared[:MOST_LISTED]) + ", ..." * (len(shared) > MOST_LISTED)
+        yield f"two students own {nodes}: a mark by counts of granted moves is there one for the quicker program; count a pair as one"
 
 
 def start_warnings(path: Path, lab: labs.Lab) -> Iterator[str]:
@@ -195,7 +203,7 @@ def warnings(path: Path) -> Iterator[str]:
     except Fault as fault:
         yield f"{fault}; so keys, owners and limits aren't looked at"
         return
-    for found in (key_warnings(lab), network_warnings(lab), limit_warnings(lab), start_warnings(path, lab)):
+    for found in (key_warnings(lab), network_warnings(lab), limit_warnings(lab), pair_warnings(lab), start_warnings(path, lab)):
         yield from found
 
 

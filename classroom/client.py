@@ -7,11 +7,12 @@
             me.move(look)
 
 By hand: python3 client.py SLIP, or client.py PORT NAME KEYFILE, either with --log FILE. It greets; then what is typed
-is sent, and what comes is shown.
+is sent, and what comes is shown. KEYFILE - takes the key from the environment's CENDUWA_KEY.
 """
 from __future__ import annotations
 
 import json
+import os
 import re
 import socket
 import sys
@@ -23,6 +24,9 @@ from types import TracebackType
 from typing import Any
 
 
+KEY = "CENDUWA_KEY"  # of the environment, which other users can't read as they can a process's words
+
+
 class Denied(Exception):
     """A clause doesn't hold: its number, its name for programs, its text for people."""
 
@@ -32,15 +36,23 @@ class Denied(Exception):
 
 
 class Refused(Exception):
-    """`malformed`, `full`, `journal`, `memory`, or `busy` where no place was free."""
+    """`malformed`, `full`, `journal`, `memory`, or `busy` where no seat was free."""
 
     def __init__(self, word: str) -> None:
-        super().__init__("busy: all places are taken; come again later" if word == "busy" else word)
+        super().__init__("busy: all seats are taken; come again later" if word == "busy" else word)
         self.word = word
 
 
 class Closed(Exception):
     """The connection has ended, or an answer didn't come in time."""
+
+
+# What a class's server says last where it ends a connection, in words.
+LAST = {
+    "late": "a hello has to be granted within ten seconds, and the next line to come within ten minutes",
+    "long": "a line has at most 4096 bytes",
+    "over": "the class is over",
+}
 
 
 class NoServer(Closed):
@@ -150,9 +162,8 @@ class Slip:
             return Slip.read(words[0]), words[1:]
         if len(words) < 3:
             raise NoSlip("SLIP, or PORT NAME KEYFILE NODE,..")
-        key = re.search(r"^key\s+(.+)$", text_of(words[2]), re.MULTILINE)
         nodes = words[3:4] if words[3:4] and re.fullmatch(r"[\d,]*", words[3]) else []
-        slip = Slip(port_of(words[0]), words[1], key[1] if key else text_of(words[2]).strip(), nodes_of(*nodes))
+        slip = Slip(port_of(words[0]), words[1], key_of(words[2]), nodes_of(*nodes))
         return slip, words[3 + len(nodes):]
 
 
@@ -162,6 +173,17 @@ def text_of(path: str | Path) -> str:
         return Path(path).read_text(encoding="utf-8-sig")
     except (OSError, UnicodeDecodeError) as error:
         raise NoSlip(f"{path}: {getattr(error, 'strerror', None) or error}") from None
+
+
+def key_of(word: str) -> str:
+    """The key of a file, which has it alone or is a slip; of `-` that of the environment."""
+    if word == "-":
+        if KEY not in os.environ:
+            raise NoSlip(f"the environment has no {KEY}")
+        return os.environ[KEY]
+    text = text_of(word)
+    found = re.search(r"^key\s+(.+)$", text, re.MULTILINE)
+    return found[1] if found else text.strip()
 
 
 def port_of(word: str) -> int:
@@ -259,6 +281,8 @@ class Client:
         reply = reply_of(self._line())
         if "deny" in reply:
             raise Denied(reply["clause"], reply["deny"], reply["text"], reply.get("at"))
+        if reply.get("refuse") in LAST:
+            raise Closed(LAST[reply["refuse"]])
         if "refuse" in reply:
             raise Refused(reply["refuse"])
         return reply
@@ -348,7 +372,7 @@ STOPS = {
     "hidden": (3, "a node isn't shown to you: correct the nodes by your slip"),
     "not-teacher": (3, "this is the teacher's alone"),
     "malformed": (3, "the server takes a line for no request: correct the program"),
-    "busy": (5, "all places were taken for a minute: come again later"),
+    "busy": (5, "all seats were taken for a minute: come again later"),
     "full": (6, "nothing is granted any longer: tell your teacher"),
     "journal": (6, "nothing is granted any longer: tell your teacher"),
 }
@@ -372,7 +396,7 @@ def goes_on(error: Denied) -> bool:
 
 
 def enter(slip: Slip, patience: float = 60.0) -> Client:
-    """Greets; where no place is free, again each second, for so many seconds."""
+    """Greets; where no seat is free, again each second, for so many seconds."""
     end = time.monotonic() + patience
     while True:
         try:
@@ -504,10 +528,9 @@ class ByHand:
             answer = self.answers.readline().decode(errors="replace").rstrip("\n")
         except OSError:
             answer = ""
-        if answer:
-            reply_of(answer.encode())
-        else:
-            answer = f"the server has closed the connection: {self.why(line, waited)}"
+        last = LAST.get(reply_of(answer.encode()).get("refuse", "")) if answer else self.why(line, waited)
+        if last is not None:
+            answer = f"the server has closed the connection: {last}"
         print(answer, flush=True)
         self.keep(f"< {answer}")
         self.ended = '"ok":"bye"' in answer or "closed the connection" in answer or '"refuse":"busy"' in answer

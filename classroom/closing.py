@@ -1,29 +1,76 @@
-"""How the steps of a run are closed."""
+"""How the steps of a run are closed: by a daemon's word, at the desk."""
 from __future__ import annotations
 
-import argparse
-import re
+import random
+import time
+from typing import TYPE_CHECKING
 
+from classroom.client import Denied
+from classroom.daemons import Daemon, Sight, applied, daemon
 
-Closing = tuple[str, float]
+if TYPE_CHECKING:
+    from classroom.desk import Desk
+
+Closing = Daemon
+LOOKS = 5  # at what was granted meanwhile
+SECONDS = 2.0  # of a word that names none
+mode = daemon
 
 
 def closing(word: str) -> Closing:
-    """`every:SECONDS`, `when-idle:SECONDS` or `by-hand`."""
-    found = re.fullmatch(r"(every|when-idle):(\d+(?:\.\d+)?)|by-hand", word)
-    if not found:
-        raise ValueError(f"{word} is none of every:SECONDS, when-idle:SECONDS, by-hand")
-    return (found[1], float(found[2])) if found[1] else ("by-hand", 0.0)
-
-
-def mode(word: str) -> Closing:
-    """The same as a word of the command line."""
-    try:
-        return closing(word)
-    except ValueError as error:
-        raise argparse.ArgumentTypeError(str(error)) from None
+    """The daemon of a word."""
+    return Daemon.of(word, SECONDS)
 
 
 def spelled(how: Closing) -> str:
     """How steps are closed, as a word."""
-    return how[0] if how[0] == "by-hand" else f"{how[0]}:{how[1]:g}"
+    return how.spelled()
+
+
+class Striker:
+    """Closes steps at a desk as its daemon says."""
+
+    def __init__(self, seed: int = 1) -> None:
+        self.chance = random.Random(seed)
+        self.how: Closing | None = None
+        self.closed = 0.0
+
+    def strike(self, desk: Desk) -> None:
+        """Closes a step where it is time for one; of the moves that it doesn't apply each is taken back before. Who keeps
+        the class waiting is told."""
+        now = time.monotonic()
+        if desk.closing != self.how:
+            self.how, self.closed = desk.closing, now
+        if desk.closing.kind in ("every", "when-idle"):
+            self.by_clock(desk, now)
+            return
+        sight = Sight([node for node, _ in desk.report.privileged], list(desk.book.chosen), now - desk.news, now - self.closed)
+        nodes = applied(desk.closing, sight, self.chance, SECONDS)
+        if nodes:
+            self.closed = now
+            self.take_back(desk, set(nodes))
+            desk.close()
+        elif desk.closing.kind != "by-hand" and sight.idle >= SECONDS:
+            desk.tell_waiting()
+
+    def by_clock(self, desk: Desk, now: float) -> None:
+        """Closes by the clock, where there is nothing to close too: then it is told for whom the class waits."""
+        seconds = desk.closing.value
+        if now - self.closed >= seconds and not (desk.closing.kind == "when-idle" and now - desk.news < seconds):
+            self.closed = now
+            desk.close()
+
+    def take_back(self, desk: Desk, but: set[int]) -> None:
+        """Releases the other chosen moves, and those that are granted meanwhile. One that is granted after the last look is
+        applied too: nobody but the server could keep it out."""
+        for _ in range(LOOKS):
+            others = sorted(desk.book.chosen.keys() - but)
+            for node in others:
+                try:
+                    desk.client.release(node)
+                except Denied as denied:
+                    if denied.name != "not-chosen":
+                        raise
+            if not others or desk.over:
+                return
+            desk.read()

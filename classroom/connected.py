@@ -56,7 +56,7 @@ class Connected:
         self.due = 0.0
 
     def news(self) -> list[str]:
-        """Lines of who has come and gone since the last look, and whether all places are taken."""
+        """Lines of who has come and gone since the last look, and whether all seats are taken."""
         now = time.monotonic()
         if now < self.due:
             return []
@@ -94,10 +94,10 @@ class Connected:
         listens = any(own == self.port and state == LISTENING for own, _, state, _ in found)
         if not self.full and (len(here) >= self.places or not listens):
             self.full = True
-            lines.append("all places are taken: who comes now is told so; who tells whose they are" if listens else
+            lines.append("all seats are taken: who comes now is told so; who tells whose they are" if listens else
                          "each connection of this server was used: who comes now isn't let in")
         return lines
 
     def who(self) -> str:
-        """How many of the places are taken, and by whom, in the order in which they were seen to come."""
-        return f"{len(self.known)} of {self.places} places: {', '.join(self.known.values()) or 'nobody'}"
+        """How many of the seats are taken, and by whom, in the order in which they were seen to come."""
+        return f"{len(self.known)} of {self.places} seats: {', '.join(self.known.values()) or 'nobody'}"

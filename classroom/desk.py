@@ -1,6 +1,7 @@
 """The teacher's desk: what the journal tells as it grows, and what the teacher's words do."""
 from __future__ import annotations
 
+import os
 import time
 from collections.abc import Callable
 from pathlib import Path
@@ -8,11 +9,16 @@ from pathlib import Path
 from classroom import lab as labs
 from classroom.client import Client, Closed, Denied, Refused, Report
 from classroom.closing import Closing, closing, spelled
+from classroom.comeback import Comeback
 from classroom.connected import Connected
-from classroom.journal import Book, Event, events
+from classroom.journal import Event, events
+from classroom.present import Book
+from classroom.program import Fault
+from classroom.shaking import Registers, broken, shaken
 from classroom.typed import EOF, helped, understood
 from classroom.watch import Watch
 
+TORN = 3.0  # seconds in which the rest of a line comes, if it does
 MOST_TOLD = 0.9  # of the limit of events, from which on what is left is told
 
 
@@ -36,19 +42,22 @@ class Desk:
         self.folder = journal.parent
         self.go_on = f"./class run --resume {self.folder}"
         self.journal = journal.open("rb")
-        self.book = Book(list(lab.students), set())
+        self.book = Book(list(lab.students))
         self.rest = b""
+        self.torn_since = 0.0  # when bytes came last
         self.news = time.monotonic()
         self.told_waiting = ""
         self.report: Report = client.report()
         self.is_old = False  # The report wasn't given when it was last asked for.
         self.watch: Watch | None = None
+        self.another_page: Callable[[], None] | None = None
         self.connected: Connected | None = None
         self.count = 0
         self.over = ""
         self.asked_to_end = False
         self.lost = ""  # Why the desk was lost, until it is held again.
         self.past: list[Event] = []
+        self.comeback = Comeback(lab)
 
     def again(self) -> bool:
         """Greets again at the desk where its connection was lost; says whether it is held."""
@@ -74,6 +83,8 @@ class Desk:
         for event in self.past:
             self.book.add(event)
             self.count = event.place
+            if event.kind in ("fault", "link", "cut"):
+                self.comeback.edit(event)
         self.ask_report()
         self.tell(f"gone on from configuration {self.report.at}, {self.counted()}")
         if self.count >= self.lab.events:
@@ -89,16 +100,24 @@ class Desk:
         """Reads what the journal has got, and tells each step as a line."""
         if self.is_old:
             self.ask_report()
-        self.rest += self.journal.read()
-        whole, found, rest = self.rest.rpartition(b"\n")
-        self.rest = rest
+        more = self.journal.read()
+        self.torn_since = time.monotonic() if more else self.torn_since
+        whole, found, self.rest = (self.rest + more).rpartition(b"\n")
         for event in events((whole + found).decode("ascii")):
             self.take(event)
         if self.watch:
             try:
-                self.watch.turn(self.report, self.book.tally)
+                self.watch.turn(self.report, self.book)
             except Refused as refused:
                 self.wait_for_memory(refused)
+        if self.is_halted():
+            self.end_by("journal")
+
+    def is_halted(self) -> bool:
+        """Whether a line couldn't be written, or not synced: half of it stays, since a line is written at once, or it was
+        taken back."""
+        is_torn = self.rest != b"" and time.monotonic() - self.torn_since > TORN
+        return is_torn or os.fstat(self.journal.fileno()).st_size < self.journal.tell()
 
     def take(self, event: Event) -> None:
         """Counts an event, and tells it where it is a step."""
@@ -106,10 +125,14 @@ class Desk:
         self.news = time.monotonic()
         self.count = event.place
         word = event.words[0]
+        before = [node for node, _ in self.report.privileged]
         if word == "close":
             self.step(event.at + 1, ", ".join(f"{node} ({name}) {rule}" for node, name, rule in moved))
+            self.come_back([node for node, _, _ in moved], before)
         elif word != "grant":
             self.step(event.at + (word != "release"), " ".join(event.words))
+            if word != "release":
+                self.comeback.edit(event)
         if self.watch:
             self.watch.note(event)
         if self.count == int(MOST_TOLD * self.lab.events) > 0:
@@ -145,11 +168,16 @@ class Desk:
     def step(self, at: int, what: str) -> None:
         """The line of a step: configuration, who moved, how many are privileged, moves beside the bound, and events."""
         self.ask_report()
-        tally = self.book.tally
-        most = self.lab.most_moves() + 2 * (tally.links - tally.cuts)
+        most = self.lab.most_moves(self.book.links)
         state = "stable" if self.report.stable else f"{len(self.report.privileged)} privileged"
         now = f"{state}, " if self.report.at == at else ""
-        self.tell(f"configuration {at}: {what}; {now}{tally.since[0]} of at most {most} moves; {self.counted()}")
+        self.tell(f"configuration {at}: {what}; {now}{self.book.since} of at most {most} moves; {self.counted()}")
+
+    def come_back(self, moved: list[int], before: list[int]) -> None:
+        """Tells how the class came back, where a close was the last that it took."""
+        told = self.comeback.close(moved, before, [node for node, _ in self.report.privileged])
+        if told:
+            self.tell(told)
 
     def waiting(self) -> str:
         """Whose nodes are privileged and have no chosen move."""
@@ -209,7 +237,7 @@ class Desk:
             if isinstance(no, Refused) and no.word in ("full", "journal"):
                 self.read()
                 self.end_by(no.word)
-        except ValueError as error:
+        except (ValueError, Fault) as error:
             self.tell(str(error))
         return True
 
@@ -235,10 +263,19 @@ class Desk:
             self.tell(f"waiting for {self.told_waiting or 'nobody'}")
         elif word == "who":
             self.tell_who()
+        elif word == "page":
+            self.renew_page()
         elif word == "help":
             self.tell(helped())
         elif word in ("every", "when-idle", "by-hand"):
             self.close_by(":".join([word, *rest]))
+        elif word == "daemon":
+            self.close_by(rest[0])
+        elif word == "shake":
+            nodes = [node.id for node in self.lab.nodes]
+            self.set_all(shaken(nodes, self.comeback.links, rest[0], int(rest[1]) if len(rest) > 1 else None))
+        elif word == "break":
+            self.set_all(broken([node.id for node in self.lab.nodes], self.comeback.links))
         else:
             self.edit(word, rest)
 
@@ -246,8 +283,13 @@ class Desk:
         """Who is connected, as far as the system tells it, and who hasn't moved, as the journal tells it."""
         if self.connected:
             self.tell(f"connected: {self.connected.who()}")
-        idle = [name for name, marks in self.book.tally.students.items() if not marks.granted]
-        self.tell(f"no move was granted yet to {', '.join(idle) or 'nobody'}")
+        self.tell(f"no move was granted yet to {', '.join(self.book.idle) or 'nobody'}")
+
+    def renew_page(self) -> None:
+        """Acts at the page are taken back to another address."""
+        if self.another_page is None:
+            raise ValueError("there is no page: --page")
+        self.another_page()
 
     def close_by(self, word: str) -> None:
         """Closes steps in another way from now on."""
@@ -255,6 +297,12 @@ class Desk:
         self.tell(f"steps are closed {spelled(self.closing)}")
         if self.watch:
             self.watch.present.put(closing=spelled(self.closing))
+
+    def set_all(self, registers: list[Registers]) -> None:
+        """Faults at several nodes in one breath."""
+        for node, p, m in registers:
+            self.client.fault(node, p, m)
+        self.tell(f"the registers of {len(registers)} nodes were set")
 
     def edit(self, word: str, rest: list[str]) -> None:
         """A fault, a link, a cut or a release."""

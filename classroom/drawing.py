@@ -7,9 +7,11 @@ from functools import cached_property
 from html import escape
 from pathlib import Path
 
+from classroom import labels
 from classroom.frames import OpenLink, State
 from classroom.journal import Event
-from classroom.lab import Lab
+from classroom.lab import Lab, ordered
+from classroom.labels import FORMS, Form, Witnesses
 from classroom.layout import HEIGHT, SMALL_BELOW, WIDTH, Layout
 from classroom.springs import Point
 
@@ -17,12 +19,9 @@ STYLE = Path(__file__).with_name("drawing.css")
 WITNESSES_MOST = 60  # open links up to which each names its witness
 OPEN_MOST = 2000  # open links above which they are told as a number alone
 FAINT_ABOVE = 8  # links for each node above which their lines are the fainter the more they are
-LETTER_WIDE = 8.2  # of an owner's name
 SIGNS = "letters below a node: whose it is"
 LETTERS = "letter beside it: U update, M marriage, S seduction, A abandonment"
 LISTED_WIDE, LISTED_HIGH = 220, 18  # of a student's place in the list below a small drawing
-
-
 M_LARGE = '<rect x="-6" y="-6" width="12" height="12"/><text y="4">m</text>'
 M_SMALL = '<rect x="-3" y="-3" width="6" height="6"/>'
 
@@ -36,19 +35,44 @@ class Drawing:
 
     @property
     def small(self) -> bool:
-        """Whether rules are told by a letter."""
+        """Whether nodes are small, and lines thin."""
         return self.layout.radius < SMALL_BELOW
 
     @cached_property
-    def signed(self) -> bool:
-        """Whether owners are told by signs, since names would run into each other."""
-        longest = max(map(len, self.lab.students), default=0)
-        return self.small or longest * LETTER_WIDE > self.layout.nearest
+    def form(self) -> Form:
+        """How owners and rules are told: as fully as there is room around each node."""
+        if self.small or len(self.lab.nodes) > labels.MOST_NODES:
+            return FORMS[-1]
+        return next((form for form in FORMS if labels.are_apart(self.boxes(form))), FORMS[-1])
+
+    def boxes(self, form: Form) -> dict[int, list[labels.Box]]:
+        """What each node and its texts take in that form."""
+        return labels.of_nodes(self.layout, form, {node.id: self.lines(node.owners, form) for node in self.lab.nodes})
+
+    @cached_property
+    def witnesses(self) -> Witnesses | None:
+        """Where witnesses stand, with words where these have room and else with letters; None: in the middle of links."""
+        if self.small or len(self.lab.nodes) > labels.MOST_NODES or len(self.lab.links) > labels.MOST_LINKS:
+            return None
+        boxes = [box for of_node in self.boxes(self.form).values() for box in of_node]
+        digits = max(len(str(node.id)) for node in self.lab.nodes)
+        for letters in (labels.LONGEST, 1):
+            found = Witnesses(self.layout, boxes, digits + 2 + letters)
+            for a, b in sorted(map(ordered, self.lab.links)):
+                found.spot(a, b)
+            if found.are_free:
+                break
+        return found
+
+    @cached_property
+    def brief(self) -> bool:
+        """Whether witnesses tell their rule by a letter."""
+        return self.small if self.witnesses is None else self.witnesses.letters < labels.LONGEST
 
     @property
     def letters(self) -> str:
         """What the letters at a node stand for."""
-        return "; ".join([SIGNS] * self.signed + [LETTERS] * self.small)
+        return "; ".join([SIGNS] * self.form.signed + [LETTERS] * (self.form.short or self.brief))
 
     @cached_property
     def signs(self) -> dict[str, str]:
@@ -65,14 +89,18 @@ class Drawing:
         """A colour for each student, as an angle; neighbours in the list are far apart."""
         return round(list(self.lab.students).index(student) * 137.508) % 360
 
+    def style(self) -> str:
+        """The colours of the students."""
+        return "".join(f".h{hue}{{--hue:{hue}}}" for hue in sorted({self.hue(student) for student in self.lab.students}))
+
     def svg(self, state: State, event: Event | None) -> str:
         """The whole element."""
         open_links = state.open if len(state.open) <= OPEN_MOST else []
         return "\n".join([
-            f'<svg xmlns="http://www.w3.org/2000/svg" id="drawing" viewBox="0 0 {WIDTH:g} {HEIGHT:g}" role="img"'
+            f'<svg xmlns="http://www.w3.org/2000/svg" id="drawing" viewBox="0 0 {WIDTH:g} {HEIGHT:g}" role="group"'
             f' aria-label="the network" data-place="{state.place}" data-number="{state.number}"'
             f' data-privileged="{len(state.privileged)}" data-pairs="{len(state.pairs)}"'
-            f' class="{"small" if self.small else "large"}" font-size="{self.size:g}">',
+            f' class="{"small" if self.small else "large"}{" short" if self.form.short else ""}" font-size="{self.size:g}">',
             '<defs><marker id="arrow" viewBox="0 0 10 10" refX="9" refY="5" markerWidth="6" markerHeight="6"'
             ' orient="auto"><path d="M0 0L10 5L0 10z"/></marker></defs>',
             *self.rows("links", [(a, self.line(a, b)) for a, b in sorted(state.links)], self.faint(len(state.links))),
@@ -81,11 +109,11 @@ class Drawing:
                                    for a, b, witness, _ in open_links if witness in (a, b)]),
             path("removed", self.line(*event.nodes) if event is not None and event.kind == "cut" else ""),
             path("pairs", "".join(self.line(a, b) for a, b in state.pairs)),
-            '<g class="witnesses">',
-            *(self.witness(link) for link in open_links if len(open_links) <= WITNESSES_MOST),
-            "</g>",
             '<g class="pointers">',
             *(self.pointer(node.id, state) for node in self.lab.nodes),
+            "</g>",
+            '<g class="witnesses">',
+            *(self.witness(link) for link in open_links if len(open_links) <= WITNESSES_MOST),
             "</g>",
             '<g class="nodes">',
             *(self.node(node.id, node.owners, state) for node in self.lab.nodes),
@@ -121,10 +149,17 @@ class Drawing:
         return f"M{x:g} {y:g}L{(x + u) / 2:g} {(y + v) / 2:g}"
 
     def witness(self, link: OpenLink) -> str:
-        """The witness of an open link and its rule, at the link's middle."""
+        """The witness of an open link and its rule, beside the link."""
         a, b, witness, rule = link
+        x, y = self.spot(a, b)
+        return f'<text x="{x:g}" y="{y:g}">{witness}: {rule[:1].upper() if self.brief else rule}</text>'
+
+    def spot(self, a: int, b: int) -> Point:
+        """Where the witness of a link stands."""
+        if self.witnesses is not None:
+            return self.witnesses.spot(a, b)
         (x, y), (u, v) = self.layout.points[a], self.layout.points[b]
-        return f'<text x="{(x + u) / 2:g}" y="{(y + v) / 2:g}">{witness}: {self.word(rule)}</text>'
+        return (x + u) / 2, (y + v) / 2
 
     def pointer(self, node: int, state: State) -> str:
         """An arrow where the node points at another that it isn't married to."""
@@ -145,11 +180,11 @@ class Drawing:
         radius = self.layout.radius
         pointer, rule = state.pointers[node], state.privileged.get(node, "")
         chosen, m = state.chosen.get(node, ""), told(state.ms[node])
-        corner, lines = 0.8 * radius, self.lines(owners)
+        corner, lines = 0.8 * radius, self.lines(owners, self.form)
         return "".join([
             f'<g class="node" data-node="{node}" data-p="{"" if pointer is None else pointer}" data-m="{m}"'
             f' data-married="{told(married(node, state))}" data-rule="{rule}" data-chosen="{chosen}"'
-            f' transform="translate({x:g} {y:g})">',
+            f' transform="translate({x:g} {y:g})" role="img" aria-label="{escape(self.said(node, owners, state))}">',
             f"<title>node {node}, {escape(' and '.join(owners))}</title>",
             f'<circle class="halo" r="{radius + (2 if self.small else 5):g}"/>',
             *(sector(index, len(owners), radius, self.hue(owner)) for index, owner in enumerate(owners)),
@@ -162,29 +197,35 @@ class Drawing:
             "</g>",
         ])
 
-    def lines(self, owners: list[str]) -> list[str]:
+    def said(self, node: int, owners: list[str], state: State) -> str:
+        """A node in words."""
+        pointer, partner = state.pointers[node], next((sum(pair) - node for pair in state.pairs if node in pair), None)
+        return told_node(node, owners, pointer, state.ms[node], partner, state.privileged.get(node, ""), state.chosen.get(node, ""))
+
+    def lines(self, owners: list[str], form: Form) -> list[str]:
         """What stands below a node: its owners' signs, or a name a line."""
-        return [" ".join(self.signs[owner] for owner in owners)] if self.signed else owners
+        return [" ".join(self.signs[owner] for owner in owners)] if form.signed else owners
 
     def below(self, line: int) -> float:
         """Where a line below a node stands, from 0."""
-        return self.layout.radius + (1 + 0.9 * self.size if self.small else 16 * (line + 1))
+        return self.layout.radius + (1 + 0.9 * self.size if self.small else 16 + labels.LINE * line)
 
     def rule_at(self, line: int) -> str:
         """Beside the node where it is a letter, else below that many lines."""
         radius = self.layout.radius
-        return f'x="{radius + 0.6 * self.size:g}" y="{0.4 * radius:g}"' if self.small else f'y="{self.below(line):g}"'
+        x, y = (radius + 0.6 * self.size, 0.4 * radius) if self.small else self.form.rule_at(radius, self.below(line))
+        return f'x="{x:g}" y="{y:g}"' if x else f'y="{y:g}"'
 
     def chosen_at(self) -> str:
         radius = self.layout.radius
-        return f'x="{-radius:g}" y="{-0.6 * radius:g}"' if self.small else f'y="{-radius - 8:g}"'
+        return f'x="{-radius:g}" y="{-0.6 * radius:g}"' if self.small else f'y="{self.form.chosen_at(radius)[1]:g}"'
 
     def word(self, rule: str) -> str:
-        return rule[:1].upper() if self.small else rule
+        return rule[:1].upper() if self.form.short else rule
 
     def key(self) -> tuple[str, float]:
         """What the letters of a drawing stand for, below it, and how high that is."""
-        if not self.signed:
+        if not self.form.signed:
             return "", 0
         columns, names = int(WIDTH // LISTED_WIDE), list(self.lab.students)
         rows = [f'<text class="listed" x="8" y="{HEIGHT + 4:g}">{self.letters}</text>']
@@ -211,6 +252,15 @@ def married(node: int, state: State) -> bool:
     return any(node in pair for pair in state.pairs)
 
 
+def told_node(node: int, owners: list[str], pointer: int | None, m: bool, partner: int | None, rule: str, chosen: str) -> str:
+    """What is said of a node to who doesn't see it; the page's program says the same."""
+    return ", ".join([
+        f"node {node} of {' and '.join(owners)}", f"p {'null' if pointer is None else pointer}", f"m {told(m)}",
+        *([f"married to {partner}"] if partner is not None else []), *([f"privileged: {rule}"] if rule else []),
+        *([f"chosen: {chosen}"] if chosen else []),
+    ])
+
+
 def told(value: bool) -> str:
     return "true" if value else "false"
 
@@ -226,13 +276,13 @@ def path(name: str, drawn: str) -> str:
 def sector(index: int, count: int, radius: float, hue: int) -> str:
     """A circle in an owner's colour, or the half of one, the first owner's on the left."""
     if count == 1:
-        return f'<circle class="owned" style="--hue:{hue}" r="{radius:g}"/>'
-    return f'<path class="owned" style="--hue:{hue}" d="M0 {-radius:g}A{radius:g} {radius:g} 0 0 {index} 0 {radius:g}z"/>'
+        return f'<circle class="owned h{hue}" r="{radius:g}"/>'
+    return f'<path class="owned h{hue}" d="M0 {-radius:g}A{radius:g} {radius:g} 0 0 {index} 0 {radius:g}z"/>'
 
 
 def standalone(drawing: Drawing, state: State, event: Event | None) -> str:
     """The element as a file of its own: with its style inside, and the list of signs where it has them."""
-    style = f"<style>{STYLE.read_text(encoding='utf-8')}</style>"
+    style = f"<style>{STYLE.read_text(encoding='utf-8')}{drawing.style()}</style>"
     key, high = drawing.key()
     head, tail = drawing.svg(state, event).split("<defs>", 1)
     head = head.replace(f'{WIDTH:g} {HEIGHT:g}"', f'{WIDTH:g} {HEIGHT + high:g}"', 1)

@@ -5,6 +5,7 @@ from collections.abc import Callable
 from pathlib import Path
 
 from classroom import mark, play
+from classroom.comeback import recoveries
 from classroom.program import Fault, call
 
 
@@ -20,17 +21,18 @@ def whole_lines(journal: Path) -> None:
 
 
 def finish(folder: Path, tell: Callable[[str], None]) -> int:
-    """Leaves a journal of whole lines, its audit, its marks, and the page that shows it."""
+    """Leaves a journal of whole lines, its audit, the page that shows it, and its marks."""
     try:
         whole_lines(folder / "journal")
         answer = call("audit", folder / "lab.toml", folder / "journal")
         tell((answer.output or answer.error).strip())
         (folder / "audit.txt").write_text(answer.output + answer.error + "\n" * bool(answer.error), encoding="utf-8")
-        run = mark.marked(folder / "lab.toml", folder / "journal")
-        tell(mark.text([run]).rstrip())
-        (folder / "marks.txt").write_text(mark.text([run]), encoding="utf-8")
-        (folder / "marks.json").write_text(mark.as_json([run]), encoding="utf-8")
         (folder / "run.html").write_text(play.page(folder / "lab.toml", folder / "journal"), encoding="utf-8")
+        run = mark.marked(folder / "lab.toml", folder / "journal")
+        back = "".join(f"{line}\n" for line in recoveries(folder / "lab.toml", folder / "journal"))
+        tell((mark.text([run]) + back).rstrip())
+        (folder / "marks.txt").write_text(mark.text([run]) + back, encoding="utf-8")
+        (folder / "marks.json").write_text(mark.as_json([run]), encoding="utf-8")
     except Fault as fault:
         tell(f"class: {fault}")
         return fault.status

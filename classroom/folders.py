@@ -2,6 +2,7 @@
 from __future__ import annotations
 
 import json
+import re
 from dataclasses import asdict, dataclass
 from datetime import datetime
 from pathlib import Path
@@ -43,6 +44,15 @@ def of_folder(folder: Path) -> Run:
     if not (folder / "lab.toml").is_file() or not (folder / "journal").is_file():
         raise Fault(f"{folder}: no folder of a run: it has lab.toml and journal")
     return folder / "lab.toml", folder / "journal"
+
+
+def title(lab: Path, journal: Path, name: str = "") -> str:
+    """The lab's name and the day: of a run's folder what its own name has, else that of the journal's last change."""
+    found = re.fullmatch(r"(\d{4}-\d\d-\d\d)T\d{4}-(.+)", lab.resolve().parent.name)
+    if found is None or lab.name != "lab.toml":
+        return f"{name or lab.stem}, {datetime.fromtimestamp(journal.stat().st_mtime):%Y-%m-%d}"
+    record = Record.read(lab.parent)
+    return f"{name or (Path(record.lab).stem if record else found[2])}, {found[1]}"
 
 
 @dataclass(frozen=True)

@@ -18,17 +18,13 @@ from classroom.closing import Closing, spelled
 from classroom.connected import Connected
 from classroom.desk import Desk
 from classroom.ending import finish
-from classroom.folders import Process, Record
+from classroom.folders import Process, Record, title
 from classroom.statuses import FAILED, WARNED
 from classroom.teller import Teller
 from classroom.typed import HELP, HUNG, LEAVE, NOW, Terminal, Typed, read_lines
 
 LATE = 10.0  # seconds after which it is told that the server's end is waited for
 SIGNALS = {signal.SIGINT: NOW, signal.SIGTERM: NOW, signal.SIGHUP: HUNG, signal.SIGUSR1: LEAVE}
-
-
-def nobody(port: int) -> None:
-    """No programs of its own beside the server."""
 
 
 @dataclass
@@ -43,7 +39,6 @@ class Running:
     page: int | None
     takes_lines: bool
     tell: Teller
-    beside: Callable[[int], None] = nobody
     goes_on: bool = False  # Whether it had begun before.
     by_number: bool = False  # Whether its server is one for a number of connections.
     typed: Typed = field(default_factory=queue.SimpleQueue)
@@ -54,6 +49,10 @@ class Running:
         """What its folder keeps while it goes on."""
         return Record(str(self.lab_file.resolve()), it.port, it.desk, self.page, spelled(self.close), self.until,
                       Process.of(os.getpid()), it.process)
+
+    def title(self) -> str:
+        """What its page is called."""
+        return title(self.folder / "lab.toml", self.folder / "journal", self.lab_file.stem)
 
     def hung(self) -> None:
         """Goes on without its terminal."""
@@ -75,11 +74,18 @@ def open_desk(it: server.Server, run: Running) -> Desk:
 
 
 def show(pages: projector.Pages, desk: Desk, tell: Teller) -> None:
-    """Opens the page, and tells it what is told from now on."""
+    """Opens the page, and tells it what is told from now on. Where to act is told to the terminal alone."""
     watch = desk.watched()
+
+    def renew() -> None:
+        pages.renew()
+        tell.alone(f"page to act {pages.address_to_act}")
+
+    desk.another_page = renew
     tell(f"page {pages.address}")
+    tell.alone(f"page to act {pages.address_to_act}")
     tell.also.append(lambda line: watch.present.put(line=line))
-    pages.show(watch.present)
+    pages.show(watch.present, tell)
 
 
 def listen(run: Running) -> None:
@@ -105,7 +111,6 @@ def hold(run: Running, it: server.Server) -> int | None:
     """Holds the desk to the end of the run, and gives the status; None where it is left to another process."""
     try:
         desk = open_desk(it, run)
-        run.beside(it.port)
         listen(run)
         if run.pages is not None:
             show(run.pages, desk, run.tell)
@@ -138,9 +143,12 @@ def take_leave(it: server.Server, desk: Desk, why: str, run: Running) -> int | N
              "takes its desk; then ./class mark tells the marks")
         return None
     elif why == "died" or it.status() != 0:
-        tell(f"the server has ended by itself, status {it.status()}: {it.printed()}")
+        tell(f"the server has ended{' by itself' if why == 'died' else ''}, status {it.status()}: {it.printed()}")
         tell(f"to go on: {desk.go_on}")
         return FAILED
+    for line in it.printed().splitlines():
+        if line.startswith("host: "):
+            tell(f"the server said: {line.removeprefix('host: ')}")
     tell("stable, and so the run is ended" if why == "stable" else "the run is ended")
     return {"journal": FAILED, "full": WARNED}.get(why, 0)
 
@@ -162,7 +170,7 @@ def to_the_end(run: Running, start: Callable[[], server.Server]) -> int:
     """Holds the desk of a server that is started or found, and leaves marks and page in the folder."""
     try:
         if run.page is not None:
-            run.pages = projector.open_pages(run.page, run.lab_file.stem, run.lab, run.typed)
+            run.pages = projector.open_pages(run.page, run.title(), run.lab, run.typed)
         obey_signals(run.typed)
         status = hold(run, start())
         if status is None:

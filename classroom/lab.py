@@ -11,6 +11,7 @@ from typing import Any
 from classroom.lists import Person
 from classroom.printable import printable
 from classroom.program import Fault, call
+from classroom.rounds import most_moves
 
 MOST_EVENTS = 100_000
 MOST_SESSIONS = 16
@@ -38,9 +39,9 @@ class Lab:
     links: list[tuple[int, int]] = field(default_factory=list)
     people: dict[str, Person] = field(default_factory=dict)
 
-    def most_moves(self) -> int:
-        """How many moves suffice from any start: 3n + 2L (docs/TEACHER.md)."""
-        return 3 * len(self.nodes) + 2 * len(self.links)
+    def most_moves(self, more: int = 0) -> int:
+        """How many moves suffice from any start, with so many links more than it began with."""
+        return most_moves(len(self.nodes), len(self.links) + more)
 
     def most_events(self) -> int:
         """The same with as many closes."""
@@ -55,8 +56,21 @@ class Lab:
         return [node.id for node in self.nodes if name in node.owners]
 
 
+def ordered(link: tuple[int, int]) -> tuple[int, int]:
+    """A link with its lower end first."""
+    return min(link), max(link)
+
+
+def parsed(text: str) -> dict[str, Any]:
+    """A text's document; nothing where it is none. Python's reader knows TOML 1.0 alone."""
+    try:
+        return tomllib.loads(text)
+    except tomllib.TOMLDecodeError:
+        return {}
+
+
 def document(path: Path) -> dict[str, Any]:
-    """The file's document. Python's reader knows TOML 1.0 alone."""
+    """The file's document."""
     try:
         return tomllib.loads(path.read_text(encoding="utf-8-sig"))
     except OSError as error:

@@ -13,6 +13,7 @@ class Live {
     this.count = 0;
     this.frozen = false;
     this.picked = null;
+    document.body.classList.toggle("looks", !data.acts);
     this.listen();
     this.source = new EventSource("events");
     this.source.onmessage = (event) => this.take(JSON.parse(event.data));
@@ -21,6 +22,7 @@ class Live {
 
   take(row) {
     if (row.begin) this.begin();
+    this.drawing.learn(row.arrows);
     if (row.new.length > 0) {
       this.data.links.push(...row.new);
       this.state = this.state.copy(this.data.links.length);
@@ -48,7 +50,7 @@ class Live {
   end() {
     this.source.close();
     this.aside.say("connection", "(the run is over)");
-    for (const name of ["close", "every", "by-hand", "set", "release"]) this.find(name).disabled = true;
+    for (const name of ["close", "every", "when-idle", "by-hand", "set", "release"]) this.find(name).disabled = true;
   }
 
   show() {
@@ -78,7 +80,7 @@ class Live {
     const { find } = this;
     const buttons = {
       close: () => this.act("close"), "by-hand": () => this.act("by-hand"), freeze: () => this.freeze(),
-      every: () => this.act("every " + find("seconds").value), cancel: () => this.pick(null),
+      every: () => this.act("every " + find("seconds").value), "when-idle": () => this.act("when-idle " + find("seconds").value), cancel: () => this.pick(null),
       release: () => { this.act("release " + this.idOf(this.picked)); this.pick(null); },
     };
     for (const [name, act] of Object.entries(buttons)) find(name).addEventListener("click", act);
@@ -88,6 +90,11 @@ class Live {
       this.pick(null);
     });
     find("tools").addEventListener("change", () => this.pick(null));
+    if (this.data.acts) this.listenToNodes();
+    this.document.addEventListener("keydown", (event) => { if (event.key === "Escape") this.pick(null); });
+  }
+
+  listenToNodes() {
     this.drawing.nodes.forEach(({ group }, node) => {
       group.setAttribute("tabindex", "0");
       group.setAttribute("role", "button");
@@ -98,7 +105,6 @@ class Live {
         this.click(node);
       });
     });
-    this.document.addEventListener("keydown", (event) => { if (event.key === "Escape") this.pick(null); });
   }
 
   idOf(node) { return this.data.nodes[node].id; }
@@ -148,6 +154,7 @@ class Live {
 async function begin() {
   const data = await dataOf(document), root = document.getElementById("drawing");
   splitLinks(root);
+  wholeScreen(document);
   window.live = new Live(data, new Drawing(root, data), document);
 }
 

@@ -11,10 +11,10 @@ from pathlib import Path
 from typing import Any
 
 from classroom import lab as labs
-from classroom import folders, lists, replay, totals
-from classroom.journal import RULES, Book, Tally, events
+from classroom import folders, lists, replay, tally, totals
+from classroom.journal import RULES, events
 from classroom.printable import printable
-from classroom.program import Fault, call
+from classroom.program import Fault
 from classroom.statuses import WARNED
 
 UNTOLD = (
@@ -29,11 +29,8 @@ class Run:
 
     journal: Path
     lab: labs.Lab
-    events: int
-    configuration: int
-    stable: bool
     pairs: list[list[int]]
-    tally: Tally
+    tally: tally.Tally
 
     def table(self) -> dict[str, Any]:
         """The run as `--json` has it."""
@@ -46,31 +43,26 @@ class Run:
             for name, marks in self.tally.students.items()
         }
         return {
-            "journal": str(self.journal), "events": self.events, "configuration": self.configuration,
-            "stable": self.stable, "pairs": self.pairs, "closes": self.tally.closes, "faults": self.tally.faults,
+            "journal": str(self.journal), "events": self.tally.events, "configuration": self.tally.configuration,
+            "stable": self.tally.stable, "pairs": self.pairs, "closes": self.tally.closes, "faults": self.tally.faults,
             "links": self.tally.links, "cuts": self.tally.cuts, "students": students,
         }
 
 
 def marked(lab_file: Path, journal: Path) -> Run:
-    """Audits a journal and counts its events."""
-    answer = call("audit", lab_file, journal)
-    if answer.status != 0:
-        raise Fault(refusal(journal, answer.error), answer.status)
-    said = re.fullmatch(r"ok: (\d+) events, configuration (\d+), (not )?stable\n", answer.output)
-    if said is None:
-        raise Fault(f"{journal}: mml audit says {answer.output!r}", 4)
+    """What the program tells of a journal that it passes."""
+    try:
+        told = tally.of(lab_file, journal)
+    except Fault as fault:
+        raise Fault(refusal(journal, str(fault)), fault.status) from None
     lab = labs.read(lab_file)
     found = events(journal.read_text(encoding="ascii"))
-    if len(found) != int(said[1]):
+    if len(found) != told.events:
         raise Fault(f"{journal}: it grows: its run is still going on", 4)
-    book = Book(list(lab.students), {node.id for node in lab.nodes if len(node.owners) == 2})
-    for event in found:
-        book.add(event)
     report = replay.report(lab, found)
-    if report["stable"] != (said[3] is None):
-        raise Fault(f"{journal}: audit and report disagree", 4)
-    return Run(journal, lab, len(found), int(said[2]), report["stable"], report["pairs"], book.tally)
+    if report["stable"] != told.stable:
+        raise Fault(f"{journal}: tally and report disagree", 4)
+    return Run(journal, lab, report["pairs"], told)
 
 
 def refusal(journal: Path, error: str) -> str:
@@ -95,11 +87,11 @@ def rows(runs: list[Run]) -> list[list[str]]:
 
 def sentence(run: Run) -> str:
     """The run in a line."""
-    tally = run.tally
+    told = run.tally
     pairs = " ".join(f"{a}-{b}" for a, b in run.pairs) or "none"
-    return (f"{run.journal}: {run.events} events, configuration {run.configuration}, "
-            f"{'stable' if run.stable else 'not stable'}; {tally.closes} closes, {tally.faults} faults, {tally.links} links, "
-            f"{tally.cuts} cuts; pairs: {pairs}")
+    return (f"{run.journal}: {told.events} events, configuration {told.configuration}, "
+            f"{'stable' if told.stable else 'not stable'}; {told.closes} closes, {told.faults} faults, {told.links} links, "
+            f"{told.cuts} cuts; pairs: {pairs}")
 
 
 def text(runs: list[Run]) -> str:

@@ -92,7 +92,7 @@ def new(words: argparse.Namespace) -> int:
         print(f"{lab_file}: {size}; slips: {slips_file} to print, {slips_folder} for programs")
         if made.sessions < len(part) + 1:
             print(f"note: {made.sessions} sessions for {len(part)} students and a teacher: "
-                  f"--groups {-(-len(everywhere) // (labs.MOST_SESSIONS - 1))} makes labs in which all have a place")
+                  f"--groups {-(-len(everywhere) // (labs.MOST_SESSIONS - 1))} makes labs in which all have a seat")
         tell_idle(made, words)
     for name, person in everywhere.items():
         if name != person.written:

@@ -2,30 +2,36 @@
 from __future__ import annotations
 
 import base64
+import hashlib
 import json
 import zlib
 from collections.abc import Iterable
 from html import escape
+from itertools import chain, islice
 from pathlib import Path
 from typing import Any
 
-from classroom.drawing import Drawing
+from classroom.drawing import OPEN_MOST, WITNESSES_MOST, Drawing
 from classroom.frames import Frame, OpenLink, State
+from classroom.journal import RULES as NAMED
 from classroom.lab import Lab
 from classroom.layout import lay_out
+from classroom.rounds import most_moves
 
 FOLDER = Path(__file__).parent
 PLAIN_LIMIT = 400_000  # bytes of data above which they are packed
-RULES = ("", "update", "marriage", "seduction", "abandonment")
+RULES = ("", *NAMED)
 Link = tuple[int, int]
 
 
 class Frames:
     """The frames as what changed from one to the next, nodes and links by their places in a list."""
 
-    def __init__(self, lab: Lab) -> None:
-        self.order = {node.id: index for index, node in enumerate(lab.nodes)}
+    def __init__(self, drawing: Drawing) -> None:
+        self.drawing = drawing
+        self.order = {node.id: index for index, node in enumerate(drawing.lab.nodes)}
         self.links: list[Link] = []
+        self.arrows: dict[tuple[int, int], str] = {}  # of each pointer that was seen
         self.index: dict[Link, int] = {}
         self.rows: list[dict[str, Any]] = []
         self.before: State | None = None
@@ -36,7 +42,7 @@ class Frames:
         before = self.before or State(0, 0, frozenset())
         row: dict[str, Any] = {
             "place": state.place, "number": state.number, "moves": state.moves, "since": state.since,
-            "bound": 3 * len(self.order) + 2 * links, "stable": state.stable,
+            "bound": most_moves(len(self.order), links), "stable": state.stable,
         }
         if event is not None:
             row |= {"kind": event.kind, "text": " ".join(event.words), "nodes": [self.order[node] for node in event.nodes]}
@@ -52,11 +58,15 @@ class Frames:
         self.before = state.copy()
 
     def registers(self, before: State, state: State) -> list[list[int]]:
-        return [
-            [self.order[node], -1 if pointer is None else self.order[pointer], int(state.ms[node])]
-            for node, pointer in state.pointers.items()
-            if node not in before.ms or (before.pointers[node], before.ms[node]) != (pointer, state.ms[node])
-        ]
+        rows = []
+        for node, pointer in state.pointers.items():
+            if node in before.ms and (before.pointers[node], before.ms[node]) == (pointer, state.ms[node]):
+                continue
+            at = -1 if pointer is None else self.order[pointer]
+            rows.append([self.order[node], at, int(state.ms[node])])
+            if pointer is not None and (self.order[node], at) not in self.arrows:
+                self.arrows[self.order[node], at] = self.drawing.arrow(node, pointer)
+        return rows
 
     def rules(self, before: dict[int, str], now: dict[int, str]) -> list[list[int]]:
         return [
@@ -96,62 +106,73 @@ class Frames:
         self.open = now
         return runs
 
+    def drawn_arrows(self, known: int = 0) -> list[list[Any]]:
+        """The arrows but for so many that are known."""
+        return [[node, pointer, drawn] for (node, pointer), drawn in islice(self.arrows.items(), known, None)]
+
+    def drawn_links(self, known: int = 0) -> list[list[float]]:
+        """The links but for so many that are known, each with where its witness stands, if not in its middle."""
+        return [
+            [self.order[a], self.order[b], *(self.drawing.spot(a, b) if self.drawing.witnesses is not None else ())]
+            for a, b in self.links[known:]
+        ]
+
 
 def page_of(title: str, lab: Lab, frames: Iterable[Frame]) -> str:
     """The file's text."""
-    rows, drawing, picture = Frames(lab), None, ""
-    for frame in frames:
-        if drawing is None:
-            drawing = Drawing(lab, lay_out(rows.order, frame.state.links))
-            picture = drawing.svg(frame.state, None)
+    each = iter(frames)
+    first = next(each)
+    drawing = Drawing(lab, lay_out((node.id for node in lab.nodes), first.state.links))
+    picture, rows = drawing.svg(first.state, None), Frames(drawing)
+    for frame in chain([first], each):
         rows.add(frame, len(frame.state.links))
-    assert drawing is not None
-    data = what_stays(drawing) | {
-        "links": [[rows.order[a], rows.order[b]] for a, b in rows.links],
-        "frames": rows.rows,
-    }
-    return filled("player", title, drawing, picture, data)
+    data = what_stays(drawing) | {"links": rows.drawn_links(), "arrows": rows.drawn_arrows(), "frames": rows.rows}
+    return filled("player", title, drawing, picture, data)[0]
 
 
-def live_page(title: str, drawing: Drawing, state: State) -> str:
-    """The page of a run that is going on: its program asks for what to draw."""
-    return filled("live", title, drawing, drawing.svg(state, None), what_stays(drawing) | {"links": []})
+def live_page(title: str, drawing: Drawing, state: State, acts: bool) -> tuple[str, str]:
+    """The page of a run that is going on, and what it may do: its program asks for what to draw."""
+    return filled("live", title, drawing, drawing.svg(state, None), what_stays(drawing) | {"links": [], "arrows": [], "acts": acts})
 
 
 def what_stays(drawing: Drawing) -> dict[str, Any]:
     """What of a page's data stays from place to place."""
     return {
         "nodes": [{"id": node.id, "owners": node.owners} for node in drawing.lab.nodes],
-        "points": drawing.layout.points,
-        "radius": drawing.layout.radius,
+        "points": drawing.layout.points, "radius": drawing.layout.radius,
+        "rules": RULES, "witnessesMost": WITNESSES_MOST, "openMost": OPEN_MOST, "short": drawing.form.short, "brief": drawing.brief,
     }
 
 
-def filled(name: str, title: str, drawing: Drawing, picture: str, data: dict[str, Any]) -> str:
-    """A page by its form, with its style and its program inside."""
+def filled(name: str, title: str, drawing: Drawing, picture: str, data: dict[str, Any]) -> tuple[str, str]:
+    """A page by its form, with its style and its program inside, and the policy that lets these two alone be used."""
+    style = "".join((FOLDER / file).read_text("utf-8") for file in ("drawing.css", "player.css")) + drawing.style()
+    program = "".join((FOLDER / file).read_text("utf-8") for file in ("picture.js", f"{name}.js"))
     parts = {
-        "TITLE": escape(title),
-        "STYLE": (FOLDER / "drawing.css").read_text("utf-8") + (FOLDER / "player.css").read_text("utf-8"),
-        "DRAWING": picture,
-        "STUDENTS": legend(drawing),
-        "DATA": data_element(json.dumps(data, separators=(",", ":"))),
-        "PROGRAM": "".join((FOLDER / file).read_text("utf-8") for file in ("picture.js", f"{name}.js")),
+        "TITLE": escape(title), "STYLE": style, "DRAWING": picture, "STUDENTS": legend(drawing),
+        "DATA": data_element(json.dumps(data, separators=(",", ":"))), "PROGRAM": program,
     }
     text = (FOLDER / f"{name}.html").read_text("utf-8")
     head, *rest = text.split("{{")
-    return head + "".join(parts[piece.split("}}", 1)[0]] + piece.split("}}", 1)[1] for piece in rest)
+    page = head + "".join(parts[piece.split("}}", 1)[0]] + piece.split("}}", 1)[1] for piece in rest)
+    return page, f"style-src {hashed(style)}; script-src {hashed(program)}"
+
+
+def hashed(text: str) -> str:
+    """A text as a policy names it."""
+    return f"'sha256-{base64.b64encode(hashlib.sha256(text.encode()).digest()).decode()}'"
 
 
 def legend(drawing: Drawing) -> str:
     """A row for each student, and what letters at the nodes stand for."""
     rows = "".join(legend_row(drawing, student) for student in drawing.lab.students)
-    return rows + (f"<li>{drawing.letters}</li>" if drawing.signed else "")
+    return rows + (f"<li>{drawing.letters}</li>" if drawing.letters else "")
 
 
 def legend_row(drawing: Drawing, student: str) -> str:
     nodes = [str(node) for node in drawing.lab.nodes_of(student)]
-    swatch = f'<svg width="14" height="14"><circle class="owned" style="--hue:{drawing.hue(student)}" cx="7" cy="7" r="6"/></svg>'
-    sign = f"<strong>{drawing.signs[student]}</strong> " if drawing.signed else ""
+    swatch = f'<svg width="14" height="14"><circle class="owned h{drawing.hue(student)}" cx="7" cy="7" r="6"/></svg>'
+    sign = f"<strong>{drawing.signs[student]}</strong> " if drawing.form.signed else ""
     return f"<li>{swatch} {sign}{escape(student)}: {', '.join(nodes) or 'no node'}</li>"
 
 

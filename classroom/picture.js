@@ -1,8 +1,6 @@
 "use strict";
 // The configuration that is shown, and the drawing of it: each change touches the elements that it changes.
-const RULES = ["", "update", "marriage", "seduction", "abandonment"];
-const WITNESSES_MOST = 60; // open links up to which each names its witness
-const OPEN_MOST = 2000; // open links above which they are told as a number alone
+const REGISTERS = ["pointer", "m", "married", "rule", "chosen"];
 const NEVER = -9; // a value that nothing has: what is shown there isn't known
 
 class State {
@@ -59,7 +57,8 @@ class Drawing {
     this.root = root;
     this.data = data;
     this.radius = data.radius;
-    this.small = root.classList.contains("small");
+    this.pointers = new Map();
+    this.learn(data.arrows);
     this.points = data.nodes.map((node) => data.points[node.id]);
     const all = new Map([...root.querySelectorAll(".node")].map((group) => [Number(group.dataset.node), group]));
     this.nodes = data.nodes.map((node) => this.parts(all.get(node.id)));
@@ -119,14 +118,10 @@ class Drawing {
 
   half(a, b) { return this.segment(a, [(a[0] + b[0]) / 2, (a[1] + b[1]) / 2]); }
 
-  arrow(a, b) {
-    const length = Math.hypot(b[0] - a[0], b[1] - a[1]) || 1;
-    const along = [(b[0] - a[0]) / length, (b[1] - a[1]) / length];
-    const point = (far) => (a[0] + along[0] * far).toFixed(1) + " " + (a[1] + along[1] * far).toFixed(1);
-    return `M${point(this.radius)}L${point(length - this.radius - 2)}`;
-  }
+  // Takes in how pointers are drawn.
+  learn(arrows) { for (const [node, pointer, drawn] of arrows) this.pointers.set(node + " " + pointer, drawn); }
 
-  word(rule) { return this.small ? rule.slice(0, 1).toUpperCase() : rule; }
+  word(rule) { return this.data.short ? rule.slice(0, 1).toUpperCase() : rule; }
 
   // Sets an attribute of an element that has few, where it is another than the last time.
   set(element, name, value) {
@@ -156,14 +151,26 @@ class Drawing {
     if (turned) parts.group.setAttribute("data-p", pointer < 0 ? "" : String(this.data.nodes[pointer].id));
     if (paired) parts.group.setAttribute("data-married", String(partner >= 0));
     if (turned || paired) {
-      const drawn = pointer < 0 || partner >= 0 ? "" : this.arrow(this.points[node], this.points[pointer]);
+      const drawn = pointer < 0 || partner >= 0 ? "" : this.pointers.get(node + " " + pointer);
       this.arrows[node].setAttribute("d", drawn);
     }
     if (state.m[node] !== shown.m[node]) parts.group.setAttribute("data-m", String(state.m[node] > 0));
-    if (state.rule[node] !== shown.rule[node]) this.showRule(parts, "rule", RULES[state.rule[node]], "");
-    if (state.chosen[node] !== shown.chosen[node]) this.showRule(parts, "chosen", RULES[state.chosen[node]], "◆ ");
-    for (const name of ["pointer", "m", "married", "rule", "chosen"]) shown[name][node] = state[name][node];
+    if (state.rule[node] !== shown.rule[node]) this.showRule(parts, "rule", this.data.rules[state.rule[node]], "");
+    if (state.chosen[node] !== shown.chosen[node]) this.showRule(parts, "chosen", this.data.rules[state.chosen[node]], "◆ ");
+    const before = REGISTERS.filter((name) => shown[name][node] !== state[name][node]);
+    if (before.length > 0) parts.group.setAttribute("aria-label", this.describe(node, state));
+    for (const name of before) shown[name][node] = state[name][node];
     return paired;
+  }
+
+  // A node in words, for who doesn't see it.
+  describe(node, state) {
+    const { nodes, rules } = this.data, id = (other) => (other < 0 ? "null" : String(nodes[other].id));
+    const words = [`node ${id(node)} of ${nodes[node].owners.join(" and ")}`, "p " + id(state.pointer[node]), "m " + (state.m[node] > 0)];
+    if (state.married[node] >= 0) words.push("married to " + id(state.married[node]));
+    if (state.rule[node] > 0) words.push("privileged: " + rules[state.rule[node]]);
+    if (state.chosen[node] > 0) words.push("chosen: " + rules[state.chosen[node]]);
+    return words.join(", ");
   }
 
   showRule(parts, name, rule, before) {
@@ -188,7 +195,7 @@ class Drawing {
       }
     }
     if (state.openAt !== shown.openAt) {
-      const drawn = state.open <= OPEN_MOST ? state.witness : this.none;
+      const drawn = state.open <= this.data.openMost ? state.witness : this.none;
       for (const row of this.changed(drawn, this.drawn)) {
         this.line("open", row, (link) => (drawn[link] < 0 ? "" : this.segments[link]));
         this.line("witness", row, (link) => this.witnessed(link, drawn[link]));
@@ -219,16 +226,17 @@ class Drawing {
 
   nameWitnesses(state) {
     const named = [];
-    if (state.open <= WITNESSES_MOST) state.witness.forEach((witness, link) => { if (witness >= 0) named.push(link); });
+    if (state.open <= this.data.witnessesMost) state.witness.forEach((witness, link) => { if (witness >= 0) named.push(link); });
     this.witnesses.replaceChildren(...named.map((link) => this.witnessOf(link, state)));
   }
 
   witnessOf(link, state) {
-    const [a, b] = this.data.links[link].map((node) => this.points[node]);
+    const [a, b, x, y] = this.data.links[link], [from, to] = [this.points[a], this.points[b]];
     const text = document.createElementNS("http://www.w3.org/2000/svg", "text");
-    text.setAttribute("x", String((a[0] + b[0]) / 2));
-    text.setAttribute("y", String((a[1] + b[1]) / 2));
-    text.textContent = this.data.nodes[state.witness[link]].id + ": " + this.word(RULES[state.reason[link]]);
+    text.setAttribute("x", String(x ?? (from[0] + to[0]) / 2));
+    text.setAttribute("y", String(y ?? (from[1] + to[1]) / 2));
+    const rule = this.data.rules[state.reason[link]];
+    text.textContent = this.data.nodes[state.witness[link]].id + ": " + (this.data.brief ? rule.slice(0, 1).toUpperCase() : rule);
     return text;
   }
 
@@ -268,6 +276,17 @@ class Aside {
     this.say("since", row.since + " of at most " + row.bound);
     this.say("stable", row.stable ? "stable" : "not stable");
   }
+}
+
+// The picture as large as the screen, and back: by a button, or by the key f.
+function wholeScreen(document) {
+  const stage = document.querySelector(".stage");
+  const turn = () => (document.fullscreenElement ? document.exitFullscreen() : stage.requestFullscreen());
+  document.getElementById("whole").addEventListener("click", turn);
+  document.addEventListener("keydown", (event) => {
+    const types = ["INPUT", "SELECT"].includes(event.target.tagName);
+    if (event.key === "f" && !types && !event.ctrlKey && !event.altKey && !event.metaKey) turn();
+  });
 }
 
 async function dataOf(document) {

@@ -16,7 +16,7 @@ from classroom.program import Fault
 def page(lab_file: Path, journal: Path) -> str:
     """The whole run as a page."""
     lab, frames = frames_of(lab_file, journal)
-    return page_of(f"{lab_file.stem}: {journal.name}", lab, frames)
+    return page_of(folders.title(lab_file, journal), lab, frames)
 
 
 def picture(lab_file: Path, journal: Path, place: int) -> str:

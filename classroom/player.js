@@ -165,6 +165,7 @@ async function begin() {
   const data = await dataOf(document), root = document.getElementById("drawing");
   splitLinks(root);
   const player = new Player(new Run(data), new Drawing(root, data), document);
+  wholeScreen(document);
   player.follow();
   window.player = player;
   document.body.dataset.ready = "true";

@@ -3,9 +3,13 @@ from __future__ import annotations
 
 import os
 import subprocess
+from collections.abc import Callable
 from dataclasses import dataclass
 from pathlib import Path
+from typing import TypeVar
 
+PORTS = 50  # of which the first free one is taken
+Opened = TypeVar("Opened")
 TOP = Path(__file__).resolve().parent.parent
 
 
@@ -51,14 +55,33 @@ def host() -> Path | None:
     return path if os.access(path, os.X_OK) and not path.is_dir() else None
 
 
-def ports_from(port: int, tries: int = 50) -> range:
-    """The ports of which the first free one is taken."""
-    return range(port, min(port + tries, 65536))
+def first_free(port: int, opened: Callable[[int], Opened | None], what: str = "") -> Opened:
+    """What opens at that port, or at the next that is free."""
+    last = min(port + PORTS, 65536) - 1
+    for number in range(port, last + 1):
+        it = opened(number)
+        if it is not None:
+            return it
+    raise Fault(f"no port is free {what}from {port} to {last}", 4)
 
 
 def call(*words: str | Path) -> Answer:
     """Calls the program to its end."""
-    done = subprocess.run([program(), *map(plain, words)], stdin=subprocess.DEVNULL, capture_output=True, check=False)
+    return answer_of(program(), *words)
+
+
+def host_call(*words: str | Path) -> Answer:
+    """Calls the host's program to its end."""
+    path = host()
+    if path is None:
+        raise Fault("mml_host isn't built: `./mml build` builds it (with the toolchain's rt on the path)")
+    return answer_of(path, *words)
+
+
+def answer_of(path: Path, *words: str | Path) -> Answer:
+    """What a program answers to words."""
+    done = subprocess.run([path, *map(plain, words)], stdin=subprocess.DEVNULL, capture_output=True, check=False,
+                          restore_signals=False)
     return Answer(done.returncode, done.stdout.decode(errors="replace"), done.stderr.decode(errors="replace").strip())
 
 

@@ -1,4 +1,4 @@
-"""The page of a run that is going on: for the projector, and for what the teacher does there.
+"""The page of a run that is going on: for the projector, and at another address for what the teacher does there.
 
 Each page has a thread of its own, which sends what has changed since it last sent something: a page that is
 slow gets fewer and larger pieces, and nobody waits for it.
@@ -6,11 +6,15 @@ slow gets fewer and larger pieces, and nobody waits for it.
 from __future__ import annotations
 
 import hmac
+import io
 import json
 import queue
 import secrets
 import socket
+import sys
 import threading
+import time
+from collections.abc import Callable
 from http.server import BaseHTTPRequestHandler, ThreadingHTTPServer
 from typing import Any
 
@@ -19,7 +23,7 @@ from classroom.frames import Frame
 from classroom.lab import Lab
 from classroom.layout import lay_out
 from classroom.page import Frames, live_page
-from classroom.program import Fault, ports_from
+from classroom.program import first_free
 from classroom.watch import Now, Present
 
 LISTED = 25  # events and lines that a page is told of at once
@@ -27,32 +31,48 @@ STILL_HERE = 10.0  # seconds without news after which a page is told that there 
 LAST_WORD = 5.0  # seconds in which the pages may learn that the run is over
 KEPT = 8192  # bytes of news that wait for a page
 MOST_BYTES = 200  # of what a page asks for
+CONNECTIONS = 32  # at a time
+ASKING = 5.0  # seconds in which a request has to be there
+TAKING = 60.0  # seconds in which some of an answer has to be taken
 WORDS = ("close", "fault", "link", "cut", "release", "every", "when-idle", "by-hand")
-POLICY = ("default-src 'none'; style-src 'unsafe-inline'; script-src 'unsafe-inline'; connect-src 'self'; "
-          "base-uri 'none'; form-action 'none'; frame-ancestors 'none'")
+POLICY = "default-src 'none'; connect-src 'self'; base-uri 'none'; form-action 'none'; frame-ancestors 'none'"
 
 
 class Pages(ThreadingHTTPServer):
-    """Serves the pages of one run on 127.0.0.1. The address has a token: who has it may act."""
+    """Serves the pages of one run on 127.0.0.1. An address has a token: one to look at, and one to act at, which may be
+    changed for another."""
 
     daemon_threads = True
 
     def __init__(self, port: int, title: str, lab: Lab, typed: queue.SimpleQueue[str]) -> None:
         super().__init__(("127.0.0.1", port), Page)
         self.title, self.lab, self.typed = title, lab, typed
-        self.token = secrets.token_urlsafe(16)
+        self.looks, self.acts = secrets.token_urlsafe(16), secrets.token_urlsafe(16)
+        self.tell: Callable[[str], None] = print
         self.drawing = Drawing(lab, lay_out((node.id for node in lab.nodes), lab.links))
         self.present: Present | None = None
         self.told = 0  # how many pages are told the news
+        self.free = threading.BoundedSemaphore(CONNECTIONS)
 
     @property
     def address(self) -> str:
-        """What the teacher opens."""
-        return f"http://127.0.0.1:{self.server_port}/{self.token}/"
+        """What the projector shows."""
+        return f"http://127.0.0.1:{self.server_port}/{self.looks}/"
 
-    def show(self, present: Present) -> None:
+    @property
+    def address_to_act(self) -> str:
+        """What the teacher alone opens."""
+        return f"http://127.0.0.1:{self.server_port}/{self.acts}/"
+
+    def renew(self) -> None:
+        """From now on another address acts, and the one before neither acts nor shows anything."""
+        self.acts = secrets.token_urlsafe(16)
+        if self.present is not None:
+            self.present.put()
+
+    def show(self, present: Present, tell: Callable[[str], None]) -> None:
         """Serves it from now on."""
-        self.present = present
+        self.present, self.tell = present, tell
         threading.Thread(target=self.serve_forever, kwargs={"poll_interval": 0.1}, daemon=True).start()
 
     def stop(self) -> None:
@@ -70,15 +90,52 @@ class Pages(ThreadingHTTPServer):
             self.told += more
             present.turn.notify_all()
 
+    def process_request(self, request: Any, client_address: Any) -> None:
+        """A connection has a thread of its own, where one is free and can be made."""
+        if not self.free.acquire(blocking=False):
+            return self.shutdown_request(request)
+        try:
+            super().process_request(request, client_address)
+        except RuntimeError:
+            self.free.release()
+            self.shutdown_request(request)
+
+    def process_request_thread(self, request: Any, client_address: Any) -> None:
+        """One connection, to its end."""
+        try:
+            super().process_request_thread(request, client_address)
+        finally:
+            self.free.release()
+
     def handle_error(self, request: Any, client_address: Any) -> None:
-        """A page that went away is no error."""
+        """Tells what went wrong; a page that went away is no error."""
+        error = sys.exc_info()[1]
+        if not isinstance(error, (ConnectionError, TimeoutError)):
+            self.tell(f"the page: {type(error).__name__}: {error}")
+
+
+class InTime(io.RawIOBase):
+    """What a connection sends within so many seconds; a read that would take longer fails."""
+
+    def __init__(self, connection: socket.socket, seconds: float) -> None:
+        super().__init__()
+        self.connection, self.end = connection, time.monotonic() + seconds
+
+    def readable(self) -> bool:
+        return True
+
+    def readinto(self, buffer: Any) -> int:
+        left = self.end - time.monotonic()
+        if left <= 0:
+            raise TimeoutError
+        self.connection.settimeout(left)
+        return self.connection.recv_into(buffer)
 
 
 class Page(BaseHTTPRequestHandler):
     """One request of a page."""
 
     server: Pages
-    timeout = 60
 
     def log_message(self, format: str, *words: Any) -> None:
         """Nothing is printed: an address has the token."""
@@ -87,19 +144,35 @@ class Page(BaseHTTPRequestHandler):
         """Little is kept for a page that is slow: it gets the present instead of what has passed."""
         self.request.setsockopt(socket.SOL_SOCKET, socket.SO_SNDBUF, KEPT)
         super().setup()
+        self.rfile = io.BufferedReader(InTime(self.connection, ASKING))
 
-    def asked(self) -> str | None:
-        """What is asked for below the token, where the address has it and is that of this machine."""
+    def asked(self) -> tuple[str, str]:
+        """The token, where it is one of the two, and what is asked for below it."""
         beginning, slash, rest = self.path[1:].partition("/")
-        hosts = {f"{name}:{self.server.server_port}" for name in ("127.0.0.1", "localhost")}
-        known = hmac.compare_digest(beginning.encode(), self.server.token.encode())
-        return rest if known and slash and self.headers.get("Host") in hosts else None
+        known = [token for token in (self.server.looks, self.server.acts) if hmac.compare_digest(beginning.encode(), token.encode())]
+        return (known[0], rest) if known and slash else ("", "")
 
-    def head(self, status: int, kind: str = "", size: int | None = 0) -> None:
+    def is_elsewhere(self) -> bool:
+        """Whether another machine's name was asked, or another port, as through a tunnel; says what to open."""
+        port = self.server.server_port
+        if self.headers.get("Host") in (f"127.0.0.1:{port}", f"localhost:{port}"):
+            return False
+        text = (f"This page is served as http://127.0.0.1:{port}/.. alone: open the address that the run has told. From another "
+                f"machine, open it there after: ssh -N -L {port}:127.0.0.1:{port} NAME@HOST\n").encode()
+        self.answer(421, "text/plain; charset=utf-8", text)
+        return True
+
+    def answer(self, status: int, kind: str = "", content: bytes = b"", policy: str = "") -> None:
+        """An answer that is whole."""
+        self.head(status, kind, len(content), policy)
+        self.wfile.write(content)
+
+    def head(self, status: int, kind: str = "", size: int | None = 0, policy: str = "") -> None:
         """The head of an answer."""
+        self.connection.settimeout(TAKING)
         self.send_response_only(status)
         for name, value in (("Cache-Control", "no-store"), ("Referrer-Policy", "no-referrer"),
-                            ("X-Content-Type-Options", "nosniff"), ("Content-Security-Policy", POLICY)):
+                            ("X-Content-Type-Options", "nosniff"), ("Content-Security-Policy", "; ".join(filter(None, (POLICY, policy))))):
             self.send_header(name, value)
         if kind:
             self.send_header("Content-Type", kind)
@@ -109,24 +182,27 @@ class Page(BaseHTTPRequestHandler):
 
     def do_GET(self) -> None:
         """The page, or its news."""
-        asked, present = self.asked(), self.server.present
-        if present is None or asked not in ("", "events"):
+        (token, asked), present = self.asked(), self.server.present
+        if self.is_elsewhere():
+            return
+        if present is None or not token or asked not in ("", "events"):
             return self.head(404)
         if asked == "events":
             self.head(200, "text/event-stream", None)
             self.server.count(present, 1)
             try:
-                return self.tell(present)
+                return self.tell(present, token)
             finally:
                 self.server.count(present, -1)
-        page = live_page(self.server.title, self.server.drawing, present.now.state).encode()
-        self.head(200, "text/html; charset=utf-8", len(page))
-        self.wfile.write(page)
+        page, policy = live_page(self.server.title, self.server.drawing, present.now.state, token == self.server.acts)
+        self.answer(200, "text/html; charset=utf-8", page.encode(), policy)
 
     def do_POST(self) -> None:
         """A line of the teacher's, as it could be typed."""
         size = self.headers.get("Content-Length") or "0"
-        if self.asked() != "act" or not size.isdecimal() or int(size) > MOST_BYTES:
+        if self.is_elsewhere():
+            return
+        if self.asked() != (self.server.acts, "act") or not size.isdecimal() or int(size) > MOST_BYTES:
             return self.head(404)
         line = self.rfile.read(int(size)).decode("utf-8", errors="replace")
         if line.partition(" ")[0] not in WORDS or not line.isprintable():
@@ -134,36 +210,36 @@ class Page(BaseHTTPRequestHandler):
         self.server.typed.put(line)
         self.head(204)
 
-    def tell(self, present: Present) -> None:
-        """Sends the present, and then what has changed, until the run or the page ends."""
-        rows = Frames(self.server.lab)
+    def tell(self, present: Present, token: str) -> None:
+        """Sends the present, and then what has changed, until the run, the page or its token ends."""
+        rows = Frames(self.server.drawing)
         before: Now | None = None
-        while before is None or not before.ended:
+        while (before is None or not before.ended) and token in (self.server.looks, self.server.acts):
             now = present.after(before.version if before else 0, STILL_HERE)
-            text = ": no news" if now is before else f"data: {json.dumps(message(rows, before, now))}"
+            text = ": no news" if now is before else f"data: {json.dumps(message(rows, present, before, now))}"
             self.wfile.write(f"{text}\n\n".encode())
             before = now
 
 
-def message(rows: Frames, before: Now | None, now: Now) -> dict[str, Any]:
+def message(rows: Frames, present: Present, before: Now | None, now: Now) -> dict[str, Any]:
     """What a page that has shown `before` has to know."""
-    known = len(rows.links)
-    event = now.events[-1] if now.events else None
-    rows.add(Frame(event, now.state), len(now.state.links))
-    events = now.events[len(before.events) if before else 0:][-LISTED:]
-    lines = now.lines[len(before.lines) if before else 0:][-LISTED:]
+    links, arrows = len(rows.links), len(rows.arrows)
+    rows.add(Frame(present.events[now.events - 1] if now.events else None, now.state), len(now.state.links))
+    events = present.events[max(before.events if before else 0, now.events - LISTED):now.events]
+    lines = present.lines[max(before.lines if before else 0, now.lines - LISTED):now.lines]
     return rows.rows.pop() | {
         "begin": before is None, "closing": now.closing, "ended": now.ended,
-        "new": [[rows.order[a], rows.order[b]] for a, b in rows.links[known:]],
-        "events": [f"{each.place}: {' '.join(each.words)}" for each in events], "lines": list(lines),
+        "new": rows.drawn_links(links), "arrows": rows.drawn_arrows(arrows),
+        "events": [f"{each.place}: {' '.join(each.words)}" for each in events], "lines": lines,
     }
 
 
 def open_pages(port: int, title: str, lab: Lab, typed: queue.SimpleQueue[str]) -> Pages:
     """At that port, or the next that is free."""
-    for number in ports_from(port):
+    def opened(number: int) -> Pages | None:
         try:
             return Pages(number, title, lab, typed)
         except OSError:
-            continue
-    raise Fault(f"no port is free for the page from {port} to {number}", 4)
+            return None
+
+    return first_free(port, opened, "for the page ")

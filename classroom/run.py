@@ -3,18 +3,18 @@ from __future__ import annotations
 
 import argparse
 import shutil
-from collections.abc import Callable
 from pathlib import Path
 
 from classroom import closing, server
 from classroom import lab as labs
+from classroom.daemons import FORMS
 from classroom.folders import RECORD, Record, going, new_folder, of_folder
-from classroom.holding import Running, nobody, to_the_end
+from classroom.holding import Running, to_the_end
 from classroom.program import Fault
 from classroom.several import side_by_side
 from classroom.teller import Teller
 
-CLOSING = ("when-idle", 2.0)
+CLOSING = closing.closing("when-idle:2")
 
 
 def port(word: str) -> int:
@@ -26,8 +26,7 @@ def port(word: str) -> int:
 
 def add_desk_words(words: argparse.ArgumentParser) -> None:
     """The words of who holds a desk."""
-    words.add_argument("--close", type=closing.mode, metavar="MODE",
-                       help="every:SECONDS, when-idle:SECONDS or by-hand (when-idle:2)")
+    words.add_argument("--daemon", "--close", dest="close", type=closing.mode, metavar="D", help=f"{FORMS} (when-idle:2)")
     words.add_argument("--until", choices=["stable"], help="end the run where no node is privileged")
     words.add_argument("--page", type=port, nargs="?", const=4780, metavar="PORT",
                        help="serve a page of the run, for the projector, at that port or the next free one (4780)")
@@ -47,7 +46,7 @@ def add_words(words: argparse.ArgumentParser) -> None:
     words.set_defaults(work=run)
 
 
-def one(words: argparse.Namespace, beside: Callable[[int], None] = nobody) -> int:
+def one(words: argparse.Namespace) -> int:
     """A run from its folder to its marks."""
     lab_file, into = Path(words.labs[0]), Path(words.into)
     server.ready(words.serve)
@@ -56,7 +55,7 @@ def one(words: argparse.Namespace, beside: Callable[[int], None] = nobody) -> in
         refuse_beside(into, lab_file)
     folder = new_folder(into, lab_file)
     (folder / "lab.toml").write_bytes(lab_file.read_bytes())
-    run = Running(folder, lab_file, lab, words.close or CLOSING, words.until, words.page, words.typed, Teller(folder), beside,
+    run = Running(folder, lab_file, lab, words.close or CLOSING, words.until, words.page, words.typed, Teller(folder),
                   by_number=words.serve)
     try:
         return to_the_end(run, lambda: begin(run, words.port))

@@ -6,12 +6,11 @@ import re
 import signal
 import subprocess
 import time
-from collections.abc import Iterator
 from dataclasses import dataclass
 from pathlib import Path
 
 from classroom.folders import Process, Record
-from classroom.program import Fault, host, is_clone, plain, ports_from, program
+from classroom.program import Fault, first_free, host, is_clone, plain, program
 
 LISTENING = re.compile(r"(?m)^listening on port (?P<port>\d+)(?:, desk on port (?P<desk>\d+))?$")
 AGAIN = 0.01  # seconds between two looks at what a server has printed
@@ -75,13 +74,6 @@ def first_line(process: subprocess.Popen[bytes], output: Path, before: int) -> s
         time.sleep(AGAIN)
 
 
-def ports_of(port: int, resumed: Record | None) -> Iterator[tuple[int, int]]:
-    """The ports that are tried, the desk's 0 where the system chooses it; where a class goes on, its own first."""
-    if resumed is not None:
-        yield resumed.port, resumed.desk
-    yield from ((number, 0) for number in ports_from(resumed.port if resumed else port))
-
-
 def ready(by_number: bool) -> None:
     """Wants that what `start` starts is built."""
     program()
@@ -90,21 +82,28 @@ def ready(by_number: bool) -> None:
         raise Fault(f"mml_host isn't built: {how}; --serve takes a server for as many connections in all as the lab has sessions")
 
 
-def start(folder: Path, lab: Path, port: int, journal: Path, by_number: int | None = None,
-          resumed: Record | None = None) -> Server:
-    """Starts a host over a lab at the first free port from that on, or one that goes on with a class; or, by number, a
-    server for so many connections, of which the teacher's desk is one."""
-    ready(by_number is not None)
-    hosting = host() if by_number is None else None
-    for number, desk in ports_of(port, resumed):
-        ports = (str(number), str(desk if by_number is None else by_number))
-        words: list[str | Path] = [hosting, "resume" if resumed else "host"] if hosting else [program(), "serve"]
-        output = folder / "server.txt"
-        with output.open("ab" if resumed else "wb") as prints:
+@dataclass
+class Call:
+    """How a server is started; the first words that it takes are a lab and two numbers."""
+
+    folder: Path
+    lab: Path
+    journal: Path
+    by_number: int | None
+    is_resumed: bool
+
+    def at(self, port: int, desk: int = 0) -> Server | None:
+        """A server that listens there, the desk's port 0 where the system chooses it; None where a port is taken."""
+        hosting = host() if self.by_number is None else None
+        words: list[str | Path] = [hosting, "resume" if self.is_resumed else "host"] if hosting else [program(), "serve"]
+        ports = str(port), str(desk if self.by_number is None else self.by_number)
+        output = self.folder / "server.txt"
+        with output.open("ab" if self.is_resumed else "wb") as prints:
             before = prints.tell()
+            # SIGXFSZ stays ignored, as it is here: where a file may not grow further, a write fails, and nothing ends.
             process = subprocess.Popen(
-                [*words, plain(lab), *ports, plain(journal)], stdin=subprocess.DEVNULL, stdout=prints, stderr=prints,
-                start_new_session=True,
+                [*words, plain(self.lab), *ports, plain(self.journal)], stdin=subprocess.DEVNULL, stdout=prints, stderr=prints,
+                start_new_session=True, restore_signals=False,
             )
         line = first_line(process, output, before)
         told = LISTENING.fullmatch(line)
@@ -114,4 +113,14 @@ def start(folder: Path, lab: Path, port: int, journal: Path, by_number: int | No
         status = process.wait()
         if not line.endswith("cannot listen"):
             raise Fault(f"the server doesn't start: {line}", status or 4)
-    raise Fault(f"no port is free from {port} to {number}", 4)
+        return None
+
+
+def start(folder: Path, lab: Path, port: int, journal: Path, by_number: int | None = None,
+          resumed: Record | None = None) -> Server:
+    """Starts a host over a lab at the first free port from that on, or one that goes on with a class, at its own ports
+    where they are free; or, by number, a server for so many connections, of which the teacher's desk is one."""
+    ready(by_number is not None)
+    call = Call(folder, lab, journal, by_number, resumed is not None)
+    again = call.at(resumed.port, resumed.desk) if resumed is not None else None
+    return again or first_free(port, call.at)

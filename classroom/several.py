@@ -99,7 +99,7 @@ class Several:
 def side_by_side(words: argparse.Namespace) -> int:
     """Runs several labs at once; a signal that ends this ends them all."""
     typed = words.typed or sys.stdin is not None and sys.stdin.isatty()
-    if words.close is not None and words.close[0] == "by-hand" and not typed:
+    if words.close is not None and words.close.kind == "by-hand" and not typed:
         raise Fault("several labs are closed by time: --close every:SECONDS or when-idle:SECONDS; or by what is typed: --typed")
     if words.port + len(words.labs) > 65536 or (words.page or 0) + len(words.labs) > 65536:
         raise Fault(f"{len(words.labs)} labs need a port each, up to 65535")

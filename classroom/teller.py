@@ -3,6 +3,7 @@ from __future__ import annotations
 
 import os
 import sys
+import time
 from collections.abc import Callable
 from pathlib import Path
 
@@ -27,6 +28,13 @@ class Teller:
             except OSError:
                 pass
 
+    def alone(self, line: str) -> None:
+        """Prints a line that is neither kept nor shown to others."""
+        try:
+            self.say(printable(line))
+        except OSError:
+            pass
+
     def say(self, line: str) -> None:
         """Prints it; where nobody reads any more, nothing is printed from then on."""
         try:
@@ -36,6 +44,7 @@ class Teller:
                 os.dup2(nowhere.fileno(), sys.stdout.fileno())
 
     def keep(self, line: str) -> None:
-        """Adds a line to `run.txt`."""
+        """Adds a line to `run.txt`, or several, with the hour and minute before each."""
+        now = time.strftime("%H:%M")
         with self.path.open("a", encoding="utf-8") as it:
-            it.write(line + "\n")
+            it.writelines(f"{now} {each}\n" for each in line.split("\n"))

@@ -6,9 +6,10 @@ import sys
 from collections import Counter
 from dataclasses import dataclass, field
 
-from classroom.journal import RULES, Marks
+from classroom.journal import RULES
 from classroom.lab import Lab
 from classroom.lists import People, Person
+from classroom.tally import Marks
 
 HEADS = ["granted", "applied", *RULES, "steps", "shared", "runs"]
 

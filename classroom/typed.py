@@ -16,6 +16,8 @@ LEAVE = "\x02"  # Another process takes the desk.
 WORDS = {
     "close": ("", "close the step: all chosen moves are applied at once"),
     "fault": ("NODE NEIGHBOUR|null true|false", "set a node's p and m"),
+    "shake": ("K|all [SEED]", "set so many nodes' registers, drawn with a seed"),
+    "break": ("", "set all registers to a start from which it takes long"),
     "link": ("NODE NODE", "add a link"),
     "cut": ("NODE NODE", "remove a link"),
     "release": ("NODE", "take a chosen move back"),
@@ -25,12 +27,15 @@ WORDS = {
     "every": ("SECONDS", "close a step every so many seconds"),
     "when-idle": ("SECONDS", "close a step where nothing came for so long"),
     "by-hand": ("", "close no step by itself"),
+    "daemon": ("WORD", "close steps as central, synchronous, random:P, when-idle:SECONDS, every:SECONDS, by-hand"),
+    "page": ("", "another address of the page to act at; the one before acts no more"),
     "help": ("", "tell these words"),
     "end": ("", "end the run"),
 }
 FORMS = {word: f"{word} {form}".strip() for word, (form, _) in WORDS.items()}
 HELP = ", ".join(FORMS.values())
-PATTERNS = {"NODE": r"\d+", "NEIGHBOUR|null": r"\d+|null|-", "true|false": "true|false", "SECONDS": r"\d+(\.\d+)?"}
+PATTERNS = {"NODE": r"\d+", "NEIGHBOUR|null": r"\d+|null|-", "true|false": "true|false", "SECONDS": r"\d+(\.\d+)?", "WORD": r"\S+",
+            "K|all": r"[1-9]\d*|all", "SEED": r"\d+"}
 
 
 def understood(line: str) -> list[str]:
@@ -39,8 +44,9 @@ def understood(line: str) -> list[str]:
     if word not in FORMS:
         near = difflib.get_close_matches(word, WORDS, 1)
         raise ValueError(f"not understood; {f'did you mean {FORMS[near[0]]}? ' if near else ''}words: {HELP}")
-    form = WORDS[word][0].split()
-    if len(form) != len(rest) or not all(re.fullmatch(PATTERNS[of], it, re.ASCII) for of, it in zip(form, rest)):
+    form = WORDS[word][0].replace("[", "").replace("]", "").split()
+    least = len(form) - WORDS[word][0].count("[")
+    if not least <= len(rest) <= len(form) or not all(re.fullmatch(PATTERNS[of], it, re.ASCII) for of, it in zip(form, rest)):
         raise ValueError(f"not understood; it is {FORMS[word]}")
     return [word, *rest]
 

@@ -2,41 +2,49 @@
 from __future__ import annotations
 
 import threading
+from collections.abc import Iterable
 from dataclasses import dataclass
 
 from classroom import lab as labs
 from classroom.client import Client, Denied, Refused, Report
 from classroom.frames import State
-from classroom.journal import Event, Tally
+from classroom.journal import Event
+from classroom.present import Book
 
 
 @dataclass(frozen=True)
 class Now:
-    """The present, which doesn't change any more: the state, all events and lines so far, and how steps are closed."""
+    """The present, which doesn't change any more: the state, how many events and lines there are, and how steps are
+    closed."""
 
     version: int
     state: State
-    events: tuple[Event, ...]
-    lines: tuple[str, ...]
+    events: int
+    lines: int
     closing: str
     ended: bool
 
 
 class Present:
-    """The newest `Now`. Who shows it waits for another one; who makes it waits for nobody."""
+    """The newest `Now`, and all events and lines, which only grow. Who shows it waits for another one; who makes it waits
+    for nobody."""
 
     def __init__(self, state: State, closing: str) -> None:
         self.turn = threading.Condition()
-        self.now = Now(1, state, (), (), closing, False)
+        self.events: list[Event] = []
+        self.lines: list[str] = []
+        self.now = Now(1, state, 0, 0, closing, False)
 
-    def put(self, state: State | None = None, events: tuple[Event, ...] = (), line: str | None = None,
+    def put(self, state: State | None = None, events: Iterable[Event] = (), line: str | None = None,
             closing: str | None = None, ended: bool = False) -> None:
         """Publishes what is new."""
         with self.turn:
             now = self.now
+            self.events.extend(events)
+            self.lines.extend([line] if line else [])
             self.now = Now(
-                now.version + 1, state or now.state, now.events + events, now.lines + ((line,) if line else ()),
-                closing or now.closing, now.ended or ended,
+                now.version + 1, state or now.state, len(self.events), len(self.lines), closing or now.closing,
+                now.ended or ended,
             )
             self.turn.notify_all()
 
@@ -52,7 +60,7 @@ class Watch:
 
     def __init__(self, lab: labs.Lab, client: Client, report: Report, closing: str) -> None:
         self.client = client
-        self.state = State(0, 0, frozenset((min(link), max(link)) for link in lab.links))
+        self.state = State(0, 0, frozenset(map(labs.ordered, lab.links)))
         self.named = {node.id for node in lab.nodes}
         self.granted: set[int] = set()
         self.events: list[Event] = []
@@ -71,11 +79,11 @@ class Watch:
             self.named |= self.granted
             self.granted.clear()
         if event.kind == "link":
-            state.links |= {(min(event.nodes), max(event.nodes))}
+            state.links |= {labs.ordered((event.nodes[0], event.nodes[1]))}
         elif event.kind == "cut":
-            state.links -= {(min(event.nodes), max(event.nodes))}
+            state.links -= {labs.ordered((event.nodes[0], event.nodes[1]))}
 
-    def turn(self, report: Report, tally: Tally) -> None:
+    def turn(self, report: Report, book: Book) -> None:
         """Publishes the present after the events that were noted; where the run has gone on meanwhile, its next
         events come first."""
         if not self.events:
@@ -87,9 +95,9 @@ class Watch:
         if report.at != number or self.look() != {number}:
             return
         self.take(report)
-        self.state.place, self.state.moves, self.state.since = last.place, tally.moves, tally.since[0]
+        self.state.place, self.state.moves, self.state.since = last.place, book.moves, book.since
         self.named.clear()
-        self.present.put(self.state.copy(), tuple(self.events))
+        self.present.put(self.state.copy(), self.events)
         self.events.clear()
 
     def settle(self) -> None:

@@ -6,7 +6,7 @@ import os
 import sys
 from typing import NoReturn
 
-from classroom import attach, check, demo, lists, mark, new, play, run
+from classroom import attach, check, demo, experiment, grade, lists, mark, new, play, practise, rekey, run
 from classroom.printable import printable
 from classroom.program import TOP, Fault
 from classroom.statuses import FAILED, TABLE, USAGE
@@ -47,7 +47,7 @@ def add_new(words: argparse.ArgumentParser) -> None:
     words.add_argument("--start", choices=("clean", "random", "hurt"), default="clean", help="registers at the beginning (clean)")
     words.add_argument("--seed", type=int, default=1, help="for random networks and starts (1); keys don't follow from it")
     words.add_argument("--events", type=positive, help="the limit of events (100000)")
-    words.add_argument("--sessions", type=positive, help="how many places, one of them the teacher's (16)")
+    words.add_argument("--sessions", type=positive, help="how many seats, one of them the teacher's (16)")
     words.add_argument("--teacher", default="teacher", help="the teacher's name")
     words.add_argument("--groups", type=positive, default=1, help="so many labs, each for a part of the class")
     words.add_argument("--port", type=run.port, default=4711,
@@ -61,9 +61,13 @@ EXAMPLES = {
     "new": "Example: class new maths.toml --students names.csv --family grid:4x3 --start hurt",
     "check": "Example: class check maths.toml",
     "run": f"Examples: class run maths.toml --until stable --page; class run --resume runs/2026-11-24T1015-maths. {TYPED}",
+    "key": "Example: class key runs/2026-11-24T1015-maths zoe-mueller",
     "attach": f"Example: class attach runs/2026-11-24T1015-maths. {TYPED}",
     "mark": "Example: class mark runs/*-maths --roster names.csv --total > marks.csv",
     "play": "Example: class play runs/2026-11-24T1015-maths -o run.html",
+    "practise": "Example: class practise 'python3 bot.py' --family grid:4x3 --node 5,6 --daemon synchronous",
+    "grade": "Example: class grade 'python3 bot.py' Bot.java --suite full --json cases.json",
+    "experiment": "Example: class experiment --family path,cycle --nodes 4..32/4 --runs 50 --csv runs.csv --plot runs.svg",
     "demo": "Example: class demo",
 }
 
@@ -104,8 +108,12 @@ def parser() -> argparse.ArgumentParser:
     words.set_defaults(work=check.check)
     run.add_words(word("run", "run a class over a lab, in a folder of its own, or go on with it"))
     attach.add_words(word("attach", "take the desk of a class whose run is gone, or has lost its terminal"))
+    rekey.add_words(word("key", "another key and slip for a student, in mid-course"))
     add_mark(word("mark", "what journals tell of each student"))
     add_play(word("play", "a run as one page that shows it, or a configuration as a picture"))
+    practise.add_words(word("practise", "play alone: bots of the house play the other nodes, and each denial is explained"))
+    grade.add_words(word("grade", "try bots over many labs, daemons and seeds, within limits"))
+    experiment.add_words(word("experiment", "how many moves, closes and rounds runs take: a table and a chart"))
     words = word("demo", "a class in a box: four bots, a run, marks")
     words.add_argument("--into", default="runs", help="where the run's folder is made (runs)")
     words.set_defaults(work=demo.demo)

@@ -11,7 +11,7 @@ import java.util.regex.Pattern;
 
 /**
  * Plays a student's nodes with no library: java Bot.java SLIP, or java Bot.java PORT NAME KEYFILE NODE,..
- * Lines are taken apart by hand.
+ * KEYFILE - takes the key from the environment's CENDUWA_KEY. Lines are taken apart by hand.
  */
 public class Bot {
     static final Pattern NEAR = Pattern.compile("\\{\"m\":(?:true|false),\"node\":(\\d+),\"p\":(\\d+|null)\\}");
@@ -20,7 +20,7 @@ public class Bot {
         "unknown", "2 name and key don't match: take both from your slip",
         "not-owner", "3 a node isn't yours: correct the nodes by your slip",
         "malformed", "3 the server takes a line for no request: correct the program",
-        "busy", "5 all places were taken for a minute: come again later",
+        "busy", "5 all seats were taken for a minute: come again later",
         "full", "6 nothing is granted any longer: tell your teacher",
         "journal", "6 nothing is granted any longer: tell your teacher");
     static PrintStream out;
@@ -50,7 +50,7 @@ public class Bot {
         return reply;
     }
 
-    /** Connects and says hello; where no place is free, again each second, for a minute. */
+    /** Connects and says hello; where no seat is free, again each second, for a minute. */
     static void enter(int port, String name, String key) throws Exception {
         for (int second = 0; second <= 60; second++) {
             try {
@@ -66,6 +66,7 @@ public class Bot {
                 return;
             }
             if (!reply.contains("\"busy\"")) stop(4, "at port " + port + " is another program; your teacher tells the port");
+            out.close();
             Thread.sleep(1000);
         }
         stop(5, STOPS.get("busy").substring(2));
@@ -102,10 +103,13 @@ public class Bot {
 
     public static void main(String[] words) throws Exception {
         if (words.length != 1 && words.length != 4) stop(1, "usage: java Bot.java SLIP, or PORT NAME KEYFILE NODE,..");
-        String slip = read(words[words.length == 1 ? 0 : 2]);
+        String file = words[words.length == 1 ? 0 : 2];
+        String slip = file.equals("-") ? "" : read(file);
         String port = words.length == 1 ? after(slip, "port") : words[0];
         if (!port.matches("\\d{1,5}")) stop(1, "no port in " + words[0]);
-        enter(Integer.parseInt(port), words.length == 1 ? after(slip, "name") : words[1], after(slip, "key"));
+        String key = words.length == 4 && words[2].equals("-") ? System.getenv("CENDUWA_KEY") : after(slip, "key");
+        if (key == null) stop(1, "the environment has no CENDUWA_KEY");
+        enter(Integer.parseInt(port), words.length == 1 ? after(slip, "name") : words[1], key);
         String[] nodes = (words.length == 1 ? after(slip, "nodes") : words[3]).split(",");
         while (true) {
             for (String node : nodes) {

@@ -1,7 +1,8 @@
 #!/usr/bin/env python3
 """Plays a student's nodes, until the run ends or nothing was new for SECONDS:
 bot.py SLIP [SECONDS], or bot.py PORT NAME KEYFILE NODE,.. [SECONDS]"""
-import sys, time
+import sys
+import time
 from pathlib import Path
 
 sys.path.append(str(Path(__file__).resolve().parent.parent / "classroom"))

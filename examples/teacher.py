@@ -39,7 +39,7 @@ def close_steps(me: Client, owners: dict[int, list[str]]) -> None:
 
 
 def teach(words: list[str]) -> None:
-    """Holds a place of the students' port as the teacher."""
+    """Holds a seat at the students' port as the teacher."""
     slip, lab = Slip.of(words)
     with enter(slip) as me:
         close_steps(me, owners_of(lab))

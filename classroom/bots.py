@@ -1,0 +1,122 @@
+"""A student's program under test: a process with limits, in a folder of its own, that is ended with all that it started."""
+from __future__ import annotations
+
+import os
+import shlex
+import shutil
+import signal
+import subprocess
+import sys
+import time
+from dataclasses import dataclass
+from pathlib import Path
+
+from classroom.program import Fault
+
+KEEPER = Path(__file__).resolve().parent / "keeper.py"
+KEPT = ("PATH", "LANG", "LC_ALL", "JAVA_HOME")
+RUN_BY = {".py": [sys.executable], ".java": ["java", "-XX:TieredStopAtLevel=1", "-XX:+UseSerialGC"]}
+SHOWN = 400  # bytes of what a bot printed last
+
+
+@dataclass(frozen=True)
+class Bot:
+    """A command, to which a slip's path is added."""
+
+    name: str
+    words: tuple[str, ...]
+    fault: str = ""  # why it can't be run
+
+    @staticmethod
+    def of(word: str) -> Bot:
+        """The command of a word as a shell would take it; of a file alone whose name ends so, Python's or Java's."""
+        try:
+            words = shlex.split(word)
+        except ValueError as error:
+            return Bot(word, (), f"{word}: {error}")
+        if not words:
+            return Bot(word, (), "an empty word is no command")
+        name = " ".join(Path(each).name for each in words)
+        if len(words) == 1 and Path(words[0]).is_file() and not os.access(words[0], os.X_OK):
+            words = RUN_BY.get(Path(words[0]).suffix, []) + words
+        found = shutil.which(words[0])
+        if found is None:
+            return Bot(name, (), f"{words[0]}: there is no such program, or it can't be run; a BOT is a command, as a shell takes it: "
+                       "'python3 bot.py'")
+        rest = [str(Path(each).resolve()) if Path(each).is_file() else each for each in words[1:]]
+        for each in rest:
+            if Path(each).suffix in (".py", ".java") and not Path(each).is_file():
+                return Bot(name, (), f"{each}: there is no such file")
+        return Bot(name, (str(Path(found).absolute()), *rest))
+
+
+def end_strays(folder: Path) -> None:
+    """Ends the processes whose home is that folder."""
+    mark = f"HOME={folder}".encode()
+    while True:
+        found = False
+        for each in Path("/proc").iterdir():
+            try:
+                if each.name.isdecimal() and mark in (each / "environ").read_bytes().split(b"\0"):
+                    os.kill(int(each.name), signal.SIGKILL)
+                    found = True
+            except OSError:
+                continue
+        if not found:
+            return
+        time.sleep(0.01)
+
+
+class Kept:
+    """A bot that runs, kept within limits."""
+
+    def __init__(self, bot: Bot, slip: Path, folder: Path, seconds: float | None, megabytes: int) -> None:
+        """It runs in `folder`, where its slip and its output are; without a limit of seconds it is at home: its output is
+        this process's."""
+        self.folder, self.output = folder, folder / "output.txt"
+        self.how = ""
+        at_home = seconds is None
+        environment = dict(os.environ) if at_home else {word: os.environ[word] for word in KEPT if word in os.environ}
+        environment |= {} if at_home else {"HOME": str(folder), "TMPDIR": str(folder), "PYTHONUNBUFFERED": "1", "PYTHONDONTWRITEBYTECODE": "1"}
+        words: list[str | Path] = [sys.executable, "-S", "-E", "-s", KEEPER, str(megabytes), str(int(seconds or 0)), *bot.words, slip]
+        try:
+            with open(os.dup(2), "wb") if at_home else self.output.open("ab") as prints:
+                self.process = subprocess.Popen(
+                    words, stdin=subprocess.PIPE, stdout=subprocess.PIPE, stderr=prints, cwd=folder, env=environment,
+                    start_new_session=True,
+                )
+        except OSError as error:
+            raise Fault(f"{error.filename or folder}: {error.strerror}", 4) from None
+
+    def ended(self) -> str:
+        """How it has ended, where it has: `ended STATUS`, or `killed REASON`."""
+        if self.process.poll() is None:
+            return ""
+        assert self.process.stdout is not None
+        if not self.process.stdout.closed:
+            self.how = self.process.stdout.read().decode(errors="replace").strip()
+            self.process.stdout.close()
+            if not self.how:
+                self.how = "killed its keeper"
+                end_strays(self.folder)
+        return self.how
+
+    def stop(self) -> str:
+        """Ends it with all that it started."""
+        assert self.process.stdin is not None
+        try:
+            self.process.stdin.close()
+        except OSError:
+            pass
+        self.process.wait()
+        return self.ended()
+
+    def printed(self) -> str:
+        """What it printed last."""
+        try:
+            with self.output.open("rb") as it:
+                it.seek(max(0, self.output.stat().st_size - SHOWN))
+                lines = it.read().decode(errors="replace").strip().splitlines()
+        except OSError:
+            return ""
+        return lines[-1] if lines else ""

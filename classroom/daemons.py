@@ -1,0 +1,94 @@
+"""The daemon as a way of closing from outside: when a step is closed, and which of the chosen moves it applies."""
+from __future__ import annotations
+
+import argparse
+import random
+import re
+from collections.abc import Sequence
+from dataclasses import dataclass
+
+FORMS = "central, synchronous, random:P, when-idle:SECONDS, every:SECONDS, by-hand"
+PLAIN = ("central", "synchronous", "by-hand")
+
+
+@dataclass(frozen=True)
+class Daemon:
+    """A kind, with its probability or its seconds."""
+
+    kind: str
+    value: float = 0.0
+
+    @staticmethod
+    def of(word: str, seconds: float = 2.0) -> Daemon:
+        """That of a word; `seconds` are those of a kind that names none."""
+        found = re.fullmatch(r"(random|every|when-idle)(?::(\d+(?:\.\d+)?))?", word)
+        if word in PLAIN:
+            return Daemon(word)
+        if not found or found[1] == "random" and found[2] and not 0 < float(found[2]) <= 1:
+            raise ValueError(f"{word} is none of {FORMS}; P is above 0 and at most 1")
+        return Daemon(found[1], float(found[2]) if found[2] else 0.5 if found[1] == "random" else seconds)
+
+    def spelled(self) -> str:
+        """The word."""
+        return self.kind if self.kind in PLAIN else f"{self.kind}:{self.value:g}"
+
+
+def daemon(word: str) -> Daemon:
+    """The same as a word of the command line."""
+    try:
+        return Daemon.of(word)
+    except ValueError as error:
+        raise argparse.ArgumentTypeError(str(error)) from None
+
+
+def daemons(word: str) -> list[Daemon]:
+    """Several with commas between them."""
+    return [daemon(each) for each in word.split(",")]
+
+
+@dataclass(frozen=True)
+class Sight:
+    """What a daemon goes by: who is privileged, whose move is chosen in the order of the grants, and how many seconds
+    the last grant and the last close lie back."""
+
+    privileged: Sequence[int]
+    chosen: Sequence[int]
+    idle: float
+    since: float
+
+    def is_full(self) -> bool:
+        """Whether each privileged node has a chosen move."""
+        return set(self.privileged) <= set(self.chosen)
+
+
+def heads(nodes: Sequence[int], probability: float, chance: random.Random) -> list[int]:
+    """A coin for each node; where all show tails, one node."""
+    found = [node for node in nodes if chance.random() < probability]
+    return found or [chance.choice(list(nodes))]
+
+
+def applied(how: Daemon, sight: Sight, chance: random.Random, patience: float) -> list[int]:
+    """The nodes whose moves a close applies now, or none: the other chosen moves are released before it. The random
+    daemon tosses where each privileged node has a move, or none came for `patience` seconds."""
+    if not sight.chosen:
+        return []
+    if how.kind == "central":
+        return [sight.chosen[0]]
+    if how.kind == "random":
+        ready = sight.is_full() or sight.idle >= patience
+        return heads(sight.chosen, how.value, chance) if ready else []
+    due = {
+        "synchronous": sight.is_full(),
+        "every": sight.since >= how.value,
+        "when-idle": sight.idle >= how.value,
+    }
+    return list(sight.chosen) if due.get(how.kind, False) else []
+
+
+def movers(how: Daemon, privileged: Sequence[int], chance: random.Random) -> list[int]:
+    """Where who plays is patient: the nodes that move in the next step."""
+    if how.kind == "central":
+        return [chance.choice(list(privileged))]
+    if how.kind == "random":
+        return heads(privileged, how.value, chance)
+    return list(privileged)

@@ -1,0 +1,140 @@
+"""`./class grade`: each bot over many labs, daemons and seeds."""
+from __future__ import annotations
+
+import argparse
+import concurrent.futures
+import os
+import re
+import signal
+import tempfile
+import threading
+from collections.abc import Iterator
+from pathlib import Path
+
+from classroom import graded, suites
+from classroom.answering import answerer
+from classroom.bots import Bot
+from classroom.daemons import daemons
+from classroom.folders import new_folder
+from classroom.program import program
+from classroom.printable import printable
+from classroom.statuses import FAILED, WARNED
+from classroom.suites import Case
+from classroom.trial import Limits, Result, tried
+
+MOST_AT_ONCE = 16  # bots that run side by side
+
+
+def count(word: str) -> int:
+    """A number from 1."""
+    if not (word.isascii() and word.isdecimal() and int(word) > 0):
+        raise argparse.ArgumentTypeError(f"{word} is no number from 1")
+    return int(word)
+
+
+def seconds(word: str) -> float:
+    """A number of seconds above 0."""
+    if not re.fullmatch(r"\d+(\.\d+)?", word) or float(word) == 0:
+        raise argparse.ArgumentTypeError(f"{word} is no number of seconds")
+    return float(word)
+
+
+def add_words(words: argparse.ArgumentParser) -> None:
+    """The words of `grade`."""
+    words.add_argument("bots", nargs="+", metavar="BOT",
+                       help="a command, to which a slip's path is added: 'python3 bot.py'; of bot.py or Bot.java alone the file")
+    cases = words.add_mutually_exclusive_group()
+    cases.add_argument("--suite", choices=sorted(suites.SUITES), default="small", help="cases that come with the release (small)")
+    cases.add_argument("--labs", metavar="FOLDER", help="your own labs")
+    words.add_argument("--daemon", type=daemons, metavar="D,..", help="instead of the suite's: central, synchronous, random:P, ..")
+    words.add_argument("--seeds", type=count, default=1, metavar="K", help="each case with the seeds 1 to K (1)")
+    words.add_argument("--timeout", type=seconds, default=20.0, metavar="SECONDS", help="what a case may take (20)")
+    words.add_argument("--memory", type=count, default=512, metavar="MB", help="what a bot may take, with all that it starts (512)")
+    words.add_argument("--at-once", type=count, help="how many cases run side by side")
+    words.add_argument("--into", default="grades", help="where the cases' records and pages are kept (grades)")
+    for form, what in (("json", "a list of cases"), ("junit", "JUnit's form"), ("gradescope", "Gradescope's form")):
+        words.add_argument(f"--{form}", metavar="FILE", help=what)
+    words.set_defaults(work=grade)
+
+
+def folder_of(top: Path, bot: Bot, case: Case) -> Path:
+    """Where a case's record is kept."""
+    plain = [re.sub(r"[^A-Za-z0-9._:-]+", "-", word).strip(".-") or "bot" for word in (bot.name, case.name())]
+    return top / plain[0] / plain[1]
+
+
+def results_of(bots: list[Bot], cases: list[Case], words: argparse.Namespace, top: Path, stop: threading.Event) -> Iterator[Result]:
+    """Each case of each bot as it ends."""
+    limits = Limits(words.timeout, words.memory)
+    at_once = words.at_once or min(MOST_AT_ONCE, 3 * (os.cpu_count() or 1))
+
+    def one(bot: Bot, case: Case) -> Result | None:
+        if stop.is_set():
+            return None
+        with tempfile.TemporaryDirectory(prefix="bot-", ignore_cleanup_errors=True) as room:
+            return tried(bot, case, limits, Path(room), folder_of(top, bot, case), stop)
+
+    with concurrent.futures.ThreadPoolExecutor(at_once) as pool:
+        going = [pool.submit(one, bot, case) for bot in bots for case in cases]
+        for each in concurrent.futures.as_completed(going):
+            result = each.result()
+            if result is not None:
+                yield result
+
+
+def write_all(words: argparse.Namespace, results: list[Result]) -> None:
+    """The forms that were asked for."""
+    for form in graded.FORMS:
+        if getattr(words, form):
+            graded.write(form, Path(getattr(words, form)), results)
+
+
+def numbered(bots: list[Bot]) -> list[Bot]:
+    """Bots of one name are told apart by the command or a number."""
+    names: dict[str, int] = {}
+    found = []
+    for bot in bots:
+        names[bot.name] = names.get(bot.name, 0) + 1
+        again = names[bot.name]
+        found.append(bot if again == 1 else Bot(f"{bot.name} ({again})", bot.words, bot.fault))
+    return found
+
+
+def grade(words: argparse.Namespace) -> int:
+    """Tries each bot in each case, and tells how it did."""
+    program(), answerer()
+    bots = numbered([Bot.of(word) for word in words.bots])
+    faults: list[str] = []
+    if words.labs:
+        cases, faults = suites.of_folder(Path(words.labs), words.daemon, words.seeds)
+    else:
+        cases = suites.of_suite(words.suite, words.daemon, words.seeds)
+    for fault in faults + [bot.fault for bot in bots if bot.fault]:
+        print(f"class: {fault}", flush=True)
+    runnable = [bot for bot in bots if not bot.fault]
+    top = new_folder(Path(words.into), Path("grade"))
+    stop = threading.Event()
+    for number in (signal.SIGINT, signal.SIGTERM, signal.SIGHUP):
+        signal.signal(number, lambda *_: stop.set())
+    results = [Result(bot.name, case.lab, case.daemon.spelled(), case.seed, False, bot.fault) for bot in bots for case in cases if bot.fault]
+    full = False
+    try:
+        for result in results_of(runnable, cases, words, top, stop):
+            results.append(result)
+            print(graded.told(result), flush=True)
+            if result.unkept and not full:
+                print(f"class: {printable(result.unkept)}; --into names another place", flush=True)
+            full = full or bool(result.unkept)
+    finally:
+        stop.set()
+        order = {(bot.name, case.name()): place for place, (bot, case) in enumerate((bot, case) for bot in bots for case in cases)}
+        results.sort(key=lambda result: order[result.bot, graded.named(result)])
+        write_all(words, results)
+    print(graded.table(results))
+    print(f"records and pages: {top}")
+    if len(results) < len(bots) * len(cases):
+        print(f"interrupted: {len(results)} of {len(bots) * len(cases)} cases")
+        return FAILED
+    if faults:
+        return WARNED
+    return 0 if all(result.passed for result in results) else WARNED

@@ -1,0 +1,203 @@
+"""`./class practise`: a student alone, with bots of the house at the other nodes."""
+from __future__ import annotations
+
+import argparse
+import contextlib
+import random
+import signal
+import time
+from collections.abc import Callable
+from dataclasses import dataclass, field
+from pathlib import Path
+
+from classroom import lab as labs
+from classroom import networks, play, slips
+from classroom.answering import answerer
+from classroom.bots import Bot, Kept
+from classroom.daemons import FORMS, Daemon, daemon
+from classroom.folders import new_folder
+from classroom.grade import count, seconds
+from classroom.new import start
+from classroom.playing import No, Playing, Step
+from classroom.program import Fault, call, first_free, program
+from classroom.rounds import Recovery
+from classroom.statuses import WARNED
+from classroom.suites import HOUSE, TEACHER, key
+from classroom.teller import Teller
+
+QUIET = 10.0  # seconds without news after which it is told for whom the class waits
+MEGABYTES = 4096  # of a program at home
+REST = 0.3  # seconds that a stable class is held, for late lines
+
+
+def add_words(words: argparse.ArgumentParser) -> None:
+    """The words of `practise`."""
+    words.add_argument("bots", nargs="*", metavar="BOT",
+                       help="a command, to which a slip's path is added: 'python3 bot.py'; without one, a port waits for a program")
+    words.add_argument("--family", default="cycle", help="path, cycle, star, complete, tree, grid:WxH, random:N:LINKS (cycle)")
+    words.add_argument("--nodes", type=count, help="how many nodes (7)")
+    words.add_argument("--node", metavar="I,..", help="your nodes, dealt out to the BOTs in turn (two for each, by the seed)")
+    words.add_argument("--start", choices=("clean", "random", "hurt"), default="hurt", help="registers at the beginning (hurt)")
+    words.add_argument("--daemon", type=daemon, default=Daemon("when-idle", 0.5), metavar="D", help=f"{FORMS} (when-idle:0.5)")
+    words.add_argument("--seed", type=int, default=1, help="for network, start and daemon (1)")
+    words.add_argument("--timeout", type=seconds, default=60.0, metavar="SECONDS",
+                       help="without news for so long it ends, where a BOT is named (60)")
+    words.add_argument("--port", type=count, help="the port, or else the next that is free (4711; with a BOT any)")
+    words.add_argument("--into", default="runs", help="where the run's folder is made (runs)")
+    words.set_defaults(work=practise)
+
+
+def own_nodes(word: str | None, identifiers: list[int], bots: int, chance: random.Random) -> list[int]:
+    """The nodes that are the student's."""
+    if word is None:
+        return sorted(chance.sample(identifiers, min(2 * bots, len(identifiers))))
+    try:
+        nodes = [int(each) for each in word.replace(",", " ").split()]
+    except ValueError:
+        raise Fault(f"--node {word}: numbers with commas between them") from None
+    wrong = [node for node in nodes if node not in identifiers]
+    if wrong or not nodes:
+        raise Fault(f"--node {word}: the nodes are {identifiers[0]} to {identifiers[-1]}")
+    return list(dict.fromkeys(nodes))
+
+
+def made(words: argparse.Namespace, names: list[str]) -> labs.Lab:
+    """The lab: the students' nodes in turn, and the house's."""
+    chance = random.Random(f"practise {words.seed}")
+    sized = words.family.startswith(("grid:", "random:"))
+    nodes, links = networks.family(words.family, words.nodes or (None if sized else 7), 0, chance)
+    identifiers = list(range(1, nodes + 1))
+    own = own_nodes(words.node, identifiers, len(names), chance)
+    if len(own) < len(names):
+        raise Fault(f"{len(own)} nodes for {len(names)} BOTs: name more by --node")
+    owner = {node: names[place % len(names)] for place, node in enumerate(own)}
+    keys = {name: key() for name in [*names, HOUSE]}
+    dealt = [labs.Node(node, [owner.get(node, HOUSE)]) for node in identifiers]
+    it = labs.Lab(labs.MOST_EVENTS, labs.MOST_SESSIONS, (TEACHER, key()), keys, dealt, links)
+    start(it, words.start, chance)
+    return it
+
+
+def opened(lab: labs.Lab, names: list[str], words: argparse.Namespace) -> Playing:
+    """The class at a port: the one that is named, or the next that is free."""
+    def at(port: int) -> Playing | None:
+        try:
+            return Playing(lab, names, words.daemon, f"practise {words.seed}", port)
+        except OSError:
+            return None
+
+    if words.bots and not words.port:
+        return Playing(lab, names, words.daemon, f"practise {words.seed}")
+    return first_free(words.port or 4711, at)
+
+
+@dataclass
+class Practice:
+    """A class with its programs, and what is told of it."""
+
+    playing: Playing
+    tell: Callable[[str], None]
+    timeout: float | None
+    kept: list[tuple[str, Kept]] = field(default_factory=list)
+    told: str = ""
+    stop: bool = False
+
+    def __post_init__(self) -> None:
+        self.recovery = Recovery(node for node, _ in self.playing.report["privileged"])
+        self.playing.on_no, self.playing.on_step = self.no, self.step
+
+    def no(self, no: No) -> None:
+        """A line that wasn't granted is explained."""
+        self.tell(f"{no.who}: {no.text}")
+
+    def step(self, step: Step) -> None:
+        """A step as a line."""
+        privileged = [node for node, _ in step.report["privileged"]]
+        self.recovery.step([node for node, _, _ in step.moved], privileged)
+        moved = ", ".join(f"{node} ({who}) {rule}" for node, who, rule in step.moved)
+        left = f"{len(privileged)} privileged" if privileged else "stable"
+        lab = self.playing.lab
+        self.tell(f"configuration {step.at}: {moved}; {left}, {self.recovery.moves} of at most {lab.most_moves()} moves")
+        self.told = ""
+
+    def run(self) -> bool:
+        """To the stable end, or to where it hangs."""
+        playing, news = self.playing, self.playing.news
+        while not playing.is_stable() and not self.stop:
+            playing.turn()
+            idle = time.monotonic() - max(playing.news, news)
+            for name, kept in list(self.kept):
+                how = kept.ended()
+                if how:
+                    self.tell(f"{name}: the program has {how.replace('ended', 'ended, status')}")
+                    self.kept.remove((name, kept))
+            waiting = playing.waiting() or "a close"
+            gone = not self.kept and self.timeout is not None
+            if self.timeout is not None and (idle > self.timeout or gone and idle > REST):
+                self.tell(f"it hangs: {'no program is left, and ' if gone else ''}the class waits for {waiting}")
+                return False
+            if idle > QUIET and self.told != waiting:
+                self.tell(f"waiting for {waiting}")
+                self.told = waiting
+        end = time.monotonic() + REST
+        while time.monotonic() < end:
+            playing.turn()
+        return playing.is_stable()
+
+
+def leave(playing: Playing, folder: Path, tell: Callable[[str], None]) -> None:
+    """Leaves record and page, and says where."""
+    playing.write(folder)
+    answer = call("script", folder / "lab.toml", folder / "script", folder / "journal")
+    if answer.status != 0:
+        raise Fault(f"{folder}: the run can't be played again: {answer.error}", 4)
+    (folder / "run.html").write_text(play.page(folder / "lab.toml", folder / "journal"), encoding="utf-8")
+    tell(f"page: {folder / 'run.html'}; what was said: {folder / 'conversation.txt'}")
+
+
+def practise(words: argparse.Namespace) -> int:
+    """Plays a class of one student to its end."""
+    program(), answerer()
+    bots = [Bot.of(word) for word in words.bots]
+    for bot in bots:
+        if bot.fault:
+            raise Fault(bot.fault)
+    names = ["you"] if len(bots) < 2 else [f"you-{number}" for number in range(1, len(bots) + 1)]
+    lab = made(words, names)
+    folder = new_folder(Path(words.into), Path("practise"))
+    tell = Teller(folder)
+    with contextlib.closing(Closing(opened(lab, names, words))) as it:
+        practice = Practice(it.playing, tell, words.timeout if bots else None)
+        for number in (signal.SIGINT, signal.SIGTERM, signal.SIGHUP):
+            signal.signal(number, lambda *_: setattr(practice, "stop", True))
+        files = []
+        for name in names:
+            files.append(folder / f"{name}.slip")
+            labs.write_new(files[-1], "".join(f"{line}\n" for line in slips.slip(lab, name, it.playing.relay.port)))
+        size = f"{words.family} of {len(lab.nodes)} nodes, {words.start}, daemon {words.daemon.spelled()}"
+        tell(f"{size}; " + "; ".join(f"{name}: {', '.join(map(str, lab.nodes_of(name)))}" for name in names))
+        if not bots:
+            tell(f"port {it.playing.relay.port}; start your program with the slip {files[0]}")
+        for name, bot, slip in zip(names, bots, files):
+            it.kept.append(Kept(bot, slip.resolve(), Path.cwd(), None, MEGABYTES))
+            practice.kept.append((name, it.kept[-1]))
+        stable = practice.run()
+        if stable:
+            pairs = ", ".join(f"{a}-{b}" for a, b in it.playing.report["pairs"])
+            tell(f"stable: pairs {pairs or 'none'}; {practice.recovery.told(len(lab.nodes), len(lab.links))}")
+        leave(it.playing, folder, tell)
+        return 0 if stable else WARNED
+
+
+@dataclass
+class Closing:
+    """What is ended at the end."""
+
+    playing: Playing
+    kept: list[Kept] = field(default_factory=list)
+
+    def close(self) -> None:
+        """Ends programs and class."""
+        for each in self.kept:
+            each.stop()
+        self.playing.end()

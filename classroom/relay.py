@@ -1,0 +1,121 @@
+"""The port at which programs under test connect: each line is answered by `mml answer`, and read over on its way."""
+from __future__ import annotations
+
+import selectors
+import socket
+from collections.abc import Callable
+
+LONGEST = 4096  # bytes of a line, as the server takes them
+MOST_WAITING = 1 << 16  # bytes of replies that aren't taken, from which on nothing more is read
+PAUSE = 2  # turns without a line are a pause
+Answer = Callable[[int, bytes, bool], bytes]
+BUSY = b'{"refuse":"busy"}\n'
+
+
+class Caller:
+    """A connection, with the number that it has in the script."""
+
+    def __init__(self, its: socket.socket, number: int) -> None:
+        self.socket, self.number = its, number
+        self.rest, self.out = b"", b""
+        self.parts = False  # Whether it ends when its replies are taken.
+        self.quiet = 0  # turns without a line of its
+
+
+class Relay:
+    """A listener, and who called."""
+
+    def __init__(self, answer: Answer, left: Callable[[int], None], numbers: range, port: int = 0) -> None:
+        """`answer` gives the reply to a line of a connection, which came after a pause or not; `left` is told which has ended."""
+        self.answer, self.left = answer, left
+        self.free = list(numbers)
+        self.callers: list[Caller] = []
+        self.listener = socket.create_server(("127.0.0.1", port), backlog=32)
+        self.listener.setblocking(False)
+        self.port: int = self.listener.getsockname()[1]
+        self.selector = selectors.DefaultSelector()
+        self.selector.register(self.listener, selectors.EVENT_READ)
+
+    def turn(self, seconds: float) -> None:
+        """Answers what comes in that time, or what is there."""
+        for each in self.callers:
+            each.quiet += 1
+        for key, events in self.selector.select(seconds):
+            if key.fileobj is self.listener:
+                self.accept()
+                continue
+            caller: Caller = key.data
+            try:
+                if events & selectors.EVENT_READ:
+                    self.read(caller)
+                self.follow(caller)
+            except OSError:
+                self.end(caller)
+
+    def accept(self) -> None:
+        """Lets one in, where there is a place."""
+        try:
+            its, _ = self.listener.accept()
+        except OSError:
+            return
+        its.setblocking(False)
+        if not self.free:
+            try:
+                its.send(BUSY)
+            except OSError:
+                pass
+            its.close()
+            return
+        caller = Caller(its, self.free.pop(0))
+        self.callers.append(caller)
+        self.selector.register(its, selectors.EVENT_READ, caller)
+
+    def read(self, caller: Caller) -> None:
+        """Answers the lines that came."""
+        more = caller.socket.recv(MOST_WAITING)
+        *lines, caller.rest = (caller.rest + more).split(b"\n")
+        for line in lines:
+            if len(line) > LONGEST or caller.parts:
+                caller.parts = True
+                return
+            reply = self.answer(caller.number, line, caller.quiet > PAUSE)
+            caller.quiet = 0
+            caller.out += reply + b"\n"
+            caller.parts = reply == b'{"ok":"bye"}'
+        caller.parts = caller.parts or not more or len(caller.rest) > LONGEST
+
+    def follow(self, caller: Caller) -> None:
+        """Waits for what it needs next; ends it where it is over."""
+        if caller.out:
+            try:
+                caller.out = caller.out[caller.socket.send(caller.out):]
+            except BlockingIOError:
+                pass
+        if caller.parts and not caller.out:
+            self.end(caller)
+            return
+        wants = selectors.EVENT_WRITE if caller.out else 0
+        wants |= selectors.EVENT_READ if len(caller.out) < MOST_WAITING and not caller.parts else 0
+        self.selector.modify(caller.socket, wants, caller)
+
+    def end(self, caller: Caller) -> None:
+        """Hangs up."""
+        self.selector.unregister(caller.socket)
+        caller.socket.close()
+        self.callers.remove(caller)
+        self.free.append(caller.number)
+        self.left(caller.number)
+
+    def cut(self) -> None:
+        """Hangs up on everybody."""
+        for caller in list(self.callers):
+            self.end(caller)
+
+    def close(self) -> None:
+        """Ends it."""
+        for caller in list(self.callers):
+            self.selector.unregister(caller.socket)
+            caller.socket.close()
+        self.callers.clear()
+        self.selector.close()
+        self.listener.close()

@@ -1,0 +1,45 @@
+"""How a class comes back to rest: moves, closes and rounds, beside what is proved of them."""
+from __future__ import annotations
+
+from collections.abc import Collection, Iterable
+
+MOVES = "3n + 2 min(L, n²/4)"
+
+
+def most_moves(nodes: int, links: int) -> int:
+    """No run from anywhere has more moves (docs/SELF-STABILISATION.md)."""
+    return 3 * nodes + 2 * min(links, nodes * nodes // 4)
+
+
+def most_rounds(nodes: int) -> int:
+    """No run from anywhere to its stable end has more rounds."""
+    return 2 * nodes - nodes % 2
+
+
+class Recovery:
+    """Counts from a configuration on. A round is over when each node has had its turn within it: at some point it wasn't
+    privileged, or a close applied its move (docs/SELF-STABILISATION.md)."""
+
+    def __init__(self, privileged: Iterable[int]) -> None:
+        """`privileged` are the nodes that the report names at the beginning."""
+        self.moves = self.closes = self.rounds = 0
+        self.left = set(privileged)  # whose turn in this round hasn't come
+
+    def step(self, moved: Collection[int], privileged: Collection[int]) -> None:
+        """A close, and who is privileged after it."""
+        self.moves, self.closes = self.moves + len(moved), self.closes + 1
+        self.left -= set(moved)
+        self.left &= set(privileged)
+        if not self.left:
+            self.rounds += 1
+            self.left = set(privileged)
+
+    def told(self, nodes: int, links: int) -> str:
+        """The counts as a text, with the bounds of the network as it is now."""
+        return (f"{plural(self.moves, 'move')}, {plural(self.closes, 'close')}, {plural(self.rounds, 'round')}; "
+                f"proved: at most {most_moves(nodes, links)} moves, {most_rounds(nodes)} rounds")
+
+
+def plural(count: int, word: str) -> str:
+    """A count with its word."""
+    return f"{count} {word}" if count == 1 else f"{count} {word}s"

@@ -1,0 +1,83 @@
+"""What the host's program tells of a journal: its word `tally`, line by line (docs/JOURNAL.md)."""
+from __future__ import annotations
+
+from collections import Counter
+from dataclasses import dataclass, field
+from pathlib import Path
+
+from classroom.journal import RULES
+from classroom.program import Fault, host_call
+
+
+@dataclass
+class Marks:
+    """What a journal tells of a student."""
+
+    granted: Counter[str] = field(default_factory=Counter)
+    applied: Counter[str] = field(default_factory=Counter)
+    steps: int = 0
+    first: int | None = None
+    last: int | None = None
+    shared: int = 0
+
+
+@dataclass
+class Tally:
+    """What a journal tells of its run."""
+
+    events: int = 0
+    configuration: int = 0
+    stable: bool = False
+    closes: int = 0
+    faults: int = 0
+    links: int = 0
+    cuts: int = 0
+    moves: int = 0
+    since: tuple[int, int] = (0, 0)
+    students: dict[str, Marks] = field(default_factory=dict)
+    shared: dict[int, dict[str, Counter[str]]] = field(default_factory=dict)
+
+
+def of(lab: Path, journal: Path) -> Tally:
+    """The tally of a journal that the audit passes."""
+    answer = host_call("tally", lab, journal)
+    if answer.status != 0:
+        raise Fault(answer.error, answer.status)
+    return read(answer.output)
+
+
+def read(text: str) -> Tally:
+    """The tally that its lines tell."""
+    tally = Tally()
+    for line in text.splitlines():
+        word, *rest = line.split(" ")
+        if word == "student":
+            tally.students[rest[0]] = marks(rest[1:])
+        elif word == "node":
+            tally.shared[int(rest[0])] = {rest[at]: by_rule(rest[at + 1 : at + 5]) for at in range(1, len(rest), 5)}
+        else:
+            take_run(tally, rest)
+    return tally
+
+
+def marks(words: list[str]) -> Marks:
+    """Those of a student's line."""
+    steps, first, last, shared = words[8:]
+    return Marks(by_rule(words[:4]), by_rule(words[4:8]), int(steps), place(first), place(last), int(shared))
+
+
+def by_rule(words: list[str]) -> Counter[str]:
+    """Four numbers in the rules' order."""
+    return Counter(dict(zip(RULES, map(int, words), strict=True)))
+
+
+def place(word: str) -> int | None:
+    """A place, or none."""
+    return None if word == "-" else int(word)
+
+
+def take_run(tally: Tally, words: list[str]) -> None:
+    """What the last line tells."""
+    tally.stable = words.pop(2) == "stable"
+    (tally.events, tally.configuration, tally.closes, tally.faults, tally.links, tally.cuts, tally.moves, *since) = map(int, words)
+    tally.since = (since[0], since[1])
