@@ -4,7 +4,6 @@ from __future__ import annotations
 import os
 import shutil
 import signal
-import tempfile
 from pathlib import Path
 
 from tests.check.measure import figures
@@ -101,11 +100,10 @@ def forget_records() -> None:
         record.unlink()
 
 
-def check(stages: Stages, left_out: list[str]) -> int:
-    """Runs the stages in a folder of their own, and leaves no process and no file however that ends."""
+def check(stages: Stages, left_out: list[str], room: Path) -> int:
+    """Runs the stages with files in a folder, and leaves no process and no file however that ends."""
     processors = len(os.sched_getaffinity(0))
     adopt_orphans()
-    room = Path(tempfile.mkdtemp(prefix="check-"))
     crew, count = Crew(room, processors), Count(left_out)
     try:
         HEED.begin()

@@ -106,7 +106,8 @@ def figures(checks: Checks, parts: dict[str, float]) -> str:
         lines.append("the dearest: " + ", ".join(f"{crate} {kind} {it:.1f}" for (crate, kind), it in dearest))
         held = checks.most_held / 1e9, checks.most_held_in_all / 1e9
         lines.append(f"memory: at most {held[0]:.1f} GB in one check, {held[1]:.1f} GB in those side by side")
-        lines.append(f"the machine: mml_rules proof {sums.get(('mml_rules', 'proof'), 0):.2f}")
+        if ("mml_rules", "proof") in sums:
+            lines.append(f"the machine: mml_rules proof {sums['mml_rules', 'proof']:.2f}")
     scripts = {name: it for name, it in parts.items() if name not in PROVING}
     whole = sum(parts.values())
     of_scripts = sum(scripts.values())

@@ -71,6 +71,7 @@ def can_be_fetched() -> bool:
 
 
 BROWSER = ("chromium", "chromium-driver", "python3-selenium")
+TYPES = ("mypy", "flake8", "python3-selenium")
 RELEASE = ("python3", "stunnel4", "openssl", "openssh-client", "systemd")
 NEEDS = {
     "rt": Need("the command rt of the Rattle toolchain on the path (README.md)", on_path("rt")),
@@ -79,6 +80,7 @@ NEEDS = {
     "tests": Need("the tests inside the crates, as ./check proofs leaves them", has_tests),
     "git": Need("the command git", on_path("git"), ("git",)),
     "python3": Need("Debian's own Python", on_path("/usr/bin/python3"), ("python3",)),
+    "types": Need("the checkers of Python's types and style", installed(*TYPES), TYPES),
     "browser": Need("a browser with its driver", installed(*BROWSER), BROWSER),
     "java": Need("the command java", on_path("java"), ("default-jdk-headless",)),
     "release": Need("what a release is tried with", installed(*RELEASE), RELEASE),

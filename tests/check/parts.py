@@ -31,9 +31,9 @@ class Part:
         """What it takes of the clock."""
         return max(self.least, self.work / min(self.width, processors))
 
-    def over(self, crates: list[str]) -> Part:
-        """The same over some crates."""
-        return replace(self, command=(*self.command, *crates))
+    def over(self, crates: list[str], share: float) -> Part:
+        """The same over some crates, which have that share of its work."""
+        return replace(self, command=(*self.command, *crates), work=self.work * share, least=self.least * share)
 
 
 def module(name: str, *words: str) -> tuple[str, ...]:
@@ -47,8 +47,10 @@ def cases(*names: str, python: str = "python3") -> tuple[str, ...]:
 
 
 BUILT = ("programs",)
-PROOFS = Part("proofs", ("rt", "ci"), 110, 10, ALL, ("rt",), shows=r"^rt: ")
-WRONG = Part("wrong", module("wrong"), 70, 5, ALL, ("rt",), shows=r"")
+PROVED = "[ps]*/**/*.*t"  # a crate's src/, specs/ and proofs/
+EDITS = "wrong/*.edit"
+PROOFS = Part("proofs", ("rt", "ci"), 103, 10, ALL, ("rt",), shows=r"^rt: ")
+WRONG = Part("wrong", module("wrong"), 60, 5, ALL, ("rt",), shows=r"")
 
 
 def classroom() -> Iterator[Part]:
@@ -69,11 +71,14 @@ QUICK = [
     *classroom(),
     Part("launchers", ("bash", "tests/program/launchers"), 1.2, 1.3, 1, ("built", "rt")),
     Part("host", module("host"), 0.3, 0.8, 2, BUILT),
+    Part("outsiders", module("outsiders"), 0.3, 1.0, 2, (*BUILT, "rt")),
     Part("hostile-host", module("hostile", "15", "host"), 0.2, 0.5, 2, BUILT),
     Part("resume", module("resume"), 0.5, 1.0, 2, (*BUILT, "rt")),
+    Part("record", module("record"), 0.4, 0.5, 1, BUILT),
     Part("wrong-tests", cases("wrong.test_wrong"), 0.6, 0.6, 1, ("rt",)),
     Part("check", cases("check.test_check", "check.test_pieces"), 0.2, 0.6, 1),
     Part("memory", module("memory", "uses"), 0.2, 0.4, 1, (*BUILT, "rt")),
+    Part("tally", module("tally", "20"), 0.1, 0.2, 1, BUILT),
     Part("calls", module("program"), 0.2, 0.3, 1, BUILT),
     Part("refusals", module("memory", "tests"), 0.2, 0.2, 1, ("tests", "rt")),
     Part("program", ("bash", "tests/program/run"), 0.1, 0.2, 1, BUILT),
@@ -85,13 +90,43 @@ QUICK = [
     Part("journals", ("bash", "tests/journals/run"), 0.1, 0.2, 1, BUILT),
     Part("large", module("program.large"), 0.1, 0.1, 1, BUILT),
     Part("documents", module("documents"), 0.1, 0.1, 1, ("git",)),
+    Part("python", module("check.python"), 0.5, 0.5, 1, ("git", "types")),
     Part("kit", module("check.kit"), 0.1, 0.1, 1, ("rt",)),
 ]
 
 
-def crates() -> list[str]:
-    """The names of all crates."""
-    return re.findall(r"(?m)^(\w+):", (TOP / "crates.txt").read_text(encoding="utf-8"))
+def uses() -> dict[str, list[str]]:
+    """All crates, each with what it uses."""
+    lines = re.findall(r"(?m)^(\w+):(.*)$", (TOP / "crates.txt").read_text(encoding="utf-8"))
+    return {crate: used.split() for crate, used in lines}
+
+
+def with_those_below(crates: list[str]) -> set[str]:
+    """These crates and all that they are built from."""
+    all_uses, found, near = uses(), set[str](), [*crates]
+    while near:
+        crate = near.pop()
+        if crate in all_uses and crate not in found:
+            found.add(crate)
+            near += all_uses[crate]
+    return found
+
+
+def share(crates: set[str], pattern: str) -> float:
+    """What part of the bytes of these files of all crates is in some crates."""
+    sizes = {it: sum(file.stat().st_size for file in (TOP / "crates" / it).glob(pattern)) for it in uses()}
+    whole = sum(sizes.values())
+    return sum(sizes[it] for it in crates) / whole if crates and whole else 1.0
+
+
+def proofs_of(crates: list[str]) -> Part:
+    """The proofs of some crates and those below them, or of all."""
+    return PROOFS.over(crates, share(with_those_below(crates), PROVED))
+
+
+def wrong_of(crates: list[str]) -> Part:
+    """The wrong bodies of some crates, or of all."""
+    return WRONG.over(crates, share({*crates}, EDITS))
 
 
 def minutes(parts: list[Part], processors: int) -> float:

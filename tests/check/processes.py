@@ -10,6 +10,7 @@ from dataclasses import dataclass
 
 TICKS = os.sysconf("SC_CLK_TCK")
 PAGE = os.sysconf("SC_PAGE_SIZE")
+PR_SET_PDEATHSIG = 1
 PR_SET_CHILD_SUBREAPER = 36
 PAUSE = 0.05
 
@@ -58,10 +59,22 @@ def below(top: int) -> list[int]:
         near |= more
 
 
+def set_process(option: int, value: int) -> None:
+    """Calls `prctl`."""
+    if ctypes.CDLL(None, use_errno=True).prctl(option, value, 0, 0, 0) != 0:
+        raise OSError(ctypes.get_errno(), "prctl")
+
+
 def adopt_orphans() -> None:
     """Becomes the parent of each process below whose parent ends, in whatever session it is."""
-    if ctypes.CDLL(None, use_errno=True).prctl(PR_SET_CHILD_SUBREAPER, 1, 0, 0, 0) != 0:
-        raise OSError(ctypes.get_errno(), "prctl")
+    set_process(PR_SET_CHILD_SUBREAPER, 1)
+
+
+def end_with_parent(parent: int) -> None:
+    """Is asked to end once that parent has, however that ends."""
+    set_process(PR_SET_PDEATHSIG, signal.SIGTERM)
+    if os.getppid() != parent:
+        os.kill(os.getpid(), signal.SIGTERM)
 
 
 def send(pids: list[int], number: signal.Signals, to: Callable[[int, int], None] = os.kill) -> None:

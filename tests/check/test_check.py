@@ -5,7 +5,9 @@ import os
 import re
 import signal
 import unittest
+from collections.abc import Callable
 
+from tests.check.processes import processes
 from tests.check.tree import LIMIT, WELL, InTree, is_there, part
 
 # Starts processes in this session and in one of their own, of which one heeds no request to end, writes a file,
@@ -161,7 +163,7 @@ class Ends(InTree):
         said, _ = going.communicate(timeout=LIMIT)
         self.assertEqual(going.returncode, 128 + number, said)
         self.assertRegex(said.splitlines()[-1], r"^[01] passed, [1-9]\d* failed$")
-        self.assertIn(f"check: ended by {number.name}, in on\n", said)
+        self.assertRegex(said, f"check: ended by {number.name}, in (well, )?on\n")
         self.assertEqual([pid for pid in pids if is_there(pid)], [])
         self.nothing_left()
 
@@ -194,13 +196,32 @@ class Ends(InTree):
         self.assertEqual((going.returncode, said.splitlines()[-1]), (0, "1 passed, 0 failed"))
         self.assertEqual(self.check("quick").returncode, 0)
 
-    def test_one_after_a_killed_one(self) -> None:
-        self.stand_in(part("waits", WAITS))
+    def killed(self, kill: Callable[[int], None]) -> int:
+        """Wants that nothing is left of a check of which something is killed at once, and another runs; answers its status."""
+        for name in ("begun", "pids"):
+            (self.room / name).unlink(missing_ok=True)
+        self.stand_in(part("on", GOES_ON))
         going = self.begun("quick")
-        going.kill()
-        going.communicate(timeout=LIMIT)
-        (self.room / "go").touch()
+        pids = [int(pid) for pid in (self.room / "pids").read_text(encoding="utf-8").split()]
+        kill(going.pid)
+        said, _ = going.communicate(timeout=LIMIT)  # its end is that of the last process of the check
+        self.assertEqual([pid for pid in pids if is_there(pid)], [], said)
+        self.nothing_left()
+        self.stand_in(part("well", WELL))
         self.assertEqual(self.check_beside("quick").returncode, 0)
+        return going.returncode
+
+    def test_one_after_a_killed_one(self) -> None:
+        self.assertEqual(self.killed(lambda pid: os.kill(pid, signal.SIGKILL)), -signal.SIGKILL)
+        self.assertEqual(self.killed(lambda pid: os.killpg(pid, signal.SIGKILL)), -signal.SIGKILL)
+
+    def test_one_whose_checking_process_is_killed(self) -> None:
+        def kill(pid: int) -> None:
+            children = [below for below, it in processes().items() if it.parent == pid]
+            self.assertEqual(len(children), 1)
+            os.kill(children[0], signal.SIGKILL)
+
+        self.assertEqual(self.killed(kill), 128 + signal.SIGKILL)
 
 
 if __name__ == "__main__":

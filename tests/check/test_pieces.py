@@ -7,7 +7,7 @@ from pathlib import Path
 
 from tests.check.kit import fault
 from tests.check.measure import Checks, figures
-from tests.check.parts import ALL, QUICK, Part, minutes
+from tests.check.parts import ALL, PROOFS, QUICK, WRONG, Part, minutes, proofs_of, uses, wrong_of
 from tests.check.results import not_tried, result
 from tests.check.running import Crew, Done
 
@@ -73,6 +73,12 @@ class Sharing(unittest.TestCase):
         self.assertEqual(minutes([narrow, narrow, long], 4), 5)
         self.assertEqual([minutes([wide], number) for number in (1, 2, 4, 16)], [8, 4, 2, 1])
         self.assertEqual(minutes([narrow, wide], 2), 6)
+
+    def test_some_crates(self) -> None:
+        """What some crates take is told by their sizes."""
+        self.assertAlmostEqual(sum(wrong_of([it]).work for it in uses()), WRONG.work)
+        low, high = (proofs_of([it]).work for it in ("mml_ids", "mml_host"))
+        self.assertTrue(0 < low < high < proofs_of([]).work == PROOFS.work, (low, high))
 
     def test_side_by_side(self) -> None:
         """Parts share the processors; one that is as wide as the machine runs alone, on one processor too."""

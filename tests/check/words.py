@@ -2,12 +2,13 @@
 from __future__ import annotations
 
 import argparse
-import os
 import sys
+from functools import partial
 
 from tests.check.checking import Stages, check
+from tests.check.guard import guarded
 from tests.check.lock import Taken, alone
-from tests.check.parts import PROOFS, QUICK, WRONG, crates, minutes
+from tests.check.parts import PROOFS, QUICK, WRONG, minutes, proofs_of, uses, wrong_of
 
 TAKEN = 3
 LEFT_OUT = {
@@ -41,7 +42,7 @@ def parser() -> argparse.ArgumentParser:
 
 def unknown(word: str | None, names: list[str]) -> str:
     """What is wrong with names, if anything."""
-    known = [it.name for it in QUICK] if word == "quick" else crates() if names else []
+    known = [it.name for it in QUICK] if word == "quick" else [*uses()] if names else []
     wrong = [it for it in names if it not in known]
     return f"there is no {'part' if word == 'quick' else 'crate'} {wrong[0]}; there are: {', '.join(known)}" if wrong else ""
 
@@ -51,9 +52,9 @@ def stages_of(word: str | None, names: list[str]) -> tuple[Stages, list[str]]:
     if word == "quick":
         return [[it for it in QUICK if not names or it.name in names]], [] if names else [*LEFT_OUT.values()]
     if word == "proofs":
-        return [[PROOFS.over(names)]], []
+        return [[proofs_of(names)]], []
     if word == "wrong":
-        return [[WRONG.over(names)]], []
+        return [[wrong_of(names)]], []
     return [[PROOFS], QUICK, [WRONG]], []
 
 
@@ -66,10 +67,7 @@ def main(words: list[str] | None = None) -> int:
         every.error(fault)
     try:
         with alone():
-            return check(*stages_of(asked.word, names))
+            return guarded(partial(check, *stages_of(asked.word, names)))
     except Taken:
         print("check: another ./check runs in this tree; this one did nothing", file=sys.stderr)
         return TAKEN
-    except BrokenPipeError:  # Whoever read the output has enough of it.
-        os.dup2(os.open(os.devnull, os.O_WRONLY), sys.stdout.fileno())
-        return 1

@@ -107,13 +107,13 @@ class Going:
 
 
 class InTerminal:
-    """A run over the cycle in a terminal of its own, up to its words."""
+    """A run in a terminal of its own, up to its words; over the cycle, closed by hand, where none are given."""
 
-    def __init__(self, test: InRoom) -> None:
+    def __init__(self, test: InRoom, *words: str | Path) -> None:
         self.ours, theirs = pty.openpty()
+        given = words or ("run", CYCLE, "--into", test.room / "runs", "--close", "by-hand")
         self.process = subprocess.Popen(
-            [sys.executable, TOP / "class", "run", CYCLE, "--into", test.room / "runs", "--close", "by-hand"],
-            stdin=theirs, stdout=theirs, stderr=theirs, start_new_session=True,
+            [sys.executable, TOP / "class", *given], stdin=theirs, stdout=theirs, stderr=theirs, start_new_session=True,
             preexec_fn=lambda: fcntl.ioctl(0, termios.TIOCSCTTY, 0),
         )
         os.close(theirs)
@@ -150,7 +150,8 @@ class Cycle(InRoom):
         return self.file(f"{name}-{port}.slip", f"port {port}\nname {name}\nkey {KEYS[name]}\nnodes {nodes}\n")
 
     def whole(self, folder: Path) -> int:
-        """Wants a finished folder; gives the number of its events."""
+        """Wants a finished folder, which nobody else reads; gives the number of its events."""
+        self.assertEqual(folder.stat().st_mode & 0o777, 0o700)
         for name in ("lab.toml", "journal", "audit.txt", "marks.txt", "marks.json", "run.html", "run.txt", "server.txt"):
             self.assertTrue((folder / name).is_file(), name)
         self.assertEqual(call("audit", folder / "lab.toml", folder / "journal").status, 0)

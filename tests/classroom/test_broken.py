@@ -1,4 +1,4 @@
-"""What can go wrong in a run: kills, a full disk, terminals that go away, no place, bots that race and guess."""
+"""What can go wrong in a run: kills, a full disk, terminals that go away, no seat, bots that race and guess."""
 from __future__ import annotations
 
 import json
@@ -159,7 +159,7 @@ class Broken(Cycle):
         gus = self.bot(going, "gus")
         going.until(f"^connected: process {gus.pid}$")
         self.bot(going, "hana")
-        going.until("^all places are taken|^each connection of this server was used")
+        going.until("^all seats are taken|^each connection of this server was used")
         with self.assertRaises(Refused if host() else Closed):
             Client(going.port, "ines", KEYS["ines"])
         gus.kill()
@@ -175,13 +175,13 @@ class Broken(Cycle):
         self.assertEqual(found.compared([listens, served[2]]), [])
         self.assertEqual(found.compared([listens, *served[1:]]), ["connected: someone from elsewhere"])
         lines = found.compared([listens, *served])
-        self.assertEqual((lines[0], lines[1][:21]), ("connected: someone from elsewhere", "all places are taken:"))
+        self.assertEqual((lines[0], lines[1][:20]), ("connected: someone from elsewhere", "all seats are taken:"))
         self.assertEqual(found.compared([listens, *served]), [])
         self.assertEqual(found.compared([listens, *served[1:]]), ["gone: someone from elsewhere"])
         self.assertEqual(found.compared([listens, *served]), ["connected: someone from elsewhere"])
         self.assertEqual(Connected(4711, 2, 7).compared(served[1:])[1][:35], "each connection of this server was ")
         found.known = {6: "first", 5: "second"}
-        self.assertEqual(found.who(), "2 of 2 places: first, second")
+        self.assertEqual(found.who(), "2 of 2 seats: first, second")
 
     def test_a_newcomer_whose_own_end_is_read_later_is_named(self) -> None:
         listens, served = (4711, 0, "0A", "1"), (4711, 5, "01", "2")

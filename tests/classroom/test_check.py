@@ -3,6 +3,7 @@ from __future__ import annotations
 
 import unittest
 
+from classroom import lab as labs
 from classroom.check import bits
 from tests.classroom.help import EXAMPLES, InRoom, words
 
@@ -18,9 +19,10 @@ GOOD = "".join((
     table("[[student]]", 'name = "ana"', 'key = "1f3b5a7c9d1e2f48a6b8c0d2e4f61357"'),
     table("[[student]]", 'name = "jonas"', 'key = "2f3b5a7c9d1e2f48a6b8c0d2e4f61357"'),
     table("[[node]]", "id = 11", 'owner = "ana"'),
-    table("[[node]]", "id = 12", 'owners = ["ana", "jonas"]'),
+    table("[[node]]", "id = 12", 'owner = "ana"'),
     table("[[node]]", "id = 17", 'owner = "jonas"'),
 ))
+PAIR = ('id = 12\nowner = "ana"', 'id = 12\nowners = ["ana", "jonas"]')
 
 
 class Check(InRoom):
@@ -71,22 +73,31 @@ class Check(InRoom):
         self.assertGreater(bits("0f3b5a7c9d1e2f48a6b8c0d2e4f61357"), 100)
 
     def test_network(self) -> None:
-        self.warns("ana has no node", change=('id = 11\nowner = "ana"\n\n[[node]]\nid = 12\nowners = ["ana", "jonas"]',
+        self.warns("ana has no node", change=('id = 11\nowner = "ana"\n\n[[node]]\nid = 12\nowner = "ana"',
                                                'id = 11\nowner = "jonas"\n\n[[node]]\nid = 12\nowner = "jonas"'))
         self.warns("node 17 has no neighbour", "the network is in 2 parts", change=(", [12, 17]", ""))
+
+    def test_pairs(self) -> None:
+        self.warns("warning: two students own node 12: a mark by counts of granted moves is there one for the quicker program",
+                   change=PAIR)
+        students = self.file("students", "Ana\nBen\nCyd\n")
+        self.assertEqual(words("new", self.room / "pairs.toml", "--students", students, "--pairs", "--nodes", "10").returncode, 0)
+        self.assertIn("two students own nodes 1, 2, 3, 4, 5, 6, 7, 8, ...: ", words("check", self.room / "pairs.toml").stdout)
 
     def test_limits(self) -> None:
         self.warns("2 sessions are fewer than 2 students and a teacher", change=("sessions = 4", "sessions = 2"))
         self.warns("25 events are fewer than the class may need: 13 moves and as many closes", change=("events = 1000", "events = 25"))
         self.says(0, change=("events = 1000", "events = 26"))
 
-    def test_more_than_a_lab_can_have(self) -> None:
-        done = words("new", self.room / "big.toml", "--students", self.file("students", "Ana\nBen\n"), "--family", "complete",
-                     "--nodes", "256")
-        self.assertEqual(done.returncode, 0, done.stderr)
-        done = words("check", self.room / "big.toml")
-        self.assertIn("100000 events are fewer than the class may need: 66048 moves and as many closes (more than a lab can have)",
-                      done.stdout)
+    def test_the_largest_lab_has_events_enough(self) -> None:
+        self.assertLessEqual(67072, labs.MOST_EVENTS)
+        for events, is_few in ((67071, True), (67072, False)):
+            lab = self.room / f"{events}.toml"
+            done = words("new", lab, "--students", self.file("students", "Ana\nBen\n"), "--family", "complete", "--nodes", "256",
+                         "--events", str(events))
+            self.assertEqual(done.returncode, 0, done.stderr)
+            found = "67071 events are fewer than the class may need: 33536 moves and as many closes" in words("check", lab).stdout
+            self.assertEqual(found, is_few)
 
     def test_stable_start(self) -> None:
         married = GOOD.replace("id = 11", "id = 11\np = 12\nm = true").replace("id = 12", "id = 12\np = 11\nm = true", 1)

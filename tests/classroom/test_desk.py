@@ -16,6 +16,7 @@ from classroom import server
 from classroom import lab as labs
 from classroom.attend import Room, attend
 from classroom.client import Client
+from classroom.daemons import Daemon
 from classroom.desk import Desk
 from classroom.printable import printable
 from classroom.program import host
@@ -63,7 +64,7 @@ class Words(Cycle):
             gus.move(gus.look(4))
             going.until(f"^connected: process {os.getpid()}$")
             going.type("who")
-            going.until(rf"^connected: 1 of \d+ places: process {os.getpid()}$")
+            going.until(rf"^connected: 1 of \d+ seats: process {os.getpid()}$")
             going.until("^no move was granted yet to hana, ines, jonas$")
             going.type("report")
             going.until(r"^configuration 0, not stable: .*; events 1 of \d+$")
@@ -140,7 +141,7 @@ class Late(Cycle):
         it = server.start(self.room, CYCLE, 29000, self.room / "journal")
         self.addCleanup(lambda: it.ended() or it.stop())
         lines: list[str] = []
-        desk = Desk(lab, self.room / "journal", Client(it.desk, *lab.teacher, limit=0.5), ("by-hand", 0.0), lines.append)
+        desk = Desk(lab, self.room / "journal", Client(it.desk, *lab.teacher, limit=0.5), Daemon("by-hand"), lines.append)
         typed, found = Typed(), []
         holding = threading.Thread(target=lambda: found.append(attend(desk, it, False, typed, Room(self.room), lambda: None)))
         holding.start()

@@ -1,4 +1,4 @@
-"""`./class run` over the built host: its places go from one connection to the next."""
+"""`./class run` over the built host: its seats go from one connection to the next."""
 from __future__ import annotations
 
 import json
@@ -35,7 +35,7 @@ class Hosted(Cycle):
                          rf"^listening on port \d+, desk on port \d+\ndone: {events} events, configuration \d+\n$")
 
     def let_in(self, port: int, name: str, key: str) -> Client:
-        """A connection, as soon as a place is free."""
+        """A connection, as soon as a seat is free."""
         while True:
             try:
                 return Client(port, name, key)
@@ -66,9 +66,9 @@ class Hosted(Cycle):
         gus = self.bot(going, "gus")
         going.until(f"^connected: process {gus.pid}$")
         hana = self.bot(going, "hana")
-        going.until("^all places are taken: who comes now is told so; who tells whose they are$")
+        going.until("^all seats are taken: who comes now is told so; who tells whose they are$")
         going.type("who")
-        self.assertRegex(going.until("^connected: "), rf"^connected: 2 of 2 places: process {gus.pid}, process {hana.pid}$")
+        self.assertRegex(going.until("^connected: "), rf"^connected: 2 of 2 seats: process {gus.pid}, process {hana.pid}$")
         for _ in range(3):
             with self.assertRaises(Refused) as refused:
                 Client(going.port, "ines", KEYS["ines"])
@@ -83,7 +83,7 @@ class Hosted(Cycle):
         going.until(f"^connected: process {jonas.pid}$")
         going.type("end\nend")
         self.ended(going)
-        self.assertEqual(sum("all places are taken" in line for line in going.lines), 1)
+        self.assertEqual(sum("all seats are taken" in line for line in going.lines), 1)
 
     def test_the_desk_is_held_and_the_teacher_comes_to_the_port_too(self) -> None:
         going = self.begin(4, "--close", "by-hand")

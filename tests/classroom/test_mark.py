@@ -10,7 +10,7 @@ from typing import Any
 
 from classroom import program
 from tests.classroom.help import EXAMPLES, InRoom, words
-from tests.classroom.test_check import GOOD
+from tests.classroom.test_check import GOOD, PAIR
 
 # Of each student: the applied updates, marriages, seductions and abandonments, steps, first, last, shared.
 CYCLE = {"gus": (2, 0, 0, 1, 3, 2, 18, 0), "hana": (2, 1, 0, 1, 4, 8, 19, 0), "ines": (2, 1, 0, 1, 3, 1, 10, 0),
@@ -66,7 +66,7 @@ class Mark(InRoom):
             self.assertTrue(all(it["granted"] == it["applied"] for it in run["students"].values()))
 
     def test_granted_and_applied(self) -> None:
-        lab = self.file("lab.toml", GOOD)
+        lab = self.file("lab.toml", GOOD.replace(*PAIR))
         journal = self.file("journal", "1 0 grant ana 11 seduction\n2 0 release 11\n3 0 grant ana 11 seduction\n"
                                        "4 0 grant jonas 12 seduction\n5 0 close\n6 1 grant jonas 17 marriage 12\n"
                                        "7 1 fault 11 - false\n8 2 cut 11 12\n9 3 link 12 11\n")
@@ -78,20 +78,20 @@ class Mark(InRoom):
         self.assertEqual((run["closes"], run["faults"], run["links"], run["cuts"], run["stable"]), (1, 1, 1, 1, False))
 
     def test_who_made_none(self) -> None:
-        run, = self.marks(self.file("lab.toml", GOOD), self.file("journal", ""))
+        run, = self.marks(self.file("lab.toml", GOOD.replace(*PAIR)), self.file("journal", ""))
         none = {"update": 0, "marriage": 0, "seduction": 0, "abandonment": 0}
         self.assertEqual(run["students"]["jonas"],
                          {"granted": none, "applied": none, "steps": 0, "first": None, "last": None, "shared": 0})
 
     def test_a_long_run_is_played_in_pieces(self) -> None:
-        lab = self.file("lab.toml", GOOD.replace("events = 1000", "events = 100000"))
+        lab = self.file("lab.toml", GOOD.replace(*PAIR).replace("events = 1000", "events = 100000"))
         lines = [f"{2 * k + 1} {2 * k} {'cut' if k % 2 == 0 else 'link'} 11 12\n{2 * k + 2} {2 * k + 1} fault 12 17 true\n"
                  for k in range(15_000)]
         run, = self.marks(lab, self.file("journal", "".join(lines)))
         self.assertEqual((run["events"], run["links"], run["cuts"], run["faults"]), (30_000, 7_500, 7_500, 15_000))
 
     def test_refused(self) -> None:
-        lab = self.file("lab.toml", GOOD)
+        lab = self.file("lab.toml", GOOD.replace(*PAIR))
         done = words("mark", lab, self.file("journal", "1 0 grant jonas 11 seduction\n"))
         self.assertEqual(done.returncode, 3)
         self.assertIn("audit: line 1: illegal, not-owner: 1 0 grant jonas 11 seduction", done.stderr)
@@ -120,7 +120,7 @@ class Mark(InRoom):
         self.assertEqual(words("mark", lab, one, two, "--total").stdout.splitlines()[1], '"Müller, Zoë",s1,2,1,0,0,1,0,1,0,2')
 
     def test_forms(self) -> None:
-        lab = self.file("lab.toml", GOOD)
+        lab = self.file("lab.toml", GOOD.replace(*PAIR))
         journal = self.file("journal", "1 0 grant ana 11 seduction\n2 0 close\n")
         rows = list(csv.reader(io.StringIO(words("mark", "--csv", lab, journal).stdout)))
         self.assertEqual([row[1:4] for row in rows], [["student", "granted", "applied"], ["ana", "1", "1"], ["jonas", "0", "0"]])

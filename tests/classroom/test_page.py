@@ -1,9 +1,12 @@
 """The page of a run that is going on, in a real browser."""
 from __future__ import annotations
 
+import base64
+import hashlib
 import http.client
 import json
 import random
+import re
 import socket
 import unittest
 from pathlib import Path
@@ -33,7 +36,8 @@ class Live(InRoom):
         """Starts a run with a page, whose steps are closed by hand, and opens it."""
         port = str(random.randint(20000, 50000))
         self.going = Going(self, CYCLE, "--close", "by-hand", "--page", port, *more)
-        self.address = self.going.until("^page ").removeprefix("page ")
+        self.looks = self.going.until("^page http").removeprefix("page ")
+        self.address = self.going.until("^page to act http").removeprefix("page to act ")
         self.open()
 
     def open(self) -> None:
@@ -235,7 +239,12 @@ class Live(InRoom):
         for path in ("/", "", f"/{token}", f"/{token[:-1]}/", f"/{token}x/", "/events", "/x/events", f"/{token}/lab.toml",
                      f"/{token}/../{token}/", f"/{token}/journal"):
             self.assertEqual(self.ask("GET", path or "/", Host=host), (404, b""), path)
-        self.assertEqual(self.ask("GET", parts.path, Host="page.example"), (404, b""))
+        for elsewhere in ("page.example", f"page.example:{parts.port}", "127.0.0.1:1", "127.0.0.1", ""):
+            for verb, path in (("GET", parts.path), ("GET", "/"), ("POST", f"{parts.path}act")):
+                status, text = self.ask(verb, path, "close" if verb == "POST" else None, Host=elsewhere)
+                self.assertEqual(status, 421, elsewhere)
+                self.assertIn(f"ssh -N -L {parts.port}:127.0.0.1:{parts.port} ".encode(), text)
+                self.assertNotIn(token.encode(), text)
         self.assertEqual(self.ask("POST", "/act", "close", Host=host), (404, b""))
         self.assertEqual(self.ask("POST", "/x/act", "fault 1 2 true", Host=host), (404, b""))
         for words in ("end", "dance", "report", "close\nend", "", "é" * 200):
@@ -258,7 +267,92 @@ class Live(InRoom):
         self.assertTrue(message["begin"])
         for key in (*self.keys.values(), read(CYCLE).teacher[1], parts.path.strip("/")):
             self.assertNotIn(key.encode(), page + lines)
+        looks = self.ask("GET", urlsplit(self.looks).path, Host=parts.netloc)[1]
+        self.assertNotIn(parts.path.strip("/").encode(), looks)
         self.end()
+
+    def test_acts_are_taken_back(self) -> None:
+        self.begin()
+        parts, looks = urlsplit(self.address), urlsplit(self.looks)
+        self.assertNotEqual(parts.path, looks.path)
+        self.assertEqual(self.ask("POST", f"{looks.path}act", "fault 1 2 true", Host=parts.netloc)[0], 404)
+        self.assertEqual(self.ask("POST", f"{parts.path}act", "fault 1 2 true", Host=parts.netloc)[0], 204)
+        self.sees("fault 1 2 true")
+        self.going.type("page")
+        other = self.going.until("^page to act http").removeprefix("page to act ")
+        until(self.driver, lambda driver: driver.find_element("id", "connection").text == "(no connection)")
+        for verb, path in (("POST", f"{parts.path}act"), ("GET", parts.path), ("GET", f"{parts.path}events")):
+            self.assertEqual(self.ask(verb, path, "cut 1 2" if verb == "POST" else None, Host=parts.netloc)[0], 404)
+        self.address = other
+        self.open()
+        self.click_node(5)
+        self.find("set")
+        until(self.driver, lambda driver: "fault 5 " in shown(driver)[2])
+        kept = (self.going.folder / "run.txt").read_text(encoding="utf-8")
+        self.assertIn(self.looks, kept)
+        for address in (other, parts.path, "page to act"):
+            self.assertNotIn(address, kept)
+        self.end()
+
+    def test_who_looks_can_not_act(self) -> None:
+        self.begin()
+        self.address = self.looks
+        self.open()
+        for name in ("close", "every", "when-idle", "by-hand", "tools", "set"):
+            self.assertFalse(self.driver.find_element("id", name).is_displayed(), name)
+        for name in ("freeze", "whole"):
+            self.assertTrue(self.driver.find_element("id", name).is_displayed(), name)
+        self.click_node(5)
+        self.assertFalse(self.driver.find_element("id", "panel").is_displayed())
+        self.assertEqual(self.driver.find_elements("css selector", "#drawing [role=button], #drawing [tabindex]"), [])
+        self.going.type("fault 1 2 true")
+        self.sees("fault 1 2 true")
+        self.end()
+
+    def test_back_to_when_idle(self) -> None:
+        self.begin()
+        self.find("by-hand")
+        seconds = self.driver.find_element("id", "seconds")
+        seconds.clear()
+        seconds.send_keys("0.3")
+        self.find("when-idle")
+        until(self.driver, lambda driver: driver.find_element("id", "closing").text == "when-idle:0.3")
+        gus = self.student("gus")
+        gus.move(gus.look(4))
+        self.sees("close")
+        self.end()
+
+    def test_what_the_head_of_each_answer_says(self) -> None:
+        self.begin()
+        parts = urlsplit(self.address)
+        for path, status in ((parts.path, 200), (urlsplit(self.looks).path, 200), ("/", 404)):
+            connection = http.client.HTTPConnection("127.0.0.1", parts.port or 0, timeout=60)
+            connection.request("GET", path, headers={"Host": parts.netloc})
+            answer = connection.getresponse()
+            content = answer.read().decode()
+            connection.close()
+            self.assertEqual(answer.status, status)
+            head = {name: answer.headers[name] for name in ("Cache-Control", "Referrer-Policy", "X-Content-Type-Options")}
+            self.assertEqual(head, {"Cache-Control": "no-store", "Referrer-Policy": "no-referrer", "X-Content-Type-Options": "nosniff"})
+            policy = dict(rule.split(" ", 1) for rule in (answer.headers["Content-Security-Policy"] or "").split("; "))
+            hashes = {f"{kind}-src": hashed(text) for kind in ("style", "script")
+                      for text in re.findall(rf"<{kind}>(.*?)</{kind}>", content, re.DOTALL)}
+            self.assertEqual(policy, {"default-src": "'none'", "connect-src": "'self'", "base-uri": "'none'", "form-action": "'none'",
+                                      "frame-ancestors": "'none'", **hashes})
+            self.assertEqual(len(hashes), 2 if status == 200 else 0)
+        self.end()
+
+    def test_titles_are_the_lab_s_name_and_the_day(self) -> None:
+        self.begin()
+        day = self.going.folder.name[:10]
+        self.assertEqual(self.driver.title, f"cycle, {day}")
+        folder = self.end()
+        self.assertIn(f"<title>cycle, {day}</title>", (folder / "run.html").read_text(encoding="utf-8"))
+
+
+def hashed(text: str) -> str:
+    """What a policy calls a text."""
+    return f"'sha256-{base64.b64encode(hashlib.sha256(text.encode()).digest()).decode()}'"
 
 
 if __name__ == "__main__":

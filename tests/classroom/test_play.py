@@ -3,6 +3,7 @@ from __future__ import annotations
 
 import unittest
 import xml.etree.ElementTree as ElementTree
+from datetime import datetime
 from pathlib import Path
 from typing import Any
 from unittest.mock import patch
@@ -71,7 +72,8 @@ class Play(Played):
         self.open(self.page(lab, journal))
         self.assertIsNone(self.driver.execute_script("return window.broken || null"))
         self.assertEqual(self.driver.find_elements("css selector", "h1 *, title *"), [])
-        self.assertEqual(self.driver.title, " ".join(f"{lab.stem}: {journal.name}".split()))
+        day = f"{datetime.fromtimestamp(journal.stat().st_mtime):%Y-%m-%d}"
+        self.assertEqual(self.driver.title, " ".join(f"{lab.stem}, {day}".split()))
 
     def test_it_asks_for_nothing_else(self) -> None:
         text = self.page(BUILT_IN, TOP / "examples" / "whole-run.journal").read_text()

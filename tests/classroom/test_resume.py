@@ -5,26 +5,76 @@ import json
 import os
 import random
 import re
+import shutil
 import signal
+import threading
+import time
 import unittest
 from collections import Counter
 from pathlib import Path
 
-from classroom.client import Client
+from classroom.client import Client, Closed, Denied, Refused, Slip
 from classroom.folders import Process
+from classroom.lab import Node, read
 from classroom.program import call, host
 from tests.classroom.help import CYCLE, KEYS, Cycle, Going, words
 
 BOTH = ("host", "run and host")
+KILLS = 10  # of each kind at random points; hosts alone are killed more often by tests/resume
+
+
+class Players:
+    """The students of the cycle, and a teacher beside the desk who disturbs them, as one thread plays them."""
+
+    def __init__(self, port: int, disturbs: bool = True) -> None:
+        self.port, self.disturbs = port, disturbs
+        self.over, self.told = threading.Event(), 0
+        self.thread = threading.Thread(target=self.play)
+        self.thread.start()
+
+    def play(self) -> None:
+        """Plays until the server is gone, or it is over."""
+        lab = read(CYCLE)
+        clients: dict[str, Client] = {}
+        try:
+            for name, key in [*KEYS.items(), lab.teacher]:
+                clients[name] = Client(self.port, name, key)
+            while not self.over.is_set():
+                self.turn(lab.nodes, clients, clients[lab.teacher[0]])
+        except Closed:
+            pass
+        for client in clients.values():
+            client.hang_up()
+
+    def turn(self, nodes: list[Node], students: dict[str, Client], teacher: Client) -> None:
+        """Each node's enabled move is asked for, and where there is none a fault."""
+        is_idle = True
+        for node in nodes:
+            student = students[node.owners[0]]
+            look = student.look(node.id)
+            is_idle = is_idle and look.rule is None
+            if look.rule and not look.chosen:
+                try:
+                    self.told = student.move(look).place
+                except Denied:
+                    pass
+        if is_idle and self.disturbs:
+            self.told = teacher.fault(1, None, True).place
+
+    def ended(self) -> int:
+        """Ends it, and gives the greatest place that was told."""
+        self.over.set()
+        self.thread.join()
+        return self.told
 
 
 @unittest.skipUnless(host(), "not tried: no host is built")
 class Resume(Cycle):
     """Runs over the cycle of `examples/`."""
 
-    def killed(self, going: Going, what: str) -> None:
+    def killed(self, going: Going, what: str, number: int = 0) -> None:
         """Kills the server, or `run` before it."""
-        server = Process.of(going.server())
+        server = Process.of(number or going.server())
         if what != "host":
             going.process.kill()
             going.process.wait()
@@ -80,8 +130,109 @@ class Resume(Cycle):
                 self.whole(going.folder)
                 self.assertTrue((going.folder / "journal").read_bytes().startswith(before[:before.rfind(b"\n") + 1]))
                 self.assertEqual(self.marks(going.folder), self.counted(going.folder))
-                told = [line for line in (going.folder / "run.txt").read_text(encoding="utf-8").splitlines() if line.startswith("configuration ")]
+                told = [line[6:] for line in (going.folder / "run.txt").read_text(encoding="utf-8").splitlines() if line[6:].startswith("configuration ")]
                 self.assertEqual(len({line.partition(":")[0] for line in told}), len(told), told)
+
+    def test_kills_at_random_points(self) -> None:
+        """`run` is killed, or both, ten times each: the desk is taken, or the journal gone on from, and nothing told is lost."""
+        lab = self.file("cycle.toml", re.sub(r"(?m)^events = \d+", "events = 100000", CYCLE.read_text(encoding="utf-8")))
+        chance = random.Random(47)
+        kinds = ["run", "run and host"] * KILLS
+        chance.shuffle(kinds)
+        going = Going(self, lab, "--close", "every:0.1")
+        server, folder, told = going.server(), going.folder, 0
+        for kind in kinds:
+            players = Players(going.port)
+            time.sleep(chance.uniform(0.02, 0.4))
+            if kind == "run":
+                going.process.kill()
+                going.process.wait()
+            else:
+                self.killed(going, kind, server)
+            told = max(told, players.ended())
+            lines = (folder / "journal").read_bytes().count(b"\n")
+            self.assertGreaterEqual(lines, told)
+            again: list[str | Path] = ["attach", folder] if kind == "run" else ["run", "--resume", folder]
+            going = Going(self, None, *again)
+            server = server if kind == "run" else going.server()
+            self.assertTrue(any(line.startswith("gone on from configuration ") for line in going.lines), going.lines)
+        players = Players(going.port, disturbs=False)
+        going.until("; stable, ")
+        players.ended()
+        going.type("end\nend")
+        self.assertEqual(going.ends(), 0, going.lines)
+        self.assertGreater(self.whole(folder), KILLS)
+        self.assertEqual(self.marks(folder), self.counted(folder))
+        self.assertIn(", stable", (folder / "audit.txt").read_text(encoding="utf-8"))
+        lines_told = [line.split(" ", 1)[1] for line in (folder / "run.txt").read_text(encoding="utf-8").splitlines()]
+        numbers = [line.partition(":")[0] for line in lines_told if line.startswith("configuration ")]
+        self.assertEqual(len(set(numbers)), len(numbers))
+
+    def limited(self, kilobytes: int) -> Path:
+        """A host whose files take so many kilobytes, its copy of the lab too: to it, the disk is full then."""
+        limited = self.file("host", f'#!/bin/bash\ntrap "" XFSZ\nulimit -f {kilobytes}\nexec "{host()}" "$@"\n')
+        limited.chmod(0o755)
+        return limited
+
+    def test_a_full_disk(self) -> None:
+        going = Going(self, CYCLE, "--close", "by-hand", MML_HOST=str(self.limited(2)))
+        going.type("\n".join(["fault 1 2 true"] * 110))
+        line = going.until("^nothing more is granted: ")
+        self.assertEqual(line, "nothing more is granted: journal: no line can be written to it; make room on the disk, then "
+                               f"./class run --resume {going.folder}")
+        self.assertEqual(going.ends(), 4, going.lines)
+        self.assertFalse(any("by itself" in line for line in going.lines), going.lines)
+        events = (going.folder / "journal").read_bytes().count(b"\n")
+        self.assertGreater(events, 80)
+        again = Going(self, None, "run", "--resume", going.folder, "--close", "every:0.2")
+        self.assertIn(f"gone on from configuration {events}, events {events} of 1000", again.lines)
+        for name in KEYS:
+            self.bot(again, name)
+        again.until("; stable, ")
+        again.type("end")
+        self.assertEqual(again.ends(), 0, again.lines)
+        self.assertGreater(self.whole(going.folder), events)
+        self.assertEqual(self.marks(going.folder), self.counted(going.folder))
+
+    def test_a_halted_journal_is_told_where_no_move_is_chosen(self) -> None:
+        going = Going(self, CYCLE, "--close", "by-hand", MML_HOST=str(self.limited(2)))
+        journal, count = going.folder / "journal", 0
+        with Client(going.port, "gus", KEYS["gus"]) as gus:
+            while journal.stat().st_size <= 2048 - 23:  # A grant of gus takes 23 bytes at least.
+                going.type("fault 1 2 true")
+                count += 1
+                going.until(f"^configuration {count}: ")
+            with self.assertRaisesRegex(Refused, "journal"):
+                gus.move(gus.look(4))
+            with journal.open("ab") as it:
+                it.write(b"9")  # A full disk leaves the beginning of a line; a limit on the file's size leaves nothing.
+            going.until("^nothing more is granted: journal: no line can be written to it; ")
+        self.assertEqual(going.ends(), 4, going.lines)
+
+    def test_another_key_in_mid_course(self) -> None:
+        going = Going(self, CYCLE, "--close", "by-hand")
+        with Client(going.port, "gus", KEYS["gus"]) as gus:
+            gus.move(gus.look(4))
+        lab = going.folder / "lab.toml"
+        going.type("end\nend")
+        self.assertEqual(going.ends(), 0, going.lines)
+        shutil.copy(CYCLE, self.room / "mine.toml")
+        record = json.loads((going.folder / "run.json").read_text(encoding="utf-8"))
+        (going.folder / "run.json").write_text(json.dumps({**record, "lab": str(self.room / "mine.toml")}), encoding="utf-8")
+        done = words("key", going.folder, "gus")
+        self.assertEqual((done.returncode, done.stderr), (0, ""))
+        self.assertIn(f"to go on with it: ./class run --resume {going.folder}", done.stdout)
+        slip = Slip.read(self.room / "mine-slips/gus.slip")
+        self.assertEqual((slip.port, slip.nodes), (going.port, (1, 4)))
+        for file in (lab, self.room / "mine.toml"):
+            self.assertEqual(read(file).students, {**KEYS, "gus": slip.key})
+        again = Going(self, None, "run", "--resume", going.folder, "--close", "by-hand")
+        with self.assertRaisesRegex(Denied, "unknown"):
+            Client(again.port, "gus", KEYS["gus"])
+        with Client.of(slip) as gus:
+            self.assertEqual(gus.look(4).chosen, "update")
+        again.type("end\nend")
+        self.assertEqual(again.ends(), 0, again.lines)
 
     def test_a_limit_that_was_reached_is_raised(self) -> None:
         lab = self.file("cycle.toml", re.sub(r"(?m)^events = \d+", "events = 2", CYCLE.read_text(encoding="utf-8")))

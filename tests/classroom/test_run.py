@@ -109,8 +109,10 @@ class Run(Cycle):
         going.type("close")
         going.until("^configuration 1: 4 \\(gus\\) update")
         going.type("end\nend")
-        self.assertEqual(going.ends(), 0, going.lines)
-        self.assertEqual(self.whole(going.folder), 2)
+        self.assertEqual(going.ends(), 1, going.lines)
+        self.assertTrue(any("mml_host isn't built" in line for line in going.lines), going.lines)
+        self.assertTrue((going.folder / "run.html").is_file())
+        self.assertIn("2 events, configuration 1", words("mark", going.folder).stdout)
 
     def test_no_server(self) -> None:
         with socket.create_server(("127.0.0.1", 0)) as free:

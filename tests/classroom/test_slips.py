@@ -2,11 +2,13 @@
 from __future__ import annotations
 
 import json
+import os
 import shutil
 import socket
 import subprocess
 import sys
 import threading
+import time
 import unittest
 from pathlib import Path
 
@@ -22,9 +24,10 @@ BOTS = (BOT, JAVA) if shutil.which("java") else (BOT,)
 Command = tuple[str | Path, ...]
 
 
-def call(*command: str | Path, typed: str = "") -> subprocess.CompletedProcess[str]:
-    """Calls a program to its end."""
-    return subprocess.run(command, input=typed, capture_output=True, text=True, check=False, timeout=LIMIT)
+def call(*command: str | Path, typed: str = "", key: str | None = None) -> subprocess.CompletedProcess[str]:
+    """Calls a program to its end, with or without a key in its environment."""
+    environment = {name: value for name, value in os.environ.items() if name != "CENDUWA_KEY"} | ({"CENDUWA_KEY": key} if key else {})
+    return subprocess.run(command, input=typed, capture_output=True, text=True, check=False, timeout=LIMIT, env=environment)
 
 
 class Files(InRoom):
@@ -89,7 +92,7 @@ class Files(InRoom):
 
 
 class Fake(InRoom):
-    """Servers that are none, or that have no place."""
+    """Servers that are none, or that have no seat."""
 
     def answers(self, line: bytes, times: int = 1) -> int:
         """Answers so many connections by a line, and gives the port."""
@@ -131,7 +134,17 @@ class Fake(InRoom):
     def test_no_place_is_free(self) -> None:
         said = call(*BOT, self.slip(self.answers(b'{"refuse":"busy"}\n', 9)), "0.5")
         self.assertEqual((said.returncode, said.stdout), (5, ""))
-        self.assertEqual(said.stderr, "bot.py: all places were taken for a minute: come again later\n")
+        self.assertEqual(said.stderr, "bot.py: all seats were taken for a minute: come again later\n")
+
+    def test_no_seat_is_free_for_a_minute(self) -> None:
+        slip = self.slip(self.answers(b'{"refuse":"busy"}\n', 1000))
+        begun = time.monotonic()
+        bots = [subprocess.Popen([*command, slip], stdout=subprocess.PIPE, stderr=subprocess.PIPE, text=True) for command in BOTS]
+        for bot in bots:
+            out, error = bot.communicate(timeout=LIMIT)
+            self.assertEqual((bot.returncode, out), (5, ""), error)
+            self.assertRegex(error, r"^\w+(\.py)?: all seats were taken for a minute: come again later\n$")
+            self.assertGreater(time.monotonic() - begun, 59)
 
     def test_wrong_words(self) -> None:
         for command in (*BOTS, TEACHER, BY_HAND):
@@ -162,6 +175,21 @@ class Talking(Cycle):
             said = call(*command, self.edited(good, "node.slip", "nodes 1", "nodes 2"))
             self.assertEqual(said.returncode, 3)
             self.assertRegex(said.stderr, r"^\w+(\.py)?: a node isn't yours: correct the nodes by your slip\n$")
+
+    def test_a_key_in_the_environment(self) -> None:
+        going = Going(self, CYCLE, "--close", "by-hand")
+        words_of: tuple[str, ...] = (str(going.port), "gus", "-")
+        said = call(*BOT, *words_of, "4", "0.5", key=KEYS["gus"])
+        self.assertEqual((said.returncode, said.stderr), (0, ""))
+        self.assertIn("Move(at=0, place=1, node=4, rule='update')", said.stdout)
+        said = call(*BY_HAND, *words_of, typed='{"do":"bye"}\n', key=KEYS["gus"])
+        self.assertEqual((said.returncode, said.stdout.splitlines()[0]), (0, '{"ok":"hello","who":"gus"}'))
+        for command in BOTS:
+            self.assertEqual(call(*command, *words_of, "4", key="another").returncode, 2)
+            said = call(*command, *words_of, "4")
+            self.assertEqual(said.returncode, 1)
+            self.assertRegex(said.stderr, r"^\w+(\.py)?: the environment has no CENDUWA_KEY\n$")
+        self.assertEqual(call(*TEACHER, *words_of, key="another").returncode, 2)
 
     def test_the_run_s_end(self) -> None:
         going = Going(self, CYCLE, "--close", "by-hand")

@@ -4,7 +4,8 @@ from typing import cast
 
 from classroom import lab as labs
 from classroom.client import Client, Denied, Edit, Look, Report
-from classroom.journal import Event, Tally
+from classroom.journal import Event
+from classroom.present import Book
 from classroom.program import TOP
 from classroom.watch import Watch
 
@@ -38,7 +39,7 @@ class Lines(unittest.TestCase):
         self.assertEqual((watch.present.now.state.chosen, desk.acts), ({}, 0))
         desk.is_granted = True
         watch.note(Event(1, 0, ("grant", "gus", "4", "update")))
-        watch.turn(REPORT, Tally())
+        watch.turn(REPORT, Book([]))
         self.assertEqual(watch.present.now.state.chosen, {4: "update"})
 
 

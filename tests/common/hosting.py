@@ -19,6 +19,10 @@ from tests.common.preload import LIMIT, TOP, Ended, built_in, fail, good
 HOST = Path(os.environ.get("MML_HOST") or TOP / "crates/mml_host/out/mml_host")
 LISTENS = re.compile(rb"listening on port (\d+), desk on port (\d+)\n")
 BUSY = b'{"refuse":"busy"}\n'
+LATE = b'{"refuse":"late"}\n'
+LONG = b'{"refuse":"long"}\n'
+OVER = b'{"refuse":"over"}\n'
+UNKNOWN = b'{"clause":2,"deny":"unknown","text":"name and key do not match"}\n'
 BYE = b'{"do":"bye"}\n'
 BID = b'{"ok":"bye"}\n'
 KEYS = {"ana": "a-key", "ben": "b-key", "cyd": "c-key", "tess": "chalk"}

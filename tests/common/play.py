@@ -9,17 +9,18 @@ import socket
 import sys
 
 
-def main():
+def main() -> None:
+    """Plays it."""
     script, port = sys.argv[1], int(sys.argv[2])
     with open(script, encoding="utf-8") as it:
-        lines = [line.rstrip("\n").split(" ", 1) for line in it]
+        lines = [(int(number), request) for number, request in (line.rstrip("\n").split(" ", 1) for line in it)]
     connections = {}
     # They are opened in the order of their numbers, which the server gives as it accepts.
-    for number in sorted({int(number) for number, _ in lines}):
+    for number in sorted({number for number, _ in lines}):
         opened = socket.create_connection(("127.0.0.1", port), timeout=300)
         connections[number] = opened, opened.makefile("r", encoding="utf-8")
     for number, request in lines:
-        opened, replies = connections[int(number)]
+        opened, replies = connections[number]
         opened.sendall(request.encode() + b"\n")
         print(number, replies.readline(), end="")
     for opened, _ in connections.values():

@@ -37,7 +37,7 @@ def built(source: str, room: Path) -> Path:
         fail("no rt on the path, so no clang")
     clang = Path(rt).resolve().parent.parent / "toolchain/bin/clang"
     library = room / Path(source).with_suffix(".so").name
-    words = ["-O2", "-Wall", "-Wextra", "-Werror", "-shared", "-fPIC", "-nostdlib", "-fuse-ld=lld", "-I", HERE]
+    words: list[str | Path] = ["-O2", "-Wall", "-Wextra", "-Werror", "-shared", "-fPIC", "-nostdlib", "-fuse-ld=lld", "-I", HERE]
     done = subprocess.run([clang, *words, "-o", library, HERE.parent / source], check=False)
     if done.returncode != 0:
         fail(f"{source} can't be built")
@@ -143,9 +143,9 @@ class Story:
 
 def built_in(room: Path) -> Path:
     """The lab that is built into the program, in a file."""
-    text = (TOP / "docs/LAB.md").read_text(encoding="utf-8")
+    text = (TOP / "examples/built-in.toml").read_text(encoding="utf-8")
     lab = room / "built-in.toml"
-    lab.write_text(text.split("```toml\n", 1)[1].split("```", 1)[0], encoding="utf-8")
+    lab.write_text(text.partition("\n\n")[2], encoding="utf-8")
     return lab
 
 

@@ -6,14 +6,18 @@
 
 A name is what stands between backquotes and is spelled as one of a program: each of its words has to stand
 in a source. A law's has to be a public function of a module `laws`. A word in capitals stands for another.
+A path in `src/`, `specs/`, `proofs/` or `wrong/` that a crate's page names has to be that crate's.
 What a table has under `Contract` has to be declared: a function, a type, a clause or a definition, and on a
 crate's page one that the crate declares or cites. A command block of the pages that show how the program is
 used is run by a test, or is marked: `sh not run`, or `text` for what is only an example of an output.
 All pages together have at most so many words; `CHANGELOG.md`, which grows, isn't counted.
 """
+from __future__ import annotations
+
 import re
 import subprocess
 import sys
+from collections.abc import Iterable, Iterator
 from pathlib import Path
 
 TOP = Path(__file__).resolve().parents[2]
@@ -36,18 +40,18 @@ MARKS = ("sh not run", "text")
 MOST_WORDS = 20_000
 
 
-def tracked():
+def tracked() -> list[str]:
     """The files of the repository, those that aren't committed yet too."""
     listed = subprocess.run(["git", "ls-files", "-co", "--exclude-standard"], cwd=TOP, capture_output=True, text=True, check=True)
     return [path for path in listed.stdout.splitlines() if (TOP / path).exists()]
 
 
-def is_page(path):
+def is_page(path: str) -> bool:
     """Whether a file is one of the documents."""
     return path.endswith(".md")
 
 
-def words_of(files):
+def words_of(files: list[str]) -> set[str]:
     """Each word that stands in a source, and the parts of the sources' own paths."""
     found = set()
     for path in files:
@@ -57,22 +61,22 @@ def words_of(files):
     return found
 
 
-def laws_of(files):
+def laws_of(files: list[str]) -> set[str]:
     """The names of all laws."""
     texts = [(TOP / path).read_text(encoding="utf-8") for path in files if re.fullmatch(r"crates/\w+/src/laws(/\w+)?\.rt", path)]
     return {name for text in texts for name in re.findall(r"pub fn (\w+)", text)}
 
 
-def declared_in(text):
+def declared_in(text: str) -> set[str]:
     """What a source declares: functions, types, the names of clauses, definitions, and whom an `impl From` takes."""
     names = set(re.findall(r"\b(?:fn|struct|enum|trait|type|const|ensures|requires) (\w+)", text))
     names |= set(re.findall(r"^(?:[a-z]+ )*([A-Za-z_]\w*)(?: |$)", text, re.MULTILINE))
     return names | {f"From<{name}>" for name in re.findall(r"impl.* From<(\w+)", text)}
 
 
-def sources_of(files):
+def sources_of(files: list[str]) -> dict[str, str]:
     """The text of each crate's `src/` and `specs/`."""
-    texts = {}
+    texts: dict[str, str] = {}
     for path in files:
         place = re.match(r"crates/(\w+)/(src|specs)/", path)
         if place:
@@ -80,7 +84,7 @@ def sources_of(files):
     return texts
 
 
-def contracts_of(page):
+def contracts_of(page: str) -> Iterator[str]:
     """What stands between backquotes in the last column of each table whose last column is `Contract`."""
     inside = False
     for line in (TOP / page).read_text(encoding="utf-8").splitlines():
@@ -90,7 +94,7 @@ def contracts_of(page):
             yield from re.findall(r"`([^`]+)`", cells[-1])
 
 
-def missing_contracts(page, texts, declared, laws):
+def missing_contracts(page: str, texts: dict[str, str], declared: set[str], laws: set[str]) -> Iterator[str]:
     """The contracts that a page names and that aren't declared, or on a crate's page not cited there."""
     crate = re.fullmatch(r"crates/(\w+)/README\.md", page)
     for name in contracts_of(page):
@@ -101,21 +105,23 @@ def missing_contracts(page, texts, declared, laws):
             yield name
 
 
-def stands_for_another(text):
+def stands_for_another(text: str) -> bool:
     """Whether a path has a part that the reader replaces, as `NAME.script`, or is a page of the top in capitals."""
     return bool(re.search(r"(?<![A-Z])[A-Z]{3,}(?![A-Z]*\.md)", text))
 
 
-def missing_path(page, text, files, folders):
-    """Whether no file and no folder has a path that ends so."""
+def missing_path(page: str, text: str, files: list[str], folders: set[str]) -> bool:
+    """Whether no file and no folder has a path that ends so; of the crate's own, where a crate's page names its folders."""
     path = text.rstrip("/").removeprefix("./")
     if path.startswith("/") or stands_for_another(path) or path in ELSEWHERE:
         return False
     near = str((Path(page).parent / path))
+    if re.match(r"crates/\w+/", page) and re.match(r"(src|specs|proofs|wrong)/", path):
+        return near not in files and near not in folders
     return not any(it in (path, near) or it.endswith("/" + path) for it in (*files, *folders))
 
 
-def missing_name(text, words, laws):
+def missing_name(text: str, words: set[str], laws: set[str]) -> bool:
     """Whether a name of a program has a word that stands in no source."""
     if text in ELSEWHERE:
         return False
@@ -125,7 +131,7 @@ def missing_name(text, words, laws):
     return any(part not in words and part not in ELSEWHERE for part in parts)
 
 
-def told(page, files, folders, words, laws):
+def told(page: str, files: list[str], folders: set[str], words: set[str], laws: set[str]) -> Iterator[str]:
     """What a page names that isn't there."""
     text = FENCE.sub("", (TOP / page).read_text(encoding="utf-8"))
     for target in re.findall(r"\]\(([^)\s]+)\)", text):
@@ -140,12 +146,12 @@ def told(page, files, folders, words, laws):
             yield quoted
 
 
-def is_command(line):
+def is_command(line: str) -> bool:
     """Whether a line of a block is a command."""
     return bool(re.match(r"(\./|\.ci/|python3 |tar |ssh |java )", line.strip().removeprefix("$ ")))
 
 
-def commands_of(page):
+def commands_of(page: str) -> Iterator[str]:
     """The commands of a page's blocks."""
     lines = (TOP / page).read_text(encoding="utf-8").splitlines()
     for line in lines:
@@ -153,7 +159,7 @@ def commands_of(page):
             yield line.strip().removeprefix("$ ")
 
 
-def blocks_of(page):
+def blocks_of(page: str) -> Iterator[tuple[str | None, list[str]]]:
     """A page's code blocks: how each is marked, or None where it is indented, and its lines."""
     text = (TOP / page).read_text(encoding="utf-8")
     for mark, block in re.findall(r"^```(.*)\n((?:.*\n)*?)```$", text, re.MULTILINE):
@@ -162,7 +168,7 @@ def blocks_of(page):
         yield None, [line[4:] for line in block.splitlines()]
 
 
-def is_run(page, mark, lines, texts, data):
+def is_run(page: str, mark: str | None, lines: list[str], texts: dict[str, str], data: set[str]) -> bool:
     """Whether a test runs a block, or it is marked, or is only what stands in `examples/`."""
     if mark is not None:
         return mark in MARKS or (page, mark) in RUN_BY and page in texts[RUN_BY[page, mark]]
@@ -170,12 +176,13 @@ def is_run(page, mark, lines, texts, data):
     if not commands:
         return all(line in data for line in lines)
     pages = texts["tests/pages/pages"]
-    passed_over = re.search(r"^ *(\S.*)\) ;; #", pages, re.MULTILINE)[1].replace('"', "").replace("*", "").split(" | ")
+    found = re.search(r"^ *(\S.*)\) ;; #", pages, re.MULTILINE)
+    passed_over = found[1].replace('"', "").replace("*", "").split(" | ") if found else []
     skipped = [start for line in commands for start in passed_over if line.startswith(start)]
     return page in pages and all(start in RUN_BEFORE and RUN_BEFORE[start][1] in texts[RUN_BEFORE[start][0]] for start in skipped)
 
 
-def unrun_blocks(page, files):
+def unrun_blocks(page: str, files: list[str]) -> list[str]:
     """The first lines of a page's blocks that no test runs and that aren't marked."""
     run = {*RUN_BY.values(), *(path for path, _ in RUN_BEFORE.values()), "tests/pages/pages"}
     texts = {path: (TOP / path).read_text(encoding="utf-8") for path in run}
@@ -184,13 +191,13 @@ def unrun_blocks(page, files):
     return [lines[0] for mark, lines in blocks_of(page) if not is_run(page, mark, lines, texts, data)]
 
 
-def counted(pages):
+def counted(pages: Iterable[str]) -> dict[str, int]:
     """How many words each page has outside its code blocks: what has a letter or a digit."""
     texts = {page: re.sub(r"^    .*$", "", FENCE.sub("", (TOP / page).read_text(encoding="utf-8")), flags=re.MULTILINE) for page in pages}
     return {page: sum(bool(re.search(r"\w", word)) for word in text.split()) for page, text in texts.items()}
 
 
-def main():
+def main() -> None:
     """Checks, counts, or prints the commands of pages."""
     counts = counted(path for path in tracked() if is_page(path) and path != "CHANGELOG.md")
     total = sum(counts.values())
@@ -204,7 +211,7 @@ def main():
     files = tracked()
     folders = {str(parent) for path in files for parent in Path(path).parents}
     words, laws, texts = words_of(files), laws_of(files), sources_of(files)
-    declared = set().union(*map(declared_in, texts.values()))
+    declared: set[str] = set().union(*map(declared_in, texts.values()))
     pages = [path for path in files if is_page(path)]
     missing = [f"not there: {page}: {name}" for page in pages for name in dict.fromkeys(told(page, files, folders, words, laws))]
     missing += [f"no contract: {page}: {name}" for page in pages for name in missing_contracts(page, texts, declared, laws)]

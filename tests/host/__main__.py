@@ -11,7 +11,7 @@ import time
 from pathlib import Path
 
 from tests.common.hosting import (
-    BID, BUSY, BYE, NODES, Bot, Caller, Host, Talk, audit, called, hello, lab_of, let_in, look
+    BID, BUSY, BYE, LATE, NODES, OVER, Bot, Caller, Host, Talk, audit, called, hello, lab_of, let_in, look
 )
 from tests.common.preload import Ended, fail, good
 from tests.common.side_by_side import Test, try_all
@@ -149,54 +149,56 @@ def connect_and_close(room: Path) -> None:
     talk.check(journal)
 
 
-def ends_after(caller: Caller, begun: float, piece: bytes, every: float) -> float:
-    """Sends a piece every so many seconds, until the connection has ended without a reply; answers when it did."""
-    due = begun + every
+def ends_after(caller: Caller, begun: float, piece: bytes, every: float, left: list[bytes]) -> float:
+    """Sends a piece every so many seconds, until the connection has ended; answers when it did, and keeps the lines
+    that it was told."""
+    due, found = begun + every, b""
     while True:
         caller.socket.settimeout(max(due - time.monotonic(), 0.001))
         try:
-            if caller.socket.recv(1):
-                fail("host: what isn't a line is answered")
-            break
+            more = caller.socket.recv(4096)
+            if not more:
+                break
+            found += more
         except TimeoutError:
             caller.send(piece)
             due += every
         except ConnectionError:
             break
         if due - begun > 60:
-            fail("host: a connection without a line isn't ended")
+            fail("host: a connection without a greeting isn't ended")
     caller.close()
+    left += found.splitlines(keepends=True)
     return time.monotonic() - begun
 
 
 def deadlines(room: Path) -> None:
-    """Silent and trickling connections keep others out for ten seconds, the desk's too, and not longer."""
-    lab = lab_of(room, 4)
+    """Who doesn't greet stays for ten seconds, whatever is said, the desk's too, and is told why it is ended."""
+    lab = lab_of(room, 16)
     with Host(lab, 0, 0) as host:
-        early = Caller(host.port)
-        early.ask(hello("cyd"))
+        early = let_in(host.port, hello("cyd"))[0]
         begun = time.monotonic()
-        kept = [(Caller(host.port), b""), (Caller(host.port), b" "), (Caller(host.desk), b"")]
+        kept = [(host.port, b""), (host.port, b" "), (host.port, b"{}\n"), (host.port, look("ana")), (host.desk, b"{}\n")]
+        callers = [(Caller(port), piece) for port, piece in kept]
         times: dict[int, float] = {}
+        told: list[list[bytes]] = [[] for _ in kept]
 
         def watch(at: int) -> None:
-            times[at] = ends_after(kept[at][0], begun, kept[at][1], 3.0)
+            times[at] = ends_after(callers[at][0], begun, callers[at][1], 3.0, told[at])
 
         waits = [threading.Thread(target=watch, args=[at]) for at in range(len(kept))]
         for wait in waits:
             wait.start()
-        for port in (host.port, host.desk):
-            told_busy(port)
-        guests = [let_in(host.port, hello(name)) for name in ("ana", "ben")] + [let_in(host.desk, hello("tess"))]
-        taken = time.monotonic() - begun
         for wait in waits:
             wait.join()
-        if sorted(times) != [0, 1, 2] or min(times.values()) < 9 or taken < 9 or max(times.values()) > 30:
-            fail(f"host: connections without a line are ended after {times} seconds, and others let in after {taken}")
-        # Who has said a line may be silent for longer than that.
-        if early.ask(BYE) != BID or any(caller.ask(BYE) != BID for caller, _ in guests):
-            fail("host: who is silent after a line is ended too")
-        if host.end() != NONE:
+        if sorted(times) != [*range(len(kept))] or min(times.values()) < 9 or max(times.values()) > 30:
+            fail(f"host: connections without a greeting are ended after {times} seconds")
+        if [lines[-1:] for lines in told] != [[LATE]] * len(kept):
+            fail(f"host: connections without a greeting are told {told}")
+        # Who has greeted may be silent for longer than that.
+        if early.ask(BYE) != BID:
+            fail("host: who is silent after a greeting is ended too")
+        if host.dismissed(let_in(host.desk, hello("tess"))[0]) != NONE:
             fail("host: another end after silent connections")
 
 
@@ -228,7 +230,7 @@ def says_busy(room: Path) -> None:
         if cyd.ask(hello("cyd")) != b'{"ok":"hello","who":"cyd"}\n' or not ben.ask(look("ben")).startswith(b'{"at":0'):
             fail("host: a place that was left isn't given to the next")
         told_busy(host.port)
-        if host.dismissed(tess) != NONE or ben.line() or cyd.line():
+        if host.dismissed(tess) != NONE or (ben.line(), ben.line(), cyd.line()) != (OVER, b"", OVER):
             fail("host: another end of a full host")
     alone = lab_of(room, 1)
     with Host(alone, 0, 0) as host:
@@ -318,8 +320,8 @@ def byes_that_end_nothing(room: Path) -> None:
         teacher = talk.comes(host.desk, hello("tess"))
         if not host.runs() or host.dismissed(teacher) != Ended(0, b"done: 1 events, configuration 0\n", b""):
             fail("host: another end after byes that end nothing")
-        if student.line():
-            fail("host: a student is still served")
+        if (student.line(), student.line()) != (OVER, b""):
+            fail("host: a student is still served, or isn't told that the class is over")
     talk.heard(teacher, BYE, BID)
     talk.check(journal)
 
@@ -329,8 +331,10 @@ def asks_on(port: int, name: str, asked: threading.Semaphore, wrong: list[str]) 
     caller, _ = let_in(port, hello(name))
     at = 0
     while True:
-        reply = caller.ask(look(name)) and caller.ask(move(at, NODES[name], "seduction"))
-        if not reply:
+        reply = caller.ask(look(name))
+        if reply not in (b"", OVER):
+            reply = caller.ask(move(at, NODES[name], "seduction"))
+        if reply in (b"", OVER):
             return
         if b'"stale"' in reply:
             at = int(reply[6:reply.index(b",")])
@@ -348,13 +352,13 @@ def ended_while_asked(room: Path) -> None:
         students = [threading.Thread(target=asks_on, args=[host.port, name, asked, wrong]) for name in [*NODES] * 2]
         for student in students:
             student.start()
-        silent, half, deaf = (Caller(host.port) for _ in range(3))
+        silent, half, deaf = (let_in(host.port, hello("cyd"))[0] for _ in range(3))
         half.send(b'{"do":')
         deaf.socket.setblocking(False)
         sent = 0
         while sent < 64 << 20:
             try:
-                sent += deaf.socket.send(look("ana") * 1000)
+                sent += deaf.socket.send(look("cyd") * 1000)
             except BlockingIOError:
                 break
         for _ in range(20):
@@ -367,8 +371,9 @@ def ended_while_asked(room: Path) -> None:
         taken = time.monotonic() - begun
         for student in students:
             student.join()
-        if wrong or silent.line() or half.line():
-            fail(f"host: other replies at the end: {wrong}")
+        said = silent.line(), half.line(), silent.line(), half.line()
+        if wrong or said != (OVER, OVER, b"", b""):
+            fail(f"host: other replies at the end: {wrong}, {said}")
         deaf.close()
         for port in (host.port, host.desk):
             try:
@@ -377,8 +382,8 @@ def ended_while_asked(room: Path) -> None:
             except ConnectionRefusedError:
                 pass
     events = len(journal.read_bytes().splitlines())
-    said = audit(lab, journal, events)
-    number = said.split(b"configuration ")[1].split(b",")[0]
+    told = audit(lab, journal, events)
+    number = told.split(b"configuration ")[1].split(b",")[0]
     if ended != Ended(0, b"done: %d events, configuration %s\n" % (events, number), b"") or events < 21:
         fail(f"host: another end while students ask: {ended}, {events} events")
     if taken > 8:

@@ -18,7 +18,7 @@ from collections.abc import Callable
 from concurrent.futures import Future, ProcessPoolExecutor
 from pathlib import Path
 
-from tests.common.hosting import BID, BYE, HOST, Host, hello, let_in
+from tests.common.hosting import BID, BYE, HOST, LONG, Host, hello, let_in
 from tests.common.preload import LIMIT, Client, Ended, Server, Story, built_in, fail, in_room
 
 SECONDS = 20.0
@@ -28,8 +28,11 @@ UNREAD = 10.0
 OVER_HOST = "host" in sys.argv[1:]
 MOST_LINES = 18_000
 PAUSE = 0.001
-SEE = b'{"do":"see","node":1}\n'
+SEE = b'{"do":"see","node":99}\n'
 NOT_GREETED = b'{"clause":0,"deny":"not-greeted","text":"say hello first"}\n'
+HIDDEN = b'{"clause":1,"deny":"hidden","text":"this node is not shown to you"}\n'
+# A host lets nobody stay who doesn't greet.
+DENIED = HIDDEN if OVER_HOST else NOT_GREETED
 MALFORMED = b'{"refuse":"malformed"}\n'
 Program = Server | Host
 # A hostile client: a port, the time to end at, and what it draws from. It answers what is wrong with its replies.
@@ -37,8 +40,8 @@ Hostile = Callable[[int, float, random.Random], str]
 
 
 def opened(port: int) -> socket.socket:
-    """A connection that sends each piece at once."""
-    it = socket.create_connection(("127.0.0.1", port), timeout=LIMIT)
+    """A connection that sends each piece at once; over a host one that has greeted."""
+    it = let_in(port, hello("cyd"))[0].socket if OVER_HOST else socket.create_connection(("127.0.0.1", port), LIMIT)
     it.setsockopt(socket.IPPROTO_TCP, socket.TCP_NODELAY, 1)
     return it
 
@@ -60,19 +63,20 @@ def noise(port: int, until: float, draw: random.Random) -> str:
             it.sendall(b"".join(line + b"\n" for line in lines) + SEE)
             if any(replies.readline() != MALFORMED for _ in lines):
                 return "noise was answered as something else"
-            if replies.readline() != NOT_GREETED:
+            if replies.readline() != DENIED:
                 return "a line after noise was answered as something else"
             time.sleep(0.02)
     return ""
 
 
 def long_line(port: int, until: float, draw: random.Random) -> str:
-    """One byte more than a line may have: the connection is ended without a reply."""
+    """One byte more than a line may have: the connection is ended without a reply, over a host by a word of its own."""
     with opened(port) as it:
         begin(it, until, draw)
         it.sendall(b" " * (4097 - len(SEE) + 1) + SEE)
         try:
-            return "a line that is too long was answered" if it.recv(1) else ""
+            with it.makefile("rb") as replies:
+                return "" if replies.read() == (LONG if OVER_HOST else b"") else "a line that is too long was answered"
         except ConnectionError:
             return ""
 
@@ -87,7 +91,7 @@ def half_line(port: int, until: float, draw: random.Random) -> str:
             it.sendall(SEE[:middle])
             time.sleep(max(0.0, min(until - time.monotonic(), QUIET)))
             it.sendall(SEE[middle:])
-            if replies.readline() != NOT_GREETED:
+            if replies.readline() != DENIED:
                 return "a line in two halves wasn't answered"
             if time.monotonic() >= until:
                 return ""
@@ -100,7 +104,7 @@ def byte_by_byte(port: int, until: float, draw: random.Random) -> str:
             for at in range(len(SEE)):
                 it.sendall(SEE[at:at + 1])
                 time.sleep(draw.uniform(0, 0.002))
-            if replies.readline() != NOT_GREETED:
+            if replies.readline() != DENIED:
                 return "a line of single bytes was answered otherwise"
     return ""
 
@@ -117,7 +121,7 @@ def reset(port: int, until: float, draw: random.Random) -> str:
 def pour(port: int, until: float, draw: random.Random) -> int:
     """Requests until that time or until the connection is ended, whose replies nobody reads. Tells how many bytes
     were taken."""
-    caller, _ = let_in(port, SEE)
+    caller, _ = let_in(port, hello("cyd") if OVER_HOST else SEE)
     caller.socket.setblocking(False)
     sent = 0
     try:
@@ -146,7 +150,7 @@ def flood(port: int, until: float, draw: random.Random) -> str:
 
 def gone(port: int, until: float, draw: random.Random) -> str:
     """No line at all."""
-    with opened(port):
+    with socket.create_connection(("127.0.0.1", port), LIMIT):
         time.sleep(max(0.0, until - time.monotonic()) * draw.uniform(0.0, 0.5))
     return ""
 
@@ -285,7 +289,7 @@ def late(lab: Path) -> None:
                 found = replies.read()
             except ConnectionError:
                 found = b"a reset"
-            if found != NOT_GREETED * 100 + said:
+            if found != DENIED * 100 + (said or (LONG if OVER_HOST else b"")):
                 fail(f"hostile: a late reader finds {len(found)} bytes: {found[-100:]!r}")
     end = server.dismissed(let_in(server.desk, hello("tess"))[0]) if isinstance(server, Host) else server.end()
     if end != Ended(0, b"done: 0 events, configuration 0\n", b""):

@@ -38,7 +38,7 @@ class Row:
 
 def built_in() -> str:
     """The lab that is built into the program."""
-    return (TOP / "docs/LAB.md").read_text(encoding="utf-8").split("```toml\n", 1)[1].split("```", 1)[0]
+    return (TOP / "examples/built-in.toml").read_text(encoding="utf-8").partition("\n\n")[2]
 
 
 def changed(name: str, base: str, row: dict[str, Any]) -> str:
@@ -55,7 +55,8 @@ def document_of(name: str, table: dict[str, Any], row: dict[str, Any], last: str
         return changed(name, base, row).encode()
     before, after = (row.get(key, table.get(key, "")) for key in ("before", "after"))
     middle = row["bytes"].encode("latin-1") if "bytes" in row else row["text"].encode()
-    return before.encode("latin-1") + middle + after.encode("latin-1")
+    content: bytes = before.encode("latin-1") + middle + after.encode("latin-1")
+    return content
 
 
 def rows_of(path: Path) -> list[Row]:

@@ -152,7 +152,7 @@ def refused_tests(library: Preloaded) -> str:
     """Runs the tests of refusals once more, with the library: each asserts that it met refusals then."""
     count = 0
     for program in sorted(TOP.glob("crates/*/out/*_tests")):
-        listed = subprocess.run([program, "--list"], capture_output=True, env={}, timeout=LIMIT, check=True)
+        listed = subprocess.run([program, "--list"], capture_output=True, env=dict[str, str](), timeout=LIMIT, check=True)
         for line in listed.stdout.decode().splitlines():
             name = line.removesuffix(": test")
             if not name.rsplit("::", 1)[-1].startswith("refusals_"):

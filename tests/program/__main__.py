@@ -1,4 +1,4 @@
-"""Calls the program with words, labs and journals, and serves clients that meet, race and crowd.
+"""Calls the program with words, and serves clients that meet, race and crowd.
 
     python3 -B -m tests.program [WORD..]
 
@@ -7,9 +7,9 @@ With words, only the parts whose names have one of them.
 import sys
 
 from tests.common.preload import in_room
-from tests.program import crowd, labs, serving, words
+from tests.program import answering, bounds, crowd, serving, words
 
-PARTS = [words, labs, serving, crowd]
+PARTS = [words, answering, bounds, serving, crowd]
 
 
 def main() -> None:

@@ -55,6 +55,15 @@ SHARED = [
     (ANA + "2 0 close\n3 0 close\n", "audit: line 3: wrong place or configuration"),
 ]
 
+# A class that went on after its journal's first line, over a cycle of six nodes.
+CYCLE = """events = 100
+sessions = 3
+links = [[1, 2], [2, 3], [3, 4], [4, 5], [5, 6], [6, 1]]
+teacher = { name = "tess", key = "chalk" }
+student = [{ name = "ana", key = "a-key" }]
+""" + "".join(f'[[node]]\nid = {node}\nowner = "ana"\n' for node in range(1, 7))
+GONE_ON = [(ANA + "2 0 close\n", "ok: 2 events, configuration 1, not stable")]
+
 
 class Auditor:
     """The audits over a lab, counted."""
@@ -84,14 +93,17 @@ class Auditor:
 
 
 def fronts(auditor: Auditor) -> None:
-    """Each byte of the journal is the last: whole lines pass, and a torn one is named."""
+    """Each byte of the journal is the last: whole lines pass, and a torn one is named; the tenth makes the run stable."""
     for end in range(len(JOURNAL) + 1):
         front = JOURNAL[:end]
-        lines = front.count(b"\n")
-        is_torn = not front.endswith(b"\n") and bool(front)
-        wanted = audit(auditor.model, front)
-        if is_torn and wanted != f"audit: line {lines + 1}: torn":
-            fail(f"the model says of {front!r}: {wanted}")
+        *lines, torn = front.split(b"\n")
+        closes = sum(line.endswith(b"close") for line in lines)
+        stable = "stable" if len(lines) == 10 else "not stable"
+        wanted = f"ok: {len(lines)} events, configuration {closes}, {stable}"
+        if torn:
+            wanted = f"audit: line {len(lines) + 1}: torn"
+        if audit(auditor.model, front) != wanted:
+            fail(f"the model says of {front!r}: {audit(auditor.model, front)}")
         auditor.wants(front, wanted)
 
 
@@ -121,13 +133,15 @@ def shared_lab(room: Path, lab: Path) -> Path:
 
 def work(room: Path) -> str:
     """All audits."""
-    lab = built_in(room)
-    auditor, shared = Auditor(room, lab), Auditor(room, shared_lab(room, lab))
+    lab, cycle = built_in(room), room / "cycle.toml"
+    cycle.write_text(CYCLE, encoding="ascii")
+    auditor, shared, gone_on = Auditor(room, lab), Auditor(room, shared_lab(room, lab)), Auditor(room, cycle)
     auditor.all_of(ROWS)
     shared.all_of(SHARED)
+    gone_on.all_of(GONE_ON)
     fronts(auditor)
     replaced(auditor)
-    return f"{auditor.calls + shared.calls} audits of right, torn and hurt journals say what is wanted"
+    return f"{auditor.calls + shared.calls + gone_on.calls} audits of right, torn and hurt journals say what is wanted"
 
 
 if __name__ == "__main__":

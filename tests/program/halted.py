@@ -70,8 +70,8 @@ class Limited:
             signal.signal(signal.SIGXFSZ, signal.SIG_IGN)
             resource.setrlimit(resource.RLIMIT_FSIZE, (most, most))
 
-        words = [PROGRAM, "script", self.lab, self.script, self.journal]
-        done = subprocess.run(words, capture_output=True, env={}, timeout=LIMIT, check=False, preexec_fn=limit)
+        words: list[str | Path] = [PROGRAM, "script", self.lab, self.script, self.journal]
+        done = subprocess.run(words, capture_output=True, env=dict[str, str](), timeout=LIMIT, check=False, preexec_fn=limit)
         return Ended(done.returncode, done.stdout, done.stderr), self.journal.read_bytes()
 
 

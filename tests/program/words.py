@@ -138,7 +138,7 @@ TAKEN = [
 
 def called(line: str, folder: Path) -> Ended:
     """How a call with the words of a line ends in a folder."""
-    words = [PROGRAM.resolve(), *line.split(" ")]
+    words: list[str | Path] = [PROGRAM.resolve(), *line.split(" ")]
     done = subprocess.run(
         words, stdin=subprocess.DEVNULL, capture_output=True, cwd=folder, timeout=LIMIT, check=False
     )
@@ -173,7 +173,8 @@ def writes(words: list[str], given: bytes) -> list[bytes]:
     ours, theirs = socket.socketpair(socket.AF_UNIX, socket.SOCK_SEQPACKET)
     with ours, theirs:
         ours.settimeout(LIMIT)
-        script = subprocess.Popen([PROGRAM, *words], stdin=subprocess.PIPE, stdout=theirs, stderr=subprocess.DEVNULL)
+        asked: list[str | Path] = [PROGRAM, *words]
+        script = subprocess.Popen(asked, stdin=subprocess.PIPE, stdout=theirs.fileno(), stderr=subprocess.DEVNULL)
         theirs.close()
         assert script.stdin is not None
         script.stdin.write(given)

@@ -110,16 +110,24 @@ def runs_to_an_end(room: Path) -> int:
 
 
 def meshes(room: Path) -> None:
-    """A thousand events of each kind over a mesh, with a report and looks after each."""
+    """A thousand events of all kinds over a mesh: what each did, a report and looks after it, and that each was legal."""
     for count in MESHES:
-        document = mesh(count)
-        script, replies = mesh_script(Random(count), read_lab(document.encode()), EVENTS)
-        found = Files(room, document, script).played()
+        document, rng = mesh(count), Random(count)
+        lab = read_lab(document.encode())
+        script, replies, journal = mesh_script(rng, lab, EVENTS)
+        files = Files(room, document, script)
+        found = files.played()
         if found.out != replies:
             fail(f"a mesh of {count} nodes: {first_other(found.out, replies)}")
+        if files.journal.read_bytes() != journal:
+            fail(f"a mesh of {count} nodes: {first_other(files.journal.read_bytes(), journal)}")
         told = Counter(TOLD.findall(found.out))
         if sum(told[word.encode()] for word in GRANTS) != EVENTS or not all(told[word.encode()] for word in GRANTS):
             fail(f"a mesh of {count} nodes: not {EVENTS} events of all kinds")
+        if not audit(lab, journal).startswith(f"ok: {EVENTS} events, "):
+            fail(f"a mesh of {count} nodes: the model says {audit(lab, journal)}")
+        if fault := audits_of(rng, files, lab, journal):
+            fail(f"a mesh of {count} nodes: {fault}")
 
 
 def replaced(room: Path) -> int:

@@ -92,11 +92,12 @@ class Meshing:
             self.ask(2, f'{{"do":"look","node":{i}}}')
 
 
-def mesh_script(rng: Random, lab: Lab, events: int) -> tuple[bytes, bytes]:
-    """A script with so many events, and its replies."""
+def mesh_script(rng: Random, lab: Lab, events: int) -> tuple[bytes, bytes, bytes]:
+    """A script with so many events, its replies and its journal."""
     meshing = Meshing(rng, lab)
     for connection, line in enumerate(HELLOS, 1):
         meshing.ask(connection, line)
     for _ in range(events):
         meshing.event()
-    return "".join(meshing.lines).encode(), "".join(meshing.replies).encode()
+    journal = "".join(f"{line}\n" for line in meshing.model.journal)
+    return "".join(meshing.lines).encode(), "".join(meshing.replies).encode(), journal.encode()

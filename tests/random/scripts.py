@@ -81,18 +81,23 @@ class Drawing:
             return self.hello() if rng.random() < 0.9 else rng.choice([*NAMELESS, self.move("")])
         if rng.random() < 0.03:
             return rng.choice([{"do": "bye"}, self.hello()])
-        views = [{"do": "see", "node": self.node()}, {"do": "look", "node": self.node()}, {"do": "report"}]
+        views: list[dict[str, Any]] = [{"do": "see", "node": self.node()}, {"do": "look", "node": self.node()}, {"do": "report"}]
         if who == self.lab.teacher:
             acts = [self.fault(), self.change(), self.release(), self.move(who)]
-            return rng.choice([{"do": "close"}] * 3 + acts if rng.random() < 0.6 else views)
+            closes: list[dict[str, Any]] = [{"do": "close"}] * 3
+            return rng.choice(closes + acts if rng.random() < 0.6 else views)
         if rng.random() < 0.05:
             return rng.choice([{"do": "close"}, self.fault(), self.change(), self.release()])
         return self.move(who) if rng.random() < 0.7 else rng.choice(views)
 
-    def line(self, connection: int) -> bytes:
-        """The next line of a connection, which the model answers."""
+    def drawn(self, connection: int) -> bytes:
+        """The next line of a connection."""
         asked = self.asked(connection)
-        line = odd(self.rng, asked) if self.rng.random() < 0.06 else spelled(self.rng, asked)
+        return odd(self.rng, asked) if self.rng.random() < 0.06 else spelled(self.rng, asked)
+
+    def line(self, connection: int) -> bytes:
+        """The same, which the model answers."""
+        line = self.drawn(connection)
         self.model.answer(connection, line)
         return line
 

@@ -12,9 +12,9 @@ DPKG = Path("/var/lib/dpkg")
 LEFT_OUT = re.compile(r"/usr/share/(doc|doc-base|man|info|locale|i18n|lintian|bash-completion|zoneinfo)(/|$)")
 
 
-def installed():
+def installed() -> dict[str, dict[str, str]]:
     """The fields of each installed package by its name."""
-    packages = {}
+    packages: dict[str, dict[str, str]] = {}
     for text in (DPKG / "status").read_text(encoding="utf-8").split("\n\n"):
         fields = dict(line.split(": ", 1) for line in text.splitlines() if re.match(r"[A-Za-z-]+: ", line))
         if fields.get("Status") == "install ok installed":
@@ -22,18 +22,18 @@ def installed():
     return packages
 
 
-def names(field):
+def names(field: str) -> list[str]:
     """The packages that a field names, each alternative too."""
     return [name for name in re.findall(r"(?:^|[,|])\s*([a-z0-9][a-z0-9+.-]*)", field)]
 
 
-def closure(wanted, packages):
+def closure(wanted: list[str], packages: dict[str, dict[str, str]]) -> set[str]:
     """These packages and all installed ones that they depend on."""
-    providers = {}
+    providers: dict[str, list[str]] = {}
     for name, fields in packages.items():
         for provided in [name, *names(fields.get("Provides", ""))]:
             providers.setdefault(provided, []).append(name)
-    found, rest = set(), list(wanted)
+    found, rest = set[str](), list(wanted)
     while rest:
         for name in providers.get(rest.pop(), []):
             if name not in found:
@@ -43,13 +43,13 @@ def closure(wanted, packages):
     return found
 
 
-def files(name, packages):
+def files(name: str, packages: dict[str, dict[str, str]]) -> list[str]:
     """The paths of a package's files."""
     lists = [DPKG / "info" / f"{name}.list", DPKG / "info" / f"{name}:{packages[name]['Architecture']}.list"]
     return next(path for path in lists if path.exists()).read_text(encoding="utf-8").splitlines()
 
 
-def main():
+def main() -> None:
     """Prints the files."""
     packages = installed()
     base = [name for name, it in packages.items() if it.get("Essential") == "yes" or it.get("Priority") == "required"]
@@ -57,7 +57,7 @@ def main():
     missing = [name for name in wanted if name not in packages]
     if missing:
         sys.exit(f"base.py: not installed: {' '.join(missing)}")
-    seen = set()
+    seen = set[str]()
     for name in sorted(closure(wanted, packages)):
         print(name, file=sys.stderr)
         for path in files(name, packages):

@@ -118,7 +118,8 @@ class Judging(unittest.TestCase):
 
     def test_an_error_of_a_whole_file(self) -> None:
         """An error needs no line: a body that the borrow checker doesn't cover has answers that aren't read."""
-        for line in ("./proofs/a/f/Answers.antt: error: rattle does not read `Answers.antt` of `mml_ends::a::f`", "rattle: error: `mml_ends` has no function `f`"):
+        for line in ("./proofs/a/f/Answers.antt: error: rattle does not read `Answers.antt` of `mml_ends::a::f`",
+                     "rattle: error: `mml_ends` has no function `f`"):
             found = judged(f"{line}\n{kept('three_bodies.txt')}", NEVER, THERE)
             self.assertEqual(found.of_round, [f"an error of no goal: {line}"])
 

@@ -1,0 +1,49 @@
+"""Checks all Python of the repository: its types, strictly, and what a linter says.
+
+    python3 -B -m tests.check.python
+"""
+from __future__ import annotations
+
+import os
+import subprocess
+import sys
+import tempfile
+
+from tests.check.parts import TOP
+
+# Files whose modules have names of their own, and programs that aren't modules of this tree: one call each.
+CALLS = (("class", "bench", "classroom", "tests"), ("check",), ("examples",))
+MOST_LETTERS = 160  # of a line
+IGNORED = "E127,E203,E402,W503,W504"  # of the linter's rules: on forms of lines
+
+
+def python_files() -> list[str]:
+    """The Python that git knows of, or would."""
+    listed = subprocess.run(["git", "ls-files", "-co", "--exclude-standard"], cwd=TOP, capture_output=True, text=True, check=True)
+    files = [file for file in listed.stdout.splitlines() if (TOP / file).is_file()]
+    return [file for file in files if file.endswith(".py") or file in ("class", "check")]
+
+
+def faults_of(command: list[str]) -> list[str]:
+    """What a tool says, where it isn't content."""
+    environment = {**os.environ, "MYPYPATH": "classroom"} if command[-1] == "examples" else None
+    done = subprocess.run(command, cwd=TOP, capture_output=True, text=True, check=False, env=environment)
+    return [line for line in (done.stdout + done.stderr).splitlines() if line] if done.returncode else []
+
+
+def main() -> None:
+    """Calls both tools."""
+    files = python_files()
+    with tempfile.TemporaryDirectory() as kept:
+        mypy = ["mypy", "--strict", "--explicit-package-bases", "--no-error-summary", "--cache-dir", kept]
+        faults = [fault for call in CALLS for fault in faults_of([*mypy, *call])]
+    faults += faults_of(["flake8", "--isolated", f"--max-line-length={MOST_LETTERS}", f"--extend-ignore={IGNORED}", *files])
+    for fault in faults:
+        print(f"FAILED: {fault}")
+    if faults:
+        sys.exit(1)
+    print(f"{len(files)} files of Python: types are strict, and the linter is content")
+
+
+if __name__ == "__main__":
+    main()

@@ -1,0 +1,169 @@
+"""Daemons and faults at the desk of `./class run`, and how it is told that the class came back."""
+from __future__ import annotations
+
+import os
+import random
+import re
+import unittest
+import unittest.mock
+from pathlib import Path
+
+from classroom import lab as labs
+from classroom.client import Client
+from classroom.closing import Striker
+from classroom.daemons import Daemon, Sight, applied
+from classroom.frames import frames_of
+from classroom.program import Fault
+from classroom.shaking import broken, shaken
+from tests.classroom.help import CYCLE, Cycle, Going, KEYS
+
+SERVE = tuple(os.environ.get("MML_SERVE", "").split())
+BACK = r"^stable (again )?after \d+ moves?, \d+ closes?, \d+ rounds?; proved: at most 35 moves, 13 rounds$"
+
+
+class Alone(unittest.TestCase):
+    """What a daemon does with what it sees, and registers that are drawn."""
+
+    def test_which_moves_a_close_applies(self) -> None:
+        chance = random.Random(1)
+        two = Sight([1, 2, 3], [2, 1], 0.0, 0.0)
+        all_three = Sight([1, 2, 3], [2, 1, 3], 0.0, 0.0)
+        self.assertEqual(applied(Daemon("central"), two, chance, 1), [2])
+        self.assertEqual(applied(Daemon("central"), Sight([1], [], 9, 9), chance, 1), [])
+        self.assertEqual(applied(Daemon("synchronous"), two, chance, 1), [])
+        self.assertEqual(applied(Daemon("synchronous"), all_three, chance, 1), [2, 1, 3])
+        self.assertEqual(applied(Daemon("random", 1.0), two, chance, 1), [])
+        self.assertEqual(applied(Daemon("random", 1.0), all_three, chance, 1), [2, 1, 3])
+        self.assertEqual(applied(Daemon("random", 1.0), Sight([1, 2, 3], [2], 1.5, 9), chance, 1), [2])
+        self.assertEqual(applied(Daemon("by-hand"), all_three, chance, 1), [])
+        self.assertEqual(applied(Daemon("every", 2), Sight([1], [1], 9, 1.9), chance, 1), [])
+        self.assertEqual(applied(Daemon("every", 2), Sight([1], [1], 0, 2.1), chance, 1), [1])
+        self.assertEqual(applied(Daemon("when-idle", 2), Sight([1], [1], 1.9, 9), chance, 1), [])
+        self.assertEqual(applied(Daemon("when-idle", 2), Sight([1], [1], 2.1, 0), chance, 1), [1])
+
+    def test_registers_that_are_drawn(self) -> None:
+        nodes, links = [1, 2, 3, 4], [(1, 2), (2, 3), (3, 4)]
+        found = shaken(nodes, links, "all", 5)
+        self.assertEqual(found, shaken(nodes, links, "all", 5))
+        self.assertEqual([node for node, _, _ in found], nodes)
+        near = {1: {2, None}, 2: {1, 3, None}, 3: {2, 4, None}, 4: {3, None}}
+        for seed in range(50):
+            for node, p, _ in shaken(nodes, links, "2", seed):
+                self.assertIn(p, near[node])
+        with self.assertRaisesRegex(Fault, "shake 5: 1 to 4 nodes, or all"):
+            shaken(nodes, links, "5", 1)
+        self.assertEqual(broken(nodes, links), [(1, 2, True), (2, 3, True), (3, 4, True), (4, None, True)])
+        self.assertEqual(broken([1, 2, 3], [(1, 3), (2, 3), (1, 2)]), [(1, 3, True), (2, 3, True), (3, None, True)])
+        self.assertEqual(broken([1, 2, 3, 4], [(1, 2), (1, 3), (2, 3), (1, 4)])[3], (4, None, True))
+
+
+class Beside:
+    """A desk at which moves are granted while others are taken back."""
+
+    def __init__(self, later: list[int]) -> None:
+        self.closing = Daemon("central")
+        self.report = unittest.mock.Mock(privileged=[(node, "update") for node in (1, 2, 3, 4)])
+        self.book = unittest.mock.Mock(chosen={3: ("ana", "update"), 1: ("ben", "update")})
+        self.later, self.client, self.over, self.news = later, self, "", 0.0
+        self.done: list[object] = []
+
+    def release(self, node: int) -> None:
+        """A move is taken back."""
+        self.done.append(node)
+        del self.book.chosen[node]
+
+    def read(self) -> None:
+        """What was granted meanwhile."""
+        if self.later:
+            self.book.chosen[self.later.pop()] = ("cyd", "update")
+
+    def close(self) -> None:
+        """The close."""
+        self.done.append(f"close of {sorted(self.book.chosen)}")
+
+
+class Striking(unittest.TestCase):
+    """Which moves a close at the desk leaves."""
+
+    def test_central_takes_all_back_but_the_first(self) -> None:
+        desk = Beside([4, 2])
+        Striker().strike(desk)  # type: ignore[arg-type]
+        self.assertEqual(desk.done, [1, 2, 4, "close of [3]"])
+
+    def test_it_ends_where_each_is_asked_for_again(self) -> None:
+        desk = Beside([2] * 100)
+        Striker().strike(desk)  # type: ignore[arg-type]
+        self.assertEqual(desk.done[-1], "close of [2, 3]")
+        self.assertLess(len(desk.done), 10)
+
+
+class Desk(Cycle):
+    """Runs with the four bots of the cycle."""
+
+    def comes_back(self, daemon: str, *words: str) -> Path:
+        """Does the words, waits for the class each time, and ends; gives the folder."""
+        going = Going(self, CYCLE, "--daemon", daemon, *SERVE)
+        for name in KEYS:
+            self.bot(going, name)
+        going.until(BACK)
+        for word in words:
+            going.type(word)
+            going.until("^the registers of 7 nodes were set$")
+            going.until(BACK)
+        going.type("end")
+        self.assertEqual(going.ends(), 0, going.lines)
+        self.whole(going.folder)
+        marks = (going.folder / "marks.txt").read_text(encoding="utf-8")
+        told = [line for line in going.lines if re.search(BACK, line)]
+        self.assertEqual(re.findall(r"(?m)^place \d+: (.*)$", marks), told)
+        return going.folder
+
+    def steps(self, folder: Path) -> list[tuple[set[int], set[int]]]:
+        """Who was privileged before each close, and whose moves it applied."""
+        _, frames = frames_of(folder / "lab.toml", folder / "journal")
+        privileged, chosen = set(next(frames).state.privileged), set[int]()
+        found = []
+        for frame in frames:
+            if frame.event and frame.event.kind == "close":
+                found.append((privileged, chosen))
+            privileged, chosen = set(frame.state.privileged), set(frame.state.chosen)
+        return found
+
+    def test_central_lets_one_move_in_a_step(self) -> None:
+        """But for what is granted in the moment between the desk's last look and its close."""
+        steps = self.steps(self.comes_back("central", "break"))
+        self.assertLess(len(steps), 3 * sum(len(moved) == 1 for _, moved in steps))
+
+    def test_synchronous_waits_for_each(self) -> None:
+        self.assertTrue(all(moved == privileged for privileged, moved in self.steps(self.comes_back("synchronous", "break"))))
+
+    def test_a_coin_takes_moves_back(self) -> None:
+        steps = self.steps(self.comes_back("random:0.5", "break", "shake all 3"))
+        self.assertTrue(any(moved != privileged for privileged, moved in steps))
+
+    def test_words(self) -> None:
+        going = Going(self, CYCLE, "--close", "by-hand", *SERVE)
+        going.type("daemon synchronous")
+        going.until("^steps are closed synchronous$")
+        going.until(r"^waiting for .*\(gus\): ")
+        going.type("daemon fair")
+        going.until("^fair is none of central, synchronous, ")
+        going.type("shake 9")
+        going.until("^shake 9: 1 to 7 nodes, or all$")
+        going.type("shake 0")
+        going.until(r"^not understood; it is shake K\|all \[SEED\]$")
+        going.type("shake 2 5")
+        going.until("^the registers of 2 nodes were set$")
+        lab = labs.read(CYCLE)
+        with Client(going.port, "gus", KEYS["gus"]) as gus:
+            seen = gus.look(1)
+        wanted = {node: (p, m) for node, p, m in shaken([node.id for node in lab.nodes], lab.links, "2", 5)}
+        if 1 in wanted:
+            self.assertEqual((seen.p, seen.m), wanted[1])
+        for _ in range(2):
+            going.type("end")
+        self.assertEqual(going.ends(), 0, going.lines)
+
+
+if __name__ == "__main__":
+    unittest.main()

@@ -1,0 +1,79 @@
+"""Connections to the port of a page: not too many at a time, and none that takes its time."""
+from __future__ import annotations
+
+import http.client
+import queue
+import random
+import socket
+import threading
+import time
+import unittest
+
+from classroom.frames import State
+from classroom.lab import read
+from classroom.projector import ASKING, CONNECTIONS, Pages, open_pages
+from classroom.watch import Present
+from tests.classroom.help import CYCLE, LIMIT
+
+
+class Doors(unittest.TestCase):
+    """Pages of a run that nobody plays."""
+
+    def setUp(self) -> None:
+        self.threads = threading.active_count()
+        self.pages: Pages = open_pages(random.randint(20000, 50000), "cycle", read(CYCLE), queue.SimpleQueue())
+        self.pages.show(Present(State(0, 0, frozenset()), "by-hand"), print)
+        self.addCleanup(self.pages.stop)
+        self.port = self.pages.server_port
+
+    def connect(self) -> socket.socket:
+        """A connection that says nothing yet."""
+        it = socket.create_connection(("127.0.0.1", self.port), LIMIT)
+        self.addCleanup(it.close)
+        return it
+
+    def asks(self) -> int:
+        """The status of an answer, or 0 where there is none."""
+        connection = http.client.HTTPConnection("127.0.0.1", self.port, timeout=LIMIT)
+        try:
+            connection.request("GET", "/")
+            return connection.getresponse().status
+        except (OSError, http.client.HTTPException):
+            return 0
+        finally:
+            connection.close()
+
+    def test_idle_connections_use_up_no_threads(self) -> None:
+        self.assertEqual(self.asks(), 404)
+        begun = time.monotonic()
+        idle = [self.connect() for _ in range(5 * CONNECTIONS)]
+        most = 0
+        while (status := self.asks()) == 0:
+            most = max(most, threading.active_count())
+            self.assertLess(time.monotonic() - begun, LIMIT)
+            time.sleep(0.05)
+        self.assertEqual(status, 404)
+        self.assertLessEqual(most, self.threads + CONNECTIONS + 1)
+        self.assertGreater(time.monotonic() - begun, ASKING / 2)
+        for it in idle:
+            self.assertEqual(it.recv(1), b"")
+
+    def test_a_request_in_pieces_has_five_seconds(self) -> None:
+        begun, it = time.monotonic(), self.connect()
+        it.settimeout(0.5)
+        for byte in b"GET / HTTP/1.1\r\nHost: 127.0.0.1\r\n" * 100:
+            self.assertLess(time.monotonic() - begun, LIMIT)
+            try:
+                it.sendall(bytes([byte]))
+                if not it.recv(1):
+                    break
+            except TimeoutError:
+                continue
+            except ConnectionError:
+                break
+        self.assertGreater(time.monotonic() - begun, ASKING / 2)
+        self.assertEqual(self.asks(), 404)
+
+
+if __name__ == "__main__":
+    unittest.main()

@@ -1,0 +1,169 @@
+"""`./class experiment`: its table, its chart, and a run that breaks what is proved, which is kept whole."""
+from __future__ import annotations
+
+import csv
+import json
+import random
+import signal
+import subprocess
+import sys
+import unittest
+import unittest.mock
+from functools import partial
+from pathlib import Path
+from xml.etree import ElementTree
+
+from classroom import experiment, measuring
+from classroom import lab as labs
+from classroom.daemons import Daemon, heads, movers
+from classroom.measuring import Row, Setting, drawn, runs
+from classroom.program import TOP, call
+from classroom.rounds import Recovery, most_moves, most_rounds
+from tests.classroom.help import LIMIT, InRoom, words
+
+TINY = ("--family", "path,star,random", "--nodes", "3..5", "--daemon", "central,synchronous,random:0.5", "--runs", "2")
+
+
+def read(path: Path) -> list[dict[str, str]]:
+    """The rows of a table."""
+    with path.open(encoding="utf-8", newline="") as it:
+        return list(csv.DictReader(it))
+
+
+class Counts(unittest.TestCase):
+    """Rounds and coins."""
+
+    def test_rounds_by_their_definition(self) -> None:
+        one = Recovery([1, 2, 3])
+        one.step([1], [2, 3])
+        self.assertEqual(one.rounds, 0)
+        one.step([2], [1, 3])  # 3 is privileged all the time.
+        self.assertEqual(one.rounds, 0)
+        one.step([3], [1])
+        self.assertEqual(one.rounds, 1)
+        one.step([1], [])
+        self.assertEqual((one.moves, one.closes, one.rounds), (4, 4, 2))
+        # Who isn't privileged at some point has had its turn.
+        other = Recovery([1, 2])
+        other.step([1], [3])
+        other.step([3], [])
+        self.assertEqual((other.moves, other.closes, other.rounds), (2, 2, 2))
+        self.assertEqual([most_rounds(nodes) for nodes in range(1, 6)], [1, 4, 5, 8, 9])
+        self.assertEqual([most_moves(*sizes) for sizes in ((1, 0), (4, 3), (4, 4), (4, 6), (5, 10))], [3, 18, 20, 20, 27])
+
+    def test_daemons_choose_as_they_say(self) -> None:
+        chance = random.Random(1)
+        self.assertEqual(movers(Daemon("synchronous"), [3, 1, 2], chance), [3, 1, 2])
+        self.assertEqual({len(movers(Daemon("central"), [3, 1, 2], chance)) for _ in range(50)}, {1})
+        self.assertEqual({node for _ in range(50) for node in movers(Daemon("central"), [3, 1, 2], chance)}, {1, 2, 3})
+        counts = [len(heads(range(100), 0.3, chance)) for _ in range(100)]
+        self.assertTrue(2500 < sum(counts) < 3500)
+        self.assertEqual(len(heads([7], 1e-9, chance)), 1)
+
+
+class Runs(InRoom):
+    """Runs over the program."""
+
+    def test_the_same_seed_gives_the_same_row_in_any_company(self) -> None:
+        setting = Setting("cycle", 7, Daemon("random", 0.5), "random")
+        together = [row for row, _ in runs(setting, [3, 4, 5])]
+        self.assertEqual([row for row, _ in runs(setting, [5])], together[2:])
+        self.assertTrue(all(row.stable and row.moves > 0 for row in together))
+
+    def test_one_program_after_another_where_events_are_used_up(self) -> None:
+        setting = Setting("path", 5, Daemon("central"), "random")
+        wanted = runs(setting, list(range(6)))
+        with unittest.mock.patch.object(labs, "MOST_EVENTS", 250):
+            self.assertEqual(runs(setting, list(range(6))), wanted)
+
+    def test_a_run_that_breaks_what_is_proved_is_kept_whole(self) -> None:
+        setting = Setting("cycle", 6, Daemon("synchronous"), "random")
+        with unittest.mock.patch.object(measuring, "most_rounds", return_value=0):
+            found = [(row, script) for row, script in runs(setting, [8, 9]) if row.rounds]
+        row, script = found[-1]
+        folder = experiment.keep_news(self.room / "runs.csv", row, script)
+        answer = call("script", folder / "lab.toml", folder / "script", folder / "journal")
+        replies = [json.loads(line.partition(" ")[2]) for line in answer.output.splitlines()]
+        self.assertTrue(all("ok" in reply for reply in replies))
+        self.assertEqual(sum(reply["ok"] == "close" for reply in replies), row.closes)
+        self.assertEqual(sum(reply["ok"] == "move" for reply in replies), row.moves)
+        self.assertTrue(replies[-1]["stable"])
+        self.assertRegex(call("audit", folder / "lab.toml", folder / "journal").output, ", stable$")
+
+    def test_clean_starts_are_those_of_the_lab(self) -> None:
+        made = drawn(Setting("tree", 6, Daemon("central"), "clean"), 1)
+        self.assertTrue(all(node.p is None and not node.m for node in made.nodes))
+
+
+class Words(InRoom):
+    """The word itself."""
+
+    def test_a_table_and_a_chart_and_going_on(self) -> None:
+        table, plot = self.room / "runs.csv", self.room / "runs.svg"
+        done = words("experiment", *TINY, "--csv", table, "--plot", plot)
+        self.assertEqual(done.returncode, 0, done.stdout + done.stderr)
+        self.assertIn("54 of 54 runs, all within what is proved", done.stdout)
+        rows = read(table)
+        self.assertEqual(list(rows[0]), "family,nodes,links,daemon,start,seed,moves,closes,rounds,stable".split(","))
+        self.assertEqual(len(rows), 54)
+        for row in rows:
+            nodes, links = int(row["nodes"]), int(row["links"])
+            self.assertLessEqual(int(row["moves"]), 3 * nodes + 2 * links)
+            self.assertLessEqual(int(row["rounds"]), 2 * nodes)
+            self.assertLessEqual(int(row["closes"]), int(row["moves"]))
+            self.assertEqual(row["stable"], "true")
+            if row["daemon"] == "central":
+                self.assertEqual(row["closes"], row["moves"])
+            if row["daemon"] == "synchronous":
+                self.assertEqual(row["closes"], row["rounds"])
+        picture = ElementTree.parse(plot).getroot()
+        titles = [each.text for each in picture.iter("{http://www.w3.org/2000/svg}text") if each.get("class") == "title"]
+        self.assertEqual(titles, [f"{family}, {daemon}" for daemon in ("central", "random:0.5", "synchronous")
+                                  for family in ("path", "random", "star")])
+        # Interrupted in the middle of a row it goes on, and gives what a whole one gives.
+        lines = table.read_text(encoding="utf-8").splitlines(keepends=True)
+        table.write_text("".join(lines[:20]) + lines[20][:9], encoding="utf-8")
+        again = words("experiment", *TINY, "--csv", table)
+        self.assertIn("19 runs are in ", again.stdout)
+        self.assertEqual(sorted(table.read_text(encoding="utf-8").splitlines()), sorted(line.rstrip("\n") for line in lines))
+
+    def test_an_interrupt_keeps_what_is_there(self) -> None:
+        table = self.room / "runs.csv"
+        going = subprocess.Popen([sys.executable, TOP / "class", "experiment", "--nodes", "30", "--runs", "20000", "--csv", table],
+                                 stdout=subprocess.PIPE, stderr=subprocess.STDOUT, text=True,
+                                 preexec_fn=partial(signal.signal, signal.SIGINT, signal.SIG_DFL))
+        while not table.exists() or table.read_text(encoding="utf-8").count("\n") < 2:
+            self.assertIsNone(going.poll())
+        going.send_signal(signal.SIGINT)
+        output, _ = going.communicate(timeout=LIMIT)
+        self.assertEqual(going.returncode, 4, output)
+        self.assertIn("interrupted; the same words go on with it", output)
+        self.assertLess(0, len(read(table)))
+
+    def test_what_is_no_experiment(self) -> None:
+        other = self.file("other.csv", "name,mark\nana,1\n")
+        rows: tuple[tuple[tuple[str | Path, ...], str], ...] = (
+            (("--csv", other), "is no table of an experiment"),
+            (("--daemon", "when-idle:1"), "nobody is waited for here; central, synchronous or random:P"),
+            (("--nodes", "9..3"), "9..3 is no A..B within 1..256"),
+            (("--family", "ring"), "no family ring"),
+        )
+        for given, why in rows:
+            done = words("experiment", "--csv", self.room / "runs.csv", *given)
+            self.assertEqual(done.returncode, 1)
+            self.assertIn(why, done.stderr)
+        self.assertEqual(other.read_text(), "name,mark\nana,1\n")
+
+
+class Forms(unittest.TestCase):
+    """A row, there and back."""
+
+    def test_rows_are_read_as_they_are_written(self) -> None:
+        row = Row("random:6:9", 6, 9, "random:0.5", "hurt", 3, 12, 9, 4, True)
+        line = experiment.line_of(row)
+        self.assertEqual(line, "random:6:9,6,9,random:0.5,hurt,3,12,9,4,true\n")
+        self.assertEqual(experiment.row_of(dict(zip(experiment.COLUMNS, line.strip().split(",")))), row)
+
+
+if __name__ == "__main__":
+    unittest.main()

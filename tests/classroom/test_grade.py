@@ -1,0 +1,194 @@
+"""`./class grade`: right bots pass each case, bots of known faults fail the case that is theirs, and nothing is left of them."""
+from __future__ import annotations
+
+import concurrent.futures
+import json
+import shutil
+import signal
+import subprocess
+import sys
+import tempfile
+import threading
+import time
+import unittest
+from pathlib import Path
+from xml.etree import ElementTree
+
+from classroom import suites
+from classroom.bots import Bot
+from classroom.daemons import Daemon
+from classroom.program import TOP, call
+from classroom.trial import Limits, Result, tried
+from tests.classroom.help import EXAMPLES, LIMIT, InRoom, words
+
+FAULTY = TOP / "tests/classroom/bots/faulty.py"
+SLEEP = b"98765.25"
+# Each fault with the case that is its own, and why that isn't passed.
+OWN = {
+    "never-updates": ("path-4", r"isn't stable after 8 seconds: waiting for \d \(bot\): update"),
+    "marries-anyone": ("alone-path-4", r"move \d marriage \d is denied as guard, clause 4: .*; (update|seduction|abandonment) would be"),
+    "asks-always": ("alone-cycle-4", r"asked for \d+ moves where nothing was to ask"),
+    "floods": ("path-4", "it floods: "),
+    "hangs": ("path-4", r"isn't stable after 8 seconds: waiting for "),
+    "ignores-faults": ("complete-4", r"a fault at \d isn't taken up after 8 seconds: waiting for \d \(bot\)"),
+    "needs-order": ("alone-path-4", r"isn't stable after 8 seconds: waiting for "),
+    "sulks": ("random-6", "its connection was closed, and in 8 seconds it neither came again nor ended"),
+    "binary": ("path-4", r"malformed: \\x80"),
+    "never-ends-a-line": ("path-4", "no hello in 8 seconds"),
+    "forks": ("path-4", "it ended by itself, status 0"),
+    "bombs": ("path-4", "it was ended: more than 64 processes"),
+    "eats-memory": ("path-4", "it was ended: more than 200 megabytes of memory"),
+    "pretends": ("path-4", "no hello in 8 seconds"),
+}
+PLANS = {plan.name: plan for plan in suites.SMALL}
+
+
+def faulty(fault: str) -> Bot:
+    """The bot of a fault."""
+    return Bot.of(f"{sys.executable} {FAULTY} {fault}")
+
+
+def case(bot: Bot, plan: str, limits: Limits, room: Path) -> Result:
+    """How a bot does in a case of `small`."""
+    it = PLANS[plan]
+    with tempfile.TemporaryDirectory() as own:
+        found = tried(bot, suites.planned(it, 1, it.daemon), limits, Path(own), room / bot.name / plan, threading.Event())
+    assert found is not None
+    return found
+
+
+def left_behind() -> list[str]:
+    """Processes that a bot started and that go on."""
+    found = []
+    for each in Path("/proc").iterdir():
+        try:
+            if each.name.isdecimal() and SLEEP in (each / "cmdline").read_bytes().split(b"\0"):
+                found.append(each.name)
+        except OSError:
+            continue
+    return found
+
+
+class Faults(InRoom):
+    """Bots of known faults."""
+
+    def test_each_fails_the_case_that_is_its_own(self) -> None:
+        with concurrent.futures.ThreadPoolExecutor(len(OWN)) as pool:
+            going = {fault: pool.submit(case, faulty(fault), plan, Limits(8, 200), self.room) for fault, (plan, _) in OWN.items()}
+        for fault, (_, why) in OWN.items():
+            result = going[fault].result()
+            self.assertFalse(result.passed, fault)
+            self.assertRegex(result.why, why, fault)
+        self.assertEqual(left_behind(), [])
+
+    def test_a_right_bot_passes_the_same_cases(self) -> None:
+        plans = sorted({plan for plan, _ in OWN.values()})
+        with concurrent.futures.ThreadPoolExecutor(len(plans)) as pool:
+            for result in pool.map(lambda plan: case(faulty("right"), plan, Limits(60), self.room), plans):
+                self.assertTrue(result.passed, result)
+                self.assertEqual(result.why, "")
+                self.assertLessEqual(result.denied.keys(), {"stale", "chosen"})
+                folder = self.room / "python3 faulty.py right" / result.lab
+                answer = call("audit", folder / "lab.toml", folder / "journal")
+                self.assertRegex(answer.output, "^ok: .*, stable$")
+                self.assertIn("</html>", (folder / "run.html").read_text(encoding="utf-8"))
+                self.assertIn('"ok":"hello","who":"bot"', (folder / "conversation.txt").read_text(encoding="utf-8"))
+                self.assertLess(0, result.moves)
+
+
+class Cases(unittest.TestCase):
+    """What a case is drawn from."""
+
+    def test_a_seed_gives_the_same_labs_but_for_the_keys(self) -> None:
+        for plan in suites.FULL:
+            one, again, other = (suites.planned(plan, seed, plan.daemon).made for seed in (1, 1, 2))
+            self.assertEqual((one.nodes, one.links), (again.nodes, again.links))
+            self.assertNotEqual(one.students, again.students)
+            if plan.start == "random":
+                self.assertNotEqual((one.nodes, one.links), (other.nodes, other.links))
+        names = [suites.planned(plan, 1, plan.daemon).name() for plan in suites.FULL]
+        self.assertEqual(len(set(names)), len(names))
+        self.assertLessEqual(60, len(names))
+
+    def test_daemons_are_read(self) -> None:
+        for word in ("central", "synchronous", "random:0.25", "every:2", "when-idle:0.5", "by-hand"):
+            self.assertEqual(Daemon.of(word).spelled(), word)
+        for word in ("", "fair", "central:1", "random:0", "random:1.5", "every:x", "when-idle:-1"):
+            with self.assertRaisesRegex(ValueError, "is none of central"):
+                Daemon.of(word)
+
+
+class Calls(InRoom):
+    """The word itself."""
+
+    @unittest.skipUnless(shutil.which("java"), "no java: Bot.java wasn't graded")
+    def test_the_examples_pass_all_of_small(self) -> None:
+        files = {form: self.room / form for form in ("json", "junit", "gradescope")}
+        done = words("grade", EXAMPLES / "bot.py", EXAMPLES / "Bot.java", "--timeout", "120", "--into", self.room / "grades",
+                     *(word for form, file in files.items() for word in (f"--{form}", str(file))))
+        self.assertEqual(done.returncode, 0, done.stdout + done.stderr)
+        self.assertIn("bot.py: 12 of 12 cases passed\nBot.java: 12 of 12 cases passed\n", done.stdout)
+        cases = json.loads(files["json"].read_text(encoding="utf-8"))
+        self.assertEqual(len(cases), 24)
+        self.assertEqual(cases[0].keys(), {"bot", "lab", "daemon", "seed", "passed", "why", "moves", "denied"})
+        self.assertEqual([each["bot"] for each in cases], ["bot.py"] * 12 + ["Bot.java"] * 12)
+        self.assertEqual([each["lab"] for each in cases], [plan.name for plan in suites.SMALL] * 2)
+        suite = ElementTree.parse(files["junit"]).getroot()
+        self.assertEqual([(each.get("name"), each.get("failures")) for each in suite], [("bot.py", "0"), ("Bot.java", "0")])
+        tests = json.loads(files["gradescope"].read_text(encoding="utf-8"))["tests"]
+        self.assertEqual(sum(each["score"] for each in tests), 24)
+
+    def test_own_labs_and_bots_that_are_none(self) -> None:
+        labs = self.room / "labs"
+        labs.mkdir()
+        shutil.copy(EXAMPLES / "path.toml", labs)
+        shutil.copy(EXAMPLES / "shared.toml", labs)
+        (labs / "none.toml").write_text("events = 3\n")
+        table = self.room / "cases.json"
+        done = words("grade", "no-such-bot", f"python3 {FAULTY} right", "--labs", labs, "--daemon", "synchronous", "--timeout", "60",
+                     "--into", self.room / "grades", "--json", table)
+        self.assertEqual(done.returncode, 5, done.stdout + done.stderr)
+        self.assertRegex(done.stdout, r"(?m)^class: .*none.toml: lab: .* is missing")
+        self.assertRegex(done.stdout, r"(?m)^class: no-such-bot: there is no such program")
+        self.assertIn("no-such-bot: 0 of 2 cases passed\npython3 faulty.py right: 2 of 2 cases passed\n", done.stdout)
+        self.assertEqual([each["passed"] for each in json.loads(table.read_text(encoding="utf-8"))], [False, False, True, True])
+
+    def test_an_interrupted_grade_keeps_what_it_has_and_leaves_nothing_running(self) -> None:
+        table = self.room / "cases.json"
+        bots = [f"python3 {FAULTY} {fault}" for fault in ("hangs", "bombs")]
+        going = subprocess.Popen(
+            [sys.executable, TOP / "class", "grade", *bots, "--into", self.room / "grades", "--json", table, "--timeout", str(LIMIT),
+             "--at-once", "24"], stdout=subprocess.PIPE, stderr=subprocess.STDOUT, text=True)
+        assert going.stdout is not None
+        lines = []
+        for line in going.stdout:  # Those that start more and more are ended.
+            lines.append(line)
+            if sum("more than 64 processes" in each for each in lines) == 12:
+                break
+        going.send_signal(signal.SIGINT)
+        lines += list(going.stdout)
+        going.stdout.close()
+        self.assertEqual(going.wait(LIMIT), 4, lines)
+        self.assertIn("interrupted: 12 of 24 cases\n", lines)
+        self.assertEqual(len(json.loads(table.read_text(encoding="utf-8"))), 12)
+        self.nothing_left()
+
+    def test_a_grade_that_is_killed_leaves_nothing_running(self) -> None:
+        going = subprocess.Popen([sys.executable, TOP / "class", "grade", f"python3 {FAULTY} leaves", "--into", self.room / "grades"],
+                                 stdout=subprocess.DEVNULL)
+        while len(left_behind()) < 3:
+            time.sleep(0.05)
+        going.kill()
+        going.wait(LIMIT)
+        self.nothing_left()
+
+    def nothing_left(self) -> None:
+        """Wants that nothing goes on which a bot started."""
+        end = time.monotonic() + LIMIT
+        while left_behind():
+            self.assertLess(time.monotonic(), end)
+            time.sleep(0.05)
+
+
+if __name__ == "__main__":
+    unittest.main()

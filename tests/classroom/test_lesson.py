@@ -1,0 +1,177 @@
+"""A lesson of two hours, played by script: late students, a wrong key, faults, a crash, a full disk, a closed terminal."""
+from __future__ import annotations
+
+import csv
+import io
+import os
+import random
+import re
+import signal
+import subprocess
+import sys
+import time
+import unittest
+from collections import Counter
+from pathlib import Path
+
+from classroom.folders import Process, Record
+from classroom.lab import Lab, read
+from classroom.program import TOP, call, host
+from tests.classroom.help import LIMIT, Going, InRoom, InTerminal, words
+
+BOT = TOP / "examples/bot.py"
+NAMES = ("Zoë,Müller", "Jonas,Ek", "Ana,Lima", "Gus,Roy", "Ida,Berg", "Tim,Ode", "Eva,Sol", "Bo,Dahl", "Kim,Vo", "Pia,Rot", "Leo,Wolf", "Uma,Das")
+LATE = ("pia-rot", "leo-wolf", "uma-das")
+
+
+@unittest.skipUnless(host(), "not tried: no host is built")
+class Lesson(InRoom):
+    """Twelve students on a grid."""
+
+    def setUp(self) -> None:
+        super().setUp()
+        self.list = self.file("names.csv", "First name,Surname,ID number\n" + "".join(f"{name},{number}\n" for number, name in enumerate(NAMES, 101)))
+        self.file_of_lab, self.port = self.room / "maths.toml", random.randint(20000, 50000)
+        made = words("new", self.file_of_lab, "--students", self.list, "--family", "grid:4x3", "--start", "hurt", "--port", str(self.port))
+        self.assertEqual(made.returncode, 0, made.stderr)
+        self.assertEqual(words("check", self.file_of_lab).returncode, 0)
+        self.lab: Lab = read(self.file_of_lab)
+
+    def bots(self, names: list[str]) -> list[subprocess.Popen[str]]:
+        """Bots of these students, by their slips."""
+        started = [
+            subprocess.Popen([sys.executable, BOT, self.slip(name)], stdin=subprocess.DEVNULL, stdout=subprocess.DEVNULL,
+                             stderr=subprocess.PIPE, text=True)
+            for name in names
+        ]
+        for bot in started:
+            self.addCleanup(bot.communicate)
+            self.addCleanup(bot.kill)
+        return started
+
+    def slip(self, name: str) -> Path:
+        """A student's slip."""
+        return self.room / "maths-slips" / f"{name}.slip"
+
+    def are_told_of_the_end(self, bots: list[subprocess.Popen[str]]) -> None:
+        """Wants that bots ended where their server or its grants did, and said so, one that came too late for it too."""
+        for bot in bots:
+            said = bot.communicate(timeout=LIMIT)[1]
+            why = {0: "the run is over, or the connection was lost", 4: f"no server at port {self.port}",
+                   6: "nothing is granted any longer: tell your teacher"}
+            self.assertIn(why.get(bot.returncode, "another status"), said)
+
+    def journal(self, folder: Path) -> list[str]:
+        """The whole lines of its journal."""
+        return [line.decode("ascii") for line in (folder / "journal").read_bytes().split(b"\n")[:-1]]
+
+    def applied(self, folder: Path) -> Counter[str]:
+        """How many moves of each student were applied, counted here."""
+        chosen: dict[str, str] = {}
+        found: Counter[str] = Counter()
+        for line in self.journal(folder):
+            word, *rest = line.split(" ")[2:]
+            if word == "grant":
+                chosen[rest[1]] = rest[0]
+            elif word == "close":
+                found.update(chosen.values())
+            if word != "grant":
+                chosen.clear()
+        return found
+
+    def test_from_the_list_to_the_marks(self) -> None:
+        folder = self.first_half()
+        self.full_disk(folder)
+        self.second_half(folder)
+        self.marks(folder)
+
+    def first_half(self) -> Path:
+        """Most come, one with a wrong key, some late; two faults; then the server is killed."""
+        going = Going(self, self.file_of_lab, "--close", "every:0.3", "--port", str(self.port))
+        self.assertEqual(going.port, self.port)
+        bots = self.bots([name for name in self.lab.students if name not in LATE])
+        wrong = self.file("wrong.slip", self.slip("gus-roy").read_text(encoding="utf-8").replace("key ", "key x"))
+        done = subprocess.run([sys.executable, BOT, wrong], capture_output=True, text=True, check=False, timeout=LIMIT)
+        self.assertEqual((done.returncode, done.stderr), (2, "bot.py: name and key don't match: take both from your slip\n"))
+        going.until("^configuration ")
+        going.type("fault 1 2 true")
+        going.until("fault 1 2 true")
+        bots += self.bots(list(LATE))
+        going.until("^connected: ")
+        going.type("fault 6 null true")
+        going.until("fault 6 - true")
+        going.until("^configuration ")
+        os.kill(going.server(), signal.SIGKILL)
+        self.assertEqual(going.ends(), 4, going.lines)
+        self.assertIn(f"to go on: ./class run --resume {going.folder}", going.lines)
+        self.are_told_of_the_end(bots)
+        return going.folder
+
+    def full_disk(self, folder: Path) -> None:
+        """Goes on, until the disk takes no more."""
+        most = (folder / "journal").stat().st_size // 1024 + 1
+        limited = self.file("host", f'#!/bin/bash\ntrap "" XFSZ\nulimit -f {most}\nexec "{host()}" "$@"\n')
+        limited.chmod(0o755)
+        going = Going(self, None, "run", "--resume", folder, MML_HOST=str(limited))
+        self.assertEqual(going.port, self.port)
+        bots = self.bots(list(self.lab.students))
+        going.type("\n".join(["fault 11 null true"] * 60))
+        going.until("^nothing more is granted: journal: no line can be written to it; make room on the disk, then ./class run --resume ")
+        self.assertEqual(going.ends(), 4, going.lines)
+        self.are_told_of_the_end(bots)
+
+    def second_half(self, folder: Path) -> None:
+        """Goes on in a terminal, which is closed; the desk is taken, and all end where the network is stable."""
+        terminal = InTerminal(self, "run", "--resume", folder)
+        terminal.type(b"fault 3 null true\n", b": fault 3 - true; ")
+        bots = self.bots(list(self.lab.students))
+        os.close(terminal.ours)
+        self.told(folder, f"the terminal went away, and the run goes on: ./class attach {folder} takes it")
+        self.assertIsNone(terminal.process.poll())
+        record = Record.read(folder)
+        assert record is not None
+        self.assertTrue(record.left)
+        going = Going(self, None, "attach", folder)
+        self.assertEqual(terminal.process.wait(LIMIT), 4)
+        for name in self.lab.students:  # Who had nothing to do is given something.
+            if self.applied(folder)[name] == 0:
+                going.type(f"fault {self.lab.nodes_of(name)[0]} null true")
+                going.until("^configuration .*: fault ")
+        end = time.monotonic() + LIMIT
+        while any(self.applied(folder)[name] == 0 for name in self.lab.students):
+            self.assertLess(time.monotonic(), end)
+            time.sleep(0.1)
+        going.type("fault 5 null true")
+        going.until("fault 5 - true")
+        going.until("; stable, ")
+        going.type("end")
+        self.assertEqual(going.ends(), 0, going.lines)
+        self.assertFalse(Process.of(record.server.number) == record.server)
+        self.are_told_of_the_end(bots)
+
+    def told(self, folder: Path, line: str) -> None:
+        """Waits until the run has told a line, with its hour and minute."""
+        end = time.monotonic() + LIMIT
+        while not re.search(rf"(?m)^\d\d:\d\d {re.escape(line)}$", (folder / "run.txt").read_text(encoding="utf-8")):
+            self.assertLess(time.monotonic(), end)
+            time.sleep(0.05)
+
+    def marks(self, folder: Path) -> None:
+        """Marks for all, in the list's order and form, as the journal has them."""
+        self.assertRegex(call("audit", folder / "lab.toml", folder / "journal").output, "^ok: .*, stable\n$")
+        done = words("mark", folder, "--roster", self.list, "--total")
+        self.assertEqual((done.returncode, done.stderr), (0, ""))
+        rows = list(csv.DictReader(io.StringIO(done.stdout)))
+        self.assertEqual([f"{row['First name']},{row['Surname']}" for row in rows], list(NAMES))
+        self.assertEqual([row["ID number"] for row in rows], [str(number) for number in range(101, 113)])
+        applied = self.applied(folder)
+        self.assertEqual([int(row["applied"]) for row in rows], [applied[name] for name in self.lab.students])
+        self.assertGreater(min(int(row["applied"]) for row in rows), 0)
+        kept = (folder / "run.txt").read_text(encoding="utf-8").splitlines()
+        self.assertTrue(all(re.match(r"\d\d:\d\d ", line) for line in kept), kept)
+        for line in ("fault 1 2 true", "fault 6 - true", "fault 3 - true"):
+            self.assertTrue(any(line in each for each in kept), line)
+
+
+if __name__ == "__main__":
+    unittest.main()

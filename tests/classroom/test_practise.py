@@ -1,0 +1,100 @@
+"""`./class practise`: a student alone, whose denials are explained."""
+from __future__ import annotations
+
+import re
+import subprocess
+import sys
+import unittest
+from pathlib import Path
+
+from classroom.client import Client, Denied, Slip
+from classroom.program import TOP, call
+from tests.classroom.help import EXAMPLES, LIMIT, InRoom, words
+
+FAULTY = TOP / "tests/classroom/bots/faulty.py"
+
+
+class Practise(InRoom):
+    """The word."""
+
+    def practises(self, *given: str | Path) -> subprocess.CompletedProcess[str]:
+        """Calls it to its end."""
+        return words("practise", *given, "--into", self.room / "runs")
+
+    def folder(self, output: str) -> Path:
+        """The folder of a run that is over."""
+        found = re.search(r"(?m)^page: (\S+)/run.html; what was said: (\S+)$", output)
+        assert found is not None, output
+        return Path(found[1])
+
+    def test_a_right_bot_comes_to_a_stable_end(self) -> None:
+        done = self.practises(EXAMPLES / "bot.py", "--family", "grid:3x2", "--node", "2,5", "--daemon", "synchronous", "--seed", "4")
+        self.assertEqual(done.returncode, 0, done.stdout + done.stderr)
+        self.assertRegex(done.stdout, r"^grid:3x2 of 6 nodes, hurt, daemon synchronous; you: 2, 5\n")
+        told = re.search(r"(?m)^stable: pairs (.*); (\d+) moves, (\d+) closes?, (\d+) rounds?; proved: at most 32 moves, 12 rounds$", done.stdout)
+        assert told is not None, done.stdout
+        steps = re.findall(r"(?m)^configuration \d+: (.*); ", done.stdout)
+        self.assertEqual(len(steps), int(told[3]))
+        self.assertEqual(sum(len(step.split(", ")) for step in steps), int(told[2]))
+        self.assertLessEqual(int(told[4]), int(told[3]))
+        folder = self.folder(done.stdout)
+        answer = call("audit", folder / "lab.toml", folder / "journal")
+        self.assertRegex(answer.output, f"^ok: .* configuration {told[3]}, stable$")
+        self.assertIn("</html>", (folder / "run.html").read_text(encoding="utf-8"))
+
+    def test_denials_are_explained_and_what_hangs_is_told(self) -> None:
+        done = self.practises(f"python3 {FAULTY} marries-anyone", "--family", "path", "--nodes", "4", "--node", "1,2,3,4",
+                              "--start", "clean", "--daemon", "by-hand")
+        self.assertEqual(done.returncode, 5, done.stdout + done.stderr)
+        self.assertIn("\nyou: move 1 marriage 2 is denied as guard, clause 4: the guard of this rule does not hold; "
+                      "node 1 has p null, m false, its neighbours are 2 (p null, m false); seduction would be granted there\n", done.stdout)
+        self.assertIn("\nyou: the program has ended, status 1\n", done.stdout)
+        self.assertRegex(done.stdout, r"(?m)^it hangs: no program is left, and the class waits for 1 \(you\): seduction, ")
+
+    def test_two_bots_play_together(self) -> None:
+        bot = f"python3 {FAULTY} right"
+        done = self.practises(bot, bot, "--family", "star", "--nodes", "5", "--start", "random", "--daemon", "central")
+        self.assertEqual(done.returncode, 0, done.stdout + done.stderr)
+        self.assertRegex(done.stdout, r"; you-1: \d, \d; you-2: \d, \d\n")
+
+    def test_without_a_bot_a_port_waits(self) -> None:
+        going = subprocess.Popen(
+            [sys.executable, TOP / "class", "practise", "--family", "path", "--nodes", "2", "--node", "1", "--start", "clean",
+             "--daemon", "central", "--into", self.room / "runs"], stdout=subprocess.PIPE, text=True)
+        assert going.stdout is not None
+        self.addCleanup(going.kill)
+        lines = iter(going.stdout)
+        told = next(line for line in lines if line.startswith("port "))
+        slip = Path(told.rpartition("with the slip ")[2].strip())
+        nodes = Slip.read(slip).nodes
+        with Client.from_slip(slip) as me:
+            with self.assertRaises(Denied):
+                me.look(2)
+            for _ in range(LIMIT * 10):
+                look = me.look(nodes[0])
+                if look.rule is None and look.m:
+                    break
+                if look.rule and not look.chosen:
+                    me.move(look)
+        rest = list(lines)
+        self.assertEqual(going.wait(LIMIT), 0)
+        going.stdout.close()
+        self.assertTrue(any(line.startswith("you: look 2 is denied as not-owner, clause 1: you do not own this node") for line in rest), rest)
+        self.assertTrue(any(line.startswith("stable: pairs 1-2; ") for line in rest), rest)
+
+    def test_words_that_fit_no_network(self) -> None:
+        rows: tuple[tuple[tuple[str | Path, ...], str], ...] = (
+            (("no-such-program",), "no-such-program: there is no such program"),
+            ((EXAMPLES / "bot.py", "--node", "9"), "--node 9: the nodes are 1 to 7"),
+            ((EXAMPLES / "bot.py", "--family", "ring"), "no family ring"),
+            ((EXAMPLES / "bot.py", "--daemon", "fair"), "fair is none of central, "),
+        )
+        for given, why in rows:
+            done = self.practises(*given)
+            self.assertEqual(done.returncode, 1)
+            self.assertIn(why, done.stderr)
+            self.assertFalse((self.room / "runs").exists())
+
+
+if __name__ == "__main__":
+    unittest.main()

@@ -1,0 +1,96 @@
+"""The words of `./class`: each with its help and an example, completed by bash, and those that need no run."""
+from __future__ import annotations
+
+import re
+import subprocess
+import unittest
+from pathlib import Path
+
+from classroom.client import Slip
+from classroom.lab import document, read
+from classroom.program import TOP
+from classroom.words import parser
+from tests.classroom.help import LIMIT, InRoom, words
+
+COMPLETE = """
+source operate/class.bash
+COMP_WORDS=(./class "$@") COMP_CWORD=$#
+_class_words ./class "${!#}"
+printf '%s\\n' "${COMPREPLY[@]}"
+"""
+
+
+def all_words() -> list[str]:
+    """The words, as the parser has them."""
+    found: dict[str, object] = next(action for action in parser()._actions if action.dest == "work" or action.choices).choices  # type: ignore[assignment]
+    return list(found)
+
+
+class Helped(unittest.TestCase):
+    """Help and completion."""
+
+    def completed(self, *typed: str) -> set[str]:
+        """What bash offers after these words."""
+        done = subprocess.run(["bash", "-c", COMPLETE, "bash", *typed], cwd=TOP, capture_output=True, text=True, check=True, timeout=LIMIT)
+        self.assertEqual(done.stderr, "")
+        return set(done.stdout.split())
+
+    def test_each_word_is_told_with_an_example(self) -> None:
+        self.assertGreaterEqual(len(all_words()), 8)
+        for word in all_words():
+            said = " ".join(words(word, "--help").stdout.split())
+            self.assertRegex(said, f"Examples?: class {word}")
+
+    def test_bash_completes_them(self) -> None:
+        self.assertEqual(self.completed(""), set(all_words()))
+        self.assertEqual(self.completed("de"), {"demo"})
+        self.assertEqual(self.completed("run", "--"), set(re.findall(r"--[a-z-]+", words("run", "--help").stdout)))
+        self.assertEqual(self.completed("run", "--res"), {"--resume"})
+        self.assertEqual(self.completed("run", "maths"), set())
+
+
+class Rekeyed(InRoom):
+    """Another key in mid-course."""
+
+    def setUp(self) -> None:
+        super().setUp()
+        self.lab = self.room / "maths.toml"
+        students = self.file("students", "Ana Lima\nBen Roy\nCyd Sol\n")
+        self.assertEqual(words("new", self.lab, "--students", students, "--port", "4799").returncode, 0)
+        self.folder = self.room / "maths-slips"
+
+    def test_one_student_has_another_key(self) -> None:
+        before, text = document(self.lab), self.lab.read_text(encoding="utf-8")
+        others = {file.name: file.read_bytes() for file in self.folder.iterdir()}
+        done = words("key", self.lab, "ben-roy")
+        self.assertEqual((done.returncode, done.stderr), (0, ""))
+        after, slip = document(self.lab), Slip.read(self.folder / "ben-roy.slip")
+        old, new = before["student"][1]["key"], after["student"][1]["key"]
+        self.assertNotEqual(old, new)
+        self.assertEqual(len(new), len(old))
+        self.assertEqual(self.lab.read_text(encoding="utf-8"), text.replace(old, new))
+        self.assertEqual((slip.port, slip.name, slip.key, slip.nodes), (4799, "ben-roy", new, (2,)))
+        self.assertEqual(others.pop("ben-roy.slip").replace(old.encode(), new.encode()), (self.folder / "ben-roy.slip").read_bytes())
+        self.assertEqual(others, {file.name: file.read_bytes() for file in self.folder.iterdir() if file.name != "ben-roy.slip"})
+        printed = (self.room / "maths-slips.txt").read_text(encoding="utf-8")
+        self.assertEqual((printed.count(old), printed.count(new)), (0, 1))
+        self.assertNotIn(new, done.stdout)
+        for file in (self.lab, self.folder / "ben-roy.slip", self.room / "maths-slips.txt"):
+            self.assertEqual(file.stat().st_mode & 0o777, 0o600, file)
+
+    def test_what_can_not_be_changed(self) -> None:
+        text = self.lab.read_text(encoding="utf-8")
+        done = words("key", self.lab, "dora")
+        self.assertEqual((done.returncode, done.stderr), (1, f"class: {self.lab}: no student dora; there are: ana-lima, ben-roy, cyd-sol\n"))
+        key = read(self.lab).students["ben-roy"]
+        self.lab.write_text(text.replace(f'key = "{key}"', f"key = '{key}'"), encoding="utf-8")
+        done = words("key", self.lab, "ben-roy")
+        self.assertEqual(done.returncode, 1)
+        self.assertIn("the key of ben-roy isn't written as", done.stderr)
+        self.assertEqual(words("key", self.room / "none.toml", "ana").returncode, 4)
+        folder: Path = self.room
+        self.assertEqual(words("key", folder, "ana").returncode, 1)
+
+
+if __name__ == "__main__":
+    unittest.main()

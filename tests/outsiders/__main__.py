@@ -1,0 +1,346 @@
+"""Plays outsiders without a key against a host, and takes from it what it needs of the system.
+
+    python3 -m tests.outsiders [WORD..]
+
+With words, only the tests whose names have one of them. They go side by side: most of them wait.
+"""
+import os
+import socket
+import subprocess
+import threading
+import time
+from collections.abc import Callable
+from pathlib import Path
+
+from tests.common.hosting import (
+    BUSY, BYE, HOST, LONG, NODES, OVER, UNKNOWN, Caller, Host, audit, hello, lab_of, let_in, look
+)
+from tests.common.preload import LIMIT, TOP, Ended, Preloaded, fail
+from tests.common.side_by_side import Test, try_all
+
+NONE = Ended(0, b"done: 0 events, configuration 0\n", b"")
+FAULT = Ended(4, b"", b"journal fault\n")
+MALFORMED = b'{"refuse":"malformed"}\n'
+EAGAIN = 11
+LOOKS = 3  # threads that a host starts before it listens, to see whether it may
+MOVE = b'{"at":0,"do":"move","node":1,"rule":"seduction"}\n'
+WRONG = b'{"do":"hello","key":"a-kez","name":"ana"}\n'
+FREE = ["setpriv", "--reuid", "65534", "--regid", "65534", "--clear-groups"] if os.geteuid() == 0 else []
+
+
+def ends(host: Host, teacher: Caller, wanted: Ended = NONE) -> None:
+    """Wants that the teacher's bye ends a host well."""
+    ended = host.dismissed(teacher)
+    if (ended.status, ended.out) != (wanted.status, wanted.out):
+        fail(f"outsiders: a host ends with {ended}")
+
+
+def refused_threads(room: Path) -> None:
+    """A student for whom no thread can be made is told `busy` at once; the teacher is served without one, and
+    the teacher's bye ends the class for all."""
+    library = Preloaded("faults/fail.c", room, "FAIL_COUNTS")
+    lab = lab_of(room, 5)
+    for at in range(LOOKS + 2, LOOKS + 5):
+        variables = library.variables({"FAIL": "thread", "FAIL_AT": str(at), "FAIL_WITH": str(EAGAIN)})
+        with Host(lab, 0, 0, variables=variables) as host:
+            teacher = Caller(host.desk)
+            if b'"who":"tess"' not in teacher.ask(hello("tess")):
+                fail(f"outsiders: without thread {at} the teacher isn't served")
+            said, students = [], []
+            for name in ("ana", "ben", "cyd"):
+                caller = Caller(host.port)
+                said.append(caller.ask(hello(name)))
+                students += [caller] if said[-1] not in (b"", BUSY) else []
+            if library.counts()[1] != 1 or said.count(BUSY) != (at > LOOKS + 2) or b"" in said:
+                fail(f"outsiders: without thread {at} students are told {said}")
+            students.append(let_in(host.port, hello("ana"))[0])
+            ends(host, teacher)
+            if any((caller.line(), caller.line()) != (OVER, b"") for caller in students):
+                fail(f"outsiders: without thread {at} the class's end isn't told")
+
+
+def few(room: Path) -> None:
+    """A host that may have too few threads or files says so, and makes nothing."""
+    lab, journal = lab_of(room, 4), room / "made" / "journal"
+    journal.parent.mkdir()
+    for path, mode in ((room, 0o755), (lab, 0o644), (journal.parent, 0o777)):
+        path.chmod(mode)
+    program = room / "host"
+    program.write_bytes(HOST.read_bytes())
+    program.chmod(0o755)
+    for limit, line in (("nofile=7", b"files may be open"), ("nproc=1", b"threads may be started")):
+        words: list[str | Path] = [*FREE, "prlimit", f"--{limit}", program, "host", lab, "0", "0", journal]
+        done = subprocess.run(words, stdin=subprocess.DEVNULL, capture_output=True, timeout=LIMIT, check=False)
+        if (done.returncode, done.stdout, done.stderr) != (5, b"", b"host: too few " + line + b"\n"):
+            fail(f"outsiders: with {limit} a host says {done}")
+        if list(journal.parent.iterdir()):
+            fail(f"outsiders: with {limit} a host makes a journal")
+
+
+def comes_again(room: Path) -> None:
+    """Who closes and comes again at once isn't told `busy`, at either port."""
+    lab = lab_of(room, 2)
+    with Host(lab, 0, 0) as host:
+        for port, name in [(host.desk, "tess"), (host.port, "ana")] * 150:
+            caller = Caller(port)
+            if b'"ok":"hello"' not in (said := caller.ask(hello(name))):
+                fail(f"outsiders: who comes again at once is told {said!r}")
+            caller.close()
+        ends(host, let_in(host.desk, hello("tess"))[0])
+
+
+def a_web_form(room: Path) -> None:
+    """A browser's POST gets one reply, and the lines of its body none."""
+    lab = lab_of(room, 4)
+    with Host(lab, 0, 0) as host:
+        for port in (host.port, host.desk):
+            caller = Caller(port)
+            caller.send(b"POST / HTTP/1.1\r\nHost: 127.0.0.1\r\nContent-Type: text/plain\r\n\r\n" + hello("tess") + BYE)
+            said = caller.line(), caller.line()
+            if said != (MALFORMED, b""):
+                fail(f"outsiders: a web form is told {said}")
+            caller.close()
+        # A line that is an object, and no request, ends nothing.
+        caller = Caller(host.port)
+        if caller.ask(b'{"do":"dance"}\n') != MALFORMED or b'"ok":"hello"' not in caller.ask(hello("ana")):
+            fail("outsiders: a first line that is no request ends a connection")
+        ends(host, let_in(host.desk, hello("tess"))[0])
+
+
+def words_at_the_end(room: Path) -> None:
+    """A line that is too long, and the class's end, are told."""
+    lab = lab_of(room, 4)
+    with Host(lab, 0, 0) as host:
+        for first in (b"", hello("ana")):
+            caller = Caller(host.port)
+            if first:
+                caller.ask(first)
+            caller.send(b" " * 5000)
+            if (caller.line(), caller.line()) != (LONG, b""):
+                fail("outsiders: a line that is too long isn't told so")
+        greeted, silent = let_in(host.port, hello("ana"))[0], Caller(host.port)
+        ends(host, let_in(host.desk, hello("tess"))[0])
+        if [caller.line() for caller in (greeted, silent)] != [OVER, OVER]:
+            fail("outsiders: the class's end isn't told")
+
+
+def three_hellos(room: Path) -> None:
+    """The third hello in vain ends a connection."""
+    lab = lab_of(room, 4)
+    with Host(lab, 0, 0) as host:
+        for port in (host.port, host.desk):
+            caller = Caller(port)
+            caller.send(WRONG * 5)
+            if [caller.line() for _ in range(4)] != [UNKNOWN] * 3 + [b""]:
+                fail("outsiders: more than three hellos are answered")
+            caller = Caller(port)
+            said = [caller.ask(line) for line in (WRONG, WRONG, hello("tess"), look("ana"))]
+            if said[:2] != [UNKNOWN] * 2 or b'"ok":"hello"' not in said[2] or b'"ok":"look"' not in said[3]:
+                fail(f"outsiders: two hellos in vain and a right one are told {said}")
+            caller.close()
+        ends(host, let_in(host.desk, hello("tess"))[0])
+
+
+def comes(port: int, line: bytes, taken: list[float]) -> Caller:
+    """Who has a key gets a place, coming again where there is none; notes how many seconds that took."""
+    begun = time.monotonic()
+    while True:
+        caller = Caller(port)
+        said = caller.ask(line)
+        if b'"ok":"hello"' in said:
+            break
+        if said not in (BUSY, b""):
+            fail(f"outsiders: an honest hello is told {said!r}")
+        caller.close()
+        if time.monotonic() - begun > LIMIT:
+            fail("outsiders: an honest client isn't let in")
+    taken.append(time.monotonic() - begun)
+    return caller
+
+
+def waits_little(taken: list[float]) -> None:
+    """Wants that honest clients wait for less than two seconds, most of them on a slow machine too."""
+    if sorted(taken)[len(taken) // 2] > 2:
+        fail(f"outsiders: honest clients wait for a place: {taken} seconds")
+
+
+def until_set(stop: threading.Event, act: Callable[[], None]) -> list[threading.Thread]:
+    """Does an act over and over, in a thread of its own."""
+    def work() -> None:
+        while not stop.is_set():
+            try:
+                act()
+            except OSError:
+                time.sleep(0.01)
+
+    thread = threading.Thread(target=work)
+    thread.start()
+    return [thread]
+
+
+def silent_ones(room: Path) -> None:
+    """Fifteen connections that say `{}`, and forty silent ones a second at both ports, keep nobody out."""
+    lab = lab_of(room, 16)
+    with Host(lab, 0, 0) as host:
+        held = [Caller(host.port) for _ in range(15)] + [Caller(host.desk)]
+        for caller in held:
+            caller.send(b"{}\n")
+        taken: list[float] = []
+        teacher = comes(host.desk, hello("tess"), taken)
+        students = [comes(host.port, hello(name), taken) for name in NODES]
+        stop = threading.Event()
+        kept: list[socket.socket] = []
+
+        def knock(port: int) -> None:
+            kept.append(socket.create_connection(("127.0.0.1", port), LIMIT))
+            time.sleep(0.05)
+
+        threads = [*until_set(stop, lambda: knock(host.port)), *until_set(stop, lambda: knock(host.port))]
+        for _ in range(15):
+            caller = comes(host.port, hello("ben"), taken)
+            caller.ask(BYE)
+            caller.close()
+        for name, caller in zip(NODES, students):
+            if b'"ok":"look"' not in caller.ask(look(name)):
+                fail("outsiders: a student with a place loses it to those without a key")
+        stop.set()
+        for thread in threads:
+            thread.join()
+        waits_little(taken)
+        ends(host, teacher)
+        for each in kept:
+            each.close()
+
+
+def guesses(room: Path) -> None:
+    """Fifteen who guess keys have less than a hundred denials a second in all, honest hellos are told at once, and
+    the teacher's program is told."""
+    lab = lab_of(room, 16)
+    with Host(lab, 0, 0) as host:
+        teacher = let_in(host.desk, hello("tess"))[0]
+        stop, denied = threading.Event(), [0] * 15
+
+        def guess(at: int) -> None:
+            with socket.create_connection(("127.0.0.1", host.port), LIMIT) as it, it.makefile("rb") as replies:
+                it.sendall(WRONG * 10)
+                denied[at] += sum(line == UNKNOWN for line in replies)
+
+        begun = time.monotonic()
+        threads = [thread for at in range(15) for thread in until_set(stop, lambda at=at: guess(at))]  # type: ignore[misc]
+        taken: list[float] = []
+        for _ in range(10):
+            caller = comes(host.port, hello("ana"), taken)
+            if b'"ok":"look"' not in caller.ask(look("ana")):
+                fail("outsiders: a student loses a place to those who guess")
+            caller.ask(BYE)
+            caller.close()
+        time.sleep(max(0.0, begun + 3 - time.monotonic()))
+        stop.set()
+        for thread in threads:
+            thread.join()
+        rate = sum(denied) / (time.monotonic() - begun)
+        if rate > 100 or sum(denied) < 30:
+            fail(f"outsiders: {rate} keys are guessed a second")
+        waits_little(taken)
+        ended = host.dismissed(teacher)
+        if ended.out != NONE.out or b"hellos had no right key" not in ended.error:
+            fail(f"outsiders: nobody is told of guesses: {ended}")
+
+
+def one_of_many(room: Path) -> None:
+    """Where a name has more than four places and none is free, its last one goes to a newcomer; four are its own."""
+    lab = lab_of(room, 7)
+    with Host(lab, 0, 0) as host:
+        many = [let_in(host.port, hello("ana"))[0] for _ in range(6)]
+        ben, cyd = (comes(host.port, hello(name), []) for name in ("ben", "cyd"))
+        if [caller.line() for caller in many[4:]] != [BUSY] * 2:
+            fail("outsiders: the last connections of a name with six places keep them")
+        if any(b'"ok":"look"' not in caller.ask(look("ana")) for caller in many[:4]):
+            fail("outsiders: a name doesn't keep four places")
+        more = Caller(host.port)
+        if more.ask(hello("ben")) != BUSY:
+            fail("outsiders: a name with four places loses one")
+        if any(b'"ok":"look"' not in caller.ask(look(name)) for name, caller in (("ben", ben), ("cyd", cyd))):
+            fail("outsiders: a newcomer loses its place")
+        ends(host, let_in(host.desk, hello("tess"))[0])
+
+
+def never_reads(room: Path) -> None:
+    """Who takes nothing of its replies for ten seconds is cut off, and not much later."""
+    lab = lab_of(room, 4)
+    with Host(lab, 0, 0) as host:
+        deaf = let_in(host.port, hello("ana"))[0]
+        deaf.socket.setblocking(False)
+        begun = last = time.monotonic()
+        while time.monotonic() - begun < 60:
+            try:
+                deaf.socket.send(look("ana") * 1000)
+                last = time.monotonic()
+            except BlockingIOError:
+                time.sleep(0.05)
+            except ConnectionError:
+                break
+        taken = time.monotonic() - last
+        if not 8 < taken < 20:
+            fail(f"outsiders: who never reads is cut off after {taken} seconds")
+        ends(host, let_in(host.desk, hello("tess"))[0])
+
+
+def journals(room: Path) -> None:
+    """A journal is nobody's output, nor a pipe without a reader, and is for its owner alone to read where nobody has
+    said otherwise; the one that takes its place has the mode of the one before."""
+    lab, journal = lab_of(room, 4), room / "journal"
+    for stream in ("", "2"):
+        journal.unlink(missing_ok=True)
+        words: list[str | Path] = ["bash", "-c", f'exec "$@" {stream}> {journal}', "bash", HOST, "host", lab, "0", "0", journal]
+        done = subprocess.run(words, stdin=subprocess.DEVNULL, capture_output=True, timeout=LIMIT, check=False)
+        wanted = b"" if stream else b"journal fault\n"
+        if done.returncode != 4 or done.stderr != wanted or journal.read_bytes() not in (b"", b"journal fault\n"):
+            fail(f"outsiders: a host whose journal is its own output ends with {done}")
+    journal.unlink()
+    os.mkfifo(room / "pipe")
+    with Host(lab, 0, 0, room / "pipe") as host:
+        if host.listens or host.end(60) != FAULT:
+            fail("outsiders: a pipe that nobody reads is taken")
+    for mode in (0o600, 0o640, 0o604):
+        if mode != 0o600:
+            journal.chmod(mode)
+        with Host(lab, 0, 0, journal) as host:
+            student = let_in(host.port, hello("ana"))[0]
+            student.ask(MOVE)
+            ends(host, let_in(host.desk, hello("tess"))[0], Ended(0, b"done: 1 events, configuration 0\n", b""))
+        if journal.stat().st_mode & 0o777 != mode:
+            fail(f"outsiders: a journal's mode is {journal.stat().st_mode:o} after {mode:o}")
+        audit(lab, journal, 1)
+
+
+def limits_of_files(room: Path) -> None:
+    """Where the journal may not grow further, events are refused, and the host goes on; started by `./mml` too."""
+    lab = lab_of(room, 4)
+    for name, start in (("program", 'exec "$@"'), ("mml", 'shift && exec "$0" "$@"')):
+        words = ["bash", "-c", f"ulimit -f 1 && {start}", str(TOP / "mml")]
+        with Host(lab, 0, 0, room / f"{name}.journal", before=words) as host:
+            teacher, student = let_in(host.desk, hello("tess"))[0], let_in(host.port, hello("ana"))[0]
+            for turn in range(100):
+                move = MOVE.replace(b'"at":0', b'"at":%d' % (2 * turn))
+                said = [student.ask(move), teacher.ask(b'{"do":"close"}\n'),
+                        teacher.ask(b'{"do":"fault","m":false,"node":1,"p":null}\n')]
+                if b'{"refuse":"journal"}\n' in said:
+                    break
+            else:
+                fail(f"outsiders: a host whose journal can't grow says {said}")
+            if b'"ok":"look"' not in student.ask(look("ana")):
+                fail("outsiders: a host whose journal can't grow doesn't go on")
+            ended = host.dismissed(teacher)
+            if ended != Ended(4, b"", b"journal fault\n"):
+                fail(f"outsiders: a host whose journal can't grow ends with {ended}")
+
+
+TESTS: list[Test] = [
+    never_reads, silent_ones, guesses, refused_threads, comes_again, one_of_many, journals, limits_of_files, few,
+    three_hellos, a_web_form, words_at_the_end,
+]
+
+
+if __name__ == "__main__":
+    try_all("a host among outsiders", TESTS)

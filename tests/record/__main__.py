@@ -1,0 +1,278 @@
+"""Verifies records by the program and by the plain model, and wants the same line of both.
+
+    python3 -B -m tests.record [SEED]
+
+Records that are written by hand, each reason to refuse one, one byte hurt at each position of a short record,
+and the records of drawn runs of many clients: as they came, hurt, cut, and beside another journal. Then a
+host records classes, one of which is killed, and one meets a full disk. With a number, only that seed's run
+is verified, and its files are left in the working folder.
+"""
+import subprocess
+import sys
+from collections import Counter
+from pathlib import Path
+from random import Random
+
+from tests.common.hosting import HOST, lab_of
+from tests.common.preload import LIMIT, Ended, fail, in_room
+from tests.model import Lab, read_lab
+from tests.model.record import Recording, verify
+from tests.random.files import said
+from tests.random.labs import drawn_lab
+from tests.random.scripts import Drawing
+from tests.record.classes import hosted
+
+SEEDS = range(1, 201)
+LINES = 60
+HURTS = 6
+BYTES = b" 03-eA\n\xff>.!<"
+# What the seats say one after the other in the short run, of which most is refused.
+TALK = [
+    (1, b'{"do":"hello","name":"tess","key":"chalk"}'),
+    (2, b'{"do":"hello","name":"ana","key":"wrong"}'),
+    (2, b'{"do":"hello","name":"ana","key":"a-key"}'),
+    (2, b'{"do":"see","node":1}'),
+    (2, b'{"do":"move","node":1,"rule":"update","at":7}'),
+    (2, b"no request"),
+    (1, b'{"do":"fault","node":2,"p":null,"m":true}'),
+    (2, b'{"do":"close"}'),
+    (2, b'{"do":"bye"}'),
+    (1, b'{"do":"fault","node":1,"p":2,"m":false}'),
+]
+
+
+class Files:
+    """A lab, a journal and a record in a folder, and the program's verdict."""
+
+    def __init__(self, room: Path, lab: str) -> None:
+        self.lab, self.journal, self.folder = room / "lab.toml", room / "run.journal", room / "record"
+        self.lab.write_text(lab, encoding="ascii")
+        self.folder.mkdir(exist_ok=True)
+        self.journal.write_bytes(b"")
+
+    def verified(self, journal: bytes, texts: dict[int, bytes], begun: int = 0) -> Ended:
+        """What the program tells of it."""
+        self.journal.write_bytes(journal)
+        (self.folder / "begun").write_text(f"{begun}\n", encoding="ascii")
+        for seat, text in texts.items():
+            (self.folder / f"{seat}.record").write_bytes(text)
+        return self.ended(self.lab, self.journal, self.folder)
+
+    @staticmethod
+    def ended(*words: Path) -> Ended:
+        """How the program's word ends."""
+        call: list[str | Path] = [HOST, "verify", *words]
+        done = subprocess.run(call, stdin=subprocess.DEVNULL, capture_output=True, env=dict[str, str](), timeout=LIMIT, check=False)
+        return Ended(done.returncode, done.stdout, done.stderr)
+
+    def wants(self, what: str, journal: bytes, texts: dict[int, bytes], line: str, begun: int = 0) -> None:
+        """Fails where the program tells another line."""
+        found = self.verified(journal, texts, begun)
+        if found != said(line):
+            fail(f"{what}: {found}, not {line!r}")
+
+
+def short_run(lab: Lab) -> Recording:
+    """A run of two seats, in which each kind of reply is told but few are grants."""
+    run = Recording(lab)
+    for seat, line in TALK:
+        run.answer(seat, line)
+    run.leave(1)
+    return run
+
+
+def replaced(text: bytes, old: bytes, new: bytes) -> bytes:
+    """The text with that changed which stands there once."""
+    if text.count(old) != 1:
+        fail(f"{old!r} stands {text.count(old)} times in the short record")
+    return text.replace(old, new)
+
+
+def by_hand(files: Files, lab: Lab) -> int:
+    """The short record, whole, and with one thing changed each; how many records that were."""
+    run = short_run(lab)
+    journal, one, two = run.journal, run.texts[1], run.texts[2]
+    rest = {seat: b"" for seat in run.texts}
+    place = run.model.world.place
+    cases = [
+        ("whole", {1: one, 2: two}, run.told()),
+        ("two sessions more", {1: one + b"1 2 .\n1 2 .\n", 2: two}, run.told().replace("ok: 2 ", "ok: 4 ")),
+        ("torn", {1: one, 2: two[:-1]}, "seat 2, line 13: torn"),
+        ("torn in a reply", {1: one, 2: two[: two.index(b'{"ok":"bye"}') + 5]}, "seat 2, line 11: torn"),
+        ("not an entry", {1: one, 2: b"2 0 ?\n" + two}, "seat 2, line 1: not an entry"),
+        ("goes back", {1: one + b"1 1 .\n", 2: two}, "seat 1, line 8: goes back"),
+        ("past the end", {1: one + b"1 3 .\n", 2: two}, "seat 1, line 8: past the journal's end"),
+        ("after a bye", {1: one, 2: replaced(two, b'2 1 .\n', b'2 1 > x\n2 1 < {"refuse":"malformed"}\n')},
+         "seat 2, line 13: not the session's end"),
+        ("after a cut", {1: one + b'1 2 !\n1 2 > x\n1 2 < {"refuse":"malformed"}\n', 2: two},
+         "seat 1, line 9: not the session's end"),
+        ("another denial", {1: one, 2: replaced(two, b'"deny":"stale"', b'"deny":"owner"')},
+         "seat 2, line 5: not the reply of the rules at place 0"),
+        ("another key", {1: one, 2: replaced(two, b'"key":"a-key"', b'"key":"b-key"')},
+         "seat 2, line 3: not the reply of the rules at place 0"),
+        ("another name", {1: one, 2: replaced(two, b'"who":"ana"', b'"who":"ben"')},
+         "seat 2, line 3: not the reply of the rules at place 0"),
+        ("another text", {1: one, 2: replaced(two, b"not the current", b"not the latest")},
+         "seat 2, line 5: not the reply of the rules at place 0"),
+        ("a refusal", {1: one, 2: replaced(two, b'{"refuse":"malformed"}', b'{"refuse":"full"}')},
+         "seat 2, line 7: not the reply of the rules at place 0"),
+        ("memory", {1: one, 2: replaced(two, b'{"refuse":"malformed"}', b'{"refuse":"memory"}')}, run.told()),
+        ("another event", {1: replaced(replaced(one, b'"p":2,"m":false', b'"p":2,"m":true'), b"1 2 .\n", b""), 2: two},
+         "seat 1, line 5: not the journal's event at place 2"),
+        ("exchanged", {1: two, 2: one}, "seat 1, line 1: not an entry"),
+        ("a lost grant", {1: b"".join(one.splitlines(keepends=True)[:4]) + b"1 2 .\n", 2: two},
+         "place 2: granted in no record"),
+        ("a lost grant, cut", {1: b"".join(one.splitlines(keepends=True)[:4]) + b"1 2 !\n1 2 .\n", 2: two},
+         f"ok: 2 sessions, {run.lines - 1} lines, 2 events, not whole"),
+        ("a grant told twice", {1: one + replaced(one, b"1 2 .\n", b"").replace(b"1 0 ", b"1 2 "), 2: two}, None),
+        ("cut twice", {1: one + b"1 2 !\n1 2 !\n1 2 .\n", 2: two}, run.told(False).replace("ok: 2 ", "ok: 3 ")),
+    ]
+    assert place == 2
+    for what, texts, line in cases:
+        every = {**rest, **texts}
+        model = verify(lab, journal, every)
+        wanted = model if line is None else line if line.startswith("ok: ") else f"verify: {line}"
+        if model != wanted:
+            fail(f"{what}: the model tells {model!r}, not {wanted!r}")
+        files.wants(what, journal, every, wanted)
+    files.wants("begun later", journal, {**rest, 1: one, 2: two}, "verify: place 1: granted before the record began", 1)
+    files.wants("begun where it ends", journal, rest, "ok: 0 sessions, 0 lines, 2 events", 2)
+    return len(cases) + 2
+
+
+def other_files(files: Files, lab: Lab) -> None:
+    """Files that are missing, or are none of a class, and words that are none."""
+    run = short_run(lab)
+    fault = Ended(4, b"", b"read fault: record\n")
+    files.wants("a torn journal", run.journal[:-1], run.texts, "audit: line 2: torn")
+    files.wants("another journal", run.journal.replace(b"2 1 fault", b"2 0 fault"), run.texts,
+                "audit: line 2: wrong place or configuration")
+    begun, seat = files.folder / "begun", files.folder / "3.record"
+    files.journal.write_bytes(run.journal)
+    for text in (b"", b"x\n", b"-1\n", b"1 \n", b"0\n\n", b"1" * 20):
+        begun.write_bytes(text)
+        if files.ended(files.lab, files.journal, files.folder) != fault:
+            fail(f"a record is read that begins at {text!r}")
+    begun.write_bytes(b"0")
+    if files.ended(files.lab, files.journal, files.folder) != Ended(0, f"{run.told()}\n".encode(), b""):
+        fail("a record isn't read whose beginning has no newline")
+    for file in (begun, seat):
+        content = file.read_bytes()
+        file.unlink()
+        if files.ended(files.lab, files.journal, files.folder) != fault:
+            fail(f"a record is read without {file.name}")
+        file.write_bytes(content)
+    if files.ended(files.lab, files.journal) != Ended(1, b"", b"command line: not understood\n"):
+        fail("words are understood that name no record")
+
+
+def at_each_byte(files: Files, lab: Lab) -> int:
+    """One byte of the short record changed, at each position; how many records that were."""
+    run = short_run(lab)
+    texts = dict(run.texts)
+    count = 0
+    for seat in (1, 2):
+        whole = texts[seat]
+        for at in range(len(whole)):
+            byte = BYTES[(at + seat) % len(BYTES)]
+            hurt = whole[:at] + bytes([byte if byte != whole[at] else byte ^ 1]) + whole[at + 1 :]
+            texts[seat] = hurt
+            files.wants(f"seat {seat}, byte {at}", run.journal, texts, verify(lab, run.journal, texts))
+            count += 1
+        texts[seat] = whole
+    return count
+
+
+def drawn_run(rng: Random, lab: Lab) -> Recording:
+    """A run of several seats, some of which are left and taken again."""
+    run = Recording(lab)
+    drawing = Drawing(rng, lab)
+    drawing.model = run.model
+    seats = rng.sample(range(1, lab.sessions + 1), min(lab.sessions, 4))
+    for _ in range(LINES):
+        seat = rng.choice(seats)
+        if rng.random() < 0.03:
+            run.leave(seat)
+        asked = drawing.drawn(seat)
+        if b"\n" not in asked:
+            run.answer(seat, asked)
+    for seat in seats:
+        run.leave(seat)
+    return run
+
+
+def hurt(rng: Random, run: Recording) -> dict[int, bytes]:
+    """Records with a byte, a line or an entry changed, left out or put twice, or two of them exchanged."""
+    texts = dict(run.texts)
+    seat = rng.choice([seat for seat, text in texts.items() if text])
+    text = texts[seat]
+    lines = text.splitlines(keepends=True)
+    at = rng.randrange(len(text))
+    line = rng.randrange(len(lines))
+    kind = rng.randrange(6)
+    if kind == 0:
+        other = rng.choice(list(texts))
+        texts[seat], texts[other] = texts[other], texts[seat]
+    elif kind == 1:
+        texts[seat] = b"".join(lines[:line] + lines[line + rng.choice([1, 2]) :])
+    elif kind == 2:
+        texts[seat] = b"".join(lines[:line] + lines[line : line + 2] + lines[line:])
+    elif kind == 3:
+        texts[seat] = text[:at]
+    else:
+        digit = rng.choice(b"0123456789") if text[at] in b"0123456789" else rng.choice(BYTES)
+        texts[seat] = text[:at] + bytes([digit]) + text[at + 1 :]
+    return texts
+
+
+def compare(room: Path, seed: int) -> Counter[str]:
+    """The records of a seed's run; what the verdicts tell."""
+    rng = Random(seed)
+    document = drawn_lab(rng)
+    lab = read_lab(document.encode("ascii"))
+    run = drawn_run(rng, lab)
+    files = Files(room, document)
+    files.wants(f"seed {seed}", run.journal, run.texts, run.told())
+    told = Counter(["ok"])
+    for k in range(HURTS):
+        texts = hurt(rng, run)
+        line = verify(lab, run.journal, texts)
+        told[line.rpartition(": ")[2].partition(" at place")[0] if line.startswith("verify") else "ok"] += 1
+        files.wants(f"seed {seed}, hurt {k}", run.journal, texts, line)
+    last = run.journal.splitlines(keepends=True)[:-1]
+    if last:
+        files.wants(f"seed {seed}, an event less", b"".join(last), run.texts, verify(lab, b"".join(last), run.texts))
+    return told
+
+
+def drawn(room: Path) -> Counter[str]:
+    """All drawn runs; what mostly comes of a hurt has to be among the verdicts."""
+    told: Counter[str] = Counter()
+    for seed in SEEDS:
+        told += compare(room, seed)
+    reasons = ["torn", "not an entry", "not the reply of the rules", "granted twice"]
+    missing = [reason for reason in reasons if not told[reason]]
+    if missing:
+        fail(f"no drawn record is refused as {missing}")
+    return told
+
+
+def work(room: Path) -> str:
+    """All comparisons."""
+    lab_file = lab_of(room, 4, 100)
+    document = lab_file.read_text(encoding="ascii")
+    lab = read_lab(document.encode("ascii"))
+    files = Files(room, document)
+    hand = by_hand(files, lab)
+    other_files(files, lab)
+    bytes_hurt = at_each_byte(files, lab)
+    told = drawn(room)
+    counts = f"{hand} records by hand, {bytes_hurt} with a byte hurt and {sum(told.values())} of drawn runs"
+    return f"{counts}, as the model has them; classes of a host: {hosted(room)}"
+
+
+if __name__ == "__main__":
+    if len(sys.argv) > 1:
+        compare(Path.cwd(), int(sys.argv[1]))
+        sys.exit(0)
+    in_room(work)

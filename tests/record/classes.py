@@ -1,0 +1,171 @@
+"""Classes that a host records, as their user runs it: what their files hold, after a kill too, and where a put fails."""
+import subprocess
+from pathlib import Path
+
+from tests.common.hosting import BID, BYE, HOST, UNKNOWN, Caller, Host, hello, lab_of, let_in, look
+from tests.common.preload import LIMIT, Ended, fail
+
+SEATS = 4
+STUDENT = SEATS  # the first who comes to the port has the last seat
+WRONG = b'{"do":"hello","name":"ana","key":"wrong"}\n'
+MOVE = b'{"at":0,"do":"move","node":1,"rule":"seduction"}\n'
+OTHER = b'{"at":1,"do":"move","node":2,"rule":"seduction"}\n'
+CLOSE = b'{"do":"close"}\n'
+# What ana at the port and tess at the desk say and are told, in the class that is played first.
+ANA = b"""\
+4 0 > {"do":"hello","name":"ana","key":"wrong"}
+4 0 < {"clause":2,"deny":"unknown","text":"name and key do not match"}
+4 0 > {"do":"hello","key":"a-key","name":"ana"}
+4 0 < {"ok":"hello","who":"ana"}
+4 0 > {"at":0,"do":"move","node":1,"rule":"seduction"}
+4 0 < {"at":0,"node":1,"ok":"move","place":1,"rule":"seduction"}
+4 1 > {"at":0,"do":"move","node":1,"rule":"seduction"}
+4 1 < {"clause":3,"deny":"chosen","text":"this node is already chosen"}
+4 2 > {"do":"bye"}
+4 2 < {"ok":"bye"}
+4 2 .
+"""
+TESS = b"""\
+1 0 > {"do":"hello","key":"chalk","name":"tess"}
+1 0 < {"ok":"hello","who":"tess"}
+1 1 > {"do":"close"}
+1 1 < {"at":1,"moved":[1],"ok":"close","place":2}
+1 2 > {"do":"bye"}
+1 2 < {"ok":"bye"}
+1 2 .
+"""
+
+
+def verified(lab: Path, journal: Path, record: Path, line: bytes) -> None:
+    """Wants that line of the record's verifying."""
+    call: list[str | Path] = [HOST, "verify", lab, journal, record]
+    done = subprocess.run(call, stdin=subprocess.DEVNULL, capture_output=True, env=dict[str, str](), timeout=LIMIT, check=False)
+    if (done.returncode, done.stdout, done.stderr) != (0, line, b""):
+        fail(f"record: a class's record is verified as {done}, not {line!r}")
+
+
+def texts(record: Path) -> dict[str, bytes]:
+    """What each file of a record holds, which nobody else may read."""
+    found = {file.name: file.read_bytes() for file in record.iterdir()}
+    modes = {file.stat().st_mode & 0o777 for file in record.iterdir()}
+    if record.stat().st_mode & 0o777 != 0o700 or modes != {0o600}:
+        fail(f"record: others may use it: {modes}")
+    return found
+
+
+def wants(record: Path, lab: Path, said: dict[int, bytes]) -> None:
+    """Wants that the files hold what was said in the seats, from the class's beginning."""
+    wanted = {f"{seat}.record": said.get(seat, b"") for seat in range(1, SEATS + 1)}
+    found = texts(record)
+    if found != {**wanted, "begun": b"0\n", "lab": lab.read_bytes()}:
+        fail(f"record: the class's files hold {found}")
+
+
+def begin(host: Host) -> tuple[Caller, Caller]:
+    """Ana, who has moved, and tess, who has greeted."""
+    ana, reply = let_in(host.port, WRONG)
+    said = [reply, ana.ask(hello("ana")), ana.ask(MOVE), ana.ask(MOVE)]
+    tess, _ = let_in(host.desk, hello("tess"))
+    if said[0] != UNKNOWN or b'"place":1' not in said[2] or b'"chosen"' not in said[3]:
+        fail(f"record: a student is answered {said}")
+    return ana, tess
+
+
+def whole_class(room: Path) -> tuple[Path, Path, Path]:
+    """A class from its beginning to its end is recorded but for what was shown; answers its files."""
+    lab, journal, record = lab_of(room, SEATS), room / "whole.journal", room / "whole record"
+    with Host(lab, 0, 0, journal, record) as host:
+        tess, _ = let_in(host.desk, hello("tess"))
+        ana, _ = let_in(host.port, WRONG)
+        for line in (hello("ana"), MOVE, MOVE, look("ana")):
+            ana.ask(line)
+        tess.ask(b'{"do":"report"}\n')
+        tess.ask(CLOSE)
+        ana.ask(look("ana"))
+        if (ana.ask(BYE), ana.line()) != (BID, b""):
+            fail("record: another reply to a student's bye")
+        ended = host.dismissed(tess)
+    if ended != Ended(0, b"done: 2 events, configuration 1\n", b""):
+        fail(f"record: a recorded class ends with {ended}")
+    wants(record, lab, {1: TESS, STUDENT: ANA})
+    verified(lab, journal, record, b"ok: 2 sessions, 8 lines, 2 events\n")
+    return lab, journal, record
+
+
+def killed_and_resumed(room: Path) -> None:
+    """What was answered before a kill is in the record, which says of each seat that some may be lacking."""
+    lab, journal, record = lab_of(room, SEATS), room / "killed.journal", room / "killed"
+    with Host(lab, 0, 0, journal, record) as host:
+        callers = begin(host)
+        host.killed()
+    for caller in callers:
+        caller.close()
+    before = {1: b"".join(TESS.splitlines(True)[:2]), STUDENT: b"".join(ANA.splitlines(True)[:8])}
+    wants(record, lab, before)
+    with Host(lab, 0, 0, journal, record, word="resume") as host:
+        tess, _ = let_in(host.desk, hello("tess"))
+        tess.ask(CLOSE)
+        ended = host.dismissed(tess)
+    if ended.status != 0 or ended.error or b"done: 2 events, configuration 1\n" not in ended.out:
+        fail(f"record: a class that goes on ends with {ended}")
+    after = {seat: before.get(seat, b"") + b"%d 1 !\n%d 1 .\n" % (seat, seat) for seat in range(1, SEATS + 1)}
+    after[1] += TESS.replace(b"1 0 ", b"1 1 ")
+    wants(record, lab, after)
+    # Each seat's mark ends a session, and tess's bye another.
+    verified(lab, journal, record, b"ok: 5 sessions, 8 lines, 2 events, not whole\n")
+
+
+def full_disk(room: Path) -> None:
+    """Where a seat's file takes no more the class goes on, and the host says so at its end."""
+    lab, journal, record = lab_of(room, SEATS), room / "full.journal", room / "full"
+    limited = ["bash", "-c", 'trap "" XFSZ && ulimit -f 1 && exec "$@"', "bash"]
+    with Host(lab, 0, 0, journal, record, before=limited) as host:
+        ana, tess = begin(host)
+        for _ in range(20):
+            if b'"chosen"' not in ana.ask(MOVE):
+                fail("record: a student isn't answered where a disk is full")
+        tess.ask(CLOSE)
+        reply = ana.ask(OTHER)
+        if b'"deny"' not in reply or ana.ask(BYE) != BID:
+            fail(f"record: after a disk is full a student is answered {reply!r}")
+        ended = host.dismissed(tess)
+    if ended != Ended(4, b"done: 2 events, configuration 1\n", b"record fault\n"):
+        fail(f"record: where a record is cut the host ends with {ended}")
+    text = texts(record)[f"{STUDENT}.record"]
+    entries = text.splitlines(keepends=True)
+    if len(text) > 1024 or b"".join(entries[:8]) != b"".join(ANA.splitlines(True)[:8]) or entries[-1] != b"%d 1 !\n" % STUDENT:
+        fail(f"record: a seat's file that is full has {text!r}")
+    found = sum(b" < " in entry for entry in entries)
+    # Nothing follows the mark, so tess's session alone has an end.
+    verified(lab, journal, record, b"ok: 1 sessions, %d lines, 2 events, not whole\n" % (found + 3))
+
+
+def kept_and_held(room: Path) -> None:
+    """An older record is kept beside the next, which one host alone writes; one of another lab isn't gone on with."""
+    lab, journal, record = whole_class(room)
+    before = texts(record)
+    with Host(lab, 0, 0, room / "next.journal", record) as host:
+        with Host(lab, 0, 0, room / "other.journal", record) as second:
+            if second.listens or second.end() != Ended(4, b"", b"record fault\n"):
+                fail("record: two hosts write one record")
+        ended = host.dismissed(let_in(host.desk, hello("tess"))[0])
+    greeted = b"".join(TESS.splitlines(True)[:2])
+    bid = b"".join(TESS.splitlines(True)[-3:])
+    if ended != Ended(0, b"done: 0 events, configuration 0\n", b"") or texts(record.with_name("whole record.~1~")) != before:
+        fail(f"record: the host that goes on after another ends with {ended}, or the older record isn't kept")
+    wants(record, lab, {1: greeted + bid.replace(b"1 2 ", b"1 0 ")})
+    other = room / "other.toml"
+    other.write_bytes(lab.read_bytes() + b"# another text\n")
+    with Host(other, 0, 0, journal, record, word="resume") as host:
+        ended = host.dismissed(let_in(host.desk, hello("tess"))[0])
+    if ended.status != 0 or texts(record)["begun"] != b"2\n" or not record.with_name("whole record.~2~").is_dir():
+        fail(f"record: a record of another lab is gone on with: {ended}")
+    verified(other, journal, record, b"ok: 1 sessions, 2 lines, 2 events\n")
+
+
+def hosted(room: Path) -> int:
+    """All tests of classes; how many there were."""
+    tests = [kept_and_held, killed_and_resumed, full_disk]
+    for test in tests:
+        test(room)
+    return len(tests)
