@@ -63,7 +63,7 @@ def main() -> None:
     with tempfile.TemporaryDirectory(dir=sys.argv[1] if sys.argv[1:] else None) as folder:
         lab = Path(folder, "lab")
         lab.write_text(built_in(events=EVENTS), encoding="ascii")
-        words = [built(HOST), "host", lab, "0", "0", Path(folder, "journal")]
+        words: list[str | Path] = [built(HOST), "host", lab, "0", "0", Path(folder, "journal")]
         with subprocess.Popen(words, stdout=subprocess.PIPE) as server:
             assert server.stdout is not None
             port, desk = map(int, re.findall(rb"\d+", server.stdout.readline()))
