@@ -1,4 +1,4 @@
-"""Wants that README.md names the toolchain that this check runs with.
+"""Wants that README.md names the toolchain that this check runs with, and no other logic.
 
     python3 -B -m tests.check.kit
 """
@@ -10,15 +10,20 @@ import sys
 
 from tests.check.parts import TOP
 
-NAMED = re.compile(r"^It is proved with `(.*)`\.$", re.MULTILINE)
+NAMED = re.compile(r"^It is proved with (`.*`)\.$", re.MULTILINE)
+# A kit and its logic, which says what a proof is.
+KIT = re.compile(r"`([^`]+ logic ([0-9a-f]+))`")
 
 
 def fault(readme: str, version: str) -> str:
-    """What is wrong with the toolchain that a page names, if anything."""
-    named = NAMED.findall(readme)
-    if len(named) != 1:
+    """What is wrong with the toolchain that a page names, if anything: kits of one logic, of which this is one."""
+    lines = NAMED.findall(readme)
+    named = KIT.findall(lines[0]) if len(lines) == 1 else []
+    if not named:
         return "README.md names no toolchain, or more than one"
-    return "" if named[0] == version else f"README.md names {named[0]}, and rt is {version}"
+    if len({logic for _, logic in named}) > 1:
+        return f"README.md names kits of two logics: {lines[0]}"
+    return "" if version in [kit for kit, _ in named] else f"README.md names {' and '.join(kit for kit, _ in named)}, and rt is {version}"
 
 
 def main() -> None:
