@@ -1,6 +1,6 @@
 -- How many numbers lie between two, and how many pass one of two tests.
-use Rattle.std.proofs.Common.{◌≡◌, ℕ, zero, suc, ◌+◌, ◌<◌, ◌≤◌, Bool, true, false, cond, ◌||◌, inl, inr, refl, ap, arith}
-use Rattle.std.proofs.lemmas.Bool.{cases_lt, false_from_ne_true}
+use Rattle.std.proofs.Common.{◌≡◌, ℕ, zero, suc, ◌+◌, ◌<◌, ◌≤◌, Bool, true, false, cond, ◌||◌, ◌==◌, inl, inr, refl, ap, arith}
+use Rattle.std.proofs.lemmas.Bool.{cases_lt, false_from_ne_true, eqb-true, eq-eqb}
 use Rattle.mml_ids.specs.Search.{count_below}
 use Rattle.mml_stable.proofs.SumsLemmas.{count_none}
 
@@ -29,6 +29,14 @@ module _ (a z : ℕ) (t : ℕ → Bool) (le : a ≤ z) (on : (i : ℕ) → a ≤
         let last : cond {A = ℕ} (t n) 1 0 ≡ 0 = ap (λ b. cond b 1 0) off in
         omega (arith, rest, last)
   ]
+
+-- one number is i
+pub count_one : (i n : ℕ) → i < n → count_below n (λ j. j == i) ≡ 1
+count_one i n lt =
+    let x =
+    count_between i (suc i) (λ j. j == i) (omega arith) (λ j from below. eq-eqb j i (omega (arith, from, below)))
+    (λ j e. let same = eqb-true j i e in (omega (arith, same), omega (arith, same))) n (omega (arith, lt)) in
+    omega (arith, x)
 
 -- numbers that pass one of two tests of which none passes both
 pub count_either : (n : ℕ) (t u : ℕ → Bool) → ((i : ℕ) → t i ≡ true → u i ≡ false) → count_below n (λ i. t i || u i) ≡ count_below n t + count_below n u

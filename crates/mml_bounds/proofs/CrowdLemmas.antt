@@ -7,7 +7,6 @@ use Rattle.std.proofs.lemmas.Bool.{eqb-true, eq-eqb, ne_eqb, eqb-false, not-true
 use Rattle.std.proofs.lemmas.List.{get_or_past}
 use Rattle.std.proofs.lemmas.List.FromFn.{get_or-map-range_with_len, length-map-range_with_len}
 use Rattle.mml_ids.specs.declared.TheConstants.{MAX_NODES}
-use Rattle.mml_ids.specs.Search.{count_below}
 use Rattle.mml_ids.specs.Sets.{those_below}
 use Rattle.mml_ids.specs.inside.WordsLemmas.{has_empty, has-those_below}
 use Rattle.mml_rules.specs.declared.regs.Regs.{Regs}
@@ -24,7 +23,7 @@ use Rattle.mml_bounds.specs.Crowd.{is_near, first_pointer, crowd_world}
 use Rattle.mml_bounds.proofs.UniformLemmas.{GoesOn, IsQuiet, IsMoved, uniform_step}
 use Rattle.mml_bounds.proofs.IdleLemmas.{may_update, may_abandon}
 use Rattle.mml_bounds.proofs.PhaseLemmas.{Shape, kept, turned, shaped}
-use Rattle.mml_bounds.proofs.CountLemmas.{count_between}
+use Rattle.mml_bounds.proofs.CountLemmas.{count_one}
 
 -- the moves are that many
 abbrev pub Total : ℕ → World → ℕ → Type 0
@@ -286,15 +285,6 @@ module _ (n : ℕ) (four : 4 ≤ n) where
         (y.0 ∙ x.0, y.1 ∙ x.1);
   }
 
-  -- ---- counts
-
-  one_moves : (i m : ℕ) → i < m → count_below m (is i) ≡ 1
-  one_moves i m lt =
-      let x =
-      count_between i (suc i) (is i) (omega arith) (λ j from below. eq-eqb j i (omega (arith, from, below)))
-      (λ j e. let same = eqb-true j i e in (omega (arith, same), omega (arith, same))) m (omega (arith, lt)) in
-      omega (arith, x)
-
   module _ (r : RosterValue) (s : ℕ) (owned : (i : ℕ) → i < n → owns r (who.Student s) i ≡ true) where
     pub clear : (left i a k : ℕ) → i + left ≡ n → (w : World) → IsWorld w → IsQuiet w → Cleared i (configuration w)
         → ((u : World) → IsWorld u → IsQuiet u → Cleared n (configuration u) → Way a r u k) → Way (2 * left + a) r w (2 * left + k)
@@ -311,12 +301,12 @@ module _ (n : ℕ) (four : 4 ≤ n) where
         (λ j j_in. owned j (omega (arith, j_in, at.shape.size)))
         (λ j j_in on. subst (λ z. guard (configuration w) z Rule.Update ≡ true) (sym (eqb-true j i on)) (update_holds i (configuration w) at lt))
         (λ asked. absurd (false≢true asked)) i (omega (arith, lt, at.shape.size)) (eq-eqb i i refl)
-        (λ u x all. let one = one_moves i (size w) (omega (arith, lt, at.shape.size)) in omega (arith, one, all))
+        (λ u x all. let one = count_one i (size w) (omega (arith, lt, at.shape.size)) in omega (arith, one, all))
         (λ u ku qu moved.
         let mid = then_updated i (configuration w) (configuration u) lt at moved in
         uniform_step false (Total (2 * left + a)) (Total (1 + (2 * left + a))) r s (2 * left + k) (is i) Rule.Abandonment u ku qu
         (λ j j_in. owned j (omega (arith, j_in, mid.shape.size)))
         (λ j j_in on. subst (λ z. guard (configuration u) z Rule.Abandonment ≡ true) (sym (eqb-true j i on)) (abandon_holds i (configuration u) mid lt))
         (λ asked. absurd (false≢true asked)) i (omega (arith, lt, mid.shape.size)) (eq-eqb i i refl)
-        (λ v x all. let one = one_moves i (size u) (omega (arith, lt, mid.shape.size)) in omega (arith, one, all))
+        (λ v x all. let one = count_one i (size u) (omega (arith, lt, mid.shape.size)) in omega (arith, one, all))
         (λ v kv qv gone. clear left (suc i) a k (omega (arith, e)) v kv qv (then_cleared i (configuration u) (configuration v) lt mid gone) next)))

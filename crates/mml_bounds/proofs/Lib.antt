@@ -9,4 +9,7 @@ mod RunLemmas
 mod ReachedLemmas
 mod CountLemmas
 mod CrowdLemmas
+mod SinglyLemmas
+mod OneByOneLemmas
+mod SingleRunLemmas
 mod MovesReachedLemmas

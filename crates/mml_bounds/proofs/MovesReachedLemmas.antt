@@ -1,7 +1,7 @@
 -- The phases in the crowd, and the moves of the whole run.
 use Rattle.std.proofs.Common.{◌≡◌, ℕ, zero, suc, ◌+◌, ◌*◌, ◌-◌, ◌<◌, ◌≤◌, Bool, true, false, cond, ◌==◌, List, length, refl, ap, subst, arith}
 use Rattle.std.specs.List.{list_all}
-use Rattle.std.proofs.lemmas.Bool.{eqb-true, eq-eqb, ne_eqb}
+use Rattle.std.proofs.lemmas.Bool.{eqb-true, ne_eqb}
 use Rattle.mml_ids.specs.declared.TheConstants.{MAX_NODES}
 use Rattle.mml_ids.specs.Search.{count_below}
 use Rattle.mml_rules.specs.declared.regs.Regs.{Regs}
@@ -18,7 +18,7 @@ use Rattle.mml_bounds.specs.Crowd.{crowd_world}
 use Rattle.mml_bounds.proofs.UniformLemmas.{IsQuiet}
 use Rattle.mml_bounds.proofs.PhaseLemmas.{Seated, courts, marries_now, learns, leaves, courts-means, courts-from, leaves-means, leaves-from}
 use Rattle.mml_bounds.proofs.RunLemmas.{court, marry, learn, leave, leave_last}
-use Rattle.mml_bounds.proofs.CountLemmas.{count_between, count_either}
+use Rattle.mml_bounds.proofs.CountLemmas.{count_between, count_one, count_either}
 use Rattle.mml_bounds.proofs.CrowdLemmas.{Total, Way, all, stop, Cleared, first_registers, first_shape, crowd_is_world, clear}
 
 -- ---- how many move
@@ -29,21 +29,14 @@ module _ (n p b : ℕ) (sum : p + b + 1 ≡ n) (room : 2 * p + 2 ≤ n) where
       count_between p b (courts n all p b sum room) (omega (arith, sum, room)) (λ i from below. courts-from n all p b sum room i from below refl)
       (λ i on. let x = courts-means n all p b sum room i on in (x.0, x.1)) m (omega (arith, e, sum))
 
-  one : (i m : ℕ) → i < m → count_below m (λ j. j == i) ≡ 1
-  one i m lt =
-      let x =
-      count_between i (suc i) (λ j. j == i) (omega arith) (λ j from below. eq-eqb j i (omega (arith, from, below)))
-      (λ j e. let same = eqb-true j i e in (omega (arith, same), omega (arith, same))) m (omega (arith, lt)) in
-      omega (arith, x)
-
   marries_count : (m : ℕ) → m ≡ n → count_below m (marries_now n all p b sum room) ≡ 1
-  marries_count m e = one b m (omega (arith, e, sum))
+  marries_count m e = count_one b m (omega (arith, e, sum))
 
   learns_count : (m : ℕ) → m ≡ n → count_below m (learns n all p b sum room) ≡ 2
   learns_count m e =
       let both = count_either m (λ i. i == b) (λ i. i == p) (λ i on. ne_eqb i p (λ same. let at = eqb-true i b on in omega (arith, at, same, sum, room))) in
-      let x = one b m (omega (arith, e, sum)) in
-      let y = one p m (omega (arith, e, sum)) in
+      let x = count_one b m (omega (arith, e, sum)) in
+      let y = count_one p m (omega (arith, e, sum)) in
       omega (arith, both, x, y)
 
   leaves_count : (m : ℕ) → m ≡ n → suc p + count_below m (leaves n all p b sum room) ≡ b

@@ -45,7 +45,7 @@ pub mate : (n r i j : ℕ) (c : Configuration) → Couples n r c → i + j + 1 �
 mate n r i j c couples e (inl lt) = let x = couples i j lt e in (x.0, x.1, x.2)
 mate n r i j c couples e (inr lt) = let x = couples j i lt (omega (arith, e)) in (x.1, x.0, x.3)
 
-some_same : (a b : ℕ) → Some a ≡ Some b → a ≡ b
+pub some_same : (a b : ℕ) → Some a ≡ Some b → a ≡ b
 some_same a b e = cc
 
 -- what a step leaves where the rule is applied, and elsewhere
@@ -84,7 +84,7 @@ between_kept n r b q low is_low at c d t rule e size b_in le between off i from 
     (a.0 ∙ x.0, a.1 ∙ x.1)
 
 -- a pointer's owner is a node
-owner_in : (n : ℕ) (low : ℕ → Bool) (c : Configuration) → Shape n low c → (j i : ℕ) → c.p j ≡ Some i → j < n
+pub owner_in : (n : ℕ) (low : ℕ → Bool) (c : Configuration) → Shape n low c → (j i : ℕ) → c.p j ≡ Some i → j < n
 owner_in n low c s j i e = let range = s.lawful.in_range j i (s.lawful.to_linked j i e) in omega (arith, range.0, s.size)
 
 -- a node that isn't low, and at which nobody points
@@ -166,7 +166,7 @@ module _ (n : ℕ) (low : ℕ → Bool) (r b : ℕ) (sum : r + b + 1 ≡ n) (roo
 
   -- ---- the step from Seated
 
-  seated_free : (c : Configuration) → Seated c → (i j : ℕ) → r ≤ i → i + r < n → c.p j ≡ Some i → ⊥
+  pub seated_free : (c : Configuration) → Seated c → (i j : ℕ) → r ≤ i → i + r < n → c.p j ≡ Some i → ⊥
   seated_free c k i j from near e = elim (class n r j (owner_in n low c k.shape j i e)) [
     | inl x ↦
         let to = mate n r j x.0 c k.couples x.1 x.2 in
@@ -175,18 +175,18 @@ module _ (n : ℕ) (low : ℕ → Bool) (r b : ℕ) (sum : r + b + 1 ≡ n) (roo
     | inr x ↦ let to = (k.free j x.0 x.1).0 in cc
   ]
 
-  candidate : (c : Configuration) → Seated c → (i : ℕ) → r ≤ i → i < b → low i ≡ true → IsCandidate c i b
+  pub candidate : (c : Configuration) → Seated c → (i : ℕ) → r ≤ i → i < b → low i ≡ true → IsCandidate c i b
   candidate c k i from below is =
       let x = k.free b (omega (arith, sum, room)) (omega (arith, sum)) in
       ((k.shape.joined r b i sum room from below is).0, below, x.0, x.1)
 
-  above_b : (c : Configuration) → Seated c → (j : ℕ) → b < j → j < n → c.p j ≡ None → ⊥
+  pub above_b : (c : Configuration) → Seated c → (j : ℕ) → b < j → j < n → c.p j ≡ None → ⊥
   above_b c k j above lt null =
       let e : j + (n - (j + 1)) + 1 ≡ n = omega (arith, lt) in
       let to = (mate n r j (n - (j + 1)) c k.couples e (inr (omega (arith, above, sum, lt)))).0 in
       cc
 
-  greatest : (c : Configuration) → Seated c → (i : ℕ) → (j : ℕ) → IsCandidate c i j → j ≤ b
+  pub greatest : (c : Configuration) → Seated c → (i : ℕ) → (j : ℕ) → IsCandidate c i j → j ≤ b
   greatest c k i j x = elim (cases_lt b j) [
     | inr le ↦ le
     | inl above ↦
@@ -310,7 +310,7 @@ module _ (n : ℕ) (low : ℕ → Bool) (r b : ℕ) (sum : r + b + 1 ≡ n) (roo
 
   -- ---- the step from Engaged
 
-  groom : (c : Configuration) → Engaged c → (c.p r ≡ Some b) × (c.m r ≡ false)
+  pub groom : (c : Configuration) → Engaged c → (c.p r ≡ Some b) × (c.m r ≡ false)
   groom c k = k.courting r (omega arith) (omega (arith, room, sum)) (low_r k.shape)
 
   pub updates_hold : (c : Configuration) → Engaged c → (i : ℕ) → i < c.size → learns i ≡ true → guard c i Rule.Update ≡ true
@@ -388,7 +388,7 @@ module _ (n : ℕ) (low : ℕ → Bool) (r b : ℕ) (sum : r + b + 1 ≡ n) (roo
 
   -- ---- the step from Wed
 
-  wed_pair : (c : Configuration) → Wed c → (c.p r ≡ Some b) × (c.p b ≡ Some r) × (c.m r ≡ true) × (c.m b ≡ true)
+  pub wed_pair : (c : Configuration) → Wed c → (c.p r ≡ Some b) × (c.p b ≡ Some r) × (c.m r ≡ true) × (c.m b ≡ true)
   wed_pair c k = k.couples r b (omega arith) sum
 
   wed_free : (c : Configuration) → Wed c → (i j : ℕ) → r < i → i < b → c.p j ≡ Some i → ⊥

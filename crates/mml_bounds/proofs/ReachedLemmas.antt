@@ -37,7 +37,7 @@ abbrev Restless : World → ℕ → Type 0
 Restless u x = ¬ IsStable (configuration u)
 
 -- the nodes of the lower half
-abbrev lower : ℕ → ℕ → Bool
+abbrev pub lower : ℕ → ℕ → Bool
 lower n i = nat_lt (2 * i) n
 
 abbrev Way : RosterValue → World → ℕ → Type 0
@@ -105,13 +105,13 @@ module _ (n : ℕ) where
   first_registers : (i : ℕ) → i < n → registers_at world_at.network.registers i ≡ record { p = None; m = true }
   first_registers i lt = get_or-replicate n i (record { p = None; m = true }) no_regs lt
 
-  first_null : (i : ℕ) → at_first.p i ≡ None
+  pub first_null : (i : ℕ) → at_first.p i ≡ None
   first_null i = elim (cases_lt i n) [
     | inl lt ↦ ap (λ (g : Regs). g.p) (first_registers i lt)
     | inr past ↦ ap (λ (g : Regs). g.p) (get_or_past world_at.network.registers i no_regs (omega (arith, past, first_size)))
   ]
 
-  first_m : (i : ℕ) → i < n → at_first.m i ≡ true
+  pub first_m : (i : ℕ) → i < n → at_first.m i ≡ true
   first_m i lt = ap (λ (g : Regs). g.m) (first_registers i lt)
 
   first_linked : (i j : ℕ) → i < n → at_first.linked i j ≡ (nat_lt j n && is_joined n i j)
@@ -188,7 +188,7 @@ module _ (n : ℕ) where
   }
 
   -- first all nodes update
-  seated : (sum : 0 + (n - 1) + 1 ≡ n) (room : 2 * 0 + 2 ≤ n) (d : Configuration) → IsMoved at_first d (λ i. nat_lt i n) Rule.Update
+  pub seated : (sum : 0 + (n - 1) + 1 ≡ n) (room : 2 * 0 + 2 ≤ n) (d : Configuration) → IsMoved at_first d (λ i. nat_lt i n) Rule.Update
       → Seated n (lower n) 0 (n - 1) sum room d
   seated sum room d e = record {
     shape = shaped at_first d (λ i. nat_lt i n) Rule.Update e n (lower n) first_shape;
@@ -244,13 +244,13 @@ full_rounds w (e ∷ es) full = go (is_close e) refl (full_rounds (after w e) es
 
 -- ---- for each number of nodes
 
-record Parted (n : ℕ) : Type 0 where
-  couples : ℕ
-  odd : Bool
-  whole : 2 * couples + 2 + cond odd 1 0 ≡ n
-  rounds : rounds_for n ≡ suc (suc (4 * couples + 2 + cond odd 1 0))
+pub record Parted (n : ℕ) : Type 0 where
+  pub couples : ℕ
+  pub odd : Bool
+  pub whole : 2 * couples + 2 + cond odd 1 0 ≡ n
+  pub rounds : rounds_for n ≡ suc (suc (4 * couples + 2 + cond odd 1 0))
 
-parted : (n : ℕ) → 2 ≤ n → Parted n
+pub parted : (n : ℕ) → 2 ≤ n → Parted n
 parted zero le = absurd (omega (arith, le))
 parted (suc zero) le = absurd (omega (arith, le))
 parted (suc (suc zero)) le = record { couples = 0; odd = false; whole = refl; rounds = refl }

@@ -48,23 +48,23 @@ module _ (need : Bool) (r : RosterValue) (s : ℕ) (c : Configuration) (t : ℕ 
     (holds : (i : ℕ) → i < c.size → t i ≡ true → guard c i rule ≡ true)
     (others : need ≡ true → (i : ℕ) → i < c.size → t i ≡ false → is_privileged c i ≡ false) where
   -- the rule is chosen at each node from n on that passes
-  record Picking (n : ℕ) (w : World) : Type 0 where
-    world : IsWorld w
-    same : configuration w ≡ c
-    on : (i : ℕ) → i < c.size → n ≤ i → t i ≡ true → chosen_at w.chosen i ≡ Some rule
-    below : (i : ℕ) → i < c.size → i < n → chosen_at w.chosen i ≡ None
-    off : (i : ℕ) → i < c.size → t i ≡ false → chosen_at w.chosen i ≡ None
+  pub record Picking (n : ℕ) (w : World) : Type 0 where
+    pub world : IsWorld w
+    pub same : configuration w ≡ c
+    pub on : (i : ℕ) → i < c.size → n ≤ i → t i ≡ true → chosen_at w.chosen i ≡ Some rule
+    pub below : (i : ℕ) → i < c.size → i < n → chosen_at w.chosen i ≡ None
+    pub off : (i : ℕ) → i < c.size → t i ≡ false → chosen_at w.chosen i ≡ None
 
   sized : (n : ℕ) (w : World) → Picking n w → size w ≡ c.size
   sized n w k = ap (λ (d : Configuration). d.size) k.same
 
   -- a grant more
-  grant_legal : (n : ℕ) (w : World) → Picking (suc n) w → n < c.size → t n ≡ true → is_legal r w (event.Grant s n rule) ≡ true
+  pub grant_legal : (n : ℕ) (w : World) → Picking (suc n) w → n < c.size → t n ≡ true → is_legal r w (event.Grant s n rule) ≡ true
   grant_legal n w k lt on =
       and_from _ _ (owned n lt) (and_from _ _ (lt-ltb n (size w) (omega (arith, lt, sized (suc n) w k)))
       (and_from _ _ (ap is_none (k.below n lt (omega arith))) (ap (λ (d : Configuration). guard d n rule) k.same ∙ holds n lt on)))
 
-  granted : (n : ℕ) (w : World) → Picking (suc n) w → n < c.size → t n ≡ true → Picking n (after w (event.Grant s n rule))
+  pub granted : (n : ℕ) (w : World) → Picking (suc n) w → n < c.size → t n ≡ true → Picking n (after w (event.Grant s n rule))
   granted n w k lt on =
       let long : n < length w.chosen = omega (arith, lt, sized (suc n) w k, k.world.choices) in
       let legal = grant_legal n w k lt on in
@@ -120,7 +120,7 @@ module _ (need : Bool) (r : RosterValue) (s : ℕ) (c : Configuration) (t : ℕ 
   ]
 
   -- the close
-  moved_to : (v : World) → Picking 0 v → is_any_chosen v ≡ true → IsMoved c (configuration (after v event.Close)) t rule
+  pub moved_to : (v : World) → Picking 0 v → is_any_chosen v ≡ true → IsMoved c (configuration (after v event.Close)) t rule
   moved_to v k any = record {
     size = size-after v event.Close ∙ sized 0 v k;
     lawful = (after-world v event.Close k.world any).network.lawful;
@@ -139,7 +139,7 @@ module _ (need : Bool) (r : RosterValue) (s : ℕ) (c : Configuration) (t : ℕ 
       registers i lt =
           moved_at v k.world.choices i ∙ ap (λ (d : Configuration). moved d i (chosen_at v.chosen i)) k.same ∙ ap (λ o. moved c i o) (choice i lt)
 
-  applied : (v : World) → Picking 0 v → chosen_count v ≡ count_below c.size t
+  pub applied : (v : World) → Picking 0 v → chosen_count v ≡ count_below c.size t
   unfolding chosen_count
   applied v k = count_same (size v) (is_chosen v) t one ∙ ap (λ n. count_below n t) (sized 0 v k)
     where

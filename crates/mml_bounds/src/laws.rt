@@ -14,7 +14,7 @@ ghost use Rattle.mml_board.specs.declared.event.Event.{Event};
 ghost use Rattle.mml_board.specs.World.{World, IsWorld, size, configuration};
 ghost use Rattle.mml_board.specs.Runs.{is_legal_list, world_of};
 ghost use Rattle.mml_stable.specs.Runs.{is_of_step};
-ghost use Rattle.mml_stable.specs.Moves.{moves, applied_over};
+ghost use Rattle.mml_stable.specs.Moves.{moves, applied_over, count_closes};
 ghost use Rattle.mml_stable.specs.Rest.{is_grant_or_close};
 ghost use Rattle.mml_stable.specs.Rounds.{Rounds, rounds_for};
 ghost use Rattle.mml_bounds.specs.Courtships.{most_courtships, courting_potential};
@@ -47,7 +47,7 @@ pub fn step_lowers_courting_potential()
 
 /// The bound on rounds is reached for each number of nodes from 2 on that a lab may have: whoever owns each
 /// node of the two halves has a legal list of grants and closes with one round less than the bound, after
-/// which some node is privileged.
+/// which some node is privileged. So too where each close applies one move: as many moves as closes.
 pub fn rounds_are_reached()
     ensures world { (n : ℕ) → n ≤ MAX_NODES →
         IsWorld (halves_world n) × (size (halves_world n) ≡ n) }
@@ -55,6 +55,13 @@ pub fn rounds_are_reached()
         ((i : ℕ) → i < n → owns r (Who.Student s) i ≡ true) →
         (es : List Event) × (is_legal_list r (halves_world n) es ≡ true) ×
         (list_all is_grant_or_close es ≡ true) × Rounds (rounds_for n - 1) (halves_world n) es ×
+        (¬ IsStable (configuration (world_of (halves_world n) es))) }
+    ensures singly { (r : RosterValue) (s n : ℕ) → 2 ≤ n → n ≤ MAX_NODES →
+        ((i : ℕ) → i < n → owns r (Who.Student s) i ≡ true) →
+        (es : List Event) × (is_legal_list r (halves_world n) es ≡ true) ×
+        (list_all is_grant_or_close es ≡ true) ×
+        (applied_over (halves_world n) es ≡ count_closes es) ×
+        Rounds (rounds_for n - 1) (halves_world n) es ×
         (¬ IsStable (configuration (world_of (halves_world n) es))) }
 {}
 
