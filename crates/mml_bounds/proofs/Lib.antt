@@ -13,3 +13,6 @@ mod SinglyLemmas
 mod OneByOneLemmas
 mod SingleRunLemmas
 mod MovesReachedLemmas
+mod CombLemmas
+mod CombReachedLemmas
+mod CombLinksLemmas

@@ -1,5 +1,5 @@
 //! Laws of how many moves there are at the most. Each is the clause of a function that does nothing.
-ghost use Rattle.std.specs.Prelude.{◌≡◌, ℕ, ◌+◌, ◌-◌, ◌*◌, ◌<◌, ◌≤◌, min, true, List, Option};
+ghost use Rattle.std.specs.Prelude.{◌≡◌, ℕ, ◌+◌, ◌-◌, ◌*◌, ◌<◌, ◌≤◌, true, List, Option};
 ghost use Rattle.std.specs.List.{list_all};
 ghost use Rattle.mml_ids.specs.Search.{count_below};
 ghost use Rattle.mml_ids.specs.declared.TheConstants.{MAX_NODES};
@@ -18,8 +18,10 @@ ghost use Rattle.mml_stable.specs.Moves.{moves, applied_over, count_closes};
 ghost use Rattle.mml_stable.specs.Rest.{is_grant_or_close};
 ghost use Rattle.mml_stable.specs.Rounds.{Rounds, rounds_for};
 ghost use Rattle.mml_bounds.specs.Courtships.{most_courtships, courting_potential};
+ghost use Rattle.mml_bounds.specs.Most.{most_moves};
 ghost use Rattle.mml_bounds.specs.Halves.{halves_world};
 ghost use Rattle.mml_bounds.specs.Crowd.{crowd_world};
+ghost use Rattle.mml_bounds.specs.Comb.{comb_world};
 
 /// From any world, the closes of a legal list of grants, releases and closes apply at most 3 moves for each
 /// of n nodes in all, and 2 for each link or, where these are more than n²/4, 2 for each of n²/4, however
@@ -27,7 +29,7 @@ ghost use Rattle.mml_bounds.specs.Crowd.{crowd_world};
 pub fn moves_are_few()
     ensures { (r : RosterValue) (w : World) (es : List Event) → IsWorld w →
         is_legal_list r w es ≡ true → list_all is_of_step es ≡ true →
-        applied_over w es ≤ 3 * size w + 2 * min (link_count w.network) (most_courtships (size w)) }
+        applied_over w es ≤ most_moves (size w) (link_count w.network) }
 {}
 
 /// The most courtships among n nodes are n²/4, rounded down.
@@ -81,4 +83,26 @@ pub fn moves_are_reached()
         (es : List Event) × (is_legal_list r (crowd_world (2 * k + 1)) es ≡ true) ×
         (list_all is_grant_or_close es ≡ true) ×
         (applied_over (crowd_world (2 * k + 1)) es ≡ 3 * (2 * k + 1) + 2 * most_courtships (2 * k + 1) - 1) }
+{}
+
+/// From 4 nodes on the comb is a tree: it has one link less than nodes, and each node but the last is linked
+/// to a higher one. Whoever owns each node has a legal list of grants and closes that applies one move less
+/// than the bound for so many links, and two less where the number of nodes is odd. That no tree takes more
+/// isn't stated.
+pub fn trees_reach_their_moves()
+    ensures world { (n : ℕ) → 4 ≤ n → n ≤ MAX_NODES →
+        IsWorld (comb_world n) × (size (comb_world n) ≡ n) }
+    ensures tree { (n : ℕ) → 4 ≤ n → n ≤ MAX_NODES →
+        (link_count (comb_world n).network ≡ n - 1) × ((i : ℕ) → i + 1 < n →
+        (j : ℕ) × (i < j) × ((configuration (comb_world n)).linked i j ≡ true)) }
+    ensures even { (r : RosterValue) (s k : ℕ) → 2 ≤ k → 2 * k ≤ MAX_NODES →
+        ((i : ℕ) → i < 2 * k → owns r (Who.Student s) i ≡ true) →
+        (es : List Event) × (is_legal_list r (comb_world (2 * k)) es ≡ true) ×
+        (list_all is_grant_or_close es ≡ true) ×
+        (applied_over (comb_world (2 * k)) es ≡ 3 * (2 * k) + 2 * (2 * k - 1) - 1) }
+    ensures odd { (r : RosterValue) (s k : ℕ) → 2 ≤ k → 2 * k + 1 ≤ MAX_NODES →
+        ((i : ℕ) → i < 2 * k + 1 → owns r (Who.Student s) i ≡ true) →
+        (es : List Event) × (is_legal_list r (comb_world (2 * k + 1)) es ≡ true) ×
+        (list_all is_grant_or_close es ≡ true) ×
+        (applied_over (comb_world (2 * k + 1)) es ≡ 3 * (2 * k + 1) + 2 * (2 * k) - 2) }
 {}

@@ -1,0 +1,17 @@
+use Rattle.mml_bounds.proofs.CombLemmas.{comb_is_world, comb_size}
+use Rattle.mml_bounds.proofs.CombLinksLemmas.{comb_links, comb_joined}
+use Rattle.mml_bounds.proofs.CombReachedLemmas.{trees_reached_even, trees_reached_odd}
+use Rattle.mml_bounds.proofs.laws.trees_reach_their_moves.Goals as goal
+use Rattle.std.proofs.Common.{arith}
+
+pub returns-clause-world : goal.returns-clause-world
+returns-clause-world c n four few = (comb_is_world n few, comb_size n)
+
+pub returns-clause-tree : goal.returns-clause-tree
+returns-clause-tree c n four few = (comb_links n (omega (arith, four)), comb_joined n)
+
+pub returns-clause-even : goal.returns-clause-even
+returns-clause-even c = trees_reached_even
+
+pub returns-clause-odd : goal.returns-clause-odd
+returns-clause-odd c = trees_reached_odd

@@ -1,0 +1,26 @@
+-- The comb: a tree on which a run may take one move less than its links allow, two less for an odd number of nodes.
+use Rattle.std.specs.Prelude.{ℕ, ◌+◌, ◌*◌, ◌-◌, Bool, true, ◌||◌, nat_lt, Option, None, Some, map, if◌then◌else◌}
+use Rattle.std.specs.List.{range_with_len}
+use Rattle.mml_ids.specs.Sets.{those_below}
+use Rattle.mml_rules.specs.Configuration.{holds}
+use Rattle.mml_rules.specs.Network.{Network}
+use Rattle.mml_board.specs.World.{World, opening_of}
+
+-- the first half points at the last, first at last; the others each at the next, and the last at none
+abbrev pub first_pointer : ℕ → ℕ → Option ℕ
+first_pointer n i = if nat_lt (2 * i + 1) n then Some (n - (i + 1)) else if nat_lt (i + 1) n then Some (i + 1) else None
+
+-- one of the two points at the other
+abbrev pub is_comb : ℕ → ℕ → ℕ → Bool
+is_comb n i j = holds (first_pointer n i) j || holds (first_pointer n j) i
+
+-- n nodes linked so; each points so, with m true
+abbrev pub comb : ℕ → Network
+comb n = record {
+  neighbours = map (λ i. those_below n (is_comb n i)) (range_with_len 0 n);
+  registers = map (λ i. record { p = first_pointer n i; m = true }) (range_with_len 0 n);
+}
+
+-- that network at the beginning
+abbrev pub comb_world : ℕ → World
+comb_world n = opening_of (comb n)
