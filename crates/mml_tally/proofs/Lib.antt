@@ -1,3 +1,4 @@
+pub mod BoundsLemmas
 pub mod CountsLemmas
 pub mod ClosesLemmas
 pub mod TextsLemmas

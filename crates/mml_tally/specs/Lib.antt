@@ -5,3 +5,4 @@ pub mod Runs
 pub mod inside
 pub mod Texts
 pub mod Meaning
+pub mod Bounds

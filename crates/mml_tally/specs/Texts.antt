@@ -10,10 +10,12 @@ use Rattle.mml_tally.specs.declared.granted_move.Move.{Move}
 use Rattle.mml_tally.specs.declared.marks.ByRule.{ByRule}
 use Rattle.mml_tally.specs.declared.marks.Marks.{Marks}
 use Rattle.mml_tally.specs.declared.run.Run.{Run}
+use Rattle.mml_tally.specs.declared.bounds.Bounds.{Bounds}
 use Rattle.mml_tally.specs.Moves.{moves}
 use Rattle.mml_tally.specs.Owners.{owners_in_order, is_shared}
 use Rattle.mml_tally.specs.Marks.{by_rule, moves_by, moves_at, marks_of}
 use Rattle.mml_tally.specs.Runs.{run_of}
+use Rattle.mml_tally.specs.Bounds.{bounds_of}
 
 -- each number with a space before it
 abbrev pub numbers_text : List ℕ → List ℕ
@@ -50,6 +52,10 @@ abbrev pub node_line : LabValue → List Move → ℕ → List ℕ
 node_line lab all i =
     codes "node" ++ (numbers_text (slice_index lab.ids i ∷ []) ++ (owners_text lab.roster (moves_at i all) (owners_in_order lab.roster i) ++ codes "\n"))
 
+-- the most moves, rounds and events
+abbrev pub bounds_line : Bounds → List ℕ
+bounds_line b = codes "bounds" ++ (numbers_text (b.moves ∷ b.rounds ∷ b.events ∷ []) ++ codes "\n")
+
 -- no node is privileged
 abbrev pub stable_text : Bool → List ℕ
 stable_text true = codes " stable"
@@ -69,7 +75,10 @@ students_text lab es n = each_below n (λ s. student_line (name_of lab.roster (w
 abbrev pub nodes_text : LabValue → List Event → ℕ → List ℕ
 nodes_text lab es n = each_below n (λ i. if is_shared lab.roster i then node_line lab (moves es) i else [])
 
--- the students, the nodes of several owners, and last the run, which has led to that world
+-- what is told of the network to which a run has led, and last of the run
+abbrev pub ends_text : World → List Event → List ℕ
+ends_text w es = bounds_line (bounds_of w) ++ run_line w (run_of es)
+
+-- the students, the nodes of several owners, and the end of the run, which has led to that world
 abbrev pub tally_text : LabValue → World → List Event → List ℕ
-tally_text lab w es =
-    students_text lab es (length lab.roster.students) ++ (nodes_text lab es (length lab.ids) ++ run_line w (run_of es))
+tally_text lab w es = students_text lab es (length lab.roster.students) ++ (nodes_text lab es (length lab.ids) ++ ends_text w es)

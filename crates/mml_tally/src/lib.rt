@@ -1,7 +1,8 @@
-//! What a run's events tell of each student, of the run, and of each node that several own. Nothing here
-//! knows a world: a move is followed through the list alone.
+//! What a run's events tell of each student, of the run, and of each node that several own: a move is
+//! followed through the list alone. And how much may follow from the world that they led to.
 #![tactic(auto)]
 
+mod bounds;
 mod fate;
 mod granted_move;
 pub mod laws;
@@ -10,6 +11,7 @@ mod owners;
 mod run;
 mod text;
 
+pub use bounds::{Bounds, bounds_of};
 pub use fate::{Fate, ended_by, fate_of};
 pub use granted_move::{Move, moves_of};
 pub use marks::{ByRule, Marks, by_rule, is_applied, marks_of, moves_at, moves_by};

@@ -3,8 +3,9 @@ ghost use Rattle.mml_lab.specs.declared.who.Who.TheVariants.{Student as AStudent
 ghost use Rattle.mml_lab.specs.Rosters.{name_of};
 ghost use Rattle.mml_board.specs.World.{configuration, privileged_count};
 ghost use Rattle.mml_tally.specs.Moves.{moves};
-ghost use Rattle.mml_tally.specs.Texts.{numbers_text, place_text, rules_text, marks_text, student_line, owner_text, owners_text, node_line, stable_text, run_line, students_text, nodes_text, tally_text};
+ghost use Rattle.mml_tally.specs.Texts.{numbers_text, place_text, rules_text, marks_text, student_line, owner_text, owners_text, node_line, bounds_line, stable_text, run_line, students_text, nodes_text, tally_text};
 
+use crate::bounds::{Bounds, bounds_of};
 use crate::granted_move::{Move, moves_of};
 use crate::marks::{ByRule, Marks, by_rule, marks_of, moves_at, moves_by};
 use crate::owners::{is_shared, owners_of};
@@ -28,6 +29,7 @@ pub fn put_tally(
     let all = moves_of(alloc, events)?;
     put_students(out, alloc, lab, &all)?;
     put_nodes(out, alloc, lab, &all)?;
+    put_bounds(out, &bounds_of(board))?;
     put_run(out, board, &run_of(events, &all))
 }
 
@@ -148,6 +150,14 @@ fn put_owner(out: &mut Vec<u8>, name: &str, counts: &ByRule) -> Result<(), Memor
 {
     put(out, &[Piece::Text(" "), Piece::Text(name)])?;
     put_rules(out, counts)
+}
+
+fn put_bounds(out: &mut Vec<u8>, bounds: &Bounds) -> Result<(), Memory>
+    ensures { OnOk result (out.new.items ≡ out.old.items ++ bounds_line bounds.now) }
+{
+    put(out, &[Piece::Text("bounds")])?;
+    put_numbers(out, &[bounds.moves, bounds.rounds, bounds.events])?;
+    put(out, &[Piece::Text("\n")])
 }
 
 fn put_run(out: &mut Vec<u8>, board: &Board, run: &Run) -> Result<(), Memory>

@@ -1,0 +1,28 @@
+-- The bounds as numbers.
+use Rattle.std.proofs.Common.{◌≡◌, ◌⊎◌, inl, inr, ℕ, zero, suc, ◌+◌, ◌-◌, ◌*◌, ◌/◌, ◌%◌, refl, sym, ap, ◌∙◌, arith}
+use Rattle.mml_stable.specs.Rounds.{rounds_for}
+use Rattle.mml_bounds.specs.Courtships.{most_courtships}
+use Rattle.mml_bounds.proofs.NumbersLemmas.{courtships_even, courtships_odd}
+
+-- twice the half, and one more where the number is odd
+halved : (n : ℕ) → (n ≡ 2 * (n / 2)) ⊎ (n ≡ 2 * (n / 2) + 1)
+halved n = grind arith
+
+at_half : (n k : ℕ) → (n ≡ 2 * k) ⊎ (n ≡ 2 * k + 1) → k * (n - k) ≡ most_courtships n
+at_half n k (inl even) =
+    let rest : n - k ≡ k = omega (arith, even) in
+    ap (λ z. k * z) rest ∙ sym (courtships_even k) ∙ ap most_courtships (sym even)
+at_half n k (inr odd) =
+    let rest : n - k ≡ k + 1 = omega (arith, odd) in
+    let grown : k * (k + 1) ≡ k * k + k = omega arith in
+    ap (λ z. k * z) rest ∙ grown ∙ sym (courtships_odd k) ∙ ap most_courtships (sym odd)
+
+pub halves_court : (n : ℕ) → n / 2 * (n - n / 2) ≡ most_courtships n
+halves_court n = at_half n (n / 2) (halved n)
+
+pub rounds_are : (n : ℕ) → 2 * n - n % 2 ≡ rounds_for n
+rounds_are zero = refl
+rounds_are (suc zero) = refl
+rounds_are (suc (suc n)) =
+    let rest = rounds_are n in
+    omega (arith, rest)

@@ -1,0 +1,14 @@
+-- The most that a run takes from a world on, where no fault, link or cut comes.
+use Rattle.std.specs.Prelude.{ℕ}
+use Rattle.mml_lab.specs.Labs.{link_count}
+use Rattle.mml_board.specs.World.{World, size}
+use Rattle.mml_stable.specs.Rounds.{rounds_for}
+use Rattle.mml_bounds.specs.Most.{most_moves, events_to_rest}
+use Rattle.mml_tally.specs.declared.bounds.Bounds.{Bounds}
+
+-- of so many nodes and links
+abbrev pub bounds_for : ℕ → ℕ → Bounds
+bounds_for nodes links = record { moves = most_moves nodes links; rounds = rounds_for nodes; events = events_to_rest nodes links }
+
+abbrev pub bounds_of : World → Bounds
+bounds_of w = bounds_for (size w) (link_count w.network)
