@@ -8,6 +8,7 @@ pub mod EndsLemmas
 pub mod ToldAtLemmas
 pub mod HallPlacesLemmas
 pub mod SessionPlacesLemmas
+pub mod ServedLemmas
 pub mod WordsLemmas
 pub mod FilesLemmas
 pub mod WitnessesLemmas

@@ -28,7 +28,7 @@ use Rattle.mml_stable.proofs.RestLemmas.{any_chosen, may_move, first_owner}
 use Rattle.mml_bounds.specs.Courtships.{most_courtships, courting_potential}
 use Rattle.mml_bounds.proofs.NumbersLemmas.{courtships_kept, courtships_even}
 use Rattle.mml_bounds.proofs.WholeLemmas.{courting_fell, courting_most}
-use Rattle.mml_laws.specs.Rest.{events_to_rest}
+use Rattle.mml_bounds.specs.Most.{events_to_rest}
 use Rattle.mml_laws.proofs.ChoicesLemmas.{opening}
 
 -- ---- one more is chosen

@@ -4,7 +4,7 @@ pub mod Greeted
 pub mod Choices
 pub mod Ends
 pub mod Told
+pub mod Served
 pub mod Words
 pub mod Files
 pub mod Witnesses
-pub mod Rest

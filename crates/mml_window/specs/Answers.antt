@@ -5,6 +5,7 @@ use Rattle.mml_lab.specs.declared.who.Who.{Who}
 use Rattle.mml_lab.specs.Labs.{LabValue}
 use Rattle.mml_board.specs.declared.event.Event.{Event}
 use Rattle.mml_board.specs.declared.done.Done.{Done}
+use Rattle.mml_board.specs.World.{World}
 use Rattle.mml_policy.specs.declared.command.Command.{Command}
 use Rattle.mml_policy.specs.declared.ruling.Ruling.TheVariants as ruling
 use Rattle.mml_policy.specs.About.{IsDone}
@@ -14,7 +15,7 @@ use Rattle.mml_policy.specs.declared.refusal.Refusal.{Refusal}
 use Rattle.mml_policy.specs.declared.refusal.Refusal.TheVariants.{Full, Journal, Memory}
 use Rattle.mml_window.specs.Lists.{is_legal_in, world_in, ruling_at}
 use Rattle.mml_window.specs.Windows.{WindowValue, window, window_with}
-use Rattle.mml_window.specs.Books.{BookValue, Grows, Halts}
+use Rattle.mml_window.specs.Books.{BookValue, IsBook, Grows, Halts}
 
 -- an event would take place there
 abbrev pub Grants : LabValue → List Event → Who → Command → Type 0
@@ -66,6 +67,22 @@ Says lab l places who command (Granted place number done) new =
 -- the answer is given at a legal list that begins with all that the window had seen
 abbrev pub Answers : LabValue → WindowValue → Who → Command → Answer → WindowValue → Type 0
 Answers lab old who command answer new = (l : List Event) × IsPrefix old.seen l × (is_legal_in lab l ≡ true) × Says lab l old.places who command answer new
+
+-- the same, at a list that leaves this world
+abbrev pub AnswersAt : LabValue → World → WindowValue → Who → Command → Answer → WindowValue → Type 0
+AnswersAt lab w old who command answer new =
+    (l : List Event) × IsPrefix old.seen l × (is_legal_in lab l ≡ true) × (world_in lab l ≡ w) × Says lab l old.places who command answer new
+
+-- A book of the lab decides the act, and the list at which the answer is given leaves the world of that very book: no event that it has
+-- was left out. What the window has then seen leaves the world of the book as it is afterwards
+pub record AnswersAtPresent {S : Type 0} (lab : LabValue) (contents : S → Option (List ℕ)) (failures : S → ℕ) (old : WindowValue) (who : Who)
+    (command : Command) (answer : Answer) (new : WindowValue) : Type 0 where
+  pub before : BookValue S
+  pub after : BookValue S
+  pub book : IsBook lab contents before
+  pub decides : Decides lab failures before who command answer after
+  pub answers : AnswersAt lab (world_in lab before.events) old who command answer new
+  pub sees : world_in lab new.seen ≡ world_in lab after.events
 
 -- the nodes that an answer names are among these
 abbrev pub IsAnswered : List ℕ → Answer → Type 0

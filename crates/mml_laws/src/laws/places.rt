@@ -11,6 +11,9 @@ ghost use Rattle.mml_session.specs.Talks.{Talk, LineTurn};
 ghost use Rattle.mml_session.specs.Turns as session;
 ghost use Rattle.mml_session.specs.Turns.{places_in};
 ghost use Rattle.mml_window.specs.Lists.{is_legal_in};
+ghost use Rattle.mml_window.specs.Tallies.{told_of, IsEachOnceFrom};
+ghost use Rattle.mml_window.specs.Windows.{WindowValue};
+ghost use Rattle.mml_laws.specs.Served.{AreServed, named_by};
 ghost use Rattle.mml_laws.specs.Told.{EachNamesItsEvent, NamesItsEventIn, EachNamesItsEventIn};
 
 /// In a run of a hall a reply that names place p answers one who was known on its connection, and event p of
@@ -41,4 +44,16 @@ pub fn replies_of_a_session_name_their_events()
     ensures turn { (lab : LabValue) (st after : session.Standing) (t : LineTurn lab st after)
         (l : List Event) → IsLab lab → is_legal_in lab l ≡ true → length l ≤ lab.events →
         IsPrefix after.window.seen l → NamesItsEventIn lab l st t.line t.reply }
+{}
+
+/// Where the windows of a house served one session after another, and their places are those behind the
+/// first events up to a last one, each once, as at the end of each house that has a log, then each of
+/// these events has exactly one reply that names it, over all sessions of all windows. Where a write
+/// failed, that reply may not have gone out.
+pub fn each_event_of_a_house_has_one_reply()
+    ensures { (lab : LabValue) (begun : List Event) (most : ℕ)
+        (sessions : List (List (List Reply))) (windows : List WindowValue) →
+        AreServed lab begun sessions windows →
+        IsEachOnceFrom (length begun) most (told_of windows) →
+        IsEachOnceFrom (length begun) most (named_by sessions) }
 {}

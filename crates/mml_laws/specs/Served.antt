@@ -1,0 +1,53 @@
+-- The replies of the sessions of a house.
+use Rattle.std.specs.Prelude.{◌≡◌, ℕ, List, [], ◌∷◌, ◌++◌, flat_map, Option}
+use Rattle.mml_lab.specs.Labs.{LabValue}
+use Rattle.mml_board.specs.declared.event.Event.{Event}
+use Rattle.mml_codec.specs.declared.reply.Reply.{Reply}
+use Rattle.mml_window.specs.Windows.{WindowValue, window}
+use Rattle.mml_session.specs.declared.session.SessionEnd.{SessionEnd}
+use Rattle.mml_session.specs.declared.session.SessionEnd.TheVariants as end
+use Rattle.mml_session.specs.Turns.{places_in}
+use Rattle.mml_session.specs.Ends.{Ended}
+
+-- the replies of a session, by how it ended: of the last one only a front went out, where a write failed
+abbrev pub replies_in : (end : SessionEnd) (lab : LabValue) (old new : WindowValue) (input left wrote wrote' : Option (List ℕ))
+    → Ended end lab old new input left wrote wrote' → List Reply
+replies_in end.Bye lab old new input left wrote wrote' e = e.1.talk.replies ++ e.1.last.reply ∷ []
+replies_in end.End lab old new input left wrote wrote' e = e.1.talk.replies
+replies_in end.ReadFault lab old new input left wrote wrote' e = e.1.talk.replies
+replies_in end.WriteFault lab old new input left wrote wrote' e = e.2.talk.replies ++ e.2.last.reply ∷ []
+replies_in end.TooLong lab old new input left wrote wrote' e = e.1.talk.replies
+replies_in end.Closed lab old new input left wrote wrote' e = e.1.talk.replies
+replies_in end.Memory lab old new input left wrote wrote' e = []
+
+-- a session with these replies led a window from the one value to the other
+pub record IsSession (lab : LabValue) (old new : WindowValue) (replies : List Reply) : Type 0 where
+  pub end : SessionEnd
+  pub input : Option (List ℕ)
+  pub left : Option (List ℕ)
+  pub wrote : Option (List ℕ)
+  pub wrote' : Option (List ℕ)
+  pub ended : Ended end lab old new input left wrote wrote'
+  pub all : replies ≡ replies_in end lab old new input left wrote wrote' ended
+
+-- sessions with these replies, one after another, led it there
+abbrev pub AreSessions : LabValue → WindowValue → List (List Reply) → WindowValue → Type 0
+AreSessions lab old [] new = new ≡ old
+AreSessions lab old (replies ∷ later) new = (next : WindowValue) × IsSession lab old next replies × AreSessions lab next later new
+
+-- each window of a house was led so, from having seen what came before the house
+abbrev pub AreServed : LabValue → List Event → List (List (List Reply)) → List WindowValue → Type 0
+AreServed lab begun [] [] = Unit {0}
+AreServed lab begun [] (w ∷ ws) = ⊥
+AreServed lab begun (sessions ∷ others) [] = ⊥
+AreServed lab begun (sessions ∷ others) (w ∷ ws) = AreSessions lab (window begun []) sessions w × AreServed lab begun others ws
+
+-- the places that the replies of one window's sessions name, in order
+abbrev pub named_in : List (List Reply) → List ℕ
+named_in [] = []
+named_in (replies ∷ later) = flat_map places_in replies ++ named_in later
+
+-- and those of all windows'
+abbrev pub named_by : List (List (List Reply)) → List ℕ
+named_by [] = []
+named_by (sessions ∷ others) = named_in sessions ++ named_by others
