@@ -1,6 +1,7 @@
 //! The folder in which a class is recorded: a file for each seat, and what they are read with.
 #![tactic(auto)]
 
+mod budgets;
 mod folder;
 mod paths;
 mod record_fault;
@@ -9,6 +10,7 @@ mod record_state;
 mod seats;
 mod tail;
 
+pub use budgets::{BUDGET, Budgets, SeatBudget};
 pub use folder::RecordFolder;
 pub use record_fault::RecordFault;
 pub use record_sink::RecordSink;
