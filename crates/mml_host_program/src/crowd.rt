@@ -5,6 +5,7 @@ use crate::last_word::LastWord;
 use crate::shared_socket::SharedSocket;
 use mml_ids::Memory;
 use std::alloc::Global;
+use std::sync::atomic::{AtomicBool, Ordering};
 use std::sync::{Arc, Mutex, Wait};
 use std::time::{Duration, Instant};
 
@@ -17,7 +18,7 @@ const PLACES_OF_A_NAME: usize = 4;
 // After how many milliseconds such a name gives one up: a place that is being given back is free sooner.
 const MOMENT: u64 = 250;
 
-// How many milliseconds one who hasn't greeted may stay, whoever waits.
+// How many milliseconds one who hasn't greeted, nor was answered, may stay, whoever waits.
 const GRACE: u64 = 100;
 
 // One who is served.
@@ -33,6 +34,13 @@ struct Guest {
 impl Guest {
     fn is_stranger(&self) -> bool {
         self.greeting.is_none() && !self.is_leaving
+    }
+
+    // Whether it has had its time.
+    fn may_go(&self, now: Instant) -> bool {
+        self.is_stranger()
+            && (self.socket.is_answered.load(Ordering::SeqCst)
+                || now.duration_since(self.since) >= Duration::from_millis(GRACE))
     }
 
     fn has_name_of(&self, other: &Guest) -> bool {
@@ -53,6 +61,7 @@ impl Guest {
 pub struct Crowd {
     guests: Mutex<Vec<Guest>>,
     places: usize,
+    is_wanted: AtomicBool,
 }
 
 impl Crowd {
@@ -61,6 +70,7 @@ impl Crowd {
         Crowd {
             guests: Mutex::new(Vec::new(alloc)),
             places,
+            is_wanted: AtomicBool::new(false),
         }
     }
 
@@ -102,6 +112,16 @@ impl Crowd {
         if let Some(at) = place_of(&guests, number) {
             drop(guests.remove(at));
         }
+    }
+
+    /// Whether a newcomer waits for a place from now on.
+    pub fn note_wanted(&self, is_wanted: bool) {
+        self.is_wanted.store(is_wanted, Ordering::SeqCst);
+    }
+
+    /// Whether a newcomer waits for a place.
+    pub fn is_wanted(&self) -> bool {
+        self.is_wanted.load(Ordering::SeqCst)
     }
 
     /// Whether there is a place for a newcomer, who has waited for so long. Where there is none, one who has
@@ -153,12 +173,11 @@ fn count_strangers(guests: &Vec<Guest>) -> usize {
     count
 }
 
-// The first who hasn't greeted, if it has had its time.
+// The first who hasn't greeted, and has had its time.
 fn oldest_stranger(guests: &Vec<Guest>, now: Instant) -> Option<usize> {
     for index in 0..guests.len() {
-        if guests[index].is_stranger() {
-            let stayed = now.duration_since(guests[index].since);
-            return (stayed >= Duration::from_millis(GRACE)).then_some(index);
+        if guests[index].may_go(now) {
+            return Some(index);
         }
     }
     None

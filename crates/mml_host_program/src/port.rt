@@ -55,7 +55,7 @@ pub struct Port<'a, Rt> {
     state: &'a HostState,
     crowd: &'a Crowd,
     listener: TcpListener,
-    // How long each line of a connection after its hello may take.
+    // How long each line of a connection after its hello may take. At the desk it may take any time.
     patience: Option<Duration>,
     waiting: VecDeque<Newcomer<'a, Rt>>,
     // How many have come.
@@ -99,7 +99,8 @@ impl<'a, Rt: Clock + Wait + Eprint> Port<'a, Rt> {
         };
         let (rt, state) = (self.rt, self.state);
         let its = Arc::try_clone(&socket)?;
-        let writer = Outgoing::new(rt, self.alloc, state, self.crowd, its);
+        let is_desk = self.patience.is_none();
+        let writer = Outgoing::new(rt, self.alloc, state, self.crowd, is_desk, its);
         let cut_off = SocketCutOff::new(rt, state, Arc::try_clone(&socket)?);
         let reader = SocketReader::new(rt, state, Arc::try_clone(&socket)?, self.patience)?;
         let since = Instant::now(rt)?;
@@ -127,10 +128,15 @@ impl<'a, Rt: Clock + Wait + Eprint> Port<'a, Rt> {
 
     // The first of those who wait, if there is a place. Who has waited too long is turned away.
     fn let_in(&mut self) -> Option<Accepted<'a, Rt>> {
-        let first = self.waiting.front()?;
+        let Some(first) = self.waiting.front() else {
+            self.crowd.note_wanted(false);
+            return None;
+        };
         let now = Instant::now(self.rt).ok()?;
         let waited = now.duration_since(first.since);
-        if self.crowd.has_room(self.rt, now, waited) {
+        let has_room = self.crowd.has_room(self.rt, now, waited);
+        self.crowd.note_wanted(!has_room);
+        if has_room {
             return self.bring(now);
         }
         if waited >= Duration::from_millis(PLACE)
@@ -141,8 +147,25 @@ impl<'a, Rt: Clock + Wait + Eprint> Port<'a, Rt> {
         None
     }
 
+    // Who of those who wait comes first: one of whom a line has come goes before who is silent.
+    fn first_to_speak(&self) -> usize {
+        for index in 0..self.waiting.len() {
+            if let Some(newcomer) = self.waiting.get(index)
+                && newcomer.socket.has_line(self.rt)
+            {
+                return index;
+            }
+        }
+        0
+    }
+
     fn bring(&mut self, now: Instant) -> Option<Accepted<'a, Rt>> {
-        let first = self.waiting.pop_front()?;
+        let index = if self.waiting.len() > 1 {
+            self.first_to_speak()
+        } else {
+            0
+        };
+        let first = self.waiting.remove(index)?;
         let Newcomer {
             reader,
             writer,

@@ -7,6 +7,9 @@ use std::sync::{Mutex, RwLock, Wait};
 // How many hellos of a connection may be denied before it is ended.
 const DENIALS: u64 = 3;
 
+// How much is looked at of what a newcomer has sent.
+const GLANCE: usize = 512;
+
 /// A socket until it is given back. Then each use of it fails.
 #[derive(Drop)]
 pub struct SharedSocket {
@@ -15,6 +18,8 @@ pub struct SharedSocket {
     pub(crate) stream: RwLock<Option<TcpStream>>,
     pub(crate) is_served: AtomicBool,
     pub(crate) is_greeted: AtomicBool,
+    // Whether a reply went out.
+    pub(crate) is_answered: AtomicBool,
     denied: AtomicU64,
     is_writing: AtomicBool,
     is_ending: AtomicBool,
@@ -29,6 +34,7 @@ impl SharedSocket {
             stream: RwLock::new(Some(stream)),
             is_served: AtomicBool::new(false),
             is_greeted: AtomicBool::new(false),
+            is_answered: AtomicBool::new(false),
             denied: AtomicU64::new(0),
             is_writing: AtomicBool::new(false),
             is_ending: AtomicBool::new(false),
@@ -47,6 +53,15 @@ impl SharedSocket {
     /// What it is told at its end.
     pub(crate) fn last<Rt: Wait>(&self, rt: &Rt) -> Option<LastWord> {
         *self.last.lock(rt)
+    }
+
+    /// Whether a line has come. It is still to be read.
+    pub(crate) fn has_line<Rt: Wait>(&self, rt: &Rt) -> bool {
+        let stream = self.stream.read(rt);
+        match &*stream {
+            Some(stream) => has_line(stream),
+            None => false,
+        }
     }
 
     /// Whether it leaves for want of a place.
@@ -90,4 +105,17 @@ impl SharedSocket {
     pub(crate) fn is_done(&self) -> bool {
         self.is_ending.load(Ordering::SeqCst) || self.denied.load(Ordering::SeqCst) >= DENIALS
     }
+}
+
+// Whether a line has come, without a wait for it.
+fn has_line(stream: &TcpStream) -> bool {
+    let mut seen = [0; GLANCE];
+    if stream.set_nonblocking(true).is_err() {
+        return false;
+    }
+    let found = match stream.peek(&mut seen) {
+        Ok(count) => seen[..count.min(GLANCE)].contains(&b'\n'),
+        Err(_) => false,
+    };
+    stream.set_nonblocking(false).is_ok() && found
 }

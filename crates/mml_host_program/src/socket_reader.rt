@@ -181,6 +181,11 @@ impl<'a, Rt: Clock + Wait> Read for SocketReader<'a, Rt> {
             self.read_line_in_time(buf)
         };
         match read {
+            // What comes after the reply to the teacher's bye isn't answered.
+            Ok(_) if self.state.is_dismissed(self.rt) => {
+                self.socket.note_last(self.rt, LastWord::Over);
+                Ok(0)
+            }
             Ok(count) => {
                 self.note(&buf[..count])?;
                 Ok(count)

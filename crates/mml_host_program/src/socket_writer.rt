@@ -9,7 +9,7 @@ use crate::socket_reader::Incoming;
 use crate::state::HostState;
 use mml_ends::Retrying;
 use mml_hosting::{CutOff, Keep, ServedSession};
-use mml_serving::{HangUp, Socket};
+use mml_serving::HangUp;
 use mml_session::SessionEnd;
 use std::alloc::Global;
 use std::io::{Error, ErrorKind, Read, Write};
@@ -29,10 +29,22 @@ const PARTING: u64 = 20;
 // The most bytes that are taken of one who is turned away.
 const PARTING_SIZE: usize = 4096;
 
+// How often one who was served is waited for at its end, for how many milliseconds, and how much is taken
+// each time: a second and 64 kB at most.
+const TURNS: u32 = 64;
+
+const TURN: u64 = 15;
+
+const TURN_SIZE: usize = 1024;
+
 // How the replies begin to a hello that is granted, and to one whose name and key don't match.
-const GREETED: &[u8] = b"{\"ok\":\"hello\",";
+const GREETED: &[u8] = b"{\"ok\":\"hello\",\"who\":\"";
+
+const GREETED_END: &[u8] = b"\"}\n";
 
 const UNKNOWN: &[u8] = b"{\"clause\":2,\"deny\":\"unknown\",";
+
+const BID: &[u8] = b"{\"ok\":\"bye\"}\n";
 
 /// What a connection's writer has of its host.
 #[derive(Drop)]
@@ -41,7 +53,10 @@ pub struct SocketWriter<'a, Rt> {
     alloc: Global,
     state: &'a HostState,
     crowd: &'a Crowd,
+    is_desk: bool,
     socket: Arc<SharedSocket, Global>,
+    // Whether the teacher has greeted here, at the desk.
+    is_teachers: bool,
     // Whether all that was written are whole lines.
     is_whole: bool,
     // Whether the other side has taken nothing for too long.
@@ -50,12 +65,13 @@ pub struct SocketWriter<'a, Rt> {
 
 impl<'a, Rt: Clock + Wait + Eprint> SocketWriter<'a, Rt> {
     // Takes note of a reply before it goes out. A name and key that don't match are denied in their turn.
-    fn note(&self, reply: &[u8]) {
+    fn note(&mut self, reply: &[u8]) {
         let socket = &self.socket;
         if socket.is_greeted.load(Ordering::SeqCst) {
             return;
         }
-        if reply.starts_with(GREETED) {
+        if let Some(name) = name_in(reply) {
+            self.is_teachers = self.is_desk && self.state.is_teacher(name);
             self.crowd.greet(self.rt, self.alloc, socket.number, reply);
             socket.is_greeted.store(true, Ordering::SeqCst);
         } else if reply.starts_with(UNKNOWN) {
@@ -87,6 +103,22 @@ impl<'a, Rt: Clock + Wait + Eprint> SocketWriter<'a, Rt> {
             None => Err(Error::from(ErrorKind::NotConnected)),
         }
     }
+
+    // Writes the reply that ends the class. Who has read something meanwhile waits for it, and whether it is out.
+    fn write_last(&mut self, buf: &[u8]) -> io::Result<usize>
+        ensures { WritesAtMost result buf.now }
+    {
+        let state = self.state;
+        let mut is_dismissed = state.is_dismissed.write(self.rt);
+        let taken = self.write_now(buf)?;
+        *is_dismissed = taken == buf.len();
+        Ok(taken)
+    }
+}
+
+// The name in the reply to a hello that is granted.
+fn name_in(reply: &[u8]) -> Option<&[u8]> {
+    reply.strip_prefix(GREETED)?.strip_suffix(GREETED_END)
 }
 
 impl<'a, Rt: Clock + Wait + Eprint> Write for SocketWriter<'a, Rt> {
@@ -98,12 +130,17 @@ impl<'a, Rt: Clock + Wait + Eprint> Write for SocketWriter<'a, Rt> {
             self.note(buf);
         }
         let written = if self.socket.begin_write() {
-            self.write_now(buf)
+            if self.is_teachers && self.is_whole && buf == BID {
+                self.write_last(buf)
+            } else {
+                self.write_now(buf)
+            }
         } else {
             Err(Error::from(ErrorKind::BrokenPipe))
         };
         self.socket.end_write();
         let taken = written?;
+        self.socket.is_answered.store(true, Ordering::SeqCst);
         if taken > 0 {
             self.is_whole = buf.get(taken - 1).is_some_and(|byte| *byte == b'\n');
         }
@@ -128,6 +165,7 @@ impl<'a, Rt: Clock + Wait + Eprint> Outgoing<'a, Rt> {
         alloc: Global,
         state: &'a HostState,
         crowd: &'a Crowd,
+        is_desk: bool,
         socket: Arc<SharedSocket, Global>,
     ) -> Outgoing<'a, Rt> {
         Outgoing {
@@ -136,7 +174,9 @@ impl<'a, Rt: Clock + Wait + Eprint> Outgoing<'a, Rt> {
                 alloc,
                 state,
                 crowd,
+                is_desk,
                 socket,
+                is_teachers: false,
                 is_whole: true,
                 is_deaf: false,
             }),
@@ -169,12 +209,15 @@ impl<'a, Rt: Clock + Wait + Eprint> HangUp for Outgoing<'a, Rt> {
                 say(&stream, word);
             }
             if is_served && !socket.is_turned_away(rt) {
-                Socket::new(stream).hang_up();
+                linger(stream, writer.crowd);
             } else {
                 part_from(stream);
             }
         }
-        writer.crowd.leave(rt, socket.number);
+        // Who was served leaves its place when that may be used again.
+        if !is_served {
+            writer.crowd.leave(rt, socket.number);
+        }
     }
 }
 
@@ -200,6 +243,31 @@ fn part_from(stream: TcpStream) {
     }
     let mut unwanted = [0; PARTING_SIZE];
     let _ = stream.read(&mut unwanted);
+}
+
+// Takes for a while what the other side still sends, for the same reason. Where a newcomer waits for the
+// place it is one turn.
+fn linger(stream: TcpStream, crowd: &Crowd) {
+    let mut stream = stream;
+    let turn = Some(Duration::from_millis(TURN));
+    if stream.shutdown(Shutdown::Write).is_err() || stream.set_read_timeout(turn).is_err() {
+        return;
+    }
+    let mut unwanted = [0; TURN_SIZE];
+    for _ in 0..TURNS {
+        match stream.read(&mut unwanted) {
+            Ok(0) => return,
+            Ok(_) => {}
+            Err(error) => {
+                if !matches!(error.kind(), ErrorKind::WouldBlock | ErrorKind::Interrupted) {
+                    return;
+                }
+            }
+        }
+        if crowd.is_wanted() {
+            return;
+        }
+    }
 }
 
 /// What ends the connection from another thread.
@@ -245,6 +313,8 @@ impl<'a, Rt: Clock + Wait + Eprint> Keep<Incoming<'a, Rt>, Outgoing<'a, Rt>> for
     {
         let was_short = matches!(session.ending.end, SessionEnd::Memory);
         let reader = &session.reader;
+        let writer = &session.writer.end.inner;
+        writer.crowd.leave(writer.rt, writer.socket.number);
         if was_short || reader.lacked_memory || session.writer.end.lacked_memory {
             reader.inner.state.note_memory(reader.inner.rt);
         }

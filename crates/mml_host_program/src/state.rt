@@ -1,7 +1,9 @@
 //! What the threads of a host tell one another.
 use crate::crowd::Crowd;
+use mml_ids::Memory;
+use mml_lab::{Lab, Who};
 use std::alloc::Global;
-use std::sync::{Condvar, CondvarTimeouts, Mutex, Wait};
+use std::sync::{Condvar, CondvarTimeouts, Mutex, RwLock, Wait};
 use std::time::{Clock, Duration, Instant};
 
 // How many milliseconds the wait for the end of a session takes at most.
@@ -35,14 +37,22 @@ struct News {
 pub struct HostState {
     news: Mutex<News>,
     changed: Condvar,
+    // The teacher's name, and whether the reply to the teacher's bye at the desk is out.
+    teacher: Vec<u8>,
+    pub(crate) is_dismissed: RwLock<bool>,
     pub at_desk: Crowd,
     pub elsewhere: Crowd,
 }
 
 impl HostState {
-    /// Nothing was told yet, in a class of so many sessions, of which one is the desk's.
-    pub fn new(alloc: Global, sessions: u8) -> HostState {
-        HostState {
+    /// Nothing was told yet, in a class of a lab, of whose sessions one is the desk's.
+    pub fn new(alloc: Global, lab: &Lab) -> Result<HostState, Memory> {
+        let mut teacher = Vec::new(alloc);
+        let name = lab.roster().name_of(Who::Teacher);
+        if teacher.extend_from_slice(name.as_bytes()).is_err() {
+            return Err(Memory);
+        }
+        Ok(HostState {
             news: Mutex::new(News {
                 ended: 0,
                 is_over: false,
@@ -52,9 +62,21 @@ impl HostState {
                 told: MANY,
             }),
             changed: Condvar::new(),
+            teacher,
+            is_dismissed: RwLock::new(false),
             at_desk: Crowd::new(alloc, 1),
-            elsewhere: Crowd::new(alloc, usize::from(sessions).saturating_sub(1)),
-        }
+            elsewhere: Crowd::new(alloc, usize::from(lab.sessions()).saturating_sub(1)),
+        })
+    }
+
+    /// Whether this is the teacher's name.
+    pub fn is_teacher(&self, name: &[u8]) -> bool {
+        self.teacher.as_slice() == name
+    }
+
+    /// Whether the reply to the teacher's bye at the desk is out: what is read from then on isn't answered.
+    pub fn is_dismissed<Rt: Wait>(&self, rt: &Rt) -> bool {
+        *self.is_dismissed.read(rt)
     }
 
     /// A session has ended, and the host with it or not.

@@ -70,7 +70,7 @@ pub struct Place<H: Begun, K: Drop, C: Drop> {
     pub is_dismissed: bool,
 }
 
-/// Serves a connection in a place, marks the place as free, and hangs up.
+/// Serves a connection in a place, hangs up, and marks the place as free.
 pub fn serve_in<
     Rt: Wait,
     S: Sink + Drop,
@@ -113,9 +113,9 @@ pub fn serve_in<
         number,
         &mut recorder,
     );
-    // The place is known to be free before the other side sees the end, and may come again.
-    set_mark(marks, number, 1);
     writer.hang_up();
+    // From here on the thread waits for nobody, and so who joins it doesn't either.
+    set_mark(marks, number, 1);
     let is_dismissed = is_dismissed_by(&ending, is_desk);
     let session = ServedSession {
         came,
