@@ -6,13 +6,14 @@ from collections.abc import Callable, Sequence
 from html import escape
 from pathlib import Path
 
+from classroom import bounds
+from classroom.bounds import MOVES
 from classroom.measuring import Row
-from classroom.rounds import MOVES, most_moves, most_rounds
 
 STYLE = Path(__file__).with_name("drawing.css")
 WIDE, HIGH = 360, 300  # of a panel
 LEFT, RIGHT, ABOVE, BELOW = 48, 14, 30, 38
-KEY = 70
+KEY = 86
 MEASURES: list[tuple[str, str, Callable[[Row], int]]] = [
     ("moves", "--arrow", lambda row: row.moves),
     ("closes", "--open", lambda row: row.closes),
@@ -23,6 +24,7 @@ svg .axis, svg .tick { stroke: var(--line); stroke-width: 1; }
 svg .tick { stroke-width: 0.4; }
 svg .bound { stroke: var(--rule); stroke-width: 1.6; stroke-dasharray: 7 4; }
 svg .least { stroke-dasharray: 2 3; }
+svg .loose { stroke-width: 1; stroke-dasharray: 12 3 2 3; }
 svg .most { stroke-width: 1.2; }
 svg .median { stroke-width: 2.4; }
 svg circle { opacity: 0.35; }
@@ -85,10 +87,13 @@ def panel(title: str, rows: list[Row]) -> str:
     """One family under one daemon."""
     sizes = sorted({row.nodes for row in rows})
     links = {size: max(row.links for row in rows if row.nodes == size) for size in sizes}
-    scale = Scale(sizes[0], sizes[-1], max(most_moves(size, links[size]) for size in sizes))
+    most = {size: bounds.of(size, links[size]) for size in sizes}
+    loose = {size: 3 * size + 2 * links[size] for size in sizes}
+    scale = Scale(sizes[0], sizes[-1], max(loose.values()))
     parts = [f'<text class="title" x="{WIDE / 2}" y="18">{escape(title)}</text>', *axes(scale)]
-    parts.append(line([(scale.x(size), scale.y(most_moves(size, links[size]))) for size in sizes], "bound"))
-    parts.append(line([(scale.x(size), scale.y(most_rounds(size))) for size in sizes], "bound least"))
+    parts.append(line([(scale.x(size), scale.y(loose[size])) for size in sizes], "bound loose"))
+    parts.append(line([(scale.x(size), scale.y(most[size].moves)) for size in sizes], "bound"))
+    parts.append(line([(scale.x(size), scale.y(most[size].rounds)) for size in sizes], "bound least"))
     for name, colour, of in MEASURES:
         seen = sorted({(row.nodes, of(row)) for row in rows})
         parts += [f'<circle cx="{scale.x(size):.1f}" cy="{scale.y(count):.1f}" r="2" style="fill: var({colour})"/>' for size, count in seen]
@@ -107,7 +112,8 @@ def key(runs: int) -> str:
     parts.append(f'<text class="left" x="270" y="18">{runs} runs</text>')
     parts.append('<text class="left" x="12" y="36">points: runs; thick: median; thin: greatest</text>')
     parts.append(line([(12, 46), (34, 46)], "bound") + '<text class="left" x="40" y="50">' + f"{MOVES} moves: proved</text>")
-    parts.append(line([(12, 62), (34, 62)], "bound least") + '<text class="left" x="40" y="66">2n rounds (2n - 1, n odd): proved</text>')
+    parts.append(line([(12, 62), (34, 62)], "bound loose") + '<text class="left" x="40" y="66">3n + 2L moves: proved</text>')
+    parts.append(line([(12, 78), (34, 78)], "bound least") + '<text class="left" x="40" y="82">2n rounds (2n - 1, n odd): proved</text>')
     return "".join(parts)
 
 

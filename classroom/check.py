@@ -12,7 +12,7 @@ from collections.abc import Iterable, Iterator
 from pathlib import Path
 
 from classroom import lab as labs
-from classroom import networks, places
+from classroom import bounds, networks, places
 from classroom.printable import printable
 from classroom.program import TOP, Answer, Fault, call
 from classroom.statuses import WARNED
@@ -163,18 +163,18 @@ def parts_of(near: dict[int, list[int]]) -> int:
 
 def limit_warnings(lab: labs.Lab) -> Iterator[str]:
     """Fewer sessions or events than the class may need."""
-    people = len(lab.students) + 1
+    people = len(lab.without_house().students) + 1
     if lab.sessions < people:
         yield (f"{lab.sessions} sessions are fewer than {people - 1} students and a teacher"
                + ("; no lab has more than 16: ./class new --groups" if people > labs.MOST_SESSIONS else ""))
-    need = lab.most_events()
-    if lab.events < need:
-        yield f"{lab.events} events are fewer than the class may need: {need // 2} moves and as many closes"
+    need = bounds.of_lab(lab)
+    if lab.events < need.events:
+        yield f"{lab.events} events are fewer than the class may need: {need.moves} moves and as many closes"
 
 
 def pair_warnings(lab: labs.Lab) -> Iterator[str]:
     """Nodes that two share, where a count of moves goes to whose program asks first."""
-    shared = [str(node.id) for node in lab.nodes if len(node.owners) == 2]
+    shared = [str(node.id) for node in lab.without_house().nodes if len(node.owners) == 2]
     if shared:
         nodes = ("nodes " if len(shared) > 1 else "node ") + ", ".join(shared[:MOST_LISTED]) + ", ..." * (len(shared) > MOST_LISTED)
         yield f"two students own {nodes}: a mark by counts of granted moves is there one for the quicker program; count a pair as one"

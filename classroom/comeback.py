@@ -1,13 +1,16 @@
 """How a class comes back: counted from each fault, link or cut to the next stable configuration, and told."""
 from __future__ import annotations
 
-from collections.abc import Collection
-from pathlib import Path
+from collections.abc import Callable, Collection
+from typing import Any
 
 from classroom import lab as labs
-from classroom.frames import frames_of
 from classroom.journal import Event
+from classroom.replay import REPORT, Replay, Script
 from classroom.rounds import Recovery
+
+EDITS = ("fault", "link", "cut")
+MOST_COUNTED = 50  # faults, links and cuts of a run of which it is told how the class came back
 
 
 class Comeback:
@@ -17,7 +20,7 @@ class Comeback:
         self.nodes = len(lab.nodes)
         self.links = {frozenset(link) for link in lab.links}
         self.recovery: Recovery | None = None
-        self.hurt = False
+        self.hurt = self.missed = False
 
     def edit(self, event: Event) -> None:
         """A fault, a link or a cut: the network as it is from now on, and the count anew."""
@@ -25,7 +28,11 @@ class Comeback:
             self.links.add(frozenset(event.nodes))
         elif event.kind == "cut":
             self.links.discard(frozenset(event.nodes))
-        self.recovery, self.hurt = None, True
+        self.recovery, self.hurt, self.missed = None, True, False
+
+    def miss(self) -> None:
+        """A close of which it isn't known who was privileged before or after it."""
+        self.missed = True
 
     def close(self, moved: Collection[int], before: Collection[int], after: Collection[int]) -> str:
         """A close, and who was privileged before and after it; what there is to tell where the class has come back."""
@@ -34,29 +41,53 @@ class Comeback:
         self.recovery.step(moved, after)
         if after:
             return ""
-        told = self.recovery.told(self.nodes, len(self.links))
-        again = "stable again" if self.hurt else "stable"
-        self.recovery = None
-        return f"{again} after {told}"
+        told = f"after {self.recovery.told(self.nodes, len(self.links))}"
+        if self.missed:
+            told = "after closes of which some came in one breath: the marks tell how many moves and rounds it took"
+        self.recovery, self.missed = None, False
+        return f"{'stable again' if self.hurt else 'stable'} {told}"
 
 
-def recoveries(lab_file: Path, journal: Path) -> list[str]:
-    """A line for each time that a run came to rest, with the place in its journal."""
-    lab, frames = frames_of(lab_file, journal)
-    counted = Comeback(lab)
-    before = next(frames).state
-    chosen: set[int] = set()
-    privileged = set(before.privileged)
-    lines = []
-    for frame in frames:
-        event = frame.event
-        if event is None:
-            continue
-        after = set(frame.state.privileged)
-        if event.kind == "close":
-            told = counted.close(chosen, privileged, after)
-            lines += [f"place {event.place}: {told}"] if told else []
-        elif event.kind in ("fault", "link", "cut"):
-            counted.edit(event)
-        chosen, privileged = set(frame.state.chosen), after
-    return lines
+class Recount(Replay):
+    """Counts along a journal, whose events are asked of the program again."""
+
+    def __init__(self, lab: labs.Lab, events: list[Event], counted: Comeback) -> None:
+        super().__init__(lab, events)
+        self.counted = counted
+        self.before: set[int] = set()
+        self.moved: list[int] = []
+        self.lines: list[str] = []
+
+    def ask(self, script: Script, event: Event | None, named: set[int]) -> None:
+        if event is None or event.makes_configuration:
+            script.ask(REPORT, self.taking(event))
+
+    def took(self, event: Event, reply: dict[str, Any]) -> None:
+        self.moved = reply.get("moved", [])
+
+    def taking(self, event: Event | None) -> Callable[[dict[str, Any]], None]:
+        """Takes the report after an event."""
+        def takes(report: dict[str, Any]) -> None:
+            before, self.before = self.before, {node for node, _ in report["privileged"]}
+            if event is None or event.kind in EDITS:
+                if event is not None:
+                    self.counted.edit(event)
+                return
+            told = self.counted.close(self.moved, before, self.before)
+            self.lines += [f"place {event.place}: {told}"] if told else []
+
+        return takes
+
+    def counts(self) -> list[str]:
+        """Counts to the end; gives what there was to tell, with places."""
+        for _ in self.replies():
+            pass
+        return self.lines
+
+
+def recoveries(lab: labs.Lab, events: list[Event]) -> list[str]:
+    """A line for each time that a run came to rest, with the place in its journal; one line for a run of many edits."""
+    edits = sum(event.kind in EDITS for event in events)
+    if edits > MOST_COUNTED:
+        return [f"{edits} faults, links and cuts: how the class came back is told where there are at most {MOST_COUNTED}"]
+    return Recount(lab, events, Comeback(lab)).counts()

@@ -16,21 +16,21 @@ from collections.abc import Iterator
 from dataclasses import asdict, fields
 from pathlib import Path
 
-from classroom import chart, networks
+from classroom import bounds, chart, networks
 from classroom import lab as labs
 from classroom.answering import answerer
+from classroom.bounds import MOVES
 from classroom.daemons import Daemon, daemons
 from classroom.grade import count
 from classroom.measuring import SIZED, Row, Setting, drawn, runs
 from classroom.program import Fault
-from classroom.rounds import MOVES, most_moves, most_rounds
 from classroom.statuses import FAILED, WARNED
 
 COLUMNS = [each.name for each in fields(Row)]
 CHUNK = 20  # runs of a task
 DIES = 1  # prctl's PR_SET_PDEATHSIG
 Key = tuple[str, int, str, str, int]
-PLAYED = ("central", "synchronous", "random")
+PLAYED = ("central", "synchronous", "random", "adversary")
 
 
 def sizes(word: str) -> range:
@@ -44,11 +44,11 @@ def sizes(word: str) -> range:
 def add_words(words: argparse.ArgumentParser) -> None:
     """The words of `experiment`."""
     words.add_argument("--family", default="path,cycle,random", metavar="F,..",
-                       help="path, cycle, star, complete, tree, random (1.5 links a node), grid:WxH, random:N:LINKS (path,cycle,random)")
+                       help=f"{networks.NAMED}, or random of 1.5 links a node (path,cycle,random)")
     words.add_argument("--nodes", type=sizes, default=range(4, 17), metavar="A..B", help="how many nodes; A..B/STEP leaves some out (4..16)")
     words.add_argument("--daemon", type=daemons, default=[Daemon("central"), Daemon("synchronous")], metavar="D,..",
-                       help="central, synchronous, random:P (central,synchronous)")
-    words.add_argument("--start", choices=("clean", "random", "hurt"), default="random", help="registers at the beginning (random)")
+                       help="central, synchronous, random:P, adversary, which searches long (central,synchronous)")
+    words.add_argument("--start", choices=networks.STARTS, default="random", help="registers at the beginning (random)")
     words.add_argument("--runs", type=count, default=20, metavar="K", help="runs of each family, size and daemon (20)")
     words.add_argument("--seed", type=int, default=1, help="the first run's; each further run has the next (1)")
     words.add_argument("--csv", default="experiment.csv", metavar="FILE", help="a row a run; one that is there already is gone on with")
@@ -61,7 +61,7 @@ def settings(words: argparse.Namespace) -> list[Setting]:
     """Each family at each size under each daemon."""
     for how in words.daemon:
         if how.kind not in PLAYED:
-            raise Fault(f"--daemon {how.spelled()}: nobody is waited for here; central, synchronous or random:P")
+            raise Fault(f"--daemon {how.spelled()}: nobody is waited for here; central, synchronous, random:P or adversary")
     found = []
     for family in words.family.split(","):
         for nodes in words.nodes if not family.startswith(SIZED) else [0]:
@@ -175,11 +175,11 @@ def table(rows: list[Row]) -> str:
     for row in rows:
         groups.setdefault((row.family.partition(":")[0], row.daemon), []).append(row)
     for (family, daemon), own in groups.items():
-        by_moves = max(own, key=lambda row: row.moves / most_moves(row.nodes, row.links))
-        by_rounds = max(own, key=lambda row: row.rounds / max(most_rounds(row.nodes), 1))
+        by_moves = max(own, key=lambda row: row.moves / bounds.of(row.nodes, row.links).moves)
+        by_rounds = max(own, key=lambda row: row.rounds / bounds.of(row.nodes, row.links).rounds)
         span = f"{min(row.nodes for row in own)}..{max(row.nodes for row in own)}"
-        moves = f"{by_moves.moves} of {most_moves(by_moves.nodes, by_moves.links)} (n {by_moves.nodes})"
-        rounds = f"{by_rounds.rounds} of {most_rounds(by_rounds.nodes)} (n {by_rounds.nodes})"
+        moves = f"{by_moves.moves} of {bounds.of(by_moves.nodes, by_moves.links).moves} (n {by_moves.nodes})"
+        rounds = f"{by_rounds.rounds} of {bounds.of(by_rounds.nodes, by_rounds.links).rounds} (n {by_rounds.nodes})"
         lines.append(f"{family:10} {daemon:14} {len(own):6} {span:>8}  {moves:{len(title)}}  {rounds}")
     return "\n".join(lines)
 

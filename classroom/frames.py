@@ -4,7 +4,7 @@ frame was read from a reply.
 from __future__ import annotations
 
 from collections.abc import Iterator
-from dataclasses import dataclass, field, replace
+from dataclasses import dataclass, field
 from pathlib import Path
 from typing import Any
 
@@ -12,7 +12,7 @@ from classroom import journal as journals
 from classroom import lab as labs
 from classroom.journal import Event
 from classroom.program import Fault, call
-from classroom.replay import Replay, Script, Take
+from classroom.replay import REPORT, Replay, Script, Take, look
 
 OpenLink = tuple[int, int, int, str]
 
@@ -36,7 +36,8 @@ class State:
 
     def copy(self) -> State:
         """A state that stays; what is replaced as a whole is shared."""
-        return replace(self, pointers=dict(self.pointers), ms=dict(self.ms), chosen=dict(self.chosen))
+        return State(self.place, self.number, self.links, dict(self.pointers), dict(self.ms), dict(self.chosen),
+                     self.privileged, self.pairs, self.open, self.stable, self.moves, self.since)
 
 
 @dataclass(frozen=True)
@@ -64,10 +65,10 @@ class Looking(Replay):
     def ask(self, script: Script, event: Event | None, named: set[int]) -> None:
         if event is None or event.makes_configuration:
             for node in sorted(named if event else self.registers):
-                script.ask({"do": "look", "node": node}, self.take_look)
-            script.ask({"do": "report"}, self.take_report)
+                script.ask(look(node), self.take_look)
+            script.ask(REPORT, self.take_report)
         else:
-            script.ask({"do": "look", "node": event.nodes[0]}, self.take_look)
+            script.ask(look(event.nodes[0]), self.take_look)
         script.takes.append(self.showing(event, script.takes.pop()))
 
     def showing(self, event: Event | None, take: Take | None) -> Take:

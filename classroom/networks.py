@@ -11,6 +11,8 @@ from classroom.program import Fault
 
 Links = list[tuple[int, int]]
 MOST_NODES, MOST_IDENTIFIER = 256, 65535
+STARTS = ("clean", "random", "hurt", "worst")
+NAMED = "path, cycle, star, complete, tree, crowd, halves, grid:WxH, random:N:LINKS"
 
 
 def neighbours(nodes: Iterable[int], links: Iterable[tuple[int, int]]) -> dict[int, list[int]]:
@@ -75,7 +77,11 @@ def plain(word: str, nodes: int) -> Links:
         return list(itertools.combinations(range(1, nodes + 1), 2))
     if word == "tree":
         return [(node // 2, node) for node in range(2, nodes + 1)]
-    raise Fault(f"no family {word}: path, cycle, star, complete, tree, grid:WxH, random:N:LINKS")
+    if word == "crowd":
+        return [(a, b) for a, b in itertools.combinations(range(1, nodes + 1), 2) if a + b > nodes]
+    if word == "halves":
+        return [(a, b) for a, b in plain("crowd", nodes) if 2 * a <= nodes + 1 < 2 * b]
+    raise Fault(f"no family {word}: {NAMED}")
 
 
 def from_file(path: Path, count: int | None) -> tuple[list[int], Links]:

@@ -8,7 +8,7 @@ import secrets
 from pathlib import Path
 
 from classroom import lab as labs
-from classroom import lists, names, networks, slips
+from classroom import bounds, lists, names, networks, shaking, slips
 from classroom.lists import Person
 from classroom.printable import printable
 from classroom.program import Fault, call
@@ -25,7 +25,12 @@ def deal(identifiers: list[int], students: list[str], each: int) -> list[labs.No
 
 
 def start(made: labs.Lab, word: str, chance: random.Random) -> None:
-    """Registers at the beginning: all clean; at random at every node; or hurt at one node in three."""
+    """Registers at the beginning: all clean; at random at every node; hurt at one node in three; or the worst that is known."""
+    if word == "worst":
+        registers = {node: (p, m) for node, p, m in shaking.broken([node.id for node in made.nodes], made.links)}
+        for node in made.nodes:
+            node.p, node.m = registers[node.id]
+        return
     near = networks.neighbours((node.id for node in made.nodes), made.links)
     count = {"clean": 0, "random": len(made.nodes), "hurt": (len(made.nodes) + 2) // 3}[word]
     for node in chance.sample(made.nodes, count):
@@ -50,6 +55,10 @@ def make(words: argparse.Namespace, people: dict[str, Person], chance: random.Ra
         identifiers = list(range(1, count + 1))
     nodes = deal(identifiers, students, 2 if words.pairs else 1)
     keys = {name: secrets.token_hex(KEY_BYTES) for name in students}
+    if words.stand_in:
+        keys[labs.HOUSE] = secrets.token_hex(KEY_BYTES)
+        for node in nodes:
+            node.owners.append(labs.HOUSE)
     teacher = names.one(words.teacher) or "teacher", secrets.token_hex(KEY_BYTES)
     made = labs.Lab(words.events or labs.MOST_EVENTS, words.sessions or labs.MOST_SESSIONS, teacher, keys, nodes, links, people)
     start(made, words.start, chance)
@@ -72,7 +81,9 @@ def new(words: argparse.Namespace) -> int:
     """Makes the labs and their slips, and tells where they lie and how names were changed."""
     people = lists.read(Path(words.students), words).people
     chance = random.Random(words.seed)
-    everywhere = names.all_of(people, [names.one(words.teacher) or "teacher"])
+    if words.pairs and words.stand_in:
+        raise Fault("--stand-in gives each node a second owner, the house, and --pairs another student: a node has at most two")
+    everywhere = names.all_of(people, [names.one(words.teacher) or "teacher", labs.HOUSE])
     parts = groups(list(everywhere), words.groups)
     files = paths(Path(words.lab), words.groups)
     for file in itertools.chain(*files):
@@ -93,6 +104,7 @@ def new(words: argparse.Namespace) -> int:
         if made.sessions < len(part) + 1:
             print(f"note: {made.sessions} sessions for {len(part)} students and a teacher: "
                   f"--groups {-(-len(everywhere) // (labs.MOST_SESSIONS - 1))} makes labs in which all have a seat")
+        tell_few(made)
         tell_idle(made, words)
     for name, person in everywhere.items():
         if name != person.written:
@@ -100,11 +112,20 @@ def new(words: argparse.Namespace) -> int:
     return 0
 
 
+def tell_few(made: labs.Lab) -> None:
+    """Where the lab may be full before it comes to rest. The most events that a lab may have suffice for each network."""
+    if made.events == labs.MOST_EVENTS:
+        return
+    least = bounds.of_lab(made).events
+    if made.events < least:
+        print(f"note: {made.events} events may be too few: {least} suffice for grants and closes to rest")
+
+
 def tell_idle(made: labs.Lab, words: argparse.Namespace) -> None:
     """Who has no node, and which network has enough."""
     idle = [name for name in made.students if not made.nodes_of(name)]
     if not idle:
         return
-    need = -(-len(made.students) // (2 if words.pairs else 1))
+    need = -(-len(made.without_house().students) // (2 if words.pairs else 1))
     more = f"a file with {need} nodes has enough" if words.links else f"{networks.enough(words.family, need)} has enough"
     print(f"note: no node for {', '.join(idle)}: {more}")

@@ -3,17 +3,7 @@ from __future__ import annotations
 
 from collections.abc import Collection, Iterable
 
-MOVES = "3n + 2 min(L, n²/4)"
-
-
-def most_moves(nodes: int, links: int) -> int:
-    """No run from anywhere has more moves (docs/SELF-STABILISATION.md)."""
-    return 3 * nodes + 2 * min(links, nodes * nodes // 4)
-
-
-def most_rounds(nodes: int) -> int:
-    """No run from anywhere to its stable end has more rounds."""
-    return 2 * nodes - nodes % 2
+from classroom import bounds
 
 
 class Recovery:
@@ -36,8 +26,9 @@ class Recovery:
 
     def told(self, nodes: int, links: int) -> str:
         """The counts as a text, with the bounds of the network as it is now."""
-        return (f"{plural(self.moves, 'move')}, {plural(self.closes, 'close')}, {plural(self.rounds, 'round')}; "
-                f"proved: at most {most_moves(nodes, links)} moves, {most_rounds(nodes)} rounds")
+        most = bounds.told(nodes, links)
+        proved = f"; proved: at most {most.moves} moves, {most.rounds} rounds" if most else ""
+        return f"{plural(self.moves, 'move')}, {plural(self.closes, 'close')}, {plural(self.rounds, 'round')}{proved}"
 
 
 def plural(count: int, word: str) -> str:

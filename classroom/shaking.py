@@ -4,10 +4,11 @@ from __future__ import annotations
 import random
 from collections.abc import Collection, Iterable
 
-from classroom.networks import neighbours
+from classroom.networks import neighbours, plain
 from classroom.program import Fault
 
 Registers = tuple[int, int | None, bool]
+LEAST = {"crowd": 4, "halves": 2}  # nodes
 
 
 def pairs_of(links: Iterable[Collection[int]]) -> list[tuple[int, int]]:
@@ -31,12 +32,28 @@ def shaken(nodes: list[int], links: Iterable[Collection[int]], word: str, seed: 
 
 
 def broken(nodes: list[int], links: Iterable[Collection[int]]) -> list[Registers]:
-    """Each node claims to be married, and points at a higher neighbour, which doesn't point back; one without such points at
-    a lower one that doesn't point at it, or at none. No start has a greater potential (docs/SELF-STABILISATION.md)."""
-    near = neighbours(nodes, pairs_of(links))
+    """The start from which a crowd may take the most moves, and halves the most rounds (docs/SELF-STABILISATION.md). In another
+    network each node claims to be married, and points at a higher neighbour, which doesn't point back; one without such points
+    at a lower one that doesn't point at it, or at none: no start has a greater potential."""
+    pairs, order = pairs_of(links), sorted(nodes)
+    for word, pointers in (("crowd", of_crowd), ("halves", of_halves)):
+        placed = [(order[a - 1], order[b - 1]) for a, b in plain(word, len(order))]
+        if len(order) >= LEAST[word] and pairs == sorted(placed):
+            return [(node, None if p is None else order[p - 1], True) for node, p in zip(order, pointers(len(order)))]
+    near = neighbours(nodes, pairs)
     up = {node: max((other for other in near[node] if other > node), default=None) for node in nodes}
     found: list[Registers] = []
-    for node in sorted(nodes):
+    for node in order:
         lower = [other for other in near[node] if up[other] != node]
         found.append((node, up[node] if up[node] is not None else max(lower, default=None), True))
     return found
+
+
+def of_crowd(count: int) -> list[int | None]:
+    """The first half points at the last, first at last; the others each at the next, and the last at the second."""
+    return [count + 1 - node if 2 * node <= count else node + 1 if node < count else 2 for node in range(1, count + 1)]
+
+
+def of_halves(count: int) -> list[int | None]:
+    """Nobody points at anyone."""
+    return [None] * count

@@ -21,6 +21,15 @@ class Marks:
     shared: int = 0
 
 
+@dataclass(frozen=True)
+class Bounds:
+    """The most moves, rounds and events of a run to its stable end, where no fault, link or cut comes."""
+
+    moves: int
+    rounds: int
+    events: int
+
+
 @dataclass
 class Tally:
     """What a journal tells of its run."""
@@ -34,13 +43,14 @@ class Tally:
     cuts: int = 0
     moves: int = 0
     since: tuple[int, int] = (0, 0)
+    bounds: Bounds = Bounds(0, 0, 0)
     students: dict[str, Marks] = field(default_factory=dict)
     shared: dict[int, dict[str, Counter[str]]] = field(default_factory=dict)
 
 
-def of(lab: Path, journal: Path) -> Tally:
-    """The tally of a journal that the audit passes."""
-    answer = host_call("tally", lab, journal)
+def of(lab: Path, journal: Path, files: tuple[int, ...] = ()) -> Tally:
+    """The tally of a journal that the audit passes; these are open files that the program has."""
+    answer = host_call("tally", lab, journal, files=files)
     if answer.status != 0:
         raise Fault(answer.error, answer.status)
     return read(answer.output)
@@ -55,7 +65,9 @@ def read(text: str) -> Tally:
             tally.students[rest[0]] = marks(rest[1:])
         elif word == "node":
             tally.shared[int(rest[0])] = {rest[at]: by_rule(rest[at + 1 : at + 5]) for at in range(1, len(rest), 5)}
-        else:
+        elif word == "bounds":
+            tally.bounds = Bounds(*map(int, rest))
+        elif word == "run":
             take_run(tally, rest)
     return tally
 
