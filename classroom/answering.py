@@ -26,22 +26,38 @@ def answerer() -> Path:
     return found
 
 
+def started(lab: labs.Lab) -> subprocess.Popen[bytes]:
+    """The program over a lab, whose file has no name: who is tested finds none."""
+    program = answerer()
+    file = os.memfd_create("lab")
+    try:
+        with open(file, "wb", closefd=False) as it:
+            it.write(labs.text(lab).encode())
+        return subprocess.Popen(
+            [program, "answer", f"/dev/fd/{file}"], stdin=subprocess.PIPE, stdout=subprocess.PIPE,
+            stderr=subprocess.PIPE, pass_fds=(file,), start_new_session=True,
+        )
+    finally:
+        os.close(file)
+
+
+def all_of(lab: labs.Lab, script: list[str]) -> str:
+    """The replies to all lines of a script, a line each after its connection's number."""
+    with started(lab) as process:
+        out, error = process.communicate("\n".join([*script, ""]).encode("ascii"))
+    replies, said = out.decode("ascii"), error.decode(errors="replace").strip()
+    count = replies.count("\n")
+    if process.returncode != 0 or count != len(script):
+        raise Fault(said or f"{count} replies to {len(script)} lines", process.returncode or 4)
+    return replies
+
+
 class Answering:
-    """A lab that is answered over. Its file has no name: who is tested finds none."""
+    """A lab that is answered over."""
 
     def __init__(self, lab: labs.Lab) -> None:
-        program = answerer()
         self.lab = lab
-        file = os.memfd_create("lab")
-        try:
-            with open(file, "wb", closefd=False) as it:
-                it.write(labs.text(lab).encode())
-            self.process = subprocess.Popen(
-                [program, "answer", f"/dev/fd/{file}"], stdin=subprocess.PIPE, stdout=subprocess.PIPE, stderr=subprocess.PIPE,
-                pass_fds=(file,), start_new_session=True,
-            )
-        finally:
-            os.close(file)
+        self.process = started(lab)
         self.size = 0
         self.granted: list[bytes] = []  # the lines of a script that does again what was granted
         self.names: dict[int, str] = {}

@@ -12,7 +12,7 @@ from classroom.closing import closing
 from classroom.folders import Record, of_folder
 from classroom.holding import Running, to_the_end
 from classroom.program import Fault
-from classroom.run import add_desk_words
+from classroom.run import add_desk_words, may_stand_in
 from classroom.server import Server
 from classroom.teller import Teller
 
@@ -48,9 +48,11 @@ def attach(words: argparse.Namespace) -> int:
     if record is None or not record.server.lives():
         raise Fault(f"{folder}: its server has ended: ./class run --resume {folder}")
     lab = labs.read(lab_file)
+    may_stand_in(words, lab, lab_file)
     free(folder, record)
     run = Running(folder, Path(record.lab), lab, words.close or closing(record.close), words.until or record.until,
-                  words.page or record.page, words.typed, Teller(folder), goes_on=True)
+                  words.page or record.page, words.typed, Teller(folder), words.play or record.play,
+                  goes_on=True, stand_in=words.stand_in or record.stand_in)
     it = Server(record.server, record.port, record.desk, True, folder / "server.txt")
     run.tell(f"port {it.port}, desk {it.desk}; folder {folder}")
     return to_the_end(run, lambda: it)

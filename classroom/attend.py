@@ -1,11 +1,14 @@
 """A run from its first step to its last: steps are closed, and what is typed is done."""
 from __future__ import annotations
 
+import contextlib
 import os
 import queue
+import tempfile
 import time
 from collections.abc import Callable
 from pathlib import Path
+from typing import IO
 
 from classroom.client import Closed
 from classroom.closing import Closing, Striker
@@ -15,6 +18,7 @@ from classroom.typed import HUNG, LEAVE, NOW, Typed
 
 TICK = 0.1
 LITTLE = 65536  # bytes of a disk at which there is little room
+PROBE = bytes(512)  # what is written, and taken back, to see whether the disk takes it
 AGAIN = 1.0  # seconds between two looks at the disk
 
 
@@ -27,14 +31,22 @@ AGAIN_ROOM = ("the disk has room again: if moves are refused as `journal`, which
               "end, and go on with ./class run --resume")
 
 
-def told_of(left: int) -> tuple[str, str]:
-    """How a disk with so many free bytes is called, and the line that tells it."""
-    if left >= LITTLE:
-        return "", ""
-    if left > 0:
-        return "little", f"the disk has little room: {left} bytes are left"
-    return "full", ("the disk is full: the next line of the journal can't be written, and from then on nothing is granted; "
+def told_of(left: int, why: str) -> tuple[str, str]:
+    """How a disk is called with so many free bytes, on which nothing can be written for that reason, if any; and the line
+    that tells it."""
+    if left > 0 and not why:
+        return ("little", f"the disk has little room: {left} bytes are left") if left < LITTLE else ("", "")
+    what = f"takes nothing ({why})" if why else "is full"
+    return "full", (f"the disk {what}: the next line of the journal can't be written, and from then on nothing is granted; "
                     "make room")
+
+
+def nameless(folder: Path) -> IO[bytes] | None:
+    """A file without a name on the disk of a folder, where one can be made."""
+    try:
+        return tempfile.TemporaryFile(buffering=0, dir=folder)
+    except OSError:
+        return None
 
 
 class Room:
@@ -43,11 +55,28 @@ class Room:
     def __init__(self, folder: Path) -> None:
         self.folder = folder
         self.due, self.told = 0.0, ""
+        self.file = nameless(folder)
+
+    def close(self) -> None:
+        """Lets go of the disk."""
+        if self.file is not None:
+            self.file.close()
 
     def left(self) -> int:
         """How many bytes are free."""
         disk = os.statvfs(self.folder)
         return disk.f_bavail * disk.f_frsize
+
+    def why(self) -> str:
+        """Why a write fails where bytes are free, as by a quota; nothing where it doesn't."""
+        if self.file is None:
+            return ""
+        try:
+            os.pwrite(self.file.fileno(), PROBE, 0)
+            os.ftruncate(self.file.fileno(), 0)
+        except OSError as error:
+            return error.strerror or str(error)
+        return ""
 
     def news(self) -> list[str]:
         """A line where there is little room, or none, and it wasn't told yet."""
@@ -55,7 +84,8 @@ class Room:
         if now < self.due:
             return []
         self.due = now + AGAIN
-        kind, line = told_of(self.left())
+        left = self.left()
+        kind, line = told_of(left, self.why() if left >= LITTLE else "")
         before, self.told = self.told, kind
         if kind == before:
             return []
@@ -67,7 +97,9 @@ def turn(desk: Desk, room: Room, until_stable: bool) -> str:
     if not desk.again():
         return ""
     desk.read()
-    for line in [*(desk.connected.news() if desk.connected else []), *room.news()]:
+    desk.stand_in()
+    people = [*(desk.connected.news() if desk.connected else []), *(desk.heard.news(desk.last_step) if desk.heard else [])]
+    for line in [*people, *room.news()]:
         desk.tell(line)
     if until_stable and desk.report.stable and not desk.is_old and not desk.book.chosen:
         return "stable"
@@ -101,18 +133,21 @@ def obeys(desk: Desk, line: str | None, hung: Callable[[], None]) -> str:
 
 def attend(desk: Desk, it: Server, until_stable: bool, typed: Typed, room: Room, hung: Callable[[], None]) -> str:
     """Closes steps and does what is typed, until the run ends; says by what. `hung` is done where the terminal went away."""
-    striker = Striker()
-    while not it.ended():
-        try:
-            why = turn(desk, room, until_stable)
-            if why:
-                return why
-            why = obeys(desk, next_typed(typed, pause(desk.closing)), hung)
-            if why:
-                return why
-            if not desk.lost:
-                striker.strike(desk)
-        except Closed as error:
-            if not it.ended(TICK):
-                desk.lose(error)
-    return "died"
+    with contextlib.closing(Striker()) as striker:
+        while not it.ended():
+            try:
+                why = turn(desk, room, until_stable)
+                if why:
+                    return why
+                line = next_typed(typed, pause(desk.closing))
+                why = obeys(desk, line, hung)
+                if why:
+                    return why
+                if not desk.lost:
+                    if line is not None:
+                        desk.read()  # What was done is told before a step is closed.
+                    striker.strike(desk)
+            except Closed as error:
+                if not it.ended(TICK):
+                    desk.lose(error)
+        return "died"

@@ -7,7 +7,7 @@
             me.move(look)
 
 By hand: python3 client.py SLIP, or client.py PORT NAME KEYFILE, either with --log FILE. It greets; then what is typed
-is sent, and what comes is shown. KEYFILE - takes the key from the environment's CENDUWA_KEY.
+is sent, and what comes is shown. SLIP - is the environment's CENDUWA_SLIP, KEYFILE - its CENDUWA_KEY.
 """
 from __future__ import annotations
 
@@ -24,7 +24,7 @@ from types import TracebackType
 from typing import Any
 
 
-KEY = "CENDUWA_KEY"  # of the environment, which other users can't read as they can a process's words
+KEY, SLIP = "CENDUWA_KEY", "CENDUWA_SLIP"  # of the environment: others can't read it as they can a process's words
 
 
 class Denied(Exception):
@@ -147,8 +147,9 @@ class Slip:
 
     @staticmethod
     def read(path: str | Path) -> Slip:
-        """The slip of a file."""
-        lines = [line.split(None, 1) for line in text_of(path).splitlines() if not line.startswith("#")]
+        """The slip of a file, or for `-` that of the environment."""
+        text = of_environment(SLIP) if str(path) == "-" else text_of(path)
+        lines = [line.split(None, 1) for line in text.splitlines() if not line.startswith("#")]
         it = {words[0]: words[1].strip() for words in lines if len(words) == 2}
         missing = [word for word in ("port", "name", "key") if word not in it]
         if missing:
@@ -175,12 +176,17 @@ def text_of(path: str | Path) -> str:
         raise NoSlip(f"{path}: {getattr(error, 'strerror', None) or error}") from None
 
 
+def of_environment(name: str) -> str:
+    """What the environment has under a name."""
+    if name not in os.environ:
+        raise NoSlip(f"the environment has no {name}")
+    return os.environ[name]
+
+
 def key_of(word: str) -> str:
     """The key of a file, which has it alone or is a slip; of `-` that of the environment."""
     if word == "-":
-        if KEY not in os.environ:
-            raise NoSlip(f"the environment has no {KEY}")
-        return os.environ[KEY]
+        return of_environment(KEY)
     text = text_of(word)
     found = re.search(r"^key\s+(.+)$", text, re.MULTILINE)
     return found[1] if found else text.strip()

@@ -5,8 +5,10 @@ import random
 import time
 from typing import TYPE_CHECKING
 
+from classroom.adversary import Adversary
 from classroom.client import Denied
 from classroom.daemons import Daemon, Sight, applied, daemon
+from classroom.program import Fault
 
 if TYPE_CHECKING:
     from classroom.desk import Desk
@@ -31,7 +33,7 @@ class Striker:
     """Closes steps at a desk as its daemon says."""
 
     def __init__(self, seed: int = 1) -> None:
-        self.chance = random.Random(seed)
+        self.chance, self.adversary = random.Random(seed), Adversary(str(seed))
         self.how: Closing | None = None
         self.closed = 0.0
 
@@ -45,7 +47,12 @@ class Striker:
             self.by_clock(desk, now)
             return
         sight = Sight([node for node, _ in desk.report.privileged], list(desk.book.chosen), now - desk.news, now - self.closed)
-        nodes = applied(desk.closing, sight, self.chance, SECONDS)
+        try:
+            nodes = applied(desk.closing, sight, self.chance, SECONDS, lambda nodes: self.adversary.choose(desk.seen(), nodes))
+        except Fault as fault:
+            desk.tell(f"the adversary can't search: {fault}")
+            desk.close_by(f"when-idle:{SECONDS:g}")
+            return
         if nodes:
             self.closed = now
             self.take_back(desk, set(nodes))
@@ -59,6 +66,10 @@ class Striker:
         if now - self.closed >= seconds and not (desk.closing.kind == "when-idle" and now - desk.news < seconds):
             self.closed = now
             desk.close()
+
+    def close(self) -> None:
+        """Ends what it searches with."""
+        self.adversary.close()
 
     def take_back(self, desk: Desk, but: set[int]) -> None:
         """Releases the other chosen moves, and those that are granted meanwhile. One that is granted after the last look is

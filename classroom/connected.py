@@ -48,9 +48,11 @@ def owner(number: str) -> str:
 class Connected:
     """What there is to tell of who comes and goes at the students' port."""
 
-    def __init__(self, port: int, places: int, but: int) -> None:
-        """`but` is the port of the desk's own end."""
-        self.port, self.places, self.but = port, places, but
+    def __init__(self, port: int, places: int, but: int, names: dict[int, str] | None = None, tells: bool = True) -> None:
+        """`but` is the port of the desk's own end; `names` tells, by the same, who is known otherwise than by a process.
+        Where a record tells who they are, processes aren't told."""
+        self.port, self.places, self.but, self.tells = port, places, but, tells
+        self.names = {} if names is None else names
         self.known: dict[int, str] = {}
         self.full = False
         self.due = 0.0
@@ -71,7 +73,7 @@ class Connected:
         a few times, since who comes from another machine has none here."""
         for _ in range(READINGS):
             found = list(rows())
-            if self.served(found) <= self.ends(found).keys() | self.known.keys():
+            if not self.tells or self.served(found) <= self.ends(found).keys() | self.known.keys():
                 break
             time.sleep(AGAIN)
         return found
@@ -89,8 +91,8 @@ class Connected:
         ends, here = self.ends(found), self.served(found)
         gone = [self.known.pop(port) for port in sorted(self.known.keys() - here)]
         come = sorted(here - self.known.keys())
-        self.known |= {port: owner(ends[port]) if port in ends else ELSEWHERE for port in come}
-        lines = [f"connected: {self.known[port]}" for port in come] + [f"gone: {who}" for who in gone]
+        self.known |= {port: self.names.get(port) or self.process(ends.get(port)) for port in come}
+        lines = [f"connected: {self.known[port]}" for port in come] + [f"gone: {who}" for who in gone] if self.tells else []
         listens = any(own == self.port and state == LISTENING for own, _, state, _ in found)
         if not self.full and (len(here) >= self.places or not listens):
             self.full = True
@@ -98,6 +100,18 @@ class Connected:
                          "each connection of this server was used: who comes now isn't let in")
         return lines
 
+    def process(self, number: str | None) -> str:
+        """Whose a connection is, where that is told."""
+        return owner(number) if self.tells and number is not None else ELSEWHERE
+
+    def count(self) -> int:
+        """How many of the seats are taken now."""
+        try:
+            return len(self.served(list(rows())))
+        except OSError:
+            return 0
+
     def who(self) -> str:
         """How many of the seats are taken, and by whom, in the order in which they were seen to come."""
-        return f"{len(self.known)} of {self.places} seats: {', '.join(self.known.values()) or 'nobody'}"
+        names = [self.names.get(port, who) for port, who in self.known.items()]
+        return f"{len(self.known)} of {self.places} seats: {', '.join(names) or 'nobody'}"

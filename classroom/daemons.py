@@ -4,11 +4,12 @@ from __future__ import annotations
 import argparse
 import random
 import re
-from collections.abc import Sequence
+from collections.abc import Callable, Sequence
 from dataclasses import dataclass
 
-FORMS = "central, synchronous, random:P, when-idle:SECONDS, every:SECONDS, by-hand"
-PLAIN = ("central", "synchronous", "by-hand")
+FORMS = "central, synchronous, random:P, adversary, when-idle:SECONDS, every:SECONDS, by-hand"
+PLAIN = ("central", "synchronous", "adversary", "by-hand")
+Search = Callable[[Sequence[int]], list[int]]  # the adversary's, among nodes that may move
 
 
 @dataclass(frozen=True)
@@ -67,16 +68,17 @@ def heads(nodes: Sequence[int], probability: float, chance: random.Random) -> li
     return found or [chance.choice(list(nodes))]
 
 
-def applied(how: Daemon, sight: Sight, chance: random.Random, patience: float) -> list[int]:
+def applied(how: Daemon, sight: Sight, chance: random.Random, patience: float, search: Search = list) -> list[int]:
     """The nodes whose moves a close applies now, or none: the other chosen moves are released before it. The random
-    daemon tosses where each privileged node has a move, or none came for `patience` seconds."""
+    daemon tosses, and the adversary searches, where each privileged node has a move, or none came for `patience` seconds."""
     if not sight.chosen:
         return []
     if how.kind == "central":
         return [sight.chosen[0]]
-    if how.kind == "random":
-        ready = sight.is_full() or sight.idle >= patience
-        return heads(sight.chosen, how.value, chance) if ready else []
+    if how.kind in ("random", "adversary"):
+        if not (sight.is_full() or sight.idle >= patience):
+            return []
+        return heads(sight.chosen, how.value, chance) if how.kind == "random" else search(sight.chosen)
     due = {
         "synchronous": sight.is_full(),
         "every": sight.since >= how.value,
@@ -85,10 +87,10 @@ def applied(how: Daemon, sight: Sight, chance: random.Random, patience: float) -
     return list(sight.chosen) if due.get(how.kind, False) else []
 
 
-def movers(how: Daemon, privileged: Sequence[int], chance: random.Random) -> list[int]:
+def movers(how: Daemon, privileged: Sequence[int], chance: random.Random, search: Search = list) -> list[int]:
     """Where who plays is patient: the nodes that move in the next step."""
     if how.kind == "central":
         return [chance.choice(list(privileged))]
     if how.kind == "random":
         return heads(privileged, how.value, chance)
-    return list(privileged)
+    return search(privileged) if how.kind == "adversary" else list(privileged)

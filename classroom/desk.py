@@ -6,19 +6,24 @@ import time
 from collections.abc import Callable
 from pathlib import Path
 
+from classroom import bounds
 from classroom import lab as labs
+from classroom.bench import network
 from classroom.client import Client, Closed, Denied, Refused, Report
 from classroom.closing import Closing, closing, spelled
-from classroom.comeback import Comeback
+from classroom.comeback import EDITS, Comeback, Recount
 from classroom.connected import Connected
+from classroom.heard import Heard
+from classroom.house import HOW, House
 from classroom.journal import Event, events
 from classroom.present import Book
 from classroom.program import Fault
-from classroom.shaking import Registers, broken, shaken
+from classroom.shaking import Registers, broken, pairs_of, shaken
 from classroom.typed import EOF, helped, understood
 from classroom.watch import Watch
 
 TORN = 3.0  # seconds in which the rest of a line comes, if it does
+ASKED, PAUSE = 50, 0.1  # how often the first report is asked for, and seconds between
 MOST_TOLD = 0.9  # of the limit of events, from which on what is left is told
 
 
@@ -34,24 +39,40 @@ def listed(report: Report) -> str:
     return f"configuration {report.at}, {'' if report.stable else 'not '}stable: {told}"
 
 
+def first_report(client: Client) -> Report:
+    """The report at the beginning, asked for again where memory is short."""
+    for _ in range(ASKED):
+        try:
+            return client.report()
+        except Refused as refused:
+            if refused.word != "memory":
+                raise
+        time.sleep(PAUSE)
+    return client.report()
+
+
 class Desk:
     """The teacher's connection, and what the journal tells as it grows."""
 
     def __init__(self, lab: labs.Lab, journal: Path, client: Client, how: Closing, tell: Callable[[str], None]) -> None:
         self.lab, self.client, self.tell, self.closing = lab, client, tell, how
+        self.shown = lab.without_house()
         self.folder = journal.parent
         self.go_on = f"./class run --resume {self.folder}"
         self.journal = journal.open("rb")
-        self.book = Book(list(lab.students))
+        self.book = Book(list(self.shown.students))
         self.rest = b""
         self.torn_since = 0.0  # when bytes came last
         self.news = time.monotonic()
         self.told_waiting = ""
-        self.report: Report = client.report()
+        self.report = first_report(client)
         self.is_old = False  # The report wasn't given when it was last asked for.
         self.watch: Watch | None = None
         self.another_page: Callable[[], None] | None = None
         self.connected: Connected | None = None
+        self.house: House | None = None
+        self.heard: Heard | None = None
+        self.last_step = 0  # its place
         self.count = 0
         self.over = ""
         self.asked_to_end = False
@@ -83,12 +104,25 @@ class Desk:
         for event in self.past:
             self.book.add(event)
             self.count = event.place
-            if event.kind in ("fault", "link", "cut"):
-                self.comeback.edit(event)
+            self.last_step = event.place if event.makes_configuration else self.last_step
+        if self.heard:
+            self.heard.catch_up(self.last_step)
+        self.recount()
         self.ask_report()
         self.tell(f"gone on from configuration {self.report.at}, {self.counted()}")
         if self.count >= self.lab.events:
             self.end_by("full")
+
+    def recount(self) -> None:
+        """Counts what has passed."""
+        try:
+            Recount(self.lab, self.past, self.comeback).counts()
+        except Fault as fault:
+            self.tell(f"what came before isn't counted: {fault}")
+            for event in self.past:
+                if event.kind in EDITS:
+                    self.comeback.edit(event)
+            self.comeback.miss()
 
     def lose(self, error: Closed) -> None:
         """The connection has ended, or an answer is late: it is made again while the server lives."""
@@ -124,17 +158,20 @@ class Desk:
         moved = self.book.add(event)
         self.news = time.monotonic()
         self.count = event.place
+        self.last_step = event.place if event.makes_configuration else self.last_step
         word = event.words[0]
-        before = [node for node, _ in self.report.privileged]
+        before = self.report
         if word == "close":
             self.step(event.at + 1, ", ".join(f"{node} ({name}) {rule}" for node, name, rule in moved))
-            self.come_back([node for node, _, _ in moved], before)
+            self.come_back(event, [node for node, _, _ in moved], before)
         elif word != "grant":
             self.step(event.at + (word != "release"), " ".join(event.words))
-            if word != "release":
+            if word in EDITS:
                 self.comeback.edit(event)
         if self.watch:
             self.watch.note(event)
+        if self.house:
+            self.house.note(event)
         if self.count == int(MOST_TOLD * self.lab.events) > 0:
             self.tell(f"{self.counted()}: nothing more is granted after the last")
         if self.count >= self.lab.events:
@@ -168,23 +205,36 @@ class Desk:
     def step(self, at: int, what: str) -> None:
         """The line of a step: configuration, who moved, how many are privileged, moves beside the bound, and events."""
         self.ask_report()
-        most = self.lab.most_moves(self.book.links)
+        most = bounds.told(len(self.lab.nodes), len(self.lab.links) + self.book.links)
+        limit = f" of at most {most.moves}" if most else ""
         state = "stable" if self.report.stable else f"{len(self.report.privileged)} privileged"
         now = f"{state}, " if self.report.at == at else ""
-        self.tell(f"configuration {at}: {what}; {now}{self.book.since} of at most {most} moves; {self.counted()}")
+        self.tell(f"configuration {at}: {what}; {now}{self.book.since}{limit} moves; {self.counted()}")
 
-    def come_back(self, moved: list[int], before: list[int]) -> None:
+    def come_back(self, event: Event, moved: list[int], before: Report) -> None:
         """Tells how the class came back, where a close was the last that it took."""
-        told = self.comeback.close(moved, before, [node for node, _ in self.report.privileged])
+        if (before.at, self.report.at) != (event.at, event.at + 1):
+            self.comeback.miss()
+        if self.report.at != event.at + 1 or self.is_old:
+            return
+        told = self.comeback.close(moved, [node for node, _ in before.privileged], [node for node, _ in self.report.privileged])
         if told:
             self.tell(told)
 
     def waiting(self) -> str:
         """Whose nodes are privileged and have no chosen move."""
         return ", ".join(
-            f"{node} ({' and '.join(self.lab.owners(node))}): {rule}"
+            f"{node} ({' and '.join(self.shown.owners(node))}): {rule}"
             for node, rule in self.report.privileged if node not in self.book.chosen
         )
+
+    def stand_in(self) -> None:
+        """Lets the house play for who is absent: one move at a time, where a step applies one."""
+        if self.house is None or self.is_old or self.over:
+            return
+        waiting = [node for node, _ in self.report.privileged if node not in self.book.chosen]
+        is_central = self.closing.kind == "central"
+        self.house.turn(waiting, len(waiting) if not is_central else 0 if self.book.chosen else 1)
 
     def tell_waiting(self) -> None:
         """Tells it where it is new."""
@@ -263,6 +313,8 @@ class Desk:
             self.tell(f"waiting for {self.told_waiting or 'nobody'}")
         elif word == "who":
             self.tell_who()
+        elif word in ("play", "stop"):
+            self.tell(self.housed(word, rest[0]))
         elif word == "page":
             self.renew_page()
         elif word == "help":
@@ -280,10 +332,32 @@ class Desk:
             self.edit(word, rest)
 
     def tell_who(self) -> None:
-        """Who is connected, as far as the system tells it, and who hasn't moved, as the journal tells it."""
-        if self.connected:
+        """Who is connected and who asks in vain, as the record tells it (without one the system tells processes), and who
+        hasn't moved, as the journal tells it."""
+        if self.connected and self.heard:
+            self.heard.read()
+            self.heard.since(self.last_step)
+            self.tell(f"connected: {self.heard.who(self.connected.count(), self.connected.places, self.connected.names.values())}")
+            for line in self.heard.amiss():
+                self.tell(line)
+        elif self.connected:
             self.tell(f"connected: {self.connected.who()}")
         self.tell(f"no move was granted yet to {', '.join(self.book.idle) or 'nobody'}")
+        if self.house:
+            self.tell(self.house.told())
+
+    def housed(self, word: str, name: str) -> str:
+        """The house plays for a student, or stops."""
+        if self.house is None and self.lab.held():
+            raise ValueError("the house plays where the server is a host: without --serve")
+        if self.house is None:
+            raise ValueError(f"no node has a second owner who could play for {name}: {HOW}")
+        return self.house.play(name) if word == "play" else self.house.stop(name)
+
+    def seen(self) -> labs.Lab:
+        """The network with its registers as they are."""
+        seen = [self.client.see(node.id) for node in self.lab.nodes]
+        return network([labs.Node(it.node, [], it.p, it.m) for it in seen], pairs_of(self.comeback.links))
 
     def renew_page(self) -> None:
         """Acts at the page are taken back to another address."""

@@ -5,7 +5,6 @@ from collections.abc import Callable
 from pathlib import Path
 
 from classroom import mark, play
-from classroom.comeback import recoveries
 from classroom.program import Fault, call
 
 
@@ -29,9 +28,9 @@ def finish(folder: Path, tell: Callable[[str], None]) -> int:
         (folder / "audit.txt").write_text(answer.output + answer.error + "\n" * bool(answer.error), encoding="utf-8")
         (folder / "run.html").write_text(play.page(folder / "lab.toml", folder / "journal"), encoding="utf-8")
         run = mark.marked(folder / "lab.toml", folder / "journal")
-        back = "".join(f"{line}\n" for line in recoveries(folder / "lab.toml", folder / "journal"))
-        tell((mark.text([run]) + back).rstrip())
-        (folder / "marks.txt").write_text(mark.text([run]) + back, encoding="utf-8")
+        text = mark.text([run])
+        tell(text.rstrip())
+        (folder / "marks.txt").write_text(text, encoding="utf-8")
         (folder / "marks.json").write_text(mark.as_json([run]), encoding="utf-8")
     except Fault as fault:
         tell(f"class: {fault}")

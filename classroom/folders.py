@@ -19,8 +19,7 @@ def new_folder(into: Path, lab: Path) -> Path:
     for number in range(1, 1000):
         folder = into / (stamp if number == 1 else f"{stamp}-{number}")
         try:
-            folder.mkdir(parents=True)
-            folder.chmod(0o700)
+            folder.mkdir(0o700, parents=True)
             return folder
         except FileExistsError:
             continue
@@ -89,8 +88,10 @@ class Record:
     until: str | None
     run: Process
     server: Process
+    play: int | None = None
     left: bool = False  # Whether its terminal went away.
     ended: bool = False  # Whether it ended as it should.
+    stand_in: float | None = None  # seconds after which the house plays
 
     @staticmethod
     def read(folder: Path) -> Record | None:

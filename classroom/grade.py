@@ -16,7 +16,7 @@ from classroom.answering import answerer
 from classroom.bots import Bot
 from classroom.daemons import daemons
 from classroom.folders import new_folder
-from classroom.program import program
+from classroom.program import Fault, program
 from classroom.printable import printable
 from classroom.statuses import FAILED, WARNED
 from classroom.suites import Case
@@ -71,8 +71,12 @@ def results_of(bots: list[Bot], cases: list[Case], words: argparse.Namespace, to
     def one(bot: Bot, case: Case) -> Result | None:
         if stop.is_set():
             return None
-        with tempfile.TemporaryDirectory(prefix="bot-", ignore_cleanup_errors=True) as room:
-            return tried(bot, case, limits, Path(room), folder_of(top, bot, case), stop)
+        try:
+            with tempfile.TemporaryDirectory(prefix="bot-", ignore_cleanup_errors=True) as room:
+                return tried(bot, case, limits, Path(room), folder_of(top, bot, case), stop)
+        except OSError as error:
+            why = f"not tried: {error.filename or tempfile.gettempdir()}: {error.strerror}; TMPDIR names another place"
+            return Result(bot.name, case.lab, case.daemon.spelled(), case.seed, False, why)
 
     with concurrent.futures.ThreadPoolExecutor(at_once) as pool:
         going = [pool.submit(one, bot, case) for bot in bots for case in cases]
@@ -82,11 +86,16 @@ def results_of(bots: list[Bot], cases: list[Case], words: argparse.Namespace, to
                 yield result
 
 
-def write_all(words: argparse.Namespace, results: list[Result]) -> None:
-    """The forms that were asked for."""
+def write_all(words: argparse.Namespace, results: list[Result]) -> list[str]:
+    """The forms that were asked for; why one can't be written."""
+    faults = []
     for form in graded.FORMS:
         if getattr(words, form):
-            graded.write(form, Path(getattr(words, form)), results)
+            try:
+                graded.write(form, Path(getattr(words, form)), results)
+            except Fault as fault:
+                faults.append(f"{fault}; what stood there stays: make room, or name another file")
+    return faults
 
 
 def numbered(bots: list[Bot]) -> list[Bot]:
@@ -129,12 +138,13 @@ def grade(words: argparse.Namespace) -> int:
         stop.set()
         order = {(bot.name, case.name()): place for place, (bot, case) in enumerate((bot, case) for bot in bots for case in cases)}
         results.sort(key=lambda result: order[result.bot, graded.named(result)])
-        write_all(words, results)
-    print(graded.table(results))
-    print(f"records and pages: {top}")
+        unwritten = write_all(words, results)
+    print(f"{graded.table(results)}\nrecords and pages: {top}")
+    for fault in unwritten:
+        print(f"class: {printable(fault)}")
     if len(results) < len(bots) * len(cases):
         print(f"interrupted: {len(results)} of {len(bots) * len(cases)} cases")
         return FAILED
-    if faults:
-        return WARNED
-    return 0 if all(result.passed for result in results) else WARNED
+    if unwritten:
+        return FAILED
+    return 0 if not faults and all(result.passed for result in results) else WARNED

@@ -1,6 +1,7 @@
 """The desk of a run, held from its greeting to the run's end: by who began the run, and by who goes on with it."""
 from __future__ import annotations
 
+import contextlib
 import os
 import queue
 import signal
@@ -10,7 +11,7 @@ from collections.abc import Callable
 from dataclasses import dataclass, field, replace
 from pathlib import Path
 
-from classroom import projector, server
+from classroom import by_hand, projector, record, server
 from classroom import lab as labs
 from classroom.attend import TICK, Room, attend
 from classroom.client import Client, Closed, Denied, Refused
@@ -19,6 +20,8 @@ from classroom.connected import Connected
 from classroom.desk import Desk
 from classroom.ending import finish
 from classroom.folders import Process, Record, title
+from classroom.heard import Heard
+from classroom.house import House
 from classroom.statuses import FAILED, WARNED
 from classroom.teller import Teller
 from classroom.typed import HELP, HUNG, LEAVE, NOW, Terminal, Typed, read_lines
@@ -39,16 +42,19 @@ class Running:
     page: int | None
     takes_lines: bool
     tell: Teller
+    play: int | None = None
     goes_on: bool = False  # Whether it had begun before.
     by_number: bool = False  # Whether its server is one for a number of connections.
+    stand_in: float | None = None  # seconds after which the house plays
     typed: Typed = field(default_factory=queue.SimpleQueue)
     pages: projector.Pages | None = None
+    hands: by_hand.Hands | None = None
     terminal: Terminal | None = None
 
     def record(self, it: server.Server) -> Record:
         """What its folder keeps while it goes on."""
         return Record(str(self.lab_file.resolve()), it.port, it.desk, self.page, spelled(self.close), self.until,
-                      Process.of(os.getpid()), it.process)
+                      Process.of(os.getpid()), it.process, self.play, stand_in=self.stand_in)
 
     def title(self) -> str:
         """What its page is called."""
@@ -67,7 +73,12 @@ def open_desk(it: server.Server, run: Running) -> Desk:
     """Greets at the desk, which is kept in the folder."""
     run.record(it).write(run.folder)
     desk = Desk(run.lab, run.folder / "journal", Client(it.desk, *run.lab.teacher), run.close, run.tell)
-    desk.connected = Connected(it.port, run.lab.sessions - 1, desk.client.own_port())
+    recorded = (run.folder / record.FOLDER / "begun").is_file()
+    names = run.hands.names if run.hands else {}
+    desk.connected = Connected(it.port, run.lab.sessions - 1, desk.client.own_port(), names, not recorded)
+    desk.heard = Heard(run.folder / record.FOLDER, run.lab) if recorded else None
+    if run.lab.held() and it.hosted:
+        desk.house = House(run.lab, it.port, run.stand_in, run.tell)
     if run.goes_on:
         desk.catch_up()
     return desk
@@ -95,7 +106,7 @@ def listen(run: Running) -> None:
         return
     run.tell(f"words: {HELP}")
     if at_terminal:
-        run.terminal = Terminal([str(node.id) for node in run.lab.nodes])
+        run.terminal = Terminal([*(str(node.id) for node in run.lab.nodes), *run.lab.without_house().students])
         run.tell.around = run.terminal.around
     read = run.terminal.read if run.terminal else read_lines
     threading.Thread(target=read, args=[run.typed.put], daemon=True).start()
@@ -114,13 +125,17 @@ def hold(run: Running, it: server.Server) -> int | None:
         listen(run)
         if run.pages is not None:
             show(run.pages, desk, run.tell)
+        if run.hands is not None:
+            run.hands.show(it.port, run.tell)
+            run.tell(f"page to play {run.hands.address}")
     except (Closed, Refused, Denied) as error:
         run.tell(f"the server: {error}")
         ended = it.ended()
         status = it.stop()
         run.tell(f"the server {'has ended by itself' if ended else 'was ended'}, status {status}: {it.printed()}")
         return FAILED
-    why = attend(desk, it, run.until == "stable", run.typed, Room(run.folder), run.hung)
+    with contextlib.closing(Room(run.folder)) as room:
+        why = attend(desk, it, run.until == "stable", run.typed, room, run.hung)
     return take_leave(it, desk, why, run)
 
 
@@ -142,15 +157,17 @@ def take_leave(it: server.Server, desk: Desk, why: str, run: Running) -> int | N
         tell(f"the server is left to itself, process {it.process.number}: while it goes on, ./class attach {run.folder} "
              "takes its desk; then ./class mark tells the marks")
         return None
-    elif why == "died" or it.status() != 0:
+    elif why == "died" or it.status() != 0 and not it.lacks_record():
         tell(f"the server has ended{' by itself' if why == 'died' else ''}, status {it.status()}: {it.printed()}")
         tell(f"to go on: {desk.go_on}")
         return FAILED
     for line in it.printed().splitlines():
         if line.startswith("host: "):
             tell(f"the server said: {line.removeprefix('host: ')}")
+    if it.lacks_record():
+        tell("the record isn't whole: the disk didn't take all of it; the journal is")
     tell("stable, and so the run is ended" if why == "stable" else "the run is ended")
-    return {"journal": FAILED, "full": WARNED}.get(why, 0)
+    return {"journal": FAILED, "full": WARNED}.get(why, WARNED if it.lacks_record() else 0)
 
 
 def waits(it: server.Server, run: Running) -> bool:
@@ -171,6 +188,8 @@ def to_the_end(run: Running, start: Callable[[], server.Server]) -> int:
     try:
         if run.page is not None:
             run.pages = projector.open_pages(run.page, run.title(), run.lab, run.typed)
+        if run.play is not None:
+            run.hands = by_hand.open_hands(run.play, run.title(), run.lab)
         obey_signals(run.typed)
         status = hold(run, start())
         if status is None:
@@ -180,7 +199,8 @@ def to_the_end(run: Running, start: Callable[[], server.Server]) -> int:
             replace(record, ended=status != FAILED).write(run.folder)
         return finish(run.folder, run.tell) or status
     finally:
-        if run.pages is not None:
-            run.pages.stop()
+        for it in (run.hands, run.pages):
+            if it is not None:
+                it.stop()
         if run.terminal is not None:
             run.terminal.leave()

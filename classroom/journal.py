@@ -2,6 +2,7 @@
 from __future__ import annotations
 
 from dataclasses import dataclass
+from functools import cached_property
 
 RULES = ("update", "marriage", "seduction", "abandonment")
 
@@ -14,7 +15,7 @@ class Event:
     at: int
     words: tuple[str, ...]
 
-    @property
+    @cached_property
     def kind(self) -> str:
         """The event's word."""
         return self.words[0]
@@ -29,7 +30,7 @@ class Event:
         """Whether another configuration comes of it."""
         return self.kind in ("close", "fault", "link", "cut")
 
-    @property
+    @cached_property
     def nodes(self) -> tuple[int, ...]:
         """The nodes at which it takes place, as far as its line names them."""
         first = {"grant": 2, "release": 1, "fault": 1, "link": 1, "cut": 1}.get(self.kind, len(self.words))
@@ -37,8 +38,11 @@ class Event:
         return tuple(int(word) for word in self.words[first : first + count])
 
 
+def split(text: str) -> list[list[str]]:
+    """The words of each whole line of a journal: its place, the configuration before it, and the event's."""
+    return [line.split(" ") for line in text.split("\n")[:-1]]
+
+
 def events(text: str) -> list[Event]:
     """The whole lines of a journal."""
-    lines = text.split("\n")[:-1]
-    words = [line.split(" ") for line in lines]
-    return [Event(int(place), int(at), tuple(rest)) for place, at, *rest in words]
+    return [Event(int(place), int(at), tuple(rest)) for place, at, *rest in split(text)]

@@ -4,17 +4,17 @@ from __future__ import annotations
 import json
 import os
 import tomllib
-from dataclasses import dataclass, field
+from dataclasses import dataclass, field, replace
 from pathlib import Path
 from typing import Any
 
 from classroom.lists import Person
 from classroom.printable import printable
 from classroom.program import Fault, call
-from classroom.rounds import most_moves
 
 MOST_EVENTS = 100_000
 MOST_SESSIONS = 16
+HOUSE = "house"  # who plays for the absent
 
 
 @dataclass
@@ -39,14 +39,6 @@ class Lab:
     links: list[tuple[int, int]] = field(default_factory=list)
     people: dict[str, Person] = field(default_factory=dict)
 
-    def most_moves(self, more: int = 0) -> int:
-        """How many moves suffice from any start, with so many links more than it began with."""
-        return most_moves(len(self.nodes), len(self.links) + more)
-
-    def most_events(self) -> int:
-        """The same with as many closes."""
-        return 2 * self.most_moves()
-
     def owners(self, node: int) -> list[str]:
         """Who owns the node with that identifier."""
         return next((each.owners for each in self.nodes if each.id == node), [])
@@ -54,6 +46,19 @@ class Lab:
     def nodes_of(self, name: str) -> list[int]:
         """The identifiers of a student's nodes."""
         return [node.id for node in self.nodes if name in node.owners]
+
+    def held(self) -> list[int]:
+        """The nodes at which the house may play: those of the student `house`, who owns none alone."""
+        nodes = [node for node in self.nodes if HOUSE in node.owners]
+        return [node.id for node in nodes] if all(len(node.owners) == 2 for node in nodes) else []
+
+    def without_house(self) -> Lab:
+        """The students and their nodes alone."""
+        if not self.held():
+            return self
+        students = {name: key for name, key in self.students.items() if name != HOUSE}
+        nodes = [replace(node, owners=[name for name in node.owners if name != HOUSE]) for node in self.nodes]
+        return replace(self, students=students, nodes=nodes)
 
 
 def ordered(link: tuple[int, int]) -> tuple[int, int]:

@@ -50,7 +50,7 @@ class Live {
   end() {
     this.source.close();
     this.aside.say("connection", "(the run is over)");
-    for (const name of ["close", "every", "when-idle", "by-hand", "set", "release"]) this.find(name).disabled = true;
+    for (const name of ["close", "every", "when-idle", "by-hand", "shake", "shake-all", "break", "set", "release"]) this.find(name).disabled = true;
   }
 
   show() {
@@ -81,6 +81,7 @@ class Live {
     const buttons = {
       close: () => this.act("close"), "by-hand": () => this.act("by-hand"), freeze: () => this.freeze(),
       every: () => this.act("every " + find("seconds").value), "when-idle": () => this.act("when-idle " + find("seconds").value), cancel: () => this.pick(null),
+      shake: () => this.act("shake " + find("count").value), "shake-all": () => this.act("shake all"), break: () => this.act("break"),
       release: () => { this.act("release " + this.idOf(this.picked)); this.pick(null); },
     };
     for (const [name, act] of Object.entries(buttons)) find(name).addEventListener("click", act);

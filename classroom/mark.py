@@ -6,31 +6,46 @@ import csv
 import json
 import re
 import sys
+from collections import Counter
 from dataclasses import dataclass
 from pathlib import Path
 from typing import Any
 
 from classroom import lab as labs
-from classroom import folders, lists, replay, tally, totals
-from classroom.journal import RULES, events
+from classroom import folders, lists, record, replay, tally, totals
+from classroom.comeback import recoveries
+from classroom.journal import RULES, events, split
 from classroom.printable import printable
 from classroom.program import Fault
 from classroom.statuses import WARNED
+from classroom.vouched import vouched
 
 UNTOLD = (
-    "Not in a journal: what was asked for and denied, when a line was written, and who used a name.",
+    "Not in a journal: what was asked for and denied, which a record has; when a line was written, and who used a name.",
     "A granted move is applied by the next close; a release takes it back, and a fault, link or cut drops it.",
 )
 
 
 @dataclass(frozen=True)
+class Recorded:
+    """What is told of a run's record."""
+
+    line: str
+    is_refused: bool = False
+
+
+NONE = Recorded("no record: what was asked for and denied isn't known")
+
+
+@dataclass(frozen=True)
 class Run:
-    """A journal that the audit passed, with what it tells."""
+    """A journal that the audit passed, with what it tells, and the verdicts on its records."""
 
     journal: Path
     lab: labs.Lab
     pairs: list[list[int]]
     tally: tally.Tally
+    records: list[Recorded]
 
     def table(self) -> dict[str, Any]:
         """The run as `--json` has it."""
@@ -46,6 +61,8 @@ class Run:
             "journal": str(self.journal), "events": self.tally.events, "configuration": self.tally.configuration,
             "stable": self.tally.stable, "pairs": self.pairs, "closes": self.tally.closes, "faults": self.tally.faults,
             "links": self.tally.links, "cuts": self.tally.cuts, "students": students,
+            "shared": {str(node): {name: dict(granted) for name, granted in owners.items()} for node, owners in self.tally.shared.items()},
+            "records": [it.line for it in self.records],
         }
 
 
@@ -56,13 +73,21 @@ def marked(lab_file: Path, journal: Path) -> Run:
     except Fault as fault:
         raise Fault(refusal(journal, str(fault)), fault.status) from None
     lab = labs.read(lab_file)
-    found = events(journal.read_text(encoding="ascii"))
+    found = split(journal.read_text(encoding="ascii"))
     if len(found) != told.events:
         raise Fault(f"{journal}: it grows: its run is still going on", 4)
     report = replay.report(lab, found)
     if report["stable"] != told.stable:
         raise Fault(f"{journal}: tally and report disagree", 4)
-    return Run(journal, lab, report["pairs"], told)
+    return Run(journal, lab, report["pairs"], told, recorded(journal))
+
+
+def recorded(journal: Path) -> list[Recorded]:
+    """The verdicts on the records of the run's folder; of journals elsewhere there is none."""
+    if journal.name != "journal" or not record.kept(journal.parent):
+        return [NONE]
+    with vouched(journal.parent) as parts:
+        return [Recorded(f"{part.record.name}: {part.line}", part.status != 0) for part in parts]
 
 
 def refusal(journal: Path, error: str) -> str:
@@ -94,13 +119,28 @@ def sentence(run: Run) -> str:
             f"{told.cuts} cuts; pairs: {pairs}")
 
 
+def of_owner(name: str, granted: Counter[str]) -> str:
+    """What an owner was granted at a node."""
+    rules = ", ".join(f"{number} {rule}" for rule, number in granted.items() if number)
+    return f"{name} {granted.total()} granted" + (f" ({rules})" if rules else "")
+
+
+def shared(run: Run) -> list[str]:
+    """A line for each node of several owners at which moves were granted: whose they were."""
+    return [
+        f"node {node}: " + "; ".join(of_owner(name, granted) for name, granted in owners.items())
+        for node, owners in sorted(run.tally.shared.items()) if any(granted.total() for granted in owners.values())
+    ]
+
+
 def text(runs: list[Run]) -> str:
     """The table for people; the rules' columns are of applied moves."""
     lines = []
     for run in runs:
         table = [row[1:] for row in rows([run])]
         widths = [max(len(row[column]) for row in table) for column in range(len(table[0]))]
-        lines += [sentence(run), *("  " + "  ".join(map(str.rjust, row, widths)) for row in table), ""]
+        lines += [sentence(run), *(it.line for it in run.records), *("  " + "  ".join(map(str.rjust, row, widths)) for row in table)]
+        lines += [*shared(run), *recoveries(run.lab, events(run.journal.read_text(encoding="ascii"))), ""]
     return "\n".join([*lines, *UNTOLD]) + "\n"
 
 
@@ -114,12 +154,15 @@ def mark(words: argparse.Namespace) -> int:
     roster = lists.read(Path(words.roster), words) if words.roster else None
     runs = [marked(lab, journal) for lab, journal in folders.given(words.runs)]
     students = [(run.lab, run.tally.students) for run in runs]
+    refused = [f"{run.journal}: {it.line}" for run in runs for it in run.records if it.is_refused]
+    for line in refused:
+        print(printable(f"class: {line}"), file=sys.stderr)
     if roster is not None:
         rows_of, left = totals.by_roster(students, roster)
         totals.write(rows_of, roster.delimiter)
         for name in left:
             print(printable(f"class: {words.roster} has no {name}"), file=sys.stderr)
-        return WARNED if left else 0
+        return WARNED if left or refused else 0
     if words.total:
         totals.write(totals.by_labs(students))
     elif words.json:
@@ -128,4 +171,4 @@ def mark(words: argparse.Namespace) -> int:
         csv.writer(sys.stdout, lineterminator="\n").writerows(rows(runs))
     else:
         print(text(runs), end="")
-    return 0
+    return WARNED if refused else 0

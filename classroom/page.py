@@ -11,12 +11,12 @@ from itertools import chain, islice
 from pathlib import Path
 from typing import Any
 
+from classroom import bounds
 from classroom.drawing import OPEN_MOST, WITNESSES_MOST, Drawing
 from classroom.frames import Frame, OpenLink, State
 from classroom.journal import RULES as NAMED
 from classroom.lab import Lab
 from classroom.layout import lay_out
-from classroom.rounds import most_moves
 
 FOLDER = Path(__file__).parent
 PLAIN_LIMIT = 400_000  # bytes of data above which they are packed
@@ -40,25 +40,28 @@ class Frames:
     def add(self, frame: Frame, links: int) -> None:
         state, event = frame.state, frame.event
         before = self.before or State(0, 0, frozenset())
+        most = bounds.told(len(self.order), links)
         row: dict[str, Any] = {
             "place": state.place, "number": state.number, "moves": state.moves, "since": state.since,
-            "bound": most_moves(len(self.order), links), "stable": state.stable,
+            "bound": most.moves if most else None, "stable": state.stable,
         }
         if event is not None:
             row |= {"kind": event.kind, "text": " ".join(event.words), "nodes": [self.order[node] for node in event.nodes]}
         changes = {
             "registers": self.registers(before, state),
             "chosen": self.rules(before.chosen, state.chosen),
-            "privileged": self.rules(before.privileged, state.privileged),
-            "married": self.partners(before.pairs, state.pairs),
-            "links": self.changed_links(before.links, state.links),
+            "privileged": [] if state.privileged is before.privileged else self.rules(before.privileged, state.privileged),
+            "married": [] if state.pairs is before.pairs else self.partners(before.pairs, state.pairs),
+            "links": [] if state.links is before.links else self.changed_links(before.links, state.links),
             "open": [] if state.open is before.open else self.changed_open(state.open),
         }
         self.rows.append(row | {name: rows for name, rows in changes.items() if rows})
         self.before = state.copy()
 
     def registers(self, before: State, state: State) -> list[list[int]]:
-        rows = []
+        rows: list[list[int]] = []
+        if (before.pointers, before.ms) == (state.pointers, state.ms):
+            return rows
         for node, pointer in state.pointers.items():
             if node in before.ms and (before.pointers[node], before.ms[node]) == (pointer, state.ms[node]):
                 continue
@@ -69,11 +72,8 @@ class Frames:
         return rows
 
     def rules(self, before: dict[int, str], now: dict[int, str]) -> list[list[int]]:
-        return [
-            [self.order[node], RULES.index(now.get(node, ""))]
-            for node in sorted(before.keys() | now.keys())
-            if before.get(node) != now.get(node)
-        ]
+        changed = {node for node, _ in before.items() ^ now.items()}
+        return [[self.order[node], RULES.index(now.get(node, ""))] for node in sorted(changed)]
 
     def partners(self, before: list[Link], now: list[Link]) -> list[list[int]]:
         gone, come = set(before) - set(now), set(now) - set(before)
@@ -118,16 +118,16 @@ class Frames:
         ]
 
 
-def page_of(title: str, lab: Lab, frames: Iterable[Frame]) -> str:
-    """The file's text."""
+def page_of(title: str, lab: Lab, frames: Iterable[Frame], history: str = "") -> str:
+    """The file's text, with a part more below the player."""
     each = iter(frames)
     first = next(each)
-    drawing = Drawing(lab, lay_out((node.id for node in lab.nodes), first.state.links))
+    drawing = Drawing(lab.without_house(), lay_out((node.id for node in lab.nodes), first.state.links))
     picture, rows = drawing.svg(first.state, None), Frames(drawing)
     for frame in chain([first], each):
         rows.add(frame, len(frame.state.links))
     data = what_stays(drawing) | {"links": rows.drawn_links(), "arrows": rows.drawn_arrows(), "frames": rows.rows}
-    return filled("player", title, drawing, picture, data)[0]
+    return filled("player", title, drawing, picture, data, history)[0]
 
 
 def live_page(title: str, drawing: Drawing, state: State, acts: bool) -> tuple[str, str]:
@@ -144,16 +144,21 @@ def what_stays(drawing: Drawing) -> dict[str, Any]:
     }
 
 
-def filled(name: str, title: str, drawing: Drawing, picture: str, data: dict[str, Any]) -> tuple[str, str]:
-    """A page by its form, with its style and its program inside, and the policy that lets these two alone be used."""
-    style = "".join((FOLDER / file).read_text("utf-8") for file in ("drawing.css", "player.css")) + drawing.style()
-    program = "".join((FOLDER / file).read_text("utf-8") for file in ("picture.js", f"{name}.js"))
+def filled(name: str, title: str, drawing: Drawing, picture: str, data: dict[str, Any], more: str = "") -> tuple[str, str]:
+    """A page of a drawing by its form."""
     parts = {
-        "TITLE": escape(title), "STYLE": style, "DRAWING": picture, "STUDENTS": legend(drawing),
-        "DATA": data_element(json.dumps(data, separators=(",", ":"))), "PROGRAM": program,
+        "TITLE": title, "DRAWING": picture, "STUDENTS": legend(drawing),
+        "DATA": data_element(json.dumps(data, separators=(",", ":"))), "MORE": more,
     }
-    text = (FOLDER / f"{name}.html").read_text("utf-8")
-    head, *rest = text.split("{{")
+    return assembled(name, parts, drawing.style(), ("drawing.css", "player.css"), ("picture.js", f"{name}.js"))
+
+
+def assembled(name: str, parts: dict[str, str], more: str, styles: tuple[str, ...], programs: tuple[str, ...]) -> tuple[str, str]:
+    """A page by its form, with its style and its program inside, and the policy that lets these two alone be used."""
+    style = "".join((FOLDER / file).read_text("utf-8") for file in styles) + more
+    program = "".join((FOLDER / file).read_text("utf-8") for file in programs)
+    parts = parts | {"TITLE": escape(parts["TITLE"]), "STYLE": style, "PROGRAM": program}
+    head, *rest = (FOLDER / f"{name}.html").read_text("utf-8").split("{{")
     page = head + "".join(parts[piece.split("}}", 1)[0]] + piece.split("}}", 1)[1] for piece in rest)
     return page, f"style-src {hashed(style)}; script-src {hashed(program)}"
 

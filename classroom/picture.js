@@ -273,7 +273,7 @@ class Aside {
     this.say("pairs", String(state.paired / 2));
     this.say("open", String(state.open));
     this.say("moves", String(row.moves));
-    this.say("since", row.since + " of at most " + row.bound);
+    this.say("since", row.since + (row.bound === null ? "" : " of at most " + row.bound));
     this.say("stable", row.stable ? "stable" : "not stable");
   }
 }

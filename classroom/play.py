@@ -23,7 +23,7 @@ def picture(lab_file: Path, journal: Path, place: int) -> str:
     """The configuration after a place as SVG."""
     lab, frames = frames_of(lab_file, journal)
     first = next(frames)
-    drawing = Drawing(lab, lay_out((node.id for node in lab.nodes), first.state.links))
+    drawing = Drawing(lab.without_house(), lay_out((node.id for node in lab.nodes), first.state.links))
     frame: Frame | None = first
     if place != 0:
         frame = next(islice(frames, place - 1, None), None) if place > 0 else None

@@ -15,7 +15,9 @@ from types import TracebackType
 from typing import Any
 
 from classroom import lab as labs
+from classroom.adversary import Adversary
 from classroom.answering import Answering
+from classroom.bench import network
 from classroom.client import Denied, reply_of
 from classroom.daemons import Daemon, Sight, applied
 from classroom.relay import Relay
@@ -85,6 +87,7 @@ class Playing:
         """`programs` are the students that programs play; the house is all others."""
         self.lab, self.programs, self.daemon = lab, programs, daemon
         self.chance, self.pace_chance = random.Random(f"{seed} daemon"), random.Random(f"{seed} house")
+        self.adversary = Adversary(seed)
         self.heard = {name: Heard() for name in programs}
         self.names: dict[int, str] = {}
         self.chosen: dict[int, tuple[str, str]] = {}
@@ -234,9 +237,14 @@ class Playing:
             self.paced = now
             self.house()
         sight = Sight([node for node, _ in self.report["privileged"]], list(self.chosen), now - self.news, now - self.closed)
-        nodes = applied(self.daemon, sight, self.chance, PATIENCE)
+        nodes = applied(self.daemon, sight, self.chance, PATIENCE, lambda nodes: self.adversary.choose(self.seen(), nodes))
         if nodes:
             self.close(nodes)
+
+    def seen(self) -> labs.Lab:
+        """The network with its registers as they are."""
+        seen = [self.program.ask(TEACHER, do="see", node=node.id) for node in self.lab.nodes]
+        return network([labs.Node(it["node"], [], it["p"], it["m"]) for it in seen], self.lab.links)
 
     def is_stable(self) -> bool:
         """Whether no node is privileged."""
@@ -257,6 +265,7 @@ class Playing:
         """Ends it."""
         self.relay.close()
         self.program.close()
+        self.adversary.close()
 
     def __enter__(self) -> Playing:
         return self

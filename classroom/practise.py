@@ -11,7 +11,7 @@ from dataclasses import dataclass, field
 from pathlib import Path
 
 from classroom import lab as labs
-from classroom import networks, play, slips
+from classroom import bounds, networks, play, slips
 from classroom.answering import answerer
 from classroom.bots import Bot, Kept
 from classroom.daemons import FORMS, Daemon, daemon
@@ -34,10 +34,10 @@ def add_words(words: argparse.ArgumentParser) -> None:
     """The words of `practise`."""
     words.add_argument("bots", nargs="*", metavar="BOT",
                        help="a command, to which a slip's path is added: 'python3 bot.py'; without one, a port waits for a program")
-    words.add_argument("--family", default="cycle", help="path, cycle, star, complete, tree, grid:WxH, random:N:LINKS (cycle)")
+    words.add_argument("--family", default="cycle", help=f"{networks.NAMED} (cycle)")
     words.add_argument("--nodes", type=count, help="how many nodes (7)")
     words.add_argument("--node", metavar="I,..", help="your nodes, dealt out to the BOTs in turn (two for each, by the seed)")
-    words.add_argument("--start", choices=("clean", "random", "hurt"), default="hurt", help="registers at the beginning (hurt)")
+    words.add_argument("--start", choices=networks.STARTS, default="hurt", help="registers at the beginning (hurt)")
     words.add_argument("--daemon", type=daemon, default=Daemon("when-idle", 0.5), metavar="D", help=f"{FORMS} (when-idle:0.5)")
     words.add_argument("--seed", type=int, default=1, help="for network, start and daemon (1)")
     words.add_argument("--timeout", type=seconds, default=60.0, metavar="SECONDS",
@@ -104,6 +104,7 @@ class Practice:
 
     def __post_init__(self) -> None:
         self.recovery = Recovery(node for node, _ in self.playing.report["privileged"])
+        self.most = bounds.of_lab(self.playing.lab).moves  # asked for before the first step, which nothing is to hold up
         self.playing.on_no, self.playing.on_step = self.no, self.step
 
     def no(self, no: No) -> None:
@@ -116,8 +117,7 @@ class Practice:
         self.recovery.step([node for node, _, _ in step.moved], privileged)
         moved = ", ".join(f"{node} ({who}) {rule}" for node, who, rule in step.moved)
         left = f"{len(privileged)} privileged" if privileged else "stable"
-        lab = self.playing.lab
-        self.tell(f"configuration {step.at}: {moved}; {left}, {self.recovery.moves} of at most {lab.most_moves()} moves")
+        self.tell(f"configuration {step.at}: {moved}; {left}, {self.recovery.moves} of at most {self.most} moves")
         self.told = ""
 
     def run(self) -> bool:

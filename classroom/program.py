@@ -70,18 +70,18 @@ def call(*words: str | Path) -> Answer:
     return answer_of(program(), *words)
 
 
-def host_call(*words: str | Path) -> Answer:
-    """Calls the host's program to its end."""
+def host_call(*words: str | Path, files: tuple[int, ...] = ()) -> Answer:
+    """Calls the host's program to its end; it has these open files."""
     path = host()
     if path is None:
         raise Fault("mml_host isn't built: `./mml build` builds it (with the toolchain's rt on the path)")
-    return answer_of(path, *words)
+    return answer_of(path, *words, files=files)
 
 
-def answer_of(path: Path, *words: str | Path) -> Answer:
+def answer_of(path: Path, *words: str | Path, files: tuple[int, ...] = ()) -> Answer:
     """What a program answers to words."""
     done = subprocess.run([path, *map(plain, words)], stdin=subprocess.DEVNULL, capture_output=True, check=False,
-                          restore_signals=False)
+                          restore_signals=False, pass_fds=files)
     return Answer(done.returncode, done.stdout.decode(errors="replace"), done.stderr.decode(errors="replace").strip())
 
 

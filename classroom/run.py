@@ -5,10 +5,11 @@ import argparse
 import shutil
 from pathlib import Path
 
-from classroom import closing, server
+from classroom import closing, house, server
 from classroom import lab as labs
 from classroom.daemons import FORMS
 from classroom.folders import RECORD, Record, going, new_folder, of_folder
+from classroom.grade import seconds
 from classroom.holding import Running, to_the_end
 from classroom.program import Fault
 from classroom.several import side_by_side
@@ -24,12 +25,21 @@ def port(word: str) -> int:
     return int(word)
 
 
+def standing(word: str) -> float:
+    """Seconds, as `20s` or `20`."""
+    return seconds(word.removesuffix("s"))
+
+
 def add_desk_words(words: argparse.ArgumentParser) -> None:
     """The words of who holds a desk."""
     words.add_argument("--daemon", "--close", dest="close", type=closing.mode, metavar="D", help=f"{FORMS} (when-idle:2)")
+    words.add_argument("--stand-in", type=standing, metavar="20s",
+                       help="let the house ask for a node that has been privileged so long without its student's move")
     words.add_argument("--until", choices=["stable"], help="end the run where no node is privileged")
     words.add_argument("--page", type=port, nargs="?", const=4780, metavar="PORT",
                        help="serve a page of the run, for the projector, at that port or the next free one (4780)")
+    words.add_argument("--play", type=port, nargs="?", const=4790, metavar="PORT",
+                       help="serve a page at which students play by hand, at that port or the next free one (4790)")
     words.add_argument("--typed", action="store_true", help="take words on standard input where it is no terminal too")
 
 
@@ -51,18 +61,27 @@ def one(words: argparse.Namespace) -> int:
     lab_file, into = Path(words.labs[0]), Path(words.into)
     server.ready(words.serve)
     lab = labs.read(lab_file)
+    may_stand_in(words, lab, lab_file)
     if not words.beside:
         refuse_beside(into, lab_file)
     folder = new_folder(into, lab_file)
     (folder / "lab.toml").write_bytes(lab_file.read_bytes())
     run = Running(folder, lab_file, lab, words.close or CLOSING, words.until, words.page, words.typed, Teller(folder),
-                  by_number=words.serve)
+                  words.play, by_number=words.serve, stand_in=words.stand_in)
     try:
         return to_the_end(run, lambda: begin(run, words.port))
     except Fault:
         if not (folder / "journal").exists() or (folder / "journal").stat().st_size == 0:
             shutil.rmtree(folder)
         raise
+
+
+def may_stand_in(words: argparse.Namespace, lab: labs.Lab, file: Path) -> None:
+    """Wants that somebody can stand in, where that is asked for."""
+    if words.stand_in is not None:
+        house.wanted(lab, file)
+        if getattr(words, "serve", False):
+            raise Fault("--stand-in isn't for --serve: each move of the house takes a connection")
 
 
 def resumed(words: argparse.Namespace) -> int:
@@ -74,8 +93,11 @@ def resumed(words: argparse.Namespace) -> int:
         raise Fault(f"{folder}: it has no {RECORD}, which tells the ports")
     if record.goes_on():
         raise Fault(f"{folder}: its run goes on: ./class attach {folder}")
-    run = Running(folder, Path(record.lab), labs.read(lab_file), words.close or closing.closing(record.close),
-                  words.until or record.until, words.page or record.page, words.typed, Teller(folder), goes_on=True)
+    lab = labs.read(lab_file)
+    may_stand_in(words, lab, lab_file)
+    run = Running(folder, Path(record.lab), lab, words.close or closing.closing(record.close),
+                  words.until or record.until, words.page or record.page, words.typed, Teller(folder),
+                  words.play or record.play, goes_on=True, stand_in=words.stand_in or record.stand_in)
     before = record
     return to_the_end(run, lambda: begin(run, before.port, before))
 

@@ -9,6 +9,7 @@ import time
 from dataclasses import dataclass
 from pathlib import Path
 
+from classroom import record
 from classroom.folders import Process, Record
 from classroom.program import Fault, first_free, host, is_clone, plain, program
 
@@ -47,6 +48,11 @@ class Server:
         if self.child is not None:
             return self.child.wait()
         return 0 if self.printed().rpartition("\n")[2].startswith("done: ") else 4
+
+    def lacks_record(self) -> bool:
+        """Whether it ended as it should, but its record didn't take all."""
+        lines = self.printed().splitlines()
+        return lines[-1:] == ["record fault"] and any(line.startswith("done: ") for line in lines)
 
     def stop(self) -> int:
         """Ends it, where it doesn't end by a bye; gives the status."""
@@ -91,6 +97,7 @@ class Call:
     journal: Path
     by_number: int | None
     is_resumed: bool
+    record: Path
 
     def at(self, port: int, desk: int = 0) -> Server | None:
         """A server that listens there, the desk's port 0 where the system chooses it; None where a port is taken."""
@@ -102,8 +109,8 @@ class Call:
             before = prints.tell()
             # SIGXFSZ stays ignored, as it is here: where a file may not grow further, a write fails, and nothing ends.
             process = subprocess.Popen(
-                [*words, plain(self.lab), *ports, plain(self.journal)], stdin=subprocess.DEVNULL, stdout=prints, stderr=prints,
-                start_new_session=True, restore_signals=False,
+                [*words, plain(self.lab), *ports, plain(self.journal), *([plain(self.record)] if hosting else [])],
+                stdin=subprocess.DEVNULL, stdout=prints, stderr=prints, start_new_session=True, restore_signals=False,
             )
         line = first_line(process, output, before)
         told = LISTENING.fullmatch(line)
@@ -118,9 +125,9 @@ class Call:
 
 def start(folder: Path, lab: Path, port: int, journal: Path, by_number: int | None = None,
           resumed: Record | None = None) -> Server:
-    """Starts a host over a lab at the first free port from that on, or one that goes on with a class, at its own ports
+    """Starts a host over a lab, with its record in the folder, at the first free port from that on, or one that goes on with a class, at its own ports
     where they are free; or, by number, a server for so many connections, of which the teacher's desk is one."""
     ready(by_number is not None)
-    call = Call(folder, lab, journal, by_number, resumed is not None)
+    call = Call(folder, lab, journal, by_number, resumed is not None, folder / record.FOLDER)
     again = call.at(resumed.port, resumed.desk) if resumed is not None else None
     return again or first_free(port, call.at)

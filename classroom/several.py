@@ -10,6 +10,7 @@ import sys
 import threading
 from pathlib import Path
 
+from classroom import lab as labs
 from classroom.closing import spelled
 from classroom.program import TOP, Fault
 from classroom.typed import EOF, HELP, Terminal, read_lines
@@ -22,9 +23,11 @@ def prefixed(words: argparse.Namespace, index: int) -> Child:
     """A run of its own, in a process of its own."""
     more = ["--until", words.until] if words.until else []
     more += ["--page", str(words.page + index)] if words.page is not None else []
+    more += ["--play", str(words.play + index)] if words.play is not None else []
     more += ["--beside"] if words.beside else []
     more += ["--serve"] if words.serve else []
     more += ["--close", spelled(words.close)] if words.close else []
+    more += ["--stand-in", f"{words.stand_in:g}"] if words.stand_in is not None else []
     return subprocess.Popen(
         [sys.executable, TOP / "class", "run", words.labs[index], "--port", str(words.port + index), "--typed",
          "--into", words.into, *more],
@@ -36,7 +39,8 @@ class Several:
     """The runs, numbered from 1."""
 
     def __init__(self, words: argparse.Namespace) -> None:
-        self.names = [Path(lab).stem for lab in words.labs]
+        self.labs = [Path(lab) for lab in words.labs]
+        self.names = [lab.stem for lab in self.labs]
         self.children = [prefixed(words, index) for index in range(len(words.labs))]
         self.terminal: Terminal | None = None
         self.turn = threading.Lock()
@@ -75,11 +79,21 @@ class Several:
         """The runs with their numbers."""
         return ", ".join(f"{number}: {name}" for number, name in enumerate(self.names, 1))
 
+    def nodes(self) -> list[str]:
+        """The identifiers of all labs that can be read."""
+        found: set[int] = set()
+        for lab in self.labs:
+            try:
+                found |= {node.id for node in labs.read(lab).nodes}
+            except Fault:
+                pass  # Its run says why.
+        return list(map(str, sorted(found)))
+
     def listen(self) -> None:
         """Takes what is typed."""
         self.say(f"words, each after the number of its run ({self.listed()}), or for all: {HELP}\n")
         if sys.stdin.isatty():
-            self.terminal = Terminal([])
+            self.terminal = Terminal(self.nodes())
         read = self.terminal.read if self.terminal else read_lines
         threading.Thread(target=read, args=[self.hand_on], daemon=True).start()
 
@@ -101,7 +115,7 @@ def side_by_side(words: argparse.Namespace) -> int:
     typed = words.typed or sys.stdin is not None and sys.stdin.isatty()
     if words.close is not None and words.close.kind == "by-hand" and not typed:
         raise Fault("several labs are closed by time: --close every:SECONDS or when-idle:SECONDS; or by what is typed: --typed")
-    if words.port + len(words.labs) > 65536 or (words.page or 0) + len(words.labs) > 65536:
+    if words.port + len(words.labs) > 65536 or max(words.page or 0, words.play or 0) + len(words.labs) > 65536:
         raise Fault(f"{len(words.labs)} labs need a port each, up to 65535")
     several = Several(words)
     running: queue.SimpleQueue[Child] = queue.SimpleQueue()

@@ -19,11 +19,13 @@ def slip(made: Lab, name: str, port: int) -> list[str]:
 def page(made: Lab, people: dict[str, Person], port: int, path: Path) -> str:
     """A page to print and cut: for each student the slip, and how to connect."""
     pages = [f"Slips of {path.name}: one for each student, to cut out. The teacher is {made.teacher[0]}."]
-    for name in made.students:
-        shared = [f"{node} (with {other})" for node in made.nodes_of(name) for other in made.owners(node) if other != name]
+    shown = made.without_house()
+    for name in shown.students:
+        shared = [f"{node} (with {other})" for node in shown.nodes_of(name) for other in shown.owners(node) if other != name]
         lines = [
             printable(people[name].written), *(f"  {line}" for line in slip(made, name, port)),
             *([f"  shared {', '.join(shared)}"] if shared else []),
+            *(["  The house may play a node that waits for you."] if made.held() else []),
             f"  These lines are the file {name}.slip, which programs take:",
             f"  python3 client.py {name}.slip",
             f"  python3 bot.py {name}.slip",
@@ -39,5 +41,5 @@ def write_all(made: Lab, port: int, folder: Path) -> None:
         folder.mkdir(mode=0o700)
     except OSError as error:
         raise Fault(f"{folder}: {error.strerror}", 4) from None
-    for name in [*made.students, made.teacher[0]]:
+    for name in [*made.without_house().students, made.teacher[0]]:
         write_new(folder / f"{name}.slip", "\n".join(slip(made, name, port)) + "\n")

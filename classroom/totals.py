@@ -46,7 +46,10 @@ def summed(runs: Runs) -> dict[str, tuple[Person, Total]]:
     """The totals by whom the labs say who it is: by the identifier, or where there is none by the name in the lab."""
     found: dict[str, tuple[Person, Total]] = {}
     for lab, students in runs:
+        persons = lab.without_house().students
         for name, marks in students.items():
+            if name not in persons:
+                continue
             person = lab.people.get(name, Person(name))
             found.setdefault(f"id {person.id}" if person.id else f"name {name}", (person, Total()))[1].add(marks)
     return found

@@ -65,7 +65,11 @@ class Trial:
         self.chance = random.Random(f"{case.name()} faults")
         self.kept: Kept | None = None
         self.slip = room / "bot.slip"
-        self.slip.write_text("".join(f"{line}\n" for line in slips.slip(case.made, case.who, self.playing.relay.port)))
+        try:
+            self.slip.write_text("".join(f"{line}\n" for line in slips.slip(case.made, case.who, self.playing.relay.port)))
+        except OSError:
+            self.playing.end()
+            raise
 
     def denied(self, no: No) -> None:
         """The first line that a right bot wouldn't have sent."""

@@ -24,17 +24,19 @@ WORDS = {
     "report": ("", "the matching, and how many events are left"),
     "wait": ("", "whom the class waits for"),
     "who": ("", "who is connected, and who hasn't moved yet"),
+    "play": ("NAME", "let the house play a student's nodes"),
+    "stop": ("NAME", "leave them to the student again"),
     "every": ("SECONDS", "close a step every so many seconds"),
     "when-idle": ("SECONDS", "close a step where nothing came for so long"),
     "by-hand": ("", "close no step by itself"),
-    "daemon": ("WORD", "close steps as central, synchronous, random:P, when-idle:SECONDS, every:SECONDS, by-hand"),
+    "daemon": ("WORD", "close steps as central, synchronous, random:P, adversary, when-idle:SECONDS, every:SECONDS, by-hand"),
     "page": ("", "another address of the page to act at; the one before acts no more"),
     "help": ("", "tell these words"),
     "end": ("", "end the run"),
 }
 FORMS = {word: f"{word} {form}".strip() for word, (form, _) in WORDS.items()}
 HELP = ", ".join(FORMS.values())
-PATTERNS = {"NODE": r"\d+", "NEIGHBOUR|null": r"\d+|null|-", "true|false": "true|false", "SECONDS": r"\d+(\.\d+)?", "WORD": r"\S+",
+PATTERNS = {"NODE": r"\d+", "NEIGHBOUR|null": r"\d+|null|-", "true|false": "true|false", "SECONDS": r"\d+(\.\d+)?", "WORD": r"\S+", "NAME": r"\S+",
             "K|all": r"[1-9]\d*|all", "SEED": r"\d+"}
 
 
@@ -75,7 +77,8 @@ class Terminal:
 
     def complete(self, text: str, state: int) -> str | None:
         """The next word that begins so."""
-        first = self.readline.get_begidx() == 0
+        before = self.readline.get_line_buffer()[:self.readline.get_begidx()]
+        first = re.fullmatch(r"\s*(\d+\s*:\s*)?", before) is not None  # Of several runs the number of one stands before.
         found = [f"{word} " for word in (WORDS if first else self.words) if word.startswith(text)]
         return found[state] if state < len(found) else None
 

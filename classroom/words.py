@@ -4,9 +4,10 @@ from __future__ import annotations
 import argparse
 import os
 import sys
+from collections.abc import Callable
+from importlib import import_module
 from typing import NoReturn
 
-from classroom import attach, check, demo, experiment, grade, lists, mark, new, play, practise, rekey, run
 from classroom.printable import printable
 from classroom.program import TOP, Fault
 from classroom.statuses import FAILED, TABLE, USAGE
@@ -36,15 +37,18 @@ def positive(word: str) -> int:
 
 def add_new(words: argparse.ArgumentParser) -> None:
     """The words of `new`."""
+    from classroom import lists, networks, new, run
+
     words.add_argument("lab", help="the lab's file to make, NAME.toml; the slips are NAME-slips.txt")
     words.add_argument("--students", required=True, help="a file of names, one a line, or a table (CSV) as a platform exports it")
     lists.add_words(words)
     network = words.add_mutually_exclusive_group()
-    network.add_argument("--family", default="cycle", help="path, cycle, star, complete, tree, grid:WxH, random:N:LINKS (cycle)")
+    network.add_argument("--family", default="cycle", help=f"{networks.NAMED} (cycle)")
     network.add_argument("--links", help="a file of links, one a line: 1 2")
     words.add_argument("--nodes", type=positive, help="how many nodes (as many as students)")
     words.add_argument("--pairs", action="store_true", help="two owners for each node")
-    words.add_argument("--start", choices=("clean", "random", "hurt"), default="clean", help="registers at the beginning (clean)")
+    words.add_argument("--stand-in", action="store_true", help="a second owner, the house, for each node: it plays for who is absent")
+    words.add_argument("--start", choices=networks.STARTS, default="clean", help="registers at the beginning (clean)")
     words.add_argument("--seed", type=int, default=1, help="for random networks and starts (1); keys don't follow from it")
     words.add_argument("--events", type=positive, help="the limit of events (100000)")
     words.add_argument("--sessions", type=positive, help="how many seats, one of them the teacher's (16)")
@@ -58,12 +62,13 @@ def add_new(words: argparse.ArgumentParser) -> None:
 # An example of each word; of those that hold a desk also what is typed there.
 TYPED = f"Typed there: {HELP}."
 EXAMPLES = {
-    "new": "Example: class new maths.toml --students names.csv --family grid:4x3 --start hurt",
+    "new": "Example: class new maths.toml --students names.csv --family grid:4x3 --start hurt --stand-in",
     "check": "Example: class check maths.toml",
-    "run": f"Examples: class run maths.toml --until stable --page; class run --resume runs/2026-11-24T1015-maths. {TYPED}",
+    "run": f"Examples: class run maths.toml --until stable --page --stand-in 20s; class run --resume runs/2026-11-24T1015-maths. {TYPED}",
     "key": "Example: class key runs/2026-11-24T1015-maths zoe-mueller",
     "attach": f"Example: class attach runs/2026-11-24T1015-maths. {TYPED}",
     "mark": "Example: class mark runs/*-maths --roster names.csv --total > marks.csv",
+    "history": "Example: class history runs/2026-11-24T1015-maths zoe-mueller -o zoe.html",
     "play": "Example: class play runs/2026-11-24T1015-maths -o run.html",
     "practise": "Example: class practise 'python3 bot.py' --family grid:4x3 --node 5,6 --daemon synchronous",
     "grade": "Example: class grade 'python3 bot.py' Bot.java --suite full --json cases.json",
@@ -74,6 +79,8 @@ EXAMPLES = {
 
 def add_mark(words: argparse.ArgumentParser) -> None:
     """The words of `mark`."""
+    from classroom import lists, mark
+
     words.add_argument("runs", nargs="+", metavar="FOLDER.. or LAB JOURNAL..")
     form = words.add_mutually_exclusive_group()
     form.add_argument("--csv", action="store_true")
@@ -85,44 +92,73 @@ def add_mark(words: argparse.ArgumentParser) -> None:
     words.set_defaults(work=mark.mark)
 
 
+def add_check(words: argparse.ArgumentParser) -> None:
+    """The words of `check`."""
+    from classroom import check
+
+    words.add_argument("lab")
+    words.set_defaults(work=check.check)
+
+
+def add_demo(words: argparse.ArgumentParser) -> None:
+    """The words of `demo`."""
+    from classroom import demo
+
+    words.add_argument("--into", default="runs", help="where the run's folder is made (runs)")
+    words.set_defaults(work=demo.demo)
+
+
 def add_play(words: argparse.ArgumentParser) -> None:
     """The words of `play`."""
+    from classroom import play
+
     words.add_argument("run", nargs="+", metavar="FOLDER or LAB JOURNAL")
     words.add_argument("-o", "--output", help="the file to write (run.html, or PLACE.svg)")
     words.add_argument("--svg", type=int, metavar="PLACE", help="the configuration after this place, as SVG")
     words.set_defaults(work=play.play)
 
 
-def parser() -> argparse.ArgumentParser:
-    """All words."""
+def of(module: str) -> Callable[[argparse.ArgumentParser], None]:
+    """What adds the words of a module, which is loaded then."""
+    def add(words: argparse.ArgumentParser) -> None:
+        import_module(f"classroom.{module}").add_words(words)
+
+    return add
+
+
+# What each word does, and what adds its own words.
+EACH: dict[str, tuple[str, Callable[[argparse.ArgumentParser], None]]] = {
+    "new": ("make a lab from a class list, and slips to print", add_new),
+    "check": ("what mml says of a lab, and what a teacher would want to know", add_check),
+    "run": ("run a class over a lab, in a folder of its own, or go on with it", of("run")),
+    "attach": ("take the desk of a class whose run is gone, or has lost its terminal", of("attach")),
+    "key": ("another key and slip for a student, in mid-course", of("rekey")),
+    "mark": ("what journals tell of each student", add_mark),
+    "history": ("every line that a student's connections sent, its reply, and the steps between; at one place seat by seat", of("history")),
+    "play": ("a run as one page that shows it, or a configuration as a picture", add_play),
+    "practise": ("play alone: bots of the house play the other nodes, and each denial is explained", of("practise")),
+    "grade": ("try bots over many labs, daemons and seeds, within limits", of("grade")),
+    "experiment": ("how many moves, closes and rounds runs take: a table and a chart", of("experiment")),
+    "demo": ("a class in a box: four bots, a run, marks", add_demo),
+}
+
+
+def parser(asked: str | None = None) -> argparse.ArgumentParser:
+    """All words; where one is asked for, what follows it is there for that one alone, and no other module is loaded."""
     every = Parser(prog="class", description="A class from its list of names to its marks.", epilog=TABLE)
     every.add_argument("--version", action="version", version=f"class {version()}")
     each = every.add_subparsers(title="words", required=True)
-
-    def word(name: str, what: str) -> argparse.ArgumentParser:
-        return each.add_parser(name, help=what, description=what, epilog=EXAMPLES[name])
-
-    add_new(word("new", "make a lab from a class list, and slips to print"))
-    words = word("check", "what mml says of a lab, and what a teacher would want to know")
-    words.add_argument("lab")
-    words.set_defaults(work=check.check)
-    run.add_words(word("run", "run a class over a lab, in a folder of its own, or go on with it"))
-    attach.add_words(word("attach", "take the desk of a class whose run is gone, or has lost its terminal"))
-    rekey.add_words(word("key", "another key and slip for a student, in mid-course"))
-    add_mark(word("mark", "what journals tell of each student"))
-    add_play(word("play", "a run as one page that shows it, or a configuration as a picture"))
-    practise.add_words(word("practise", "play alone: bots of the house play the other nodes, and each denial is explained"))
-    grade.add_words(word("grade", "try bots over many labs, daemons and seeds, within limits"))
-    experiment.add_words(word("experiment", "how many moves, closes and rounds runs take: a table and a chart"))
-    words = word("demo", "a class in a box: four bots, a run, marks")
-    words.add_argument("--into", default="runs", help="where the run's folder is made (runs)")
-    words.set_defaults(work=demo.demo)
+    for name, (what, add) in EACH.items():
+        words = each.add_parser(name, help=what, description=what, epilog=EXAMPLES[name])
+        if asked in (None, name):
+            add(words)
     return every
 
 
 def main(words: list[str] | None = None) -> int:
     """Does what the words say, and answers the exit status."""
-    asked = parser().parse_args(words)
+    given = sys.argv[1:] if words is None else words
+    asked = parser(next(iter(given), "")).parse_args(given)
     try:
         status: int = asked.work(asked)
         sys.stdout.flush()

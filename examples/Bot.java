@@ -11,7 +11,7 @@ import java.util.regex.Pattern;
 
 /**
  * Plays a student's nodes with no library: java Bot.java SLIP, or java Bot.java PORT NAME KEYFILE NODE,..
- * KEYFILE - takes the key from the environment's CENDUWA_KEY. Lines are taken apart by hand.
+ * SLIP - is the environment's CENDUWA_SLIP, KEYFILE - its CENDUWA_KEY. Lines are taken apart by hand.
  */
 public class Bot {
     static final Pattern NEAR = Pattern.compile("\\{\"m\":(?:true|false),\"node\":(\\d+),\"p\":(\\d+|null)\\}");
@@ -65,6 +65,7 @@ public class Bot {
                 System.out.println(reply);
                 return;
             }
+            if (reply.contains("\"over\"")) stop(0, "the run is over");
             if (!reply.contains("\"busy\"")) stop(4, "at port " + port + " is another program; your teacher tells the port");
             out.close();
             Thread.sleep(1000);
@@ -104,13 +105,16 @@ public class Bot {
     public static void main(String[] words) throws Exception {
         if (words.length != 1 && words.length != 4) stop(1, "usage: java Bot.java SLIP, or PORT NAME KEYFILE NODE,..");
         String file = words[words.length == 1 ? 0 : 2];
-        String slip = file.equals("-") ? "" : read(file);
-        String port = words.length == 1 ? after(slip, "port") : words[0];
+        boolean isSlip = words.length == 1, isFile = !file.equals("-");
+        String name = isSlip ? "CENDUWA_SLIP" : "CENDUWA_KEY";
+        String slip = isFile ? read(file) : System.getenv(name);
+        if (slip == null) stop(1, "the environment has no " + name);
+        String port = isSlip ? after(slip, "port") : words[0];
         if (!port.matches("\\d{1,5}")) stop(1, "no port in " + words[0]);
-        String key = words.length == 4 && words[2].equals("-") ? System.getenv("CENDUWA_KEY") : after(slip, "key");
-        if (key == null) stop(1, "the environment has no CENDUWA_KEY");
-        enter(Integer.parseInt(port), words.length == 1 ? after(slip, "name") : words[1], key);
-        String[] nodes = (words.length == 1 ? after(slip, "nodes") : words[3]).split(",");
+        String listed = isSlip ? after(slip, "nodes") : words[3];
+        if (!listed.matches("\\d+(,\\d+)*")) stop(1, "no nodes in " + words[0]);
+        enter(Integer.parseInt(port), isSlip ? after(slip, "name") : words[1], isFile || isSlip ? after(slip, "key") : slip);
+        String[] nodes = listed.split(",");
         while (true) {
             for (String node : nodes) {
                 String look = ask("{\"do\":\"look\",\"node\":" + node + "}");

@@ -1,17 +1,20 @@
 #!/usr/bin/env python3
 """Plays a student's nodes, until the run ends or nothing was new for SECONDS:
-bot.py SLIP [SECONDS], or bot.py PORT NAME KEYFILE NODE,.. [SECONDS]"""
+bot.py SLIP [SECONDS], or bot.py PORT NAME KEYFILE NODE,.. [SECONDS]
+SLIP - is the environment's CENDUWA_SLIP, KEYFILE - its CENDUWA_KEY."""
 import sys
 import time
 from pathlib import Path
 
 sys.path.append(str(Path(__file__).resolve().parent.parent / "classroom"))
-from client import Denied, Slip, enter, goes_on, run
+from client import Denied, NoSlip, Slip, enter, goes_on, run
 
 
 def play(words: list[str]) -> None:
     """Looks at each node again and again, and asks for its enabled rule."""
     slip, rest = Slip.of(words)
+    if not slip.nodes:
+        raise NoSlip(f"no nodes in {words[0]}")
     patience = float(rest[0]) if rest else float("inf")
     with enter(slip, min(60.0, patience)) as me:
         newest, since = -1, time.monotonic()

@@ -1,0 +1,72 @@
+"""The adversary: a daemon that closes steps in an order which makes the run long. It tries a few steps over the program."""
+from __future__ import annotations
+
+import random
+from collections.abc import Sequence
+from typing import Any
+
+from classroom import lab as labs
+from classroom.bench import TEACHER, Bench
+
+STEPS = 3  # that are tried, one after another
+FIRST, NEXT = 8, 3  # of the nodes that may move so many are tried at the first step, and at each later one
+END = 1000  # moves that no end is worth
+USED = labs.MOST_EVENTS // 2  # events of a program, after which another one is begun
+
+
+class Adversary:
+    """A search over a program of its own."""
+
+    def __init__(self, seed: str) -> None:
+        self.chance = random.Random(f"{seed} adversary")
+        self.bench: Bench | None = None
+        self.registers: dict[int, tuple[int | None, bool]] = {}
+
+    def choose(self, made: labs.Lab, chosen: Sequence[int]) -> list[int]:
+        """Of the nodes with a chosen move those whose moves a close applies, over a network with these registers: one
+        of them, or all at once."""
+        if len(chosen) < 2:
+            return list(chosen)
+        bench = self.bench_over(made)
+        report = bench.begin(made)
+        self.registers = {node.id: (node.p, node.m) for node in made.nodes}
+        known = {node for node, _ in report["privileged"]}
+        ways = [[node] for node in self.some(chosen, FIRST)] + [list(chosen)]
+        worth = {place: self.tried(bench, report, way, STEPS) for place, way in enumerate(ways) if known.issuperset(way)}
+        return ways[max(worth, key=lambda place: worth[place])] if worth else list(chosen)
+
+    def bench_over(self, made: labs.Lab) -> Bench:
+        """A program over the network, with room for a search."""
+        if self.bench is None or self.bench.made.links != made.links or self.bench.events > USED:
+            self.close()
+            self.bench = Bench(made)
+        return self.bench
+
+    def some(self, nodes: Sequence[int], most: int) -> list[int]:
+        """At most so many of them."""
+        return list(nodes) if len(nodes) <= most else self.chance.sample(list(nodes), most)
+
+    def tried(self, bench: Bench, report: dict[str, Any], nodes: list[int], steps: int) -> int:
+        """What comes of it if these move now and further steps follow, at its best: the moves, and after them who is privileged
+        and which links are open. Then all is undone, but for the number of the configuration."""
+        before = {node: self.registers[node] for node in nodes}
+        after = bench.step(report, nodes, self.chance)
+        for it in bench.asked(TEACHER, [{"do": "see", "node": node} for node in nodes]):
+            self.registers[it["node"]] = (it["p"], it["m"])
+        privileged = [node for node, _ in after["privileged"]]
+        if not privileged:
+            worth = -END
+        elif steps == 1:
+            worth = len(privileged) + len(after["open"])
+        else:
+            worth = max(self.tried(bench, after, [node], steps - 1) for node in self.some(privileged, NEXT))
+        undone = bench.asked(TEACHER, [{"do": "fault", "node": node, "p": p, "m": m} for node, (p, m) in before.items()])
+        self.registers |= before
+        report["at"] = undone[-1]["at"]
+        return len(nodes) + worth
+
+    def close(self) -> None:
+        """Ends its program."""
+        if self.bench is not None:
+            self.bench.close()
+            self.bench = None
