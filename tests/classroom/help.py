@@ -7,11 +7,14 @@ import os
 import pty
 import random
 import re
+import select
 import signal
 import subprocess
 import sys
 import tempfile
 import termios
+import threading
+import time
 import unittest
 from pathlib import Path
 
@@ -30,6 +33,18 @@ def words(*given: str | Path, typed: str | None = None, **more: str) -> subproce
         [sys.executable, TOP / "class", *given], input=typed or "", capture_output=True, text=True, check=False,
         env={**os.environ, **more}, timeout=LIMIT,
     )
+
+
+def stop(process: int) -> None:
+    """Stops a process, and waits until each of its threads stands still: one that has no processor yet still answers."""
+    os.kill(process, signal.SIGSTOP)
+    while any(state(task) != "T" for task in Path(f"/proc/{process}/task").iterdir()):
+        time.sleep(0.01)
+
+
+def state(task: Path) -> str:
+    """The letter of a thread's state."""
+    return (task / "stat").read_text(encoding="utf-8", errors="replace").rpartition(") ")[2][:1]
 
 
 class InRoom(unittest.TestCase):
@@ -67,12 +82,17 @@ class Going:
         self.until("^words: ")
 
     def until(self, pattern: str) -> str:
-        """Reads lines until one has the pattern."""
+        """Reads lines until one has the pattern; a run that doesn't tell it is ended."""
         assert self.process.stdout is not None
-        for line in self.process.stdout:
-            self.lines.append(line.rstrip("\n"))
-            if re.search(pattern, line):
-                return self.lines[-1]
+        late = threading.Timer(LIMIT, self.process.terminate)
+        late.start()
+        try:
+            for line in self.process.stdout:
+                self.lines.append(line.rstrip("\n"))
+                if re.search(pattern, line):
+                    return self.lines[-1]
+        finally:
+            late.cancel()
         raise AssertionError(f"no {pattern} in {self.lines}")
 
     def type(self, line: str) -> None:
@@ -123,6 +143,8 @@ class InTerminal:
     def until(self, wanted: bytes) -> None:
         """Reads until that was written."""
         while wanted not in self.text:
+            if not select.select([self.ours], [], [], LIMIT)[0]:
+                raise AssertionError(f"no {wanted!r} in {self.text!r}")
             self.text += os.read(self.ours, 4096)
 
     def type(self, line: bytes, wanted: bytes) -> None:

@@ -11,7 +11,7 @@ from pathlib import Path
 from classroom.client import Client
 from classroom.folders import Process
 from classroom.program import host
-from tests.classroom.help import CYCLE, KEYS, LIMIT, Cycle, Going, InTerminal, words
+from tests.classroom.help import CYCLE, KEYS, LIMIT, Cycle, Going, InTerminal, stop, words
 
 
 @unittest.skipUnless(host(), "not tried: no host is built")
@@ -98,7 +98,7 @@ class Attach(Cycle):
         server = going.server()
         going.type("fault 1 2 true")
         going.until("^configuration 1: ")
-        os.kill(server, signal.SIGSTOP)
+        stop(server)
         self.addCleanup(self.end, server)
         going.process.send_signal(signal.SIGTERM)
         going.until("^the desk: no answer in ")

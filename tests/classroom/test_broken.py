@@ -157,13 +157,13 @@ class Broken(Cycle):
     def test_all_places_are_taken(self) -> None:
         going = Going(self, self.lab("cycle.toml", 3), "--close", "by-hand")
         gus = self.bot(going, "gus")
-        going.until(f"^connected: process {gus.pid}$")
+        going.until("^connected: gus$")
         self.bot(going, "hana")
         going.until("^all seats are taken|^each connection of this server was used")
         with self.assertRaises(Refused if host() else Closed):
             Client(going.port, "ines", KEYS["ines"])
         gus.kill()
-        going.until(f"^gone: process {gus.pid}$")
+        going.until("^gone: gus$")
         going.type("end\nend")
         self.assertEqual(going.ends(), 0, going.lines)
         self.whole(going.folder)

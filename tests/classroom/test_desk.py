@@ -1,9 +1,13 @@
 """The desk of `./class run`: its words, what it says of limits and of late servers, and its terminal."""
 from __future__ import annotations
 
+import contextlib
+import io
 import os
 import re
+import resource
 import signal
+import socket
 import subprocess
 import sys
 import threading
@@ -15,13 +19,14 @@ from pathlib import Path
 from classroom import server
 from classroom import lab as labs
 from classroom.attend import Room, attend
-from classroom.client import Client
+from classroom.client import Client, Refused, Report
 from classroom.daemons import Daemon
 from classroom.desk import Desk
 from classroom.printable import printable
 from classroom.program import host
-from classroom.typed import FORMS, NOW, Typed, understood
-from tests.classroom.help import CYCLE, EXAMPLES, KEYS, LIMIT, Cycle, Going, InRoom, InTerminal, words
+from classroom.teller import Teller
+from classroom.typed import FORMS, NOW, Terminal, Typed, understood
+from tests.classroom.help import CYCLE, EXAMPLES, KEYS, LIMIT, Cycle, Going, InRoom, InTerminal, stop, words
 
 
 class Forms(unittest.TestCase):
@@ -44,6 +49,27 @@ class Forms(unittest.TestCase):
         self.assertEqual(printable("Zoë\x1b[2J\nk\x07 \u202e"), "Zoë\\x1b[2J\nk\\x07 \\u202e")
 
 
+class Completed(unittest.TestCase):
+    """What the tab key offers."""
+
+    def offers(self, line: str) -> list[str]:
+        """What it offers at the end of a line, where nodes are 1, 12 and 7."""
+        terminal = object.__new__(Terminal)
+        terminal.words, terminal.readline = ["1", "12", "7"], unittest.mock.Mock()
+        terminal.readline.get_line_buffer.return_value = line
+        terminal.readline.get_begidx.return_value = line.rfind(" ") + 1
+        found = [terminal.complete(line.rpartition(" ")[2], state) for state in range(len(FORMS) + 1)]
+        return [each for each in found if each is not None]
+
+    def test_words_and_nodes(self) -> None:
+        self.assertEqual(self.offers("cl"), ["close "])
+        self.assertEqual(self.offers("2: cl"), ["close "])
+        self.assertEqual(self.offers(""), [f"{word} " for word in FORMS])
+        self.assertEqual(self.offers("link 1"), ["1 ", "12 "])
+        self.assertEqual(self.offers("2: link 7 "), ["1 ", "12 ", "7 "])
+        self.assertEqual(self.offers("link cl"), [])
+
+
 class Words(Cycle):
     """Runs that are told what to do."""
 
@@ -62,9 +88,9 @@ class Words(Cycle):
         going = Going(self, CYCLE, "--close", "by-hand")
         with Client(going.port, "gus", KEYS["gus"]) as gus:
             gus.move(gus.look(4))
-            going.until(f"^connected: process {os.getpid()}$")
+            going.until("^connected: gus$")
             going.type("who")
-            going.until(rf"^connected: 1 of \d+ seats: process {os.getpid()}$")
+            going.until(r"^connected: 1 of \d+ seats: gus$")
             going.until("^no move was granted yet to hana, ines, jonas$")
             going.type("report")
             going.until(r"^configuration 0, not stable: .*; events 1 of \d+$")
@@ -74,12 +100,16 @@ class Words(Cycle):
 
     def test_no_word_of_a_process_is_told(self) -> None:
         going = Going(self, CYCLE, "--close", "by-hand")
+        with socket.create_connection(("127.0.0.1", going.port)):
+            going.type("who")
+            going.until(r"^connected: 1 of \d+ seats: 1 without a name$")
+        by_number = Going(self, CYCLE, "--close", "by-hand", "--serve", "--beside")
         held = subprocess.Popen(
-            [sys.executable, "-c", f"import socket; it = socket.create_connection(('127.0.0.1', {going.port})); it.recv(1)", "hana"],
+            [sys.executable, "-c", f"import socket; it = socket.create_connection(('127.0.0.1', {by_number.port})); it.recv(1)", "hana"],
         )
         self.addCleanup(held.wait)
         self.addCleanup(held.kill)
-        self.assertEqual(going.until("^connected: "), f"connected: process {held.pid}")
+        self.assertEqual(by_number.until("^connected: "), f"connected: process {held.pid}")
 
     def test_events_are_counted_and_few_are_told(self) -> None:
         lab = self.file("cycle.toml", re.sub(r"(?m)^events = \d+", "events = 10", CYCLE.read_text(encoding="utf-8")))
@@ -143,9 +173,11 @@ class Late(Cycle):
         lines: list[str] = []
         desk = Desk(lab, self.room / "journal", Client(it.desk, *lab.teacher, limit=0.5), Daemon("by-hand"), lines.append)
         typed, found = Typed(), []
-        holding = threading.Thread(target=lambda: found.append(attend(desk, it, False, typed, Room(self.room), lambda: None)))
+        room = Room(self.room)
+        self.addCleanup(room.close)
+        holding = threading.Thread(target=lambda: found.append(attend(desk, it, False, typed, room, lambda: None)))
         holding.start()
-        os.kill(it.process.number, signal.SIGSTOP)
+        stop(it.process.number)
         typed.put("fault 1 2 true")
         self.until(lambda: any(line.startswith("the desk: no answer in 0.5 seconds") for line in lines))
         os.kill(it.process.number, signal.SIGCONT)
@@ -172,7 +204,7 @@ class Late(Cycle):
         going = Going(self, CYCLE, "--close", "by-hand")
         number = going.server()
         with Client(going.port, "gus", KEYS["gus"]):
-            os.kill(number, signal.SIGSTOP)
+            stop(number)
             going.process.send_signal(signal.SIGTERM)
             time.sleep(1)
             os.kill(number, signal.SIGCONT)
@@ -195,19 +227,81 @@ class Late(Cycle):
         self.assertEqual(third.ends(), 0)
 
 
+class Kept(InRoom):
+    """What is kept of what a run says."""
+
+    def test_each_line_has_its_hour_and_minute(self) -> None:
+        tell, heard = Teller(self.room), list[str]()
+        tell.also.append(heard.append)
+        with contextlib.redirect_stdout(io.StringIO()) as printed:
+            tell("one\x1b")
+            tell.alone("for the terminal")
+            tell("two\nthree")
+        self.assertEqual(printed.getvalue(), "one\\x1b\nfor the terminal\ntwo\nthree\n")
+        self.assertEqual(heard, ["one\\x1b", "two\nthree"])
+        kept = (self.room / "run.txt").read_text(encoding="utf-8")
+        self.assertRegex(kept, r"\A\d\d:\d\d one\\x1b\n\d\d:\d\d two\n\d\d:\d\d three\n\Z")
+
+
 class Disk(InRoom):
     """What is told of a disk."""
 
     def test_little_room_none_and_room_again(self) -> None:
-        room, told = Room(self.room), []
-        for left in (10**9, 65536, 65535, 4096, 0, 0, 10**9, 10**9):
+        told = self.told(self.disk(), 10**9, 65536, 65535, 4096, 0, 0, 10**9, 10**9)
+        self.assertEqual(told, [[], [], ["the disk has little room"], [], ["the disk is full"], [], ["the disk has room again"], []])
+
+    def disk(self) -> Room:
+        """That of the test's folder."""
+        room = Room(self.room)
+        self.addCleanup(room.close)
+        return room
+
+    def told(self, room: Room, *free: int) -> list[list[str]]:
+        """The beginnings of what is told where so many bytes are free, one after the other."""
+        told = []
+        for left in free:
             room.due = 0.0
             with unittest.mock.patch.object(room, "left", return_value=left):
                 told.append([line.partition(":")[0] for line in room.news()])
-        self.assertEqual(told, [[], [], ["the disk has little room"], [], ["the disk is full"], [], ["the disk has room again"], []])
+        return told
+
+    def test_a_disk_that_takes_nothing_though_bytes_are_free(self) -> None:
+        room = self.disk()
+        self.assertEqual(self.told(room, 10**9), [[]])
+        before = resource.getrlimit(resource.RLIMIT_FSIZE)
+        resource.setrlimit(resource.RLIMIT_FSIZE, (0, before[1]))
+        try:
+            self.assertEqual(self.told(room, 10**9, 10**9), [["the disk takes nothing (File too large)"], []])
+        finally:
+            resource.setrlimit(resource.RLIMIT_FSIZE, before)
+        self.assertEqual(self.told(room, 10**9), [["the disk has room again"]])
+        self.assertEqual(list(self.room.iterdir()), [])
+        self.assertEqual(self.told(Room(self.room / "none"), 10**9), [[]])
 
 
-class Refused(Cycle):
+class Memory(InRoom):
+    """A server that has no memory for an answer."""
+
+    def test_a_report_that_is_refused_is_asked_for_again(self) -> None:
+        reports = [Report(at, at == 1, (), (), (), ()) for at in (0, 1)]
+        client = unittest.mock.Mock()
+        client.report.side_effect = [Refused("memory"), reports[0], Refused("memory"), Refused("memory"), reports[1], Refused("journal")]
+        lines: list[str] = []
+        journal = self.file("journal", "")
+        desk = Desk(labs.read(CYCLE), journal, client, Daemon("by-hand"), lines.append)
+        self.addCleanup(desk.journal.close)
+        self.assertEqual(desk.report, reports[0])
+        journal.write_text("1 0 fault 1 2 true\n", encoding="ascii")
+        for is_old in (True, True, False):
+            desk.read()
+            self.assertEqual(desk.is_old, is_old)
+        self.assertEqual(desk.report, reports[1])
+        self.assertEqual(len(lines), 1)
+        with self.assertRaises(Refused):
+            desk.ask_report()
+
+
+class NotDone(Cycle):
     """What can't be done is told in a line, and no folder is left."""
 
     def says(self, status: int, line: str, *asked: str | Path) -> None:

@@ -9,22 +9,30 @@ import threading
 import time
 import unittest
 
+from classroom.by_hand import open_hands
 from classroom.frames import State
 from classroom.lab import read
-from classroom.projector import ASKING, CONNECTIONS, Pages, open_pages
+from classroom.projector import open_pages
 from classroom.watch import Present
+from classroom.web import ASKING, CONNECTIONS, Web
 from tests.classroom.help import CYCLE, LIMIT
 
 
 class Doors(unittest.TestCase):
     """Pages of a run that nobody plays."""
 
+    path = "/"
+
     def setUp(self) -> None:
         self.threads = threading.active_count()
-        self.pages: Pages = open_pages(random.randint(20000, 50000), "cycle", read(CYCLE), queue.SimpleQueue())
-        self.pages.show(Present(State(0, 0, frozenset()), "by-hand"), print)
-        self.addCleanup(self.pages.stop)
-        self.port = self.pages.server_port
+        self.port = self.opened(random.randint(20000, 50000)).server_port
+
+    def opened(self, port: int) -> Web:
+        """The page for the projector."""
+        pages = open_pages(port, "cycle", read(CYCLE), queue.SimpleQueue())
+        pages.show(Present(State(0, 0, frozenset()), "by-hand"), print)
+        self.addCleanup(pages.stop)
+        return pages
 
     def connect(self) -> socket.socket:
         """A connection that says nothing yet."""
@@ -36,7 +44,7 @@ class Doors(unittest.TestCase):
         """The status of an answer, or 0 where there is none."""
         connection = http.client.HTTPConnection("127.0.0.1", self.port, timeout=LIMIT)
         try:
-            connection.request("GET", "/")
+            connection.request("GET", self.path)
             return connection.getresponse().status
         except (OSError, http.client.HTTPException):
             return 0
@@ -73,6 +81,19 @@ class Doors(unittest.TestCase):
                 break
         self.assertGreater(time.monotonic() - begun, ASKING / 2)
         self.assertEqual(self.asks(), 404)
+
+
+class DoorsOfHands(Doors):
+    """The page at which students play by hand, and nobody has come in."""
+
+    path = "/events"
+
+    def opened(self, port: int) -> Web:
+        """That page."""
+        hands = open_hands(port, "cycle", read(CYCLE))
+        hands.show(1, print)
+        self.addCleanup(hands.stop)
+        return hands
 
 
 if __name__ == "__main__":

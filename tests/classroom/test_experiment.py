@@ -4,21 +4,23 @@ from __future__ import annotations
 import csv
 import json
 import random
+import re
 import signal
 import subprocess
 import sys
 import unittest
 import unittest.mock
+from dataclasses import replace
 from functools import partial
 from pathlib import Path
 from xml.etree import ElementTree
 
-from classroom import experiment, measuring
+from classroom import bounds, experiment
 from classroom import lab as labs
 from classroom.daemons import Daemon, heads, movers
 from classroom.measuring import Row, Setting, drawn, runs
 from classroom.program import TOP, call
-from classroom.rounds import Recovery, most_moves, most_rounds
+from classroom.rounds import Recovery
 from tests.classroom.help import LIMIT, InRoom, words
 
 TINY = ("--family", "path,star,random", "--nodes", "3..5", "--daemon", "central,synchronous,random:0.5", "--runs", "2")
@@ -48,8 +50,10 @@ class Counts(unittest.TestCase):
         other.step([1], [3])
         other.step([3], [])
         self.assertEqual((other.moves, other.closes, other.rounds), (2, 2, 2))
-        self.assertEqual([most_rounds(nodes) for nodes in range(1, 6)], [1, 4, 5, 8, 9])
-        self.assertEqual([most_moves(*sizes) for sizes in ((1, 0), (4, 3), (4, 4), (4, 6), (5, 10))], [3, 18, 20, 20, 27])
+        told = [bounds.of(*sizes) for sizes in ((1, 0), (2, 1), (3, 2), (4, 3), (4, 4), (4, 6), (5, 10))]
+        self.assertEqual([most.moves for most in told], [3, 8, 13, 18, 20, 20, 27])
+        self.assertEqual([most.rounds for most in told], [1, 4, 5, 8, 8, 8, 9])
+        self.assertEqual([most.events for most in told], [6, 16, 26, 36, 40, 40, 54])
 
     def test_daemons_choose_as_they_say(self) -> None:
         chance = random.Random(1)
@@ -78,7 +82,8 @@ class Runs(InRoom):
 
     def test_a_run_that_breaks_what_is_proved_is_kept_whole(self) -> None:
         setting = Setting("cycle", 6, Daemon("synchronous"), "random")
-        with unittest.mock.patch.object(measuring, "most_rounds", return_value=0):
+        most = replace(bounds.of(6, 6), rounds=0)
+        with unittest.mock.patch.object(bounds, "of", return_value=most):
             found = [(row, script) for row, script in runs(setting, [8, 9]) if row.rounds]
         row, script = found[-1]
         folder = experiment.keep_news(self.room / "runs.csv", row, script)
@@ -117,6 +122,9 @@ class Words(InRoom):
             if row["daemon"] == "synchronous":
                 self.assertEqual(row["closes"], row["rounds"])
         picture = ElementTree.parse(plot).getroot()
+        drawn_as = [each.get("class") for each in picture.iter("{http://www.w3.org/2000/svg}path")]
+        for kind in ("bound", "bound loose", "bound least"):
+            self.assertEqual(drawn_as.count(kind), 9 + 1, kind)  # in each panel, and what it is
         titles = [each.text for each in picture.iter("{http://www.w3.org/2000/svg}text") if each.get("class") == "title"]
         self.assertEqual(titles, [f"{family}, {daemon}" for daemon in ("central", "random:0.5", "synchronous")
                                   for family in ("path", "random", "star")])
@@ -144,7 +152,7 @@ class Words(InRoom):
         other = self.file("other.csv", "name,mark\nana,1\n")
         rows: tuple[tuple[tuple[str | Path, ...], str], ...] = (
             (("--csv", other), "is no table of an experiment"),
-            (("--daemon", "when-idle:1"), "nobody is waited for here; central, synchronous or random:P"),
+            (("--daemon", "when-idle:1"), "nobody is waited for here; central, synchronous, random:P or adversary"),
             (("--nodes", "9..3"), "9..3 is no A..B within 1..256"),
             (("--family", "ring"), "no family ring"),
         )
@@ -153,6 +161,18 @@ class Words(InRoom):
             self.assertEqual(done.returncode, 1)
             self.assertIn(why, done.stderr)
         self.assertEqual(other.read_text(), "name,mark\nana,1\n")
+
+
+class InTheReadme(InRoom):
+    """The chart that README.md shows."""
+
+    def test_its_command_draws_it(self) -> None:
+        shown = re.search(r"(?m)^    ./class (experiment .*) --plot runs.svg$", (TOP / "README.md").read_text(encoding="utf-8"))
+        assert shown is not None
+        drawn_now, table = self.room / "runs.svg", self.room / "runs.csv"
+        done = words(*shown[1].split(), "--csv", table, "--plot", drawn_now)
+        self.assertEqual(done.returncode, 0, done.stderr)
+        self.assertEqual(drawn_now.read_bytes(), (TOP / "docs/experiment.svg").read_bytes())
 
 
 class Forms(unittest.TestCase):

@@ -1,6 +1,7 @@
 """A journal is shown as the program answers, and in no other way."""
 from __future__ import annotations
 
+import re
 import stat
 import subprocess
 import sys
@@ -10,7 +11,9 @@ from pathlib import Path
 from unittest import mock
 
 from classroom import replay as module
+from classroom.drawing import Drawing
 from classroom.frames import Frame, State, frames_of
+from classroom.layout import lay_out
 from classroom.program import Fault
 from tests.classroom.runs import BUILT_IN, PROGRAM, TOP, edited_run, examples
 
@@ -42,6 +45,18 @@ class Replayed(unittest.TestCase):
         self.assertEqual(run[3].chosen, {})
         self.assertEqual(run[8].ms, {1: False, 2: True, 3: True})
         self.assertEqual((run[10].pairs, run[10].stable, run[10].moves, run[10].number), ([(2, 3)], True, 6, 4))
+
+    def test_a_picture_says_each_node_in_words(self) -> None:
+        lab, frames = frames_of(BUILT_IN, TOP / "examples" / "whole-run.journal")
+        drawing = Drawing(lab, lay_out((node.id for node in lab.nodes), lab.links))
+        said = [re.findall(r'role="img" aria-label="([^"]*)"', drawing.svg(frame.state, None)) for frame in frames]
+        of = ("node 1 of ana, p ", "node 2 of ben, p ", "node 3 of cyd, p ")
+        for place, words in (
+            (0, ("null, m false, privileged: seduction", "null, m false, privileged: seduction", "null, m false")),
+            (2, ("null, m false, privileged: seduction, chosen: seduction", "null, m false, privileged: seduction, chosen: seduction", "null, m false")),
+            (10, ("null, m false", "3, m true, married to 3", "2, m true, married to 2")),
+        ):
+            self.assertEqual(said[place], [f"{node}{word}" for node, word in zip(of, words)])
 
     def test_every_kind_of_event(self) -> None:
         lab, journal = edited_run(self.room)

@@ -23,22 +23,23 @@ from tests.classroom.help import EXAMPLES, LIMIT, InRoom, words
 
 FAULTY = TOP / "tests/classroom/bots/faulty.py"
 SLEEP = b"98765.25"
+SECONDS = 20  # that a case may take: a slow machine starts a bot in a part of it
 # Each fault with the case that is its own, and why that isn't passed.
 OWN = {
-    "never-updates": ("path-4", r"isn't stable after 8 seconds: waiting for \d \(bot\): update"),
+    "never-updates": ("path-4", rf"isn't stable after {SECONDS} seconds: waiting for \d \(bot\): update"),
     "marries-anyone": ("alone-path-4", r"move \d marriage \d is denied as guard, clause 4: .*; (update|seduction|abandonment) would be"),
     "asks-always": ("alone-cycle-4", r"asked for \d+ moves where nothing was to ask"),
     "floods": ("path-4", "it floods: "),
-    "hangs": ("path-4", r"isn't stable after 8 seconds: waiting for "),
-    "ignores-faults": ("complete-4", r"a fault at \d isn't taken up after 8 seconds: waiting for \d \(bot\)"),
-    "needs-order": ("alone-path-4", r"isn't stable after 8 seconds: waiting for "),
-    "sulks": ("random-6", "its connection was closed, and in 8 seconds it neither came again nor ended"),
+    "hangs": ("path-4", rf"isn't stable after {SECONDS} seconds: waiting for "),
+    "ignores-faults": ("complete-4", rf"a fault at \d isn't taken up after {SECONDS} seconds: waiting for \d \(bot\)"),
+    "needs-order": ("alone-path-4", rf"isn't stable after {SECONDS} seconds: waiting for "),
+    "sulks": ("random-6", rf"its connection was closed, and in {SECONDS} seconds it neither came again nor ended"),
     "binary": ("path-4", r"malformed: \\x80"),
-    "never-ends-a-line": ("path-4", "no hello in 8 seconds"),
+    "never-ends-a-line": ("path-4", rf"no hello in {SECONDS} seconds"),
     "forks": ("path-4", "it ended by itself, status 0"),
     "bombs": ("path-4", "it was ended: more than 64 processes"),
     "eats-memory": ("path-4", "it was ended: more than 200 megabytes of memory"),
-    "pretends": ("path-4", "no hello in 8 seconds"),
+    "pretends": ("path-4", rf"no hello in {SECONDS} seconds"),
 }
 PLANS = {plan.name: plan for plan in suites.SMALL}
 
@@ -74,7 +75,7 @@ class Faults(InRoom):
 
     def test_each_fails_the_case_that_is_its_own(self) -> None:
         with concurrent.futures.ThreadPoolExecutor(len(OWN)) as pool:
-            going = {fault: pool.submit(case, faulty(fault), plan, Limits(8, 200), self.room) for fault, (plan, _) in OWN.items()}
+            going = {fault: pool.submit(case, faulty(fault), plan, Limits(SECONDS, 200), self.room) for fault, (plan, _) in OWN.items()}
         for fault, (_, why) in OWN.items():
             result = going[fault].result()
             self.assertFalse(result.passed, fault)

@@ -4,11 +4,16 @@ from __future__ import annotations
 import csv
 import io
 import json
+import re
 import unittest
 from pathlib import Path
 from typing import Any
+from unittest import mock
 
-from classroom import program
+from classroom import program, replay
+from classroom import lab as labs
+from classroom.answering import all_of
+from classroom.mark import marked
 from tests.classroom.help import EXAMPLES, InRoom, words
 from tests.classroom.test_check import GOOD, PAIR
 
@@ -76,6 +81,11 @@ class Mark(InRoom):
         self.assertEqual((jonas["granted"]["marriage"], jonas["applied"]["marriage"], jonas["last"]), (1, 0, 6))
         self.assertEqual((jonas["applied"]["seduction"], jonas["shared"]), (1, 1))
         self.assertEqual((run["closes"], run["faults"], run["links"], run["cuts"], run["stable"]), (1, 1, 1, 1, False))
+        none = {"update": 0, "marriage": 0, "seduction": 0, "abandonment": 0}
+        owners, = (it for it in run["shared"].values() if "jonas" in it)
+        self.assertEqual({name: granted for name, granted in owners.items() if name == "jonas"}, {"jonas": none | {"seduction": 1}})
+        said = words("mark", lab, journal).stdout
+        self.assertEqual(len(re.findall(r"(?m)^node \d+: .*jonas 1 granted \(1 seduction\)", said)), 1, said)
 
     def test_who_made_none(self) -> None:
         run, = self.marks(self.file("lab.toml", GOOD.replace(*PAIR)), self.file("journal", ""))
@@ -83,12 +93,29 @@ class Mark(InRoom):
         self.assertEqual(run["students"]["jonas"],
                          {"granted": none, "applied": none, "steps": 0, "first": None, "last": None, "shared": 0})
 
-    def test_a_long_run_is_played_in_pieces(self) -> None:
+    def test_a_long_run(self) -> None:
         lab = self.file("lab.toml", GOOD.replace(*PAIR).replace("events = 1000", "events = 100000"))
         lines = [f"{2 * k + 1} {2 * k} {'cut' if k % 2 == 0 else 'link'} 11 12\n{2 * k + 2} {2 * k + 1} fault 12 17 true\n"
                  for k in range(15_000)]
         run, = self.marks(lab, self.file("journal", "".join(lines)))
         self.assertEqual((run["events"], run["links"], run["cuts"], run["faults"]), (30_000, 7_500, 7_500, 15_000))
+
+    def test_a_run_that_is_answered_otherwise_is_not_marked(self) -> None:
+        lab = self.file("lab.toml", GOOD.replace(*PAIR))
+        journal = self.file("journal", "1 0 grant ana 11 seduction\n2 0 close\n")
+        self.assertEqual(marked(lab, journal).tally.events, 2)
+        for old, new, error in (
+            ('"ok":"move"', '"deny":"guard"', '"rule":"seduction"} is answered {"at":0,'), ('"place":2', '"place":3', "place 2 is answered as place 3"),
+            ('"stable":false', '"stable":true', "tally and report disagree"),
+        ):
+            def another(made: labs.Lab, script: list[str]) -> str:
+                replies = all_of(made, script)
+                self.assertEqual(replies.count(old), 1)
+                return replies.replace(old, new)
+
+            with mock.patch.object(replay, "all_of", another), self.assertRaises(program.Fault) as fault:
+                marked(lab, journal)
+            self.assertIn(error, str(fault.exception))
 
     def test_refused(self) -> None:
         lab = self.file("lab.toml", GOOD.replace(*PAIR))

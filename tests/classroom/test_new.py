@@ -107,6 +107,15 @@ class New(InRoom):
             else:
                 file.unlink()
 
+    def test_a_lesson_has_events_enough_and_all_seats(self) -> None:
+        self.new()
+        made = labs.read(self.room / "lab.toml")
+        self.assertEqual((made.events, made.sessions), (100_000, 16))
+        self.clean()
+        self.new("--events", "70", "--sessions", "6")
+        made = labs.read(self.room / "lab.toml")
+        self.assertEqual((made.events, made.sessions), (70, 6))
+
     def test_families(self) -> None:
         sizes = {"path": (5, 4), "cycle": (5, 5), "star": (5, 4), "complete": (5, 10), "tree": (5, 4), "grid:4x3": (12, 17),
                  "random:9:14": (9, 14)}
@@ -162,6 +171,12 @@ class New(InRoom):
             self.assertEqual(there.read_text(encoding="utf-8"), "mine")
             self.assertEqual(len(list(self.room.glob("lab*"))), 1)
             there.unlink()
+
+    def test_few_events_are_told(self) -> None:
+        asked = ("--family", "path", "--events")
+        self.assertIn("note: 45 events may be too few: 46 suffice", self.new(*asked, "45"))
+        self.clean()
+        self.assertNotIn("note", self.new(*asked, "46"))
 
     def test_groups(self) -> None:
         self.assertIn("--groups 2", self.new(students=24))

@@ -75,7 +75,10 @@ class Practise(InRoom):
                 if look.rule is None and look.m:
                     break
                 if look.rule and not look.chosen:
-                    me.move(look)
+                    try:
+                        me.move(look)
+                    except Denied as denied:  # A step was closed since the look.
+                        self.assertEqual(denied.name, "stale")
         rest = list(lines)
         self.assertEqual(going.wait(LIMIT), 0)
         going.stdout.close()

@@ -63,6 +63,16 @@ class Served(unittest.TestCase):
         self.assertEqual(self.ask(pages), 200)
         self.assertEqual(len(self.told), 1)
 
+    def test_who_looks_can_not_act(self) -> None:
+        pages = self.opened()
+        for token, status in ((pages.looks, 404), (pages.acts, 204), ("x", 404), ("", 404)):
+            connection = http.client.HTTPConnection("127.0.0.1", pages.server_port, timeout=60)
+            with contextlib.closing(connection):
+                connection.request("POST", f"/{token}/act", "close")
+                self.assertEqual(connection.getresponse().status, status)
+        self.assertEqual(pages.typed.get(timeout=60), "close")
+        self.assertTrue(pages.typed.empty())
+
     def test_the_next_port_that_is_free(self) -> None:
         first = self.opened()
         second = projector.open_pages(first.server_port, "", self.lab, queue.SimpleQueue())

@@ -157,6 +157,7 @@ class Resume(Cycle):
             server = server if kind == "run" else going.server()
             self.assertTrue(any(line.startswith("gone on from configuration ") for line in going.lines), going.lines)
         players = Players(going.port, disturbs=False)
+        going.type("fault 1 2 true")  # The last kill may have left it stable.
         going.until("; stable, ")
         players.ended()
         going.type("end\nend")

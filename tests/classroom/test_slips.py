@@ -12,7 +12,7 @@ import time
 import unittest
 from pathlib import Path
 
-from classroom.client import Client, NoServer, NoSlip, Slip, wrong
+from classroom.client import LAST, Client, NoServer, NoSlip, Slip, wrong
 from classroom.lab import read
 from tests.classroom.help import CYCLE, EXAMPLES, KEYS, LIMIT, Cycle, Going, InRoom, words
 
@@ -24,9 +24,11 @@ BOTS = (BOT, JAVA) if shutil.which("java") else (BOT,)
 Command = tuple[str | Path, ...]
 
 
-def call(*command: str | Path, typed: str = "", key: str | None = None) -> subprocess.CompletedProcess[str]:
-    """Calls a program to its end, with or without a key in its environment."""
-    environment = {name: value for name, value in os.environ.items() if name != "CENDUWA_KEY"} | ({"CENDUWA_KEY": key} if key else {})
+def call(*command: str | Path, typed: str = "", key: str | None = None, slip: str | None = None) -> subprocess.CompletedProcess[str]:
+    """Calls a program to its end, with or without a key or a slip in its environment."""
+    given = {"CENDUWA_KEY": key, "CENDUWA_SLIP": slip}
+    environment = {name: value for name, value in os.environ.items() if name not in given}
+    environment |= {name: value for name, value in given.items() if value is not None}
     return subprocess.run(command, input=typed, capture_output=True, text=True, check=False, timeout=LIMIT, env=environment)
 
 
@@ -131,6 +133,17 @@ class Fake(InRoom):
         with self.assertRaises(NoServer):
             Client.from_slip(self.slip(self.answers(b"220 mail\r\n")))
 
+    def test_a_class_that_is_over(self) -> None:
+        for command in BOTS:
+            said = call(*command, self.slip(self.answers(b'{"refuse":"over"}\n')))
+            self.assertEqual((said.returncode, said.stdout), (0, ""), said.stderr)
+            self.assertRegex(said.stderr, r"^\w+(\.py)?: the run is over.*\n$")
+
+    def test_why_a_conversation_by_hand_has_ended(self) -> None:
+        for word, why in LAST.items():
+            said = call(*BY_HAND, self.slip(self.answers(b'{"refuse":"%s"}\n' % word.encode())), typed='{"do":"close"}\n')
+            self.assertEqual((said.returncode, said.stdout), (0, f"the server has closed the connection: {why}\n"), said.stderr)
+
     def test_no_place_is_free(self) -> None:
         said = call(*BOT, self.slip(self.answers(b'{"refuse":"busy"}\n', 9)), "0.5")
         self.assertEqual((said.returncode, said.stdout), (5, ""))
@@ -190,6 +203,21 @@ class Talking(Cycle):
             self.assertEqual(said.returncode, 1)
             self.assertRegex(said.stderr, r"^\w+(\.py)?: the environment has no CENDUWA_KEY\n$")
         self.assertEqual(call(*TEACHER, *words_of, key="another").returncode, 2)
+
+    def test_a_slip_in_the_environment(self) -> None:
+        going = Going(self, CYCLE, "--close", "by-hand")
+        slip = self.slip(going.port, "gus").read_text(encoding="utf-8")
+        said = call(*BOT, "-", "0.5", slip=slip)
+        self.assertEqual((said.returncode, said.stderr), (0, ""))
+        self.assertIn("Move(at=0, place=1, node=4, rule='update')", said.stdout)
+        said = call(*BY_HAND, "-", typed='{"do":"bye"}\n', slip=slip)
+        self.assertEqual((said.returncode, said.stdout.splitlines()[0]), (0, '{"ok":"hello","who":"gus"}'))
+        for command in BOTS:
+            self.assertEqual(call(*command, "-", slip=slip.replace(KEYS["gus"], "another")).returncode, 2)
+            for given, why in ((None, "the environment has no CENDUWA_SLIP"), (slip.partition("nodes")[0], "no nodes in -")):
+                said = call(*command, "-", slip=given)
+                self.assertEqual((said.returncode, said.stdout), (1, ""))
+                self.assertRegex(said.stderr, rf"^\w+(\.py)?: {why}\n$")
 
     def test_the_run_s_end(self) -> None:
         going = Going(self, CYCLE, "--close", "by-hand")

@@ -7,6 +7,7 @@ import unittest
 from pathlib import Path
 
 from classroom.client import Slip
+from classroom.daemons import FORMS
 from classroom.lab import document, read
 from classroom.program import TOP
 from classroom.words import parser
@@ -26,7 +27,7 @@ def all_words() -> list[str]:
     return list(found)
 
 
-class Helped(unittest.TestCase):
+class Helped(InRoom):
     """Help and completion."""
 
     def completed(self, *typed: str) -> set[str]:
@@ -47,6 +48,15 @@ class Helped(unittest.TestCase):
         self.assertEqual(self.completed("run", "--"), set(re.findall(r"--[a-z-]+", words("run", "--help").stdout)))
         self.assertEqual(self.completed("run", "--res"), {"--resume"})
         self.assertEqual(self.completed("run", "maths"), set())
+        for option in ("--daemon", "--close"):
+            self.assertEqual(self.completed("run", option, ""), {re.sub("[A-Z]+$", "", form) for form in FORMS.split(", ")})
+        self.assertEqual(self.completed("practise", "--daemon", "ad"), {"adversary"})
+        self.assertEqual(self.completed("history", "runs", ""), set())
+        self.assertEqual(self.completed("key", "examples/cycle.toml", ""), {"gus", "hana", "ines", "jonas"})
+        folder = self.room / "run"
+        folder.mkdir()
+        (folder / "lab.toml").write_bytes((TOP / "examples/cycle.toml").read_bytes())
+        self.assertEqual(self.completed("history", str(folder), "h"), {"hana"})
 
 
 class Rekeyed(InRoom):

@@ -51,7 +51,7 @@ def begin(it: socket.socket, until: float, draw: random.Random) -> None:
     it.sendall(SEE)
     with it.makefile("rb") as replies:
         replies.readline()
-    time.sleep(max(0.0, until - time.monotonic()) * draw.uniform(0.1, 0.5))
+    time.sleep(max(0.0, until - time.monotonic()) * draw.uniform(0.3, 0.6))
 
 
 def noise(port: int, until: float, draw: random.Random) -> str:
@@ -151,7 +151,13 @@ def flood(port: int, until: float, draw: random.Random) -> str:
 def gone(port: int, until: float, draw: random.Random) -> str:
     """No line at all."""
     with socket.create_connection(("127.0.0.1", port), LIMIT):
-        time.sleep(max(0.0, until - time.monotonic()) * draw.uniform(0.0, 0.5))
+        time.sleep(max(0.0, until - time.monotonic()) * draw.uniform(0.3, 0.6))
+    return ""
+
+
+def stands() -> str:
+    """The process of a hostile client has begun; nothing is wrong."""
+    time.sleep(0.5)
     return ""
 
 
@@ -342,8 +348,10 @@ def work(room: Path) -> str:
     server, honest = served(story, 2 + len(ALL))
     honest.play(2, PAUSE)
     rest = resting(server)
-    until = time.monotonic() + seconds
     with ProcessPoolExecutor(len(ALL)) as pool:
+        # Their processes stand before the time begins: all are there at once for some seconds.
+        answered([pool.submit(stands) for _ in ALL])
+        until = time.monotonic() + seconds
         futures = [
             pool.submit(client, server.port, until, random.Random(seed)) for seed, client in enumerate(ALL)
         ]

@@ -13,7 +13,7 @@ from collections.abc import Callable
 from pathlib import Path
 
 from tests.common.hosting import (
-    BUSY, BYE, HOST, LONG, NODES, OVER, UNKNOWN, Caller, Host, audit, hello, lab_of, let_in, look
+    BID, BUSY, BYE, HOST, LONG, NODES, OVER, UNKNOWN, Caller, Host, audit, hello, lab_of, let_in, look
 )
 from tests.common.preload import LIMIT, TOP, Ended, Preloaded, fail
 from tests.common.side_by_side import Test, try_all
@@ -59,6 +59,27 @@ def refused_threads(room: Path) -> None:
                 fail(f"outsiders: without thread {at} the class's end isn't told")
 
 
+def asks_after_the_bye(room: Path) -> None:
+    """What is asked once the teacher has the reply to the bye isn't granted, though the teacher's program stays."""
+    lab, journal = lab_of(room, 5), room / "journal"
+    with Host(lab, 0, 0, journal) as host:
+        teacher = let_in(host.desk, hello("tess"))[0]
+        students = [let_in(host.port, hello(name))[0] for name in NODES]
+        # A bye of the teacher's at the students' port, and one of a student's, let the others go on.
+        for name in ("tess", "cyd"):
+            if let_in(host.port, hello(name))[0].ask(BYE) != BID or b'"ok":"look"' not in students[0].ask(look("ana")):
+                fail(f"outsiders: a bye of {name} at the students' port ends the class")
+        moves = [MOVE.replace(b'"node":1', b'"node":%d' % node) for node in NODES.values()]
+        if b'"place":1' not in students[0].ask(moves[0]):
+            fail("outsiders: a move before the bye isn't granted")
+        if teacher.ask(BYE) != BID:
+            fail("outsiders: another reply to the teacher's bye")
+        said = [caller.ask(line) for caller, line in zip(students[1:], moves[1:])]
+        if said != [OVER] * 2 or host.end() != Ended(0, b"done: 1 events, configuration 0\n", b""):
+            fail(f"outsiders: moves after the teacher's bye are told {said}")
+    audit(lab, journal, 1)
+
+
 def few(room: Path) -> None:
     """A host that may have too few threads or files says so, and makes nothing."""
     lab, journal = lab_of(room, 4), room / "made" / "journal"
@@ -78,14 +99,17 @@ def few(room: Path) -> None:
 
 
 def comes_again(room: Path) -> None:
-    """Who closes and comes again at once isn't told `busy`, at either port."""
-    lab = lab_of(room, 2)
+    """Who closes and comes again at once isn't told `busy`, at either port, or hardly ever on a slow machine."""
+    lab, told = lab_of(room, 2), 0
     with Host(lab, 0, 0) as host:
         for port, name in [(host.desk, "tess"), (host.port, "ana")] * 150:
             caller = Caller(port)
-            if b'"ok":"hello"' not in (said := caller.ask(hello(name))):
+            if b'"ok":"hello"' not in (said := caller.ask(hello(name))) and said not in (b"", BUSY):
                 fail(f"outsiders: who comes again at once is told {said!r}")
+            told += said in (b"", BUSY)
             caller.close()
+        if told > 30:
+            fail(f"outsiders: who comes again at once is told busy {told} times of 300")
         ends(host, let_in(host.desk, hello("tess"))[0])
 
 
@@ -158,10 +182,18 @@ def comes(port: int, line: bytes, taken: list[float]) -> Caller:
     return caller
 
 
-def waits_little(taken: list[float]) -> None:
-    """Wants that honest clients wait for less than two seconds, most of them on a slow machine too."""
-    if sorted(taken)[len(taken) // 2] > 2:
-        fail(f"outsiders: honest clients wait for a place: {taken} seconds")
+def alone(host: Host) -> float:
+    """What an honest hello takes where nobody disturbs it, at most of five."""
+    taken: list[float] = []
+    for _ in range(5):
+        comes(host.port, hello("ana"), taken).close()
+    return max(taken)
+
+
+def waits_little(taken: list[float], quiet: float) -> None:
+    """Wants that most honest clients wait for less than two seconds, and what a slow machine makes of that."""
+    if sorted(taken)[len(taken) // 2] > 2 + 20 * quiet:
+        fail(f"outsiders: honest clients wait for a place: {taken} seconds, alone {quiet}")
 
 
 def until_set(stop: threading.Event, act: Callable[[], None]) -> list[threading.Thread]:
@@ -182,6 +214,7 @@ def silent_ones(room: Path) -> None:
     """Fifteen connections that say `{}`, and forty silent ones a second at both ports, keep nobody out."""
     lab = lab_of(room, 16)
     with Host(lab, 0, 0) as host:
+        quiet = alone(host)
         held = [Caller(host.port) for _ in range(15)] + [Caller(host.desk)]
         for caller in held:
             caller.send(b"{}\n")
@@ -206,7 +239,7 @@ def silent_ones(room: Path) -> None:
         stop.set()
         for thread in threads:
             thread.join()
-        waits_little(taken)
+        waits_little(taken, quiet)
         ends(host, teacher)
         for each in kept:
             each.close()
@@ -217,7 +250,7 @@ def guesses(room: Path) -> None:
     the teacher's program is told."""
     lab = lab_of(room, 16)
     with Host(lab, 0, 0) as host:
-        teacher = let_in(host.desk, hello("tess"))[0]
+        teacher, quiet = let_in(host.desk, hello("tess"))[0], alone(host)
         stop, denied = threading.Event(), [0] * 15
 
         def guess(at: int) -> None:
@@ -234,14 +267,15 @@ def guesses(room: Path) -> None:
                 fail("outsiders: a student loses a place to those who guess")
             caller.ask(BYE)
             caller.close()
-        time.sleep(max(0.0, begun + 3 - time.monotonic()))
+        while sum(denied) < 100 and time.monotonic() - begun < LIMIT:
+            time.sleep(0.05)
         stop.set()
         for thread in threads:
             thread.join()
         rate = sum(denied) / (time.monotonic() - begun)
-        if rate > 100 or sum(denied) < 30:
+        if rate > 100 or sum(denied) < 100:
             fail(f"outsiders: {rate} keys are guessed a second")
-        waits_little(taken)
+        waits_little(taken, quiet)
         ended = host.dismissed(teacher)
         if ended.out != NONE.out or b"hellos had no right key" not in ended.error:
             fail(f"outsiders: nobody is told of guesses: {ended}")
@@ -265,24 +299,37 @@ def one_of_many(room: Path) -> None:
         ends(host, let_in(host.desk, hello("tess"))[0])
 
 
+def queues(host: Host, caller: Caller) -> str:
+    """How many bytes the system holds at the host's end of a connection, to be sent and to be read."""
+    ends = f":{host.port:04X}", f":{caller.socket.getsockname()[1]:04X}"
+    for line in Path("/proc/net/tcp").read_text(encoding="ascii").splitlines()[1:]:
+        words = line.split()
+        if (words[1][-5:], words[2][-5:]) == ends:
+            return words[4]
+    return ""
+
+
 def never_reads(room: Path) -> None:
     """Who takes nothing of its replies for ten seconds is cut off, and not much later."""
     lab = lab_of(room, 4)
     with Host(lab, 0, 0) as host:
         deaf = let_in(host.port, hello("ana"))[0]
         deaf.socket.setblocking(False)
-        begun = last = time.monotonic()
-        while time.monotonic() - begun < 60:
+        held, last, looks = "", time.monotonic(), 0
+        while looks < 500:
             try:
                 deaf.socket.send(look("ana") * 1000)
-                last = time.monotonic()
             except BlockingIOError:
-                time.sleep(0.05)
+                pass
             except ConnectionError:
                 break
-        taken = time.monotonic() - last
-        if not 8 < taken < 20:
-            fail(f"outsiders: who never reads is cut off after {taken} seconds")
+            if (now := queues(host, deaf)) != held:
+                held, last, looks = now, time.monotonic(), 0
+            time.sleep(0.05)
+            looks += 1
+        # Since anything moved. In seconds it isn't earlier; looks take longer on a slow machine, as all does.
+        if time.monotonic() - last < 5 or looks == 500:
+            fail(f"outsiders: who never reads is cut off after {time.monotonic() - last} seconds")
         ends(host, let_in(host.desk, hello("tess"))[0])
 
 
@@ -338,7 +385,7 @@ def limits_of_files(room: Path) -> None:
 
 TESTS: list[Test] = [
     never_reads, silent_ones, guesses, refused_threads, comes_again, one_of_many, journals, limits_of_files, few,
-    three_hellos, a_web_form, words_at_the_end,
+    three_hellos, a_web_form, words_at_the_end, asks_after_the_bye,
 ]
 
 

@@ -4,6 +4,7 @@ from pathlib import Path
 
 from tests.common.hosting import BID, BYE, HOST, UNKNOWN, Caller, Host, hello, lab_of, let_in, look
 from tests.common.preload import LIMIT, Ended, fail
+from tests.record.floods import flooded
 
 SEATS = 4
 STUDENT = SEATS  # the first who comes to the port has the last seat
@@ -165,7 +166,7 @@ def kept_and_held(room: Path) -> None:
 
 def hosted(room: Path) -> int:
     """All tests of classes; how many there were."""
-    tests = [kept_and_held, killed_and_resumed, full_disk]
+    tests = [kept_and_held, killed_and_resumed, full_disk, flooded]
     for test in tests:
         test(room)
     return len(tests)

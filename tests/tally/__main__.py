@@ -31,31 +31,34 @@ node = [{ id = 1, owner = "ana" }, { id = 2, owners = ["ana", "ben"] }, { id = 3
 """
 NOTHING = "0 0 0 0"
 IDLE = f"{NOTHING} {NOTHING} 0 - - 0"
+PATH = "bounds 13 5 26\n"  # 3 nodes with two links, and as many as n²/4 is
+LESS = "bounds 11 5 22\n"  # with one link
 # What was written, and the lines that are to be printed.
 CASES = (
-    ("nothing", "", f"student ana {IDLE}\nstudent ben {IDLE}\nnode 2 ana {NOTHING} ben {NOTHING}\nrun 0 0 unstable 0 0 0 0 0 0 0\n"),
+    ("nothing", "", f"student ana {IDLE}\nstudent ben {IDLE}\nnode 2 ana {NOTHING} ben {NOTHING}\n{PATH}run 0 0 unstable 0 0 0 0 0 0 0\n"),
     ("a move that is chosen still", "1 0 grant ben 2 seduction\n",
-     f"student ana {IDLE}\nstudent ben 0 0 1 0 {NOTHING} 0 1 1 0\nnode 2 ana {NOTHING} ben 0 0 1 0\nrun 1 0 unstable 0 0 0 0 0 0 0\n"),
+     f"student ana {IDLE}\nstudent ben 0 0 1 0 {NOTHING} 0 1 1 0\nnode 2 ana {NOTHING} ben 0 0 1 0\n{PATH}run 1 0 unstable 0 0 0 0 0 0 0\n"),
     ("a release takes a move back", "1 0 grant ana 1 seduction\n2 0 release 1\n",
-     f"student ana 0 0 1 0 {NOTHING} 0 1 1 0\nstudent ben {IDLE}\nnode 2 ana {NOTHING} ben {NOTHING}\nrun 2 0 unstable 0 0 0 0 0 0 0\n"),
+     f"student ana 0 0 1 0 {NOTHING} 0 1 1 0\nstudent ben {IDLE}\nnode 2 ana {NOTHING} ben {NOTHING}\n{PATH}run 2 0 unstable 0 0 0 0 0 0 0\n"),
     ("a last close that applies none of a student's moves",
      "1 0 grant ben 2 seduction\n2 0 grant ana 1 seduction\n3 0 release 2\n4 0 close\n",
      f"student ana 0 0 1 0 0 0 1 0 1 2 2 0\nstudent ben 0 0 1 0 {NOTHING} 0 1 1 0\nnode 2 ana {NOTHING} ben 0 0 1 0\n"
-     "run 4 1 unstable 1 0 0 0 1 1 1\n"),
+     f"{PATH}run 4 1 unstable 1 0 0 0 1 1 1\n"),
     ("a node of two owners, with a fault between its two grants",
      "1 0 grant ana 1 seduction\n2 0 close\n3 1 grant ben 2 marriage 1\n4 1 fault 3 - true\n5 2 grant ana 2 marriage 1\n6 2 close\n",
      f"student ana 0 1 1 0 0 1 1 0 2 1 5 1\nstudent ben 0 1 0 0 {NOTHING} 0 3 3 0\nnode 2 ana 0 1 0 0 ben 0 1 0 0\n"
-     "run 6 3 unstable 2 1 0 0 2 1 1\n"),
+     f"{PATH}run 6 3 unstable 2 1 0 0 2 1 1\n"),
     ("a link drops a move", "1 0 grant ana 1 seduction\n2 0 link 1 3\n",
-     f"student ana 0 0 1 0 {NOTHING} 0 1 1 0\nstudent ben {IDLE}\nnode 2 ana {NOTHING} ben {NOTHING}\nrun 2 1 unstable 0 0 1 0 0 0 0\n"),
+     f"student ana 0 0 1 0 {NOTHING} 0 1 1 0\nstudent ben {IDLE}\nnode 2 ana {NOTHING} ben {NOTHING}\n{PATH}run 2 1 unstable 0 0 1 0 0 0 0\n"),
     ("a cut drops a move", "1 0 grant ana 1 seduction\n2 0 cut 2 3\n",
-     f"student ana 0 0 1 0 {NOTHING} 0 1 1 0\nstudent ben {IDLE}\nnode 2 ana {NOTHING} ben {NOTHING}\nrun 2 1 unstable 0 0 0 1 0 0 0\n"),
+     f"student ana 0 0 1 0 {NOTHING} 0 1 1 0\nstudent ben {IDLE}\nnode 2 ana {NOTHING} ben {NOTHING}\n{LESS}run 2 1 unstable 0 0 0 1 0 0 0\n"),
     ("two moves of one student in a close", "1 0 grant ana 1 seduction\n2 0 grant ana 2 seduction\n3 0 close\n",
-     f"student ana 0 0 2 0 0 0 2 0 1 1 2 1\nstudent ben {IDLE}\nnode 2 ana 0 0 1 0 ben {NOTHING}\nrun 3 1 unstable 1 0 0 0 2 2 1\n"),
+     f"student ana 0 0 2 0 0 0 2 0 1 1 2 1\nstudent ben {IDLE}\nnode 2 ana 0 0 1 0 ben {NOTHING}\n{PATH}run 3 1 unstable 1 0 0 0 2 2 1\n"),
 )
 WHOLE = """student ana 0 0 1 1 0 0 1 1 2 1 9 0
 student ben 1 0 1 0 1 0 1 0 2 2 6 0
 student cyd 1 1 0 0 1 1 0 0 2 4 7 0
+bounds 13 5 26
 run 10 4 stable 4 0 0 0 6 6 4
 """
 REFUSED = (

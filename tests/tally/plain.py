@@ -40,6 +40,7 @@ class Count:
                       for i, owners in sorted(lab.owners.items()) if len(owners) == 2}
         self.chosen: dict[str, tuple[str, str]] = {}
         self.words = dict.fromkeys(("grant", "release", "close", *CHANGES), 0)
+        self.links = sum(map(len, lab.world.links.values())) // 2
         self.moves, self.since, self.closes_since, self.number, self.place = 0, 0, 0, 0, 0
 
     def take(self, line: str) -> None:
@@ -57,6 +58,7 @@ class Count:
                 self.close()
             else:
                 self.since = self.closes_since = 0
+                self.links += (word == "link") - (word == "cut")
             self.chosen.clear()
 
     def grant(self, name: str, node: str, rule: str) -> None:
@@ -79,11 +81,18 @@ class Count:
         self.since += len(self.chosen)
         self.closes_since += 1
 
+    def most(self) -> list[int]:
+        """How many moves, rounds and events there may be to rest, with the links as they are now."""
+        nodes = len(self.lab.owners)
+        moves = 3 * nodes + 2 * min(self.links, nodes * nodes // 4)
+        return [moves, 2 * nodes - nodes % 2, 2 * moves]
+
     def text(self, stable: bool) -> str:
         """The lines of the tally."""
         lines: list[list[object]] = [["student", name, *it.words()] for name, it in self.students.items()]
         for node, owners in self.asked.items():
             lines.append(["node", node, *(word for name, rules in owners.items() for word in (name, *rules.values()))])
+        lines.append(["bounds", *self.most()])
         changes = [self.words[word] for word in CHANGES]
         lines.append(["run", self.place, self.number, "stable" if stable else "unstable", self.words["close"], *changes,
                       self.moves, self.since, self.closes_since])

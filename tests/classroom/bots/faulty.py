@@ -64,6 +64,14 @@ def asks_always(me: Client, look: Look) -> None:
         pass
 
 
+def floods(me: Client, look: Look) -> None:
+    """It sends a hundred lines at a time, without a pause."""
+    right(me, look)
+    me._socket.sendall(b'{"do":"look","node":%d}\n' % look.node * 100)
+    for _ in range(100):
+        me._line()
+
+
 def ignores_faults() -> None:
     """It believes itself done where there was nothing to ask for a while."""
     since = time.monotonic()
@@ -156,7 +164,7 @@ FAULTS = {
     "never-updates": lambda: loop(never_updates),
     "marries-anyone": lambda: loop(marries_anyone),
     "asks-always": lambda: loop(asks_always),
-    "floods": lambda: loop(right, 0),
+    "floods": lambda: loop(floods, 0),
     "hangs": hangs,
     "ignores-faults": ignores_faults,
     "needs-order": lambda: loop(needs_order),

@@ -1,0 +1,159 @@
+"""The adversary: what it searches with stays as it was, and runs that it closes are longer."""
+from __future__ import annotations
+
+import random
+import re
+import unittest
+import unittest.mock
+
+from classroom import adversary, networks
+from classroom import lab as labs
+from classroom.adversary import Adversary
+from classroom.bench import network
+from classroom.closing import Striker
+from classroom.daemons import Daemon, Sight, applied, movers
+from classroom.measuring import Row, Setting, drawn, runs
+from classroom.program import Fault
+from tests.classroom.help import CYCLE, EXAMPLES, KEYS, Cycle, Going, words
+
+
+def rows(daemon: str, family: str, nodes: int, seeds: range) -> list[Row]:
+    """Runs of a daemon."""
+    return [row for row, _ in runs(Setting(family, nodes, Daemon.of(daemon), "random"), list(seeds))]
+
+
+class Search(unittest.TestCase):
+    """The search alone."""
+
+    def over(self, made: labs.Lab) -> tuple[Adversary, list[int]]:
+        """An adversary with its program, and who is privileged."""
+        it = Adversary("test")
+        self.addCleanup(it.close)
+        report = it.bench_over(made).begin(made)
+        return it, [node for node, _ in report["privileged"]]
+
+    def test_the_registers_are_as_they_were(self) -> None:
+        made = drawn(Setting("random:7:10", 7, Daemon("central"), "random"), 4)
+        it, privileged = self.over(made)
+        self.assertLess(2, len(privileged))
+        bench = it.bench
+        assert bench is not None
+        before = [(node.id, node.p, node.m) for node in made.nodes]
+        report = bench.begin(made)
+        it.registers = {node: (p, m) for node, p, m in before}
+        for nodes in ([privileged[0]], [privileged[-1]], privileged):
+            it.tried(bench, report, nodes, 3)
+            self.assertEqual([(node.id, node.p, node.m) for node in bench.present().nodes], before)
+            self.assertEqual(it.registers, {node: (p, m) for node, p, m in before})
+        self.assertTrue(bench.step(report, [privileged[0]], random.Random(1)))  # Under the number that is told.
+
+    def test_it_chooses_some_of_those_that_may_move_and_the_same_again(self) -> None:
+        made = drawn(Setting("complete", 5, Daemon("central"), "random"), 2)
+        it, privileged = self.over(made)
+        found = it.choose(made, privileged)
+        self.assertTrue(found == privileged or len(found) == 1 and set(found) < set(privileged))
+        again = Adversary("test")
+        self.addCleanup(again.close)
+        self.assertEqual(again.choose(made, privileged), found)
+        self.assertEqual(it.choose(made, privileged[:1]), privileged[:1])
+        others = [node.id for node in made.nodes if node.id not in privileged]
+        self.assertNotEqual(it.choose(made, [*privileged, *others]), others[:1])
+
+    def test_the_last_two_moves_are_not_made_at_once(self) -> None:
+        made = network([labs.Node(1, [], 2, False), labs.Node(2, [], 1, False)], [(1, 2)])
+        it, privileged = self.over(made)
+        self.assertEqual(privileged, [1, 2])
+        self.assertEqual(len(it.choose(made, [2, 1])), 1)
+
+    def test_a_program_after_another(self) -> None:
+        made = drawn(Setting("path", 4, Daemon("central"), "random"), 1)
+        it, privileged = self.over(made)
+        first = it.bench
+        self.assertIs(it.bench_over(made), first)
+        with unittest.mock.patch.object(adversary, "USED", -1):
+            self.assertIsNot(it.bench_over(made), first)
+        second = it.bench
+        _, links = networks.family("cycle", 4, 0, random.Random(1))
+        other = it.bench_over(network(made.nodes, links))
+        self.assertIsNot(other, second)
+        assert second is not None
+        self.assertIsNotNone(second.program.process.poll())
+
+
+class Long(unittest.TestCase):
+    """Runs to their ends."""
+
+    def test_runs_are_longer_than_by_a_central_daemon(self) -> None:
+        """By the same seeds, so the same networks and registers."""
+        for family, nodes in (("complete", 5), ("cycle", 6)):
+            central, worse = (rows(daemon, family, nodes, range(1, 9)) for daemon in ("central", "adversary"))
+            self.assertTrue(all(row.stable and not row.breaks() for row in worse))
+            self.assertEqual([(row.links, row.seed) for row in central], [(row.links, row.seed) for row in worse])
+            self.assertLess(sum(row.moves for row in central) * 1.05, sum(row.moves for row in worse), family)
+
+    def test_a_run_is_the_same_again_and_its_script_has_nothing_of_the_search(self) -> None:
+        setting = Setting("path", 4, Daemon("adversary"), "random")
+        self.assertEqual(rows("adversary", "path", 4, range(3, 5)), rows("adversary", "path", 4, range(3, 5)))
+        with unittest.mock.patch.object(Row, "breaks", lambda row: True):
+            (row, script), = runs(setting, [3])
+        self.assertEqual(script.count(b'"do": "close"'), row.closes)
+        self.assertEqual(script.count(b'"do": "see"'), 0)
+
+    def test_words_of_daemons(self) -> None:
+        self.assertEqual(Daemon.of("adversary").spelled(), "adversary")
+        chance, full = random.Random(1), Sight([1, 2], [2, 1], 0.0, 0.0)
+        self.assertEqual(applied(Daemon("adversary"), full, chance, 1, lambda nodes: [nodes[0]]), [2])
+        self.assertEqual(applied(Daemon("adversary"), Sight([1, 2, 3], [2, 1], 0.9, 9), chance, 1, lambda nodes: [9]), [])
+        self.assertEqual(applied(Daemon("adversary"), Sight([1, 2, 3], [2, 1], 1.0, 9), chance, 1, lambda nodes: [1]), [1])
+        self.assertEqual(movers(Daemon("adversary"), [1, 2, 3], chance, lambda nodes: [nodes[-1]]), [3])
+
+
+class Everywhere(Cycle):
+    """The word in a run, at home, in a grade and in an experiment."""
+
+    def test_a_run_comes_back_under_it(self) -> None:
+        going = Going(self, CYCLE, "--daemon", "by-hand")
+        for name in KEYS:
+            self.bot(going, name)
+        going.type("daemon adversary")
+        going.until("^steps are closed adversary$")
+        going.until("^stable after ")
+        going.type("link 1 3\nbreak")
+        going.until(r"^stable again after \d+ moves, \d+ closes, \d+ rounds; proved: at most 37 moves, 13 rounds$")
+        going.type("end")
+        self.assertEqual(going.ends(), 0, going.lines)
+        self.whole(going.folder)
+        told = [line for line in going.lines if re.search("^stable (again )?after ", line)]
+        text = (going.folder / "marks.txt").read_text(encoding="utf-8")
+        self.assertEqual(re.findall(r"(?m)^place \d+: (.*)$", text), told)
+        self.assertEqual(words("mark", going.folder).stdout, text.replace(f"{CYCLE}", str(going.folder)))
+
+    def test_practise_and_experiment_and_grade_take_it(self) -> None:
+        done = words("practise", EXAMPLES / "bot.py", "--nodes", "5", "--daemon", "adversary", "--into", self.room / "runs")
+        self.assertEqual(done.returncode, 0, done.stdout + done.stderr)
+        self.assertRegex(done.stdout, "(?m)^stable: pairs ")
+        table = self.room / "runs.csv"
+        done = words("experiment", "--family", "path", "--nodes", "4", "--daemon", "adversary,central", "--runs", "2", "--csv", table)
+        self.assertEqual(done.returncode, 0, done.stdout + done.stderr)
+        self.assertIn("4 of 4 runs, all within what is proved", done.stdout)
+        (self.room / "labs").mkdir()
+        made = words("new", self.room / "labs/one.toml", "--students", self.file("names", "Ana\nBen\n"), "--nodes", "4", "--start", "hurt")
+        self.assertEqual(made.returncode, 0, made.stderr)
+        done = words("grade", EXAMPLES / "bot.py", "--labs", self.room / "labs", "--daemon", "adversary", "--timeout", "100",
+                     "--into", self.room / "grades")
+        self.assertEqual(done.returncode, 0, done.stdout + done.stderr)
+        self.assertIn("passed  bot.py: one adversary 1;", done.stdout)
+
+    def test_where_it_can_not_search_the_class_goes_on(self) -> None:
+        desk = unittest.mock.Mock(closing=Daemon("adversary"), news=0.0, report=unittest.mock.Mock(privileged=[(1, "update"), (2, "update")]))
+        desk.book.chosen = {1: ("ana", "update"), 2: ("ben", "update")}
+        striker = Striker()
+        with unittest.mock.patch.object(striker.adversary, "choose", side_effect=Fault("no memory")):
+            striker.strike(desk)
+        desk.tell.assert_called_once_with("the adversary can't search: no memory")
+        desk.close_by.assert_called_once_with("when-idle:2")
+        desk.close.assert_not_called()
+
+
+if __name__ == "__main__":
+    unittest.main()

@@ -1,0 +1,482 @@
+"""The page at which a student plays by hand, in a real browser and by what comes over the wire."""
+from __future__ import annotations
+
+import http.client
+import json
+import os
+import random
+import re
+import signal
+import socket
+import threading
+import time
+import unittest
+from collections.abc import Iterator
+from contextlib import contextmanager
+from pathlib import Path
+from typing import Any
+from urllib.parse import urlsplit
+
+from selenium.webdriver.support.select import Select
+
+from classroom.by_hand import Hands, open_hands
+from classroom.client import Client
+from classroom.lab import read
+from tests.classroom.browser import browser, pale, show_as, until
+from tests.classroom.help import CYCLE, KEYS, LIMIT, Going, InRoom
+from tests.classroom.test_page import hashed
+from tests.classroom.test_shown import PHONE, resize
+
+CARD = """
+const card = [...document.querySelectorAll('#nodes section')].find((it) => it.querySelector('.id').textContent === arguments[0]);
+const texts = (selector) => [...card.querySelectorAll(selector)].map((it) => it.textContent);
+const holding = [...card.querySelectorAll('[data-holds="true"]')].map((it) => it.dataset.rule);
+return {p: texts('.p')[0], m: texts('.m-of')[0], chosen: texts('.chosen')[0], near: texts('td'), holding, guards: texts('.guard'),
+        reply: texts('.reply')[0]};
+"""
+DRAWN = """
+return [...document.querySelectorAll('#drawing .node')].map((it) => ({...it.dataset}))
+    .sort((a, b) => Number(a.node) - Number(b.node));
+"""
+WIDE = """
+return [document.documentElement.scrollWidth, ...[...document.querySelectorAll('body *')].filter((it) => !it.closest('svg'))
+    .map((it) => it.getBoundingClientRect().right)].reduce((a, b) => Math.max(a, b));
+"""
+RULES = ["update", "marriage", "seduction", "abandonment"]
+
+
+class Playing(InRoom):
+    """Runs over the cycle of `examples/`, at whose page gus plays."""
+
+    def setUp(self) -> None:
+        super().setUp()
+        self.driver: Any = browser()
+        self.addCleanup(self.driver.get, "about:blank")
+
+    def begin(self, lab: Path = CYCLE, *more: str) -> None:
+        """Starts a run whose steps are closed by hand."""
+        self.going = Going(self, lab, "--close", "by-hand", "--play", str(random.randint(20000, 50000)), *more)
+        self.address = self.going.until("^page to play http").removeprefix("page to play ")
+
+    def open(self, more: str = "") -> None:
+        """Opens the page anew."""
+        self.driver.get("about:blank")
+        self.driver.get(self.address + more)
+
+    def come(self, name: str = "gus", key: str = "") -> None:
+        """Comes in by a slip's name and key."""
+        for field, text in (("name", name), ("key", key or KEYS[name])):
+            element = self.driver.find_element("id", field)
+            element.clear()
+            element.send_keys(text)
+        self.driver.find_element("id", "come").click()
+
+    def is_in(self) -> None:
+        """Waits until something is played."""
+        until(self.driver, lambda driver: driver.execute_script("return document.body.dataset.played === 'true'"))
+
+    def is_told(self, text: str) -> None:
+        """Waits until the page tells that of its connection, and lets one come in again."""
+        until(self.driver, lambda driver: text in driver.find_element("id", "connection").text)
+        until(self.driver, lambda driver: driver.find_element("id", "come").is_displayed() and driver.find_element("id", "come").is_enabled())
+
+    def card(self, node: int) -> dict[str, Any]:
+        """What the page tells of a node."""
+        found: dict[str, Any] = self.driver.execute_script(CARD, str(node))
+        return found
+
+    def press(self, node: int, rule: str) -> str:
+        """Presses a rule's button; gives what is replied."""
+        self.driver.execute_script("for (const it of document.querySelectorAll('.reply')) it.textContent = ''")
+        for card in self.driver.find_elements("css selector", "#nodes section"):
+            if card.find_element("class name", "id").text == str(node):
+                card.find_element("css selector", f"[data-rule={rule}] button").click()
+        until(self.driver, lambda _: self.card(node)["reply"] != "")
+        reply: str = self.card(node)["reply"]
+        return reply
+
+    def close(self, number: int) -> None:
+        """Closes the step, and waits until the page shows the configuration after it."""
+        self.going.type("close")
+        self.going.until(f"^configuration {number}: ")
+        self.shows(number)
+
+    def shows(self, number: int) -> None:
+        """Waits until the page shows that configuration."""
+        until(self.driver, lambda driver: driver.find_element("id", "number").text == str(number))
+
+    def seats(self, wanted: str) -> None:
+        """Waits until the desk tells that of who has a seat."""
+        end = time.monotonic() + LIMIT
+        while wanted not in (told := self.who()):
+            self.assertLess(time.monotonic(), end, told)
+            time.sleep(0.2)
+
+    def who(self) -> str:
+        """What the desk tells of who has a seat."""
+        self.going.type("who")
+        return self.going.until("^connected: .* seats: ")
+
+    def compare(self, client: Client, nodes: list[int]) -> None:
+        """Wants of these nodes what the server tells them, in words and in the picture."""
+        looks = {node: client.look(node) for node in nodes}
+        drawn = {int(each["node"]): each for each in self.driver.execute_script(DRAWN)}
+        self.assertEqual(drawn.keys(), {*nodes, *(near.node for look in looks.values() for near in look.near)})
+        for node, look in looks.items():
+            card = self.card(node)
+            self.assertEqual((card["p"], card["m"]), ("null" if look.p is None else str(look.p), str(look.m).lower()))
+            self.assertEqual(card["near"], [word for near in look.near for word in
+                                            (str(near.node), "null" if near.p is None else str(near.p), str(near.m).lower())])
+            self.assertEqual(card["holding"], [look.rule] if look.rule else [])
+            self.assertEqual(card["guards"], ["its guard holds" if rule == look.rule else "its guard doesn't hold" for rule in RULES])
+            self.assertEqual((drawn[node]["rule"], drawn[node]["chosen"]), (look.rule or "", look.chosen or ""))
+            for each in (look, *look.near):
+                self.assertEqual((drawn[each.node]["p"], drawn[each.node]["m"]),
+                                 ("" if each.p is None else str(each.p), str(each.m).lower()))
+
+    def test_moves_denials_and_steps(self) -> None:
+        self.begin()
+        self.open()
+        self.come()
+        self.is_in()
+        gus = self.enter_beside("gus")
+        self.compare(gus, [1, 4])
+        self.assertEqual(self.driver.execute_script("return [...document.querySelectorAll('.beyond text')].map((it) => it.textContent)"), ["6"])
+        self.assertEqual(self.press(1, "seduction"), "configuration 0, seduction: denied by clause 4, guard: the guard of this rule does not hold")
+        self.assertEqual(self.press(4, "update"), "configuration 0, update: granted, at place 1; it is applied when the step closes")
+        until(self.driver, lambda _: self.card(4)["chosen"].startswith("update, "))
+        self.compare(gus, [1, 4])
+        self.assertEqual(self.press(4, "update"), "configuration 0, update: denied by clause 3, chosen: this node is already chosen")
+        self.close(1)
+        self.assertEqual((self.card(4)["m"], self.card(4)["chosen"]), ("false", "none"))
+        self.compare(gus, [1, 4])
+        # A neighbour points at node 1, whose p becomes null: a marriage is asked with whom the page names.
+        self.going.type("fault 1 null false")
+        self.shows(2)
+        self.compare(gus, [1, 4])
+        for partner, told in (("2", "denied by clause 4, guard: "), ("7", "granted, at place 4; ")):
+            choice: Any = Select(self.driver.find_element("css selector", "#nodes section:first-child select"))
+            choice.select_by_value(partner)
+            self.assertIn(f"configuration 2, marriage: {told}", self.press(1, "marriage"))
+        self.close(3)
+        self.compare(gus, [1, 4])
+        self.going.type("link 1 4")
+        self.shows(4)
+        self.compare(gus, [1, 4])
+        gus.bye()
+        self.seats("1 of 7 seats: gus, by hand")
+        self.going.type("end\nend")
+        self.assertEqual(self.going.ends(), 0, self.going.lines)
+        self.is_told("the class is over")
+        marks = json.loads((self.going.folder / "marks.json").read_text(encoding="utf-8"))
+        granted = {name: row["granted"] for name, row in marks["runs"][0]["students"].items()}
+        self.assertEqual({name: sum(rules.values()) for name, rules in granted.items()}, {"gus": 2, "hana": 0, "ines": 0, "jonas": 0})
+        self.keeps_no_key()
+
+    def enter_beside(self, name: str) -> Client:
+        """A student's program beside the page."""
+        client = Client(self.going.port, name, KEYS[name])
+        self.addCleanup(client.hang_up)
+        return client
+
+    def keeps_no_key(self) -> None:
+        """Wants no key in what the run keeps, but in its lab."""
+        for file in self.going.folder.iterdir():
+            if file.is_file() and file.name not in ("lab.toml", "journal.lab"):
+                for key in (*KEYS.values(), read(CYCLE).teacher[1]):
+                    self.assertNotIn(key.encode(), file.read_bytes(), file)
+
+    def test_a_key_that_is_wrong_and_one_behind_the_address(self) -> None:
+        self.begin()
+        self.open()
+        self.seats("0 of 7 seats: nobody")
+        self.come("gus", "heron-32")
+        self.is_told("denied by clause 2, unknown: name and key do not match")
+        self.seats("0 of 7 seats: nobody")
+        self.come("tess", read(CYCLE).teacher[1])
+        self.is_told("no node is tess's")
+        self.come("gus")
+        self.is_in()
+        self.open("#name=hana&key=swift-86")
+        self.is_in()
+        self.assertEqual(self.driver.current_url, self.address)
+        self.seats("1 of 7 seats: hana, by hand")
+        self.assertEqual(self.driver.find_element("id", "who").text, "· hana")
+        self.driver.find_element("id", "leave").click()
+        self.is_told("you left")
+        self.seats("0 of 7 seats: nobody")
+        self.come("hana")
+        self.is_in()
+        self.driver.get("about:blank")
+        self.seats("0 of 7 seats: nobody")
+        self.keeps_no_key()
+
+    def test_without_a_seat(self) -> None:
+        small = self.file("small.toml", CYCLE.read_text(encoding="utf-8").replace("sessions = 8", "sessions = 2"))
+        self.begin(small)
+        other = self.enter_beside("hana")
+        self.open()
+        self.come()
+        self.is_told("busy: all seats are taken; come again later")
+        other.bye()
+        self.come()
+        self.is_in()
+        self.assertEqual(self.press(4, "update"), "configuration 0, update: granted, at place 1; it is applied when the step closes")
+
+    def test_on_a_phone_in_both_themes(self) -> None:
+        self.begin()
+        self.addCleanup(resize, self.driver, None)
+        self.addCleanup(show_as, self.driver)
+        for size in (PHONE, None):
+            resize(self.driver, size)
+            self.open()
+            if size is not None:
+                self.assertLessEqual(self.driver.execute_script(WIDE), size[0])
+            self.come()
+            self.is_in()
+            self.press(4, "seduction")
+            if size is not None:
+                self.assertLessEqual(self.driver.execute_script(WIDE), size[0])
+                high = self.driver.execute_script("return [...document.querySelectorAll('button')].filter((it) => it.offsetWidth)"
+                                                  ".map((it) => it.getBoundingClientRect().height)")
+                self.assertGreaterEqual(min(high), 36)
+                letters = self.driver.execute_script("return document.getElementById('drawing').getScreenCTM().a")
+                self.assertGreater(15 * letters, 10)
+            for theme in ("light", "dark"):
+                show_as(self.driver, theme)
+                count, faint = pale(self.driver)
+                self.assertGreater(count, 40)
+                self.assertEqual(faint, [], theme)
+
+
+class Wire(InRoom):
+    """The page's bytes, asked without a browser."""
+
+    def ask(self, hands: str, verb: str, path: str, body: object = None, **head: str) -> tuple[http.client.HTTPResponse, bytes]:
+        """An answer that is whole."""
+        parts = urlsplit(hands)
+        connection = http.client.HTTPConnection("127.0.0.1", parts.port or 0, timeout=LIMIT)
+        self.addCleanup(connection.close)
+        sent = body if isinstance(body, bytes) else None if body is None else json.dumps(body).encode()
+        connection.request(verb, path, sent, {"Host": parts.netloc} | head)
+        answer = connection.getresponse()
+        return answer, answer.read()
+
+    def enter(self, address: str, name: str, key: str) -> Rows:
+        """The lines that come to who comes in."""
+        rows = Rows(address, name, key)
+        self.addCleanup(rows.connection.close)
+        return rows
+
+    def test_nothing_hidden_and_no_key_came_over_the_wire(self) -> None:
+        going = Going(self, CYCLE, "--close", "by-hand", "--play", str(random.randint(20000, 50000)))
+        address = going.until("^page to play http").removeprefix("page to play ")
+        _, page = self.ask(address, "GET", "/")
+        rows = self.enter(address, "gus", KEYS["gus"])
+        token = rows.next()["token"]
+        seen = [rows.next()]
+        # What gus isn't shown: the registers of 6, which hana's and jonas's nodes may read.
+        for number, registers in enumerate(("7 true", "null false", "5 true", "5 false"), 1):
+            going.type(f"fault 6 {registers}")
+            seen.append(rows.at(number))
+        self.assertEqual([without_number(row) for row in seen[1:]], [without_number(seen[0])] * 4)
+        replies = b""
+        for node, rule in ((4, "update"), (6, "update"), (4, "marriage"), (99, "update")):
+            answer, told = self.ask(address, "POST", "/move", {"token": token, "node": node, "at": 4, "rule": rule, "with": 5})
+            self.assertEqual(answer.status, 200)
+            replies += told
+        self.assertEqual(re.findall(rb'"(?:ok|deny)": "([a-z-]+)"', replies), [b"move", b"not-owner", b"chosen", b"not-owner"])
+        going.type("close")
+        last = rows.at(5)
+        self.assertEqual([look["node"] for look in last["nodes"]], [1, 4])
+        self.assertEqual({near["node"] for look in last["nodes"] for near in look["near"]}, {2, 7, 3, 5})
+        going.type("end\nend")
+        self.assertEqual(going.ends(), 0, going.lines)
+        self.assertEqual(rows.rest()[-1], {"ended": "the class is over"})
+        lab = read(CYCLE)
+        others = [name for name in (*lab.students, lab.teacher[0]) if name != "gus"]
+        for where in (page, rows.bytes, replies):
+            for key in (*lab.students.values(), lab.teacher[1]):
+                self.assertNotIn(key.encode(), where)
+            self.assertEqual(re.findall(rf"\b(?:{'|'.join(others)})\b".encode(), where), [])
+        self.assertNotIn(token.encode(), page + replies)
+
+    def test_a_run_that_goes_on_serves_it_again(self) -> None:
+        going = Going(self, CYCLE, "--close", "by-hand", "--play", str(random.randint(20000, 50000)))
+        rows = self.enter(going.until("^page to play http").removeprefix("page to play "), "gus", KEYS["gus"])
+        self.assertEqual((rows.next()["who"], rows.next()["at"]), ("gus", 0))
+        os.kill(going.server(), signal.SIGKILL)
+        self.assertEqual(rows.rest()[-1].keys(), {"ended"})
+        self.assertEqual(going.ends(), 4, going.lines)
+        again = Going(self, None, "run", "--resume", going.folder)
+        rows = self.enter(again.until("^page to play http").removeprefix("page to play "), "gus", KEYS["gus"])
+        self.assertEqual((rows.next()["who"], rows.next()["at"]), ("gus", 0))
+
+    def test_heads_hosts_and_what_is_no_request(self) -> None:
+        with served(self) as hands:
+            parts = urlsplit(hands.address)
+            answer, page = self.ask(hands.address, "GET", "/")
+            policy = dict(rule.split(" ", 1) for rule in (answer.headers["Content-Security-Policy"] or "").split("; "))
+            hashes = {f"{kind}-src": hashed(text) for kind in ("style", "script")
+                      for text in re.findall(rf"<{kind}>(.*?)</{kind}>", page.decode(), re.DOTALL)}
+            self.assertEqual(policy, {"default-src": "'none'", "connect-src": "'self'", "base-uri": "'none'", "form-action": "'none'",
+                                      "frame-ancestors": "'none'", **hashes})
+            self.assertEqual(len(hashes), 2)
+            self.assertNotIn(b"style=", page)
+            for name, value in (("Cache-Control", "no-store"), ("Referrer-Policy", "no-referrer"), ("X-Content-Type-Options", "nosniff")):
+                self.assertEqual(answer.headers[name], value)
+            for elsewhere in ("page.example", f"page.example:{parts.port}", "127.0.0.1:1", "127.0.0.1", ""):
+                for verb, path in (("GET", "/"), ("POST", "/enter"), ("POST", "/move")):
+                    hello = {"name": "gus", "key": "a"} if verb == "POST" else None
+                    self.assertEqual(self.ask(hands.address, verb, path, hello, Host=elsewhere)[0].status, 421)
+            rows: tuple[tuple[str, str, object, int], ...] = (
+                ("GET", "/enter", None, 404), ("GET", "/?name=gus&key=heron-31", None, 404), ("POST", "/", {}, 404),
+                ("POST", "/enter", b"", 400), ("POST", "/enter", b"[" * 900, 400), ("POST", "/enter", b"7", 400),
+                ("POST", "/enter", {"name": "gus"}, 400), ("POST", "/enter", {"name": "gus", "key": 7}, 400),
+                ("POST", "/enter", {"name": "gus", "key": "k" * 1000}, 404), ("POST", "/move", {"node": 4}, 404),
+                ("POST", "/move", {"token": "x", "node": 4, "at": 0, "rule": "update"}, 404),
+            )
+            for verb, path, body, status in rows:
+                self.assertEqual(self.ask(hands.address, verb, path, body)[0].status, status, (path, body))
+            self.assertEqual(hands.seats, {})
+
+    def test_what_is_no_move_is_told_and_not_sent(self) -> None:
+        with served(self) as hands, Host(["late"]) as host:
+            hands.show(host.port, print)
+            rows = self.enter(hands.address, "gus", "a")
+            token = rows.next()["token"]
+            wrong: tuple[tuple[dict[str, object], str], ...] = (
+                ({}, 'missing "node"'), ({"node": 4, "at": 0, "rule": "dance"}, "rule is a string, not one of"),
+                ({"node": 4, "at": -1, "rule": "update"}, "at is out of range, not a number"),
+                ({"node": 4, "at": 0, "rule": "marriage"}, 'missing "with"'),
+            )
+            for more, why in wrong:
+                answer, told = self.ask(hands.address, "POST", "/move", {"token": token} | more)
+                self.assertEqual((answer.status, json.loads(told)["told"].startswith(why)), (400, True), told)
+            self.assertEqual({json.loads(line)["do"] for line in host.lines}, {"hello", "look"})
+
+    def test_why_a_connection_ended(self) -> None:
+        words = {"late": "a hello has to be granted within ten seconds", "over": "the class is over",
+                 "busy": "busy: all seats are taken", "long": "a line has at most 4096 bytes", "": "the server has closed the connection"}
+        with served(self) as hands, Host(list(words)) as host:
+            hands.show(host.port, print)
+            for word, told in words.items():
+                rows = self.enter(hands.address, "gus", "a")
+                self.assertEqual(rows.next()["who"], "gus")
+                self.assertEqual(rows.next()["at"], 0)
+                host.go.set()
+                last = rows.rest()[-1]
+                self.assertTrue(last["ended"].startswith(told), (word, last))
+                host.go.clear()
+            self.assertEqual(hands.seats, {})
+        _, text = self.nobody(hands)
+        self.assertIn("no server at port", text)
+
+    def nobody(self, hands: Hands) -> tuple[int, str]:
+        """What is told where no server listens."""
+        with served(self) as other:
+            other.show(hands.students, print)
+            answer, told = self.ask(other.address, "POST", "/enter", {"name": "gus", "key": "a"})
+            return answer.status, json.loads(told)["told"]
+
+    def test_a_run_that_leaves_tells_so(self) -> None:
+        with Host([]) as host, served(self) as hands:
+            hands.show(host.port, print)
+            rows = self.enter(hands.address, "gus", "a")
+            self.assertEqual((rows.next()["who"], rows.next()["at"]), ("gus", 0))
+            hands.stop()
+            self.assertIn("come again", rows.rest()[-1]["ended"])
+
+
+class Rows:
+    """The lines that come to a page, and all bytes of them."""
+
+    def __init__(self, address: str, name: str, key: str) -> None:
+        parts = urlsplit(address)
+        self.connection = http.client.HTTPConnection("127.0.0.1", parts.port or 0, timeout=LIMIT)
+        self.connection.request("POST", "/enter", json.dumps({"name": name, "key": key}), {"Host": parts.netloc})
+        self.answer = self.connection.getresponse()
+        assert self.answer.status == 200
+        self.bytes = bytes(str(self.answer.headers), "utf-8")
+
+    def next(self) -> dict[str, Any]:
+        """The next line that tells something."""
+        while True:
+            line = self.answer.readline()
+            self.bytes += line
+            row: dict[str, Any] = json.loads(line)
+            if row:
+                return row
+
+    def at(self, number: int) -> dict[str, Any]:
+        """The line of that configuration."""
+        while (row := self.next())["at"] != number:
+            pass
+        return row
+
+    def rest(self) -> list[dict[str, Any]]:
+        """All lines to the end."""
+        text = self.answer.read()
+        self.bytes += text
+        return [json.loads(line) for line in text.splitlines()]
+
+
+class Host:
+    """What answers as a server does, and ends each connection as it is told, when it is told."""
+
+    def __init__(self, ends: list[str]) -> None:
+        self.ends, self.go, self.lines = ends, threading.Event(), list[bytes]()
+        self.listener = socket.create_server(("127.0.0.1", 0))
+        self.port: int = self.listener.getsockname()[1]
+
+    def __enter__(self) -> Host:
+        threading.Thread(target=self.serve, daemon=True).start()
+        return self
+
+    def __exit__(self, *_: object) -> None:
+        self.go.set()
+        self.listener.shutdown(socket.SHUT_RDWR)
+        self.listener.close()
+
+    def serve(self) -> None:
+        """One connection after the other."""
+        for word in [*self.ends, "over"]:
+            try:
+                its, _ = self.listener.accept()
+            except OSError:
+                return
+            with its:
+                self.answer(its, word)
+
+    def answer(self, its: socket.socket, word: str) -> None:
+        """Answers hello and looks, until it is to end."""
+        for line in its.makefile("rb"):
+            self.lines.append(line)
+            asked = json.loads(line)
+            if self.go.is_set() or asked["do"] == "bye":
+                its.sendall(f'{{"refuse":"{word}"}}\n'.encode() if word else b"")
+                return
+            look: dict[str, Any] = {"at": 0, "chosen": None, "m": False, "near": [], "ok": "look", "p": None, "rule": None}
+            told: dict[str, Any] = {"ok": "hello", "who": "gus"} if asked["do"] == "hello" else look | {"node": asked["node"]}
+            its.sendall(json.dumps(told).encode() + b"\n")
+
+
+@contextmanager
+def served(test: unittest.TestCase) -> Iterator[Hands]:
+    """Pages over the cycle, whose server isn't there yet."""
+    hands = open_hands(random.randint(20000, 50000), "cycle", read(CYCLE))
+    hands.show(1, print)
+    try:
+        yield hands
+    finally:
+        if not hands.leaves:
+            hands.stop()
+
+
+def without_number(row: dict[str, Any]) -> dict[str, Any]:
+    """A row without the number of its configuration."""
+    return row | {"at": 0, "picture": re.sub('data-number="[0-9]+"', "", row["picture"])}
+
+
+if __name__ == "__main__":
+    unittest.main()

@@ -1,0 +1,144 @@
+"""What can go wrong where bots are tried: full disks, no labs, no browser, programs that misbehave at home."""
+from __future__ import annotations
+
+import argparse
+import json
+import os
+import shutil
+import subprocess
+import sys
+import threading
+import time
+import unittest
+import unittest.mock
+from pathlib import Path
+
+from classroom import grade, suites
+from classroom.bots import Bot
+from classroom.program import TOP
+from tests.classroom.help import EXAMPLES, LIMIT, InRoom, words
+
+FAULTY = TOP / "tests/classroom/bots/faulty.py"
+SLEEP = b"98765.25"
+# A disk of its own at $1, on which no byte is free.
+FULL = 'mount -t tmpfs -o size=64k none "$1" && head -c 1000000 /dev/zero > "$1/filler" 2> /dev/null; shift; exec "$@"'
+
+
+def full_disk(test: InRoom) -> tuple[Path, tuple[str, ...]]:
+    """A folder, and the words of a call in which it is a full disk."""
+    disk = test.room / "disk"
+    disk.mkdir()
+    for way in (["unshare", "-m"], ["unshare", "-rm"]):
+        before = (*way, "sh", "-c", FULL, "sh", str(disk))
+        if shutil.which("unshare") and subprocess.run([*before, "mountpoint", "-q", disk], check=False, stderr=subprocess.DEVNULL).returncode == 0:
+            return disk, before
+    test.skipTest("not tried: a full disk, since nothing can be mounted")
+
+
+class Disks(InRoom):
+    """Records and tables that don't fit."""
+
+    def setUp(self) -> None:
+        super().setUp()
+        (self.room / "labs").mkdir()
+        shutil.copy(EXAMPLES / "path.toml", self.room / "labs")
+
+    def grades(self, before: tuple[str, ...], *more: str | Path) -> subprocess.CompletedProcess[str]:
+        """Grades a right bot and one that isn't there."""
+        given = ("grade", EXAMPLES / "bot.py", "no-such-bot", "--labs", self.room / "labs", "--daemon", "synchronous", "--timeout", "100")
+        call: list[str | Path] = [*before, sys.executable, TOP / "class", *given, *more]
+        return subprocess.run(call, stdin=subprocess.DEVNULL, capture_output=True, text=True, check=False, timeout=LIMIT)
+
+    def test_records_that_do_not_fit_take_no_result_away(self) -> None:
+        disk, before = full_disk(self)
+        table = self.room / "cases.json"
+        done = self.grades(before, "--into", disk, "--json", table)
+        self.assertEqual(done.returncode, 5, done.stdout + done.stderr)
+        self.assertRegex(done.stdout, "(?m)^class: .*: no record: No space left on device; --into names another place$")
+        self.assertIn("bot.py: 1 of 1 cases passed\nno-such-bot: 0 of 1 cases passed\n", done.stdout)
+        self.assertEqual([each["passed"] for each in json.loads(table.read_text(encoding="utf-8"))], [True, False])
+
+    def test_a_table_that_does_not_fit_takes_no_other_away(self) -> None:
+        disk, before = full_disk(self)
+        junit = self.room / "cases.xml"
+        done = self.grades(before, "--into", self.room / "grades", "--json", disk / "cases.json", "--junit", junit)
+        self.assertEqual(done.returncode, 4, done.stdout + done.stderr)
+        self.assertIn(f"class: {disk}/cases.json: No space left on device; what stood there stays: make room, or name another file\n", done.stdout)
+        self.assertIn("bot.py: 1 of 1 cases passed\n", done.stdout)
+        self.assertIn("</testsuites>", junit.read_text(encoding="utf-8"))
+
+    def test_a_bot_without_room_of_its_own_is_not_tried(self) -> None:
+        told = argparse.Namespace(timeout=20.0, memory=512, at_once=2)
+        plan = suites.SMALL[0]
+        case = suites.planned(plan, 1, plan.daemon)
+        with unittest.mock.patch.object(Path, "write_text", side_effect=OSError(28, "No space left on device", "/tmp/slip")):
+            found = list(grade.results_of([Bot.of("true"), Bot.of("false")], [case], told, self.room, threading.Event()))
+        self.assertEqual([result.why for result in found],
+                         ["not tried: /tmp/slip: No space left on device; TMPDIR names another place"] * 2)
+        self.assertFalse(any(result.passed for result in found))
+
+
+class AtHome(InRoom):
+    """Programs that misbehave while a student practises."""
+
+    def practises(self, bot: str, **environment: str) -> str:
+        """What is told of a bot that hangs or ends."""
+        done = words("practise", bot, "--family", "path", "--nodes", "3", "--start", "clean", "--daemon", "synchronous", "--timeout", "3",
+                     "--into", self.room / "runs", **environment)
+        self.assertEqual(done.returncode, 5, done.stdout + done.stderr)
+        self.assertRegex(done.stdout, r"(?m)^page: .*/run.html; what was said: .*/conversation.txt$")
+        return done.stdout
+
+    def test_bytes_replies_and_silence(self) -> None:
+        self.assertIn("\nyou: malformed: \\x80\\x81", self.practises(f"python3 {FAULTY} binary"))
+        self.assertRegex(self.practises(f"python3 {FAULTY} pretends"), r"(?m)^it hangs: the class waits for 1 \(")
+        self.assertRegex(self.practises(f"python3 {FAULTY} hangs"), r"(?m)^it hangs: the class waits for 1 \(")
+
+    def test_nothing_stays_of_what_it_started(self) -> None:
+        told = self.practises(f"python3 {FAULTY} forks")
+        self.assertIn("\nyou: the program has ended, status 0\n", told)
+        end = time.monotonic() + LIMIT
+        while any(SLEEP in cmdline(each) for each in Path("/proc").iterdir()):
+            self.assertLess(time.monotonic(), end)
+            time.sleep(0.05)
+
+    def test_no_browser_is_needed(self) -> None:
+        (self.room / "bin").mkdir()
+        (self.room / "bin/python3").symlink_to(sys.executable)
+        done = words("practise", EXAMPLES / "bot.py", "--nodes", "4", "--into", self.room / "runs", PATH=str(self.room / "bin"),
+                     BROWSER="/no/such/browser", DISPLAY="")
+        self.assertEqual((done.returncode, done.stderr.count("rror")), (0, 0), done.stdout + done.stderr)
+        page = next(line for line in done.stdout.splitlines() if line.startswith("page: ")).removeprefix("page: ").partition(";")[0]
+        self.assertIn("</html>", Path(page).read_text(encoding="utf-8"))
+
+
+def cmdline(process: Path) -> list[bytes]:
+    """The words of a process."""
+    try:
+        return (process / "cmdline").read_bytes().split(b"\0") if process.name.isdecimal() else []
+    except OSError:
+        return []
+
+
+class Folders(InRoom):
+    """Labs that are none."""
+
+    def test_each_is_a_line_with_the_remedy(self) -> None:
+        (self.room / "empty").mkdir()
+        (self.room / "wrong").mkdir()
+        (self.room / "wrong/one.toml").write_bytes(os.urandom(50))
+        rows = (
+            ("none", 4, "none: No such file or directory; it is a folder of labs, NAME.toml"),
+            ("empty", 2, "empty: no labs; they are files NAME.toml, which ./class new makes"),
+            ("wrong", 2, "one.toml: lab: not a TOML document; `./class check"),
+        )
+        for name, status, why in rows:
+            done = words("grade", EXAMPLES / "bot.py", "--labs", self.room / name, "--into", self.room / "grades")
+            self.assertEqual(done.returncode, status, done.stderr)
+            self.assertEqual(done.stderr.count("\n"), 1)
+            self.assertIn(why, done.stderr)
+        self.assertFalse((self.room / "grades").exists())
+
+
+if __name__ == "__main__":
+    unittest.main()

@@ -1,0 +1,48 @@
+"""What is shown of lines that others sent: no key, and no character that a terminal obeys."""
+from __future__ import annotations
+
+import unittest
+
+from classroom.hiding import Hider
+
+HIDER = Hider(["heron-31", "swift-86", "chalk"], ["gus", "hana", "tess"])
+CASES = (
+    (b'{"do":"hello","name":"gus","key":"heron-31"}', '{"do":"hello","name":"gus","key":"***"}'),
+    (b'{"do":"hello","key":"heron-32","name":"gus"}', '{"do":"hello","key":"***","name":"gus"}'),
+    (b'{ "key" : "a", "key":"b\\"c","name":"gus"}', '{ "key" : "***", "key":"***","name":"gus"}'),
+    (b'{"do":"hello","KEY":"heron-32","k\\u0065y":"x"}', '{"do":"hello","KEY":"***","k\\u0065y":"***"}'),
+    (b'{"do":"hello","name":"heron-31","key":"gus"}', '{"do":"hello","name":"***","key":"***"}'),
+    (b'{"do":"hello","name":"h\\u0065ron-31","key":"gus"}', '{"do":"hello","name":"***","key":"***"}'),
+    (b'{"do":"see","node":1,"note":{"my":["swift-86!"]},"heron-31":2}', '{"do":"see","node":1,"note":{"my":["***"]},"***":2}'),
+    (b'{"do":"hello","key":4711,"name":"gus"}', '{"do":"hello","key":***, and more'),
+    (b'{"do":"hello","key":["heron","-31"]}', '{"do":"hello","key":***, and more'),
+    (b'{"do":"hello","key":12}', '{"do":"hello","key":***, and more'),
+    (b'{"do":"move","node":4,"rule":"update","at":7}', '{"do":"move","node":4,"rule":"update","at":7}'),
+    (b'{"do":"hello","name":"gus","key":"heron-31"', '{"do":"hello","name":"gus",".. (15 more that may have a key)'),
+    (b"gus heron-31", "gus .. (8 more that may have a key)"),
+    (b'"h\\u0065ron-31"', '"h.. (13 more that may have a key)'),
+    (b'["chalk"]', '[".. (7 more that may have a key)'),
+    (b"look 4", "look 4"),
+    (b"\x1b[2J\xffgo\r\xe2\x80\xae", "\\x1b[2J\\xffgo\\r\\u202e"),
+    (b'{"do":"\x7f"}', '{"do":"\\x7f"}'),
+)
+
+
+class Hiding(unittest.TestCase):
+    """Lines by hand."""
+
+    def test_by_hand(self) -> None:
+        for line, wanted in CASES:
+            self.assertEqual(HIDER.line(line), wanted)
+
+    def test_no_key_of_anyone_is_shown_wherever_it_stands(self) -> None:
+        whole = b'{"do":"hello","name":"gus","key":"heron-31","more":["swift-86",{"chalk":"chalk"}]}'
+        for at in range(len(whole)):
+            for line in (whole[:at], whole[at:], whole[:at] + whole[at + 1:], whole[:at] + b"\\" + whole[at:], whole[:at] + b'"' + whole[at:]):
+                shown = HIDER.line(line)
+                for key in HIDER.keys:
+                    self.assertNotIn(key, shown, line)
+
+
+if __name__ == "__main__":
+    unittest.main()

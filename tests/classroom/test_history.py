@@ -1,0 +1,327 @@
+"""A class's record: what `run` tells from it, what `mark` says of it, and `./class history`, which shows a student's lines."""
+from __future__ import annotations
+
+import csv
+import io
+import json
+import os
+import re
+import shutil
+import signal
+import socket
+import unittest
+from pathlib import Path
+from types import TracebackType
+
+from classroom.lab import read
+from classroom.program import Fault, host
+from classroom.record import begun
+from classroom.vouched import front
+from tests.classroom.browser import browser, is_ready, shown, until
+from tests.classroom.help import CYCLE, KEYS, Cycle, Going, words
+
+MOVE = b'{"do":"move","node":4,"rule":"update","at":%d}\n'
+EVIL = b'\x1b[2J\xff=1+1 {"key":"heron-31"}\n'
+UNKNOWN = '{"clause":2,"deny":"unknown","text":"name and key do not match"}'
+STALE = '{"at":1,"clause":2,"deny":"stale","text":"this is not the current configuration"}'
+GUARD = '{"clause":4,"deny":"guard","text":"the guard of this rule does not hold"}'
+GUESSED = f"""\
+  after 0, seat SEAT > {{"do":"hello","name":"gus","key":"***"}}
+                   < {UNKNOWN}
+  after 0, seat SEAT: this connection ended
+"""
+GREETED = """\
+  after 0, seat SEAT > {"do":"hello","name":"gus","key":"***"}
+                   < {"ok":"hello","who":"gus"}
+  after 0, seat SEAT > {"do":"move","node":4,"rule":"update","at":0}
+                   < {"at":0,"node":4,"ok":"move","place":1,"rule":"update"}
+"""
+DENIED = f"""\
+  event 3: configuration 1: 4 (gus) update, 7 (jonas) abandonment
+  after 3, seat SEAT > {{"do":"move","node":4,"rule":"update","at":0}}
+                   < {STALE}
+  after 3, seat SEAT > {{"do":"move","node":4,"rule":"update","at":1}}
+                   < {GUARD}
+  after 3, seat SEAT > \\x1b[2J\\xff=1+1 {{".. (16 more that may have a key)
+                   < {{"refuse":"malformed"}}
+  after 3, seat SEAT: this connection ended
+"""
+
+
+class Raw:
+    """A connection, as the bytes that go over it."""
+
+    def __init__(self, port: int, name: str = "", key: str = "") -> None:
+        self.socket = socket.create_connection(("127.0.0.1", port))
+        self.replies = self.socket.makefile("rb")
+        if name:
+            self.ask(hello(name, key or KEYS[name]))
+
+    def ask(self, line: bytes) -> str:
+        """The reply to a line."""
+        self.socket.sendall(line)
+        return self.replies.readline().decode("ascii").rstrip("\n")
+
+    def __enter__(self) -> Raw:
+        return self
+
+    def __exit__(self, kind: type[BaseException] | None, error: BaseException | None, trace: TracebackType | None) -> None:
+        self.replies.close()
+        self.socket.close()
+
+
+def hello(name: str, key: str) -> bytes:
+    """A greeting."""
+    return b'{"do":"hello","name":"%s","key":"%s"}\n' % (name.encode(), key.encode())
+
+
+@unittest.skipUnless(host(), "not tried: no host is built")
+class Disputed(Cycle):
+    """A class in which gus says that the server was wrong."""
+
+    def disputed(self, stale: int = 1) -> Going:
+        """Gus moves once, is denied as stale and by the guard, and sends what is no request."""
+        going = Going(self, CYCLE, "--close", "by-hand")
+        with Raw(going.port) as wrong:
+            self.assertEqual(wrong.ask(hello("gus", "heron-13")), UNKNOWN)
+        going.until("^1 wrong key for gus$")
+        with Raw(going.port, "gus") as gus, Raw(going.port, "jonas") as jonas:
+            going.until("^connected: gus$")
+            gus.ask(MOVE % 0)
+            jonas.ask(b'{"do":"move","node":7,"rule":"abandonment","at":0}\n')
+            going.type("close")
+            going.until("^configuration 1: 4 ")
+            for _ in range(stale):
+                self.assertEqual(gus.ask(MOVE % 0), STALE)
+            if stale >= 20:
+                going.until(r"^gus: denied stale \d+ times since the last step$")
+                going.type("who")
+                going.until(r"^connected: 2 of \d+ seats: gus, jonas$")
+                going.until("^wrong keys: 1 for gus$")
+                going.until(f"^since the last step gus: denied stale {stale} times$")
+            self.assertEqual(gus.ask(MOVE % 1), GUARD)
+            self.assertEqual(gus.ask(EVIL), '{"refuse":"malformed"}')
+        going.until("^gone: gus$")
+        return going
+
+    def ended(self, going: Going) -> Path:
+        """Its folder, after its end."""
+        going.type("end\nend")
+        self.assertEqual(going.ends(), 0, going.lines)
+        return going.folder
+
+    def seat(self, folder: Path) -> Path:
+        """The file of the seat in which gus was known."""
+        return next(file for file in (folder / "record").glob("*.record") if b'"who":"gus"' in file.read_bytes())
+
+    def history(self, folder: Path, *more: str | Path, name: str = "gus") -> str:
+        """What is printed."""
+        done = words("history", folder, name, *more)
+        self.assertEqual((done.returncode, done.stderr), (0, ""))
+        return done.stdout
+
+    def wanted(self, folder: Path) -> str:
+        """What the history of gus has to be, whichever seats were free."""
+        seat = self.seat(folder).name.partition(".")[0]
+        other = next(file.name.partition(".")[0] for file in (folder / "record").glob("*.record") if b"heron-13" in file.read_bytes())
+        guessed, greeted = GUESSED.replace("SEAT", other), GREETED.replace("SEAT", seat)
+        first = guessed + greeted if int(other) <= int(seat) else greeted + guessed
+        return first + DENIED.replace("SEAT", seat)
+
+
+class Told(Disputed):
+    """What is told while a class goes on, and after it."""
+
+    def test_a_student_is_answered(self) -> None:
+        going = self.disputed()
+        now = self.history(going.folder)
+        self.assertIn(", not whole: the server hasn't ended", now.splitlines()[0])
+        folder = self.ended(going)
+        first, _, rest = self.history(folder).partition("\n")
+        self.assertRegex(first, r"^.*/record: ok: \d+ sessions, \d+ lines, 3 events$")
+        self.assertEqual(squeezed(rest), squeezed(self.wanted(folder)))
+        self.assertEqual(squeezed(now.partition("\n")[2]), squeezed(self.wanted(folder)))
+        other = self.history(folder, name="hana")
+        self.assertEqual(other.splitlines()[1:], ["  event 3: configuration 1: 4 (gus) update, 7 (jonas) abandonment"])
+        self.assertIn('> {"do": "close"}', self.history(folder, name="tess"))
+
+    def test_a_table(self) -> None:
+        folder = self.ended(self.disputed())
+        heads, *rows = csv.reader(io.StringIO(self.history(folder, "--csv")))
+        self.assertEqual(heads, ["place", "seat", "session", "asked", "reply", "denied", "event"])
+        self.assertEqual([row[0] for row in rows], ["0", "0", "0", "0", "3", "3", "3", "3", "3"])
+        self.assertEqual(sorted(row[5] for row in rows[:4]), ["", "", "", "unknown"])
+        self.assertEqual([row[5] for row in rows[4:]], ["", "stale", "guard", "malformed", ""])
+        self.assertEqual((rows[5][4], rows[4][6]), (STALE, "configuration 1: 4 (gus) update, 7 (jonas) abandonment"))
+
+    def test_asking_in_vain_is_told_and_listed(self) -> None:
+        folder = self.ended(self.disputed(stale=40))
+        self.assertEqual(self.history(folder, "--csv").count("this is not the current configuration"), 40)
+        told = squeezed(self.history(folder))
+        self.assertRegex(told, r'\n after 3, seat \d+, 40 times > {"do":"move","node":4,"rule":"update","at":0}\n < {"at":1,"clause":2,')
+        page = self.room / "gus.html"
+        self.history(folder, "-o", page)
+        self.assertIn(", 40 times <code>", page.read_text(encoding="utf-8"))
+
+    def test_others_read_nothing_and_no_key_is_told(self) -> None:
+        going = self.disputed()
+        folder = self.ended(going)
+        record = folder / "record"
+        self.assertEqual(record.stat().st_mode & 0o777, 0o700)
+        self.assertEqual({file.stat().st_mode & 0o777 for file in record.iterdir()}, {0o600})
+        page = self.room / "gus.html"
+        told = [*going.lines, self.history(folder), self.history(folder, "--csv"), self.history(folder, "-o", page),
+                page.read_text(encoding="utf-8"), words("mark", folder, "--json").stdout]
+        told += [(folder / name).read_text(encoding="utf-8") for name in ("run.txt", "server.txt", "marks.txt", "marks.json", "run.html")]
+        for key in (*KEYS.values(), read(CYCLE).teacher[1], "heron-13"):
+            self.assertFalse([text for text in told if key in text], key)
+        for text in told:
+            self.assertNotIn("\x1b", text)
+
+    def test_the_page_opens_the_player_at_an_entry(self) -> None:
+        folder = self.ended(self.disputed())
+        page = self.room / "gus.html"
+        self.history(folder, "-o", page)
+        driver = browser()
+        driver.get(page.as_uri())
+        until(driver, is_ready)
+        self.assertEqual(shown(driver)[0]["place"], "0")
+        entries = driver.find_elements("css selector", ".history li")
+        self.assertEqual(len(entries), 9)
+        denied = next(entry for entry in entries if "stale" in entry.text)
+        self.assertIn('{"do":"move","node":4,"rule":"update","at":0}', denied.text)
+        denied.find_element("css selector", "a").click()
+        until(driver, lambda it: shown(it)[0]["place"] == "3")
+        self.assertIn("\\x1b[2J", entries[-2].text)
+
+    def test_words_that_are_not_understood(self) -> None:
+        folder = self.ended(self.disputed())
+        done = words("history", folder, "mallory")
+        self.assertEqual((done.returncode, done.stdout), (1, ""))
+        self.assertIn("no student mallory; there are: gus, hana, ines, jonas", done.stderr)
+        self.assertEqual(words("history", self.room, "gus").returncode, 1)
+
+
+class Verified(Disputed):
+    """Records that aren't as they were, and what is said of them."""
+
+    def test_marks_say_what_the_record_is(self) -> None:
+        folder = self.ended(self.disputed())
+        seat, record = self.seat(folder), folder / "record"
+        before = seat.read_bytes()
+        number = seat.name.partition(".")[0]
+        self.assertRegex((folder / "marks.txt").read_text(encoding="utf-8"), r"(?m)^record: ok: \d+ sessions, \d+ lines, 3 events$")
+        seat.write_bytes(before + f"{number} 3 !\n{number} 3 .\n".encode())
+        done = words("mark", folder)
+        self.assertEqual(done.returncode, 0)
+        self.assertRegex(done.stdout, r"(?m)^record: ok: \d+ sessions, \d+ lines, 3 events, not whole$")
+        seat.write_bytes(before.replace(b'"clause":4,"deny":"guard"', b'"clause":3,"deny":"guard"'))
+        for form in ("--csv", "--json", "--total"):
+            done = words("mark", folder, form)
+            self.assertEqual(done.returncode, 5)
+            self.assertRegex(done.stderr, rf"record: verify: seat {number}, line \d+: not the reply of the rules at place 3\n$")
+        done = words("history", folder, "gus")
+        self.assertEqual((done.returncode, done.stdout), (3, ""))
+        self.assertIn("not the reply of the rules at place 3", done.stderr)
+        shutil.rmtree(record)
+        done = words("mark", folder)
+        self.assertEqual(done.returncode, 0)
+        self.assertIn("\nno record: what was asked for and denied isn't known\n", done.stdout)
+        self.assertEqual(json.loads(words("mark", folder, "--json").stdout)["runs"][0]["records"], ["no record: what was asked for and denied isn't known"])
+        self.assertEqual(words("history", folder, "gus").returncode, 1)
+
+    def test_a_grant_that_is_lacking_is_found_after_the_end_alone(self) -> None:
+        folder = self.ended(self.disputed())
+        seat = self.seat(folder)
+        lines = seat.read_bytes().splitlines(keepends=True)
+        at = next(at for at, line in enumerate(lines) if b'"place":1' in line)
+        seat.write_bytes(b"".join(lines[:at - 1] + lines[at + 1:]))
+        done = words("history", folder, "gus")
+        self.assertEqual((done.returncode, done.stdout), (3, ""))
+        self.assertIn("verify: place 1: granted in no record", done.stderr)
+        output = folder / "server.txt"
+        output.write_text(output.read_text(encoding="utf-8").partition("done: ")[0], encoding="utf-8")
+        self.assertIn(", not whole: the server hasn't ended", self.history(folder))
+
+    def test_a_class_whose_server_died(self) -> None:
+        going = self.disputed()
+        with Raw(going.port, "hana"):
+            going.until("^connected: hana$")
+            os.kill(going.server(), signal.SIGKILL)
+            self.assertEqual(going.ends(), 4, going.lines)
+        seat = self.seat(going.folder)
+        whole = seat.read_bytes()
+        with seat.open("ab") as it:
+            it.write(b"9 3 > torn")
+        self.assertEqual(squeezed(self.history(going.folder).partition("\n")[2]), squeezed(self.wanted(going.folder)))
+        seat.write_bytes(whole)
+        again = Going(self, None, "run", "--resume", going.folder, "--close", "by-hand")
+        with Raw(again.port, "gus") as gus:
+            again.until("^connected: gus$")
+            self.assertEqual(gus.ask(MOVE % 0), STALE)
+            again.type("who")
+            again.until(r"^connected: 1 of \d+ seats: gus$")
+            again.until("^wrong keys: 1 for gus$")
+        folder = self.ended(again)
+        told = self.history(folder)
+        self.assertEqual(told.count(STALE), 2)
+        self.assertIn("events, not whole\n", told)
+        self.assertIn("the rest of this connection isn't recorded", self.history(folder, name="hana"))
+
+    def test_another_key_and_the_record_before(self) -> None:
+        folder = self.ended(self.disputed())
+        lab = self.file("lab.toml", CYCLE.read_text(encoding="utf-8"))
+        record = json.loads((folder / "run.json").read_text(encoding="utf-8"))
+        (folder / "run.json").write_text(json.dumps({**record, "lab": str(lab)}), encoding="utf-8")
+        self.assertEqual(words("key", folder, "gus").returncode, 0)
+        key = read(folder / "lab.toml").students["gus"]
+        again = Going(self, None, "run", "--resume", folder, "--close", "by-hand")
+        with Raw(again.port, "gus", key) as gus, Raw(again.port) as old:
+            self.assertEqual(old.ask(hello("gus", KEYS["gus"])), UNKNOWN)
+            self.assertEqual(gus.ask(b'{"do":"move","node":1,"rule":"update","at":%d, "note":"heron-31"}\n' % 1), GUARD)
+            again.until("^connected: gus$")
+        self.ended(again)
+        told = self.history(folder)
+        self.assertRegex(told, r"^.*/record\.~1~: ok: \d+ sessions, \d+ lines, 3 events\n.*/record: ok: \d+ sessions, \d+ lines, 3 events\n")
+        self.assertEqual((told.count(GUARD), told.count(UNKNOWN), told.count("***")), (2, 2, 5))
+        for hidden in (key, KEYS["gus"]):
+            self.assertNotIn(hidden, told)
+        self.assertIn("record.~1~: ok: ", (folder / "marks.txt").read_text(encoding="utf-8"))
+
+    def test_a_disk_that_takes_no_more_of_the_record(self) -> None:
+        going = Going(self, CYCLE, "--close", "by-hand", before=("bash", "-c", 'trap "" XFSZ; ulimit -f 64; exec "$@"', "bash"))
+        with Raw(going.port, "gus") as gus:
+            going.until("^connected: gus$")
+            for _ in range(500):
+                self.assertIn('"deny":"stale"', gus.ask(MOVE % 7))
+            going.until("^the rest of what gus sends isn't recorded: ")
+        going.type("end\nend")
+        self.assertEqual(going.ends(), 5, going.lines)
+        self.assertIn("the record isn't whole: the disk didn't take all of it; the journal is", going.lines)
+        self.assertIn("the run is ended", going.lines)
+        self.assertRegex((going.folder / "marks.txt").read_text(encoding="utf-8"), r"(?m)^record: ok: .*, not whole$")
+        self.assertEqual(self.whole(going.folder), 0)
+
+    def test_where_a_record_begins(self) -> None:
+        for text, number in (("3\n", 3), ("0", 0), ("", None), ("x\n", None), ("-1\n", None)):
+            self.file("begun", text)
+            if number is None:
+                self.assertRaises(Fault, begun, self.room)
+            else:
+                self.assertEqual(begun(self.room), number)
+
+    def test_whole_entries_up_to_an_event(self) -> None:
+        whole = b'4 0 > x\n4 0 < {"refuse":"malformed"}\n4 0 > y\n4 0 < {"at":0,"ok":"move","place":1}\n4 2 .\n'
+        ends = [0, whole.index(b"4 0 > y"), len(whole) - 6, len(whole)]
+        self.assertEqual([len(front(whole, events)) for events in range(4)], [ends[1], ends[2], ends[3], ends[3]])
+        for at in range(len(whole) + 1):
+            self.assertEqual(len(front(whole[:at], 9)), max(end for end in ends if end <= at))
+
+
+def squeezed(text: str) -> str:
+    """The text with one space for several."""
+    return re.sub(r" +", " ", text)
+
+
+if __name__ == "__main__":
+    unittest.main()

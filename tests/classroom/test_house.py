@@ -1,0 +1,247 @@
+"""Who is absent: the house plays in its own name, and no student is marked by it."""
+from __future__ import annotations
+
+import csv
+import io
+import json
+import os
+import random
+import re
+import subprocess
+import sys
+import unittest
+import urllib.request
+from pathlib import Path
+
+from classroom.client import Client
+from classroom.house import House
+from classroom.journal import events
+from classroom.lab import HOUSE, Lab, read
+from classroom.program import host
+from tests.classroom.help import CYCLE, EXAMPLES, Going, InRoom, words
+
+NAMES = "Name\nAna Lima\nGus Roy\nHouse\nEva Sol\n"
+
+
+class Alone(unittest.TestCase):
+    """When a node is the house's to play."""
+
+    def setUp(self) -> None:
+        lab = read(CYCLE)
+        lab.students[HOUSE] = "key"
+        for node in lab.nodes:
+            node.owners.append(HOUSE)
+        self.lab = lab
+        self.told: list[str] = []
+
+    def test_a_node_waits_its_time_and_a_move_begins_it_anew(self) -> None:
+        house = House(self.lab, 1, 20, self.told.append)
+        self.assertEqual(house.due([1, 2], 100), [])
+        self.assertEqual(house.due([1, 2, 3], 119.9), [])
+        self.assertEqual(house.due([2, 3, 1], 120), [1, 2])
+        house.note(events("1 0 grant gus 1 update\n")[0])
+        self.assertEqual(house.due([1, 2, 3], 121), [2])
+        self.assertEqual(house.due([1, 3], 122), [])
+        self.assertEqual(house.due([1, 2, 3], 139.9), [3])
+        self.assertEqual(house.due([1, 2, 3], 141), [3, 1])
+        self.assertEqual(House(self.lab, 1, None, self.told.append).due([1, 2, 3], 1e9), [])
+
+    def test_a_student_is_played_at_once_until_it_is_stopped(self) -> None:
+        house = House(self.lab, 1, None, self.told.append)
+        gus = self.lab.nodes_of("gus")
+        self.assertEqual(house.play("gus"), f"the house plays for gus: {', '.join(map(str, gus))}")
+        self.assertEqual(house.due([1, 2, 3, 4, 5, 6, 7], 0), gus)
+        self.assertEqual(house.told(), "the house plays for gus")
+        with self.assertRaisesRegex(ValueError, "^no student zoe has a node here; there are gus, hana, ines, jonas$"):
+            house.play("zoe")
+        with self.assertRaisesRegex(ValueError, "^no student house "):
+            house.play(HOUSE)
+        self.assertEqual(house.stop("gus"), "the house doesn't play for gus any longer")
+        with self.assertRaisesRegex(ValueError, "^the house doesn't play for gus$"):
+            house.stop("gus")
+        self.assertEqual(house.due([1, 2, 3, 4, 5, 6, 7], 1e9), [])
+
+    def test_who_is_no_house(self) -> None:
+        self.assertEqual(self.lab.held(), [1, 2, 3, 4, 5, 6, 7])
+        self.assertEqual(self.lab.without_house(), read(CYCLE))
+        self.lab.nodes[0].owners.remove("gus")
+        self.assertEqual((self.lab.held(), self.lab.without_house()), ([], self.lab))
+
+
+@unittest.skipUnless(host(), "not tried: no host is built")
+class Standing(InRoom):
+    """Runs of a class of four, one of whom is called House."""
+
+    def setUp(self) -> None:
+        super().setUp()
+        self.list = self.file("names.csv", NAMES)
+        self.made = self.room / "maths.toml"
+        done = words("new", self.made, "--students", self.list, "--nodes", "8", "--start", "random", "--seed", "3", "--stand-in")
+        self.assertEqual((done.returncode, done.stderr), (0, ""))
+        self.lab: Lab = read(self.made)
+
+    def bot(self, going: Going, name: str) -> None:
+        """A student's bot."""
+        slip = self.file(f"{name}.slip", re.sub(r"port \d+", f"port {going.port}", self.slip(name).read_text(encoding="utf-8")))
+        bot = subprocess.Popen([sys.executable, EXAMPLES / "bot.py", slip], stdin=subprocess.DEVNULL, stdout=subprocess.DEVNULL,
+                               stderr=subprocess.DEVNULL)
+        self.addCleanup(bot.wait)
+        self.addCleanup(bot.kill)
+
+    def slip(self, name: str) -> Path:
+        """A student's slip."""
+        return self.room / "maths-slips" / f"{name}.slip"
+
+    def grants(self, folder: Path) -> dict[str, set[int]]:
+        """At which nodes each name was granted moves."""
+        found: dict[str, set[int]] = {}
+        for event in events((folder / "journal").read_text(encoding="ascii")):
+            if event.kind == "grant":
+                found.setdefault(event.words[1], set()).add(event.nodes[0])
+        return found
+
+    def test_each_node_has_two_owners_and_the_house_no_slip(self) -> None:
+        self.assertEqual(list(self.lab.students), ["ana-lima", "gus-roy", "house-2", "eva-sol", HOUSE])
+        self.assertTrue(all(node.owners[1] == HOUSE and len(node.owners) == 2 for node in self.lab.nodes))
+        self.assertFalse(self.slip(HOUSE).exists())
+        printed = (self.room / "maths-slips.txt").read_text(encoding="utf-8")
+        self.assertNotIn(self.lab.students[HOUSE], printed)
+        self.assertNotIn("shared", printed)
+        self.assertEqual(printed.count("The house may play a node that waits for you."), 4)
+        checked = words("check", self.made)
+        self.assertEqual((checked.returncode, checked.stdout.count("warning")), (0, 0), checked.stdout)
+
+    def test_the_house_plays_for_who_is_absent_and_nobody_is_marked_by_it(self) -> None:
+        going = Going(self, self.made, "--daemon", "synchronous", "--stand-in", "0.5s")
+        for name in ("ana-lima", "eva-sol"):
+            self.bot(going, name)
+        going.until("^stable (again )?after ")
+        going.type("who")
+        going.until("^the house plays for nobody, and each node that has waited for 0.5 seconds$")
+        going.type("shake all 7")
+        going.until("^stable again after ")
+        going.type("end")
+        self.assertEqual(going.ends(), 0, going.lines)
+        folder, found = going.folder, self.grants(going.folder)
+        self.assertEqual(set(found) - {"ana-lima", "eva-sol"}, {HOUSE})
+        absent = {*self.lab.nodes_of("gus-roy"), *self.lab.nodes_of("house-2")}
+        self.assertTrue(found[HOUSE] & absent)
+        self.assertTrue(any(re.search(r"^configuration \d+: .*\d \(house\) ", line) for line in going.lines), going.lines)
+        self.assertFalse(any("and house)" in line for line in going.lines), going.lines)
+        marks = json.loads((folder / "marks.json").read_text(encoding="utf-8"))["runs"][0]["students"]
+        for name in ("gus-roy", "house-2"):
+            self.assertEqual(sum(marks[name]["granted"].values()), 0)
+        self.assertEqual(sum(marks[HOUSE]["granted"].values()),
+                         sum(event.student == HOUSE for event in events((folder / "journal").read_text(encoding="ascii"))))
+        self.assertRegex((folder / "marks.txt").read_text(encoding="utf-8"), r"(?m)^ +house +[1-9]")
+        table = words("mark", folder, "--roster", self.list, "--total")
+        self.assertEqual((table.returncode, table.stderr), (0, ""))
+        rows = {row["Name"]: int(row["granted"]) for row in csv.DictReader(io.StringIO(table.stdout))}
+        self.assertEqual((list(rows), rows["House"], rows["Gus Roy"]), (["Ana Lima", "Gus Roy", "House", "Eva Sol"], 0, 0))
+
+    def test_a_student_is_played_and_left_alone_again(self) -> None:
+        going = Going(self, self.made, "--daemon", "by-hand")
+        going.type("play gus-roy")
+        nodes = self.lab.nodes_of("gus-roy")
+        going.until(f"^the house plays for gus-roy: {', '.join(map(str, nodes))}$")
+        self.comes_back_without(going, nodes)
+        going.type("stop gus-roy")
+        going.until("^the house doesn't play for gus-roy any longer$")
+        going.type("stop gus-roy")
+        going.until("^the house doesn't play for gus-roy$")
+        going.type("play nobody")
+        going.until("^no student nobody has a node here; there are ana-lima, gus-roy, house-2, eva-sol$")
+        before = self.grants(going.folder)
+        self.assertEqual(set(before), {HOUSE})
+        self.assertLessEqual(before[HOUSE], set(nodes))
+        going.type("end\nend")
+        self.assertEqual(going.ends(), 0, going.lines)
+        self.assertEqual(self.grants(going.folder), before)
+
+    def comes_back_without(self, going: Going, nodes: list[int]) -> None:
+        """Closes steps until none of these nodes is waited for."""
+        with Client(going.port, "gus-roy", self.lab.students["gus-roy"]) as me:
+            moved = 0
+            while True:
+                looks = [me.look(node) for node in nodes]
+                if all(look.rule is None for look in looks) and moved:
+                    return
+                if all(look.rule is None or look.chosen for look in looks):
+                    going.type("close" if any(look.chosen for look in looks) else f"fault {nodes[0]} null true")
+                    going.until("^configuration ")
+                    moved += 1
+
+    def test_no_process_and_no_page_has_its_key(self) -> None:
+        key = self.lab.students[HOUSE].encode()
+        going = Going(self, self.made, "--stand-in", "0.1s", "--daemon", "when-idle:0.3", "--page", str(random.randint(20000, 50000)))
+        address = going.until("^page http").removeprefix("page ")
+        acts = going.until("^page to act http").removeprefix("page to act ")
+        going.type("play gus-roy\nshake all 2")
+        going.until("^stable (again )?after ")
+        for each in Path("/proc").iterdir():
+            for name in ("cmdline", "environ"):
+                try:
+                    self.assertNotIn(key, (each / name).read_bytes() if each.name.isdecimal() else b"")
+                except OSError:
+                    continue
+        for page in (address, acts):
+            with urllib.request.urlopen(page, timeout=60) as it:
+                self.assertNotIn(key, it.read())
+            with urllib.request.urlopen(f"{page}events", timeout=60) as it:
+                self.assertNotIn(key, it.readline())
+        going.type("end")
+        self.assertEqual(going.ends(), 0, going.lines)
+        for file in going.folder.iterdir():
+            if file.is_file() and not file.name.startswith(("lab.toml", "journal.lab")):
+                self.assertNotIn(key, file.read_bytes(), file.name)
+        self.assertNotIn(">house<", (going.folder / "run.html").read_text(encoding="utf-8"))
+
+    def test_it_goes_on_after_the_server_died(self) -> None:
+        going = Going(self, self.made, "--stand-in", "0.3s", "--daemon", "by-hand")
+        os.kill(going.server(), 9)
+        self.assertEqual(going.ends(), 4, going.lines)
+        again = Going(self, None, "run", "--resume", going.folder, "--daemon", "synchronous")
+        again.until("^stable after ")
+        again.type("end")
+        self.assertEqual(again.ends(), 0, again.lines)
+        self.assertEqual(set(self.grants(again.folder)), {HOUSE})
+
+    def test_where_all_seats_are_taken(self) -> None:
+        lab = self.file("one.toml", re.sub(r"(?m)^sessions = \d+", "sessions = 2", self.made.read_text(encoding="utf-8")))
+        going = Going(self, lab, "--stand-in", "0.1s", "--daemon", "synchronous")
+        with Client(going.port, "ana-lima", self.lab.students["ana-lima"]):
+            going.until("^no seat is free for the house, which would play now; who tells whose they are$")
+        going.until("^stable after ")
+        self.assertEqual(sum("no seat is free" in line for line in going.lines), 1)
+
+
+class Refused(InRoom):
+    """Where nobody can stand in."""
+
+    def test_labs_without_a_house_say_how_to_get_one(self) -> None:
+        done = words("run", CYCLE, "--stand-in", "20s", "--into", self.room / "runs")
+        self.assertEqual((done.returncode, done.stdout), (1, ""))
+        self.assertEqual(done.stderr, f"class: {CYCLE}: no node has the second owner `house`, who could stand in: "
+                                      "./class new .. --stand-in makes a lab in which each node has it\n")
+        self.assertFalse((self.room / "runs").exists())
+        going = Going(self, CYCLE, "--close", "by-hand")
+        for word in ("play", "stop"):
+            going.type(f"{word} gus")
+            going.until("^no node has a second owner who could play for gus: ./class new .. --stand-in makes a lab in which each node has it$")
+
+    def test_no_third_owner(self) -> None:
+        students = self.file("students", "Ana\nBen\n")
+        done = words("new", self.room / "lab.toml", "--students", students, "--pairs", "--stand-in")
+        self.assertEqual((done.returncode, done.stdout), (1, ""))
+        self.assertIn("a node has at most two", done.stderr)
+        self.assertFalse((self.room / "lab.toml").exists())
+
+    def test_a_time_is_a_time(self) -> None:
+        for word in ("0s", "x", "-1", "20m"):
+            done = words("run", CYCLE, "--stand-in", word, "--into", self.room / "runs")
+            self.assertEqual(done.returncode, 1)
+            self.assertIn("is no number of seconds", done.stderr)
+
+
+if __name__ == "__main__":
+    unittest.main()

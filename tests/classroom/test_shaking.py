@@ -1,0 +1,114 @@
+"""Faults by the page of a run, in a browser, and how the class comes back from them, counted from the journal too."""
+from __future__ import annotations
+
+import os
+import random
+import re
+import unittest
+from typing import Any
+
+from classroom import lab as labs
+from classroom.comeback import Comeback, recoveries
+from classroom.journal import events
+from classroom.lab import read
+from classroom.program import host
+from classroom.shaking import broken
+from tests.classroom.browser import browser, is_ready, shown, until
+from tests.classroom.help import CYCLE, KEYS, Cycle, Going, words
+
+
+class Counted(unittest.TestCase):
+    """Counts along a journal."""
+
+    def test_the_network_as_it_is_then_bounds_it(self) -> None:
+        lab = labs.Lab(100, 2, ("teacher", "key"), {"ana": "key"}, [labs.Node(1, ["ana"], 2), labs.Node(2, ["ana"], 1)], [(1, 2)])
+        text = ("1 0 grant ana 1 update\n2 0 grant ana 2 update\n3 0 close\n4 1 fault 1 - false\n5 2 grant ana 1 marriage 2\n"
+                "6 2 grant ana 2 update\n7 2 close\n8 3 grant ana 1 update\n9 3 grant ana 2 update\n10 3 close\n11 4 cut 1 2\n"
+                "12 5 grant ana 1 update\n13 5 close\n14 6 grant ana 2 update\n15 6 close\n")
+        self.assertEqual(recoveries(lab, events(text)), [
+            "place 3: stable after 2 moves, 1 close, 1 round; proved: at most 8 moves, 4 rounds",
+            "place 10: stable again after 4 moves, 2 closes, 2 rounds; proved: at most 8 moves, 4 rounds",
+            "place 15: stable again after 2 moves, 2 closes, 1 round; proved: at most 6 moves, 4 rounds",
+        ])
+
+    def test_a_fault_on_the_way_begins_the_count_anew(self) -> None:
+        lab = labs.Lab(100, 2, ("teacher", "key"), {"ana": "key"}, [labs.Node(1, ["ana"], 2), labs.Node(2, ["ana"], 1)], [(1, 2)])
+        text = ("1 0 grant ana 1 update\n2 0 close\n3 1 fault 1 2 false\n4 2 grant ana 1 update\n5 2 grant ana 2 update\n6 2 close\n")
+        self.assertEqual(recoveries(lab, events(text)), ["place 6: stable again after 2 moves, 1 close, 1 round; proved: at most 8 moves, 4 rounds"])
+
+    def test_what_was_missed_is_not_told_as_counted(self) -> None:
+        it = Comeback(read(CYCLE))
+        self.assertEqual(it.close([1], [1, 2], [2]), "")
+        it.miss()
+        self.assertEqual(it.close([2], [2], []), "stable after closes of which some came in one breath: the marks tell how many "
+                                                 "moves and rounds it took")
+        self.assertEqual(it.close([1], [1], []), "stable after 1 move, 1 close, 1 round; proved: at most 35 moves, 13 rounds")
+
+
+@unittest.skipUnless(host(), "not tried: no host is built")
+class AfterACrash(Cycle):
+    """What is told after the server died counts from before."""
+
+    def test_live_and_in_the_marks_it_is_the_same(self) -> None:
+        going = Going(self, CYCLE, "--daemon", "by-hand")
+        for name in KEYS:
+            self.bot(going, name)
+        going.type("break")
+        going.until("^the registers of 7 nodes were set$")
+        for _ in range(2):
+            while not going.lines[-1].startswith("configuration ") or ": fault " in going.lines[-1]:
+                going.type("close")
+                going.until("^(configuration .*;|no: empty)")
+            going.lines.append("")
+        os.kill(going.server(), 9)
+        self.assertEqual(going.ends(), 4, going.lines)
+        again = Going(self, None, "run", "--resume", going.folder, "--daemon", "synchronous")
+        for name in KEYS:
+            self.bot(again, name)
+        told = again.until("^stable again after ")
+        again.type("end")
+        self.assertEqual(again.ends(), 0, again.lines)
+        marks = words("mark", again.folder).stdout
+        self.assertEqual(re.findall(r"(?m)^place \d+: (.*)$", marks), [told])
+        closes = sum(" close" in line for line in (again.folder / "journal").read_text(encoding="ascii").splitlines())
+        self.assertIn(f" {closes} closes, ", told)
+
+
+class ByThePage(Cycle):
+    """The page's buttons."""
+
+    def test_shake_and_break(self) -> None:
+        driver: Any = browser()
+        going = Going(self, CYCLE, "--daemon", "synchronous", "--page", str(random.randint(20000, 50000)))
+        looks = going.until("^page http").removeprefix("page ")
+        driver.get(going.until("^page to act http").removeprefix("page to act "))
+        until(driver, is_ready)
+        count = driver.find_element("id", "count")
+        count.clear()
+        count.send_keys("2")
+        driver.find_element("id", "shake").click()
+        going.until("^the registers of 2 nodes were set$")
+        driver.find_element("id", "shake-all").click()
+        going.until("^the registers of 7 nodes were set$")
+        driver.find_element("id", "break").click()
+        going.until("^the registers of 7 nodes were set$")
+        until(driver, lambda driver: shown(driver)[0]["number"] == "16")
+        lab = read(CYCLE)
+        wanted = [(str(node), str(p or ""), str(m).lower()) for node, p, m in broken([node.id for node in lab.nodes], lab.links)]
+        self.assertEqual([(node["node"], node["p"], node["m"]) for node in shown(driver)[1]], wanted)
+        for name in KEYS:
+            self.bot(going, name)
+        told = going.until("^stable again after .*; proved: at most 35 moves, 13 rounds$")
+        until(driver, lambda driver: told in driver.find_element("id", "lines").text)
+        driver.get(looks)
+        until(driver, is_ready)
+        for name in ("shake", "shake-all", "break"):
+            self.assertFalse(driver.find_element("id", name).is_displayed())
+        going.type("end")
+        self.assertEqual(going.ends(), 0, going.lines)
+        kinds = [event.kind for event in events((going.folder / "journal").read_text(encoding="ascii"))]
+        self.assertEqual(kinds[:16], ["fault"] * 16)
+
+
+if __name__ == "__main__":
+    unittest.main()

@@ -1,0 +1,107 @@
+"""The worst starts that are known: from them runs take as long as any may, move by move as the program answers."""
+from __future__ import annotations
+
+import contextlib
+import random
+import unittest
+from typing import Any
+
+from classroom import bounds, networks
+from classroom import lab as labs
+from classroom.bench import STUDENT, TEACHER, Bench, network
+from classroom.new import start
+from classroom.rounds import Recovery
+from classroom.shaking import broken
+from tests.classroom.help import EXAMPLES, InRoom, words
+
+Asked = tuple[int, str, int | None]  # a node, its rule, and with whom
+
+
+def made(family: str, nodes: int) -> labs.Lab:
+    """A network of that family, at its worst start."""
+    it = network([labs.Node(node, []) for node in range(1, nodes + 1)], networks.plain(family, nodes))
+    start(it, "worst", random.Random(1))
+    return it
+
+
+def phases(nodes: int, links: set[tuple[int, int]], last: int) -> list[Asked]:
+    """The couples one after the other: all that may seduce the highest free node, it marries the lowest, both update, and the
+    others abandon. Who may seduce is at most `last`."""
+    asked: list[Asked] = []
+    for couple in range(nodes // 2):
+        high = nodes - couple
+        suitors = [node for node in range(couple + 1, min(high - 1, last) + 1) if (node, high) in links]
+        asked += [(node, "seduction", None) for node in suitors]
+        asked += [(high, "marriage", couple + 1), (high, "update", None), (couple + 1, "update", None)]
+        asked += [(node, "abandonment", None) for node in suitors[1:]]
+    return asked
+
+
+def counted(lab: labs.Lab, asked: list[Asked]) -> Recovery:
+    """Plays these moves, each in a step of its own, to the end of the run, which comes with the last of them."""
+    with contextlib.closing(Bench(lab)) as bench:
+        report = bench.begin(lab)
+        found = Recovery(node for node, _ in report["privileged"])
+        for node, rule, partner in asked:
+            assert not report["stable"]
+            more: dict[str, Any] = {} if partner is None else {"with": partner}
+            move = {"do": "move", "node": node, "at": report["at"], "rule": rule, **more}
+            report = bench.all_asked([(STUDENT, move), (TEACHER, {"do": "close"}), (TEACHER, {"do": "report"})])[-1]
+            found.step([node], [each for each, _ in report["privileged"]])
+        assert report["stable"]
+        return found
+
+
+class Worst(unittest.TestCase):
+    """The starts of both families."""
+
+    def test_a_crowd_takes_the_most_moves(self) -> None:
+        for nodes in (4, 5, 6, 7, 8, 12):
+            lab = made("crowd", nodes)
+            self.assertEqual(len(lab.links), nodes * nodes // 4)
+            first: list[Asked] = [(node, rule, None) for node in range(1, nodes + 1) for rule in ("update", "abandonment")]
+            moves = counted(lab, first + phases(nodes, {*lab.links}, nodes)).moves
+            self.assertEqual(moves, bounds.of_lab(lab).moves - nodes % 2, nodes)
+
+    def test_halves_take_the_most_rounds(self) -> None:
+        for nodes in (2, 3, 4, 5, 6, 7, 12):
+            lab = made("halves", nodes)
+            first: list[Asked] = [(node, "update", None) for node in range(1, nodes + 1)]
+            rounds = counted(lab, first + phases(nodes, {*lab.links}, (nodes + 1) // 2)).rounds
+            self.assertEqual(rounds, bounds.of_lab(lab).rounds, nodes)
+
+    def test_whatever_its_nodes_are_called(self) -> None:
+        links = [{10 * a, 10 * b} for a, b in networks.plain("crowd", 6)]
+        registers = {node: (p, m) for node, p, m in broken([60, 10, 20, 30, 40, 50], links)}
+        self.assertEqual({node: p for node, (p, _) in registers.items()}, {10: 60, 20: 50, 30: 40, 40: 50, 50: 60, 60: 20})
+        self.assertTrue(all(m for _, m in registers.values()))
+        # With a link less it is no crowd: each points at a neighbour still.
+        for node, p, m in broken([10, 20, 30, 40, 50, 60], links[1:]):
+            self.assertTrue(m and (p is None or {node, p} in links[1:]))
+
+
+class Words(InRoom):
+    """The start as a word."""
+
+    def test_new_and_experiment_take_it(self) -> None:
+        done = words("new", self.room / "crowd.toml", "--students", self.file("names.txt", "ana\nben\n"), "--family", "crowd",
+                     "--nodes", "6", "--start", "worst")
+        self.assertEqual(done.returncode, 0, done.stderr)
+        text = (self.room / "crowd.toml").read_text(encoding="utf-8")
+        self.assertEqual([line for line in text.splitlines() if line.startswith("p = ")], [f"p = {p}" for p in (6, 5, 4, 5, 6, 2)])
+        done = words("experiment", "--family", "crowd,halves", "--nodes", "6", "--start", "worst", "--runs", "1", "--daemon", "synchronous",
+                     "--csv", self.room / "runs.csv")
+        self.assertEqual(done.returncode, 0, done.stderr)
+        self.assertIn("2 of 2 runs, all within what is proved", done.stdout)
+
+    def test_practise_begins_with_it(self) -> None:
+        done = words("practise", EXAMPLES / "bot.py", "--family", "crowd", "--nodes", "4", "--start", "worst", "--daemon", "synchronous",
+                     "--timeout", "250", "--into", self.room / "runs")
+        self.assertEqual(done.returncode, 0, done.stdout + done.stderr)
+        self.assertIn("crowd of 4 nodes, worst, daemon synchronous", done.stdout)
+        (made_lab,) = (self.room / "runs").glob("*/lab.toml")
+        self.assertEqual([(node.p, node.m) for node in labs.read(made_lab).nodes], [(4, True), (3, True), (4, True), (2, True)])
+
+
+if __name__ == "__main__":
+    unittest.main()

@@ -1,0 +1,227 @@
+"""Two outsiders without a key do what they can against fourteen students' bots, who come and go.
+
+    python3 -m tests.outsiders.bots [SECONDS]
+
+The class reaches a stable end while the outsiders are there. It is told how long honest clients wait for a place,
+and for a reply; that is bounded by what they wait for where nobody disturbs them.
+"""
+import json
+import multiprocessing
+import random
+import socket
+import sys
+import threading
+import time
+from collections.abc import Callable
+from dataclasses import dataclass, field
+from pathlib import Path
+
+from tests.common.hosting import BUSY, BYE, HOST, LATE, Caller, Host, audit
+from tests.common.preload import LIMIT, fail, in_room
+from tests.resume.players import asked
+
+SECONDS = 30.0
+QUIET = 5.0
+STUDENTS = 14
+WAIT = 2.0  # seconds that an honest client may wait
+SLOWER = 20  # times what it waits where nobody disturbs it, at most
+KNOCK = 0.05  # seconds between two silent connections of an outsider
+TEACHER = b'{"do":"hello","key":"chalk","name":"tess"}\n'
+GUESS = b'{"do":"hello","key":"no-key","name":"s-1"}\n'
+
+
+def lab_of_bots(room: Path) -> Path:
+    """A cycle in which each student owns a node."""
+    rows = ["events = 100000", "sessions = 16"]
+    rows += [f"links = {[[node, node % STUDENTS + 1] for node in range(1, STUDENTS + 1)]}"]
+    rows += ['teacher = {name = "tess", key = "chalk"}']
+    for node in range(1, STUDENTS + 1):
+        rows += [f'[[student]]\nname = "s-{node}"\nkey = "key-{node}"', f'[[node]]\nid = {node}\nowner = "s-{node}"']
+    lab = room / "bots.toml"
+    lab.write_text("\n".join(sorted(rows, key=lambda row: row[0] == "[")) + "\n", encoding="utf-8")
+    return lab
+
+
+def knocks(ports: tuple[int, int]) -> None:
+    """Silent connections, one after the other, which are kept as long as the host bears them."""
+    kept: list[socket.socket] = []
+    for turn in range(10**9):
+        kept.append(socket.create_connection(("127.0.0.1", ports[turn % 2]), LIMIT))
+        if len(kept) > 200:
+            kept.pop(0).close()
+        time.sleep(KNOCK)
+
+
+def guesses(ports: tuple[int, int]) -> None:
+    """One guess of a key after the other, until that is ended."""
+    with socket.create_connection(("127.0.0.1", ports[0]), LIMIT) as it, it.makefile("rb") as replies:
+        it.sendall(GUESS * 10)
+        replies.read()
+
+
+def holds(ports: tuple[int, int]) -> None:
+    """A place, by lines that are no hello."""
+    with socket.create_connection(("127.0.0.1", ports[0]), LIMIT) as it, it.makefile("rb") as replies:
+        it.sendall(b"{}\n")
+        while replies.readline() not in (b"", BUSY, LATE):
+            time.sleep(0.5)
+            it.sendall(b"{}\n")
+
+
+def stays(ports: tuple[int, int]) -> None:
+    """Connections that are ended at their first line, whose other side stays."""
+    kept: list[socket.socket] = []
+    for turn in range(10**9):
+        kept.append(socket.create_connection(("127.0.0.1", ports[turn % 2]), LIMIT))
+        kept[-1].sendall(b"x\n")
+        if len(kept) > 200:
+            kept.pop(0).close()
+        time.sleep(KNOCK)
+
+
+def outsider(ports: tuple[int, int]) -> None:
+    """All of that at once, over and over."""
+    def without_end(act: Callable[[tuple[int, int]], None]) -> None:
+        while True:
+            try:
+                act(ports)
+            except OSError:
+                time.sleep(0.01)
+
+    for act in (knocks, stays, guesses, guesses, holds, holds):
+        threading.Thread(target=without_end, args=[act], daemon=True).start()
+    time.sleep(1e6)
+
+
+@dataclass
+class Waits:
+    """How many seconds honest clients waited for the desk, for a student's place, and for a reply."""
+
+    desk: list[float] = field(default_factory=list)
+    places: list[float] = field(default_factory=list)
+    replies: list[float] = field(default_factory=list)
+
+    def __str__(self) -> str:
+        return ", ".join(f"{len(found)} for {of}: {sorted(found)[len(found) // 2]:.3f} seconds, at most {max(found):.2f}"
+                         for of, found in vars(self).items())
+
+
+class Honest:
+    """One who has a key, and comes and goes."""
+
+    def __init__(self, port: int, line: bytes, waits: Waits) -> None:
+        self.port, self.line, self.waits = port, line, waits
+        found = waits.desk if line == TEACHER else waits.places
+        begun = time.monotonic()
+        while b'"ok":"hello"' not in (said := self.greets()):
+            if said not in (b"", BUSY):
+                fail(f"outsiders: an honest hello is told {said!r}")
+            if time.monotonic() - begun > LIMIT:
+                fail("outsiders: an honest client isn't let in")
+        found.append(time.monotonic() - begun)
+
+    def greets(self) -> bytes:
+        """What a hello over a new connection is told."""
+        self.caller = Caller(self.port)
+        said = self.caller.ask(self.line)
+        if b'"ok"' not in said:
+            self.caller.close()
+        return said
+
+    def ask(self, line: bytes) -> dict[str, object]:
+        """The reply to a line."""
+        begun = time.monotonic()
+        reply = self.caller.ask(line)
+        self.waits.replies.append(time.monotonic() - begun)
+        found: dict[str, object] = json.loads(reply or b"{}")
+        if not found or "refuse" in found:
+            fail(f"outsiders: an honest client is told {reply!r}")
+        return found
+
+
+@dataclass
+class Class:
+    """The bots of a class, what they do until it ends, and how long they wait now."""
+
+    host: Host
+    waits: Waits = field(default_factory=Waits)
+    is_over: threading.Event = field(default_factory=threading.Event)
+
+    def bot(self, node: int) -> None:
+        """A student's bot: it looks and asks for the move that is enabled, and comes again after some looks."""
+        draw = random.Random(node)
+        while not self.is_over.is_set():
+            it = Honest(self.host.port, b'{"do":"hello","key":"key-%d","name":"s-%d"}\n' % (node, node), self.waits)
+            for _ in range(draw.randrange(1, 8)):
+                seen = it.ask(b'{"do":"look","node":%d}\n' % node)
+                if seen["rule"] is not None and seen["chosen"] is None:
+                    it.ask(asked(seen, node))
+                self.is_over.wait(0.1)
+            if draw.random() < 0.5:
+                it.ask(BYE)
+            it.caller.close()
+
+    def teach(self, seconds: float) -> None:
+        """The teacher closes steps, and disturbs a node now and then for so long."""
+        draw, end = random.Random(0), time.monotonic() + seconds
+        while time.monotonic() < end:
+            it = Honest(self.host.desk, TEACHER, self.waits)
+            for _ in range(10):
+                it.ask(b'{"do":"close"}\n')
+                time.sleep(0.1)
+            it.ask(b'{"do":"fault","m":true,"node":%d,"p":null}\n' % draw.randrange(1, STUDENTS + 1))
+            it.caller.close()
+
+    def come_to_rest(self) -> Honest:
+        """The teacher closes steps until no node is privileged; answers the teacher's connection."""
+        it, end = Honest(self.host.desk, TEACHER, self.waits), time.monotonic() + LIMIT
+        while not it.ask(b'{"do":"report"}\n')["stable"]:
+            it.ask(b'{"do":"close"}\n')
+            time.sleep(0.05)
+            if time.monotonic() > end:
+                fail("outsiders: the class doesn't reach a stable end")
+        return it
+
+
+def bounded(waits: Waits, quiet: Waits) -> None:
+    """Wants that hardly an honest client waits for longer than it may, on a slow machine for longer than it would."""
+    for of, found in vars(waits).items():
+        most = WAIT + SLOWER * max(vars(quiet)[of])
+        late = sum(each > most for each in found)
+        if late * 10 > len(found):
+            fail(f"outsiders: {late} of {len(found)} waits for {of} take more than {most:.2f} seconds")
+
+
+def work(room: Path) -> str:
+    """A class alone for a moment, then beside the outsiders, to its end."""
+    seconds = float(sys.argv[1]) if sys.argv[1:] else SECONDS
+    lab, journal = lab_of_bots(room), room / "journal"
+    with Host(lab, 0, 0, journal) as host:
+        it = Class(host)
+        bots = [threading.Thread(target=it.bot, args=[node]) for node in range(1, STUDENTS + 1)]
+        for bot in bots:
+            bot.start()
+        it.teach(QUIET)
+        quiet, it.waits = it.waits, Waits()
+        outsiders = [multiprocessing.get_context("spawn").Process(target=outsider, args=[(host.port, host.desk)], daemon=True) for _ in range(2)]
+        for each in outsiders:
+            each.start()
+        it.teach(seconds)
+        teacher = it.come_to_rest()
+        it.is_over.set()
+        for bot in bots:
+            bot.join()
+        ended = host.dismissed(teacher.caller)
+        for each in outsiders:
+            each.kill()
+    events = len(journal.read_bytes().splitlines())
+    if ended.status != 0 or b", stable" not in audit(lab, journal, events) or b"hellos had no right key" not in ended.error:
+        fail(f"outsiders: the class of bots ends otherwise: {ended}")
+    bounded(it.waits, quiet)
+    return f"two outsiders for {seconds:.0f} seconds, {events} events to a stable end; alone waits {quiet}; beside them {it.waits}"
+
+
+if __name__ == "__main__":
+    if not HOST.is_file():
+        fail("no host's program is built")
+    in_room(work)

@@ -1,0 +1,235 @@
+"""Clients come and go at a class's host and at its page, by hand for an hour.
+
+    python3 -m tests.outsiders.churn [SECONDS]
+
+Each minute everybody leaves for a moment, and it is told which threads, descriptors and memory the host and
+`./class run` hold. At the end they hold what they held after the first minute.
+"""
+import json
+import random
+import re
+import socket
+import subprocess
+import sys
+import tempfile
+import threading
+import time
+from collections.abc import Callable
+from dataclasses import dataclass
+from pathlib import Path
+
+from classroom.folders import RECORD, Record
+from tests.common.hosting import BYE, HOST, NODES, Caller, hello, lab_of, let_in, look
+from tests.common.preload import LIMIT, PROGRAM, TOP, fail
+
+SECONDS = 3600.0
+ROUND = 60.0
+COMING = 12  # clients at a time
+PAUSE = 0.02
+MORE = 6144  # kilobytes that the events of an hour may add
+WRONG = b'{"do":"hello","key":"a-kez","name":"ana"}\n'
+FORM = b"POST / HTTP/1.1\r\nContent-Type: text/plain\r\n\r\n"
+
+
+@dataclass(frozen=True)
+class Held:
+    """What a process holds."""
+
+    threads: int
+    files: int
+    kilobytes: int
+
+    @classmethod
+    def of(cls, number: int) -> "Held":
+        """What the process with that number holds now."""
+        root = Path(f"/proc/{number}")
+        size = int((root / "status").read_text(encoding="ascii").split("VmRSS:", 1)[1].split()[0])
+        return cls(len(list((root / "task").iterdir())), len(list((root / "fd").iterdir())), size)
+
+    def is_as(self, first: "Held") -> bool:
+        """Whether that is what was held before, but for the memory of a few events."""
+        return (self.threads, self.files) == (first.threads, first.files) and self.kilobytes <= first.kilobytes * 1.1 + MORE
+
+    def __str__(self) -> str:
+        return f"{self.threads} threads, {self.files} files, {self.kilobytes} kB"
+
+
+def waited(find: Callable[[], object]) -> None:
+    """Waits until there is something."""
+    end = time.monotonic() + LIMIT
+    while not find():
+        if time.monotonic() > end:
+            fail("churn: the class doesn't begin")
+        time.sleep(0.05)
+
+
+class Class:
+    """A class that runs, with its page."""
+
+    def __init__(self, room: Path) -> None:
+        lab, runs = lab_of(room, 16, 100_000), room / "runs"
+        words: list[str | Path] = ["run", lab, "--into", runs, "--port", "20000", "--page", "25000", "--typed"]
+        self.process = subprocess.Popen(
+            [sys.executable, "-B", TOP / "class", *words], stdin=subprocess.PIPE, stdout=subprocess.PIPE, text=True,
+            env={"PATH": "/usr/bin:/bin", "MML_HOST": str(HOST), "MML_PROGRAM": str(PROGRAM)},
+        )
+        self.printed: list[str] = []
+        threading.Thread(target=lambda: self.printed.extend(self.process.stdout or ()), daemon=True).start()
+        waited(lambda: [*runs.glob(f"*/{RECORD}")] and self.address())
+        record = Record.read(next(runs.glob("*")))
+        assert record is not None
+        self.host, self.port, self.desk = record.server.number, record.port, record.desk
+
+    def address(self) -> tuple[str, ...]:
+        """The page's port and path, once they are printed."""
+        told = re.search(r"page http://127\.0\.0\.1:(\d+)(/[^/\s]+/)", "".join(self.printed))
+        return told.groups() if told else ()
+
+    def type(self, line: str) -> None:
+        """Types a line."""
+        assert self.process.stdin is not None
+        self.process.stdin.write(line + "\n")
+        self.process.stdin.flush()
+
+    def end(self) -> None:
+        """Ends the class, which has to end well."""
+        self.type("end")
+        if self.process.wait(LIMIT) not in (0, 5):
+            fail(f"churn: the class ends with {self.process.returncode}: {self.printed[-5:]}")
+
+
+class Comings:
+    """What clients do, each time another thing."""
+
+    def __init__(self, it: Class) -> None:
+        (port, self.path), self.port, self.desk = it.address(), it.port, it.desk
+        self.page, self.count = int(port), 0
+        self.kinds = [self.asks, self.resets, self.plays, self.is_no_one, self.knocks, self.looks_at_page, self.hears_news,
+                      self.is_slow_at_page, self.knocks_at_desk]
+
+    def asks(self, draw: random.Random) -> None:
+        """Who greets, looks and says bye, or only goes."""
+        name = draw.choice([*NODES])
+        caller, _ = let_in(self.port, hello(name))
+        for _ in range(draw.randrange(20)):
+            caller.ask(look(name))
+        if draw.random() < 0.5:
+            caller.ask(BYE)
+        caller.close()
+
+    def resets(self, draw: random.Random) -> None:
+        """Who is killed with requests on the way, or within a line."""
+        caller, _ = let_in(self.port, hello("cyd"))
+        caller.send(look("cyd") * draw.randrange(50) + look("cyd")[:draw.randrange(20)])
+        caller.reset()
+
+    def plays(self, draw: random.Random) -> None:
+        """Who asks for its node's move."""
+        name = draw.choice([*NODES])
+        caller, _ = let_in(self.port, hello(name))
+        seen = json.loads(caller.ask(look(name)) or b"{}")
+        if seen.get("rule") not in (None, "marriage"):
+            caller.ask(b'{"at":%d,"do":"move","node":%d,"rule":"%s"}\n' % (seen["at"], NODES[name], seen["rule"].encode()))
+        elif seen.get("rule"):
+            other = next(each["node"] for each in seen["near"] if each["p"] == NODES[name])
+            caller.ask(b'{"at":%d,"do":"move","node":%d,"rule":"marriage","with":%d}\n' % (seen["at"], NODES[name], other))
+        caller.close()
+
+    def is_no_one(self, draw: random.Random) -> None:
+        """Who has no key, is no client, or says too much."""
+        caller = Caller(self.port)
+        caller.send(draw.choice([WRONG * 3, FORM + hello("tess"), b"{}\n" * 5, b" " * 5000, b'{"do":']))
+        caller.line()
+        caller.close()
+
+    def knocks(self, draw: random.Random) -> None:
+        """Who says nothing."""
+        caller = Caller(self.port)
+        time.sleep(draw.choice([0, 0.5]))
+        caller.close()
+
+    def knocks_at_desk(self, draw: random.Random) -> None:
+        """Who isn't the teacher, while the teacher is there."""
+        caller = Caller(self.desk)
+        caller.send(draw.choice([b"", hello("ana"), WRONG]))
+        caller.line()
+        caller.close()
+
+    def asked(self, what: str) -> socket.socket:
+        """A connection to the page that has asked for something."""
+        it = socket.create_connection(("127.0.0.1", self.page), LIMIT)
+        it.sendall(f"GET {self.path}{what} HTTP/1.1\r\nHost: 127.0.0.1:{self.page}\r\nConnection: close\r\n\r\n".encode())
+        return it
+
+    def looks_at_page(self, draw: random.Random) -> None:
+        """Who opens the page, or what isn't there."""
+        with self.asked(draw.choice(["", "", "none"])) as it:
+            while it.recv(65536):
+                pass
+
+    def hears_news(self, draw: random.Random) -> None:
+        """Who is told the news for a moment, and reads them or not."""
+        with self.asked("events") as it:
+            if draw.random() < 0.7:
+                it.recv(65536)
+            time.sleep(draw.random())
+
+    def is_slow_at_page(self, draw: random.Random) -> None:
+        """Who begins to ask the page, and goes or says no more."""
+        with socket.create_connection(("127.0.0.1", self.page), LIMIT) as it:
+            it.sendall(b"GET /"[:draw.randrange(6)])
+            if draw.random() < 0.2:
+                it.recv(1)
+
+    def until(self, end: float, seed: int) -> None:
+        """One client after the other, until that time."""
+        draw = random.Random(seed)
+        while time.monotonic() < end:
+            try:
+                draw.choice(self.kinds)(draw)
+            except OSError:
+                pass
+            self.count += 1
+            time.sleep(PAUSE)
+
+
+def comes_to_rest(of: Callable[[], Held], first: Held | None) -> Held:
+    """What a process holds once nobody is there: what it held first, as soon as it does."""
+    end = time.monotonic() + 30
+    while True:
+        time.sleep(1)
+        held, again = of(), of()
+        if first is None and time.monotonic() > end - 15 and held.threads == again.threads:
+            return held
+        if first is not None and (held.is_as(first) or time.monotonic() > end):
+            return held
+
+
+def churn(room: Path, seconds: float) -> None:
+    """Comes and goes for so long, and tells what was held after each minute."""
+    it = Class(room)
+    comings = Comings(it)
+    first: tuple[Held, Held] | None = None
+    end, seed = time.monotonic() + seconds, 0
+    while time.monotonic() < end:
+        it.type("shake 1" if seed % 3 else "report")
+        until = min(end, time.monotonic() + ROUND)
+        clients = [threading.Thread(target=comings.until, args=[until, seed * COMING + at]) for at in range(COMING)]
+        for client in clients:
+            client.start()
+        for client in clients:
+            client.join()
+        host = comes_to_rest(lambda: Held.of(it.host), first[0] if first else None)
+        page = comes_to_rest(lambda: Held.of(it.process.pid), first[1] if first else None)
+        first = first or (host, page)
+        seed += 1
+        print(f"{seed}: {comings.count} clients; host {host}; class {page}", flush=True)
+    it.end()
+    if first is None or not host.is_as(first[0]) or not page.is_as(first[1]):
+        fail(f"churn: at the end they hold {host}, and {page}; first {first}")
+    print(f"churn: {comings.count} clients in {seconds:.0f} seconds; host {host}; class {page}")
+
+
+if __name__ == "__main__":
+    with tempfile.TemporaryDirectory() as name:
+        churn(Path(name), float(sys.argv[1]) if sys.argv[1:] else SECONDS)

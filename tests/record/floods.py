@@ -1,0 +1,145 @@
+"""Floods that a host records as far as a budget goes: who floods, known or not, doesn't take the record from others."""
+import subprocess
+from dataclasses import dataclass
+from pathlib import Path
+
+from tests.common.hosting import BID, BYE, HOST, Caller, Host, hello, lab_of, let_in, look
+from tests.common.preload import LIMIT, Ended, fail
+
+SEATS = 4
+BUDGET = 8 << 20
+LONG = b'{"do":"dance"%s}\n' % (b" " * 4000)
+ENTRY = 2 * len(b"4 0 > ") + len(LONG) + len(b'{"refuse":"malformed"}\n')
+VISIT = 200  # at least as many bytes has the record of a visit
+LINES = BUDGET // ENTRY + 50  # more than a budget takes
+BATCH = 25
+MOVE = b'{"at":0,"do":"move","node":1,"rule":"seduction"}\n'
+
+
+@dataclass
+class Session:
+    """What a record has of a session, in one of the seats: its lines and replies, and its marks."""
+
+    said: list[bytes]
+    marks: list[bytes]
+
+    def is_of(self, name: str) -> bool:
+        """Whether it begins with somebody's hello."""
+        return bool(self.said) and b'"ok":"hello","who":"%s"' % name.encode() in self.said[1]
+
+    def size(self) -> int:
+        """How many bytes its lines and replies have."""
+        return sum(map(len, self.said))
+
+
+def sessions_in(record: Path) -> list[Session]:
+    """The sessions of all seats' files, each of which has an end."""
+    found = []
+    for seat in range(1, SEATS + 1):
+        said: list[bytes] = []
+        marks: list[bytes] = []
+        for line in (record / f"{seat}.record").read_bytes().splitlines(keepends=True):
+            mark = line.split(b" ")[2]
+            (marks if mark in (b"!\n", b".\n") else said).append(line if mark in (b">", b"<") else mark)
+            if mark == b".\n":
+                found.append(Session(said, marks))
+                said, marks = [], []
+        if said or marks:
+            fail(f"record: seat {seat} has no end after a flood, but {marks}")
+    return found
+
+
+def flood(caller: Caller, count: int) -> int:
+    """Says so many long lines that are no requests; how many were answered before the connection ended."""
+    done = 0
+    while done < count:
+        caller.send(LONG * BATCH)
+        for _ in range(BATCH):
+            if not caller.line():
+                return done
+            done += 1
+    return done
+
+
+def leave(caller: Caller) -> None:
+    """Says bye, and waits until the seat is free."""
+    if (caller.ask(BYE), caller.line()) != (BID, b""):
+        fail("record: another reply to a bye after a flood")
+
+
+def whole_visit(host: Host, name: str) -> None:
+    """Somebody comes, asks in vain, and says bye."""
+    caller, reply = let_in(host.port, hello(name))
+    said = caller.ask(b'{"do":"close"}\n')
+    if b'"ok":"hello"' not in reply or b'"deny"' not in said:
+        fail(f"record: after a flood {name} is told {reply!r} and {said!r}")
+    leave(caller)
+
+
+def unknown_flood(host: Host) -> None:
+    """Who doesn't greet floods, by as many connections as it takes."""
+    done = 0
+    while done < LINES:
+        caller, reply = let_in(host.port, LONG)
+        done += flood(caller, LINES - done) if reply else 0
+        caller.close()
+
+
+def wants_budget(who: str, sessions: list[Session]) -> None:
+    """Wants of somebody's sessions that they are recorded up to the budget, and not beyond."""
+    size = sum(session.size() for session in sessions)
+    if not BUDGET - 2 * ENTRY < size <= BUDGET:
+        fail(f"record: {size} bytes are recorded of {who}, who may have {BUDGET}")
+
+
+def wants_whole(name: str, found: list[Session], count: int) -> None:
+    """Wants that each visit of somebody who doesn't flood is recorded whole."""
+    visits = [session for session in found if session.is_of(name)]
+    if len(visits) != count or any((len(v.said), v.marks) != (6, [b".\n"]) for v in visits):
+        fail(f"record: beside a flood {name}'s visits are recorded as {[(len(v.said), v.marks) for v in visits]}")
+
+
+def verified(lab: Path, journal: Path, record: Path, found: list[Session]) -> None:
+    """Wants that the record is verified as one that isn't whole."""
+    lines = sum(len(session.said) // 2 for session in found)
+    call: list[str | Path] = [HOST, "verify", lab, journal, record]
+    done = subprocess.run(
+        call, stdin=subprocess.DEVNULL, capture_output=True, env=dict[str, str](), timeout=LIMIT, check=False,
+    )
+    wanted = b"ok: %d sessions, %d lines, 1 events, not whole\n" % (len(found), lines)
+    if (done.returncode, done.stdout, done.stderr) != (0, wanted, b""):
+        fail(f"record: after a flood the record is verified as {done}, not {wanted!r}")
+
+
+def flooded(room: Path) -> None:
+    """A student floods, then one who isn't known: each has a budget, in all seats together, and the record has a
+    mark where that is used up; all that others say is recorded, in the same seats too."""
+    lab, journal, record = lab_of(room, SEATS), room / "flood.journal", room / "flood"
+    with Host(lab, 0, 0, journal, record) as host:
+        tess, _ = let_in(host.desk, hello("tess"))
+        ana, _ = let_in(host.port, hello("ana"))
+        if flood(ana, LINES) < LINES or b'"place":1' not in ana.ask(MOVE) or b'"ok":"look"' not in ana.ask(look("ana")):
+            fail("record: who floods isn't served on")
+        whole_visit(host, "ben")
+        # What the flood left of her budget is less than an entry of it.
+        for _ in range(ENTRY // VISIT + 2):
+            whole_visit(host, "ana")
+        leave(ana)
+        whole_visit(host, "ben")
+        unknown_flood(host)
+        whole_visit(host, "cyd")
+        ended = host.dismissed(tess)
+    if ended != Ended(0, b"done: 1 events, configuration 0\n", b""):
+        fail(f"record: a class that was flooded ends with {ended}")
+    found = sessions_in(record)
+    floods = [session for session in found if session.is_of("ana")]
+    unknown = [session for session in found if session.said and b'"ok":"hello"' not in session.said[1]]
+    cut = [session for session in found if session.marks == [b"!\n", b".\n"]]
+    large = [session for session in cut if session.is_of("ana") and session.size() > BUDGET // 2]
+    if len(large) != 1 or all(session.said for session in cut):
+        fail(f"record: beside a flood these are cut: {[(len(session.said), session.marks) for session in cut]}")
+    wants_budget("ana", floods)
+    wants_budget("who isn't known", unknown)
+    wants_whole("ben", found, 2)
+    wants_whole("cyd", found, 1)
+    verified(lab, journal, record, found)
