@@ -3,7 +3,7 @@
     python3 -B -m tests.random [SEED]
 
 Replies and journal, what the audit says of that journal, and of it with a byte changed, are those of the
-model; so are a thousand events over large meshes, told after each; and runs under three daemons end in a
+model; so are a thousand events over large meshes, told after each; and runs under four daemons end in a
 maximal matching, within the bounds on moves and rounds. With a number, only that seed's run is played, and
 its files are left in the working folder.
 """

@@ -34,7 +34,12 @@ def drawn(rng: Random, nodes: list[int]) -> list[int]:
     return some or single(rng, nodes)
 
 
-DAEMONS: list[Daemon] = [single, full, drawn]
+def unfair(rng: Random, nodes: list[int]) -> list[int]:
+    """The highest privileged node moves: who is lower waits for as long as there is one."""
+    return [max(nodes)]
+
+
+DAEMONS: list[Daemon] = [single, full, drawn, unfair]
 
 
 def lab_of(links: list[Link], found: Registers) -> str:
@@ -81,8 +86,8 @@ class Course:
             return "it doesn't end in a maximal matching where no node is privileged"
         if 2 * len(last["pairs"]) + len(last["free"]) != self.nodes:
             return "its end tells another number of nodes"
-        if self.moves(replies) > 3 * self.nodes + 2 * self.links:
-            return "it takes more moves than three for each node and two for each link"
+        if self.moves(replies) > 3 * self.nodes + 2 * min(self.links, self.nodes * self.nodes // 4):
+            return "it takes more moves than three for each node and two for each link, of which a quarter of n² counts at the most"
         if self.rounds > 2 * self.nodes - self.nodes % 2:
             return "it takes more rounds than two for each node, one less where their number is odd"
         return ""
