@@ -151,7 +151,7 @@ class Hand(Asked):
                 before, due = row, now + STILL_HERE
             if select.select([self.connection], [], [], PAUSE)[0]:
                 return  # Nothing is to come, so the page has gone.
-        self.put({"ended": LEFT})
+        self.put({"ended": last_word(seat)})
 
     def move(self, asked: dict[str, Any]) -> None:
         """Asks for a move by the page's seat, and tells what is replied."""
@@ -166,6 +166,15 @@ class Hand(Asked):
             self.say(200, **seat.move(request))
         except Closed as closed:
             self.say(503, told=str(closed))
+
+
+def last_word(seat: Seat) -> str:
+    """Why a seat ends where the run lets go of it: what the server said, if that has ended the connection."""
+    try:
+        seat.present()
+    except (Closed, Denied) as error:
+        return str(error)
+    return LEFT
 
 
 def open_hands(port: int, title: str, lab: Lab) -> Hands:
