@@ -1,3 +1,2 @@
 mod WordsLemmas
 pub mod TellingLemmas
-pub mod TallyLemmas

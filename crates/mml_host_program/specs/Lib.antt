@@ -1,4 +1,3 @@
 pub mod Faults
 pub mod Telling
-pub mod Verifying
 pub mod Words

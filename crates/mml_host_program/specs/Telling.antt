@@ -6,10 +6,9 @@ use mathlib.Core.List.{IsPrefix}
 use Rattle.mml_lab.specs.Labs.{LabValue}
 use Rattle.mml_board.specs.declared.event.Event.{Event}
 use Rattle.mml_window.specs.Lists.{is_legal_in, world_in}
-use Rattle.mml_audit.specs.AuditMeaning.{IsJournalOf, world_after}
+use Rattle.mml_audit.specs.AuditMeaning.{IsJournalOf}
 use Rattle.mml_serving.specs.Closings.{Closes, done_line}
 use Rattle.mml_resuming.specs.Resuming.{whole_of, resumed_line}
-use Rattle.mml_tally.specs.Texts.{tally_text}
 
 abbrev pub ports_line : ℕ → ℕ → List ℕ
 ports_line port desk = concat (codes "listening on port " ∷ decimal port ∷ codes ", desk on port " ∷ decimal desk ∷ codes "\n" ∷ [])
@@ -31,15 +30,3 @@ pub record TellsResumed (lab : LabValue) (old : List ℕ) (port desk : ℕ) (wro
   pub legal : is_legal_in lab events ≡ true
   pub first : Appends wrote between (ports_line port desk ++ resumed_line (world_in lab begun))
   pub last : Appends between wrote' (done_line (length events) (world_in lab events).number)
-
--- the bytes are the journal of a legal list of the lab's, and the text is what is told of that list
-pub record IsTally (lab : LabValue) (bytes text : List ℕ) : Type 0 where
-  pub events : List Event
-  pub journal : IsJournalOf lab events bytes
-  pub told : text ≡ tally_text lab (world_after lab events) events
-
--- what was written is the tally of the bytes
-pub record TellsTally (lab : LabValue) (bytes : List ℕ) (wrote wrote' : Option (List ℕ)) : Type 0 where
-  pub text : List ℕ
-  pub tally : IsTally lab bytes text
-  pub told : Appends wrote wrote' text

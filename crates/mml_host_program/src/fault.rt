@@ -1,7 +1,6 @@
 //! What ends the host early: one line on standard error and a status.
 ghost use Rattle.std.specs.Prelude.{◌≡◌, true, false};
 
-use crate::record_refusal::RecordRefusal;
 use mml_files::JournalFileFault;
 use mml_hosting::HostFault;
 use mml_ids::Memory;
@@ -37,12 +36,6 @@ pub enum Fault {
     /// The copy of a lab beside the journal isn't of this lab.
     #[error("resume: another lab")]
     AnotherLab,
-    /// The record is none of the lab and the journal.
-    #[error("verify: {0}")]
-    Record(RecordRefusal),
-    /// A file of the record can't be opened or read, or is too large.
-    #[error("read fault: record")]
-    ReadRecord,
     /// The record's folder can't be made, kept or gone on with, or didn't take all of an entry.
     #[error("record fault")]
     Unrecorded,
@@ -54,9 +47,7 @@ impl Fault {
         match self {
             Fault::Common(fault) => fault.status(),
             Fault::AnotherLab => 2,
-            Fault::Record(_) => 3,
-            Fault::Listen | Fault::Accept | Fault::Astray | Fault::ReadRecord | Fault::Unrecorded =>
-                4,
+            Fault::Listen | Fault::Accept | Fault::Astray | Fault::Unrecorded => 4,
             Fault::Place | Fault::FewFiles | Fault::FewThreads => 5,
         }
     }

@@ -14,12 +14,6 @@ pub enum Task<'a> {
     Host(HostTask<'a>),
     /// To serve a class that goes on from its journal.
     Resume(ResumeTask<'a>),
-    /// To answer the script on standard input over the lab of a file.
-    Answer { lab: &'a str },
-    /// To verify the record of a class.
-    Verify(VerifyTask<'a>),
-    /// To tell what a journal tells of its run.
-    Tally(TallyTask<'a>),
 }
 
 /// A lab's class at two ports, each 0 where the system is to choose. The lines of the granted events go
@@ -43,19 +37,12 @@ pub struct ResumeTask<'a> {
     pub record: Option<&'a str>,
 }
 
-/// The folder of a class's record, beside its lab and its journal.
-#[derive(Clone, Copy, Debug, PartialEq, Eq, Drop)]
-pub struct VerifyTask<'a> {
-    pub lab: &'a str,
-    pub journal: &'a str,
-    pub record: &'a str,
-}
-
-/// A lab and a journal of one of its runs.
-#[derive(Clone, Copy, Debug, PartialEq, Eq, Drop)]
-pub struct TallyTask<'a> {
-    pub lab: &'a str,
-    pub journal: &'a str,
+/// Whether the words, of which the first is the program's name, are to serve a class.
+pub fn is_of_class(words: &[String]) -> bool {
+    match words.get(1) {
+        Some(word) => word.as_str() == "host" || word.as_str() == "resume",
+        None => false,
+    }
 }
 
 /// Reads the words, of which the first is the program's name.
@@ -77,10 +64,7 @@ fn whole<'a>(alloc: Global) -> Result<Command<'a>, AllocError> {
         .subcommand(with_record(
             alloc,
             command_of(alloc, "resume", &["lab", "port", "desk", "journal"])?,
-        )?)?
-        .subcommand(command_of(alloc, "answer", &["lab"])?)?
-        .subcommand(command_of(alloc, "verify", &["lab", "journal", "record"])?)?
-        .subcommand(command_of(alloc, "tally", &["lab", "journal"])?)
+        )?)
 }
 
 // One value more, which may be left out.
@@ -89,25 +73,6 @@ fn with_record<'a>(alloc: Global, command: Command<'a>) -> Result<Command<'a>, A
 }
 
 fn task_of<'a>(name: &str, values: &ArgMatches<'a>) -> Option<Task<'a>> {
-    match name {
-        "verify" => Some(Task::Verify(VerifyTask {
-            lab: values.get_str("lab")?,
-            journal: values.get_str("journal")?,
-            record: values.get_str("record")?,
-        })),
-        "tally" => Some(Task::Tally(TallyTask {
-            lab: values.get_str("lab")?,
-            journal: values.get_str("journal")?,
-        })),
-        "answer" => Some(Task::Answer {
-            lab: values.get_str("lab")?,
-        }),
-        _ => class_of(name, values),
-    }
-}
-
-// A class, at its two ports.
-fn class_of<'a>(name: &str, values: &ArgMatches<'a>) -> Option<Task<'a>> {
     let lab = values.get_str("lab")?;
     let port = read_port(values.get_str("port")?)?;
     let desk = read_port(values.get_str("desk")?)?;

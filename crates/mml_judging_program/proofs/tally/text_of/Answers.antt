@@ -1,5 +1,5 @@
-use Rattle.mml_host_program.proofs.TallyLemmas.{tally_of}
-use Rattle.mml_host_program.proofs.tally.text_of.Goals as goal
+use Rattle.mml_judging_program.proofs.TallyLemmas.{tally_of}
+use Rattle.mml_judging_program.proofs.tally.text_of.Goals as goal
 
 pub returns-in-Ok : goal.returns-in-Ok
 returns-in-Ok c =

@@ -1,7 +1,7 @@
 //! What a journal tells of its run, as a program reads it.
 ghost use Rattle.std.specs.Prelude.{IfOk, OnOk};
 ghost use Rattle.std.specs.Io.KnownBytes.{Appends};
-ghost use Rattle.mml_host_program.specs.Telling.{IsTally, TellsTally};
+ghost use Rattle.mml_judging_program.specs.Tallies.{IsTally, TellsTally};
 
 use crate::words::TallyTask;
 use mml_audit::audit_events;

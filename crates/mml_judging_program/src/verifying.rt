@@ -3,7 +3,7 @@ ghost use Rattle.std.specs.Prelude.{◌≡◌, ◌≤◌, ◌∷◌, [], true, c
 ghost use Rattle.std.specs.List.{concat};
 ghost use Rattle.std.specs.Io.KnownBytes.{Appends};
 ghost use Rattle.mml_window.specs.Lists.{is_legal_in};
-ghost use Rattle.mml_host_program.specs.Verifying.{verified_line};
+ghost use Rattle.mml_judging_program.specs.Verifying.{verified_line};
 
 use crate::fault::Fault;
 use crate::granting::find_misgranted;

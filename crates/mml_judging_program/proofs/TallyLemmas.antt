@@ -7,7 +7,7 @@ use Rattle.mml_board.specs.declared.event.Event.{Event}
 use Rattle.mml_board.specs.World.{World}
 use Rattle.mml_audit.specs.AuditMeaning.{IsJournalOf, world_after}
 use Rattle.mml_tally.specs.Texts.{tally_text}
-use Rattle.mml_host_program.specs.Telling.{IsTally, TellsTally}
+use Rattle.mml_judging_program.specs.Tallies.{IsTally, TellsTally}
 
 -- the text of the events that an audit gave, and of the world to which they led
 pub tally_of : (lab : LabValue) (es slice : List Event) (bytes first text : List ℕ) (w : World) → IsJournalOf lab es bytes

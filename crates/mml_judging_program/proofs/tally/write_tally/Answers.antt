@@ -1,5 +1,5 @@
-use Rattle.mml_host_program.proofs.TallyLemmas.{tally_told}
-use Rattle.mml_host_program.proofs.tally.write_tally.Goals as goal
+use Rattle.mml_judging_program.proofs.TallyLemmas.{tally_told}
+use Rattle.mml_judging_program.proofs.tally.write_tally.Goals as goal
 
 pub returns : goal.returns
 returns g c =

@@ -1,0 +1,21 @@
+//! The words of the host's program that serve nobody: a class's record and its journal are judged, and a script
+//! is answered as its lines come.
+#![tactic(auto)]
+
+mod answering;
+mod fault;
+mod granting;
+mod record_refusal;
+mod tally;
+mod task;
+mod verifying;
+mod words;
+
+pub use answering::answer;
+pub use fault::Fault;
+pub use granting::{Misgranted, find_misgranted};
+pub use record_refusal::RecordRefusal;
+pub use tally::write_tally;
+pub use task::run;
+pub use verifying::{MAX_RECORD, write_verified};
+pub use words::{TallyTask, Task, VerifyTask, read_words};

@@ -1,0 +1,20 @@
+//! From the words to the work.
+use crate::answering::answer;
+use crate::fault::Fault;
+use crate::tally::tally;
+use crate::verifying::verify;
+use crate::words::{Task, read_words};
+use std::fs::File;
+use std::rt::Files;
+
+/// Does what the words of the command line ask for, of which the first is the program's name.
+pub fn run<R: Files<File = File> + Input + Print + AllocGlobal>(
+    rt: &R,
+    words: &[String],
+) -> Result<(), Fault> {
+    match read_words(rt.alloc(), words)? {
+        Task::Answer { lab } => answer(rt, lab),
+        Task::Verify(task) => verify(rt, task),
+        Task::Tally(task) => Ok(tally(rt, task)?),
+    }
+}

@@ -1,0 +1,63 @@
+//! The words of the command line.
+use clap::{ArgMatches, Command};
+use mml_program::{Fault as ProgramFault, command_of, match_words};
+use std::alloc::{AllocError, Global};
+
+/// What the words ask for.
+#[derive(Clone, Copy, Debug, PartialEq, Eq, Drop)]
+pub enum Task<'a> {
+    /// To answer the script on standard input over the lab of a file.
+    Answer { lab: &'a str },
+    /// To verify the record of a class.
+    Verify(VerifyTask<'a>),
+    /// To tell what a journal tells of its run.
+    Tally(TallyTask<'a>),
+}
+
+/// The folder of a class's record, beside its lab and its journal.
+#[derive(Clone, Copy, Debug, PartialEq, Eq, Drop)]
+pub struct VerifyTask<'a> {
+    pub lab: &'a str,
+    pub journal: &'a str,
+    pub record: &'a str,
+}
+
+/// A lab and a journal of one of its runs.
+#[derive(Clone, Copy, Debug, PartialEq, Eq, Drop)]
+pub struct TallyTask<'a> {
+    pub lab: &'a str,
+    pub journal: &'a str,
+}
+
+/// Reads the words, of which the first is the program's name.
+pub fn read_words<'a>(alloc: Global, words: &'a [String]) -> Result<Task<'a>, ProgramFault> {
+    let matches = match_words(whole(alloc)?, words)?;
+    match matches.subcommand() {
+        None => Err(ProgramFault::CommandLine),
+        Some((name, values)) => task_of(name, values).ok_or(ProgramFault::CommandLine),
+    }
+}
+
+fn whole<'a>(alloc: Global) -> Result<Command<'a>, AllocError> {
+    command_of(alloc, "mml_host", &[])?
+        .subcommand(command_of(alloc, "answer", &["lab"])?)?
+        .subcommand(command_of(alloc, "verify", &["lab", "journal", "record"])?)?
+        .subcommand(command_of(alloc, "tally", &["lab", "journal"])?)
+}
+
+fn task_of<'a>(name: &str, values: &ArgMatches<'a>) -> Option<Task<'a>> {
+    let lab = values.get_str("lab")?;
+    match name {
+        "answer" => Some(Task::Answer { lab }),
+        "verify" => Some(Task::Verify(VerifyTask {
+            lab,
+            journal: values.get_str("journal")?,
+            record: values.get_str("record")?,
+        })),
+        "tally" => Some(Task::Tally(TallyTask {
+            lab,
+            journal: values.get_str("journal")?,
+        })),
+        _ => None,
+    }
+}
