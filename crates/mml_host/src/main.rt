@@ -1,13 +1,16 @@
 //! The host: it serves a class at two ports until the teacher says bye at the desk, and judges what a class left.
 #![tactic(auto)]
 
+use mml_ends::hold_streams;
 use mml_host_program::is_of_class;
-use mml_program::words_of;
+use mml_program::{Fault, memory_or, words_of};
 use std::fmt::Display;
+use std::fs::File;
 use std::process::ExitCode;
+use std::rt::{Env, Files};
 
 fn main(rt: HostRuntime) -> ExitCode {
-    let words = match words_of(&rt) {
+    let words = match begin(&rt) {
         Ok(words) => words,
         Err(fault) => return failed(&rt, &fault, fault.status()),
     };
@@ -22,6 +25,12 @@ fn main(rt: HostRuntime) -> ExitCode {
             Err(fault) => failed(&rt, &fault, fault.status()),
         }
     }
+}
+
+// The words. Before all else each standard stream that is closed is held, so that no file takes its place.
+fn begin<R: Env + Files<File = File> + AllocGlobal>(rt: &R) -> Result<Vec<String>, Fault> {
+    hold_streams(rt).map_err(|error| memory_or(&error, Fault::Write))?;
+    words_of(rt)
 }
 
 // Tells an error's line, and ends with its status.

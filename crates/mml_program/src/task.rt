@@ -23,7 +23,8 @@ use std::sync::Wait;
 use std::thread::Threads;
 use std::{env, io};
 
-/// Does what the words of the command line ask for. The lab is read first, then the journal's file is
+/// Does what the words of the command line ask for. Before all else each standard stream that is closed
+/// is held, so that no file takes its place. The lab is read first, then the journal's file is
 /// opened, the script is read or the port taken, and only then the journal is begun: what stood in its
 /// file is kept under another name, and where an earlier step fails the file is as it was.
 pub fn run<
@@ -37,6 +38,7 @@ pub fn run<
         + Print
         + AllocGlobal,
 >(rt: &R) -> Result<(), Fault> {
+    hold_streams(rt).map_err(|error| memory_or(&error, Fault::Write))?;
     let words = words_of(rt)?;
     do_task(rt, read_words(rt.alloc(), words.as_slice())?)
 }
@@ -238,10 +240,8 @@ fn listen<R: Net<Listener = TcpListener, Stream = TcpStream>>(
     }
 }
 
-/// The words, the program's name first; one that isn't UTF-8 is not understood. Before all else each standard
-/// stream that is closed is held, so that no file takes its place.
-pub fn words_of<R: Env + Files<File = File> + AllocGlobal>(rt: &R) -> Result<Vec<String>, Fault> {
-    hold_streams(rt).map_err(|error| memory_or(&error, Fault::Write))?;
+/// The words, the program's name first; one that isn't UTF-8 is not understood.
+pub fn words_of<R: Env + AllocGlobal>(rt: &R) -> Result<Vec<String>, Fault> {
     let words = env::args(rt).map_err(|error| memory_or(&error, Fault::CommandLine))?;
     Ok(words.collect(rt.alloc())?)
 }
