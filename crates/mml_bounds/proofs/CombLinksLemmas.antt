@@ -6,8 +6,8 @@ use Rattle.mml_rules.specs.Configuration.{holds}
 use Rattle.mml_rules.proofs.ConfigurationLemmas.{holds-true, holds-from}
 use Rattle.mml_lab.specs.Labs.{links_below, link_count}
 use Rattle.mml_board.specs.World.{configuration}
-use Rattle.mml_stable.specs.Potential.{sum_below}
-use Rattle.mml_stable.proofs.SumsLemmas.{count_none, count_one_at_most, count_same, count_some, sum_turned}
+use Rattle.mml_convergence.specs.Potential.{sum_below}
+use Rattle.mml_convergence.proofs.SumsLemmas.{count_none, count_one_at_most, count_same, count_some, sum_turned}
 use Rattle.mml_bounds.specs.Comb.{first_pointer, comb_world}
 use Rattle.mml_bounds.proofs.PhaseLemmas.{some_same}
 use Rattle.mml_bounds.proofs.CombLemmas.{at_first, comb_size, first_linked, linked-from, rising, pointed, pointer-means, unanswered}

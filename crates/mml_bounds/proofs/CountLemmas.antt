@@ -2,7 +2,7 @@
 use Rattle.std.proofs.Common.{◌≡◌, ℕ, zero, suc, ◌+◌, ◌<◌, ◌≤◌, Bool, true, false, cond, ◌||◌, ◌==◌, inl, inr, refl, ap, arith}
 use Rattle.std.proofs.lemmas.Bool.{cases_lt, false_from_ne_true, eqb-true, eq-eqb}
 use Rattle.mml_ids.specs.Search.{count_below}
-use Rattle.mml_stable.proofs.SumsLemmas.{count_none}
+use Rattle.mml_convergence.proofs.SumsLemmas.{count_none}
 
 module _ (a z : ℕ) (t : ℕ → Bool) (le : a ≤ z) (on : (i : ℕ) → a ≤ i → i < z → t i ≡ true) (only : (i : ℕ) → t i ≡ true → (a ≤ i) × (i < z)) where
   none_yet : (n : ℕ) → n ≤ a → count_below n t ≡ 0

@@ -8,9 +8,9 @@ use Rattle.mml_rules.specs.Rules.{is_married, moved, step, AllHold}
 use Rattle.mml_rules.proofs.ConfigurationLemmas.{holds-true}
 use Rattle.mml_rules.proofs.RulesLemmas.{married-null, married-at, married-from}
 use Rattle.mml_rules.proofs.StepLemmas.{step-lawful}
-use Rattle.mml_stable.proofs.StepLemmas.{step-married, moved-m}
-use Rattle.mml_stable.proofs.MovesLemmas.{updates, marries, seduces, seduced, abandons, abandoned, drops}
-use Rattle.mml_stable.proofs.MarriedCountLemmas.{Calm}
+use Rattle.mml_convergence.proofs.StepLemmas.{step-married, moved-m}
+use Rattle.mml_convergence.proofs.MovesLemmas.{updates, marries, seduces, seduced, abandons, abandoned, drops}
+use Rattle.mml_convergence.proofs.MarriedCountLemmas.{Calm}
 use Rattle.mml_bounds.specs.Courtships.{is_courting, pointer_part, node_part}
 
 -- ---- the parts

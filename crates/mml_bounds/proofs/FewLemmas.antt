@@ -10,9 +10,9 @@ use Rattle.mml_board.specs.World.{World, size, configuration, chosen_at, IsWorld
 use Rattle.mml_board.specs.Events.{is_asked_by_owner, is_possible, is_legal, after, chosen_count}
 use Rattle.mml_board.specs.Runs.{is_legal_list}
 use Rattle.mml_board.proofs.WorldLemmas.{closed-step, after-world}
-use Rattle.mml_stable.specs.Runs.{is_of_step}
-use Rattle.mml_stable.specs.Moves.{applied_by, applied_over}
-use Rattle.mml_stable.proofs.AppliedLemmas.{moves_bounded}
+use Rattle.mml_convergence.specs.Runs.{is_of_step}
+use Rattle.mml_convergence.specs.Moves.{applied_by, applied_over}
+use Rattle.mml_convergence.proofs.AppliedLemmas.{moves_bounded}
 use Rattle.mml_bounds.specs.Courtships.{most_courtships, courting_potential}
 use Rattle.mml_bounds.proofs.WholeLemmas.{courting_fell, courting_most}
 

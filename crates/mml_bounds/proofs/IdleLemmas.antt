@@ -9,7 +9,7 @@ use Rattle.mml_rules.specs.Meaning.{IsMRight, IsCandidate}
 use Rattle.mml_rules.proofs.ConfigurationLemmas.{holds-from}
 use Rattle.mml_rules.proofs.RulesLemmas.{married-null, married-at, married-from}
 use Rattle.mml_rules.proofs.MeaningLemmas.{beq-same, right-means, guard-means, greatest-means, privileged-means}
-use Rattle.mml_stable.proofs.MovesLemmas.{updates, marries, seduces, seduced, abandons, abandoned}
+use Rattle.mml_convergence.proofs.MovesLemmas.{updates, marries, seduces, seduced, abandons, abandoned}
 
 module _ (c : Configuration) (l : IsLawful c) where
   -- no rule's guard holds

@@ -11,8 +11,8 @@ use Rattle.mml_board.specs.declared.event.Event.{Event}
 use Rattle.mml_board.specs.World.{World, size, configuration, IsWorld}
 use Rattle.mml_board.specs.Runs.{is_legal_list}
 use Rattle.mml_board.proofs.WorldLemmas.{none_at}
-use Rattle.mml_stable.specs.Moves.{applied_over}
-use Rattle.mml_stable.specs.Rest.{is_grant_or_close}
+use Rattle.mml_convergence.specs.Moves.{applied_over}
+use Rattle.mml_convergence.specs.Rest.{is_grant_or_close}
 use Rattle.mml_bounds.specs.Courtships.{most_courtships}
 use Rattle.mml_bounds.specs.Crowd.{crowd_world}
 use Rattle.mml_bounds.proofs.UniformLemmas.{IsQuiet}

@@ -2,7 +2,7 @@
 use Rattle.std.proofs.Common.{◌≡◌, ℕ, zero, suc, ◌+◌, ◌*◌, ◌≤◌, ◌-◌, Bool, true, false, cond, not, refl, ap, subst, arith}
 use Rattle.std.proofs.lemmas.Bool.{false≢true}
 use Rattle.mml_ids.specs.Search.{count_below}
-use Rattle.mml_stable.specs.Potential.{sum_below}
+use Rattle.mml_convergence.specs.Potential.{sum_below}
 use Rattle.mml_bounds.specs.Courtships.{most_courtships}
 
 -- each falls by what is charged to it, less what it is lent

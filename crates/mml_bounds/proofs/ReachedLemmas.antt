@@ -23,9 +23,9 @@ use Rattle.mml_board.specs.World.{World, size, configuration, IsWorld}
 use Rattle.mml_board.specs.Events.{after}
 use Rattle.mml_board.specs.Runs.{is_legal_list, world_of}
 use Rattle.mml_board.proofs.WorldLemmas.{none_at, length-none, hold-none, size-after}
-use Rattle.mml_stable.specs.Moves.{is_close, count_closes}
-use Rattle.mml_stable.specs.Rest.{is_grant_or_close}
-use Rattle.mml_stable.specs.Rounds.{IsRound, Rounds, rounds_for, IsFull, ClosesFull}
+use Rattle.mml_convergence.specs.Moves.{is_close, count_closes}
+use Rattle.mml_convergence.specs.Rest.{is_grant_or_close}
+use Rattle.mml_convergence.specs.Rounds.{IsRound, Rounds, rounds_for, IsFull, ClosesFull}
 use Rattle.mml_bounds.specs.Halves.{joins_halves, is_joined, halves_world}
 use Rattle.mml_bounds.proofs.UniformLemmas.{GoesOn, IsQuiet, IsMoved, uniform_step}
 use Rattle.mml_bounds.proofs.IdleLemmas.{privileged, may_update}

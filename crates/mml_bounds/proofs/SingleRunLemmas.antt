@@ -13,9 +13,9 @@ use Rattle.mml_board.specs.declared.event.Event.{Event}
 use Rattle.mml_board.specs.World.{World, size, configuration, IsWorld}
 use Rattle.mml_board.specs.Runs.{is_legal_list, world_of}
 use Rattle.mml_board.proofs.WorldLemmas.{none_at}
-use Rattle.mml_stable.specs.Moves.{applied_over, count_closes}
-use Rattle.mml_stable.specs.Rest.{is_grant_or_close}
-use Rattle.mml_stable.specs.Rounds.{Rounds, rounds_for}
+use Rattle.mml_convergence.specs.Moves.{applied_over, count_closes}
+use Rattle.mml_convergence.specs.Rest.{is_grant_or_close}
+use Rattle.mml_convergence.specs.Rounds.{Rounds, rounds_for}
 use Rattle.mml_bounds.specs.Halves.{halves_world}
 use Rattle.mml_bounds.proofs.UniformLemmas.{IsQuiet}
 use Rattle.mml_bounds.proofs.IdleLemmas.{privileged}

@@ -15,10 +15,10 @@ use Rattle.mml_board.specs.World.{World, size, configuration, IsWorld}
 use Rattle.mml_board.specs.Events.{is_chosen, is_any_chosen, is_legal, after}
 use Rattle.mml_board.specs.Runs.{is_legal_list, world_of}
 use Rattle.mml_board.proofs.WorldLemmas.{after-world, none_at}
-use Rattle.mml_stable.specs.Moves.{is_close, applied_over, count_closes}
-use Rattle.mml_stable.specs.Rest.{is_grant_or_close}
-use Rattle.mml_stable.specs.Rounds.{is_served, Rounds}
-use Rattle.mml_stable.proofs.RestLemmas.{any_chosen}
+use Rattle.mml_convergence.specs.Moves.{is_close, applied_over, count_closes}
+use Rattle.mml_convergence.specs.Rest.{is_grant_or_close}
+use Rattle.mml_convergence.specs.Rounds.{is_served, Rounds}
+use Rattle.mml_convergence.proofs.RestLemmas.{any_chosen}
 use Rattle.mml_bounds.proofs.CountLemmas.{count_one}
 use Rattle.mml_bounds.proofs.UniformLemmas.{IsQuiet, IsMoved, Picking, grant_legal, granted, moved_to, applied}
 use Rattle.mml_bounds.proofs.PhaseLemmas.{kept, turned}

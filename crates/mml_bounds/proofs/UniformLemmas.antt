@@ -17,11 +17,11 @@ use Rattle.mml_board.specs.World.{World, size, configuration, chosen_at, IsWorld
 use Rattle.mml_board.specs.Events.{is_chosen, is_any_chosen, is_legal, after, chosen_count, moved_registers}
 use Rattle.mml_board.specs.Runs.{is_legal_list, world_of}
 use Rattle.mml_board.proofs.WorldLemmas.{after-world, chosen_at-set, moved_at, none_at, size-after}
-use Rattle.mml_stable.specs.Moves.{applied_over, count_closes}
-use Rattle.mml_stable.specs.Rest.{is_grant_or_close}
-use Rattle.mml_stable.specs.Rounds.{ClosesFull}
-use Rattle.mml_stable.proofs.RestLemmas.{any_chosen}
-use Rattle.mml_stable.proofs.SumsLemmas.{count_same}
+use Rattle.mml_convergence.specs.Moves.{applied_over, count_closes}
+use Rattle.mml_convergence.specs.Rest.{is_grant_or_close}
+use Rattle.mml_convergence.specs.Rounds.{ClosesFull}
+use Rattle.mml_convergence.proofs.RestLemmas.{any_chosen}
+use Rattle.mml_convergence.proofs.SumsLemmas.{count_same}
 
 -- a way on from a world: k closes, full where that is needed, that end as A says of the last world and of how many moves they apply
 pub record GoesOn (need : Bool) (A : World → ℕ → Type 0) (r : RosterValue) (w : World) (k : ℕ) : Type 0 where

@@ -18,14 +18,14 @@ use Rattle.mml_policy.specs.Rulings.{event_of}
 use Rattle.mml_policy.proofs.AskingLemmas.{granted_iff}
 use Rattle.mml_audit.specs.AuditMeaning.{IsJournalOf, world_after}
 use Rattle.mml_stable.specs.Listed.{IsMaximalMatching}
-use Rattle.mml_stable.specs.Moves.{applied_over, count_closes}
+use Rattle.mml_convergence.specs.Moves.{applied_over, count_closes}
 use Rattle.mml_stable.specs.Reports.{report_of}
-use Rattle.mml_stable.specs.Rest.{IsOver}
-use Rattle.mml_stable.specs.Runs.{is_of_step}
-use Rattle.mml_stable.proofs.AppliedLemmas.{moves_bounded, closes_bounded}
+use Rattle.mml_convergence.specs.Rest.{IsOver}
+use Rattle.mml_convergence.specs.Runs.{is_of_step}
+use Rattle.mml_convergence.proofs.AppliedLemmas.{moves_bounded, closes_bounded}
 use Rattle.mml_stable.proofs.ListedLemmas.{listed_matching}
 use Rattle.mml_stable.proofs.MatchingLemmas.{stable-means}
-use Rattle.mml_stable.proofs.RestLemmas.{ended}
+use Rattle.mml_convergence.proofs.RestLemmas.{ended}
 use Rattle.mml_window.specs.Lists.{world_in, ruling_while}
 use Rattle.mml_laws.specs.Ends.{GrantsNoStep}
 use Rattle.mml_laws.proofs.ChoicesLemmas.{opening}

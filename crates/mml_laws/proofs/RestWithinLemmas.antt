@@ -20,11 +20,11 @@ use Rattle.mml_board.specs.Events.{is_legal, is_node, is_chosen, after, chosen_c
 use Rattle.mml_board.specs.Runs.{is_legal_list, world_of}
 use Rattle.mml_board.proofs.WorldLemmas.{closed-step, after-world, size-after}
 use Rattle.mml_board.proofs.RunsLemmas.{legal-possible, list-world, legal-one_more, place-world_of}
-use Rattle.mml_stable.specs.Potential.{whole_potential}
-use Rattle.mml_stable.specs.Rest.{EachHasOwner, is_grant_or_close}
-use Rattle.mml_stable.proofs.SumsLemmas.{count_same}
-use Rattle.mml_stable.proofs.AppliedLemmas.{close_pays, close_moves, network_most}
-use Rattle.mml_stable.proofs.RestLemmas.{any_chosen, may_move, first_owner}
+use Rattle.mml_convergence.specs.Potential.{whole_potential}
+use Rattle.mml_convergence.specs.Rest.{EachHasOwner, is_grant_or_close}
+use Rattle.mml_convergence.proofs.SumsLemmas.{count_same}
+use Rattle.mml_convergence.proofs.AppliedLemmas.{close_pays, close_moves, network_most}
+use Rattle.mml_convergence.proofs.RestLemmas.{any_chosen, may_move, first_owner}
 use Rattle.mml_bounds.specs.Courtships.{most_courtships, courting_potential}
 use Rattle.mml_bounds.proofs.NumbersLemmas.{courtships_kept, courtships_even}
 use Rattle.mml_bounds.proofs.WholeLemmas.{courting_fell, courting_most}

@@ -1,9 +1,3 @@
 pub mod Walk
 pub mod Reports
 pub mod Listed
-pub mod Runs
-pub mod Potential
-pub mod Moves
-pub mod Rest
-pub mod Examples
-pub mod Rounds

@@ -1,33 +1,16 @@
-//! Laws of steps, of the report and of self-stabilisation: how many moves and rounds a run has, and where
-//! it ends. Each is the clause of a function that does nothing.
-ghost use Rattle.std.specs.Prelude.{◌≡◌, ◌↔◌, ◌⊎◌, ℕ, ◌+◌, ◌*◌, ◌<◌, ◌≤◌, true, false, Option, None, Some, List, length, Contains};
-ghost use Rattle.std.specs.List.{list_all};
-ghost use Rattle.mml_ids.specs.Search.{count_below};
+//! Laws of stable configurations and of the report. Each is the clause of a function that does nothing.
+ghost use Rattle.std.specs.Prelude.{◌≡◌, ◌↔◌, ◌⊎◌, ℕ, ◌<◌, true, false, Some, Contains};
 ghost use Rattle.mml_rules.specs.declared.rule.Kind.{Kind};
-ghost use Rattle.mml_rules.specs.declared.rule.Rule.{Rule};
 ghost use Rattle.mml_rules.specs.Configuration.{Configuration, IsLawful};
-ghost use Rattle.mml_rules.specs.Network.{Network, IsNetwork, configuration_of};
 ghost use Rattle.mml_rules.specs.Naming.{IsRenamed};
-ghost use Rattle.mml_rules.specs.Rules.{is_married, is_privileged, step, AllHold};
-ghost use Rattle.mml_rules.specs.Matching.{IsPair, IsMatching, IsMaximal, IsStable};
+ghost use Rattle.mml_rules.specs.Rules.{is_married, is_privileged};
+ghost use Rattle.mml_rules.specs.Matching.{IsMatching, IsMaximal, IsStable};
 ghost use Rattle.mml_rules.specs.Meaning.{IsMarried};
-ghost use Rattle.mml_lab.specs.declared.who.Who.{Who};
-ghost use Rattle.mml_lab.specs.Labs.{link_count};
-ghost use Rattle.mml_lab.specs.Rosters.{RosterValue, IsRoster, owns};
-ghost use Rattle.mml_board.specs.declared.event.Event.{Event};
-ghost use Rattle.mml_board.specs.World.{World, IsWorld, size, configuration, chosen_at};
-ghost use Rattle.mml_board.specs.Events.{is_legal};
-ghost use Rattle.mml_board.specs.Runs.{is_legal_list, world_of};
+ghost use Rattle.mml_board.specs.World.{World, IsWorld, size, configuration};
 ghost use Rattle.mml_stable.specs.declared.open_link.OpenLink.{OpenLink};
 ghost use Rattle.mml_stable.specs.Reports.{NamesNodes, pairs, free_nodes, privileged_nodes, is_open, open_links, is_stable, report_of};
 ghost use Rattle.mml_stable.specs.Listed.{IsPairInOrder, IsFreeNode, IsPrivilegedBy, IsOpenLink, Rises, IsLinkBefore, IsMaximalMatching};
-ghost use Rattle.mml_stable.specs.Runs.{is_of_step, changes_of_m};
 ghost use Rattle.mml_stable.specs.Walk.{top, certificate, LeadsTo};
-ghost use Rattle.mml_stable.specs.Potential.{potential, whole_potential};
-ghost use Rattle.mml_stable.specs.Moves.{moves, applied_over, count_closes};
-ghost use Rattle.mml_stable.specs.Rest.{EachHasOwner, IsOver, LeadsToRest};
-ghost use Rattle.mml_stable.specs.Rounds.{Rounds, rounds_for, ClosesFull};
-ghost use Rattle.mml_stable.specs.Examples.{two_nodes, triangle_world, sole_owner, twenty_moves};
 
 /// Where no node is privileged, the pairs are a maximal matching, and m is true exactly at the married
 /// nodes.
@@ -37,18 +20,6 @@ pub fn stable_is_maximal()
     ensures maximal { (c : Configuration) → IsLawful c → IsStable c → IsMaximal c }
     ensures m { (c : Configuration) (i : ℕ) → IsLawful c → IsStable c → i < c.size →
         (c.m i ≡ true) ↔ IsMarried c i }
-{}
-
-/// Two nodes that point at each other still do after any step of privileged moves.
-pub fn step_keeps_pairs()
-    ensures { (c : Configuration) (chosen : ℕ → Option Rule) (i j : ℕ) → AllHold c chosen →
-        IsPair c i j → IsPair (step c chosen) i j }
-{}
-
-/// Over grants, releases and closes, each legal where it comes, m changes at most twice at a node.
-pub fn m_changes_at_most_twice()
-    ensures { (r : RosterValue) (w : World) (es : List Event) (i : ℕ) → IsWorld w →
-        is_legal_list r w es ≡ true → list_all is_of_step es ≡ true → changes_of_m i w es ≤ 2 }
 {}
 
 /// From a node that is free or has m false the pointers rise, up to one that is privileged or points at
@@ -100,112 +71,4 @@ pub fn witnesses_keep_under_names()
     ensures { (f : ℕ → ℕ) (c d : Configuration) (a b : ℕ) → IsLawful c → IsRenamed f c d →
         is_open c a b ≡ true →
         certificate d (f a) (f b) ≡ (f (certificate c a b).0, (certificate c a b).1) }
-{}
-
-/// In a step of moves whose guards hold, all potentials together fall by at least the number of nodes that
-/// move; and they are at most 2 for each link and 3 for each node.
-pub fn step_lowers_potential()
-    ensures lower { (c : Configuration) (chosen : ℕ → Option Rule) → IsLawful c →
-        AllHold c chosen →
-        whole_potential (step c chosen) + count_below c.size (moves chosen) ≤ whole_potential c }
-    ensures most { (n : Network) → IsNetwork n →
-        whole_potential (configuration_of n) ≤ 2 * link_count n + 3 * length n.registers }
-{}
-
-/// From any world, the closes of a legal list of grants, releases and closes apply at most 2 moves for each
-/// link and 3 for each node in all, however the moves are chosen.
-pub fn moves_are_bounded()
-    ensures { (r : RosterValue) (w : World) (es : List Event) → IsWorld w →
-        is_legal_list r w es ≡ true → list_all is_of_step es ≡ true →
-        applied_over w es ≤ 2 * link_count w.network + 3 * size w }
-{}
-
-/// So there are no more closes than that, since each applies a move.
-pub fn closes_are_bounded()
-    ensures { (r : RosterValue) (w : World) (es : List Event) → IsWorld w →
-        is_legal_list r w es ≡ true → list_all is_of_step es ≡ true →
-        count_closes es ≤ 2 * link_count w.network + 3 * size w }
-{}
-
-/// The bound is reached: in a class of one student, who owns a triangle with a tail, a legal list of grants and
-/// closes applies 20 moves, which is 2 for each of the 4 links and 3 for each of the 4 nodes.
-pub fn bound_is_reached()
-    ensures roster { IsRoster sole_owner }
-    ensures world { IsWorld triangle_world }
-    ensures legal { is_legal_list sole_owner triangle_world twenty_moves ≡ true }
-    ensures of_step { list_all is_of_step twenty_moves ≡ true }
-    ensures counts { (applied_over triangle_world twenty_moves ≡ 20) × (link_count triangle_world.network ≡ 4) ×
-        (size triangle_world ≡ 4) }
-    ensures reached { applied_over triangle_world twenty_moves ≡
-        2 * link_count triangle_world.network + 3 * size triangle_world }
-{}
-
-/// A privileged node without a chosen move has a rule whose grant is legal for each of its owners.
-pub fn privileged_nodes_may_move()
-    ensures { (r : RosterValue) (w : World) (i : ℕ) → IsWorld w → i < size w →
-        is_privileged (configuration w) i ≡ true → chosen_at w.chosen i ≡ None →
-        (rule : Rule) × ((s : ℕ) → owns r (Who.Student s) i ≡ true →
-        is_legal r w (Event.Grant s i rule) ≡ true) }
-{}
-
-/// From any world, a legal list of grants, releases and closes that has 2n rounds, for n nodes, ends where
-/// no node is privileged, and the pairs are a maximal matching, however the moves are chosen. One that ends
-/// elsewhere has fewer than four rounds for each two nodes, and one for a node left over.
-pub fn rounds_are_bounded()
-    ensures stable { (r : RosterValue) (w : World) (es : List Event) → IsWorld w →
-        is_legal_list r w es ≡ true → list_all is_of_step es ≡ true → Rounds (2 * size w) w es →
-        IsStable (configuration (world_of w es)) × IsMaximal (configuration (world_of w es)) }
-    ensures fewer { (r : RosterValue) (w : World) (es : List Event) (k : ℕ) → IsWorld w →
-        is_legal_list r w es ≡ true → list_all is_of_step es ≡ true → Rounds k w es →
-        ¬ IsStable (configuration (world_of w es)) → k < rounds_for (size w) }
-{}
-
-/// That is 2n, or 2n - 1 where n is odd.
-pub fn rounds_in_numbers()
-    ensures at_most { (n : ℕ) → rounds_for n ≤ 2 * n }
-    ensures even { (k : ℕ) → rounds_for (2 * k) ≡ 4 * k }
-    ensures odd { (k : ℕ) → rounds_for (2 * k + 1) ≡ 4 * k + 1 }
-{}
-
-/// Where a list ends with no node privileged, it has any number of rounds: the later ones are empty.
-pub fn stable_lists_have_rounds()
-    ensures { (w : World) (es : List Event) (k : ℕ) → IsStable (configuration (world_of w es)) →
-        Rounds k w es }
-{}
-
-/// So there are at most that many closes, if each finds a chosen move at every privileged node.
-pub fn full_closes_are_few()
-    ensures { (r : RosterValue) (w : World) (es : List Event) → IsWorld w →
-        is_legal_list r w es ≡ true → list_all is_of_step es ≡ true → ClosesFull w es →
-        count_closes es ≤ rounds_for (size w) }
-{}
-
-/// Where no node is privileged no grant, no release and no close is legal: only a fault, a link or a cut
-/// leads on.
-pub fn stable_is_final()
-    ensures { (r : RosterValue) (w : World) (e : Event) → IsWorld w → IsStable (configuration w) →
-        is_of_step e ≡ true → is_legal r w e ≡ false }
-{}
-
-/// A legal list after which no grant and no close is legal has led to where no node is privileged, and the
-/// pairs are a maximal matching; and from every world some list of grants and closes leads there.
-pub fn runs_end_stable()
-    ensures ended { (r : RosterValue) (w : World) (es : List Event) → IsWorld w →
-        EachHasOwner r (size w) → is_legal_list r w es ≡ true → IsOver r (world_of w es) →
-        IsStable (configuration (world_of w es)) × IsMaximal (configuration (world_of w es)) }
-    ensures reached { (r : RosterValue) (w : World) → IsWorld w → EachHasOwner r (size w) →
-        (es : List Event) × LeadsToRest r w (4 * link_count w.network + 6 * size w) es }
-{}
-
-/// Potentials counted by hand: two linked nodes, and a network in which all of the bound is used.
-pub fn potentials_by_hand()
-    ensures apart { (potential (two_nodes None false None false) 0 ≡ 3) ×
-        (potential (two_nodes None false None false) 1 ≡ 1) }
-    ensures asked { (potential (two_nodes None false (Some 0) false) 0 ≡ 3) ×
-        (potential (two_nodes None false (Some 0) false) 1 ≡ 2) }
-    ensures refused { (potential (two_nodes (Some 1) false None true) 0 ≡ 4) ×
-        (potential (two_nodes (Some 1) false None true) 1 ≡ 2) }
-    ensures paired { (potential (two_nodes (Some 1) true (Some 0) true) 0 ≡ 0) ×
-        (potential (two_nodes (Some 1) true (Some 0) true) 1 ≡ 0) }
-    ensures triangle { whole_potential (configuration triangle_world) ≡ 20 }
 {}

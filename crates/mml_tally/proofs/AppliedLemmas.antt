@@ -14,8 +14,8 @@ use Rattle.mml_board.specs.World.{World, size, configuration, chosen_at, IsWorld
 use Rattle.mml_board.specs.Events.{is_chosen, is_asked_by_owner, is_possible, is_legal, after, chosen_count}
 use Rattle.mml_board.specs.Runs.{is_legal_list}
 use Rattle.mml_board.proofs.WorldLemmas.{none_at, chosen_at-set, chosen_node, after-world}
-use Rattle.mml_stable.specs.Moves.{applied_over}
-use Rattle.mml_stable.proofs.SumsLemmas.{count_none, count_same}
+use Rattle.mml_convergence.specs.Moves.{applied_over}
+use Rattle.mml_convergence.proofs.SumsLemmas.{count_none, count_same}
 use Rattle.mml_tally.specs.declared.fate.Fate.{Fate}
 use Rattle.mml_tally.specs.declared.fate.Fate.TheVariants as fate
 use Rattle.mml_tally.specs.declared.granted_move.Move.{Move}

@@ -1,6 +1,6 @@
 -- The bounds as numbers.
 use Rattle.std.proofs.Common.{◌≡◌, ◌⊎◌, inl, inr, ℕ, zero, suc, ◌+◌, ◌-◌, ◌*◌, ◌/◌, ◌%◌, refl, sym, ap, ◌∙◌, arith}
-use Rattle.mml_stable.specs.Rounds.{rounds_for}
+use Rattle.mml_convergence.specs.Rounds.{rounds_for}
 use Rattle.mml_bounds.specs.Courtships.{most_courtships}
 use Rattle.mml_bounds.proofs.NumbersLemmas.{courtships_even, courtships_odd}
 

@@ -6,7 +6,7 @@ use Rattle.std.proofs.lemmas.Bool.{cases_eq, cases_order, or_cases, eq-eqb, ne_e
 use Rattle.mml_ids.specs.Search.{count_below}
 use Rattle.mml_board.specs.declared.event.Event.{Event}
 use Rattle.mml_board.specs.declared.event.Event.TheVariants as event
-use Rattle.mml_stable.proofs.SumsLemmas.{count_same, count_none}
+use Rattle.mml_convergence.proofs.SumsLemmas.{count_same, count_none}
 use Rattle.mml_tally.specs.declared.fate.Fate.{Fate}
 use Rattle.mml_tally.specs.declared.fate.Fate.TheVariants as fate
 use Rattle.mml_tally.specs.declared.granted_move.Move.{Move}

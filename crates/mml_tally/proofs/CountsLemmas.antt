@@ -2,7 +2,7 @@
 use Rattle.std.proofs.Common.{◌≡◌, ℕ, zero, suc, ◌+◌, ◌<◌, Bool, cond, eqb, refl, sym, arith}
 use Rattle.std.proofs.lemmas.Bool.{eq-eqb, eqb-true}
 use Rattle.mml_ids.specs.Search.{count_below}
-use Rattle.mml_stable.proofs.SumsLemmas.{count_some, count_one_at_most}
+use Rattle.mml_convergence.proofs.SumsLemmas.{count_some, count_one_at_most}
 
 abbrev pub one : Bool → ℕ
 one b = cond b 1 0

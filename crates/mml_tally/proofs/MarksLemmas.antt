@@ -9,8 +9,8 @@ use Rattle.mml_rules.specs.declared.rule.Kind.TheVariants as kind
 use Rattle.mml_rules.specs.Rules.{kind_of}
 use Rattle.mml_board.specs.declared.event.Event.{Event}
 use Rattle.mml_board.specs.declared.event.Event.TheVariants as event
-use Rattle.mml_stable.specs.Potential.{sum_below}
-use Rattle.mml_stable.proofs.SumsLemmas.{sum_split, sum_of_tests}
+use Rattle.mml_convergence.specs.Potential.{sum_below}
+use Rattle.mml_convergence.proofs.SumsLemmas.{sum_split, sum_of_tests}
 use Rattle.mml_tally.specs.declared.fate.Fate.{Fate}
 use Rattle.mml_tally.specs.declared.fate.Fate.TheVariants as fate
 use Rattle.mml_tally.specs.declared.granted_move.Move.{Move}

@@ -14,8 +14,8 @@ use Rattle.mml_board.specs.World.{World, IsWorld, size, configuration, opening_o
 use Rattle.mml_board.specs.Events.{is_legal, is_possible, after}
 use Rattle.mml_board.specs.Runs.{is_legal_list}
 use Rattle.mml_board.proofs.WorldLemmas.{length-none, hold-none}
-use Rattle.mml_stable.specs.Potential.{sum_below}
-use Rattle.mml_stable.specs.Moves.{applied_over}
+use Rattle.mml_convergence.specs.Potential.{sum_below}
+use Rattle.mml_convergence.specs.Moves.{applied_over}
 use Rattle.mml_tally.specs.Moves.{moves_from, moves}
 use Rattle.mml_tally.specs.Marks.{is_applied, moves_by, marks_of}
 use Rattle.mml_tally.specs.Runs.{run_of}

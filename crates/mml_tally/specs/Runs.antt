@@ -2,7 +2,7 @@
 use Rattle.std.specs.Prelude.{ℕ, ◌+◌, Bool, true, false, nat_lt, if◌then◌else◌, List, [], ◌∷◌, drop, count_by}
 use Rattle.mml_board.specs.declared.event.Event.{Event}
 use Rattle.mml_board.specs.declared.event.Event.TheVariants as event
-use Rattle.mml_stable.specs.Moves.{is_close}
+use Rattle.mml_convergence.specs.Moves.{is_close}
 use Rattle.mml_tally.specs.declared.fate.Fate.{Fate}
 use Rattle.mml_tally.specs.declared.fate.Fate.TheVariants as fate
 use Rattle.mml_tally.specs.declared.granted_move.Move.{Move}

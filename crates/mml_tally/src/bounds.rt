@@ -3,7 +3,7 @@ ghost use Rattle.mml_ids.specs.Search.{count_below};
 ghost use Rattle.mml_ids.specs.declared.TheConstants.{MAX_NODES};
 ghost use Rattle.mml_lab.specs.Labs.{link_count};
 ghost use Rattle.mml_board.specs.World.{size, configuration};
-ghost use Rattle.mml_stable.specs.Rounds.{rounds_for};
+ghost use Rattle.mml_convergence.specs.Rounds.{rounds_for};
 ghost use Rattle.mml_bounds.specs.Courtships.{most_courtships};
 ghost use Rattle.mml_tally.specs.Bounds.{bounds_for, bounds_of};
 

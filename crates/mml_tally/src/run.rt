@@ -1,5 +1,5 @@
 ghost use Rattle.std.specs.Prelude.{◌≡◌, ◌≤◌, length, count_by};
-ghost use Rattle.mml_stable.specs.Moves.{is_close};
+ghost use Rattle.mml_convergence.specs.Moves.{is_close};
 ghost use Rattle.mml_tally.specs.Moves.{moves};
 ghost use Rattle.mml_tally.specs.Marks.{is_applied};
 ghost use Rattle.mml_tally.specs.Runs.{is_fault, is_link, is_cut, is_change, last_change, is_applied_after, run_of};

@@ -8,7 +8,7 @@ ghost use Rattle.mml_board.specs.declared.event.Event.{Event};
 ghost use Rattle.mml_board.specs.World.{World, IsWorld, size, configuration, opening_of};
 ghost use Rattle.mml_board.specs.Events.{chosen_count};
 ghost use Rattle.mml_board.specs.Runs.{is_legal_list, world_of};
-ghost use Rattle.mml_stable.specs.Rest.{EachHasOwner, is_grant_or_close};
+ghost use Rattle.mml_convergence.specs.Rest.{EachHasOwner, is_grant_or_close};
 ghost use Rattle.mml_bounds.specs.Most.{events_to_rest};
 
 /// A legal list of grants and closes alone has at most 6 events for each of n nodes, and 4 for each link or,

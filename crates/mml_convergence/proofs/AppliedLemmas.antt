@@ -1,0 +1,90 @@
+-- Over grants, releases and closes the moves are paid for by the potential.
+use Rattle.std.proofs.Common.{◌≡◌, ◌+◌, ◌*◌, ◌≤◌, true, cond, List, [], ◌∷◌, length, None, is_some, ap, ◌∙◌, arith}
+use Rattle.std.specs.List.{list_all}
+use Rattle.std.proofs.lemmas.Bool.{false≢true, and_parts}
+use Rattle.std.proofs.lemmas.List.{get_or_default}
+use Rattle.std.proofs.lemmas.List.Folds.{Any-from_list_any}
+use Rattle.mml_rules.specs.Network.{Network, configuration_of, IsNetwork}
+use Rattle.mml_lab.specs.Labs.{link_count}
+use Rattle.mml_lab.specs.Rosters.{RosterValue}
+use Rattle.mml_board.specs.declared.event.Event.{Event}
+use Rattle.mml_board.specs.declared.event.Event.TheVariants as event
+use Rattle.mml_board.specs.World.{World, size, configuration, chosen_at, IsWorld}
+use Rattle.mml_board.specs.Events.{is_asked_by_owner, is_possible, is_any_chosen, is_legal, after, chosen_count}
+use Rattle.mml_board.specs.Runs.{is_legal_list}
+use Rattle.mml_board.proofs.WorldLemmas.{closed-step, after-world}
+use Rattle.mml_convergence.specs.Runs.{is_of_step}
+use Rattle.mml_convergence.specs.Potential.{whole_potential}
+use Rattle.mml_convergence.specs.Moves.{applied_by, applied_over, is_close, count_closes}
+use Rattle.mml_convergence.proofs.SumsLemmas.{count_some}
+use Rattle.mml_convergence.proofs.WholePotentialLemmas.{whole_fell, whole_most}
+
+-- a close pays for its moves
+pub close_pays : (w : World) → IsWorld w → chosen_count w + whole_potential (configuration (after w event.Close)) ≤ whole_potential (configuration w)
+unfolding chosen_count
+close_pays w k =
+    let pays = whole_fell (configuration w) (chosen_at w.chosen) k.network.lawful k.hold in
+    let same : whole_potential (configuration (after w event.Close)) ≡ whole_potential _ = ap whole_potential (closed-step w k.choices) in
+    omega (arith, pays, same)
+
+pub event_pays : (w : World) (e : Event) → IsWorld w → is_of_step e ≡ true
+    → applied_by w e + whole_potential (configuration (after w e)) ≤ whole_potential (configuration w)
+event_pays w (event.Grant s i rule) k of_step = omega arith
+event_pays w (event.Release i) k of_step = omega arith
+event_pays w event.Close k of_step = close_pays w k
+event_pays w _ k of_step = absurd (false≢true of_step)
+
+pub moves_paid : (r : RosterValue) (w : World) (es : List Event) → IsWorld w → is_legal_list r w es ≡ true → list_all is_of_step es ≡ true
+    → applied_over w es ≤ whole_potential (configuration w)
+moves_paid r w [] k legal steps = omega arith
+moves_paid r w (e ∷ es) k legal steps =
+    let here = and_parts (is_legal r w e) (is_legal_list r (after w e) es) legal in
+    let possible = and_parts (is_asked_by_owner r e) (is_possible w e) here.0 in
+    let of_steps = and_parts (is_of_step e) (list_all is_of_step es) steps in
+    let first = event_pays w e k of_steps.0 in
+    let rest = moves_paid r (after w e) es (after-world w e k possible.1) here.1 of_steps.1 in
+    omega (arith, first, rest)
+
+-- all potentials of a network together are 2 for each link and 3 for each node at the most
+pub network_most : (n : Network) → IsNetwork n → whole_potential (configuration_of n) ≤ 2 * link_count n + 3 * length n.registers
+unfolding link_count
+network_most n k = whole_most (configuration_of n) k.lawful
+
+-- over grants, releases and closes, 2 moves for each link and 3 for each node are applied at the most
+pub moves_bounded : (r : RosterValue) (w : World) (es : List Event) → IsWorld w → is_legal_list r w es ≡ true → list_all is_of_step es ≡ true
+    → applied_over w es ≤ 2 * link_count w.network + 3 * size w
+moves_bounded r w es k legal steps =
+    let paid = moves_paid r w es k legal steps in
+    let most = network_most w.network k.network in
+    omega (arith, paid, most)
+
+-- ---- each close applies a move
+
+-- a close where some move is chosen applies one at least
+pub close_moves : (w : World) → IsWorld w → is_any_chosen w ≡ true → 1 ≤ chosen_count w
+unfolding chosen_count
+close_moves w k any =
+    let a = Any-from_list_any is_some w.chosen any in
+    let here : chosen_at w.chosen a.0 ≡ a.1 = get_or_default w.chosen a.0 None a.1 a.2 ∙ a.3 in
+    count_some (size w) a.0 (λ i. is_some (chosen_at w.chosen i)) (omega (arith, a.2, k.choices)) (ap is_some here ∙ a.4)
+
+closes_fewer : (r : RosterValue) (w : World) (es : List Event) → IsWorld w → is_legal_list r w es ≡ true → count_closes es ≤ applied_over w es
+closes_fewer r w [] k legal = omega arith
+closes_fewer r w (e ∷ es) k legal =
+    let here = and_parts (is_legal r w e) (is_legal_list r (after w e) es) legal in
+    let possible = and_parts (is_asked_by_owner r e) (is_possible w e) here.0 in
+    let rest = closes_fewer r (after w e) es (after-world w e k possible.1) here.1 in
+    let first = one e possible.1 in
+    omega (arith, first, rest)
+  where
+    one : (e : Event) → is_possible w e ≡ true → cond (is_close e) 1 0 ≤ applied_by w e
+    one event.Close p = close_moves w k p
+    one _ p = omega arith
+
+-- over grants, releases and closes, there are 2 closes for each link and 3 for each node at the most
+pub closes_bounded : (r : RosterValue) (w : World) (es : List Event) → IsWorld w → is_legal_list r w es ≡ true → list_all is_of_step es ≡ true
+    → count_closes es ≤ 2 * link_count w.network + 3 * size w
+closes_bounded r w es k legal steps =
+    let fewer = closes_fewer r w es k legal in
+    let bounded = moves_bounded r w es k legal steps in
+    omega (arith, fewer, bounded)

@@ -1,0 +1,63 @@
+-- Where each close finds a chosen move at every privileged node, it ends a round.
+use Rattle.std.proofs.Common.{◌≡◌, ℕ, zero, suc, ◌<◌, ◌≤◌, inl, inr, Bool, true, false, cond, not, List, [], ◌∷◌, ◌++◌, refl, ap, subst, arith}
+use Rattle.std.specs.List.{list_all}
+use Rattle.std.proofs.lemmas.Bool.{and_from, or_left, or_right, both_ways, cases_Bool, cases_lt}
+use Rattle.mml_rules.specs.Rules.{is_privileged}
+use Rattle.mml_lab.specs.Rosters.{RosterValue}
+use Rattle.mml_board.specs.declared.event.Event.{Event}
+use Rattle.mml_board.specs.World.{World, size, configuration, IsWorld}
+use Rattle.mml_board.specs.Events.{is_legal, after}
+use Rattle.mml_board.specs.Runs.{is_legal_list, world_of}
+use Rattle.mml_board.proofs.WorldLemmas.{size-after}
+use Rattle.mml_convergence.specs.Runs.{is_of_step}
+use Rattle.mml_convergence.specs.Moves.{is_close, count_closes}
+use Rattle.mml_convergence.proofs.RestLemmas.{stable_final}
+use Rattle.mml_convergence.specs.Rounds.{IsRound, Rounds, rounds_for, IsFull, ClosesFull}
+use Rattle.mml_convergence.proofs.ServedLemmas.{IsRun, first_legal, first_of_step, run_parts, run_end}
+use Rattle.mml_convergence.proofs.RoundsLemmas.{rounds_end}
+
+-- a full close is a round by itself
+close_round : (w : World) (e : Event) → is_close e ≡ true → IsFull w → IsRound w (e ∷ [])
+close_round w e close full i lt = elim (cases_Bool (is_privileged (configuration w) i)) [
+  | inl on ↦ or_right _ _ (or_left _ _ (and_from _ _ close (full i lt on)))
+  | inr off ↦ or_left _ _ (ap not off)
+]
+
+-- a round is one with an event before it
+longer_round : (w : World) (e : Event) (es : List Event) → IsRound (after w e) es → IsRound w (e ∷ es)
+longer_round w e es round i lt = or_right _ _ (or_right _ _ (round i (omega (arith, lt, size-after w e))))
+
+-- k rounds, and an event after them, where there are more than k closes
+abbrev Cut : ℕ → World → List Event → Type 0
+Cut k w es = (fs : List Event) × (e : Event) × (gs : List Event) × (es ≡ fs ++ (e ∷ gs)) × Rounds k w fs
+
+cut : (k : ℕ) (w : World) (es : List Event) → ClosesFull w es → k < count_closes es → Cut k w es
+cut k w [] full less = absurd (omega arith)
+cut zero w (e ∷ es) full less = ([], e, es, refl, tt)
+cut (suc k) w (e ∷ es) full less = go (cut k (after w e) es full.1) (cut (suc k) (after w e) es full.1) (is_close e) refl
+  where
+    go : (k < count_closes es → Cut k (after w e) es) → (suc k < count_closes es → Cut (suc k) (after w e) es) → (b : Bool) → is_close e ≡ b
+        → Cut (suc k) w (e ∷ es)
+    go here there true f =
+        let one : cond {A = ℕ} (is_close e) 1 0 ≡ 1 = ap (λ b. cond b 1 0) f in
+        let rest = here (omega (arith, less, one)) in
+        (e ∷ rest.0, rest.1, rest.2, ap (λ z. e ∷ z) rest.3, (e ∷ [], rest.0, refl, close_round w e f (full.0 f), rest.4))
+    go here there false f =
+        let none : cond {A = ℕ} (is_close e) 1 0 ≡ 0 = ap (λ b. cond b 1 0) f in
+        let rest = there (omega (arith, less, none)) in
+        let rounds = rest.4 in
+        (e ∷ rest.0, rest.1, rest.2, ap (λ z. e ∷ z) rest.3, (e ∷ rounds.0, rounds.1, ap (λ z. e ∷ z) rounds.2, longer_round w e rounds.0 rounds.3, rounds.4))
+
+-- where closes find all privileged nodes chosen, there are at most 4 for each two nodes, and 1 for one left over
+pub closes_few : (r : RosterValue) (w : World) (es : List Event) → IsWorld w → is_legal_list r w es ≡ true → list_all is_of_step es ≡ true
+    → ClosesFull w es → count_closes es ≤ rounds_for (size w)
+closes_few r w es k legal of_step full = elim (cases_lt (rounds_for (size w)) (count_closes es)) [
+  | inr few ↦ few
+  | inl less ↦
+      let c = cut (rounds_for (size w)) w es full less in
+      let run : IsRun r w es = record { world = k; legal = legal; of_step = of_step } in
+      let parts = run_parts r w c.0 (c.1 ∷ c.2) (subst (λ x. IsRun r w x) c.3 run) in
+      let stable = rounds_end r w c.0 (rounds_for (size w)) parts.0 (omega arith) c.4 in
+      let last = stable_final r (world_of w c.0) c.1 (run_end r w c.0 parts.0) stable (first_of_step r (world_of w c.0) c.1 c.2 parts.1) in
+      absurd (both_ways (is_legal r (world_of w c.0) c.1) last (first_legal r (world_of w c.0) c.1 c.2 parts.1))
+]

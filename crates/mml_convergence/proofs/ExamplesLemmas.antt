@@ -1,0 +1,236 @@
+-- The bound is reached: on the triangle with a tail a legal list applies 20 moves.
+use Rattle.std.proofs.Common.{◌≡◌, ◌==◌, ℕ, zero, suc, ◌+◌, ◌-◌, ◌*◌, ◌<◌, nat_lt, Bool, true, false, ◌&&◌, ◌||◌, Option, None, Some, is_some}
+use Rattle.std.proofs.Common.{is_none, List, [], ◌∷◌, map, length, set, replicate, sym, refl, ap, ◌∙◌, subst, arith}
+use Rattle.std.specs.Prelude.{nat_le, IsTrue, All}
+use Rattle.std.specs.List.{list_any, range_with_len}
+use Rattle.std.specs.Ordering.{nat_cmp}
+use Rattle.std.specs.FinSet as sets
+use Rattle.std.proofs.lemmas.Bool.{and_parts, and_from, both_ways, eqb-true, ltb-true, leb-true, false≢true}
+use Rattle.mml_ids.specs.Search.{count_below}
+use Rattle.mml_rules.specs.declared.regs.Regs.{Regs}
+use Rattle.mml_rules.specs.declared.rule.Rule.{Rule}
+use Rattle.mml_rules.specs.Configuration.{Configuration}
+use Rattle.mml_rules.specs.Network.{Network, neighbours_at, registers_at, configuration_of, IsNetwork, with_link}
+use Rattle.mml_rules.proofs.NetworkLemmas.{with_link-lawful, linked-with_link}
+use Rattle.mml_rules.specs.Rules.{is_married, has_suitor, greatest_candidate, guard, moved}
+use Rattle.mml_lab.specs.declared.who.Who.TheVariants as who
+use Rattle.mml_lab.specs.Labs.{links_below, link_count}
+use Rattle.mml_lab.specs.declared.who.Who.{Who}
+use Rattle.mml_lab.specs.Rosters.{RosterValue, IsRoster, IsPrincipal, is_account, account_of, name_of, owns}
+use Rattle.mml_board.specs.declared.event.Event.{Event}
+use Rattle.mml_board.specs.declared.event.Event.TheVariants as event
+use Rattle.mml_board.specs.World.{World, size, configuration, chosen_at, IsWorld}
+use Rattle.mml_board.specs.Events.{moved_registers, chosen_count, after}
+use Rattle.mml_board.specs.Runs.{is_legal_list}
+use Rattle.mml_board.proofs.WorldLemmas.{size-after, hold-none}
+use Rattle.mml_convergence.specs.Potential.{potential, whole_potential}
+use Rattle.mml_convergence.specs.Moves.{applied_over}
+use Rattle.mml_convergence.specs.Examples.{unlinked, triangle, triangle_world, sole_owner, twenty_moves}
+
+-- ---- a run, computed over registers: the links are a test, in the place of sets
+
+-- the configuration of these links and registers
+abbrev shape : (ℕ → ℕ → Bool) → List Regs → Configuration
+shape linked registers = record { size = length registers; linked = linked; p = λ i. (registers_at registers i).p; m = λ i. (registers_at registers i).m }
+
+-- how many moves are chosen
+abbrev chosen_among : List Regs → List (Option Rule) → ℕ
+chosen_among registers chosen = count_below (length registers) (λ i. is_some (chosen_at chosen i))
+
+-- the events are grants of student 0 and closes, legal where this student owns the nodes, and apply n moves
+abbrev tells : (ℕ → ℕ → Bool) → List Regs → List (Option Rule) → List Event → ℕ → Bool
+tells linked registers chosen [] n = n == 0
+tells linked registers chosen (event.Grant s i rule ∷ es) n =
+    (s == 0) &&
+    ((nat_lt i (length registers) && (is_none (chosen_at chosen i) && guard (shape linked registers) i rule))
+    && tells linked registers (set chosen i (Some rule)) es n)
+tells linked registers chosen (event.Close ∷ es) n =
+    list_any is_some chosen && (nat_le (chosen_among registers chosen) n &&
+    tells linked (map (λ i. moved (shape linked registers) i (chosen_at chosen i)) (range_with_len 0 (length registers)))
+    (replicate (length registers) None) es (n - chosen_among registers chosen))
+tells linked registers chosen (_ ∷ es) n = false
+
+-- what it tells holds of a world with these links, registers and choices
+sound : (r : RosterValue) (w : World) (es : List Event) (n : ℕ) → ((i : ℕ) → i < size w → owns r (who.Student 0) i ≡ true)
+    → tells (configuration w).linked w.network.registers w.chosen es n ≡ true
+    → (is_legal_list r w es ≡ true) × (applied_over w es ≡ n)
+unfolding moved_registers chosen_count
+sound r w [] n owned t = (refl, sym (eqb-true n 0 t))
+sound r w (event.Grant s i rule ∷ es) n owned t =
+    let x = and_parts (s == 0) _ t in
+    let y = and_parts (nat_lt i (size w) && (is_none (chosen_at w.chosen i) && guard (configuration w) i rule)) _ x.1 in
+    let z = and_parts (nat_lt i (size w)) (is_none (chosen_at w.chosen i) && guard (configuration w) i rule) y.0 in
+    let owner : owns r (who.Student s) i ≡ true = subst (λ s. owns r (who.Student s) i ≡ true) (sym (eqb-true s 0 x.0)) (owned i (ltb-true i (size w) z.0)) in
+    let rest = sound r (after w (event.Grant s i rule)) es n owned y.1 in
+    let last = rest.1 in
+    (and_from _ _ (and_from _ _ owner y.0) rest.0, omega (arith, last))
+sound r w (event.Close ∷ es) n owned t =
+    let x = and_parts (list_any is_some w.chosen) _ t in
+    let y = and_parts (nat_le (chosen_among w.network.registers w.chosen) n) _ x.1 in
+    let rest =
+    sound r (after w event.Close) es (n - chosen_among w.network.registers w.chosen) (λ i lt. owned i (omega (arith, size-after w event.Close, lt))) y.1 in
+    let le = leb-true (chosen_among w.network.registers w.chosen) n y.0 in
+    let last = rest.1 in
+    (and_from _ _ x.0 rest.0, omega (arith, le, last))
+sound r w (_ ∷ es) n owned t = absurd (false≢true t)
+
+-- ---- the triangle with a tail
+
+-- what a link between a and b adds to these
+abbrev linking : (a b : ℕ) → (ℕ → ℕ → Bool) → ℕ → ℕ → Bool
+linking a b linked i j = ((i == b) && (j == a)) || (((i == a) && (j == b)) || linked i j)
+
+abbrev links : ℕ → ℕ → Bool
+links = linking 2 3 (linking 0 2 (linking 1 2 (linking 0 1 (λ i j. false))))
+
+none_linked : (i j : ℕ) → (configuration_of unlinked).linked i j ≡ false
+none_linked i j = ap (λ s. sets.contains s j) (empty_row i) ∙ sets.contains-empty nat_cmp j
+  where
+    empty_row : (i : ℕ) → neighbours_at unlinked.neighbours i ≡ sets.empty
+    empty_row zero = refl
+    empty_row (suc zero) = refl
+    empty_row (suc (suc zero)) = refl
+    empty_row (suc (suc (suc zero))) = refl
+    empty_row (suc (suc (suc (suc i)))) = refl
+
+abbrev first : Network
+first = with_link unlinked 0 1
+
+abbrev second : Network
+second = with_link first 1 2
+
+abbrev third : Network
+third = with_link second 0 2
+
+linked_is : (i j : ℕ) → (configuration_of triangle).linked i j ≡ links i j
+linked_is i j =
+    linked-with_link third 2 3 i j (omega arith) (omega arith)
+    ∙ ap (λ x. ((i == 3) && (j == 2)) || (((i == 2) && (j == 3)) || x)) (linked-with_link second 0 2 i j (omega arith) (omega arith)
+    ∙ ap (λ x. ((i == 2) && (j == 0)) || (((i == 0) && (j == 2)) || x)) (linked-with_link first 1 2 i j (omega arith) (omega arith)
+    ∙ ap (λ x. ((i == 2) && (j == 1)) || (((i == 1) && (j == 2)) || x)) (linked-with_link unlinked 0 1 i j (omega arith) (omega arith)
+    ∙ ap (λ x. ((i == 1) && (j == 0)) || (((i == 0) && (j == 1)) || x)) (none_linked i j))))
+
+same_links : (configuration triangle_world).linked ≡ links
+same_links = λ k i j. linked_is i j k
+
+unlinked_network : IsNetwork unlinked
+unlinked_network = record {
+  rows = refl;
+  few = omega arith;
+  lawful = record {
+    in_range = λ i j e. absurd (both_ways _ (none_linked i j) e);
+    symmetric = λ i j e. absurd (both_ways _ (none_linked i j) e);
+    no_loop = λ i. none_linked i i;
+    to_linked = λ i j e. absurd (nowhere i j e);
+  };
+}
+  where
+    nowhere : (i j : ℕ) → (registers_at unlinked.registers i).p ≡ Some j → ⊥
+    nowhere zero j e = cc
+    nowhere (suc zero) j e = cc
+    nowhere (suc (suc zero)) j e = cc
+    nowhere (suc (suc (suc zero))) j e = cc
+    nowhere (suc (suc (suc (suc i)))) j e = cc
+
+triangle_network : IsNetwork triangle
+triangle_network =
+    let a = with_link-lawful unlinked 0 1 unlinked_network (omega arith) (omega arith) (λ e. absurd (omega arith)) in
+    let b = with_link-lawful first 1 2 a (omega arith) (omega arith) (λ e. absurd (omega arith)) in
+    let c = with_link-lawful second 0 2 b (omega arith) (omega arith) (λ e. absurd (omega arith)) in
+    with_link-lawful third 2 3 c (omega arith) (omega arith) (λ e. absurd (omega arith))
+
+points_over : (i j : ℕ) → (registers_at triangle_world.network.registers i).p ≡ Some j → links i j ≡ true
+points_over zero j e = let at : 1 ≡ j = cc in subst (λ j. links 0 j ≡ true) at refl
+points_over (suc zero) j e = let at : 2 ≡ j = cc in subst (λ j. links 1 j ≡ true) at refl
+points_over (suc (suc zero)) j e = let at : 0 ≡ j = cc in subst (λ j. links 2 j ≡ true) at refl
+points_over (suc (suc (suc zero))) j e = let at : 2 ≡ j = cc in subst (λ j. links 3 j ≡ true) at refl
+points_over (suc (suc (suc (suc i)))) j e = absurd cc
+
+-- the triangle with a tail is a lawful world
+pub world : IsWorld triangle_world
+world = record {
+  network = record {
+    rows = triangle_network.rows;
+    few = triangle_network.few;
+    lawful = record {
+      in_range = triangle_network.lawful.in_range;
+      symmetric = triangle_network.lawful.symmetric;
+      no_loop = triangle_network.lawful.no_loop;
+      to_linked = λ i j e. linked_is i j ∙ points_over i j e;
+    };
+  };
+  choices = refl;
+  hold = hold-none 4 (configuration triangle_world);
+}
+
+-- its potentials are 20 together
+pub triangle_potential : whole_potential (configuration triangle_world) ≡ 20
+unfolding potential whole_potential is_married
+triangle_potential = ap (λ linked. whole_potential (shape linked triangle_world.network.registers)) same_links
+
+-- ---- the run
+
+one_owner : All (λ s. s < 1) (0 ∷ [])
+one_owner zero d lt = omega arith
+one_owner (suc k) d lt = absurd (omega arith)
+
+-- the roster of the one student is lawful
+pub roster : IsRoster sole_owner
+roster = record {
+  few = omega arith;
+  formed = formed;
+  differ = differ;
+  owned = owned;
+}
+  where
+    formed : (w : Who) → IsPrincipal sole_owner w → IsTrue (is_account (account_of sole_owner w))
+    formed who.Teacher is = refl
+    formed (who.Student zero) is = refl
+    formed (who.Student (suc s)) is = absurd (omega arith)
+
+    differ : (a b : Who) → IsPrincipal sole_owner a → IsPrincipal sole_owner b → name_of sole_owner a ≡ name_of sole_owner b → a ≡ b
+    differ who.Teacher who.Teacher is are e = refl
+    differ who.Teacher (who.Student zero) is are e = absurd (false≢true (ap (list_any (λ b. b == 115)) e))
+    differ (who.Student zero) who.Teacher is are e = absurd (false≢true (ap (list_any (λ b. b == 116)) e))
+    differ (who.Student zero) (who.Student zero) is are e = refl
+    differ a (who.Student (suc s)) is are e = absurd (omega arith)
+    differ (who.Student (suc s)) b is are e = absurd (omega arith)
+
+    owned : All (All (λ s. s < 1)) sole_owner.owners
+    owned zero d lt = one_owner
+    owned (suc zero) d lt = one_owner
+    owned (suc (suc zero)) d lt = one_owner
+    owned (suc (suc (suc zero))) d lt = one_owner
+    owned (suc (suc (suc (suc i)))) d lt = absurd (omega arith)
+
+owns_all : (i : ℕ) → i < size triangle_world → owns sole_owner (who.Student 0) i ≡ true
+owns_all zero lt = refl
+owns_all (suc zero) lt = refl
+owns_all (suc (suc zero)) lt = refl
+owns_all (suc (suc (suc zero))) lt = refl
+owns_all (suc (suc (suc (suc i)))) lt = absurd (omega arith)
+
+told : tells links triangle_world.network.registers triangle_world.chosen twenty_moves 20 ≡ true
+unfolding is_married has_suitor greatest_candidate
+told = refl
+
+run : (is_legal_list sole_owner triangle_world twenty_moves ≡ true) × (applied_over triangle_world twenty_moves ≡ 20)
+run = sound sole_owner triangle_world twenty_moves 20 owns_all
+    (subst (λ linked. tells linked triangle_world.network.registers triangle_world.chosen twenty_moves 20 ≡ true) (sym same_links) told)
+
+-- the list of twenty moves is legal there
+pub legal : is_legal_list sole_owner triangle_world twenty_moves ≡ true
+legal = run.0
+
+-- its closes apply 20 moves
+pub applied : applied_over triangle_world twenty_moves ≡ 20
+applied = run.1
+
+-- four links
+pub four : link_count triangle_world.network ≡ 4
+unfolding link_count
+four = ap (λ linked. links_below (shape linked triangle_world.network.registers) 4) same_links
+
+-- as many as the bound: 2 for each link and 3 for each node
+pub as_many : applied_over triangle_world twenty_moves ≡ 2 * link_count triangle_world.network + 3 * size triangle_world
+as_many = omega (arith, applied, four)

@@ -1,0 +1,118 @@
+-- From every world a grant and a close for each move lead to where no node is privileged.
+use Rattle.std.proofs.Common.{◌≡◌, ℕ, zero, suc, ◌+◌, ◌*◌, ◌≤◌, ◌⊎◌, Bool, true, false, List, [], ◌∷◌, set, None, Some, is_some, inl, inr, refl, ap, arith}
+use Rattle.std.proofs.lemmas.Bool.{and_from, and_parts}
+use Rattle.std.proofs.lemmas.List.{get_or-set_same}
+use Rattle.mml_ids.specs.Search.{some_below}
+use Rattle.mml_ids.proofs.SearchLemmas.{some_below-find, some_below-none}
+use Rattle.mml_rules.specs.declared.rule.Rule.{Rule}
+use Rattle.mml_rules.specs.Rules.{is_privileged}
+use Rattle.mml_rules.specs.Matching.{IsStable}
+use Rattle.mml_lab.specs.Labs.{link_count}
+use Rattle.mml_lab.specs.Rosters.{RosterValue}
+use Rattle.mml_board.specs.declared.event.Event.{Event}
+use Rattle.mml_board.specs.declared.event.Event.TheVariants as event
+use Rattle.mml_board.specs.World.{World, size, configuration, chosen_at, IsWorld}
+use Rattle.mml_board.specs.Events.{is_asked_by_owner, is_possible, is_any_chosen, is_legal, after}
+use Rattle.mml_board.proofs.WorldLemmas.{after-world, size-after, none_at}
+use Rattle.mml_convergence.specs.Potential.{whole_potential}
+use Rattle.mml_convergence.specs.Rest.{is_grant_or_close, EachHasOwner, LeadsToRest}
+use Rattle.mml_convergence.proofs.AppliedLemmas.{close_moves, close_pays, network_most}
+use Rattle.mml_convergence.proofs.RestLemmas.{none_chosen, any_chosen, may_move, first_owner}
+
+abbrev IsQuiet : World → Type 0
+IsQuiet w = (i : ℕ) → chosen_at w.chosen i ≡ None
+
+-- a world before a step, and what lets the run go on there
+record IsReady (r : RosterValue) (w : World) : Type 0 where
+  world : IsWorld w
+  owned : EachHasOwner r (size w)
+
+ready_after : (r : RosterValue) (w : World) (e : Event) → IsReady r w → is_legal r w e ≡ true → IsReady r (after w e)
+ready_after r w e k legal = record {
+  world = after-world w e k.world (and_parts (is_asked_by_owner r e) (is_possible w e) legal).1;
+  owned = λ i lt. k.owned i (omega (arith, size-after w e));
+}
+
+-- a move that can be granted, and closed at once
+record NextMove (r : RosterValue) (w : World) : Type 0 where
+  owner : ℕ
+  node : ℕ
+  rule : Rule
+  grant : is_legal r w (event.Grant owner node rule) ≡ true
+  close : is_legal r (after w (event.Grant owner node rule)) event.Close ≡ true
+
+next_move : (r : RosterValue) (w : World) → IsReady r w → IsQuiet w → IsStable (configuration w) ⊎ NextMove r w
+next_move r w k quiet = go (some_below (size w) (is_privileged (configuration w))) refl
+  where
+    go : (b : Bool) → some_below (size w) (is_privileged (configuration w)) ≡ b → IsStable (configuration w) ⊎ NextMove r w
+    go false e = inl (λ i lt. some_below-none (size w) i (is_privileged (configuration w)) e lt)
+    go true e =
+        let found = some_below-find (size w) (is_privileged (configuration w)) e in
+        let i = found.0 in
+        let move = may_move r w i k.world found.1 found.2 (quiet i) in
+        let owner = first_owner r i (k.owned i found.1) in
+        let here : chosen_at (set w.chosen i (Some move.0)) i ≡ Some move.0 =
+        get_or-set_same w.chosen i (Some move.0) None (omega (arith, found.1, k.world.choices)) in
+        inr (record
+        { owner = owner.0; node = i; rule = move.0; grant = move.1 owner.0 owner.1; close = any_chosen (set w.chosen i (Some move.0)) i (ap is_some here) })
+
+-- a close takes at least 1 from the potential
+close_lowers : (r : RosterValue) (w : World) → IsWorld w → is_legal r w event.Close ≡ true
+    → whole_potential (configuration (after w event.Close)) + 1 ≤ whole_potential (configuration w)
+close_lowers r w k legal = let pays = close_pays w k in let moves = close_moves w k legal in omega (arith, pays, moves)
+
+goes_on : (r : RosterValue) (w : World) (e : Event) (n : ℕ) (es : List Event) → is_legal r w e ≡ true → is_grant_or_close e ≡ true
+    → LeadsToRest r (after w e) n es → LeadsToRest r w (n + 1) (e ∷ es)
+goes_on r w e n es legal forward t = let few = t.few in
+    record { legal = and_from _ _ legal t.legal; forward = and_from _ _ forward t.forward; stable = t.stable; few = omega arith }
+
+within : (r : RosterValue) (w : World) (n m : ℕ) (es : List Event) → n ≤ m → LeadsToRest r w n es → LeadsToRest r w m es
+within r w n m es le t = let few = t.few in record { legal = t.legal; forward = t.forward; stable = t.stable; few = omega arith }
+
+abbrev Reached : RosterValue → World → ℕ → Type 0
+Reached r w n = (es : List Event) × LeadsToRest r w n es
+
+at_rest : (r : RosterValue) (w : World) (n : ℕ) → IsStable (configuration w) → Reached r w n
+at_rest r w n stable = ([], record { legal = refl; forward = refl; stable = stable; few = omega arith })
+
+-- two events for each unit of the potential
+by_moves : (n : ℕ) (r : RosterValue) (w : World) → IsReady r w → IsQuiet w → whole_potential (configuration w) ≤ n → Reached r w (2 * n)
+by_moves zero r w k quiet le = elim (next_move r w k quiet) [
+  | inl stable ↦ at_rest r w 0 stable
+  | inr o ↦
+      let granted = ready_after r w (event.Grant o.owner o.node o.rule) k o.grant in
+      let less = close_lowers r (after w (event.Grant o.owner o.node o.rule)) granted.world o.close in absurd (omega (arith, less, le))
+]
+by_moves (suc n) r w k quiet le = elim (next_move r w k quiet) [
+  | inl stable ↦ at_rest r w (2 * suc n) stable
+  | inr o ↦
+      let granted = ready_after r w (event.Grant o.owner o.node o.rule) k o.grant in
+      let less = close_lowers r (after w (event.Grant o.owner o.node o.rule)) granted.world o.close in
+      let closed = ready_after r (after w (event.Grant o.owner o.node o.rule)) event.Close granted o.close in
+      let rest = by_moves n r (after (after w (event.Grant o.owner o.node o.rule)) event.Close) closed (none_at (size w)) (omega (arith, less, le)) in (
+        event.Grant o.owner o.node o.rule ∷ event.Close ∷ rest.0,
+        within r w (2 * n + 1 + 1) (2 * suc n) _ (omega arith)
+            (goes_on r w (event.Grant o.owner o.node o.rule) (2 * n + 1) (event.Close ∷ rest.0) o.grant refl
+            (goes_on r (after w (event.Grant o.owner o.node o.rule)) event.Close (2 * n) rest.0 o.close refl rest.1)),
+      )
+]
+
+-- first a close, where something is chosen
+pub reached : (r : RosterValue) (w : World) → IsWorld w → EachHasOwner r (size w) → Reached r w (4 * link_count w.network + 6 * size w)
+reached r w k owned = go (is_any_chosen w) refl
+  where
+    ready : IsReady r w
+    ready = record { world = k; owned = owned }
+
+    go : (b : Bool) → is_any_chosen w ≡ b → Reached r w (4 * link_count w.network + 6 * size w)
+    go false e =
+        let most = network_most w.network k.network in
+        let rest = by_moves (whole_potential (configuration w)) r w ready (λ i. none_chosen w.chosen i e) (omega arith) in
+        (rest.0, within r w _ _ rest.0 (omega (arith, most)) rest.1)
+    go true e =
+        let most = network_most w.network k.network in
+        let less = close_lowers r w k e in
+        let rest =
+        by_moves (whole_potential (configuration (after w event.Close))) r (after w event.Close) (ready_after r w event.Close ready e)
+        (none_at (size w)) (omega arith) in
+        (event.Close ∷ rest.0, within r w _ _ (event.Close ∷ rest.0) (omega (arith, most, less)) (goes_on r w event.Close _ rest.0 e refl rest.1))

@@ -1,0 +1,153 @@
+-- How many nodes are married: they come in pairs, so a step makes two more or none.
+use Rattle.std.proofs.Common.{◌≡◌, ℕ, zero, suc, ◌+◌, ◌<◌, ◌≤◌, ◌⊎◌, inl, inr, Bool, true, false, cond, not, ◌&&◌, ◌||◌, ◌==◌, Option, Some, refl}
+use Rattle.std.proofs.Common.{sym, ap, ◌∙◌, subst, arith}
+use Rattle.std.proofs.lemmas.Bool.{and_parts, and_from, or_cases, or_left, or_right, or_from, not-true, eq-eqb, eqb-true, ne_eqb, both_ways}
+use Rattle.std.proofs.lemmas.Bool.{false≢true, false_from_ne_true, cases_order, cases_Bool}
+use Rattle.mml_ids.specs.Search.{some_below, count_below}
+use Rattle.mml_ids.proofs.SearchLemmas.{some_below-find, some_below-none}
+use Rattle.mml_rules.specs.declared.rule.Rule.{Rule}
+use Rattle.mml_rules.specs.Configuration.{Configuration, IsLawful}
+use Rattle.mml_rules.specs.Rules.{is_married, step, AllHold}
+use Rattle.mml_rules.proofs.RulesLemmas.{married-partner, married-from}
+use Rattle.mml_rules.proofs.StepLemmas.{step-lawful}
+use Rattle.mml_convergence.proofs.StepLemmas.{step-keeps, step-married}
+
+-- ---- counts
+
+one_kept : (x y : Bool) → (x ≡ true → y ≡ true) → cond {A = ℕ} x 1 0 ≤ cond {A = ℕ} y 1 0
+one_kept true true f = omega arith
+one_kept true false f = absurd (false≢true (f refl))
+one_kept false y f = omega arith
+
+count_kept : (n : ℕ) (t u : ℕ → Bool) → ((j : ℕ) → t j ≡ true → u j ≡ true) → count_below n t ≤ count_below n u
+count_kept zero t u le = omega arith
+count_kept (suc n) t u le =
+    let rest = count_kept n t u le in
+    let last = one_kept (t n) (u n) (le n) in
+    omega (arith, rest, last)
+
+count_more : (n a : ℕ) (t u : ℕ → Bool) → ((j : ℕ) → t j ≡ true → u j ≡ true) → a < n → t a ≡ false → u a ≡ true → count_below n t + 1 ≤ count_below n u
+count_more zero a t u le lt off on = absurd (omega arith)
+count_more (suc n) a t u le lt off on = elim (cases_order a n) [
+  | inl e ↦
+      let rest = count_kept n t u le in
+      let none : cond {A = ℕ} (t n) 1 0 ≡ 0 = ap (λ b. cond b 1 0) (subst (λ x. t x ≡ false) e off) in
+      let one : cond {A = ℕ} (u n) 1 0 ≡ 1 = ap (λ b. cond b 1 0) (subst (λ x. u x ≡ true) e on) in
+      omega (arith, rest, none, one)
+  | inr o ↦ elim o [
+    | inl below ↦
+        let rest = count_more n a t u le below off on in
+        let last = one_kept (t n) (u n) (le n) in
+        omega (arith, rest, last)
+    | inr above ↦ absurd (omega arith)
+  ]
+]
+
+count_two : (n a b : ℕ) (t u : ℕ → Bool) → ((j : ℕ) → t j ≡ true → u j ≡ true) → (a ≡ b → ⊥) → a < n → b < n
+    → t a ≡ false → t b ≡ false → u a ≡ true → u b ≡ true → count_below n t + 2 ≤ count_below n u
+count_two n a b t u le apart a_in b_in ta tb ua ub =
+    let first = count_more n a t (λ j. t j || (j == a)) (λ j e. or_left (t j) (j == a) e) a_in ta (or_right (t a) (a == a) (eq-eqb a a refl)) in
+    let second = count_more n b (λ j. t j || (j == a)) u (λ j e. elim (or_cases (t j) (j == a) e) [
+      | inl on ↦ le j on
+      | inr same ↦ subst (λ x. u x ≡ true) (sym (eqb-true j a same)) ua
+    ]) b_in (or_from (t b) (b == a) tb (ne_eqb b a (λ e. apart (sym e)))) ub in
+    omega (arith, first, second)
+
+count_all : (n : ℕ) → count_below n (λ j. true) ≤ n
+count_all zero = omega arith
+count_all (suc n) = let rest = count_all n in omega (arith, rest)
+
+-- ---- married nodes
+
+-- how many nodes are married
+abbrev pub married_count : Configuration → ℕ
+married_count c = count_below c.size (is_married c)
+
+-- linked nodes differ
+pub apart : (c : Configuration) (i j : ℕ) → IsLawful c → c.linked i j ≡ true → i ≡ j → ⊥
+apart c i j l linked e = both_ways (c.linked i i) (l.no_loop i) (subst (λ x. c.linked i x ≡ true) (sym e) linked)
+
+pub married_in : (c : Configuration) (i : ℕ) → IsLawful c → is_married c i ≡ true → i < c.size
+married_in c i l e = let r = married-partner c i e in (l.in_range i r.0 (l.to_linked i r.0 r.1)).0
+
+-- one married node makes two
+pub pair_counts : (c : Configuration) (i : ℕ) → IsLawful c → is_married c i ≡ true → 2 ≤ married_count c
+pair_counts c i l e =
+    let r = married-partner c i e in
+    let linked = l.to_linked i r.0 r.1 in
+    let range = l.in_range i r.0 linked in
+    let two =
+    count_two c.size i r.0 (λ j. false) (is_married c) (λ j e. absurd (false≢true e)) (apart c i r.0 l linked) range.0 range.1 refl refl e
+    (married-from c r.0 i l r.2 r.1) in
+    omega (arith, two)
+
+-- two linked nodes that aren't married leave room for two
+pub open_counts : (c : Configuration) (a b : ℕ) → IsLawful c → c.linked a b ≡ true → is_married c a ≡ false → is_married c b ≡ false
+    → married_count c + 2 ≤ c.size
+open_counts c a b l linked ea eb =
+    let range = l.in_range a b linked in
+    let two = count_two c.size a b (is_married c) (λ j. true) (λ j e. refl) (apart c a b l linked) range.0 range.1 ea eb refl refl in
+    let all = count_all c.size in
+    omega (arith, two, all)
+
+-- where some node isn't married, fewer than all nodes are
+pub single_counts : (c : Configuration) (i : ℕ) → i < c.size → is_married c i ≡ false → married_count c + 1 ≤ c.size
+single_counts c i lt e =
+    let one = count_more c.size i (is_married c) (λ j. true) (λ j e. refl) lt e refl in
+    let all = count_all c.size in
+    omega (arith, one, all)
+
+-- no more nodes are married than there are
+pub most : (c : Configuration) → married_count c ≤ c.size
+most c =
+    let kept = count_kept c.size (is_married c) (λ j. true) (λ j e. refl) in
+    let all = count_all c.size in
+    omega (arith, kept, all)
+
+-- ---- a step
+
+-- no node is newly married
+abbrev pub Calm : Configuration → (ℕ → Option Rule) → Type 0
+Calm c chosen = (i : ℕ) → is_married (step c chosen) i ≡ true → is_married c i ≡ true
+
+-- a step leaves no fewer nodes married
+pub married_kept : (c : Configuration) (chosen : ℕ → Option Rule) → IsLawful c → AllHold c chosen → married_count c ≤ married_count (step c chosen)
+married_kept c chosen l h = count_kept c.size (is_married c) (is_married (step c chosen)) (step-married c chosen l h)
+
+new_pair : (c : Configuration) (chosen : ℕ → Option Rule) → IsLawful c → AllHold c chosen → (x : ℕ) → is_married (step c chosen) x ≡ true
+    → is_married c x ≡ false → married_count c + 2 ≤ married_count (step c chosen)
+new_pair c chosen l h x new old =
+    let lawful = step-lawful c chosen l h in
+    let r = married-partner (step c chosen) x new in
+    let linked = lawful.to_linked x r.0 r.1 in
+    let range = l.in_range x r.0 linked in
+    let alone : is_married c r.0 ≡ false = false_from_ne_true (is_married c r.0) (λ m.
+    let z = married-partner c r.0 m in
+    let kept = step-keeps c chosen h r.0 z.0 (z.1, z.2) in
+    both_ways (is_married c x) old (back z.0 r.0 (same (step c chosen) r.0 x z.0 r.2 kept.0) z.1 z.2)) in
+    count_two c.size x r.0 (is_married c) (is_married (step c chosen)) (step-married c chosen l h) (apart c x r.0 l linked) range.0 range.1 old alone
+    new (married-from (step c chosen) r.0 x lawful r.2 r.1)
+  where
+    same : (d : Configuration) (y x z : ℕ) → d.p y ≡ Some x → d.p y ≡ Some z → z ≡ x
+    same d y x z a b = let e : Some z ≡ Some x = sym b ∙ a in cc
+
+    back : (z y : ℕ) → z ≡ x → c.p y ≡ Some z → c.p z ≡ Some y → is_married c x ≡ true
+    back z y e a b = married-from c x y l (subst (λ v. c.p v ≡ Some y) e b) (subst (λ v. c.p y ≡ Some v) e a)
+
+-- two more nodes are married, or none
+pub grows : (c : Configuration) (chosen : ℕ → Option Rule) → IsLawful c → AllHold c chosen
+    → (married_count c + 2 ≤ married_count (step c chosen)) ⊎ Calm c chosen
+grows c chosen l h = go (some_below c.size (λ x. is_married (step c chosen) x && not (is_married c x))) refl
+  where
+    go : (b : Bool) → some_below c.size (λ x. is_married (step c chosen) x && not (is_married c x)) ≡ b
+        → (married_count c + 2 ≤ married_count (step c chosen)) ⊎ Calm c chosen
+    go true e =
+        let found = some_below-find c.size (λ x. is_married (step c chosen) x && not (is_married c x)) e in
+        let both = and_parts (is_married (step c chosen) found.0) (not (is_married c found.0)) found.2 in
+        inl (new_pair c chosen l h found.0 both.0 (not-true _ both.1))
+    go false e = inr (λ i new. elim (cases_Bool (is_married c i)) [
+      | inl on ↦ on
+      | inr off ↦
+          let i_in = married_in (step c chosen) i (step-lawful c chosen l h) new in
+          absurd (both_ways _ (some_below-none c.size i (λ x. is_married (step c chosen) x && not (is_married c x)) e i_in) (and_from _ _ new (ap not off)))
+    ])

@@ -1,0 +1,152 @@
+-- What guards say, and over which links a move makes or takes back a pointer.
+use Rattle.std.proofs.Common.{◌≡◌, ◌==◌, ℕ, ◌<◌, Bool, true, false, not, ◌&&◌, ◌||◌, ◌⊎◌, inl, inr, Option, None, Some, is_some, is_none, sym, refl}
+use Rattle.std.proofs.Common.{ap, ◌∙◌, subst, nat_lt}
+use Rattle.std.specs.Option.{option_map_or}
+use Rattle.std.proofs.lemmas.Bool.{and_parts, or_cases, not-true, both_ways, false≢true, ltb-true, eqb-true}
+use Rattle.mml_rules.specs.declared.rule.Rule.{Rule}
+use Rattle.mml_rules.specs.Configuration.{Configuration, holds}
+use Rattle.mml_rules.specs.Rules.{is_married, has_suitor, greatest_candidate, m_is_right, points_in_vain, guard, moved}
+use Rattle.mml_rules.proofs.ConfigurationLemmas.{holds-true, holds-from}
+use Rattle.mml_rules.proofs.RulesLemmas.{none-null, greatest-is}
+use Rattle.mml_rules.proofs.MeaningLemmas.{beq-true}
+use Rattle.mml_convergence.proofs.StepLemmas.{beq-false}
+
+-- the guard of a move holds, if there is one
+abbrev pub Holds : Configuration → ℕ → Option Rule → Type 0
+Holds c i o = (r : Rule) → o ≡ Some r → guard c i r ≡ true
+
+-- ---- what the guards say
+
+pub record Marries (c : Configuration) (i j : ℕ) : Type 0 where
+  pub right : c.m i ≡ is_married c i
+  pub null : c.p i ≡ None
+  pub linked : c.linked i j ≡ true
+  pub suitor : c.p j ≡ Some i
+
+-- a node that may marry points nowhere, its m is right, and its partner is linked to it and points at it
+pub marries : (c : Configuration) (i j : ℕ) → guard c i (Rule.Marriage j) ≡ true → Marries c i j
+marries c i j h =
+    let x = and_parts (m_is_right c i) (is_none (c.p i) && (c.linked i j && holds (c.p j) i)) h in
+    let y = and_parts (is_none (c.p i)) (c.linked i j && holds (c.p j) i) x.1 in
+    let z = and_parts (c.linked i j) (holds (c.p j) i) y.1 in
+    record { right = beq-true _ _ x.0; null = none-null (c.p i) y.0; linked = z.0; suitor = holds-true (c.p j) i z.1 }
+
+pub record Seduces (c : Configuration) (i j : ℕ) : Type 0 where
+  pub right : c.m i ≡ is_married c i
+  pub null : c.p i ≡ None
+  pub linked : c.linked i j ≡ true
+  pub higher : i < j
+  pub free : c.p j ≡ None
+  pub m : c.m j ≡ false
+
+-- a node that may seduce has m right and points nowhere; its greatest candidate is higher, and points nowhere too
+pub seduces : (c : Configuration) (i j : ℕ) → guard c i Rule.Seduction ≡ true → greatest_candidate c i ≡ Some j → Seduces c i j
+seduces c i j h e =
+    let x = and_parts (m_is_right c i) (is_none (c.p i) && (not (has_suitor c i) && is_some (greatest_candidate c i))) h in
+    let y = and_parts (is_none (c.p i)) (not (has_suitor c i) && is_some (greatest_candidate c i)) x.1 in
+    let a = and_parts (c.linked i j) (nat_lt i j && (is_none (c.p j) && not (c.m j))) (greatest-is c i j e) in
+    let b = and_parts (nat_lt i j) (is_none (c.p j) && not (c.m j)) a.1 in
+    let d = and_parts (is_none (c.p j)) (not (c.m j)) b.1 in
+    record { right = beq-true _ _ x.0; null = none-null (c.p i) y.0; linked = a.0; higher = ltb-true i j b.0; free = none-null (c.p j) d.0; m = not-true _ d.1 }
+
+-- a node that may seduce has a greatest candidate
+pub seduced : (c : Configuration) (i : ℕ) → guard c i Rule.Seduction ≡ true → (j : ℕ) × (greatest_candidate c i ≡ Some j)
+seduced c i h =
+    let x = and_parts (m_is_right c i) (is_none (c.p i) && (not (has_suitor c i) && is_some (greatest_candidate c i))) h in
+    let y = and_parts (is_none (c.p i)) (not (has_suitor c i) && is_some (greatest_candidate c i)) x.1 in
+    go (greatest_candidate c i) refl (and_parts (not (has_suitor c i)) (is_some (greatest_candidate c i)) y.1).1
+  where
+    go : (o : Option ℕ) → greatest_candidate c i ≡ o → is_some o ≡ true → (j : ℕ) × (greatest_candidate c i ≡ Some j)
+    go None e s = absurd (false≢true s)
+    go (Some j) e s = (j, e)
+
+pub record Abandons (c : Configuration) (i j : ℕ) : Type 0 where
+  pub right : c.m i ≡ is_married c i
+  pub unanswered : holds (c.p j) i ≡ false
+  pub vain : (c.m j ≡ true) ⊎ (j < i)
+
+-- a node that may abandon has m right, and the one it points at doesn't point back, and has m true or is lower
+pub abandons : (c : Configuration) (i j : ℕ) → guard c i Rule.Abandonment ≡ true → c.p i ≡ Some j → Abandons c i j
+abandons c i j h e =
+    let x = and_parts (m_is_right c i) (points_in_vain c i) h in
+    let v : (not (holds (c.p j) i) && (c.m j || nat_lt j i)) ≡ true =
+    sym (ap (λ o. option_map_or (λ j. not (holds (c.p j) i) && (c.m j || nat_lt j i)) o false) e) ∙ x.1 in
+    let y = and_parts (not (holds (c.p j) i)) (c.m j || nat_lt j i) v in
+    record {
+      right = beq-true _ _ x.0;
+      unanswered = not-true _ y.0;
+      vain = elim (or_cases (c.m j) (nat_lt j i) y.1) [ inl m ↦ inl m | inr lt ↦ inr (ltb-true j i lt) ];
+    }
+
+-- a node that may abandon points at some node
+pub abandoned : (c : Configuration) (i : ℕ) → guard c i Rule.Abandonment ≡ true → (j : ℕ) × (c.p i ≡ Some j)
+abandoned c i h = go (c.p i) refl (and_parts (m_is_right c i) (points_in_vain c i) h).1
+  where
+    go : (o : Option ℕ) → c.p i ≡ o → option_map_or (λ j. not (holds (c.p j) i) && (c.m j || nat_lt j i)) o false ≡ true → (j : ℕ) × (c.p i ≡ Some j)
+    go None e v = absurd (false≢true v)
+    go (Some j) e v = (j, e)
+
+-- ---- who is charged for a move
+
+-- a node is charged for its own move, but not for a marriage with a lower node
+abbrev pub pays : Option Rule → ℕ → Bool
+pays None i = false
+pays (Some Rule.Update) i = true
+pays (Some (Rule.Marriage j)) i = not (nat_lt j i)
+pays (Some Rule.Seduction) i = true
+pays (Some Rule.Abandonment) i = true
+
+-- that marriage of k is charged to the lower i
+abbrev pub marries_lower : Option Rule → (k i : ℕ) → Bool
+marries_lower None k i = false
+marries_lower (Some Rule.Update) k i = false
+marries_lower (Some (Rule.Marriage j)) k i = (j == i) && nat_lt i k
+marries_lower (Some Rule.Seduction) k i = false
+marries_lower (Some Rule.Abandonment) k i = false
+
+-- a marriage that is charged to a lower node is one with that node
+pub marries_lower-means : (o : Option Rule) (k i : ℕ) → marries_lower o k i ≡ true → (o ≡ Some (Rule.Marriage i)) × (i < k)
+marries_lower-means None k i e = absurd (false≢true e)
+marries_lower-means (Some Rule.Update) k i e = absurd (false≢true e)
+marries_lower-means (Some (Rule.Marriage j)) k i e =
+    let x = and_parts (j == i) (nat_lt i k) e in
+    (ap (λ z. Some (Rule.Marriage z)) (eqb-true j i x.0), ltb-true i k x.1)
+marries_lower-means (Some Rule.Seduction) k i e = absurd (false≢true e)
+marries_lower-means (Some Rule.Abandonment) k i e = absurd (false≢true e)
+
+-- ---- what a move does
+
+-- where an update may be applied, m is wrong
+pub updates : (c : Configuration) (i : ℕ) → guard c i Rule.Update ≡ true → c.m i ≡ not (is_married c i)
+updates c i h = beq-false (c.m i) (is_married c i) (not-true _ h)
+
+-- a pointer that i has not before the move and has after it: i points nowhere before, its m is right, and j is its suitor or its candidate
+pub record Makes (c : Configuration) (i j : ℕ) : Type 0 where
+  pub right : c.m i ≡ is_married c i
+  pub null : c.p i ≡ None
+  pub partner : (c.p j ≡ Some i) ⊎ ((i < j) × (c.p j ≡ None) × (c.m j ≡ false))
+
+-- where a move makes a pointer, the node pointed nowhere, its m is right, and it now points at a suitor or a candidate
+pub makes : (c : Configuration) (i j : ℕ) (o : Option Rule) → Holds c i o → holds (c.p i) j ≡ false → (moved c i o).p ≡ Some j → Makes c i j
+makes c i j None h off e = absurd (both_ways (holds (c.p i) j) off (holds-from (c.p i) j e))
+makes c i j (Some Rule.Update) h off e = absurd (both_ways (holds (c.p i) j) off (holds-from (c.p i) j e))
+makes c i j (Some (Rule.Marriage k)) h off e =
+    let same : k ≡ j = cc in
+    let g = marries c i k (h (Rule.Marriage k) refl) in
+    record { right = g.right; null = g.null; partner = inl (subst (λ z. c.p z ≡ Some i) same g.suitor) }
+makes c i j (Some Rule.Seduction) h off e =
+    let g = seduces c i j (h Rule.Seduction refl) e in
+    record { right = g.right; null = g.null; partner = inr (g.higher, g.free, g.m) }
+makes c i j (Some Rule.Abandonment) h off e = cc
+
+-- a pointer that i has before the move and has not after it: i abandons j
+pub drops : (c : Configuration) (i j : ℕ) (o : Option Rule) → Holds c i o → c.p i ≡ Some j → holds (moved c i o).p j ≡ false
+    → Abandons c i j × ((moved c i o).m ≡ c.m i)
+drops c i j None h e off = absurd (both_ways (holds (c.p i) j) off (holds-from (c.p i) j e))
+drops c i j (Some Rule.Update) h e off = absurd (both_ways (holds (c.p i) j) off (holds-from (c.p i) j e))
+drops c i j (Some (Rule.Marriage k)) h e off = let g = marries c i k (h (Rule.Marriage k) refl) in let null = g.null in cc
+drops c i j (Some Rule.Seduction) h e off =
+    let some = seduced c i (h Rule.Seduction refl) in
+    let g = seduces c i some.0 (h Rule.Seduction refl) some.1 in
+    let null = g.null in cc
+drops c i j (Some Rule.Abandonment) h e off = (abandons c i j (h Rule.Abandonment refl) e, refl)

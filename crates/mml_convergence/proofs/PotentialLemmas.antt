@@ -1,0 +1,282 @@
+-- In a step each node's potential falls by what is charged to it: its own move, but for a marriage with a lower node, and a marriage of a higher node with it.
+use Rattle.std.proofs.Common.{◌≡◌, ℕ, ◌+◌, ◌<◌, ◌≤◌, Bool, true, false, cond, not, inl, inr, Option, None, Some, sym, refl, ap, ◌∙◌, subst, arith, nat_lt}
+use Rattle.std.specs.Option.{option_map_or}
+use Rattle.std.proofs.lemmas.Bool.{and_parts, and_from, both_ways, false≢true, ltb-true, lt-ltb, cases_Bool, cases_order}
+use Rattle.mml_ids.specs.Search.{some_below, count_below}
+use Rattle.mml_ids.proofs.SearchLemmas.{some_below-find, some_below-none}
+use Rattle.mml_rules.specs.declared.rule.Rule.{Rule}
+use Rattle.mml_rules.specs.Configuration.{Configuration, IsLawful, holds}
+use Rattle.mml_rules.specs.Rules.{is_married, moved, step, AllHold}
+use Rattle.mml_rules.proofs.ConfigurationLemmas.{holds-true, holds-from}
+use Rattle.mml_rules.proofs.RulesLemmas.{married-null, married-at, married-from}
+use Rattle.mml_rules.proofs.StepLemmas.{step-lawful}
+use Rattle.mml_convergence.proofs.StepLemmas.{step-keeps, step-married, step-free, moved-m}
+use Rattle.mml_convergence.specs.Potential.{sum_below, points_down, own_part, is_above, link_part, potential}
+use Rattle.mml_convergence.proofs.PartsLemmas.{IsMoved, IsStep, own_kept, own_updated, own_abandoned, link_kept, link_fell, link_answered}
+use Rattle.mml_convergence.proofs.SumsLemmas.{sum_kept, sum_fell, count_none, count_one_at_most}
+use Rattle.mml_convergence.proofs.MovesLemmas.{pays, marries_lower, marries_lower-means, updates, Marries, marries, seduces, seduced, abandons, abandoned}
+use Rattle.mml_convergence.proofs.MovesLemmas.{makes, drops}
+
+cond_kept : (b : Bool) (x y : ℕ) → (b ≡ true → x ≤ y) → cond b x 0 ≤ cond b y 0
+cond_kept true x y le = le refl
+cond_kept false x y le = omega arith
+
+cond_fell : (b : Bool) (x y : ℕ) → b ≡ true → x + 1 ≤ y → cond b x 0 + 1 ≤ cond b y 0
+cond_fell true x y e le = le
+cond_fell false x y e le = absurd (false≢true e)
+
+module _ (c : Configuration) (chosen : ℕ → Option Rule) (l : IsLawful c) (h : AllHold c chosen) where
+  -- the configuration after the step
+  abbrev next : Configuration
+  next = step c chosen
+
+  lawful : IsLawful next
+  lawful = step-lawful c chosen l h
+
+  married : (i : ℕ) → is_married c i ≡ true → is_married next i ≡ true
+  married i e = step-married c chosen l h i e
+
+  m_moved : (i : ℕ) → IsMoved (is_married c i) (c.m i) (next.m i)
+  m_moved i = moved-m c i (chosen i) (h i)
+
+  -- who points at a higher node with m false, stays
+  pub suitor_kept : (i j : ℕ) → c.p j ≡ Some i → c.m i ≡ false → j < i → holds (next.p j) i ≡ true
+  suitor_kept i j e off lt = elim (cases_Bool (holds (next.p j) i)) [
+    | inl on ↦ on
+    | inr gone ↦ elim (drops c j i (chosen j) (h j) e gone).0.vain [
+      | inl m ↦ absurd (both_ways (c.m i) off m)
+      | inr gt ↦ absurd (omega arith)
+    ]
+  ]
+
+  -- a marriage with a lower node makes a pair
+  lower_pair : (i j : ℕ) → c.m i ≡ false → c.p j ≡ Some i → next.p i ≡ Some j → j < i → is_married next i ≡ true
+  lower_pair i j off e to lt = married-from next i j lawful to (holds-true (next.p j) i (suitor_kept i j e off lt))
+
+  -- a free node points down only where it did
+  down_kept : (i : ℕ) → is_married next i ≡ false → points_down next i ≡ true → points_down c i ≡ true
+  down_kept i unmarried down = go (next.p i) refl down
+    where
+      go : (o : Option ℕ) → next.p i ≡ o → option_map_or (λ j. nat_lt j i) o false ≡ true → points_down c i ≡ true
+      go None e d = absurd (false≢true d)
+      go (Some j) e d = elim (cases_Bool (holds (c.p i) j)) [
+        | inl on ↦ ap (λ o. option_map_or (λ j. nat_lt j i) o false) (holds-true (c.p i) j on) ∙ d
+        | inr off ↦
+            let made = makes c i j (chosen i) (h i) off e in
+            elim made.partner [
+              | inl suitor ↦ absurd
+                  (both_ways (is_married next i) unmarried (lower_pair i j (made.right ∙ married-null c i made.null) suitor e (ltb-true j i d)))
+              | inr higher ↦ let up = higher.0 in let lt = ltb-true j i d in absurd (omega arith)
+            ]
+      ]
+
+  own_part_kept : (i : ℕ) → own_part next i ≤ own_part c i
+  own_part_kept i =
+      own_kept (is_married c i) (c.m i) (points_down c i) (is_married next i) (next.m i) (points_down next i) (married i) (m_moved i) (down_kept i)
+
+  m_stays : (j : ℕ) → is_married c j ≡ true → c.m j ≡ true → next.m j ≡ true
+  m_stays j e m = elim (m_moved j) [ inl same ↦ same ∙ m | inr changed ↦ changed.0 ∙ e ]
+
+  m_found : (j : ℕ) → next.m j ≡ true → is_married next j ≡ false → (c.m j ≡ true) × (is_married c j ≡ false)
+  m_found j m e = elim (m_moved j) [
+    | inl same ↦ (sym same ∙ m, step-free c chosen l h j e)
+    | inr changed ↦ absurd (both_ways (is_married c j) (step-free c chosen l h j e) (sym changed.0 ∙ m))
+  ]
+
+  m_off : (j : ℕ) → is_married c j ≡ false → c.m j ≡ false → next.m j ≡ false
+  m_off j e m = elim (m_moved j) [ inl same ↦ same ∙ m | inr changed ↦ changed.0 ∙ e ]
+
+  pair_stays : (i j : ℕ) → holds (c.p i) j ≡ true → holds (c.p j) i ≡ true → (holds (next.p i) j ≡ true) × (holds (next.p j) i ≡ true)
+  pair_stays i j a b =
+      let r = step-keeps c chosen h i j (holds-true (c.p i) j a, holds-true (c.p j) i b) in
+      (holds-from (next.p i) j r.0, holds-from (next.p j) i r.1)
+
+  pointer_made : (i j : ℕ) → holds (c.p i) j ≡ false → holds (next.p i) j ≡ true → (is_married c j ≡ false) × (holds (next.p j) i ≡ false → next.m j ≡ false)
+  pointer_made i j off on =
+      let made = makes c i j (chosen i) (h i) off (holds-true (next.p i) j on) in
+      elim made.partner [
+        | inl suitor ↦
+            let alone : is_married c j ≡ false = married-at c j i l suitor ∙ off in
+            (alone, λ gone. let left = drops c j i (chosen j) (h j) suitor gone in left.1 ∙ left.0.right ∙ alone)
+        | inr higher ↦ let alone = married-null c j higher.1 in (alone, λ gone. m_off j alone higher.2)
+      ]
+
+  pointer_dropped : (i j : ℕ) → i < j → holds (c.p i) j ≡ true → holds (next.p i) j ≡ false → c.m j ≡ true
+  pointer_dropped i j lt on off = elim (drops c i j (chosen i) (h i) (holds-true (c.p i) j on) off).0.vain [
+    | inl m ↦ m
+    | inr gt ↦ absurd (omega arith)
+  ]
+
+  link_step : (i j : ℕ) → i < j
+      → IsStep (holds (c.p i) j) (holds (c.p j) i) (c.m j) (is_married c j) (holds (next.p i) j) (holds (next.p j) i) (next.m j) (is_married next j)
+  link_step i j lt = record {
+    keeps = married j;
+    m_keeps = m_stays j;
+    found = m_found j;
+    pair = pair_stays i j;
+    made = pointer_made i j;
+    dropped = pointer_dropped i j lt;
+  }
+
+  above_lt : (i j : ℕ) → is_above c i j ≡ true → i < j
+  above_lt i j e = ltb-true i j (and_parts (c.linked i j) (nat_lt i j) e).1
+
+  link_part_kept : (i j : ℕ) → cond (is_above c i j) (link_part next i j) 0 ≤ cond (is_above c i j) (link_part c i j) 0
+  link_part_kept i j = cond_kept (is_above c i j) _ _ (λ e. link_kept _ _ _ _ _ _ _ _ (link_step i j (above_lt i j e)))
+
+  -- the parts of the links of i to higher nodes, before the step and after it
+  abbrev links_before : ℕ → ℕ
+  links_before i = sum_below c.size (λ j. cond (is_above c i j) (link_part c i j) 0)
+
+  abbrev links_after : ℕ → ℕ
+  links_after i = sum_below c.size (λ j. cond (is_above c i j) (link_part next i j) 0)
+
+  links_kept : (i : ℕ) → links_after i ≤ links_before i
+  links_kept i =
+      sum_kept c.size (λ j. cond (is_above c i j) (link_part next i j) 0) (λ j. cond (is_above c i j) (link_part c i j) 0) (λ j lt. link_part_kept i j)
+
+  links_fell : (i j : ℕ) → c.linked i j ≡ true → i < j → link_part next i j + 1 ≤ link_part c i j → links_after i + 1 ≤ links_before i
+  links_fell i j linked lt less =
+      let above : is_above c i j ≡ true = and_from _ _ linked (lt-ltb i j lt) in
+      let here = cond_fell (is_above c i j) _ _ above less in
+      sum_fell c.size j (λ j. cond (is_above c i j) (link_part next i j) 0) (λ j. cond (is_above c i j) (link_part c i j) 0)
+      (λ j lt. link_part_kept i j) (l.in_range i j linked).1 here
+
+  pointer_fell : (i j : ℕ) → c.linked i j ≡ true → i < j → holds (next.p i) j ≡ not (holds (c.p i) j) → links_after i + 1 ≤ links_before i
+  pointer_fell i j linked lt turned = links_fell i j linked lt (link_fell _ _ _ _ _ _ _ _ (link_step i j lt) turned)
+
+  apart : (i j : ℕ) → c.linked i j ≡ true → i ≡ j → ⊥
+  apart i j linked e = both_ways (c.linked i i) (l.no_loop i) (subst (λ x. c.linked i x ≡ true) (sym e) linked)
+
+  -- ---- a node pays for its own move, but not for a marriage with a lower node
+
+  own_part_updated : (i : ℕ) → chosen i ≡ Some Rule.Update → own_part next i + 1 ≤ own_part c i
+  own_part_updated i e = own_updated (is_married c i) (c.m i) (points_down c i) (is_married next i) (next.m i) (points_down next i) (married i)
+      (updates c i (h i Rule.Update e)) (ap (λ o. (moved c i o).m) e) (ap (λ o. option_map_or (λ j. nat_lt j i) (moved c i o).p false) e)
+
+  -- the parts of i fall by n
+  abbrev Pays : ℕ → ℕ → Type 0
+  Pays i n = own_part next i + links_after i + n ≤ own_part c i + links_before i
+
+  pays_nothing : (i : ℕ) → Pays i 0
+  pays_nothing i = let own = own_part_kept i in let links = links_kept i in omega (arith, own, links)
+
+  by_own_part : (i : ℕ) → own_part next i + 1 ≤ own_part c i → Pays i 1
+  by_own_part i own = let links = links_kept i in omega (arith, own, links)
+
+  by_links : (i : ℕ) → links_after i + 1 ≤ links_before i → Pays i 1
+  by_links i links = let own = own_part_kept i in omega (arith, own, links)
+
+  marriage_paid : (i j : ℕ) → chosen i ≡ Some (Rule.Marriage j) → (b : Bool) → nat_lt j i ≡ b → Pays i (cond (not b) 1 0)
+  marriage_paid i j e true lower = pays_nothing i
+  marriage_paid i j e false up =
+      let g = marries c i j (h i (Rule.Marriage j) e) in
+      let to : next.p i ≡ Some j = ap (λ o. (moved c i o).p) e in
+      elim (cases_order i j) [
+        | inl same ↦ absurd (apart i j g.linked same)
+        | inr o ↦ elim o [
+          | inl lt ↦ by_links i (pointer_fell i j g.linked lt (holds-from (next.p i) j to ∙ sym (ap (λ o. not (holds o j)) g.null)))
+          | inr gt ↦ absurd (both_ways (nat_lt j i) up (lt-ltb j i gt))
+        ]
+      ]
+
+  seduction_paid : (i : ℕ) → chosen i ≡ Some Rule.Seduction → Pays i 1
+  seduction_paid i e =
+      let some = seduced c i (h i Rule.Seduction e) in
+      let g = seduces c i some.0 (h i Rule.Seduction e) some.1 in
+      let to : next.p i ≡ Some some.0 = ap (λ o. (moved c i o).p) e ∙ some.1 in
+      by_links i (pointer_fell i some.0 g.linked g.higher (holds-from (next.p i) some.0 to ∙ sym (ap (λ o. not (holds o some.0)) g.null)))
+
+  abandonment_paid : (i : ℕ) → chosen i ≡ Some Rule.Abandonment → Pays i 1
+  abandonment_paid i e =
+      let some = abandoned c i (h i Rule.Abandonment e) in
+      let j = some.0 in
+      let g = abandons c i j (h i Rule.Abandonment e) some.1 in
+      let alone = married-at c i j l some.1 ∙ g.unanswered in
+      let off = g.right ∙ alone in
+      let null : next.p i ≡ None = ap (λ o. (moved c i o).p) e in
+      let linked = l.to_linked i j some.1 in
+      elim (cases_order i j) [
+        | inl same ↦ absurd (apart i j linked same)
+        | inr o ↦ elim o [
+          | inl up ↦ by_links i (pointer_fell i j linked up (ap (λ o. holds o j) null ∙ sym (ap not (holds-from (c.p i) j some.1))))
+          | inr down ↦ by_own_part i (own_abandoned (is_married c i) (c.m i) (points_down c i) (is_married next i) (next.m i) (points_down next i) alone off
+              (ap (λ o. option_map_or (λ j. nat_lt j i) o false) some.1 ∙ lt-ltb j i down) (ap (λ o. (moved c i o).m) e ∙ off)
+              (ap (λ o. option_map_or (λ j. nat_lt j i) o false) null))
+        ]
+      ]
+
+  -- by the four rules
+  move_paid : (i : ℕ) (o : Option Rule) → chosen i ≡ o → Pays i (cond (pays o i) 1 0)
+  move_paid i None e = pays_nothing i
+  move_paid i (Some Rule.Update) e = by_own_part i (own_part_updated i e)
+  move_paid i (Some (Rule.Marriage j)) e = marriage_paid i j e (nat_lt j i) refl
+  move_paid i (Some Rule.Seduction) e = seduction_paid i e
+  move_paid i (Some Rule.Abandonment) e = abandonment_paid i e
+
+  -- ---- a node pays for a marriage of a higher node with it
+
+  -- what it means that k marries a lower i
+  record MarriesLower (k i : ℕ) : Type 0 where
+    higher : i < k
+    chooses : chosen k ≡ Some (Rule.Marriage i)
+    guarded : Marries c k i
+    unmarried : is_married c k ≡ false
+
+  lower_marriage : (k i : ℕ) → marries_lower (chosen k) k i ≡ true → MarriesLower k i
+  lower_marriage k i e =
+      let w = marries_lower-means (chosen k) k i e in
+      let g = marries c k i (h k (Rule.Marriage i) w.0) in
+      record { higher = w.1; chooses = w.0; guarded = g; unmarried = married-null c k g.null }
+
+  -- i goes on pointing at k, which points back: the link's part falls from 1 to 0
+  answer_lowers : (k i : ℕ) → MarriesLower k i → links_after i + 1 ≤ links_before i
+  answer_lowers k i w =
+      let off = w.guarded.right ∙ w.unmarried in
+      let to : next.p k ≡ Some i = ap (λ o. (moved c k o).p) w.chooses in
+      links_fell i k (l.symmetric k i w.guarded.linked) w.higher (link_answered _ _ _ _ _ _ _ _
+      (holds-from (c.p i) k w.guarded.suitor) (ap (λ o. holds o i) w.guarded.null) off (suitor_kept k i w.guarded.suitor off w.higher)
+      (holds-from (next.p k) i to))
+
+  -- what i may do in the same step is an update
+  both_paid : (k i : ℕ) → MarriesLower k i → (o : Option Rule) → chosen i ≡ o → Pays i (cond (pays o i) 1 0 + 1)
+  both_paid k i w None e = by_links i (answer_lowers k i w)
+  both_paid k i w (Some Rule.Update) e = let own = own_part_updated i e in let links = answer_lowers k i w in omega (arith, own, links)
+  both_paid k i w (Some (Rule.Marriage j)) e = let g = marries c i j (h i (Rule.Marriage j) e) in let null = g.null in let suitor = w.guarded.suitor in cc
+  both_paid k i w (Some Rule.Seduction) e =
+      let some = seduced c i (h i Rule.Seduction e) in
+      let g = seduces c i some.0 (h i Rule.Seduction e) some.1 in
+      let null = g.null in let suitor = w.guarded.suitor in cc
+  both_paid k i w (Some Rule.Abandonment) e = elim (abandons c i k (h i Rule.Abandonment e) w.guarded.suitor).vain [
+    | inl m ↦ absurd (both_ways (c.m k) (w.guarded.right ∙ w.unmarried) m)
+    | inr lt ↦ let gt = w.higher in absurd (omega arith)
+  ]
+
+  -- at most one node marries i
+  abbrev marriages_with : ℕ → ℕ
+  marriages_with i = count_below c.size (λ k. marries_lower (chosen k) k i)
+
+  one_marriage : (k i : ℕ) → MarriesLower k i → marriages_with i ≤ 1
+  one_marriage k i w =
+      count_one_at_most c.size k (λ k. marries_lower (chosen k) k i)
+      (λ j e. let there = (lower_marriage j i e).guarded.suitor in let here = w.guarded.suitor in cc)
+
+  all_paid : (i : ℕ) → Pays i (cond (pays (chosen i) i) 1 0 + marriages_with i)
+  all_paid i = go (some_below c.size (λ k. marries_lower (chosen k) k i)) refl
+    where
+      go : (b : Bool) → some_below c.size (λ k. marries_lower (chosen k) k i) ≡ b → Pays i (cond (pays (chosen i) i) 1 0 + marriages_with i)
+      go false e =
+          let none = count_none c.size (λ k. marries_lower (chosen k) k i) (λ k lt. some_below-none c.size k (λ k. marries_lower (chosen k) k i) e lt) in
+          let own = move_paid i (chosen i) refl in
+          omega (arith, none, own)
+      go true e =
+          let found = some_below-find c.size (λ k. marries_lower (chosen k) k i) e in
+          let w = lower_marriage found.0 i found.2 in
+          let one = one_marriage found.0 i w in
+          let both = both_paid found.0 i w (chosen i) refl in
+          omega (arith, one, both)
+
+  -- the potential of i falls by what is charged to it
+  pub potential_fell : (i : ℕ) → potential next i + (cond (pays (chosen i) i) 1 0 + count_below c.size (λ k. marries_lower (chosen k) k i)) ≤ potential c i
+  unfolding potential
+  potential_fell i = let paid = all_paid i in omega (arith, paid)

@@ -1,0 +1,109 @@
+-- A run that is over has ended where no node is privileged; each run can be led there.
+use Rattle.std.proofs.Common.{◌≡◌, ℕ, zero, suc, ◌<◌, true, false, ◌&&◌, ◌==◌, List, [], ◌∷◌, length, Option, None, Some, is_some, is_none, sym, refl}
+use Rattle.std.proofs.Common.{ap, ◌∙◌, arith}
+use Rattle.std.specs.List.{list_any}
+use Rattle.std.proofs.lemmas.Bool.{false≢true, both_ways, and_parts, and_from, or_left, lt-ltb, ltb-true, eq-eqb, false_from_ne_true, and_right}
+use Rattle.mml_rules.specs.declared.rule.Rule.{Rule}
+use Rattle.mml_rules.specs.Rules.{guard, is_privileged}
+use Rattle.mml_rules.specs.Matching.{IsStable, IsMaximal}
+use Rattle.mml_rules.proofs.EnabledKindLemmas.{idle-guard}
+use Rattle.mml_rules.proofs.MeaningLemmas.{privileged-means}
+use Rattle.mml_lab.specs.declared.who.Who.TheVariants as who
+use Rattle.mml_lab.specs.Rosters.{RosterValue, owners_of, owns}
+use Rattle.mml_board.specs.declared.event.Event.{Event}
+use Rattle.mml_board.specs.declared.event.Event.TheVariants as event
+use Rattle.mml_board.specs.World.{World, size, configuration, chosen_at, IsWorld}
+use Rattle.mml_board.specs.Events.{is_node, is_asked_by_owner, is_possible, is_legal, after}
+use Rattle.mml_board.specs.Runs.{is_legal_list, world_of}
+use Rattle.mml_board.proofs.WorldLemmas.{size-after, chosen_node}
+use Rattle.mml_board.proofs.RunsLemmas.{list-world}
+use Rattle.mml_convergence.specs.Runs.{is_of_step}
+use Rattle.mml_stable.proofs.MatchingLemmas.{maximal}
+use Rattle.mml_convergence.specs.Rest.{EachHasOwner, IsOver}
+
+-- ---- what is chosen
+
+-- where no move is chosen, none is chosen for any one node
+pub none_chosen : (xs : List (Option Rule)) (i : ℕ) → list_any is_some xs ≡ false → chosen_at xs i ≡ None
+none_chosen [] i e = refl
+none_chosen (Some r ∷ xs) i e = absurd (false≢true (sym e))
+none_chosen (None ∷ xs) zero e = refl
+none_chosen (None ∷ xs) (suc i) e = none_chosen xs i e
+
+-- where a move is chosen for a node, some move is chosen
+pub any_chosen : (xs : List (Option Rule)) (i : ℕ) → is_some (chosen_at xs i) ≡ true → list_any is_some xs ≡ true
+any_chosen [] i e = absurd (false≢true e)
+any_chosen (Some r ∷ xs) i e = refl
+any_chosen (None ∷ xs) zero e = absurd (false≢true e)
+any_chosen (None ∷ xs) (suc i) e = any_chosen xs i e
+
+-- ---- a privileged node may move
+
+-- a privileged node for which no move is chosen has a rule that may be granted to each of its owners
+pub may_move : (r : RosterValue) (w : World) (i : ℕ) → IsWorld w → i < size w → is_privileged (configuration w) i ≡ true → chosen_at w.chosen i ≡ None
+    → (rule : Rule) × ((s : ℕ) → owns r (who.Student s) i ≡ true → is_legal r w (event.Grant s i rule) ≡ true)
+may_move r w i k lt privileged none =
+    let g = (privileged-means (configuration w) i k.network.lawful).0 privileged in
+    (g.0, λ s owner. and_from _ _ owner (and_from _ _ (lt-ltb i (size w) lt) (and_from _ _ (ap is_none none) g.1)))
+
+-- ---- where no node is privileged
+
+stable_guard : (w : World) → IsWorld w → IsStable (configuration w) → (i : ℕ) (rule : Rule) → i < size w → guard (configuration w) i rule ≡ false
+stable_guard w k stable i rule lt = idle-guard (configuration w) i rule k.network.lawful (stable i lt)
+
+stable_unchosen : (w : World) → IsWorld w → IsStable (configuration w) → (i : ℕ) → is_some (chosen_at w.chosen i) ≡ false
+stable_unchosen w k stable i = go (chosen_at w.chosen i) refl
+  where
+    go : (o : Option Rule) → chosen_at w.chosen i ≡ o → is_some (chosen_at w.chosen i) ≡ false
+    go None e = ap is_some e
+    go (Some rule) e =
+        absurd (both_ways (guard (configuration w) i rule) (stable_guard w k stable i rule (chosen_node w i k.choices (ap is_some e))) (k.hold i rule e))
+
+stable_impossible : (w : World) (e : Event) → IsWorld w → IsStable (configuration w) → is_of_step e ≡ true → is_possible w e ≡ false
+stable_impossible w (event.Grant s i rule) k stable of_step = false_from_ne_true (is_possible w (event.Grant s i rule)) (λ h.
+    let x = and_parts (is_node w i) (is_none (chosen_at w.chosen i) && guard (configuration w) i rule) h in
+    let y = and_parts (is_none (chosen_at w.chosen i)) (guard (configuration w) i rule) x.1 in
+    both_ways (guard (configuration w) i rule) (stable_guard w k stable i rule (ltb-true i (size w) x.0)) y.1)
+stable_impossible w (event.Release i) k stable of_step = stable_unchosen w k stable i
+stable_impossible w event.Close k stable of_step = none (w.chosen) (stable_unchosen w k stable)
+  where
+    none : (xs : List (Option Rule)) → ((i : ℕ) → is_some (chosen_at xs i) ≡ false) → list_any is_some xs ≡ false
+    none [] h = refl
+    none (None ∷ xs) h = none xs (λ i. h (suc i))
+    none (Some x ∷ xs) h = absurd (false≢true (sym (h 0)))
+stable_impossible w (event.Fault i registers) k stable of_step = absurd (false≢true of_step)
+stable_impossible w (event.Link a b) k stable of_step = absurd (false≢true of_step)
+stable_impossible w (event.Cut a b) k stable of_step = absurd (false≢true of_step)
+
+-- where no node is privileged, no grant, release or close is legal
+pub stable_final : (r : RosterValue) (w : World) (e : Event) → IsWorld w → IsStable (configuration w) → is_of_step e ≡ true → is_legal r w e ≡ false
+stable_final r w e k stable of_step = and_right (is_asked_by_owner r e) (is_possible w e) (stable_impossible w e k stable of_step)
+
+-- ---- a run that is over
+
+-- a node with an owner is owned by some student
+pub first_owner : (r : RosterValue) (i : ℕ) → 0 < length (owners_of r i) → (s : ℕ) × (owns r (who.Student s) i ≡ true)
+first_owner r i some = go (owners_of r i) refl some
+  where
+    go : (os : List ℕ) → owners_of r i ≡ os → 0 < length os → (s : ℕ) × (owns r (who.Student s) i ≡ true)
+    go [] e h = absurd (omega arith)
+    go (s ∷ os) e h = (s, ap (list_any (λ o. o == s)) e ∙ or_left (s == s) (list_any (λ o. o == s) os) (eq-eqb s s refl))
+
+over_stable : (r : RosterValue) (w : World) → IsWorld w → EachHasOwner r (size w) → IsOver r w → IsStable (configuration w)
+over_stable r w k owned over i lt = false_from_ne_true (is_privileged (configuration w) i) (λ privileged.
+    let move = may_move r w i k lt privileged (none_chosen w.chosen i over.no_close) in
+    let owner = first_owner r i (owned i lt) in
+    both_ways (is_legal r w (event.Grant owner.0 i move.0)) (over.no_grant owner.0 i move.0) (move.1 owner.0 owner.1))
+
+-- events leave the number of nodes
+pub same_size : (w : World) (es : List Event) → size (world_of w es) ≡ size w
+same_size w [] = refl
+same_size w (e ∷ es) = same_size (after w e) es ∙ size-after w e
+
+-- a run that is over has ended where no node is privileged and each link has an end in a pair
+pub ended : (r : RosterValue) (w : World) (es : List Event) → IsWorld w → EachHasOwner r (size w) → is_legal_list r w es ≡ true → IsOver r (world_of w es)
+    → IsStable (configuration (world_of w es)) × IsMaximal (configuration (world_of w es))
+ended r w es k owned legal over =
+    let k' = list-world r w es k legal in
+    let stable = over_stable r (world_of w es) k' (λ i lt. owned i (omega (arith, same_size w es))) over in
+    (stable, maximal (configuration (world_of w es)) k'.network.lawful stable)

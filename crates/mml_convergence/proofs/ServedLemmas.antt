@@ -1,0 +1,159 @@
+-- Over grants, releases and closes: what stays, and what a round brings.
+use Rattle.std.proofs.Common.{◌≡◌, ℕ, ◌+◌, ◌<◌, inl, inr, true, ◌&&◌, List, [], ◌∷◌, ◌++◌, Option, None, Some, is_some, sym, refl, subst, arith}
+use Rattle.std.specs.List.{list_all}
+use Rattle.std.proofs.lemmas.Bool.{and_parts, and_from, or_cases, not-true, false≢true, both_ways, cases_lt}
+use Rattle.mml_rules.specs.declared.rule.Rule.{Rule}
+use Rattle.mml_rules.specs.Configuration.{Configuration}
+use Rattle.mml_rules.specs.Matching.{IsStable}
+use Rattle.mml_lab.specs.Rosters.{RosterValue}
+use Rattle.mml_board.specs.declared.event.Event.{Event}
+use Rattle.mml_board.specs.declared.event.Event.TheVariants as event
+use Rattle.mml_board.specs.World.{World, size, configuration, chosen_at, IsWorld}
+use Rattle.mml_board.specs.Events.{is_asked_by_owner, is_possible, is_legal, is_chosen, after}
+use Rattle.mml_board.specs.Runs.{is_legal_list, world_of}
+use Rattle.mml_board.proofs.WorldLemmas.{closed-step, after-world}
+use Rattle.mml_convergence.specs.Runs.{is_of_step}
+use Rattle.mml_convergence.specs.Moves.{is_close}
+use Rattle.mml_convergence.proofs.RestLemmas.{stable_final, same_size}
+use Rattle.mml_convergence.specs.Rounds.{is_served, IsRound}
+use Rattle.mml_convergence.proofs.MarriedCountLemmas.{married_count}
+use Rattle.mml_convergence.proofs.PhasesLemmas.{Stays, Brings, Within, CalmStays, CalmBrings, calm_stays, calm_brings}
+
+-- a legal list of grants, releases and closes from a lawful world
+pub record IsRun (r : RosterValue) (w : World) (es : List Event) : Type 0 where
+  pub world : IsWorld w
+  pub legal : is_legal_list r w es ≡ true
+  pub of_step : list_all is_of_step es ≡ true
+
+-- the first event of a run is legal
+pub first_legal : (r : RosterValue) (w : World) (e : Event) (es : List Event) → IsRun r w (e ∷ es) → is_legal r w e ≡ true
+first_legal r w e es k = (and_parts (is_legal r w e) (is_legal_list r (after w e) es) k.legal).0
+
+-- the first event of a run is a grant, a release or a close
+pub first_of_step : (r : RosterValue) (w : World) (e : Event) (es : List Event) → IsRun r w (e ∷ es) → is_of_step e ≡ true
+first_of_step r w e es k = (and_parts (is_of_step e) (list_all is_of_step es) k.of_step).0
+
+run_on : (r : RosterValue) (w : World) (e : Event) (es : List Event) → IsRun r w (e ∷ es) → IsRun r (after w e) es
+run_on r w e es k = record {
+  world = after-world w e k.world (and_parts (is_asked_by_owner r e) (is_possible w e) (first_legal r w e es k)).1;
+  legal = (and_parts (is_legal r w e) (is_legal_list r (after w e) es) k.legal).1;
+  of_step = (and_parts (is_of_step e) (list_all is_of_step es) k.of_step).1;
+}
+
+-- a run is two, one after the other
+pub run_parts : (r : RosterValue) (w : World) (es fs : List Event) → IsRun r w (es ++ fs) → IsRun r w es × IsRun r (world_of w es) fs
+run_parts r w [] fs k = (record { world = k.world; legal = refl; of_step = refl }, k)
+run_parts r w (e ∷ es) fs k =
+    let rest = run_parts r (after w e) es fs (run_on r w e (es ++ fs) k) in
+    let first = rest.0 in (
+      record {
+        world = k.world;
+        legal = and_from _ _ (first_legal r w e (es ++ fs) k) first.legal;
+        of_step =
+            and_from _ _ (first_of_step r w e (es ++ fs) k) first.of_step;
+      },
+      rest.1,
+    )
+
+-- a run ends in a lawful world
+pub run_end : (r : RosterValue) (w : World) (es : List Event) → IsRun r w es → IsWorld (world_of w es)
+run_end r w [] k = k.world
+run_end r w (e ∷ es) k = run_end r (after w e) es (run_on r w e es k)
+
+-- where no node is privileged no event goes on
+pub stable_end : (r : RosterValue) (w : World) (es : List Event) → IsRun r w es → IsStable (configuration w) → IsStable (configuration (world_of w es))
+stable_end r w [] k stable = stable
+stable_end r w (e ∷ es) k stable = absurd (both_ways (is_legal r w e) (stable_final r w e k.world stable (first_of_step r w e es k)) (first_legal r w e es k))
+
+-- ---- what stays
+
+stays_after : (P : Configuration → Type 0) → Stays P → (w : World) (e : Event) → IsWorld w → is_of_step e ≡ true → P (configuration w)
+    → P (configuration (after w e))
+stays_after P stays w (event.Grant s i rule) k of_step p = p
+stays_after P stays w (event.Release i) k of_step p = p
+stays_after P stays w event.Close k of_step p = subst P (sym (closed-step w k.choices)) (stays (configuration w) (chosen_at w.chosen) k.network.lawful k.hold p)
+stays_after P stays w _ k of_step p = absurd (false≢true of_step)
+
+-- what no step ends, no run ends
+pub stays_over : (P : Configuration → Type 0) → Stays P → (r : RosterValue) (w : World) (es : List Event) → IsRun r w es → P (configuration w)
+    → P (configuration (world_of w es))
+stays_over P stays r w [] k p = p
+stays_over P stays r w (e ∷ es) k p = stays_over P stays r (after w e) es (run_on r w e es k) (stays_after P stays w e k.world (first_of_step r w e es k) p)
+
+-- ---- what a turn brings
+
+both_stay : (P Q : Configuration → Type 0) (i : ℕ) → Stays P → Brings P Q i → Stays (λ c. P c × Q c)
+both_stay P Q i stays b c chosen l h p = (stays c chosen l h p.0, b.stays c chosen l h p.0 p.1)
+
+moved_after : (P Q : Configuration → Type 0) (i : ℕ) → Brings P Q i → (w : World) (e : Event) → IsWorld w → (is_close e && is_chosen w i) ≡ true
+    → P (configuration w) → Q (configuration (after w e))
+moved_after P Q i b w event.Close k e p = go (chosen_at w.chosen i) refl e
+  where
+    go : (o : Option Rule) → chosen_at w.chosen i ≡ o → is_some o ≡ true → Q (configuration (after w event.Close))
+    go None f some = absurd (false≢true some)
+    go (Some rule) f some = subst Q (sym (closed-step w k.choices)) (b.moves (configuration w) (chosen_at w.chosen) rule k.network.lawful k.hold p f)
+moved_after P Q i b w _ k e p = absurd (false≢true e)
+
+served : (P Q : Configuration → Type 0) (i : ℕ) → Stays P → Brings P Q i → (r : RosterValue) (w : World) (es : List Event) → IsRun r w es
+    → P (configuration w) → is_served i w es ≡ true → Q (configuration (world_of w es))
+served P Q i stays b r w [] k p turn = b.idle (configuration w) k.world.network.lawful p (not-true _ turn)
+served P Q i stays b r w (e ∷ es) k p turn = elim (or_cases _ _ turn) [
+  | inl idle ↦ (stays_over (λ c. P c × Q c) (both_stay P Q i stays b) r w (e ∷ es) k (p, b.idle (configuration w) k.world.network.lawful p (not-true _ idle))).1
+  | inr later ↦
+      let next = stays_after P stays w e k.world (first_of_step r w e es k) p in
+      let on = run_on r w e es k in
+      elim (or_cases _ _ later) [
+        | inl moves ↦ (stays_over (λ c. P c × Q c) (both_stay P Q i stays b) r (after w e) es on (next, moved_after P Q i b w e k.world moves p)).1
+        | inr rest ↦ served P Q i stays b r (after w e) es on next rest
+      ]
+]
+
+-- ---- what a round brings
+
+abbrev End : World → List Event → Configuration
+End w es = configuration (world_of w es)
+
+-- at each node
+pub round_brings : (P : Configuration → Type 0) (Q : ℕ → Configuration → Type 0) → Stays P → ((i : ℕ) → Brings P (Q i) i)
+    → (r : RosterValue) (w : World) (es : List Event) → IsRun r w es → IsRound w es → P (configuration w) → (i : ℕ) → i < size (world_of w es)
+    → Q i (configuration (world_of w es))
+round_brings P Q stays b r w es k round p i lt = served P (Q i) i stays (b i) r w es k p (round i (omega (arith, lt, same_size w es)))
+
+-- at each node, unless more nodes are married
+pub calm_round : (n : ℕ) (P : Configuration → Type 0) (Q : ℕ → Configuration → Type 0) → CalmStays P → ((i : ℕ) → CalmBrings P (Q i) i)
+    → (r : RosterValue) (w : World) (es : List Event) → IsRun r w es → IsRound w es → Within n P (configuration w)
+    → Within n (λ c. P c × ((i : ℕ) → i < c.size → Q i c)) (configuration (world_of w es))
+calm_round n P Q stays b r w es k round p =
+    let after = stays_over (Within n P) (calm_stays n P stays) r w es k p in
+    let each = round_brings (Within n P) (λ i. Within n (Q i)) (calm_stays n P stays) (λ i. calm_brings n P (Q i) i (b i)) r w es k round p in
+    elim after [
+      | inl more ↦ inl more
+      | inr q ↦ let le = q.0 in elim (cases_lt (married_count (configuration (world_of w es))) (n + 2)) [
+        | inr more ↦ inl more
+        | inl less ↦ inr (
+          le,
+          (
+            q.1,
+            λ i lt. elim (each i lt) [
+              | inl more ↦ absurd (omega (arith, less, more))
+              | inr x ↦ x.1
+            ],
+          ),
+        )
+      ]
+    ]
+
+-- at one node
+pub calm_turn : (n : ℕ) (P Q : Configuration → Type 0) (i : ℕ) → CalmStays P → CalmBrings P Q i
+    → (r : RosterValue) (w : World) (es : List Event) → IsRun r w es → IsRound w es → i < size w → Within n P (configuration w)
+    → Within n (λ c. P c × Q c) (configuration (world_of w es))
+calm_turn n P Q i stays b r w es k round i_in p =
+    let after = stays_over (Within n P) (calm_stays n P stays) r w es k p in
+    let here = served (Within n P) (Within n Q) i (calm_stays n P stays) (calm_brings n P Q i b) r w es k p (round i i_in) in
+    elim after [
+      | inl more ↦ inl more
+      | inr q ↦ elim here [
+        | inl more ↦ inl more
+        | inr x ↦ inr (q.0, (q.1, x.1))
+      ]
+    ]

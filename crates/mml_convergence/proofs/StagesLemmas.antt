@@ -1,0 +1,363 @@
+-- What one step does to a free node, and to a married one.
+use Rattle.std.proofs.Common.{◌≡◌, ℕ, zero, suc, ◌+◌, ◌<◌, ◌≤◌, ◌⊎◌, inl, inr, Bool, true, false, not, ◌&&◌, Option, None, Some, is_some, is_none}
+use Rattle.std.proofs.Common.{sym, refl, ap, ◌∙◌, arith}
+use Rattle.std.proofs.lemmas.Bool.{and_parts, both_ways, not-true, false≢true, false_from_ne_true, cases_Bool, cases_order}
+use Rattle.mml_rules.specs.declared.rule.Rule.{Rule}
+use Rattle.mml_rules.specs.Configuration.{Configuration, IsLawful, holds}
+use Rattle.mml_rules.specs.Rules.{is_married, has_suitor, greatest_candidate, m_is_right, is_privileged, guard, effect, moved, step, AllHold}
+use Rattle.mml_rules.proofs.ConfigurationLemmas.{holds-true}
+use Rattle.mml_rules.proofs.RulesLemmas.{married-null, married-at, married-from, suitor-from, pointee_in}
+use Rattle.mml_rules.proofs.StepLemmas.{step-lawful}
+use Rattle.mml_convergence.proofs.StepLemmas.{step-free, moved-m}
+use Rattle.mml_stable.proofs.MatchingLemmas.{idle-quiet, idle-settled, quiet-vain, quiet-alone, no_open_link}
+use Rattle.mml_convergence.proofs.MovesLemmas.{updates, marries, seduces, seduced, abandons, abandoned, makes}
+use Rattle.mml_convergence.proofs.PotentialLemmas.{suitor_kept}
+use Rattle.mml_convergence.proofs.MarriedCountLemmas.{Calm, apart}
+
+-- ---- what may be so of a node
+
+-- m false, unless married
+abbrev pub Modest : ℕ → Configuration → Type 0
+Modest i c = is_married c i ≡ false → c.m i ≡ false
+
+-- pointing at no lower node, unless married
+abbrev pub Upward : ℕ → Configuration → Type 0
+Upward i c = is_married c i ≡ false → (j : ℕ) → c.p i ≡ Some j → i < j
+
+-- m true, if married
+abbrev pub Aware : ℕ → Configuration → Type 0
+Aware i c = is_married c i ≡ true → c.m i ≡ true
+
+-- pointing at no married node, unless married itself
+abbrev pub Hopeful : ℕ → Configuration → Type 0
+Hopeful i c = is_married c i ≡ false → (j : ℕ) → c.p i ≡ Some j → is_married c j ≡ false
+
+-- it is so of each node
+abbrev pub Each : (ℕ → Configuration → Type 0) → Configuration → Type 0
+Each P c = (i : ℕ) → i < c.size → P i c
+
+-- two linked nodes, neither of them married
+pub record IsOpen (a b : ℕ) (c : Configuration) : Type 0 where
+  pub linked : c.linked a b ≡ true
+  pub up : a < b
+  pub low : is_married c a ≡ false
+  pub high : is_married c b ≡ false
+
+-- some node that isn't married points at a node
+pub record IsCourting (c : Configuration) : Type 0 where
+  pub who : ℕ
+  pub whom : ℕ
+  pub free : is_married c who ≡ false
+  pub points : c.p who ≡ Some whom
+
+-- s points at t, which points nowhere
+pub record IsCourted (s t : ℕ) (c : Configuration) : Type 0 where
+  pub suitor : c.p s ≡ Some t
+  pub null : c.p t ≡ None
+
+-- no node is married
+abbrev pub IsLone : Configuration → Type 0
+IsLone c = (i : ℕ) → is_married c i ≡ false
+
+-- some node points at a higher one
+pub record IsRising (c : Configuration) : Type 0 where
+  pub who : ℕ
+  pub whom : ℕ
+  pub points : c.p who ≡ Some whom
+  pub up : who < whom
+
+-- a points nowhere, and a higher b linked to it nowhere else
+pub record IsFacing (a b : ℕ) (c : Configuration) : Type 0 where
+  pub linked : c.linked a b ≡ true
+  pub up : a < b
+  pub null : c.p a ≡ None
+  pub either : (c.p b ≡ None) ⊎ (c.p b ≡ Some a)
+
+-- ---- moves
+
+-- no truth value is its own opposite
+pub self : (b : Bool) → b ≡ not b → ⊥
+self true e = false≢true (sym e)
+self false e = false≢true e
+
+-- a rule is applied where m is right, or makes it so
+effect_right : (c : Configuration) (i : ℕ) (r : Rule) → guard c i r ≡ true → (effect c i r).m ≡ is_married c i
+effect_right c i Rule.Update g = refl
+effect_right c i (Rule.Marriage j) g = (marries c i j g).right
+effect_right c i Rule.Seduction g = let s = seduced c i g in (seduces c i s.0 g s.1).right
+effect_right c i Rule.Abandonment g = let a = abandoned c i g in (abandons c i a.0 g a.1).right
+
+-- a node that isn't married, with m false, takes its pointer back if it moves
+lets_go : (c : Configuration) (i j k : ℕ) (r : Rule) → guard c i r ≡ true → is_married c i ≡ false → c.m i ≡ false → c.p i ≡ Some j
+    → (effect c i r).p ≡ Some k → ⊥
+lets_go c i j k Rule.Update g free off e to = self (is_married c i) (free ∙ sym off ∙ updates c i g)
+lets_go c i j k (Rule.Marriage x) g free off e to = let null = (marries c i x g).null in cc
+lets_go c i j k Rule.Seduction g free off e to = let s = seduced c i g in let null = (seduces c i s.0 g s.1).null in cc
+lets_go c i j k Rule.Abandonment g free off e to = cc
+
+-- ---- pointers, upwards
+
+pub courted_free : (c : Configuration) (s t : ℕ) → IsLawful c → IsCourted s t c → is_married c s ≡ false
+courted_free c s t l k = married-at c s t l k.suitor ∙ ap (λ o. holds o s) k.null
+
+-- along the pointers to a node that points nowhere
+pub climb : (n x y : ℕ) (c : Configuration) → IsLawful c → Each Upward c → Each Hopeful c → c.size ≤ x + n → is_married c x ≡ false → c.p x ≡ Some y
+    → (s : ℕ) × (t : ℕ) × IsCourted s t c
+climb zero x y c l upward hopeful room free e = let range = l.in_range x y (l.to_linked x y e) in absurd (omega (arith, range.0))
+climb (suc n) x y c l upward hopeful room free e = go (λ z. climb n y z c l upward hopeful) (c.p y) refl
+  where
+    go : ((z : ℕ) → c.size ≤ y + n → is_married c y ≡ false → c.p y ≡ Some z → (s : ℕ) × (t : ℕ) × IsCourted s t c) → (o : Option ℕ) → c.p y ≡ o
+        → (s : ℕ) × (t : ℕ) × IsCourted s t c
+    go further None f = (x, y, record { suitor = e; null = f })
+    go further (Some z) f =
+        let range = l.in_range x y (l.to_linked x y e) in
+        let up = upward x range.0 free y e in
+        further z (omega (arith, up)) (hopeful x range.0 free y e) f
+
+-- where free nodes point only upwards and at free ones, and one does point, some node that points nowhere has a suitor
+pub courted : (c : Configuration) → IsLawful c → Each Upward c → Each Hopeful c → IsCourting c → (s : ℕ) × (t : ℕ) × IsCourted s t c
+courted c l upward hopeful k = climb c.size k.who k.whom c l upward hopeful (omega arith) k.free k.points
+
+-- ---- where no rule may be applied at i
+
+-- a node that isn't privileged has m false, unless it is married
+pub modest_idle : (c : Configuration) (i : ℕ) → IsLawful c → is_privileged c i ≡ false → Modest i c
+modest_idle c i l idle free = idle-settled c i l idle ∙ free
+
+-- a node that isn't privileged points at no lower one, unless it is married
+pub upward_idle : (c : Configuration) (i : ℕ) → IsLawful c → is_privileged c i ≡ false → Upward i c
+upward_idle c i l idle free j e = (quiet-vain c i j l (idle-quiet c i l idle) e free).1
+
+-- a married node that isn't privileged has m true
+pub aware_idle : (c : Configuration) (i : ℕ) → IsLawful c → is_privileged c i ≡ false → Aware i c
+aware_idle c i l idle on = idle-settled c i l idle ∙ on
+
+-- where married nodes have m true, an unmarried node that isn't privileged points at no married one
+pub hopeful_idle : (c : Configuration) (i : ℕ) → IsLawful c → Each Aware c → is_privileged c i ≡ false → Hopeful i c
+hopeful_idle c i l aware idle free j e = false_from_ne_true (is_married c j) (λ on.
+    both_ways (c.m j) (quiet-vain c i j l (idle-quiet c i l idle) e free).0 (aware j (pointee_in c i j l e) on))
+
+-- of two linked nodes that aren't married, one points at a node, where the lower one isn't privileged
+pub courting_idle : (c : Configuration) (a b : ℕ) → IsLawful c → Each Modest c → IsOpen a b c → is_privileged c a ≡ false → IsCourting c
+courting_idle c a b l modest k idle = go (c.p a) (c.p b) refl refl
+  where
+    go : (o q : Option ℕ) → c.p a ≡ o → c.p b ≡ q → IsCourting c
+    go (Some y) q e f = record { who = a; whom = y; free = k.low; points = e }
+    go None (Some y) e f = record { who = b; whom = y; free = k.high; points = f }
+    go None None e f = absurd (no_open_link c a b l k.linked k.up idle e f (modest b (l.in_range a b k.linked).1 k.high))
+
+-- a node that points nowhere and has a suitor is privileged
+pub courted_idle : (c : Configuration) (s t : ℕ) → IsLawful c → IsCourted s t c → is_privileged c t ≡ false → ⊥
+courted_idle c s t l k idle = quiet-alone c s t l k.suitor k.null (idle-quiet c t l idle)
+
+-- where no node is married, one that points nowhere and faces a higher one that points nowhere else is privileged
+pub facing_idle : (c : Configuration) (a b : ℕ) → IsLawful c → Each Modest c → IsLone c → IsFacing a b c → is_privileged c a ≡ false → ⊥
+facing_idle c a b l modest lone k idle = elim k.either [
+  | inl null ↦ no_open_link c a b l k.linked k.up idle k.null null (modest b (l.in_range a b k.linked).1 (lone b))
+  | inr to ↦ quiet-alone c b a l to k.null (idle-quiet c a l idle)
+]
+
+-- ---- a step
+
+module _ (c : Configuration) (chosen : ℕ → Option Rule) (l : IsLawful c) (h : AllHold c chosen) where
+  -- the configuration after the step
+  abbrev next : Configuration
+  next = step c chosen
+
+  free_before : (i : ℕ) → is_married next i ≡ false → is_married c i ≡ false
+  free_before = step-free c chosen l h
+
+  -- m stays, or was wrong and becomes right
+  m_moved : (i : ℕ) → (next.m i ≡ c.m i) ⊎ ((next.m i ≡ is_married c i) × (c.m i ≡ not (is_married c i)))
+  m_moved i = moved-m c i (chosen i) (h i)
+
+  right_after : (i : ℕ) (r : Rule) → chosen i ≡ Some r → next.m i ≡ is_married c i
+  right_after i r e = ap (λ o. (moved c i o).m) e ∙ effect_right c i r (h i r e)
+
+  -- who points at a higher node with m false, stays
+  suitor_stays : (i j : ℕ) → c.p j ≡ Some i → c.m i ≡ false → j < i → next.p j ≡ Some i
+  suitor_stays i j e off lt = holds-true (next.p j) i (suitor_kept c chosen l h i j e off lt)
+
+  -- a new pointer leads upwards, or makes a pair
+  made_up : (i j : ℕ) → is_married next i ≡ false → holds (c.p i) j ≡ false → next.p i ≡ Some j → i < j
+  made_up i j free off to =
+      let made = makes c i j (chosen i) (h i) off to in
+      elim made.partner [
+        | inr higher ↦ higher.0
+        | inl suitor ↦ elim (cases_order i j) [
+          | inl same ↦ absurd (apart c i j l (l.symmetric j i (l.to_linked j i suitor)) same)
+          | inr o ↦ elim o [
+            | inl up ↦ up
+            | inr down ↦ absurd
+                (both_ways (is_married next i) free (married-from next i j (step-lawful c chosen l h) to
+                (suitor_stays i j suitor (made.right ∙ married-null c i made.null) down)))
+          ]
+        ]
+      ]
+
+  -- and to a node that wasn't married
+  made_free : (i j : ℕ) → holds (c.p i) j ≡ false → next.p i ≡ Some j → is_married c j ≡ false
+  made_free i j off to =
+      let made = makes c i j (chosen i) (h i) off to in
+      elim made.partner [
+        | inl suitor ↦ married-at c j i l suitor ∙ off
+        | inr higher ↦ married-null c j higher.1
+      ]
+
+  -- a node that moved and isn't married has no pointer but a new one
+  pointer_new : (i j : ℕ) (r : Rule) → Modest i c → chosen i ≡ Some r → is_married next i ≡ false → next.p i ≡ Some j → holds (c.p i) j ≡ false
+  pointer_new i j r modest e free to = false_from_ne_true (holds (c.p i) j) (λ on.
+      let alone = free_before i free in
+      lets_go c i j j r (h i r e) alone (modest alone) (holds-true (c.p i) j on) (sym (ap (λ o. (moved c i o).p) e) ∙ to))
+
+  -- ---- m false
+
+  pub modest_stays : (i : ℕ) → Modest i c → Modest i next
+  modest_stays i modest free =
+      let alone = free_before i free in
+      elim (m_moved i) [ inl same ↦ same ∙ modest alone | inr changed ↦ changed.0 ∙ alone ]
+
+  pub modest_moves : (i : ℕ) (r : Rule) → chosen i ≡ Some r → Modest i next
+  modest_moves i r e free = right_after i r e ∙ free_before i free
+
+  -- ---- upwards
+
+  pub upward_stays : (i : ℕ) → Upward i c → Upward i next
+  upward_stays i upward free j to = elim (cases_Bool (holds (c.p i) j)) [
+    | inl on ↦ upward (free_before i free) j (holds-true (c.p i) j on)
+    | inr off ↦ made_up i j free off to
+  ]
+
+  pub upward_moves : (i : ℕ) (r : Rule) → Modest i c → chosen i ≡ Some r → Upward i next
+  upward_moves i r modest e free j to = made_up i j free (pointer_new i j r modest e free to) to
+
+  -- ---- while no more nodes are married
+
+  module _ (calm : Calm c chosen) where
+    free_after : (i : ℕ) → is_married c i ≡ false → is_married next i ≡ false
+    free_after i e = false_from_ne_true (is_married next i) (λ m. both_ways (is_married c i) e (calm i m))
+
+    pub aware_stays : (i : ℕ) → Aware i c → Aware i next
+    aware_stays i aware on = elim (m_moved i) [ inl same ↦ same ∙ aware (calm i on) | inr changed ↦ changed.0 ∙ calm i on ]
+
+    pub aware_moves : (i : ℕ) (r : Rule) → chosen i ≡ Some r → Aware i next
+    aware_moves i r e on = right_after i r e ∙ calm i on
+
+    pub hopeful_stays : (i : ℕ) → Hopeful i c → Hopeful i next
+    hopeful_stays i hopeful free j to = elim (cases_Bool (holds (c.p i) j)) [
+      | inl on ↦ free_after j (hopeful (free_before i free) j (holds-true (c.p i) j on))
+      | inr off ↦ free_after j (made_free i j off to)
+    ]
+
+    pub hopeful_moves : (i : ℕ) (r : Rule) → Modest i c → chosen i ≡ Some r → Hopeful i next
+    hopeful_moves i r modest e free j to = free_after j (made_free i j (pointer_new i j r modest e free to) to)
+
+    pub open_stays : (a b : ℕ) → IsOpen a b c → IsOpen a b next
+    open_stays a b k = record { linked = k.linked; up = k.up; low = free_after a k.low; high = free_after b k.high }
+
+    -- the suitor of a node that points nowhere stays
+    courted_stays : Each Modest c → Each Upward c → (s t : ℕ) → IsCourted s t c → next.p s ≡ Some t
+    courted_stays modest upward s t k =
+        let range = l.in_range s t (l.to_linked s t k.suitor) in
+        let free = courted_free c s t l k in
+        suitor_stays t s k.suitor (modest t range.1 (married-null c t k.null)) (upward s range.0 free t k.suitor)
+
+    pub courting_stays : Each Modest c → Each Upward c → Each Hopeful c → IsCourting c → IsCourting next
+    courting_stays modest upward hopeful k =
+        let top = courted c l upward hopeful k in
+        record {
+          who = top.0;
+          whom = top.1;
+          free = free_after top.0 (courted_free c top.0 top.1 l top.2);
+          points =
+              courted_stays modest upward top.0 top.1 top.2;
+        }
+
+    pub courting_moves : Each Modest c → Each Upward c → Each Hopeful c → (a b : ℕ) → IsOpen a b c → (r : Rule) → chosen a ≡ Some r → IsCourting next
+    courting_moves modest upward hopeful a b k r e = go (next.p a) refl
+      where
+        by_rule : (r : Rule) → guard c a r ≡ true → (effect c a r).p ≡ None → IsCourting next
+        by_rule Rule.Update g none = absurd (self (is_married c a) (k.low ∙ sym (modest a (l.in_range a b k.linked).0 k.low) ∙ updates c a g))
+        by_rule (Rule.Marriage j) g none = cc
+        by_rule Rule.Seduction g none = let s = seduced c a g in let some = s.1 in cc
+        by_rule Rule.Abandonment g none =
+            let s = abandoned c a g in
+            courting_stays modest upward hopeful (record { who = a; whom = s.0; free = k.low; points = s.1 })
+
+        go : (o : Option ℕ) → next.p a ≡ o → IsCourting next
+        go (Some y) f = record { who = a; whom = y; free = free_after a k.low; points = f }
+        go None f = by_rule r (h a r e) (sym (ap (λ o. (moved c a o).p) e) ∙ f)
+
+    -- a node with a suitor marries if it moves
+    pub courted_moves : Each Modest c → Each Upward c → (s t : ℕ) → IsCourted s t c → (r : Rule) → chosen t ≡ Some r → ⊥
+    courted_moves modest upward s t k r e = by_rule r (h t r e) (ap (λ o. (moved c t o).p) e)
+      where
+        free : is_married c t ≡ false
+        free = married-null c t k.null
+
+        off : c.m t ≡ false
+        off = modest t (l.in_range s t (l.to_linked s t k.suitor)).1 free
+
+        by_rule : (r : Rule) → guard c t r ≡ true → next.p t ≡ (effect c t r).p → ⊥
+        by_rule Rule.Update g to = self (is_married c t) (free ∙ sym off ∙ updates c t g)
+        by_rule (Rule.Marriage j) g to =
+            let m = marries c t j g in
+            let range = l.in_range j t (l.to_linked j t m.suitor) in
+            let alone = courted_free c j t l (record { suitor = m.suitor; null = k.null }) in
+            let up = upward j range.0 alone t m.suitor in
+            both_ways (is_married next t) (free_after t free) (married-from next t j (step-lawful c chosen l h) to (suitor_stays t j m.suitor off up))
+        by_rule Rule.Seduction g to =
+            let x = and_parts (m_is_right c t) (is_none (c.p t) && (not (has_suitor c t) && is_some (greatest_candidate c t))) g in
+            let y = and_parts (is_none (c.p t)) (not (has_suitor c t) && is_some (greatest_candidate c t)) x.1 in
+            let z = and_parts (not (has_suitor c t)) (is_some (greatest_candidate c t)) y.1 in
+            both_ways (has_suitor c t) (not-true _ z.0) (suitor-from c t s l (l.symmetric s t (l.to_linked s t k.suitor)) k.suitor)
+        by_rule Rule.Abandonment g to = let a = abandoned c t g in let some = a.1 in let null = k.null in cc
+
+    pub courted_kept : Each Modest c → Each Upward c → (s t : ℕ) → IsCourted s t c → IsCourted s t next
+    courted_kept modest upward s t k = record { suitor = courted_stays modest upward s t k; null = go (chosen t) refl }
+      where
+        go : (o : Option Rule) → chosen t ≡ o → next.p t ≡ None
+        go None e = ap (λ o. (moved c t o).p) e ∙ k.null
+        go (Some r) e = absurd (courted_moves modest upward s t k r e)
+
+    -- ---- while no node is married
+
+    -- a pointer upwards stays
+    pub rising_stays : Each Modest c → IsLone c → IsRising c → IsRising next
+    rising_stays modest lone k =
+        let range = l.in_range k.who k.whom (l.to_linked k.who k.whom k.points) in
+        record { who = k.who; whom = k.whom; points = suitor_stays k.whom k.who k.points (modest k.whom range.1 (lone k.whom)) k.up; up = k.up }
+
+    -- and a node that pointed nowhere points upwards once it has moved
+    pub facing_moves : Each Modest c → IsLone c → (a b : ℕ) → IsFacing a b c → (r : Rule) → chosen a ≡ Some r → IsRising next
+    facing_moves modest lone a b k r e = go (next.p a) refl
+      where
+        by_rule : (r : Rule) → guard c a r ≡ true → (effect c a r).p ≡ None → IsRising next
+        by_rule Rule.Update g none = absurd (self (is_married c a) (lone a ∙ sym (modest a (l.in_range a b k.linked).0 (lone a)) ∙ updates c a g))
+        by_rule (Rule.Marriage j) g none = cc
+        by_rule Rule.Seduction g none = let s = seduced c a g in let some = s.1 in cc
+        by_rule Rule.Abandonment g none = let s = abandoned c a g in let some = s.1 in let null = k.null in cc
+
+        go : (o : Option ℕ) → next.p a ≡ o → IsRising next
+        go (Some z) f = record { who = a; whom = z; points = f; up = made_up a z (free_after a (lone a)) (ap (λ o. holds o z) k.null) f }
+        go None f = by_rule r (h a r e) (sym (ap (λ o. (moved c a o).p) e) ∙ f)
+
+    pub facing_stays : Each Modest c → IsLone c → (a b : ℕ) → IsFacing a b c → IsRising next ⊎ IsFacing a b next
+    facing_stays modest lone a b k = go (chosen a) refl
+      where
+        kept : next.p a ≡ None → (o : Option ℕ) → next.p b ≡ o → IsRising next ⊎ IsFacing a b next
+        kept null None f = inr (record { linked = k.linked; up = k.up; null = null; either = inl f })
+        kept null (Some z) f = elim (cases_Bool (holds (c.p b) z)) [
+          | inr off ↦ inl (record { who = b; whom = z; points = f; up = made_up b z (free_after b (lone b)) off f })
+          | inl on ↦ elim k.either [
+            | inl nowhere ↦ absurd (both_ways (holds (c.p b) z) (ap (λ o. holds o z) nowhere) on)
+            | inr to ↦ inr (record { linked = k.linked; up = k.up; null = null; either = inr (f ∙ sym (holds-true (c.p b) z on) ∙ to) })
+          ]
+        ]
+
+        go : (o : Option Rule) → chosen a ≡ o → IsRising next ⊎ IsFacing a b next
+        go None e = kept (ap (λ o. (moved c a o).p) e ∙ k.null) (next.p b) refl
+        go (Some r) e = inl (facing_moves modest lone a b k r e)
+
+    pub lone_stays : IsLone c → IsLone next
+    lone_stays lone i = free_after i (lone i)

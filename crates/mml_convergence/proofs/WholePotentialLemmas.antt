@@ -1,0 +1,113 @@
+-- All potentials together: they fall by the moves of a step, and are 2 for each link and 3 for each node at the most.
+use Rattle.std.proofs.Common.{◌≡◌, ◌==◌, ℕ, zero, suc, ◌+◌, ◌*◌, ◌<◌, ◌≤◌, Bool, true, false, cond, not, ◌&&◌, Option, None, Some, is_some, inl, inr}
+use Rattle.std.proofs.Common.{refl, sym, ap, ◌∙◌, arith, nat_lt}
+use Rattle.std.specs.Option.{option_map_or}
+use Rattle.std.proofs.lemmas.Bool.{and_parts, and_from, and_right, ltb-true, lt-ltb, le-ltb, eqb-true, eq-eqb, false_from_ne_true, cases_Bool}
+use Rattle.mml_ids.specs.Search.{count_below}
+use Rattle.mml_ids.proofs.SearchLemmas.{same_bool}
+use Rattle.mml_rules.specs.declared.rule.Rule.{Rule}
+use Rattle.mml_rules.specs.Configuration.{Configuration, IsLawful, holds}
+use Rattle.mml_rules.specs.Rules.{is_married, step, AllHold}
+use Rattle.mml_lab.specs.Labs.{links_below}
+use Rattle.mml_convergence.specs.Potential.{sum_below, points_down, is_above, link_part, potential, whole_potential}
+use Rattle.mml_convergence.specs.Moves.{moves}
+use Rattle.mml_convergence.proofs.PartsLemmas.{own_most, link_most}
+use Rattle.mml_convergence.proofs.SumsLemmas.{sum_kept, sum_charged, sum_most, sum_parts, sum_split, sum_turned, sum_of_tests, one_column, count_none}
+use Rattle.mml_convergence.proofs.SumsLemmas.{count_some, count_one_at_most, count_same}
+use Rattle.mml_convergence.proofs.MovesLemmas.{pays, marries_lower}
+use Rattle.mml_convergence.proofs.PotentialLemmas.{potential_fell}
+
+-- ---- a step
+
+-- what is charged to i in a network of n nodes: its own move, but for a marriage with a lower node, and those of higher nodes with it
+abbrev charge : (ℕ → Option Rule) → ℕ → ℕ → ℕ
+charge chosen n i = cond (pays (chosen i) i) 1 0 + count_below n (λ k. marries_lower (chosen k) k i)
+
+-- each move is charged, to its node or to the lower node that it marries
+one_charged : (o : Option Rule) (k n : ℕ) → k < n → cond (is_some o) 1 0 ≤ cond (pays o k) 1 0 + count_below n (marries_lower o k)
+one_charged None k n lt = omega arith
+one_charged (Some Rule.Update) k n lt = omega arith
+one_charged (Some (Rule.Marriage j)) k n lt = go (nat_lt j k) refl
+  where
+    go : (b : Bool) → nat_lt j k ≡ b → 1 ≤ cond (not b) 1 0 + count_below n (marries_lower (Some (Rule.Marriage j)) k)
+    go true lower =
+        let below = ltb-true j k lower in
+        let counted = count_some n j (marries_lower (Some (Rule.Marriage j)) k) (omega arith) (and_from (j == j) (nat_lt j k) (eq-eqb j j refl) lower) in
+        omega (arith, counted)
+    go false up = omega arith
+one_charged (Some Rule.Seduction) k n lt = omega arith
+one_charged (Some Rule.Abandonment) k n lt = omega arith
+
+all_charged : (chosen : ℕ → Option Rule) (n : ℕ) → count_below n (moves chosen) ≤ sum_below n (charge chosen n)
+all_charged chosen n =
+    let split = sum_split n (λ i. cond (pays (chosen i) i) 1 0) (λ i. count_below n (λ k. marries_lower (chosen k) k i)) in
+    let turned = sum_turned (λ i k. marries_lower (chosen k) k i) n n in
+    let joined = sum_split n (λ k. cond (pays (chosen k) k) 1 0) (λ k. count_below n (marries_lower (chosen k) k)) in
+    let each =
+    sum_kept n (λ k. cond (moves chosen k) 1 0) (λ k. cond (pays (chosen k) k) 1 0 + count_below n (marries_lower (chosen k) k))
+    (λ k lt. one_charged (chosen k) k n lt) in
+    let counted = sum_of_tests n (moves chosen) in
+    omega (arith, split, turned, joined, each, counted)
+
+-- in a step all potentials together fall by the number of moves at the least
+pub whole_fell : (c : Configuration) (chosen : ℕ → Option Rule) → IsLawful c → AllHold c chosen
+    → whole_potential (step c chosen) + count_below c.size (moves chosen) ≤ whole_potential c
+unfolding whole_potential
+whole_fell c chosen l h =
+    let fell = sum_charged c.size (charge chosen c.size) (potential (step c chosen)) (potential c) (potential_fell c chosen l h) in
+    let charged = all_charged chosen c.size in
+    omega (arith, fell, charged)
+
+-- ---- the bound
+
+-- a pointer leads to one higher node or to a lower one
+one_pointer : (c : Configuration) (i n : ℕ) (o : Option ℕ)
+    → count_below n (λ j. is_above c i j && holds o j) + cond (option_map_or (λ j. nat_lt j i) o false) 1 0 ≤ 1
+one_pointer c i n None = let none = count_none n (λ j. is_above c i j && false) (λ j lt. and_right (is_above c i j) false refl) in omega (arith, none)
+one_pointer c i n (Some k) = elim (cases_Bool (nat_lt k i)) [
+  | inl down ↦
+      let none = count_none n (λ j. is_above c i j && holds (Some k) j) (λ j lt. false_from_ne_true (is_above c i j && holds (Some k) j) (λ e.
+      let both = and_parts (is_above c i j) (holds (Some k) j) e in
+      let up = ltb-true i j (and_parts (c.linked i j) (nat_lt i j) both.0).1 in
+      let low = ltb-true k i down in
+      let same = eqb-true k j both.1 in omega arith)) in
+      let one : cond {A = ℕ} (nat_lt k i) 1 0 ≡ 1 = ap (λ b. cond b 1 0) down in
+      omega (arith, none, one)
+  | inr up ↦
+      let once =
+      count_one_at_most n k (λ j. is_above c i j && holds (Some k) j) (λ j e. sym (eqb-true k j (and_parts (is_above c i j) (holds (Some k) j) e).1)) in
+      let none : cond {A = ℕ} (nat_lt k i) 1 0 ≡ 0 = ap (λ b. cond b 1 0) up in
+      omega (arith, once, none)
+]
+
+pub potential_most : (c : Configuration) (i : ℕ) → potential c i ≤ 3 + 2 * count_below c.size (is_above c i)
+unfolding potential
+potential_most c i =
+    let own = own_most (is_married c i) (c.m i) (points_down c i) in
+    let links = sum_parts c.size (is_above c i) (holds (c.p i)) (link_part c i) (λ j. link_most (holds (c.p i) j) (holds (c.p j) i) (c.m j) (is_married c j)) in
+    let pointer = one_pointer c i c.size (c.p i) in
+    omega (arith, own, links, pointer)
+
+and_on : (x y : Bool) → y ≡ true → (x && y) ≡ x
+and_on true y e = e
+and_on false y e = refl
+
+-- each link is counted at its lower end as often as at its higher
+pub counted_above : (c : Configuration) (n : ℕ) → IsLawful c → sum_below n (λ i. count_below n (is_above c i)) ≡ links_below c n
+counted_above c zero l = refl
+counted_above c (suc n) l =
+    let rest = counted_above c n l in
+    let columns = one_column (is_above c) n n in
+    let top = count_none (suc n) (is_above c n) (λ j lt. and_right (c.linked n j) (nat_lt n j) (le-ltb n j (omega arith))) in
+    let turned =
+    count_same n (λ i. is_above c i n) (c.linked n)
+    (λ i lt. and_on (c.linked i n) (nat_lt i n) (lt-ltb i n lt) ∙ same_bool _ _ (λ e. l.symmetric i n e) (λ e. l.symmetric n i e)) in
+    omega (arith, rest, columns, top, turned)
+
+-- all potentials together are 2 for each link and 3 for each node at the most
+pub whole_most : (c : Configuration) → IsLawful c → whole_potential c ≤ 2 * links_below c c.size + 3 * c.size
+unfolding whole_potential
+whole_most c l =
+    let most = sum_most c.size (potential c) (λ i. count_below c.size (is_above c i)) (potential_most c) in
+    let counted = counted_above c c.size l in
+    omega (arith, most, counted)
