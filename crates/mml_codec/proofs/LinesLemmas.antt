@@ -1,8 +1,10 @@
-use Rattle.std.proofs.Common.{◌≡◌, ℕ, List, Bool, true, false, cond, Option, Some, None, Err, ok_or, refl}
+use Rattle.std.proofs.Common.{◌≡◌, ℕ, List, Bool, true, false, cond, Option, Some, None, Err, ok_or, option_and_then, refl, ap}
 use Rattle.std.specs.Str.{is_utf8, IsUtf8}
-use Rattle.std.proofs.lemmas.Str.{is_utf8-from_IsUtf8, IsUtf8-from_is_utf8}
-use Rattle.serde_json.specs.Data.{Data}
+use Rattle.std.proofs.lemmas.Str.{is_utf8-from_IsUtf8}
+use Rattle.serde_json.specs.Data.{Data, null, boolean, number, string, array, object, Members}
+use Rattle.serde_json.specs.Find.{as_object}
 use Rattle.serde_json.specs.Read.{read}
+use Rattle.mml_plain.specs.Reading.{object_in}
 use Rattle.mml_codec.specs.declared.request.LineFault.TheVariants as fault
 use Rattle.mml_codec.specs.Requests.{request}
 use Rattle.mml_codec.specs.Lines.{value_in, request_in}
@@ -12,21 +14,44 @@ pub value_in-some : (bytes : List ℕ) (d : Data) → IsUtf8 bytes → read byte
 unfolding value_in
 value_in-some bytes d u e = rw (is_utf8-from_IsUtf8 bytes u) e
 
-none_at : (b : Bool) (o : Option Data) → (b ≡ true → o ≡ None) → cond b o None ≡ None
-none_at true o h = h refl
-none_at false o h = refl
-
--- bytes that aren't UTF-8, or are read as no value, have none
-pub value_in-none : (bytes : List ℕ) → (IsUtf8 bytes → read bytes ≡ None) → value_in bytes ≡ None
-unfolding value_in
-value_in-none bytes h = none_at (is_utf8 bytes) (read bytes) (λ e. h (IsUtf8-from_is_utf8 bytes e))
-
 -- a line that has a value asks what the value asks, or is malformed
 pub request_in-some : (bytes : List ℕ) (d : Data) → value_in bytes ≡ Some d → request_in bytes ≡ ok_or (request d) fault.Malformed
 unfolding request_in
 request_in-some bytes d e = rw e
 
--- a line that has no value is malformed
-pub request_in-none : (bytes : List ℕ) → value_in bytes ≡ None → request_in bytes ≡ Err fault.Malformed
-unfolding request_in
-request_in-none bytes e = rw e
+an_object : (d : Data) (ms : Members) → as_object d ≡ Some ms → d ≡ object ms
+an_object null ms e = absurd (cc)
+an_object (boolean b) ms e = absurd (cc)
+an_object (number n) ms e = absurd (cc)
+an_object (string s) ms e = absurd (cc)
+an_object (array ds) ms e = absurd (cc)
+an_object (object os) ms e = let same : os ≡ ms = cc in ap object same
+
+object_asks : (b : Bool) (o : Option Data) (ms : Members) → cond b (option_and_then as_object o) None ≡ Some ms → cond b o None ≡ Some (object ms)
+object_asks true None ms e = absurd (cc)
+object_asks true (Some d) ms e = ap Some (an_object d ms e)
+object_asks false o ms e = absurd (cc)
+
+no_object : (d : Data) → as_object d ≡ None → request d ≡ None
+unfolding request
+no_object null e = refl
+no_object (boolean b) e = refl
+no_object (number n) e = refl
+no_object (string s) e = refl
+no_object (array ds) e = refl
+no_object (object ms) e = absurd (cc)
+
+nothing_asked : (b : Bool) (o : Option Data) → cond b (option_and_then as_object o) None ≡ None → option_and_then request (cond b o None) ≡ None
+nothing_asked true None e = refl
+nothing_asked true (Some d) e = no_object d e
+nothing_asked false o e = refl
+
+-- a line that is an object asks what the object asks, or is malformed
+pub request_in-object : (line : List ℕ) (ms : Members) → object_in line ≡ Some ms → request_in line ≡ ok_or (request (object ms)) fault.Malformed
+unfolding value_in object_in
+request_in-object line ms e = request_in-some line (object ms) (object_asks (is_utf8 line) (read line) ms e)
+
+-- a line that is no object is malformed
+pub request_in-other : (line : List ℕ) → object_in line ≡ None → request_in line ≡ Err fault.Malformed
+unfolding request_in value_in object_in
+request_in-other line e = ap (λ o. ok_or o fault.Malformed) (nothing_asked (is_utf8 line) (read line) e)

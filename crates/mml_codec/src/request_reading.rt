@@ -1,8 +1,7 @@
-ghost use Rattle.std.specs.Prelude.{◌≡◌, ◌≢◌, ◌<◌, ◌⊎◌, length, codes, true, false, Err, ok_or};
+ghost use Rattle.std.specs.Prelude.{◌≡◌, ◌≢◌, ◌<◌, ◌⊎◌, length, codes, true, Err, ok_or};
 ghost use Rattle.mml_ids.specs.Gives.{Gives};
 ghost use Rattle.serde_json.specs.Data.{Data};
 ghost use Rattle.mml_plain.specs.Holds.{Holds};
-ghost use Rattle.mml_plain.specs.PlainLines.{is_plain};
 ghost use Rattle.mml_codec.specs.Requests.{asked_at, node_of, ends_of, hello_of, move_of, fault_of, by_word, request};
 ghost use Rattle.mml_policy.specs.declared.command.Command.TheVariants as command;
 ghost use Rattle.mml_codec.specs.Lines.{is_line_memory, is_hello, request_in};
@@ -10,9 +9,8 @@ ghost use Rattle.mml_codec.specs.inside.Reading.{Reads};
 
 use crate::request::{LineFault, Request};
 use mml_ids::Word;
-use mml_plain::{Fields, LineScratch, read_plain};
+use mml_plain::{Fields, LineScratch, read_fields};
 use mml_policy::{Asked, Command};
-use serde_json::Value;
 use std::alloc::Global;
 
 /// The request that a line is. The line comes without its newline.
@@ -23,9 +21,8 @@ pub fn read_request(alloc: Global, line: &[u8]) -> Result<Request, LineFault>
     read_request_with(alloc, line, &mut scratch)
 }
 
-/// The same with memory that is kept from line to line: a plain object for which it has room takes
-/// none beside it, but for the words of a hello.
-#[tactic(auto, unfolding(crate::specs::Lines::request_in))]
+/// The same with memory that is kept from line to line: a line for which it has room takes none beside
+/// it, but for the words of a hello.
 pub fn read_request_with(
     alloc: Global,
     line: &[u8],
@@ -33,31 +30,13 @@ pub fn read_request_with(
 ) -> Result<Request, LineFault>
     ensures request { Gives is_line_memory (λ r. r) result (request_in line.now) }
     ensures memory { result ≡ Err LineFault.Memory → (scratch.old < length line.now)
-        ⊎ ((is_plain line.now ≡ false) ⊎ (is_hello (request_in line.now) ≡ true)) }
+        ⊎ (is_hello (request_in line.now) ≡ true) }
 {
     let mut fields = Fields::empty();
-    if read_plain(line, scratch, &mut fields)? {
+    if read_fields(line, scratch, &mut fields)? {
         request(alloc, &fields)
     } else {
-        read_value(alloc, line)
-    }
-}
-
-/// The request of a line as `serde_json` reads it, for whatever isn't plain.
-#[inline(never)]
-#[tactic(auto, unfolding(crate::specs::Lines::request_in))]
-fn read_value(alloc: Global, line: &[u8]) -> Result<Request, LineFault>
-    ensures { Gives is_line_memory (λ r. r) result (request_in line.now) }
-{
-    match Value::from_slice(alloc, line) {
-        Ok(value) => request(alloc, &Fields::of(&value)),
-        Err(error) => {
-            if error.is_memory() {
-                Err(LineFault::Memory)
-            } else {
-                Err(LineFault::Malformed)
-            }
-        }
+        Err(LineFault::Malformed)
     }
 }
 

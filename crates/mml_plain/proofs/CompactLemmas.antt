@@ -1,100 +1,257 @@
 -- A compact text, read member by member, spells the tokens that are printed as it.
-use Rattle.std.proofs.Common.{◌≡◌, ℕ, ◌+◌, ◌<◌, List, [], ◌∷◌, ◌++◌, length, take, get_or, Bool, true, false, fold, not, ◌==◌, Some, option_and_then}
-use Rattle.std.proofs.Common.{refl, sym, ap, ◌∙◌, append_assoc, decimal, ◌^◌}
-use Rattle.std.proofs.Common.{arith, drop, ◌≢◌, ltb-true, ◌≤◌, ◌*◌, ◌/◌, ◌%◌, Some, option_map, nat_lt}
+use Rattle.std.proofs.Common.{◌≡◌, ℕ, zero, suc, ◌+◌, ◌-◌, ◌<◌, List, [], ◌∷◌, ◌++◌, length, take, get_or, Bool, true, false, fold, map, not, ◌==◌, Some, option_and_then}
+use Rattle.std.proofs.Common.{refl, sym, ap, inl, ◌∙◌, subst, append_assoc, append-nil, length-append, decimal, ◌^◌}
+use Rattle.std.proofs.Common.{arith, drop, ◌≢◌, ltb-true, ◌≤◌, ◌*◌, ◌/◌, ◌%◌, option_map, nat_lt}
 use Rattle.std.specs.Str.{IsUtf8}
 use Rattle.std.proofs.lemmas.Bool.{and_parts, and_from, eq-eqb, both_ways, not-true}
 use Rattle.std.proofs.lemmas.List.{take_more, drop_more, take-append-drop}
-use Rattle.std.proofs.lemmas.Fmt.{decimal_digit, decimal_step}
+use Rattle.std.proofs.lemmas.Fmt.{decimal_digit, decimal_step, IsAscii-decimal}
 use Rattle.json.proofs.Printed.Strings.{escape_byte_plain}
-use Rattle.json.proofs.Printed.Utf8.{are_ascii, IsUtf8-are_ascii}
+use Rattle.std.proofs.lemmas.Str.{IsUtf8-append, IsUtf8-nil, IsUtf8-from_ascii}
+use Rattle.json.proofs.Printed.Utf8.{are_ascii, IsUtf8-are_ascii, IsUtf8-quoted, IsUtf8-key, IsUtf8-boolean, IsUtf8-separator, IsUtf8-IsGap}
 use Rattle.json.proofs.Printed.Decimals.{IsNumber-decimal}
-use Rattle.serde_json.specs.Find.{as_u64}
-use Rattle.serde_json.proofs.Numbers.{number_of-decimal}
-use Rattle.mml_plain.specs.declared.plain_value.PlainValue.TheVariants.{Null, Truth, Number}
-use Rattle.mml_plain.specs.Tokens.{unsigned_number}
+use Rattle.json.proofs.Printed.Tokens.{tokens-print_spaced, IsGap-append}
+use Rattle.json.proofs.Grammar.{value_is}
 use Rattle.json.specs.Token.{Token}
 use Rattle.json.specs.Lex.{tokens}
-use Rattle.json.specs.Print.{escape, token_text, ends, separator, print_from, print, ArePrintable}
-use Rattle.json.proofs.Printed.Tokens.{tokens-print, print_from_push, ends_push, ArePrintable-push}
-use Rattle.serde_json.specs.Data.{Members, no_members, put}
-use Rattle.mml_plain.specs.declared.plain_value.PlainValue.{PlainValue}
-use Rattle.mml_plain.specs.Tokens.{plain_value, plain_members, plain_object}
-use Rattle.mml_plain.specs.Fields.{data_of}
-use Rattle.mml_plain.specs.Compact.{is_bare_byte, is_bare, BeginsValue, BeginsMember}
+use Rattle.json.specs.Print.{escape, token_text, ends, separator, print_from, ArePrintable}
+use Rattle.json.specs.Spaced.{IsGap, AreGaps, print_spaced}
+use Rattle.serde_json.specs.Data.{Data, boolean, number, unsigned, string, array, object, no_items, Members, no_members, put}
+use Rattle.serde_json.specs.Data as serde
+use Rattle.serde_json.specs.Read.{of_json, converted}
+use Rattle.serde_json.proofs.Numbers.{number_of-decimal}
+use Rattle.mml_plain.specs.declared.member_value.MemberValue.{MemberValue}
+use Rattle.mml_plain.specs.declared.member_value.MemberValue.TheVariants.{Null, Truth, Number, Text, Other}
+use Rattle.mml_plain.specs.Reading.{value_at, items_at, members_at, if_over, object_at}
+use Rattle.mml_plain.specs.Shown.{Shows}
+use Rattle.mml_plain.specs.Compact.{is_bare_byte, is_bare, ended, Spaced, BeginsValue, BeginsMember}
+use Rattle.mml_plain.proofs.ReadingLemmas.{items_turn, items_next, members_turn, members_suc, members_next, value_array, value_object}
 
-abbrev ended : List Token → Bool
-ended us = fold (λ _ u. ends u) false us
+abbrev SpacedTokens : Type 0
+SpacedTokens = List (List ℕ × Token)
+
+abbrev pub told : SpacedTokens → List Token
+told [] = []
+told (p ∷ ps) = p.1 ∷ told ps
+
+told_is : (ps : SpacedTokens) → map (λ p. p.1) ps ≡ told ps
+told_is [] = refl
+told_is (p ∷ ps) = ap (λ ts. p.1 ∷ ts) (told_is ps)
+
+told_append : (ps qs : SpacedTokens) → told (ps ++ qs) ≡ told ps ++ told qs
+told_append [] qs = refl
+told_append (p ∷ ps) qs = ap (λ ts. p.1 ∷ ts) (told_append ps qs)
+
+abbrev close : SpacedTokens → List Token → SpacedTokens
+close ps [] = ps
+close ps (t ∷ ts) = ([], t) ∷ close ps ts
+
+told_close : (ts : List Token) → told (close [] ts) ≡ ts
+told_close [] = refl
+told_close (t ∷ ts) = ap (λ us. t ∷ us) (told_close ts)
+
+ended_append : (c : Bool) (ts us : List Token) → fold (λ _ t. ends t) c (ts ++ us) ≡ fold (λ _ t. ends t) (fold (λ _ t. ends t) c ts) us
+ended_append c [] us = refl
+ended_append c (t ∷ ts) us = ended_append (ends t) ts us
+
+gaps_append : (ps qs : SpacedTokens) → AreGaps ps → AreGaps qs → AreGaps (ps ++ qs)
+gaps_append [] qs h k = k
+gaps_append (p ∷ ps) qs h k = (h.0, gaps_append ps qs h.1 k)
+
+gaps_close : (ts : List Token) → AreGaps (close [] ts)
+gaps_close [] = tt
+gaps_close (t ∷ ts) = (tt, gaps_close ts)
+
+printable_append : (ts us : List Token) → ArePrintable ts → ArePrintable us → ArePrintable (ts ++ us)
+unfolding ArePrintable
+printable_append [] us h k = k
+printable_append (t ∷ ts) us h k = (h.0, printable_append ts us h.1 k)
+
+grouped : (a b c rest : List ℕ) → a ++ (b ++ (c ++ rest)) ≡ (a ++ (b ++ c)) ++ rest
+grouped a b c rest = simp append_assoc
+
+spaced_append : (c : Bool) (ps qs : SpacedTokens) → print_spaced c (ps ++ qs) ≡ print_spaced c ps ++ print_spaced (fold (λ _ t. ends t) c (told ps)) qs
+unfolding print_spaced
+spaced_append c [] qs = refl
+spaced_append c (p ∷ ps) qs =
+    ap (λ l. separator c p.1 ++ (p.0 ++ (token_text p.1 ++ l))) (spaced_append (ends p.1) ps qs)
+    ∙ ap (λ l. separator c p.1 ++ l) (grouped p.0 (token_text p.1) (print_spaced (ends p.1) ps) _)
+    ∙ sym (append_assoc (separator c p.1) _ _)
+
+spaced_close : (c : Bool) (ts : List Token) → print_spaced c (close [] ts) ≡ print_from c ts
+unfolding print_spaced print_from
+spaced_close c [] = refl
+spaced_close c (t ∷ ts) = ap (λ l. separator c t ++ (token_text t ++ l)) (spaced_close (ends t) ts)
+
+-- ---- member by member
+
+-- the tokens of the members so far, and that the rest goes on after them
+pub record Begun (us : SpacedTokens) (found : Members) : Type 0 where
+  pub gaps : AreGaps us
+  pub printable : ArePrintable (told us)
+  pub utf8 : IsUtf8 (print_spaced false us)
+  pub turns : ℕ
+  pub fits : turns ≤ length (told us)
+  pub members : (n : ℕ) (ts : List Token) → members_at 126 no_members (turns + n) (told us ++ ts) ≡ members_at 126 found n ts
 
 -- the members so far, before the next, whose comma was passed
 pub record Before (line rest : List ℕ) (found : Members) : Type 0 where
-  pub us : List Token
-  pub printable : ArePrintable us
-  pub text : line ≡ 123 ∷ (print_from false us ++ (separator (ended us) (Token.key []) ++ rest))
-  pub members : (ts : List Token) → plain_members no_members (us ++ ts) ≡ plain_members found ts
+  pub us : SpacedTokens
+  pub begun : Begun us found
+  pub text : line ≡ 123 ∷ (print_spaced false us ++ (separator (ended (told us)) (Token.key []) ++ rest))
 
 -- the members so far, with what follows the last
 pub record After (line rest : List ℕ) (found : Members) : Type 0 where
-  pub us : List Token
-  pub printable : ArePrintable us
-  pub closed : ended us ≡ true
-  pub text : line ≡ 123 ∷ (print_from false us ++ rest)
-  pub members : (ts : List Token) → plain_members no_members (us ++ ts) ≡ plain_members found ts
+  pub us : SpacedTokens
+  pub begun : Begun us found
+  pub closed : ended (told us) ≡ true
+  pub text : line ≡ 123 ∷ (print_spaced false us ++ rest)
 
 pub begun : (line rest : List ℕ) → line ≡ 123 ∷ rest → Before line rest no_members
-unfolding print_from ArePrintable
-begun line rest e = record { us = []; printable = tt; text = e; members = λ ts. refl }
+unfolding print_spaced ArePrintable
+begun line rest e = record {
+  us = [];
+  begun = record { gaps = tt; printable = tt; utf8 = IsUtf8-nil; turns = 0; fits = omega arith; members = λ n ts. ap (λ k. members_at 126 no_members k ts) (omega arith) };
+  text = e;
+}
 
 pub comma : (line rest next : List ℕ) (found : Members) → rest ≡ 44 ∷ next → After line rest found → Before line next found
 comma line rest next found e a = record {
   us = a.us;
-  printable = a.printable;
-  text = a.text ∙ ap (λ t. 123 ∷ (print_from false a.us ++ t)) (e ∙ ap (λ b. separator b (Token.key []) ++ next) (sym a.closed));
-  members = a.members;
+  begun = a.begun;
+  text = a.text ∙ ap (λ t. 123 ∷ (print_spaced false a.us ++ t)) (e ∙ ap (λ b. separator b (Token.key []) ++ next) (sym a.closed));
 }
 
-pub over : (line rest : List ℕ) (found : Members) → rest ≡ 125 ∷ [] → After line rest found → plain_object (tokens line) ≡ Some found
-unfolding print_from ArePrintable plain_members
-over line rest found e a =
-    let ws = a.us ++ Token.end_object ∷ [] in
-    let printed : print_from false ws ≡ print_from false a.us ++ 125 ∷ [] =
-    print_from_push false a.us Token.end_object ∙ ap (λ b. print_from false a.us ++ (separator b Token.end_object ++ 125 ∷ [])) a.closed in
-    let whole : line ≡ print (Token.begin_object ∷ ws) = a.text ∙ ap (λ t. 123 ∷ (print_from false a.us ++ t)) e ∙ ap (λ t. 123 ∷ t) (sym printed) in
-    let read : tokens line ≡ Token.begin_object ∷ ws =
-    ap tokens whole ∙ tokens-print (Token.begin_object ∷ ws) (tt, ArePrintable-push a.us Token.end_object a.printable tt) in
-    ap plain_object read ∙ a.members (Token.end_object ∷ [])
+all_read : (us : SpacedTokens) (found : Members) → Begun us found → object_at (Token.begin_object ∷ (told us ++ Token.end_object ∷ [])) ≡ Some found
+all_read us found b =
+    let end = Token.end_object ∷ [] in
+    let all = told us ++ end in
+    let n = length all - b.turns in
+    let counted : length all ≡ length (told us) + 1 = length-append (told us) end in
+    let enough : 1 ≤ n = omega (arith, b.fits, counted) in
+    let parted : length all ≡ b.turns + n = omega (arith, b.fits, counted) in
+    ap if_over (ap (λ k. members_at 126 no_members k all) parted ∙ b.members n end ∙ members_next 126 found n end enough)
 
--- one member more
-pub member : (line rest more k : List ℕ) (v : PlainValue) (found : Members) → BeginsMember rest k v more → Before line rest found
-    → After line more (put k (data_of v) found)
-unfolding plain_members
-member line rest more k v found m b =
-    let t = m.value.token in
-    let one = b.us ++ Token.key k ∷ [] in
-    let two = one ++ t ∷ [] in
-    let first : print_from false one ≡ print_from false b.us ++ (separator (ended b.us) (Token.key k) ++ token_text (Token.key k)) =
-    print_from_push false b.us (Token.key k) in
-    let second : print_from false two ≡ print_from false one ++ token_text t =
-    print_from_push false one t ∙ ap (λ x. print_from false one ++ (separator x t ++ token_text t)) (ends_push false b.us (Token.key k)) in
-    let comma_is = separator (ended b.us) (Token.key k) in
-    let spelled : print_from false b.us ++ (comma_is ++ rest) ≡ print_from false two ++ more =
-    ap (λ r. print_from false b.us ++ (comma_is ++ r)) (m.key ∙ ap (λ r. token_text (Token.key k) ++ r) m.value.spelled)
-    ∙ ap (λ r. print_from false b.us ++ r) (sym (append_assoc comma_is (token_text (Token.key k)) (token_text t ++ more)))
-    ∙ sym (append_assoc (print_from false b.us) (comma_is ++ token_text (Token.key k)) (token_text t ++ more))
-    ∙ ap (λ r. r ++ (token_text t ++ more)) (sym first)
-    ∙ sym (append_assoc (print_from false one) (token_text t) more)
-    ∙ ap (λ r. r ++ more) (sym second) in
-    record {
-      us = two;
-      printable = ArePrintable-push one t (ArePrintable-push b.us (Token.key k) b.printable tt) m.value.printable;
-      closed = ends_push false one t ∙ m.value.ends_value;
-      text = b.text ∙ ap (λ r. 123 ∷ r) spelled;
-      members = λ ts. (
-          ap (plain_members no_members) (append_assoc one (t ∷ []) ts ∙ append_assoc b.us (Token.key k ∷ []) (t ∷ ts))
-          ∙ b.members (Token.key k ∷ t ∷ ts)
-          ∙ ap (option_and_then (λ d. plain_members (put k d found) ts)) m.value.value
-          );
-    }
+-- what is read so is UTF-8
+pub over_utf8 : (line rest : List ℕ) (found : Members) → rest ≡ 125 ∷ [] → After line rest found → IsUtf8 line
+over_utf8 line rest found e a =
+    let text = print_spaced false a.us ++ 125 ∷ [] in
+    let whole : line ≡ 123 ∷ text = a.text ∙ ap (λ t. 123 ∷ (print_spaced false a.us ++ t)) e in
+    let utf8 : IsUtf8 text = IsUtf8-append (print_spaced false a.us) (125 ∷ []) a.begun.utf8 (IsUtf8-are_ascii (125 ∷ []) refl) in
+    subst IsUtf8 (sym whole) (IsUtf8-append (123 ∷ []) text (IsUtf8-are_ascii (123 ∷ []) refl) utf8)
+
+pub over : (line rest : List ℕ) (found : Members) → rest ≡ 125 ∷ [] → After line rest found → object_at (tokens line) ≡ Some found
+unfolding print_spaced ArePrintable
+over line rest found e a =
+    let end = ([], Token.end_object) ∷ [] in
+    let ws = a.us ++ end in
+    let printed : print_spaced false ws ≡ print_spaced false a.us ++ 125 ∷ [] =
+    spaced_append false a.us end ∙ ap (λ b. print_spaced false a.us ++ (separator b Token.end_object ++ 125 ∷ [])) a.closed in
+    let whole : line ≡ print_spaced false (([], Token.begin_object) ∷ ws) =
+    a.text ∙ ap (λ t. 123 ∷ (print_spaced false a.us ++ t)) e ∙ ap (λ t. 123 ∷ t) (sym printed) in
+    let said : told ws ≡ told a.us ++ Token.end_object ∷ [] = told_append a.us end in
+    let printable : ArePrintable (told ws) = subst ArePrintable (sym said) (printable_append (told a.us) (Token.end_object ∷ []) a.begun.printable (tt, tt)) in
+    let read : tokens line ≡ Token.begin_object ∷ (told a.us ++ Token.end_object ∷ []) =
+    ap tokens whole
+    ∙ tokens-print_spaced (([], Token.begin_object) ∷ ws) (tt, gaps_append a.us end a.begun.gaps (tt, tt)) (tt, subst ArePrintable (sym (told_is ws)) printable)
+    ∙ ap (λ ts. Token.begin_object ∷ ts) (told_is ws ∙ said) in
+    ap object_at read ∙ all_read a.us found a.begun
+
+-- the tokens of one member
+abbrev one_member : List ℕ → List ℕ → List ℕ → Token → List Token → SpacedTokens
+one_member gap k between first others = (gap, Token.key k) ∷ (between, first) ∷ close [] others
+
+member_text : (comma gap key between first others more : List ℕ)
+    → comma ++ (gap ++ (key ++ (between ++ (first ++ (others ++ more))))) ≡ (comma ++ (gap ++ (key ++ (between ++ (first ++ others))))) ++ more
+member_text comma gap key between first others more = simp append_assoc
+
+module _ (line rest more k : List ℕ) (v : MemberValue) (found : Members) (m : BeginsMember rest k v more) (b : Before line rest found) where
+  abbrev gap : List ℕ
+  gap = m.spaced.gap
+
+  abbrev between : List ℕ
+  between = m.spaced_value.gap
+
+  abbrev first : Token
+  first = m.value.first
+
+  abbrev others : List Token
+  others = m.value.others
+
+  abbrev one : SpacedTokens
+  one = one_member gap k between first others
+
+  abbrev us : SpacedTokens
+  us = b.us ++ one
+
+  said : told us ≡ told b.us ++ Token.key k ∷ first ∷ others
+  said = told_append b.us one ∙ ap (λ ts. told b.us ++ Token.key k ∷ first ∷ ts) (told_close others)
+
+  one_text : print_spaced (ended (told b.us)) one ≡ separator (ended (told b.us)) (Token.key k) ++ (gap ++ (token_text (Token.key k) ++ (between ++ (token_text first ++ print_from (ends first) others))))
+  unfolding print_spaced
+  one_text = ap (λ l. separator (ended (told b.us)) (Token.key k) ++ (gap ++ (token_text (Token.key k) ++ (between ++ (token_text first ++ l))))) (spaced_close (ends first) others)
+
+  rest_is : rest ≡ gap ++ (token_text (Token.key k) ++ (between ++ (token_text first ++ (print_from (ends first) others ++ more))))
+  rest_is =
+      m.spaced.spelled ∙ ap (λ l. gap ++ l) (m.key ∙ ap (λ l. token_text (Token.key k) ++ l) (m.spaced_value.spelled ∙ ap (λ l. between ++ l) m.value.spelled))
+
+  text_is : print_spaced false b.us ++ (separator (ended (told b.us)) (Token.key k) ++ rest) ≡ print_spaced false us ++ more
+  text_is =
+      let comma = separator (ended (told b.us)) (Token.key k) in
+      ap (λ l. print_spaced false b.us ++ (comma ++ l)) rest_is
+      ∙ ap (λ l. print_spaced false b.us ++ l)
+      (member_text comma gap (token_text (Token.key k)) between (token_text first) (print_from (ends first) others) more ∙ ap (λ l. l ++ more) (sym one_text))
+      ∙ sym (append_assoc (print_spaced false b.us) (print_spaced (ended (told b.us)) one) more) ∙ ap (λ l. l ++ more) (sym (spaced_append false b.us one))
+
+  one_utf8 : IsUtf8 (print_spaced (ended (told b.us)) one)
+  one_utf8 =
+      let value : IsUtf8 (token_text first ++ print_from (ends first) others) = m.value.utf8 in
+      let at_value = IsUtf8-append between _ (IsUtf8-IsGap between m.spaced_value.is_gap) value in
+      let at_key = IsUtf8-append gap _ (IsUtf8-IsGap gap m.spaced.is_gap) (IsUtf8-append (token_text (Token.key k)) _ (IsUtf8-key k m.key_utf8) at_value) in
+      subst IsUtf8 (sym one_text) (IsUtf8-append (separator (ended (told b.us)) (Token.key k)) _ (IsUtf8-separator (ended (told b.us)) (Token.key k)) at_key)
+
+  goes_on : (n : ℕ) (ts : List Token) → members_at 126 no_members ((b.begun.turns + 1) + n) (told us ++ ts) ≡ members_at 126 (put k m.value.datum found) n ts
+  goes_on n ts =
+      let counted : (b.begun.turns + 1) + n ≡ b.begun.turns + suc n = omega arith in
+      let parted : told us ++ ts ≡ told b.us ++ (Token.key k ∷ first ∷ (others ++ ts)) =
+      ap (λ l. l ++ ts) said ∙ append_assoc (told b.us) (Token.key k ∷ first ∷ others) ts in
+      ap (λ c. members_at 126 no_members c (told us ++ ts)) counted ∙ ap (members_at 126 no_members (b.begun.turns + suc n)) parted
+      ∙ b.begun.members (suc n) (Token.key k ∷ first ∷ (others ++ ts)) ∙ members_suc 126 found n (Token.key k ∷ first ∷ (others ++ ts))
+      ∙ ap (option_and_then (λ p. members_at 126 (put k p.0 found) n p.1)) (m.value.value ts)
+
+  more_begun : Begun us (put k m.value.datum found)
+  unfolding ArePrintable
+  more_begun =
+      let length_is : length (told us) ≡ length (told b.us) + length (Token.key k ∷ first ∷ others) = ap length said ∙ length-append (told b.us) _ in
+      record {
+        gaps = gaps_append b.us one b.begun.gaps (m.spaced.is_gap, (m.spaced_value.is_gap, gaps_close others));
+        printable = subst ArePrintable (sym said) (printable_append (told b.us) (Token.key k ∷ first ∷ others) b.begun.printable (tt, m.value.printable));
+        utf8 = subst IsUtf8 (sym (spaced_append false b.us one)) (IsUtf8-append (print_spaced false b.us) _ b.begun.utf8 one_utf8);
+        turns = b.begun.turns + 1;
+        fits = omega (arith, b.begun.fits, length_is);
+        members = goes_on;
+      }
+
+  -- one member more
+  pub member : After line more (put k m.value.datum found)
+  member = record {
+    us = us;
+    begun = more_begun;
+    closed = ap ended said ∙ ended_append false (told b.us) (Token.key k ∷ first ∷ others) ∙ m.value.ends_value;
+    text = b.text ∙ ap (λ t. 123 ∷ t) text_is;
+  }
+
+-- ---- spaces
+
+pub no_space : (text : List ℕ) → Spaced text text
+no_space text = record { gap = []; is_gap = tt; spelled = refl }
+
+pub one_space : (text rest next : List ℕ) → rest ≡ 32 ∷ next → Spaced text rest → Spaced text next
+one_space text rest next e s = record {
+  gap = s.gap ++ 32 ∷ [];
+  is_gap = IsGap-append s.gap (32 ∷ []) s.is_gap (inl refl, tt);
+  spelled = s.spelled ∙ ap (λ l. s.gap ++ l) e ∙ sym (append_assoc s.gap (32 ∷ []) next);
+}
 
 -- ---- words
 
@@ -160,25 +317,93 @@ digit_first xs d digit h here one = take_more xs 0 d h ∙ ap (λ b. b ∷ []) h
 
 -- ---- values
 
-pub text_value : (text a rest : List ℕ) (v : PlainValue) (k : List ℕ) → plain_value (Token.string k) ≡ Some (data_of v) → text ≡ 34 ∷ a → a ≡ k ++ 34 ∷ rest → is_bare k ≡ true
+pub text_value : (text a rest : List ℕ) (v : MemberValue) (k : List ℕ) → Shows v (string k) → text ≡ 34 ∷ a → a ≡ k ++ 34 ∷ rest → is_bare k ≡ true
     → BeginsValue text v rest
-text_value text a rest v k is one two h =
-    record { token = Token.string k; printable = tt; ends_value = refl; value = is; spelled = one ∙ ap (λ t. 34 ∷ t) two ∙ quoted_is k rest h }
+unfolding print_from ArePrintable
+text_value text a rest v k shows one two h = record {
+  first = Token.string k;
+  others = [];
+  printable = (tt, tt);
+  utf8 = IsUtf8-append (token_text (Token.string k)) [] (IsUtf8-quoted k (bare_utf8 k h)) IsUtf8-nil;
+  ends_value = refl;
+  datum = string k;
+  value = λ ts. ap (converted of_json) (value_is 126 (Token.string k ∷ ts));
+  shows = shows;
+  spelled = one ∙ ap (λ t. 34 ∷ t) two ∙ quoted_is k rest h;
+}
 
 pub number_value : (text rest : List ℕ) (n : ℕ) → n < 2 ^ 64 → text ≡ decimal n ++ rest → BeginsValue text (Number n) rest
+unfolding print_from ArePrintable
 number_value text rest n h e = record {
-  token = Token.number (decimal n);
-  printable = IsNumber-decimal n h;
+  first = Token.number (decimal n);
+  others = [];
+  printable = (IsNumber-decimal n h, tt);
+  utf8 = IsUtf8-append (decimal n) [] (IsUtf8-from_ascii (decimal n) (IsAscii-decimal n h)) IsUtf8-nil;
   ends_value = refl;
-  value = ap (λ o. option_map unsigned_number (option_and_then as_u64 o)) (number_of-decimal n h);
+  datum = number (unsigned n);
+  value = λ ts. ap (converted of_json) (value_is 126 (Token.number (decimal n) ∷ ts)) ∙ ap (λ o. option_map (λ d. (d, ts)) (option_map number o)) (number_of-decimal n h);
+  shows = record { text = refl; number = refl; truth = refl; register = refl };
   spelled = e;
 }
 
-pub true_value : (text rest : List ℕ) → text ≡ 116 ∷ 114 ∷ 117 ∷ 101 ∷ rest → BeginsValue text (Truth true) rest
-true_value text rest e = record { token = Token.boolean true; printable = tt; ends_value = refl; value = refl; spelled = e }
-
-pub false_value : (text rest : List ℕ) → text ≡ 102 ∷ 97 ∷ 108 ∷ 115 ∷ 101 ∷ rest → BeginsValue text (Truth false) rest
-false_value text rest e = record { token = Token.boolean false; printable = tt; ends_value = refl; value = refl; spelled = e }
+pub truth_value : (text rest : List ℕ) (b : Bool) → text ≡ token_text (Token.boolean b) ++ rest → BeginsValue text (Truth b) rest
+unfolding print_from ArePrintable
+truth_value text rest b e = record {
+  first = Token.boolean b;
+  others = [];
+  printable = (tt, tt);
+  utf8 = IsUtf8-append (token_text (Token.boolean b)) [] (IsUtf8-boolean b) IsUtf8-nil;
+  ends_value = refl;
+  datum = boolean b;
+  value = λ ts. ap (converted of_json) (value_is 126 (Token.boolean b ∷ ts));
+  shows = record { text = refl; number = refl; truth = refl; register = refl };
+  spelled = e;
+}
 
 pub null_value : (text rest : List ℕ) → text ≡ 110 ∷ 117 ∷ 108 ∷ 108 ∷ rest → BeginsValue text Null rest
-null_value text rest e = record { token = Token.null; printable = tt; ends_value = refl; value = refl; spelled = e }
+unfolding print_from ArePrintable
+null_value text rest e = record {
+  first = Token.null;
+  others = [];
+  printable = (tt, tt);
+  utf8 = IsUtf8-are_ascii _ refl;
+  ends_value = refl;
+  datum = serde.null;
+  value = λ ts. ap (converted of_json) (value_is 126 (Token.null ∷ ts));
+  shows = record { text = refl; number = refl; truth = refl; register = refl };
+  spelled = e;
+}
+
+pub no_items_value : (text rest : List ℕ) → text ≡ 91 ∷ 93 ∷ rest → BeginsValue text Other rest
+unfolding print_from ArePrintable
+no_items_value text rest e = record {
+  first = Token.begin_array;
+  others = Token.end_array ∷ [];
+  printable = (tt, (tt, tt));
+  utf8 = IsUtf8-are_ascii _ refl;
+  ends_value = refl;
+  datum = array no_items;
+  value = λ ts. (
+      value_array 126 (Token.end_array ∷ ts) (omega arith)
+      ∙ ap (option_map (λ p. (array p.0, p.1))) (items_next 125 (length (Token.end_array ∷ ts)) (Token.end_array ∷ ts) (omega arith))
+      );
+  shows = record { text = refl; number = refl; truth = refl; register = refl };
+  spelled = e;
+}
+
+pub no_members_value : (text rest : List ℕ) → text ≡ 123 ∷ 125 ∷ rest → BeginsValue text Other rest
+unfolding print_from ArePrintable
+no_members_value text rest e = record {
+  first = Token.begin_object;
+  others = Token.end_object ∷ [];
+  printable = (tt, (tt, tt));
+  utf8 = IsUtf8-are_ascii _ refl;
+  ends_value = refl;
+  datum = object no_members;
+  value = λ ts. (
+      value_object 126 (Token.end_object ∷ ts) (omega arith)
+      ∙ ap (option_map (λ p. (object p.0, p.1))) (members_next 125 no_members (length (Token.end_object ∷ ts)) (Token.end_object ∷ ts) (omega arith))
+      );
+  shows = record { text = refl; number = refl; truth = refl; register = refl };
+  spelled = e;
+}

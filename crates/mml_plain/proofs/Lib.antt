@@ -1,5 +1,3 @@
-pub mod NumbersLemmas
 pub mod FieldsLemmas
-pub mod TokensLemmas
-pub mod PlainLinesLemmas
+pub mod ReadingLemmas
 pub mod CompactLemmas

@@ -1,10 +1,13 @@
--- Words and values as they stand in a text without spaces and escapes.
-use Rattle.std.specs.Prelude.{◌≡◌, ℕ, List, [], ◌∷◌, ◌++◌, Bool, true, not, ◌&&◌, ◌==◌, nat_lt, Some}
+-- Words and values as they stand in a text without escapes.
+use Rattle.std.specs.Prelude.{◌≡◌, ℕ, List, [], ◌∷◌, ◌++◌, map, fold, Bool, true, false, not, ◌&&◌, ◌==◌, nat_lt, Some}
+use Rattle.std.specs.Str.{IsUtf8}
 use Rattle.json.specs.Token.{Token}
-use Rattle.json.specs.Print.{token_text, ends, IsPrintable}
-use Rattle.mml_plain.specs.declared.plain_value.PlainValue.{PlainValue}
-use Rattle.mml_plain.specs.Tokens.{plain_value}
-use Rattle.mml_plain.specs.Fields.{data_of}
+use Rattle.json.specs.Print.{token_text, ends, print_from, ArePrintable}
+use Rattle.json.specs.Spaced.{IsGap}
+use Rattle.serde_json.specs.Data.{Data}
+use Rattle.mml_plain.specs.declared.member_value.MemberValue.{MemberValue}
+use Rattle.mml_plain.specs.Reading.{value_at}
+use Rattle.mml_plain.specs.Shown.{Shows}
 
 -- the byte stands for itself in a string, and is ASCII
 abbrev pub is_bare_byte : ℕ → Bool
@@ -14,16 +17,35 @@ abbrev pub is_bare : List ℕ → Bool
 is_bare [] = true
 is_bare (b ∷ bs) = is_bare_byte b && is_bare bs
 
--- the text begins with a plain value, before the rest
-pub record BeginsValue (text : List ℕ) (v : PlainValue) (rest : List ℕ) : Type 0 where
-  pub token : Token
-  pub printable : IsPrintable token
-  pub ends_value : ends token ≡ true
-  pub value : plain_value token ≡ Some (data_of v)
-  pub spelled : text ≡ token_text token ++ rest
+-- spaces, and then the rest
+pub record Spaced (text : List ℕ) (rest : List ℕ) : Type 0 where
+  pub gap : List ℕ
+  pub is_gap : IsGap gap
+  pub spelled : text ≡ gap ++ rest
+
+-- the last of these tokens ends a value
+abbrev pub ended : List Token → Bool
+ended ts = fold (λ _ t. ends t) false ts
+
+-- the text begins with a value, before the rest
+pub record BeginsValue (text : List ℕ) (v : MemberValue) (rest : List ℕ) : Type 0 where
+  pub first : Token
+  pub others : List Token
+  pub printable : ArePrintable (first ∷ others)
+  pub utf8 : IsUtf8 (token_text first ++ print_from (ends first) others)
+  pub ends_value : ended (first ∷ others) ≡ true
+  pub datum : Data
+  pub value : (ts : List Token) → value_at 126 (first ∷ (others ++ ts)) ≡ Some (datum, ts)
+  pub shows : Shows v datum
+  pub spelled : text ≡ token_text first ++ (print_from (ends first) others ++ rest)
 
 -- the text begins with a member
-pub record BeginsMember (text : List ℕ) (k : List ℕ) (v : PlainValue) (rest : List ℕ) : Type 0 where
+pub record BeginsMember (text : List ℕ) (k : List ℕ) (v : MemberValue) (rest : List ℕ) : Type 0 where
+  pub at_key : List ℕ
+  pub spaced : Spaced text at_key
+  pub key_utf8 : IsUtf8 k
   pub after_key : List ℕ
-  pub key : text ≡ token_text (Token.key k) ++ after_key
-  pub value : BeginsValue after_key v rest
+  pub key : at_key ≡ token_text (Token.key k) ++ after_key
+  pub at_value : List ℕ
+  pub spaced_value : Spaced after_key at_value
+  pub value : BeginsValue at_value v rest

@@ -1,6 +1,6 @@
 pub mod LookUps
 pub mod Holds
-pub mod PlainLines
-pub mod Tokens
+pub mod Reading
 pub mod Fields
+pub mod Shown
 pub mod Compact

@@ -1,21 +1,22 @@
-//! Plain objects without a space and without an escape, read byte by byte, with no index.
-ghost use Rattle.std.specs.Prelude.{◌≡◌, ◌≤◌, ◌<◌, ◌^◌, ◌++◌, ◌∷◌, ◌+◌, [], Some, IfSome, true, length, take, drop, decimal, slice_index};
+//! Objects whose strings have no escape, read byte by byte, with no index. Spaces stand only behind
+//! braces, commas and colons, where a hand types them.
+ghost use Rattle.std.specs.Prelude.{◌≡◌, ◌≤◌, ◌<◌, ◌^◌, ◌++◌, ◌∷◌, ◌+◌, [], Some, IfSome, true, length, take, drop, decimal, slice_index, IsUtf8};
 ghost use Rattle.json.specs.Lex.{tokens};
 ghost use Rattle.serde_json.specs.Data.{Members, object, no_members};
-ghost use Rattle.mml_plain.specs.Tokens.{plain_object};
+ghost use Rattle.mml_plain.specs.Reading.{object_at};
 ghost use Rattle.mml_plain.specs.Holds.{Holds};
-ghost use Rattle.mml_plain.specs.Compact.{is_bare_byte, is_bare, BeginsValue, BeginsMember};
+ghost use Rattle.mml_plain.specs.Compact.{is_bare_byte, is_bare, BeginsValue, BeginsMember, Spaced};
 
 use crate::fields::Fields;
-use crate::plain_value::PlainValue;
+use crate::member_value::MemberValue;
 
-/// Whether the line is a plain object without a space and without an escape, and then what its keys
-/// name. The fields come empty; where it isn't, they hold anything.
+/// Whether the line is such an object, and then what its keys name. The fields come empty; where it
+/// isn't, they hold anything.
 #[inline(always)]
 pub(crate) fn read_compact<'a>(line: &'a [u8], fields: &mut Fields<'a>) -> bool
     requires { Holds fields.old (object no_members) }
-    ensures { result ≡ true → (ms : Members) × (plain_object (tokens line.now) ≡ Some ms)
-        × Holds fields.new (object ms) }
+    ensures { result ≡ true → (ms : Members) × IsUtf8 line.now
+        × (object_at (tokens line.now) ≡ Some ms) × Holds fields.new (object ms) }
 {
     let Some(mut rest) = behind(line, b'{') else {
         return false;
@@ -51,41 +52,71 @@ fn behind<'a>(text: &'a [u8], byte: u8) -> Option<&'a [u8]>
     Some(&text[1..])
 }
 
+/// What follows the spaces at the front.
+#[inline(always)]
+fn unspaced<'a>(text: &'a [u8]) -> &'a [u8]
+    ensures { Spaced text.now result.now }
+{
+    let mut rest = text;
+    'spaces: while let Some(next) = behind(rest, b' ') {
+        rest = next;
+    }
+    rest
+}
+
 /// A member and what follows it.
 #[inline(always)]
-fn member<'a>(text: &'a [u8]) -> Option<(&'a str, PlainValue<'a>, &'a [u8])>
+fn member<'a>(text: &'a [u8]) -> Option<(&'a str, MemberValue<'a>, &'a [u8])>
     ensures { IfSome result (λ r. BeginsMember text.now r.0.now r.1 r.2.now) }
 {
-    let text = behind(text, b'"')?;
-    let (key, text) = bare_word(text)?;
-    let text = behind(text, b':')?;
-    let (value, rest) = plain_value(text)?;
+    let at_key = unspaced(text);
+    let in_key = behind(at_key, b'"')?;
+    let (key, behind_key) = bare_word(in_key)?;
+    let after_key = behind(behind_key, b':')?;
+    let at_value = unspaced(after_key);
+    let (value, rest) = member_value(at_value)?;
     Some((key, value, rest))
 }
 
 /// A value and what follows it.
 #[inline(always)]
-fn plain_value<'a>(text: &'a [u8]) -> Option<(PlainValue<'a>, &'a [u8])>
+fn member_value<'a>(text: &'a [u8]) -> Option<(MemberValue<'a>, &'a [u8])>
     ensures { IfSome result (λ r. BeginsValue text.now r.0 r.1.now) }
 {
     if let Some(text) = behind(text, b'"') {
         let (word, rest) = bare_word(text)?;
-        return Some((PlainValue::Text(word), rest));
+        return Some((MemberValue::Text(word), rest));
     }
     if let Some((number, rest)) = whole_number(text) {
-        return Some((PlainValue::Number(number), rest));
+        return Some((MemberValue::Number(number), rest));
     }
     if let Some(text) = behind(text, b't') {
         let rest = behind(behind(behind(text, b'r')?, b'u')?, b'e')?;
-        return Some((PlainValue::Truth(true), rest));
+        return Some((MemberValue::Truth(true), rest));
     }
     if let Some(text) = behind(text, b'f') {
         let rest = behind(behind(behind(behind(text, b'a')?, b'l')?, b's')?, b'e')?;
-        return Some((PlainValue::Truth(false), rest));
+        return Some((MemberValue::Truth(false), rest));
     }
-    let text = behind(text, b'n')?;
-    let rest = behind(behind(behind(text, b'u')?, b'l')?, b'l')?;
-    Some((PlainValue::Null, rest))
+    if let Some(text) = behind(text, b'n') {
+        let rest = behind(behind(behind(text, b'u')?, b'l')?, b'l')?;
+        return Some((MemberValue::Null, rest));
+    }
+    empty(text)
+}
+
+/// An array or an object with nothing in it, and what follows it.
+#[inline(always)]
+fn empty<'a>(text: &'a [u8]) -> Option<(MemberValue<'a>, &'a [u8])>
+    ensures { IfSome result (λ r. BeginsValue text.now r.0 r.1.now) }
+{
+    if let Some(text) = behind(text, b'[') {
+        let rest = behind(text, b']')?;
+        return Some((MemberValue::Other, rest));
+    }
+    let text = behind(text, b'{')?;
+    let rest = behind(text, b'}')?;
+    Some((MemberValue::Other, rest))
 }
 
 /// The word before a quotation mark, and what follows the mark.

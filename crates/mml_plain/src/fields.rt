@@ -1,13 +1,9 @@
 ghost use Rattle.std.specs.Prelude.{◌≡◌};
 ghost use Rattle.serde_json.specs.Data.{object, no_members};
-ghost use Rattle.serde_json.specs.Find.{get};
-ghost use Rattle.serde_json.specs.View.{view};
 ghost use Rattle.mml_plain.specs.Holds.{Holds};
 ghost use Rattle.mml_plain.specs.Fields.{with};
-ghost use Rattle.mml_plain.specs.LookUps.{register_at};
 
-use crate::plain_value::PlainValue;
-use serde_json::Value;
+use crate::member_value::MemberValue;
 
 /// What the keys of a request name in an object. A key that isn't there, or that names another kind
 /// of value, names nothing.
@@ -27,25 +23,6 @@ pub struct Fields<'a> {
 }
 
 impl<'a> Fields<'a> {
-    /// What the keys name in a value.
-    pub fn of(value: &'a Value) -> Fields<'a>
-        ensures { Holds result (view value.now) }
-    {
-        Fields {
-            word: value.get("do").and_then(Value::as_str),
-            name: value.get("name").and_then(Value::as_str),
-            key: value.get("key").and_then(Value::as_str),
-            node: value.get("node").and_then(Value::as_u64),
-            rule: value.get("rule").and_then(Value::as_str),
-            with: value.get("with").and_then(Value::as_u64),
-            at: value.get("at").and_then(Value::as_u64),
-            p: register_at(value, "p"),
-            m: value.get("m").and_then(Value::as_bool),
-            a: value.get("a").and_then(Value::as_u64),
-            b: value.get("b").and_then(Value::as_u64),
-        }
-    }
-
     /// What the keys name in an object with no members.
     pub fn empty() -> Fields<'a>
         ensures { Holds result (object no_members) }
@@ -67,7 +44,7 @@ impl<'a> Fields<'a> {
 
     /// One member more. A key that was there names what comes last.
     #[inline(never)]
-    pub(crate) fn put(&mut self, key: &str, value: &PlainValue<'a>)
+    pub(crate) fn put(&mut self, key: &str, value: &MemberValue<'a>)
         ensures { self.new ≡ with key.now value.now self.old }
     {
         match key {
@@ -84,18 +61,5 @@ impl<'a> Fields<'a> {
             "b" => self.b = value.number(),
             _ => {}
         }
-    }
-}
-
-fn register_at(value: &Value, key: &str) -> Option<Option<u64>>
-    ensures { result ≡ register_at key.now (view value.now) }
-{
-    let found = value.get(key)?;
-    if found.is_null() {
-        return Some(None);
-    }
-    match found.as_u64() {
-        Some(number) => Some(Some(number)),
-        None => None,
     }
 }

@@ -1,16 +1,15 @@
-//! Plain objects, read from their tokens.
+//! What the keys of a request name in a line.
 //!
-//! A line of JSON that is an object with no value but strings, numbers of 64 bits, truth values
-//! and nulls is read with no tree and with the memory of the line before. Every other line is for
-//! `serde_json`, which also says what a plain line means.
+//! A line of JSON that is an object is read from its bytes or from its tokens, with no tree and with
+//! the memory of the line before. What it says is what `serde_json` says.
 #![tactic(auto)]
 
 mod compact_reading;
 mod fields;
 mod line_scratch;
-mod plain_reading;
-mod plain_value;
+mod member_value;
+mod reading;
 
 pub use fields::Fields;
 pub use line_scratch::LineScratch;
-pub use plain_reading::read_plain;
+pub use reading::read_fields;

@@ -3,7 +3,7 @@ mod replies;
 
 use mml_codec::{LineFault, Request, read_request, read_request_with, write_request};
 use mml_ids::Word;
-use mml_plain::{Fields, LineScratch, read_plain};
+use mml_plain::{Fields, LineScratch, read_fields};
 use std::alloc::Global;
 use std::test::Fail;
 
@@ -143,10 +143,10 @@ fn first_hello_told_otherwise(
     Ok(None)
 }
 
-/// The node that a line names, where it is read as a plain object.
-fn plain_node(scratch: &mut LineScratch, line: &[u8]) -> Result<Option<u64>, Fail> {
+/// The node that a line names, where it is read as an object.
+fn named_node(scratch: &mut LineScratch, line: &[u8]) -> Result<Option<u64>, Fail> {
     let mut fields = Fields::empty();
-    if read_plain(line, scratch, &mut fields)? {
+    if read_fields(line, scratch, &mut fields)? {
         return Ok(fields.node);
     }
     Ok(None)
@@ -157,8 +157,9 @@ fn requests_are_read_and_written(rt: HostRuntime) -> Result<(), Fail> {
     let mut scratch = LineScratch::new(rt.alloc(), 4096)?;
     let line = first_line_read_otherwise(rt.alloc(), &mut scratch)?;
     let hello = first_hello_told_otherwise(rt.alloc(), &mut scratch)?;
-    let plain = plain_node(&mut scratch, br#"{"do":"see","node":2}"#)?;
-    let nested = plain_node(&mut scratch, br#"{"do":"see","node":2,"x":[]}"#)?;
-    assert_eq!(rt; (line, hello, plain, nested), (None, None, Some(2), None));
+    let plain = named_node(&mut scratch, br#"{"do": "see", "node": 2}"#)?;
+    let nested = named_node(&mut scratch, br#"{"do":"see","node":3,"x":[{},[1.5]]}"#)?;
+    let great = named_node(&mut scratch, br#"{"do":"see","node":2,"x":[{},[1e999]]}"#)?;
+    assert_eq!(rt; (line, hello, plain, nested, great), (None, None, Some(2), Some(3), None));
     Ok(())
 }

@@ -1,14 +1,17 @@
 use Rattle.std.proofs.Common.{inr, ap, Ok}
 use Rattle.serde_json.specs.Data.{object}
-use Rattle.mml_codec.proofs.LinesLemmas.{value_in-some, request_in-some}
+use Rattle.mml_codec.proofs.LinesLemmas.{request_in-object, request_in-other}
 use Rattle.mml_codec.proofs.request_reading.read_request_with.Goals as goal
 
 pub returns-then-branch-clause-request : goal.returns-then-branch-clause-request
 returns-then-branch-clause-request c =
-    let read = c.in_ok-read_plain.ensures.plain (ap Ok c.if-branch.true) in
-    rw (request_in-some _ _ (value_in-some _ _ read.1 read.2)) (c.request.ensures.request (object read.0) read.3)
+    let found = c.in_ok-read_fields.ensures.object (ap Ok c.if-branch.true) in
+    rw (request_in-object _ found.0 found.1) (c.request.ensures.request (object found.0) found.2)
 
 pub returns-then-branch-clause-memory : goal.returns-then-branch-clause-memory
 returns-then-branch-clause-memory c = λ e.
-    let read = c.in_ok-read_plain.ensures.plain (ap Ok c.if-branch.true) in
-    inr (inr (rw (request_in-some _ _ (value_in-some _ _ read.1 read.2)) (c.request.ensures.memory e (object read.0) read.3)))
+    let found = c.in_ok-read_fields.ensures.object (ap Ok c.if-branch.true) in
+    inr (rw (request_in-object _ found.0 found.1) (c.request.ensures.memory e (object found.0) found.2))
+
+pub returns-else-branch-clause-request : goal.returns-else-branch-clause-request
+returns-else-branch-clause-request c = request_in-other _ (c.in_ok-read_fields.ensures.other (ap Ok c.if-branch.false))

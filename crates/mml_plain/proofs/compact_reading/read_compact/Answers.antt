@@ -1,7 +1,6 @@
 use Rattle.serde_json.specs.Data.{no_members, put}
-use Rattle.mml_plain.specs.Fields.{data_of}
 use Rattle.mml_plain.proofs.FieldsLemmas.{holds_with}
-use Rattle.mml_plain.proofs.CompactLemmas.{begun, comma, over, member}
+use Rattle.mml_plain.proofs.CompactLemmas.{begun, comma, over, over_utf8, member}
 use Rattle.mml_plain.proofs.compact_reading.read_compact.Goals as goal
 
 pub members-init : goal.members-init
@@ -12,12 +11,13 @@ returns-in_default-behind c = λ e.
     let l = c.members in
     let k = c.in-Some-member.key.now in
     let v = c.in-Some-member.value in
+    let m = c.in-Some-member.ensures in
     let found = l.invariant.0 in
     let more = c.in-Some-member.more.now in (
-      put k (data_of v) found,
-      over c.args.line.now more (put k (data_of v) found) (c.is_end.ensures e)
-          (member c.args.line.now l.rest.now more k v found c.in-Some-member.ensures l.invariant.1),
-      rw c.put.ensures (holds_with k v found l.fields l.invariant.2),
+      put k m.value.datum found,
+      over_utf8 c.args.line.now more (put k m.value.datum found) (c.is_end.ensures e) (member c.args.line.now l.rest.now more k v found m l.invariant.1),
+      over c.args.line.now more (put k m.value.datum found) (c.is_end.ensures e) (member c.args.line.now l.rest.now more k v found m l.invariant.1),
+      rw c.put.ensures (holds_with k v m.value.datum found m.value.shows l.fields l.invariant.2),
     )
 
 pub members-preserved : goal.members-preserved
@@ -25,10 +25,11 @@ members-preserved c =
     let l = c.members in
     let k = c.in-Some-member.key.now in
     let v = c.in-Some-member.value in
+    let m = c.in-Some-member.ensures in
     let found = l.invariant.0 in
     let more = c.in-Some-member.more.now in (
-      put k (data_of v) found,
-      comma c.args.line.now more c.in-Some-behind.next.now (put k (data_of v) found) c.in-Some-behind.ensures
-          (member c.args.line.now l.rest.now more k v found c.in-Some-member.ensures l.invariant.1),
-      rw c.put.ensures (holds_with k v found l.fields l.invariant.2),
+      put k m.value.datum found,
+      comma c.args.line.now more c.in-Some-behind.next.now (put k m.value.datum found) c.in-Some-behind.ensures
+          (member c.args.line.now l.rest.now more k v found m l.invariant.1),
+      rw c.put.ensures (holds_with k v m.value.datum found m.value.shows l.fields l.invariant.2),
     )

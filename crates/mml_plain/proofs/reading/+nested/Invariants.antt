@@ -1,0 +1,28 @@
+use Rattle.std.proofs.Common.{◌≡◌, ℕ, ◌+◌, ◌*◌, ◌≤◌, length}
+use Rattle.json.specs.Json.{parse_map}
+use Rattle.serde_json.specs.Data.{Items, Members, no_members}
+use Rattle.mml_plain.specs.Reading.{items_at, members_at}
+use Rattle.mml_plain.proofs.reading.+nested.Given as goal
+
+abbrev pub decreases-read_value : goal.decreases-read_value
+decreases-read_value l = 2 * l.depth
+
+abbrev pub decreases-pass_items : goal.decreases-pass_items
+decreases-pass_items l = 2 * l.depth + 1
+
+abbrev pub decreases-pass_members : goal.decreases-pass_members
+decreases-pass_members l = 2 * l.depth + 1
+
+abbrev pub invariant-pass_items-items : goal.invariant-pass_items-items
+invariant-pass_items-items l = (n : ℕ) × (passed : Items → Items) × (length l.reader ≤ n)
+    × (items_at l.depth (length l.initial.reader) l.initial.reader ≡ parse_map passed (items_at l.depth n l.reader)) × (length l.reader ≤ length l.initial.reader)
+
+abbrev pub decreases-pass_items-items : goal.decreases-pass_items-items
+decreases-pass_items-items l = length l.reader
+
+abbrev pub invariant-pass_members-members : goal.invariant-pass_members-members
+invariant-pass_members-members l = (n : ℕ) × (found : Members) × (length l.reader ≤ n)
+    × (members_at l.depth no_members (length l.initial.reader) l.initial.reader ≡ members_at l.depth found n l.reader) × (length l.reader ≤ length l.initial.reader)
+
+abbrev pub decreases-pass_members-members : goal.decreases-pass_members-members
+decreases-pass_members-members l = length l.reader

@@ -1,0 +1,13 @@
+-- What a member's value shows of the data that it is.
+use Rattle.std.specs.Prelude.{◌≡◌, option_map, option_and_then}
+use Rattle.serde_json.specs.Data.{Data}
+use Rattle.serde_json.specs.Find.{as_str, as_bool, as_number, as_u64}
+use Rattle.mml_plain.specs.declared.member_value.MemberValue.{MemberValue}
+use Rattle.mml_plain.specs.LookUps.{as_register}
+use Rattle.mml_plain.specs.Fields.{text_in, number_in, truth_in, register_in}
+
+pub record Shows (v : MemberValue) (d : Data) : Type 0 where
+  pub text : option_map (λ s. s.now) (text_in v) ≡ as_str d
+  pub number : number_in v ≡ option_and_then as_u64 (as_number d)
+  pub truth : truth_in v ≡ as_bool d
+  pub register : register_in v ≡ as_register d

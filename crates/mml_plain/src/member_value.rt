@@ -1,0 +1,127 @@
+ghost use Rattle.std.specs.Prelude.{◌≡◌, None, Some, false, true, option_map, slice_index, ◌==◌};
+ghost use Rattle.serde_json.specs.Data.{Num, number};
+ghost use Rattle.serde_json.specs.Find.{as_u64};
+ghost use Rattle.serde_json.specs.Read.{number_of, number_from, float_of};
+ghost use Rattle.mml_plain.specs.Shown.{Shows};
+ghost use Rattle.mml_plain.specs.Fields.{text_in, number_in, truth_in, register_in};
+
+use fast_float::Numeral;
+
+/// A member's value, as far as a request asks.
+#[derive(Clone, Copy, Drop)]
+pub(crate) enum MemberValue<'a> {
+    Null,
+    Truth(bool),
+    /// A number of 64 bits, without a sign, a point or an exponent.
+    Number(u64),
+    Text(&'a str),
+    /// Another number, an array or an object.
+    Other,
+}
+
+impl<'a> MemberValue<'a> {
+    /// A number, of which the 64 bits are known where a request may ask for them.
+    #[inline(always)]
+    pub(crate) fn of_number(found: Option<u64>) -> MemberValue<'a>
+        ensures { (n : Num) → as_u64 n ≡ found → Shows result (number n) }
+    {
+        match found {
+            Some(number) => MemberValue::Number(number),
+            None => MemberValue::Other,
+        }
+    }
+
+    #[inline(always)]
+    pub(crate) fn text(&self) -> Option<&'a str>
+        ensures { result ≡ text_in self.now }
+    {
+        match *self {
+            MemberValue::Text(text) => Some(text),
+            _ => None,
+        }
+    }
+
+    #[inline(always)]
+    pub(crate) fn number(&self) -> Option<u64>
+        ensures { result ≡ number_in self.now }
+    {
+        match *self {
+            MemberValue::Number(number) => Some(number),
+            _ => None,
+        }
+    }
+
+    #[inline(always)]
+    pub(crate) fn truth(&self) -> Option<bool>
+        ensures { result ≡ truth_in self.now }
+    {
+        match *self {
+            MemberValue::Truth(truth) => Some(truth),
+            _ => None,
+        }
+    }
+
+    /// A number, or null.
+    #[inline(always)]
+    pub(crate) fn register(&self) -> Option<Option<u64>>
+        ensures { result ≡ register_in self.now }
+    {
+        match *self {
+            MemberValue::Null => Some(None),
+            MemberValue::Number(number) => Some(Some(number)),
+            _ => None,
+        }
+    }
+}
+
+/// Whether a token's number is one that is read, and then the 64 bits that it is, where it is written
+/// without a sign, a point and an exponent.
+#[inline(always)]
+pub(crate) fn read_number(text: &str) -> Option<Option<u64>>
+    ensures { result ≡ option_map as_u64 (number_of text.now) }
+{
+    let bytes = text.as_bytes();
+    if has_minus(bytes) {
+        below_zero(&Numeral::scan(&bytes[1..]))
+    } else {
+        unsigned(&Numeral::scan(bytes))
+    }
+}
+
+#[inline(always)]
+fn unsigned(numeral: &Numeral<'_>) -> Option<Option<u64>>
+    ensures { result ≡ option_map as_u64 (number_from false numeral.now) }
+{
+    match numeral.to_u64() {
+        Some(number) => Some(Some(number)),
+        None => float(false, numeral),
+    }
+}
+
+#[inline(never)]
+fn below_zero(numeral: &Numeral<'_>) -> Option<Option<u64>>
+    ensures { result ≡ option_map as_u64 (number_from true numeral.now) }
+{
+    if let Some(number) = numeral.to_i64(true) {
+        if number < 0 {
+            return Some(None);
+        }
+    }
+    float(true, numeral)
+}
+
+/// A number that is read as a float, unless it is too great for one.
+#[inline(never)]
+fn float(negative: bool, numeral: &Numeral<'_>) -> Option<Option<u64>>
+    ensures { result ≡ option_map as_u64 (float_of negative numeral.now) }
+{
+    let float: f64 = numeral.to_float(negative);
+    if float.is_finite() { Some(None) } else { None }
+}
+
+#[inline(always)]
+fn has_minus(bytes: &[u8]) -> bool
+    ensures { result ≡ (slice_index bytes.now 0 == 45) }
+{
+    !bytes.is_empty() && bytes[0] == b'-'
+}

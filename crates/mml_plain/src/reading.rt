@@ -1,0 +1,164 @@
+ghost use Rattle.std.specs.Prelude.{◌≡◌, ◌<◌, None, Some, Ok, OnErr, IfSome, MatchOption, true, false, length};
+ghost use Rattle.std.specs.Bool.{MatchBool};
+ghost use Rattle.serde_json.specs.Data.{Data, Items, Members, object, no_members};
+ghost use Rattle.mml_plain.specs.Reading.{value_at, items_at, members_at, if_over, object_at, object_in};
+ghost use Rattle.mml_plain.specs.Shown.{Shows};
+ghost use Rattle.mml_plain.specs.Holds.{Holds};
+
+use crate::compact_reading::read_compact;
+use crate::fields::Fields;
+use crate::line_scratch::LineScratch;
+use crate::member_value::{MemberValue, read_number};
+use json::{Reader, Token};
+use std::alloc::AllocError;
+
+/// Arrays and objects in the members of a line nest so deep.
+const DEPTH: usize = 126;
+
+/// Whether a line is an object that `serde_json` reads, and then what its keys name. The fields come
+/// empty; where it isn't, they hold anything.
+pub fn read_fields<'a>(
+    line: &'a [u8],
+    scratch: &'a mut LineScratch,
+    fields: &mut Fields<'a>,
+) -> Result<bool, AllocError>
+    requires { Holds fields.old (object no_members) }
+    ensures object { result ≡ Ok true → (ms : Members) × (object_in line.now ≡ Some ms)
+        × Holds fields.new (object ms) }
+    ensures other { result ≡ Ok false → object_in line.now ≡ None }
+    ensures memory { OnErr result (scratch.old < length line.now) }
+{
+    if read_compact(line, fields) {
+        return Ok(true);
+    }
+    let Ok(text) = std::str::from_utf8(line) else {
+        return Ok(false);
+    };
+    *fields = Fields::empty();
+    let mut reader = Reader::new(text, scratch.for_line())?;
+    Ok(read_object(&mut reader, fields))
+}
+
+#[inline(always)]
+fn read_object<'a>(reader: &mut Reader<'a>, fields: &mut Fields<'a>) -> bool
+    requires { Holds fields.old (object no_members) }
+    ensures { MatchBool result ((ms : Members) × (object_at reader.old ≡ Some ms)
+        × Holds fields.new (object ms)) (object_at reader.old ≡ None) }
+{
+    match reader.next() {
+        Some(Token::BeginObject) => read_members(reader, fields),
+        _ => false,
+    }
+}
+
+#[inline(always)]
+fn read_members<'a>(reader: &mut Reader<'a>, fields: &mut Fields<'a>) -> bool
+    requires { Holds fields.old (object no_members) }
+    ensures { MatchBool result
+        ((ms : Members) × (if_over (members_at 126 no_members (length reader.old) reader.old)
+        ≡ Some ms) × Holds fields.new (object ms))
+        (if_over (members_at 126 no_members (length reader.old) reader.old) ≡ None) }
+{
+    'members: loop {
+        let Ok(next) = reader.next_key() else {
+            return false;
+        };
+        let Some(key) = next else {
+            return is_over(reader);
+        };
+        let Some(value) = read_value(reader, DEPTH) else {
+            return false;
+        };
+        fields.put(key, &value);
+    }
+}
+
+/// Whether nothing follows.
+#[inline(always)]
+fn is_over(reader: &mut Reader<'_>) -> bool
+    ensures { (ms : Members) → MatchBool result (if_over (Some (ms, reader.old)) ≡ Some ms)
+        (if_over (Some (ms, reader.old)) ≡ None) }
+{
+    reader.next().is_none()
+}
+
+/// The next value.
+#[cycle(nested)]
+#[inline(always)]
+fn read_value<'a>(reader: &mut Reader<'a>, depth: usize) -> Option<MemberValue<'a>>
+    ensures value { MatchOption result (value_at depth reader.old ≡ None)
+        (λ v. (d : Data) × (value_at depth reader.old ≡ Some (d, reader.new)) × Shows v d) }
+    ensures shorter { IfSome result (λ _. length reader.new < length reader.old) }
+{
+    let token = reader.next()?;
+    match token {
+        Token::Null => Some(MemberValue::Null),
+        Token::Bool(truth) => Some(MemberValue::Truth(truth)),
+        Token::String(text) => Some(MemberValue::Text(text)),
+        Token::Number(text) => {
+            let found = read_number(text)?;
+            Some(MemberValue::of_number(found))
+        }
+        Token::BeginArray => {
+            if depth == 0 {
+                return None;
+            }
+            if pass_items(reader, depth - 1) {
+                Some(MemberValue::Other)
+            } else {
+                None
+            }
+        }
+        Token::BeginObject => {
+            if depth == 0 {
+                return None;
+            }
+            if pass_members(reader, depth - 1) {
+                Some(MemberValue::Other)
+            } else {
+                None
+            }
+        }
+        Token::EndObject | Token::EndArray | Token::Key(_) | Token::Bad => None,
+    }
+}
+
+/// Whether an array goes on as one; what is in it is passed over.
+#[cycle(nested)]
+#[inline(never)]
+fn pass_items(reader: &mut Reader<'_>, depth: usize) -> bool
+    ensures passed { result ≡ true → (ds : Items)
+        × (items_at depth (length reader.old) reader.old ≡ Some (ds, reader.new)) }
+    ensures refused { result ≡ false → items_at depth (length reader.old) reader.old ≡ None }
+    ensures shorter { result ≡ true → length reader.new < length reader.old }
+{
+    'items: while !reader.take_end_array() {
+        let Some(_) = read_value(reader, depth) else {
+            return false;
+        };
+    }
+    true
+}
+
+/// Whether an object goes on as one; what is in it is passed over.
+#[cycle(nested)]
+#[inline(never)]
+fn pass_members(reader: &mut Reader<'_>, depth: usize) -> bool
+    ensures passed { result ≡ true → (ms : Members)
+        × (members_at depth no_members (length reader.old) reader.old ≡ Some (ms, reader.new)) }
+    ensures refused { result ≡ false
+        → members_at depth no_members (length reader.old) reader.old ≡ None }
+    ensures shorter { result ≡ true → length reader.new < length reader.old }
+{
+    'members: loop {
+        let Ok(named) = reader.next_key() else {
+            return false;
+        };
+        let Some(_) = named else {
+            return true;
+        };
+        let Some(_) = read_value(reader, depth) else {
+            return false;
+        };
+    }
+}
