@@ -2,9 +2,11 @@
 
     python3 -B -m tests.program.lines
 
-The rows are written by hand. Then pairs of scripts whose lines say the same in two ways, as a plain object and with
-an array that nothing names, are answered alike.
+The rows are written by hand. Then scripts whose lines say the same in three ways are answered alike: as they were drawn,
+with a nested array that nothing names, so that no line is read byte by byte, and as Python's own reader reads them.
 """
+import json
+import math
 from pathlib import Path
 from random import Random
 
@@ -98,7 +100,8 @@ KEYS = [
 VALUES = [
     "0", "1", "2", "7", "-0", "-1", "1.0", "1e0", "01", "1e999", "18446744073709551615", "18446744073709551616", "null",
     "true", "false", '"see"', '"r\\u0065port"', '"bye"', '"seduction"', '"\\ud83d\\ude00"', '"\\ud800"', "[]",
-    '{"do":"bye"}', "[{},[1]]",
+    '{"do":"bye"}', "[{},[1]]", "{}", "[ ]", '[1.5,{"do":"bye"},null]', "[{}", "[1e999]", '{"a":[01]}',
+    '{"a":["\\ud800"]}', "[" * 126 + "]" * 126, "[" * 127 + "]" * 127,
 ]
 HURTS = b'{}[]":,\\ \t0-.eEn\x00\x1f\x7f\xc3\xff'
 LINES = 4000
@@ -121,8 +124,54 @@ def drawn_line(rng: Random) -> bytes:
 
 
 def with_array(line: bytes) -> bytes:
-    """The line with an array as its first member, where it has a brace."""
-    return line.replace(b"{", b'{"":[],', 1)
+    """The line with a nested array as its first member, where it has a brace."""
+    return line.replace(b"{", b'{"":[{},[0.5]],', 1)
+
+
+def number(text: str) -> float:
+    """A number that isn't of 64 bits, unless it is too great for a float."""
+    if math.isinf(float(text)):
+        raise ValueError(text)
+    return float(text)
+
+
+def integer(text: str) -> float:
+    """An integer, where it is of 64 bits and without a sign."""
+    return int(text) if text.isdigit() and int(text) < 2**64 else number(text)
+
+
+def refused(text: str) -> float:
+    """What JSON hasn't, and Python reads."""
+    raise ValueError(text)
+
+
+def levels(value: object) -> int:
+    """How deep arrays and objects nest; a string with half a pair is refused."""
+    if isinstance(value, str):
+        value.encode()
+    return 1 + max(map(levels, value), default=0) if isinstance(value, list) else 0
+
+
+class Members(list[object]):
+    """The keys and values of an object, one after another, of which none is lost where a key comes twice."""
+
+    def __init__(self, pairs: list[tuple[str, object]]) -> None:
+        super().__init__(part for pair in pairs for part in pair)
+        self.last = dict(pairs)
+
+
+def as_python_reads(line: bytes) -> bytes:
+    """The plain members that Python's own reader finds in a line, as a compact object; or no object."""
+    try:
+        value = json.loads(
+            line.decode(), object_pairs_hook=Members, parse_float=number, parse_int=integer, parse_constant=refused
+        )
+        if not isinstance(value, Members) or levels(value) > 127:
+            return b"0"
+    except ValueError:
+        return b"0"
+    plain = {key: part for key, part in value.last.items() if part is None or isinstance(part, (bool, int, str))}
+    return json.dumps(plain, separators=(",", ":")).encode()
 
 
 def answered(room: Path, lab: Path, lines: list[bytes]) -> tuple[bytes, bytes]:
@@ -135,19 +184,20 @@ def answered(room: Path, lab: Path, lines: list[bytes]) -> tuple[bytes, bytes]:
     return found.out, journal.read_bytes()
 
 
-def either_way(room: Path, lab: Path) -> tuple[int, int]:
-    """How many drawn lines are requests, and how many events they make; each is answered the same either way."""
+def each_way(room: Path, lab: Path) -> tuple[int, int]:
+    """How many drawn lines are requests, and how many events they make; each is answered the same in each way."""
     rng = Random(5)
     requests = events = 0
     greetings = [b'1 {"do":"hello","key":"chalk","name":"tess"}', b'2 {"do":"hello","key":"a-key","name":"ana"}']
     for _ in range(LINES // PART):
         drawn = [(rng.choice([b"1", b"1", b"2", b"3", b"4"]), drawn_line(rng)) for _ in range(PART)]
         plainly = answered(room, lab, greetings + [b"%s %s" % pair for pair in drawn])
-        by_value = answered(room, lab, greetings + [b"%s %s" % (one, with_array(line)) for one, line in drawn])
-        if plainly != by_value:
-            pairs = zip(plainly[0].splitlines(), by_value[0].splitlines(), greetings + [line for _, line in drawn])
-            other = next((it for it in pairs if it[0] != it[1]), "the journal")
-            fail(f"a line is answered otherwise with an array: {other}")
+        for way in (with_array, as_python_reads):
+            again = answered(room, lab, greetings + [b"%s %s" % (one, way(line)) for one, line in drawn])
+            if plainly != again:
+                pairs = zip(plainly[0].splitlines(), again[0].splitlines(), greetings + [line for _, line in drawn])
+                other = next((it for it in pairs if it[0] != it[1]), "the journal")
+                fail(f"a line is answered otherwise {way.__name__}: {other}")
         requests += sum(b"malformed" not in reply for reply in plainly[0].splitlines()[len(greetings) :])
         events += plainly[1].count(b"\n")
     return requests, events
@@ -160,12 +210,12 @@ def work(room: Path) -> str:
     sixteen = room / "sixteen.toml"
     sixteen.write_text(lab.read_text(encoding="ascii").replace("sessions = 4", "sessions = 16"), encoding="ascii")
     wants(room, sixteen, SIXTEEN)
-    requests, events = either_way(room, lab)
+    requests, events = each_way(room, lab)
     # So that neither way is tried on malformed lines alone, nor on lines without an effect.
     if not (500 < requests < 3500 and 50 < events):
         fail(f"{requests} of {LINES} drawn lines are requests, with {events} events")
     ended = len(ROWS) + len(SIXTEEN)
-    return f"{ended} scripts end where they should, and {LINES} drawn lines are read alike either way"
+    return f"{ended} scripts end where they should, and {LINES} drawn lines are read alike in three ways"
 
 
 if __name__ == "__main__":
