@@ -23,7 +23,7 @@ fn written(alloc: Global, request: &Request) -> Result<String, Fail> {
 }
 
 // A line, and what it is read as: numbers as great as they may be, each kind of register, and lines that
-// are no plain objects.
+// are no requests.
 const LINES: &[(&[u8], &str)] = &[
     (br#"{"do":"bye"}"#, r#"{"do":"bye"}"#),
     (
