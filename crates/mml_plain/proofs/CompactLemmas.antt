@@ -1,6 +1,6 @@
 -- A compact text, read member by member, spells the tokens that are printed as it.
-use Rattle.std.proofs.Common.{◌≡◌, ℕ, zero, suc, ◌+◌, ◌-◌, ◌<◌, List, [], ◌∷◌, ◌++◌, length, take, get_or, Bool, true, false, fold, map, not, ◌==◌, Some, option_and_then}
-use Rattle.std.proofs.Common.{refl, sym, ap, inl, ◌∙◌, subst, append_assoc, append-nil, length-append, decimal, ◌^◌}
+use Rattle.std.proofs.Common.{◌≡◌, ℕ, suc, ◌+◌, ◌-◌, ◌<◌, List, [], ◌∷◌, ◌++◌, length, take, get_or, Bool, true, false, fold, map, not, ◌==◌, Some, option_and_then}
+use Rattle.std.proofs.Common.{refl, sym, ap, inl, ◌∙◌, subst, append_assoc, length-append, decimal, ◌^◌}
 use Rattle.std.proofs.Common.{arith, drop, ◌≢◌, ltb-true, ◌≤◌, ◌*◌, ◌/◌, ◌%◌, option_map, nat_lt}
 use Rattle.std.specs.Str.{IsUtf8}
 use Rattle.std.proofs.lemmas.Bool.{and_parts, and_from, eq-eqb, both_ways, not-true}
@@ -15,17 +15,17 @@ use Rattle.json.proofs.Grammar.{value_is}
 use Rattle.json.specs.Token.{Token}
 use Rattle.json.specs.Lex.{tokens}
 use Rattle.json.specs.Print.{escape, token_text, ends, separator, print_from, ArePrintable}
-use Rattle.json.specs.Spaced.{IsGap, AreGaps, print_spaced}
+use Rattle.json.specs.Spaced.{AreGaps, print_spaced}
 use Rattle.serde_json.specs.Data.{Data, boolean, number, unsigned, string, array, object, no_items, Members, no_members, put}
 use Rattle.serde_json.specs.Data as serde
 use Rattle.serde_json.specs.Read.{of_json, converted}
 use Rattle.serde_json.proofs.Numbers.{number_of-decimal}
 use Rattle.mml_plain.specs.declared.member_value.MemberValue.{MemberValue}
-use Rattle.mml_plain.specs.declared.member_value.MemberValue.TheVariants.{Null, Truth, Number, Text, Other}
-use Rattle.mml_plain.specs.Reading.{value_at, items_at, members_at, if_over, object_at}
+use Rattle.mml_plain.specs.declared.member_value.MemberValue.TheVariants.{Null, Truth, Number, Other}
+use Rattle.mml_plain.specs.Reading.{members_at, if_over, object_at}
 use Rattle.mml_plain.specs.Shown.{Shows}
 use Rattle.mml_plain.specs.Compact.{is_bare_byte, is_bare, ended, Spaced, BeginsValue, BeginsMember}
-use Rattle.mml_plain.proofs.ReadingLemmas.{items_turn, items_next, members_turn, members_suc, members_next, value_array, value_object}
+use Rattle.mml_plain.proofs.ReadingLemmas.{items_next, members_suc, members_next, value_array, value_object}
 
 abbrev SpacedTokens : Type 0
 SpacedTokens = List (List ℕ × Token)

@@ -10,7 +10,7 @@ use Rattle.json.specs.Json.{parse_map, after_end_array, read_key, items_step, me
 use Rattle.json.proofs.Grammar.{value_is, value-begin_array, value-begin_object}
 use Rattle.serde_json.specs.Data.{Data, Num, null, boolean, number, string, array, object, Items, no_items, item, Members, no_members, put}
 use Rattle.serde_json.specs.Find.{as_object, as_u64}
-use Rattle.serde_json.specs.Read.{of_json, of_items, of_members, converted, number_of, read}
+use Rattle.serde_json.specs.Read.{of_json, of_items, of_members, converted, number_of}
 use Rattle.mml_plain.specs.declared.member_value.MemberValue.{MemberValue}
 use Rattle.mml_plain.specs.declared.member_value.MemberValue.TheVariants.{Null, Truth, Number, Text, Other}
 use Rattle.mml_plain.specs.Shown.{Shows}

@@ -1,5 +1,5 @@
 -- Words and values as they stand in a text without escapes.
-use Rattle.std.specs.Prelude.{◌≡◌, ℕ, List, [], ◌∷◌, ◌++◌, map, fold, Bool, true, false, not, ◌&&◌, ◌==◌, nat_lt, Some}
+use Rattle.std.specs.Prelude.{◌≡◌, ℕ, List, [], ◌∷◌, ◌++◌, fold, Bool, true, false, not, ◌&&◌, ◌==◌, nat_lt, Some}
 use Rattle.std.specs.Str.{IsUtf8}
 use Rattle.json.specs.Token.{Token}
 use Rattle.json.specs.Print.{token_text, ends, print_from, ArePrintable}

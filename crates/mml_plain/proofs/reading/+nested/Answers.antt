@@ -7,7 +7,7 @@ use Rattle.serde_json.specs.Data.{array, object, no_items, item, no_members, put
 use Rattle.serde_json.specs.Find.{as_u64}
 use Rattle.serde_json.specs.Read.{of_json, converted, number_of}
 use Rattle.mml_plain.specs.declared.member_value.MemberValue.TheVariants.{Null, Truth, Text, Other}
-use Rattle.mml_plain.specs.Reading.{value_at, items_at, members_at}
+use Rattle.mml_plain.specs.Reading.{value_at}
 use Rattle.mml_plain.proofs.ReadingLemmas.{ReadAs, read_null, read_truth, read_text, read_number, no_number_read, read_array, read_nested, value_array, value_object, too_deep_array, too_deep_object}
 use Rattle.mml_plain.proofs.ReadingLemmas.{items_over, items_stuck, items_more, unmapped, mapped_twice, members_over, members_no_key, members_stuck, members_more}
 use Rattle.mml_plain.proofs.reading.+nested.Goals as goal

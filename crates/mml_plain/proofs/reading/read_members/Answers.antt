@@ -1,10 +1,9 @@
 use Rattle.std.proofs.Common.{◌≡◌, ◌-◌, Bool, true, false, length, Option, Some, None, refl, ap, ◌∙◌, arith}
 use Rattle.std.specs.Bool.{MatchBool}
-use Rattle.json.specs.Token.{Token}
 use Rattle.json.specs.Json.{read_key}
 use Rattle.json.proofs.Grammar.{read_key-shorter}
 use Rattle.serde_json.specs.Data.{Members, object, no_members, put}
-use Rattle.mml_plain.specs.Reading.{value_at, members_at, if_over}
+use Rattle.mml_plain.specs.Reading.{value_at, if_over}
 use Rattle.mml_plain.specs.Holds.{Holds}
 use Rattle.mml_plain.specs.declared.fields.Fields.{Fields}
 use Rattle.mml_plain.proofs.FieldsLemmas.{holds_with}
