@@ -160,6 +160,7 @@ fn requests_are_read_and_written(rt: HostRuntime) -> Result<(), Fail> {
     let plain = named_node(&mut scratch, br#"{"do": "see", "node": 2}"#)?;
     let nested = named_node(&mut scratch, br#"{"do":"see","node":3,"x":[{},[1.5]]}"#)?;
     let great = named_node(&mut scratch, br#"{"do":"see","node":2,"x":[{},[1e999]]}"#)?;
-    assert_eq!(rt; (line, hello, plain, nested, great), (None, None, Some(2), Some(3), None));
+    assert_eq!(rt; (line, hello), (None, None));
+    assert_eq!(rt; (plain, nested, great), (Some(2), Some(3), None));
     Ok(())
 }
