@@ -4,5 +4,6 @@ pub mod ClosesLemmas
 pub mod TextsLemmas
 pub mod AppliedLemmas
 pub mod MarksLemmas
+pub mod AsksLemmas
 pub mod FatesLemmas
 pub mod StudentsLemmas

@@ -68,7 +68,7 @@ abbrev pub AllOf : ℕ → List Move → Type 0
 AllOf n [] = Unit {0}
 AllOf n (m ∷ ms) = (m.who < n) × AllOf n ms
 
-zero_sum : (n : ℕ) → sum_below n (λ s. 0) ≡ 0
+pub zero_sum : (n : ℕ) → sum_below n (λ s. 0) ≡ 0
 zero_sum zero = refl
 zero_sum (suc n) = let rest = zero_sum n in omega (arith, rest)
 

@@ -1,8 +1,11 @@
 pub mod Moves
 pub mod Owners
 pub mod Marks
+pub mod Asks
 pub mod Runs
 pub mod inside
 pub mod Texts
+pub mod RecordTexts
 pub mod Meaning
+pub mod AskMeaning
 pub mod Bounds

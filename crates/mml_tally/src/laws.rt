@@ -11,6 +11,9 @@ ghost use Rattle.mml_tally.specs.declared.fate.Fate.{Fate};
 ghost use Rattle.mml_tally.specs.Moves.{fate_of, moves};
 ghost use Rattle.mml_tally.specs.Marks.{moves_by, marks_of};
 ghost use Rattle.mml_tally.specs.Runs.{run_of};
+ghost use Rattle.mml_tally.specs.declared.ask.Ask.{Ask};
+ghost use Rattle.mml_tally.specs.Asks.{denials_of, asked_of, is_malformed};
+ghost use Rattle.mml_tally.specs.AskMeaning.{asks_of_others, is_denied, total_denied, AreAsksOf, asked_under};
 ghost use Rattle.mml_tally.specs.Meaning.{IsNextClose, total, is_released, is_dropped, is_left, asked_as};
 
 /// A grant at i is applied by the close at place p exactly where no release of i, close, fault, link or cut
@@ -46,4 +49,24 @@ pub fn granted_moves_have_one_fate()
 pub fn marks_depend_on_no_other_name()
     ensures { (r : RosterValue) (es : List Event) (s : ℕ) (f : ℕ → ℕ) →
         ((t : ℕ) → (f t ≡ s) ↔ (t ≡ s)) → marks_of r (map (asked_as f) es) s ≡ marks_of r es s }
+{}
+
+/// Each line that was denied, and each that was no request, is told of one student, or came while the teacher
+/// was known, or nobody.
+pub fn denials_are_of_one_student()
+    ensures denied { (n : ℕ) (asks : List Ask) → AreAsksOf n asks →
+        sum_below n (λ s. total_denied (denials_of asks s)) + count_by is_denied (asks_of_others asks)
+        ≡ count_by is_denied asks }
+    ensures malformed { (n : ℕ) (asks : List Ask) → AreAsksOf n asks →
+        sum_below n (λ s. (denials_of asks s).malformed)
+        + count_by (λ a. is_malformed a.line) (asks_of_others asks)
+        ≡ count_by (λ a. is_malformed a.line) asks }
+{}
+
+/// What was denied to a student, and what it asked for at a node, is the same whoever the others are.
+pub fn asks_depend_on_no_other_name()
+    ensures denied { (asks : List Ask) (s : ℕ) (f : ℕ → ℕ) → ((t : ℕ) → (f t ≡ s) ↔ (t ≡ s)) →
+        denials_of (map (asked_under f) asks) s ≡ denials_of asks s }
+    ensures asked { (asks : List Ask) (id s : ℕ) (f : ℕ → ℕ) → ((t : ℕ) → (f t ≡ s) ↔ (t ≡ s)) →
+        asked_of (map (asked_under f) asks) id s ≡ asked_of asks id s }
 {}

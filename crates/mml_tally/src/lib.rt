@@ -2,19 +2,23 @@
 //! followed through the list alone. And how much may follow from the world that they led to.
 #![tactic(auto)]
 
+mod ask;
 mod bounds;
 mod fate;
 mod granted_move;
 pub mod laws;
 mod marks;
 mod owners;
+mod record_text;
 mod run;
 mod text;
 
+pub use ask::{Ask, Denials, Line, asked_of, denials_of, push_ask};
 pub use bounds::{Bounds, bounds_of};
 pub use fate::{Fate, ended_by, fate_of};
 pub use granted_move::{Move, moves_of};
 pub use marks::{ByRule, Marks, by_rule, is_applied, marks_of, moves_at, moves_by};
 pub use owners::{is_shared, owners_of};
+pub use record_text::{Kept, put_recorded_tally};
 pub use run::{Run, run_of};
 pub use text::put_tally;

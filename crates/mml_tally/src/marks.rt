@@ -128,7 +128,7 @@ fn count_kind(all: &[Move], kind: Kind) -> u64
         .count() as u64
 }
 
-fn is_kind(asked: Kind, kind: Kind) -> bool
+pub(crate) fn is_kind(asked: Kind, kind: Kind) -> bool
     ensures { result ≡ is_kind asked kind }
 {
     match (asked, kind) {

@@ -3,7 +3,7 @@ ghost use Rattle.mml_lab.specs.declared.who.Who.TheVariants.{Student as AStudent
 ghost use Rattle.mml_lab.specs.Rosters.{name_of};
 ghost use Rattle.mml_board.specs.World.{configuration, privileged_count};
 ghost use Rattle.mml_tally.specs.Moves.{moves};
-ghost use Rattle.mml_tally.specs.Texts.{numbers_text, place_text, rules_text, marks_text, student_line, owner_text, owners_text, node_line, bounds_line, stable_text, run_line, students_text, nodes_text, tally_text};
+ghost use Rattle.mml_tally.specs.Texts.{numbers_text, place_text, rules_text, marks_text, student_line, owner_text, owners_text, node_line, bounds_line, stable_text, run_line, students_text, nodes_text, ends_text, tally_text};
 
 use crate::bounds::{Bounds, bounds_of};
 use crate::granted_move::{Move, moves_of};
@@ -27,10 +27,37 @@ pub fn put_tally(
         (out.new.items ≡ out.old.items ++ tally_text lab.now board.now events.now) }
 {
     let all = moves_of(alloc, events)?;
-    put_students(out, alloc, lab, &all)?;
-    put_nodes(out, alloc, lab, &all)?;
+    put_granted(out, alloc, lab, &all)?;
+    put_ends(out, board, events, &all)
+}
+
+/// Puts the lines of the students, and of the nodes that several own.
+pub(crate) fn put_granted(
+    out: &mut Vec<u8>,
+    alloc: Global,
+    lab: &Lab,
+    all: &[Move],
+) -> Result<(), Memory>
+    ensures { OnOk result ((es : List Event) → all.now ≡ moves es →
+        out.new.items ≡ out.old.items ++ (students_text lab.now es (length lab.now.roster.students)
+        ++ nodes_text lab.now es (length lab.now.ids))) }
+{
+    put_students(out, alloc, lab, all)?;
+    put_nodes(out, alloc, lab, all)
+}
+
+/// Puts the two lines of the run.
+pub(crate) fn put_ends(
+    out: &mut Vec<u8>,
+    board: &Board,
+    events: &[Event],
+    all: &[Move],
+) -> Result<(), Memory>
+    requires { all.now ≡ moves events.now }
+    ensures { OnOk result (out.new.items ≡ out.old.items ++ ends_text board.now events.now) }
+{
     put_bounds(out, &bounds_of(board))?;
-    put_run(out, board, &run_of(events, &all))
+    put_run(out, board, &run_of(events, all))
 }
 
 fn put_students(out: &mut Vec<u8>, alloc: Global, lab: &Lab, all: &[Move]) -> Result<(), Memory>
@@ -86,7 +113,7 @@ fn put_place(out: &mut Vec<u8>, place: Option<u64>) -> Result<(), Memory>
     }
 }
 
-fn put_numbers(out: &mut Vec<u8>, numbers: &[u64]) -> Result<(), Memory>
+pub(crate) fn put_numbers(out: &mut Vec<u8>, numbers: &[u64]) -> Result<(), Memory>
     ensures { OnOk result (out.new.items ≡ out.old.items ++ numbers_text numbers.now) }
 {
     for number in numbers {
@@ -145,7 +172,7 @@ fn put_owners(
     Ok(())
 }
 
-fn put_owner(out: &mut Vec<u8>, name: &str, counts: &ByRule) -> Result<(), Memory>
+pub(crate) fn put_owner(out: &mut Vec<u8>, name: &str, counts: &ByRule) -> Result<(), Memory>
     ensures { OnOk result (out.new.items ≡ out.old.items ++ owner_text name.now counts.now) }
 {
     put(out, &[Piece::Text(" "), Piece::Text(name)])?;

@@ -1,0 +1,207 @@
+-- What is read of the lines of a record is what was answered by the rules.
+use Rattle.std.proofs.Common.{◌≡◌, ℕ, zero, suc, ◌+◌, ◌-◌, ◌/◌, ◌%◌, ◌^◌, ◌<◌, Bool, true, false, true≢false, cond, not, eqb, List, [], ◌∷◌, ◌++◌, length, take, codes, decimal}
+use Rattle.std.proofs.Common.{inl, inr, refl, sym, ap, ◌∙◌, arith, Option, None, Some, Result, Ok, Err, append-nil, append_assoc, length-append}
+use Rattle.std.specs.Prelude.{nat_lt, bytes_eq}
+use Rattle.std.specs.Fmt.{digits, digits_onto, digit_glyph}
+use Rattle.std.proofs.lemmas.Bool.{and_from}
+use Rattle.std.proofs.lemmas.Bool.Decides.{nat_tests}
+use Rattle.std.proofs.lemmas.Slice.Eq.{bytes_eq-Decides}
+use Rattle.mml_ids.specs.Lines.{ended}
+use Rattle.mml_lab.specs.declared.who.Who.{Who}
+use Rattle.mml_lab.specs.Labs.{LabValue}
+use Rattle.mml_lab.specs.Rosters.{RosterValue}
+use Rattle.mml_board.specs.declared.event.Event.{Event}
+use Rattle.mml_policy.specs.declared.denial.Denial.{Denial}
+use Rattle.mml_policy.specs.declared.denial.Denial.TheVariants as denial
+use Rattle.mml_policy.specs.Denials.{clause_of}
+use Rattle.mml_codec.specs.declared.request.LineFault.{LineFault}
+use Rattle.mml_codec.specs.declared.request.Request.{Request}
+use Rattle.mml_codec.specs.declared.greeting.Greeting.{Greeting}
+use Rattle.mml_codec.specs.declared.greeting.Greeting.TheVariants.{Answered, LeftToJudge}
+use Rattle.mml_codec.specs.declared.reply.Refused.TheVariants as refused
+use Rattle.mml_codec.specs.declared.reply.Reply.{Reply}
+use Rattle.mml_codec.specs.declared.reply.Reply.TheVariants as replies
+use Rattle.mml_codec.specs.Facts.{object_text}
+use Rattle.mml_codec.specs.Greetings.{greeting}
+use Rattle.mml_codec.specs.Lines.{request_in}
+use Rattle.mml_codec.specs.Replies.{text, reply_line}
+use Rattle.mml_session.specs.Turns.{is_bye}
+use Rattle.mml_record.specs.declared.entries.Entry.{Entry}
+use Rattle.mml_record.specs.declared.entries.Entry.TheVariants as entry
+use Rattle.mml_record.specs.Reading.{cut}
+use Rattle.mml_record.specs.Certified.{FitsGreeting, FitsAsked, Fits, GoesOn, IsRecordOf}
+use Rattle.mml_record.specs.Asks.{unended, clause_first, clause_second, clause_member, clause_told, memory_text, known_by, known_asked, known_after, line_of, student_of}
+use Rattle.mml_record.specs.Asks.{asks_from, asks_in, clause_in, AreAskedOf}
+use Rattle.mml_record.proofs.ReadingLemmas.{avoids, cut_here}
+use Rattle.mml_record.proofs.TextLineLemmas.{front_of}
+use Rattle.mml_record.proofs.OnceLemmas.{fits_once}
+
+-- ---- a number has no comma
+
+glyph_other : (b : Bool) (d : ℕ) → not (eqb (cond b (48 + d) (87 + d)) 44) ≡ true
+glyph_other true d = grind (arith, nat_tests)
+glyph_other false d = grind (arith, nat_tests)
+
+digit_more : (b : Bool) (front rest : List ℕ) → avoids 44 front ≡ true → avoids 44 rest ≡ true → avoids 44 (cond b front rest) ≡ true
+digit_more true front rest h k = h
+digit_more false front rest h k = k
+
+no_comma_from : (k n : ℕ) (acc : List ℕ) → avoids 44 acc ≡ true → avoids 44 (digits_onto k 10 false n acc) ≡ true
+no_comma_from zero n acc h = h
+no_comma_from (suc k) n acc h =
+    let more : avoids 44 (digit_glyph false (n % 10) ∷ acc) ≡ true = and_from _ _ (glyph_other (nat_lt (n % 10) 10) (n % 10)) h in
+    digit_more (eqb (n / 10) 0) (digit_glyph false (n % 10) ∷ acc) (digits_onto k 10 false (n / 10) (digit_glyph false (n % 10) ∷ acc)) more
+    (no_comma_from k (n / 10) (digit_glyph false (n % 10) ∷ acc) more)
+
+no_comma : (n : ℕ) → avoids 44 (decimal n) ≡ true
+unfolding digits
+no_comma n = no_comma_from 64 n [] refl
+
+-- ---- the clause that a reply's text names
+
+-- a reply that begins with a current number
+abbrev numbered : ℕ → List ℕ → List ℕ
+numbered n rest = 123 ∷ 34 ∷ 97 ∷ 116 ∷ 34 ∷ 58 ∷ (decimal n ++ 44 ∷ rest)
+
+second : (n : ℕ) (rest : List ℕ) → clause_second (34 ∷ 97 ∷ 116 ∷ 34 ∷ 58 ∷ (decimal n ++ 44 ∷ rest)) ≡ clause_first rest
+unfolding clause_second
+second n rest = rw (cut_here 44 (decimal n) rest (no_comma n)) refl
+
+member : (n : ℕ) (rest : List ℕ) → clause_member (34 ∷ 97 ∷ 116 ∷ 34 ∷ 58 ∷ (decimal n ++ 44 ∷ rest)) ≡ clause_first rest
+unfolding clause_member
+member n rest = second n rest
+
+behind_number : (n : ℕ) (rest : List ℕ) (c : Option ℕ) → clause_first rest ≡ c → clause_told (numbered n rest) ≡ c
+unfolding clause_told
+behind_number n rest c h = member n rest ∙ h
+
+-- another member comes first
+first_member : (members : List ℕ) (c : Option ℕ) → clause_member members ≡ c → clause_told (123 ∷ members) ≡ c
+unfolding clause_told
+first_member members c h = h
+
+-- the digit of a clause
+unfoldable clause_digit : ℕ → List ℕ → Option ℕ
+clause_digit n rest = clause_first (codes "\"clause\":" ++ (decimal n ++ rest))
+
+digit_is : (d : Denial) (rest : List ℕ) → clause_digit (clause_of d) rest ≡ Some (clause_of d)
+unfolding clause_digit clause_first digits
+digit_is denial.NotGreeted rest = refl
+digit_is denial.Greeted rest = refl
+digit_is denial.Unknown rest = refl
+digit_is denial.Hidden rest = refl
+digit_is denial.NotOwner rest = refl
+digit_is (denial.Stale at) rest = refl
+digit_is denial.Chosen rest = refl
+digit_is denial.Guard rest = refl
+digit_is denial.NotTeacher rest = refl
+digit_is denial.Empty rest = refl
+digit_is denial.NoNode rest = refl
+digit_is denial.BadRegister rest = refl
+digit_is denial.Loop rest = refl
+digit_is denial.Linked rest = refl
+digit_is denial.NotLinked rest = refl
+digit_is denial.NotChosen rest = refl
+
+plain : (n : ℕ) (rest : List ℕ) → clause_told (123 ∷ (codes "\"clause\":" ++ (decimal n ++ rest))) ≡ clause_digit n rest
+unfolding clause_told clause_member clause_digit
+plain n rest = refl
+
+stale : (at : ℕ) (rest : List ℕ) → clause_told (numbered at (codes "\"clause\":" ++ (decimal 2 ++ rest))) ≡ Some 2
+unfolding clause_digit
+stale at rest = behind_number at (codes "\"clause\":" ++ (decimal 2 ++ rest)) (Some 2) (digit_is (denial.Stale at) rest)
+
+denied_is : (ids : List ℕ) (roster : RosterValue) (d : Denial) → clause_told (text ids roster (replies.Deny d)) ≡ Some (clause_of d)
+unfolding object_text
+denied_is ids roster denial.NotGreeted = plain 0 _ ∙ digit_is denial.NotGreeted _
+denied_is ids roster denial.Greeted = plain 1 _ ∙ digit_is denial.Greeted _
+denied_is ids roster denial.Unknown = plain 2 _ ∙ digit_is denial.Unknown _
+denied_is ids roster denial.Hidden = plain 1 _ ∙ digit_is denial.Hidden _
+denied_is ids roster denial.NotOwner = plain 1 _ ∙ digit_is denial.NotOwner _
+denied_is ids roster (denial.Stale at) = stale at _
+denied_is ids roster denial.Chosen = plain 3 _ ∙ digit_is denial.Chosen _
+denied_is ids roster denial.Guard = plain 4 _ ∙ digit_is denial.Guard _
+denied_is ids roster denial.NotTeacher = plain 1 _ ∙ digit_is denial.NotTeacher _
+denied_is ids roster denial.Empty = plain 2 _ ∙ digit_is denial.Empty _
+denied_is ids roster denial.NoNode = plain 2 _ ∙ digit_is denial.NoNode _
+denied_is ids roster denial.BadRegister = plain 3 _ ∙ digit_is denial.BadRegister _
+denied_is ids roster denial.Loop = plain 3 _ ∙ digit_is denial.Loop _
+denied_is ids roster denial.Linked = plain 4 _ ∙ digit_is denial.Linked _
+denied_is ids roster denial.NotLinked = plain 3 _ ∙ digit_is denial.NotLinked _
+denied_is ids roster denial.NotChosen = plain 3 _ ∙ digit_is denial.NotChosen _
+
+pub told_is : (ids : List ℕ) (roster : RosterValue) (r : Reply) → clause_told (text ids roster r) ≡ clause_in r
+unfolding object_text clause_member clause_first
+told_is ids roster (replies.Hello who) = first_member _ None refl
+told_is ids roster replies.Bye = first_member _ None refl
+told_is ids roster (replies.See s) = behind_number s.at _ None refl
+told_is ids roster (replies.Look l) = behind_number l.at _ None refl
+told_is ids roster (replies.Move at place node kind) = behind_number at _ None refl
+told_is ids roster (replies.Close at place moved) = behind_number at _ None refl
+told_is ids roster (replies.Fault at place node dropped) = behind_number at _ None refl
+told_is ids roster (replies.Link at place a b dropped) = first_member _ None refl
+told_is ids roster (replies.Cut at place a b dropped) = first_member _ None refl
+told_is ids roster (replies.Release at place node) = behind_number at _ None refl
+told_is ids roster (replies.Report r) = behind_number r.at _ None refl
+told_is ids roster (replies.Deny d) = denied_is ids roster d
+told_is ids roster (replies.Refuse refused.Malformed) = first_member _ None refl
+told_is ids roster (replies.Refuse refused.Full) = first_member _ None refl
+told_is ids roster (replies.Refuse refused.Journal) = first_member _ None refl
+told_is ids roster (replies.Refuse refused.Memory) = first_member _ None refl
+
+-- ---- who is known
+
+memory_is : (ids : List ℕ) (roster : RosterValue) → text ids roster (replies.Refuse refused.Memory) ≡ memory_text
+unfolding object_text
+memory_is ids roster = refl
+
+pub unended_is : (bytes : List ℕ) → unended (ended bytes) ≡ bytes
+unended_is bytes = front_of bytes (ended bytes) (unended (ended bytes)) (length (ended bytes)) refl refl refl
+
+module _ (lab : LabValue) (l first : List Event) (known : Option Who) (r : Reply) (known' : Option Who) where
+  greeted_is : (g : Greeting) → FitsGreeting lab l first known g r known' → known_by known g ≡ known'
+  greeted_is (Answered q x) f = sym f.1
+  greeted_is (LeftToJudge who c) f = sym f.0
+
+  asked_is : (asked : Result Request LineFault) → FitsAsked lab l first known asked r known' → known_asked lab.roster known asked ≡ known'
+  asked_is (Err fault) f = sym f.1
+  asked_is (Ok q) f = greeted_is (greeting lab.roster known q) f
+
+  module _ (line : List ℕ) where
+    by_text : (b : Bool) → bytes_eq (text lab.ids lab.roster r) memory_text ≡ b → Fits lab l first known line r known'
+        → cond b known (known_asked lab.roster known (request_in line)) ≡ known'
+    by_text true e f =
+        let bytes : text lab.ids lab.roster r ≡ memory_text = (bytes_eq-Decides (text lab.ids lab.roster r) memory_text).0 e in
+        let same : reply_line lab.ids lab.roster r ≡ reply_line lab.ids lab.roster (replies.Refuse refused.Memory) =
+        ap (λ t. t ++ 10 ∷ []) (bytes ∙ sym (memory_is lab.ids lab.roster)) in
+        sym (fits_once lab l first known line r (replies.Refuse refused.Memory) known' known same f (inr (refl, refl))).0
+    by_text false e (inl f) = asked_is (request_in line) f
+    by_text false e (inr f) =
+        let bytes : text lab.ids lab.roster r ≡ memory_text = ap (λ (x : Reply). text lab.ids lab.roster x) f.0 ∙ memory_is lab.ids lab.roster in
+        absurd (true≢false (sym ((bytes_eq-Decides (text lab.ids lab.roster r) memory_text).1 bytes) ∙ e))
+
+    pub known_is : Fits lab l first known line r known' → known_after lab.roster known line (text lab.ids lab.roster r) ≡ known'
+    unfolding known_after
+    known_is f = by_text (bytes_eq (text lab.ids lab.roster r) memory_text) refl f
+
+-- ---- all entries
+
+pub asked_of_rules : (lab : LabValue) (l : List Event) (known : Option Who) (gone : Bool) (least : ℕ) (es : List Entry) (ps : List ℕ)
+    → GoesOn lab l known gone least es ps → AreAskedOf lab l known es (asks_from lab.roster known es)
+asked_of_rules lab l known gone least [] ps on = refl
+asked_of_rules lab l known gone least (entry.Said p line out ∷ es) ps on =
+    let r : Reply = on.4 in
+    let bytes : unended out ≡ text lab.ids lab.roster r = ap unended on.7 ∙ unended_is (text lab.ids lab.roster r) in
+    let clause : clause_told (unended out) ≡ clause_in r = ap clause_told bytes ∙ told_is lab.ids lab.roster r in
+    let behind : known_after lab.roster known line (unended out) ≡ on.5 =
+    ap (known_after lab.roster known line) bytes ∙ known_is lab l (take p l) known r on.5 line on.8 in (
+      r,
+      on.5,
+      asks_from lab.roster on.5 es,
+      on.7,
+      on.8,
+      λ k. record { who = student_of known; line = line_of (request_in line); denied = clause k } ∷ asks_from lab.roster (behind k) es,
+      asked_of_rules lab l on.5 (is_bye r) p es on.6 on.10,
+    )
+asked_of_rules lab l known gone least (entry.Left p ∷ es) ps on = asked_of_rules lab l None false p es ps on.2
+asked_of_rules lab l known gone least (entry.Cut p ∷ es) ps on = asked_of_rules lab l None true p es ps on.2

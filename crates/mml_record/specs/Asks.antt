@@ -1,0 +1,159 @@
+-- What the lines of a record asked, and which clause denied each: told by the lines and the bytes of their replies.
+use Rattle.std.specs.Prelude.{◌≡◌, ℕ, ◌-◌, List, [], ◌∷◌, ◌++◌, codes, length, take, bytes_eq, Option, None, Some, Result, Ok, Err, if◌then◌else◌}
+use Rattle.std.specs.List.{slice_get}
+use Rattle.mml_rules.specs.declared.rule.Kind.{Kind}
+use Rattle.mml_rules.specs.declared.rule.Kind.TheVariants as kind
+use Rattle.mml_lab.specs.declared.who.Who.{Who}
+use Rattle.mml_lab.specs.declared.who.Who.TheVariants as who
+use Rattle.mml_lab.specs.Labs.{LabValue}
+use Rattle.mml_lab.specs.Rosters.{RosterValue}
+use Rattle.mml_board.specs.declared.event.Event.{Event}
+use Rattle.mml_policy.specs.declared.command.Asked.{Asked}
+use Rattle.mml_policy.specs.declared.command.Asked.TheVariants as asked
+use Rattle.mml_policy.specs.declared.command.Command.{Command}
+use Rattle.mml_policy.specs.declared.command.Command.TheVariants as command
+use Rattle.mml_policy.specs.Denials.{clause_of}
+use Rattle.mml_codec.specs.declared.request.LineFault.{LineFault}
+use Rattle.mml_codec.specs.declared.request.Request.{Request}
+use Rattle.mml_codec.specs.declared.request.Request.TheVariants as requests
+use Rattle.mml_codec.specs.declared.greeting.Greeting.{Greeting}
+use Rattle.mml_codec.specs.declared.greeting.Greeting.TheVariants.{Answered, LeftToJudge}
+use Rattle.mml_codec.specs.declared.reply.Reply.{Reply}
+use Rattle.mml_codec.specs.declared.reply.Reply.TheVariants as reply
+use Rattle.mml_codec.specs.Greetings.{greeting}
+use Rattle.mml_codec.specs.Lines.{request_in}
+use Rattle.mml_codec.specs.Replies.{reply_line}
+use Rattle.mml_journal.specs.Words.{◌>>=◌, is_word}
+use Rattle.mml_tally.specs.declared.ask.Ask.{Ask}
+use Rattle.mml_tally.specs.declared.ask.Line.{Line}
+use Rattle.mml_tally.specs.declared.ask.Line.TheVariants as lines
+use Rattle.mml_record.specs.declared.entries.Entry.{Entry}
+use Rattle.mml_record.specs.declared.entries.Entry.TheVariants as entry
+use Rattle.mml_record.specs.Reading.{cut}
+use Rattle.mml_record.specs.Certified.{Fits}
+
+-- ---- what a line is
+
+abbrev pub kind_asked : Asked → Kind
+kind_asked asked.Update = kind.Update
+kind_asked (asked.Marriage id) = kind.Marriage
+kind_asked asked.Seduction = kind.Seduction
+kind_asked asked.Abandonment = kind.Abandonment
+
+abbrev pub line_of_command : Command → Line
+line_of_command (command.Move id rule at) = lines.Move id (kind_asked rule)
+line_of_command (command.See id) = lines.Other
+line_of_command (command.Look id) = lines.Other
+line_of_command command.Close = lines.Other
+line_of_command (command.Fault id p m) = lines.Other
+line_of_command (command.Link a b) = lines.Other
+line_of_command (command.Cut a b) = lines.Other
+line_of_command (command.Release id) = lines.Other
+line_of_command command.Report = lines.Other
+
+abbrev pub line_of_request : Request → Line
+line_of_request (requests.Hello name key) = lines.Other
+line_of_request requests.Bye = lines.Other
+line_of_request (requests.Do c) = line_of_command c
+
+abbrev pub line_of : Result Request LineFault → Line
+line_of (Ok request) = line_of_request request
+line_of (Err fault) = lines.Malformed
+
+-- ---- what its reply tells
+
+-- a reply's line without its newline
+abbrev pub unended : List ℕ → List ℕ
+unended out = take (length out - 1) out
+
+-- a digit that comes first here
+abbrev pub digit_first : Option (List ℕ) → Option ℕ
+digit_first rest = do
+  bytes ← rest
+  digit ← slice_get bytes 0
+  Some (digit - 48)
+
+-- the number of a clause, where that is the first member here
+unfoldable pub clause_first : List ℕ → Option ℕ
+clause_first members = if is_word (codes "\"clause\"") (cut 58 members).0 then digit_first (cut 58 members).1 else None
+
+-- the same of the second member
+unfoldable pub clause_second : List ℕ → Option ℕ
+clause_second members = do
+  rest ← (cut 44 members).1
+  clause_first rest
+
+-- the same of the member behind a current number
+unfoldable pub clause_member : List ℕ → Option ℕ
+clause_member members = if is_word (codes "\"at\"") (cut 58 members).0 then clause_second members else clause_first members
+
+-- the number of the clause that a reply's text names
+unfoldable pub clause_told : List ℕ → Option ℕ
+clause_told text = do
+  members ← (cut 123 text).1
+  clause_member members
+
+abbrev pub memory_text : List ℕ
+memory_text = codes "{\"refuse\":\"memory\"}"
+
+-- ---- who is known behind it
+
+abbrev pub known_by : Option Who → Greeting → Option Who
+known_by known (Answered r x) = x
+known_by known (LeftToJudge who c) = known
+
+abbrev pub known_asked : RosterValue → Option Who → Result Request LineFault → Option Who
+known_asked roster known (Ok request) = known_by known (greeting roster known request)
+known_asked roster known (Err fault) = known
+
+-- where memory was refused, the line changed nothing
+unfoldable pub known_after : RosterValue → Option Who → List ℕ → List ℕ → Option Who
+known_after roster known line text = if bytes_eq text memory_text then known else known_asked roster known (request_in line)
+
+-- ---- a record
+
+abbrev pub student_in : Who → Option ℕ
+student_in who.Teacher = None
+student_in (who.Student s) = Some s
+
+-- the student who is known, if one is
+abbrev pub student_of : Option Who → Option ℕ
+student_of None = None
+student_of (Some w) = student_in w
+
+abbrev pub ask_of : Option Who → List ℕ → List ℕ → Ask
+ask_of known line out = record { who = student_of known; line = line_of (request_in line); denied = clause_told (unended out) }
+
+abbrev pub asks_at : Option Who → Entry → List Ask
+asks_at known (entry.Said p line out) = ask_of known line out ∷ []
+asks_at known (entry.Left p) = []
+asks_at known (entry.Cut p) = []
+
+abbrev pub known_behind : RosterValue → Option Who → Entry → Option Who
+known_behind roster known (entry.Said p line out) = known_after roster known line (unended out)
+known_behind roster known (entry.Left p) = None
+known_behind roster known (entry.Cut p) = None
+
+-- each line that was answered, from where someone is known, or nobody
+abbrev pub asks_from : RosterValue → Option Who → List Entry → List Ask
+asks_from roster known [] = []
+asks_from roster known (e ∷ es) = asks_at known e ++ asks_from roster (known_behind roster known e) es
+
+abbrev pub asks_in : RosterValue → List Entry → List Ask
+asks_in roster es = asks_from roster None es
+
+-- ---- what that means
+
+-- the clause by which the reply is a denial
+abbrev pub clause_in : Reply → Option ℕ
+clause_in (reply.Deny d) = Some (clause_of d)
+clause_in _ = None
+
+-- beside each line that was answered stands who was known by the rules, what the line is, and the clause of the reply of the rules
+abbrev pub AreAskedOf : LabValue → List Event → Option Who → List Entry → List Ask → Type 0
+AreAskedOf lab l known [] asks = asks ≡ []
+AreAskedOf lab l known (entry.Said p line out ∷ es) asks =
+    (r : Reply) × (known' : Option Who) × (more : List Ask) × (out ≡ reply_line lab.ids lab.roster r) × Fits lab l (take p l) known line r known'
+    × (asks ≡ record { who = student_of known; line = line_of (request_in line); denied = clause_in r } ∷ more) × AreAskedOf lab l known' es more
+AreAskedOf lab l known (entry.Left p ∷ es) asks = AreAskedOf lab l None es asks
+AreAskedOf lab l known (entry.Cut p ∷ es) asks = AreAskedOf lab l None es asks

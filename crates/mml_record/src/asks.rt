@@ -1,0 +1,251 @@
+//! What the lines of a record asked, and which clause denied each.
+ghost use Rattle.std.specs.Prelude.{◌≡◌, ◌++◌, List, ℕ, true, bytes_eq, IfOk, IfSome, OnOk};
+ghost use Rattle.mml_ids.specs.Lines.{ended};
+ghost use Rattle.mml_lab.specs.Rosters.{IsPrincipal};
+ghost use Rattle.mml_codec.specs.Lines.{request_in};
+ghost use Rattle.mml_window.specs.Lists.{is_legal_in};
+ghost use Rattle.mml_record.specs.declared.entries.Entry.{Entry};
+ghost use Rattle.mml_record.specs.Certified.{IsRecordOf};
+ghost use Rattle.mml_record.specs.Entries.{record_text};
+ghost use Rattle.mml_record.specs.inside.RawEntries.{seen, entry_view};
+ghost use Rattle.mml_record.specs.Asks.{kind_asked, line_of_command, line_of_request, line_of, digit_first, clause_first, clause_second, clause_member, clause_told, memory_text, known_by, known_asked, known_after, student_in, student_of, ask_of, asks_at, known_behind, asks_in};
+
+use crate::reading::{RawEntry, cut, entry_in};
+use mml_board::Event;
+use mml_codec::{Greeting, LineFault, Request, greet, read_request};
+use mml_ids::Memory;
+use mml_lab::{Lab, Roster, Student, Who};
+use mml_policy::{Asked, Command};
+use mml_rules::Kind;
+use mml_tally::{Ask, Line, push_ask};
+use std::alloc::Global;
+
+fn kind_asked(rule: Asked) -> Kind
+    ensures { result ≡ kind_asked rule }
+{
+    match rule {
+        Asked::Update => Kind::Update,
+        Asked::Marriage(_) => Kind::Marriage,
+        Asked::Seduction => Kind::Seduction,
+        Asked::Abandonment => Kind::Abandonment,
+    }
+}
+
+fn line_of_command(command: &Command) -> Line
+    ensures { result ≡ line_of_command command.now }
+{
+    match *command {
+        Command::Move { node, rule, .. } => Line::Move {
+            node,
+            kind: kind_asked(rule),
+        },
+        _ => Line::Other,
+    }
+}
+
+fn line_of_request(request: &Request) -> Line
+    ensures { result ≡ line_of_request request.now }
+{
+    match request {
+        Request::Hello { .. } | Request::Bye => Line::Other,
+        Request::Do(command) => line_of_command(command),
+    }
+}
+
+// A digit that comes first.
+fn digit_first(rest: Option<&[u8]>) -> Option<u8>
+    ensures { result ≡ digit_first (seen rest.entry) }
+{
+    let bytes = rest?;
+    let digit = bytes.first()?;
+    Some(digit.saturating_sub(48))
+}
+
+// The number of a clause, where that is the first member.
+#[tactic(auto, unfolding(crate::specs::Asks::clause_first))]
+fn clause_first(members: &[u8]) -> Option<u8>
+    ensures { result ≡ clause_first members.now }
+{
+    let (word, rest) = cut(members, 58);
+    if word == b"\"clause\"".as_slice() {
+        digit_first(rest)
+    } else {
+        None
+    }
+}
+
+#[tactic(auto, unfolding(crate::specs::Asks::clause_second))]
+fn clause_second(members: &[u8]) -> Option<u8>
+    ensures { result ≡ clause_second members.now }
+{
+    let (_, rest) = cut(members, 44);
+    let rest = rest?;
+    clause_first(rest)
+}
+
+#[tactic(auto, unfolding(crate::specs::Asks::clause_member))]
+fn clause_member(members: &[u8]) -> Option<u8>
+    ensures { result ≡ clause_member members.now }
+{
+    let (word, _) = cut(members, 58);
+    if word == b"\"at\"".as_slice() {
+        clause_second(members)
+    } else {
+        clause_first(members)
+    }
+}
+
+// The number of the clause that a reply's text names.
+#[tactic(auto, unfolding(crate::specs::Asks::clause_told))]
+fn clause_told(text: &[u8]) -> Option<u8>
+    ensures { result ≡ clause_told text.now }
+{
+    let (_, members) = cut(text, 123);
+    let members = members?;
+    clause_member(members)
+}
+
+fn is_memory(text: &[u8]) -> bool
+    ensures { result ≡ bytes_eq text.now memory_text }
+{
+    text == b"{\"refuse\":\"memory\"}".as_slice()
+}
+
+fn known_by(known: Option<Who>, greeting: Greeting) -> Option<Who>
+    ensures { result ≡ known_by known greeting }
+{
+    match greeting {
+        Greeting::Answered {
+            reply: _reply,
+            known: then,
+        } => then,
+        Greeting::LeftToJudge {
+            who: _who,
+            command: _command,
+        } => known,
+    }
+}
+
+// What the line is, and who is known behind it.
+fn told_by(
+    alloc: Global,
+    roster: &Roster,
+    known: Option<Who>,
+    line: &[u8],
+) -> Result<(Line, Option<Who>), Memory>
+    requires { IfSome known (IsPrincipal roster.now) }
+    ensures line { IfOk result (λ x. x.0 ≡ line_of (request_in line.now)) }
+    ensures known { IfOk result (λ x. x.1 ≡ known_asked roster.now known (request_in line.now)) }
+    ensures part { IfOk result (λ x. IfSome x.1 (IsPrincipal roster.now)) }
+{
+    let known = &known;
+    match read_request(alloc, line) {
+        Ok(request) => {
+            let line = line_of_request(&request);
+            Ok((line, known_by(*known, greet(roster, *known, request))))
+        }
+        Err(LineFault::Memory) => Err(Memory),
+        Err(LineFault::Malformed) => Ok((Line::Malformed, *known)),
+    }
+}
+
+fn student_in(who: Who) -> Option<Student>
+    ensures { result ≡ student_in who }
+{
+    match who {
+        Who::Teacher => None,
+        Who::Student(student) => Some(student),
+    }
+}
+
+fn student_of(known: Option<Who>) -> Option<Student>
+    ensures { result ≡ student_of known }
+{
+    match known {
+        Some(who) => student_in(who),
+        None => None,
+    }
+}
+
+// What a line that was answered asked, and who is known behind it.
+#[tactic(auto, unfolding(crate::specs::Asks::known_after))]
+fn ask_of(
+    alloc: Global,
+    roster: &Roster,
+    known: Option<Who>,
+    line: &[u8],
+    text: &[u8],
+) -> Result<(Ask, Option<Who>), Memory>
+    requires { IfSome known (IsPrincipal roster.now) }
+    ensures ask { IfOk result (λ x. x.0 ≡ ask_of known line.now (ended text.now)) }
+    ensures known { IfOk result (λ x. x.1 ≡ known_after roster.now known line.now text.now) }
+    ensures part { IfOk result (λ x. IfSome x.1 (IsPrincipal roster.now)) }
+{
+    let known = &known;
+    let denied = clause_told(text);
+    let (line, then) = told_by(alloc, roster, *known, line)?;
+    let ask = Ask {
+        who: student_of(*known),
+        line,
+        denied,
+    };
+    if is_memory(text) {
+        Ok((ask, *known))
+    } else {
+        Ok((ask, then))
+    }
+}
+
+// Puts what an entry's line asked behind those that are there, and gives who is known behind it.
+fn read_ask(
+    alloc: Global,
+    lab: &Lab,
+    known: Option<Who>,
+    entry: &RawEntry<'_>,
+    asks: &mut Vec<Ask>,
+) -> Result<Option<Who>, Memory>
+    requires { IfSome known (IsPrincipal lab.now.roster) }
+    ensures asks { IfOk result (λ k.
+        asks.new.items ≡ asks.old.items ++ asks_at known (entry_view entry.now)) }
+    ensures known { IfOk result (λ k.
+        k ≡ known_behind lab.now.roster known (entry_view entry.now)) }
+    ensures part { IfOk result (λ k. IfSome k (IsPrincipal lab.now.roster)) }
+{
+    match entry {
+        RawEntry::Said { line, text, .. } => {
+            let (ask, then) = ask_of(alloc, lab.roster(), known, line, text)?;
+            push_ask(asks, &ask)?;
+            Ok(then)
+        }
+        RawEntry::Left { .. } | RawEntry::Cut { .. } => Ok(None),
+    }
+}
+
+/// What the lines of the place with this number asked, and which clause denied each, go behind those that
+/// are there. The text is that of a record, beside the list of events of a journal of the lab.
+pub fn read_asks(
+    alloc: Global,
+    lab: &Lab,
+    events: &[Event],
+    number: u8,
+    text: &[u8],
+    asks: &mut Vec<Ask>,
+) -> Result<(), Memory>
+    requires { is_legal_in lab.now events.now ≡ true }
+    ensures { OnOk result ((es : List Entry) (ps : List ℕ) → IsRecordOf lab.now events.now es ps →
+        text.now ≡ record_text number es →
+        asks.new.items ≡ asks.old.items ++ asks_in lab.now.roster es) }
+{
+    let _nodes = lab.node_count();
+    let _count = events.len();
+    let mut known = None;
+    let mut left = text;
+    'entries: while !left.is_empty() {
+        let Some((entry, rest)) = entry_in(number, left) else {
+            return Ok(());
+        };
+        known = read_ask(alloc, lab, known, &entry, asks)?;
+        left = rest;
+    }
+    Ok(())
+}

@@ -1,0 +1,62 @@
+-- What a student's lines asked, whatever came of them, and which clauses denied them.
+use Rattle.std.specs.Prelude.{ℕ, ◌==◌, ◌&&◌, Bool, true, false, List, Option, None, Some, count_by}
+use Rattle.std.specs.List.{filter}
+use Rattle.mml_rules.specs.declared.rule.Kind.{Kind}
+use Rattle.mml_rules.specs.declared.rule.Kind.TheVariants as kind
+use Rattle.mml_tally.specs.declared.ask.Ask.{Ask}
+use Rattle.mml_tally.specs.declared.ask.Line.{Line}
+use Rattle.mml_tally.specs.declared.ask.Line.TheVariants as line
+use Rattle.mml_tally.specs.declared.ask.Denials.{Denials}
+use Rattle.mml_tally.specs.declared.marks.ByRule.{ByRule}
+use Rattle.mml_tally.specs.Marks.{is_kind}
+
+abbrev pub is_student : ℕ → Option ℕ → Bool
+is_student s None = false
+is_student s (Some t) = t == s
+
+-- the lines that came while a student was known
+abbrev pub asks_by : ℕ → List Ask → List Ask
+asks_by s asks = filter (λ a. is_student s a.who) asks
+
+-- the clause with that number denied it
+abbrev pub is_clause : ℕ → Option ℕ → Bool
+is_clause c None = false
+is_clause c (Some d) = d == c
+
+abbrev pub is_malformed : Line → Bool
+is_malformed line.Malformed = true
+is_malformed (line.Move n k) = false
+is_malformed line.Other = false
+
+-- a move of this rule, at the node with this identifier
+abbrev pub is_move : ℕ → Kind → Line → Bool
+is_move id k line.Malformed = false
+is_move id k (line.Move n j) = n == id && is_kind k j
+is_move id k line.Other = false
+
+-- how many lines each clause denied, and how many were no request
+abbrev pub denials_in : List Ask → Denials
+denials_in own = record {
+  first = count_by (λ a. is_clause 1 a.denied) own;
+  second = count_by (λ a. is_clause 2 a.denied) own;
+  third = count_by (λ a. is_clause 3 a.denied) own;
+  fourth = count_by (λ a. is_clause 4 a.denied) own;
+  malformed = count_by (λ a. is_malformed a.line) own;
+}
+
+-- how many asked for a move of each rule there
+abbrev pub moves_asked : ℕ → List Ask → ByRule
+moves_asked id own = record {
+  update = count_by (λ a. is_move id kind.Update a.line) own;
+  marriage = count_by (λ a. is_move id kind.Marriage a.line) own;
+  seduction = count_by (λ a. is_move id kind.Seduction a.line) own;
+  abandonment = count_by (λ a. is_move id kind.Abandonment a.line) own;
+}
+
+-- what was denied to a student
+abbrev pub denials_of : List Ask → ℕ → Denials
+denials_of asks s = denials_in (asks_by s asks)
+
+-- what a student asked for at a node
+abbrev pub asked_of : List Ask → ℕ → ℕ → ByRule
+asked_of asks id s = moves_asked id (asks_by s asks)

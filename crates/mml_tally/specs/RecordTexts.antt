@@ -1,0 +1,52 @@
+-- What is told of a run's record, between the nodes and the end of the tally.
+use Rattle.std.specs.Prelude.{ℕ, Bool, true, false, List, [], ◌∷◌, ◌++◌, length, codes, slice_index, if◌then◌else◌}
+use Rattle.mml_lab.specs.declared.who.Who.TheVariants as who
+use Rattle.mml_lab.specs.Labs.{LabValue}
+use Rattle.mml_lab.specs.Rosters.{RosterValue, name_of}
+use Rattle.mml_board.specs.declared.event.Event.{Event}
+use Rattle.mml_board.specs.World.{World}
+use Rattle.mml_stable.specs.Reports.{each_below}
+use Rattle.mml_tally.specs.declared.ask.Ask.{Ask}
+use Rattle.mml_tally.specs.declared.ask.Denials.{Denials}
+use Rattle.mml_tally.specs.declared.record_text.Kept.{Kept}
+use Rattle.mml_tally.specs.Owners.{owners_in_order, is_shared}
+use Rattle.mml_tally.specs.Asks.{denials_of, asked_of}
+use Rattle.mml_tally.specs.Texts.{numbers_text, owner_text, students_text, nodes_text, ends_text}
+
+-- the first four clauses, and malformed lines
+abbrev pub denied_line : List ℕ → Denials → List ℕ
+denied_line name d = codes "denied " ++ (name ++ (numbers_text (d.first ∷ d.second ∷ d.third ∷ d.fourth ∷ d.malformed ∷ []) ++ codes "\n"))
+
+-- a line for each student, in the lab's order
+abbrev pub denied_text : LabValue → List Ask → ℕ → List ℕ
+denied_text lab asks n = each_below n (λ s. denied_line (name_of lab.roster (who.Student s)) (denials_of asks s))
+
+-- each owner, and the moves that it asked for at the node with this identifier
+abbrev pub askers_text : RosterValue → List Ask → ℕ → List ℕ → List ℕ
+askers_text r asks id [] = []
+askers_text r asks id (s ∷ ss) = owner_text (name_of r (who.Student s)) (asked_of asks id s) ++ askers_text r asks id ss
+
+abbrev pub asked_line : LabValue → List Ask → ℕ → List ℕ
+asked_line lab asks i =
+    codes "asked" ++ (numbers_text (slice_index lab.ids i ∷ []) ++ (askers_text lab.roster asks (slice_index lab.ids i) (owners_in_order lab.roster i) ++ codes "\n"))
+
+-- a line for each node that several own, by identifiers
+abbrev pub asked_text : LabValue → List Ask → ℕ → List ℕ
+asked_text lab asks n = each_below n (λ i. if is_shared lab.roster i then asked_line lab asks i else [])
+
+-- nothing of what was said is left out of the record
+abbrev pub whole_text : Bool → List ℕ
+whole_text true = codes " whole\n"
+whole_text false = codes " cut\n"
+
+-- sessions that ended, lines that were answered, and whether the record is whole
+abbrev pub record_line : Kept → List ℕ
+record_line k = codes "record" ++ (numbers_text (k.sessions ∷ k.lines ∷ []) ++ whole_text k.whole)
+
+abbrev pub record_text : LabValue → Kept → List Ask → List ℕ
+record_text lab k asks = denied_text lab asks (length lab.roster.students) ++ (asked_text lab asks (length lab.ids) ++ record_line k)
+
+-- the tally of a run with a record
+abbrev pub recorded_text : LabValue → World → List Event → Kept → List Ask → List ℕ
+recorded_text lab w es k asks =
+    students_text lab es (length lab.roster.students) ++ (nodes_text lab es (length lab.ids) ++ (record_text lab k asks ++ ends_text w es))

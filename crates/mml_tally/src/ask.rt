@@ -1,0 +1,162 @@
+ghost use Rattle.std.specs.Prelude.{◌≡◌, ◌++◌, [], ◌∷◌, OnOk, IfOk, count_by};
+ghost use Rattle.mml_tally.specs.Marks.{is_kind};
+ghost use Rattle.mml_tally.specs.Asks.{is_student, asks_by, is_clause, is_malformed, is_move, denials_in, moves_asked, denials_of, asked_of};
+
+use crate::marks::{ByRule, is_kind};
+use mml_ids::Memory;
+use mml_lab::Student;
+use mml_rules::Kind;
+use std::alloc::Global;
+use std::slice;
+
+/// A line that a session answered.
+#[derive(Clone, Copy, Debug)]
+pub struct Ask {
+    /// The student who was known when it came, if one was.
+    pub who: Option<Student>,
+    pub line: Line,
+    /// The number of the clause that denied it.
+    pub denied: Option<u8>,
+}
+
+/// What a line is, as far as lines are told apart here.
+#[derive(Clone, Copy, Debug, PartialEq, Eq)]
+pub enum Line {
+    /// No request.
+    Malformed,
+    /// It asks for a move of this rule at the node with this identifier, if there is one.
+    Move { node: u64, kind: Kind },
+    /// It asks for something else.
+    Other,
+}
+
+/// How many lines each clause denied, and how many were no request.
+#[derive(Clone, Copy, Debug, PartialEq, Eq)]
+pub struct Denials {
+    pub first: u64,
+    pub second: u64,
+    pub third: u64,
+    pub fourth: u64,
+    pub malformed: u64,
+}
+
+/// Puts one more behind those that are there.
+pub fn push_ask(asks: &mut Vec<Ask>, ask: &Ask) -> Result<(), Memory>
+    ensures { OnOk result (asks.new.items ≡ asks.old.items ++ (ask.now ∷ [])) }
+{
+    asks.extend_from_slice(slice::from_ref(ask))?;
+    Ok(())
+}
+
+// The lines of a student, in order.
+fn asks_by(alloc: Global, asks: &[Ask], student: Student) -> Result<Vec<Ask>, Memory>
+    ensures { IfOk result (λ own. own.items ≡ asks_by student asks.now) }
+{
+    let mut own = Vec::new(alloc);
+    for ask in asks {
+        if is_student(student, ask.who) {
+            own.push(*ask)?;
+        }
+    }
+    Ok(own)
+}
+
+fn is_student(student: Student, who: Option<Student>) -> bool
+    ensures { result ≡ is_student student who }
+{
+    match who {
+        Some(other) => other == student,
+        None => false,
+    }
+}
+
+/// What was denied to a student, and what of the student's lines was no request.
+pub fn denials_of(alloc: Global, asks: &[Ask], student: Student) -> Result<Denials, Memory>
+    ensures { IfOk result (λ denied. denied ≡ denials_of asks.now student) }
+{
+    let own = asks_by(alloc, asks, student)?;
+    Ok(denials_in(&own))
+}
+
+/// What a student asked for at the node with this identifier.
+pub fn asked_of(alloc: Global, asks: &[Ask], node: u64, student: Student) -> Result<ByRule, Memory>
+    ensures { IfOk result (λ asked. asked ≡ asked_of asks.now node student) }
+{
+    let own = asks_by(alloc, asks, student)?;
+    Ok(moves_asked(node, &own))
+}
+
+fn denials_in(own: &[Ask]) -> Denials
+    ensures { result ≡ denials_in own.now }
+{
+    Denials {
+        first: count_clause(own, 1),
+        second: count_clause(own, 2),
+        third: count_clause(own, 3),
+        fourth: count_clause(own, 4),
+        malformed: count_malformed(own),
+    }
+}
+
+fn count_clause(own: &[Ask], clause: u8) -> u64
+    ensures { result ≡ count_by (λ a. is_clause clause a.denied) own.now }
+{
+    own.iter()
+        .filter(|ask| is_clause(clause, ask.denied))
+        .count() as u64
+}
+
+fn is_clause(clause: u8, denied: Option<u8>) -> bool
+    ensures { result ≡ is_clause clause denied }
+{
+    match denied {
+        Some(number) => number == clause,
+        None => false,
+    }
+}
+
+fn count_malformed(own: &[Ask]) -> u64
+    ensures { result ≡ count_by (λ a. is_malformed a.line) own.now }
+{
+    own.iter().filter(|ask| is_malformed(ask.line)).count() as u64
+}
+
+fn is_malformed(line: Line) -> bool
+    ensures { result ≡ is_malformed line }
+{
+    match line {
+        Line::Malformed => true,
+        Line::Move { .. } | Line::Other => false,
+    }
+}
+
+fn moves_asked(node: u64, own: &[Ask]) -> ByRule
+    ensures { result ≡ moves_asked node own.now }
+{
+    ByRule {
+        update: count_moves(node, Kind::Update, own),
+        marriage: count_moves(node, Kind::Marriage, own),
+        seduction: count_moves(node, Kind::Seduction, own),
+        abandonment: count_moves(node, Kind::Abandonment, own),
+    }
+}
+
+fn count_moves(node: u64, kind: Kind, own: &[Ask]) -> u64
+    ensures { result ≡ count_by (λ a. is_move node kind a.line) own.now }
+{
+    own.iter()
+        .filter(|ask| is_move(node, kind, ask.line))
+        .count() as u64
+}
+
+fn is_move(node: u64, kind: Kind, line: Line) -> bool
+    ensures { result ≡ is_move node kind line }
+{
+    match line {
+        Line::Move {
+            node: other,
+            kind: asked,
+        } => other == node && is_kind(kind, asked),
+        Line::Malformed | Line::Other => false,
+    }
+}

@@ -1,0 +1,150 @@
+ghost use Rattle.std.specs.Prelude.{◌≡◌, ◌<◌, ◌++◌, All, List, length, OnOk};
+ghost use Rattle.mml_tally.specs.RecordTexts.{denied_line, denied_text, askers_text, asked_line, asked_text, whole_text, record_line, record_text, recorded_text};
+
+use crate::ask::{Ask, Denials, asked_of, denials_of};
+use crate::granted_move::moves_of;
+use crate::owners::{is_shared, owners_of};
+use crate::text::{put_ends, put_granted, put_numbers, put_owner};
+use mml_board::{Board, Event};
+use mml_ids::{Memory, Piece, Rank, put};
+use mml_lab::{Lab, Roster, Student, Who};
+use std::alloc::Global;
+
+/// What a run's record comes to.
+#[derive(Clone, Copy, Debug, PartialEq, Eq)]
+pub struct Kept {
+    /// How many sessions ended.
+    pub sessions: u64,
+    /// How many lines were answered.
+    pub lines: u64,
+    /// Whether nothing is left out.
+    pub whole: bool,
+}
+
+/// Puts what is told of a run that has a record at the end of a text: the board is the one to which the
+/// events led, and these are the record's lines.
+pub fn put_recorded_tally(
+    out: &mut Vec<u8>,
+    alloc: Global,
+    lab: &Lab,
+    board: &Board,
+    events: &[Event],
+    kept: &Kept,
+    asks: &[Ask],
+) -> Result<(), Memory>
+    ensures { OnOk result (out.new.items
+        ≡ out.old.items ++ recorded_text lab.now board.now events.now kept.now asks.now) }
+{
+    let all = moves_of(alloc, events)?;
+    put_granted(out, alloc, lab, &all)?;
+    put_record(out, alloc, lab, kept, asks)?;
+    put_ends(out, board, events, &all)
+}
+
+fn put_record(
+    out: &mut Vec<u8>,
+    alloc: Global,
+    lab: &Lab,
+    kept: &Kept,
+    asks: &[Ask],
+) -> Result<(), Memory>
+    ensures { OnOk result
+        (out.new.items ≡ out.old.items ++ record_text lab.now kept.now asks.now) }
+{
+    put_denied(out, alloc, lab, asks)?;
+    put_asked(out, alloc, lab, asks)?;
+    put_kept(out, kept)
+}
+
+fn put_denied(out: &mut Vec<u8>, alloc: Global, lab: &Lab, asks: &[Ask]) -> Result<(), Memory>
+    ensures { OnOk result (out.new.items
+        ≡ out.old.items ++ denied_text lab.now asks.now (length lab.now.roster.students)) }
+{
+    let roster = lab.roster();
+    for place in 0..roster.student_count() {
+        let student = Student::new(place as u16);
+        let denied = denials_of(alloc, asks, student)?;
+        put_denials(out, roster.name_of(Who::Student(student)), &denied)?;
+    }
+    Ok(())
+}
+
+fn put_denials(out: &mut Vec<u8>, name: &str, denied: &Denials) -> Result<(), Memory>
+    ensures { OnOk result (out.new.items ≡ out.old.items ++ denied_line name.now denied.now) }
+{
+    put(out, &[Piece::Text("denied "), Piece::Text(name)])?;
+    let numbers = [
+        denied.first,
+        denied.second,
+        denied.third,
+        denied.fourth,
+        denied.malformed,
+    ];
+    put_numbers(out, &numbers)?;
+    put(out, &[Piece::Text("\n")])
+}
+
+fn put_asked(out: &mut Vec<u8>, alloc: Global, lab: &Lab, asks: &[Ask]) -> Result<(), Memory>
+    ensures { OnOk result (out.new.items
+        ≡ out.old.items ++ asked_text lab.now asks.now (length lab.now.ids)) }
+{
+    for index in 0..lab.node_count() {
+        let node = Rank::at(index);
+        if is_shared(lab.roster(), node) {
+            put_asked_at(out, alloc, lab, asks, node)?;
+        }
+    }
+    Ok(())
+}
+
+fn put_asked_at(
+    out: &mut Vec<u8>,
+    alloc: Global,
+    lab: &Lab,
+    asks: &[Ask],
+    node: Rank,
+) -> Result<(), Memory>
+    requires { node < length lab.now.ids }
+    ensures { OnOk result (out.new.items ≡ out.old.items ++ asked_line lab.now asks.now node) }
+{
+    let owners = owners_of(alloc, lab.roster(), node)?;
+    let id = lab.ids().id_of(node);
+    put(out, &[Piece::Text("asked")])?;
+    put_numbers(out, &[id])?;
+    put_askers(out, alloc, lab.roster(), asks, id, &owners)?;
+    put(out, &[Piece::Text("\n")])
+}
+
+fn put_askers(
+    out: &mut Vec<u8>,
+    alloc: Global,
+    roster: &Roster,
+    asks: &[Ask],
+    id: u64,
+    owners: &[Student],
+) -> Result<(), Memory>
+    requires { All (λ s. s < length roster.now.students) owners.now }
+    ensures { OnOk result
+        (out.new.items ≡ out.old.items ++ askers_text roster.now asks.now id owners.now) }
+{
+    for owner in owners {
+        let owner = *owner;
+        let asked = asked_of(alloc, asks, id, owner)?;
+        put_owner(out, roster.name_of(Who::Student(owner)), &asked)?;
+    }
+    Ok(())
+}
+
+fn put_kept(out: &mut Vec<u8>, kept: &Kept) -> Result<(), Memory>
+    ensures { OnOk result (out.new.items ≡ out.old.items ++ record_line kept.now) }
+{
+    put(out, &[Piece::Text("record")])?;
+    put_numbers(out, &[kept.sessions, kept.lines])?;
+    put(out, &[Piece::Text(whole_text(kept.whole))])
+}
+
+fn whole_text(is_whole: bool) -> &'static str
+    ensures { result.now ≡ whole_text is_whole }
+{
+    if is_whole { " whole\n" } else { " cut\n" }
+}
