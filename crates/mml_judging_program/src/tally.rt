@@ -62,7 +62,7 @@ fn text_of(alloc: Global, lab: &Lab, journal: &[u8]) -> Result<Vec<u8>, ProgramF
 }
 
 // Writes a text in one go.
-fn write_text<W: Write>(text: &[u8], writer: &mut W) -> Result<(), ProgramFault>
+pub(crate) fn write_text<W: Write>(text: &[u8], writer: &mut W) -> Result<(), ProgramFault>
     ensures { OnOk result (Appends (W.contents writer.old) (W.contents writer.new) text.now) }
 {
     match writer.write_all(text) {

@@ -1,6 +1,7 @@
 //! From the words to the work.
 use crate::answering::answer;
 use crate::fault::Fault;
+use crate::recorded::tally_recorded;
 use crate::tally::tally;
 use crate::verifying::verify;
 use crate::words::{Task, read_words};
@@ -16,5 +17,6 @@ pub fn run<R: Files<File = File> + Input + Print + AllocGlobal>(
         Task::Answer { lab } => answer(rt, lab),
         Task::Verify(task) => verify(rt, task),
         Task::Tally(task) => Ok(tally(rt, task)?),
+        Task::TallyRecorded(task) => tally_recorded(rt, task),
     }
 }

@@ -86,7 +86,10 @@ fn verify_seats<R: Files<File = File> + AllocGlobal>(
 }
 
 // How many events the journal had before the record began.
-fn read_begun<R: Files<File = File> + AllocGlobal>(rt: &R, folder: &str) -> Result<u64, Fault> {
+pub(crate) fn read_begun<R: Files<File = File> + AllocGlobal>(
+    rt: &R,
+    folder: &str,
+) -> Result<u64, Fault> {
     let path = begun_path(rt.alloc(), folder)?;
     let text = read_up_to(rt, path.as_str(), MAX_BEGUN)?;
     match number_in(digits_in(text.as_slice())) {
@@ -127,7 +130,7 @@ fn number_in(digits: &[u8]) -> Option<u64> {
 }
 
 // What both come to.
-fn together(a: Findings, b: Findings) -> Findings {
+pub(crate) fn together(a: Findings, b: Findings) -> Findings {
     Findings {
         sessions: a.sessions.saturating_add(b.sessions),
         lines: a.lines.saturating_add(b.lines),
@@ -136,7 +139,7 @@ fn together(a: Findings, b: Findings) -> Findings {
 }
 
 // The bytes of a seat's record.
-fn read_seat<R: Files<File = File> + AllocGlobal>(
+pub(crate) fn read_seat<R: Files<File = File> + AllocGlobal>(
     rt: &R,
     folder: &str,
     seat: u8,

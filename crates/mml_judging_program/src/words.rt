@@ -1,5 +1,5 @@
 //! The words of the command line.
-use clap::{ArgMatches, Command};
+use clap::{Arg, ArgAction, ArgMatches, Command};
 use mml_program::{Fault as ProgramFault, command_of, match_words};
 use std::alloc::{AllocError, Global};
 
@@ -12,6 +12,8 @@ pub enum Task<'a> {
     Verify(VerifyTask<'a>),
     /// To tell what a journal tells of its run.
     Tally(TallyTask<'a>),
+    /// The same with what its record tells.
+    TallyRecorded(VerifyTask<'a>),
 }
 
 /// The folder of a class's record, beside its lab and its journal.
@@ -42,7 +44,12 @@ fn whole<'a>(alloc: Global) -> Result<Command<'a>, AllocError> {
     command_of(alloc, "mml_host", &[])?
         .subcommand(command_of(alloc, "answer", &["lab"])?)?
         .subcommand(command_of(alloc, "verify", &["lab", "journal", "record"])?)?
-        .subcommand(command_of(alloc, "tally", &["lab", "journal"])?)
+        .subcommand(with_record(alloc, command_of(alloc, "tally", &["lab", "journal"])?)?)
+}
+
+// One value more, which may be left out.
+fn with_record<'a>(alloc: Global, command: Command<'a>) -> Result<Command<'a>, AllocError> {
+    command.arg(Arg::new(alloc, "record").action(ArgAction::Set))
 }
 
 fn task_of<'a>(name: &str, values: &ArgMatches<'a>) -> Option<Task<'a>> {
@@ -54,10 +61,18 @@ fn task_of<'a>(name: &str, values: &ArgMatches<'a>) -> Option<Task<'a>> {
             journal: values.get_str("journal")?,
             record: values.get_str("record")?,
         })),
-        "tally" => Some(Task::Tally(TallyTask {
-            lab,
-            journal: values.get_str("journal")?,
-        })),
+        "tally" => Some(tally_of(lab, values.get_str("journal")?, values.get_str("record"))),
         _ => None,
+    }
+}
+
+fn tally_of<'a>(lab: &'a str, journal: &'a str, record: Option<&'a str>) -> Task<'a> {
+    match record {
+        Some(record) => Task::TallyRecorded(VerifyTask {
+            lab,
+            journal,
+            record,
+        }),
+        None => Task::Tally(TallyTask { lab, journal }),
     }
 }

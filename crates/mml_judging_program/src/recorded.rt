@@ -1,0 +1,133 @@
+//! What a journal tells of its run, and a record of what its lines asked.
+ghost use Rattle.std.specs.Prelude.{◌≡◌, true, IfOk, OnOk};
+ghost use Rattle.std.specs.Io.KnownBytes.{Appends};
+ghost use Rattle.mml_window.specs.Lists.{is_legal_in};
+ghost use Rattle.mml_tally.specs.RecordTexts.{recorded_text};
+
+use crate::fault::Fault;
+use crate::granting::find_misgranted;
+use crate::record_refusal::RecordRefusal;
+use crate::tally::write_text;
+use crate::verifying::{read_begun, read_seat, together};
+use crate::words::VerifyTask;
+use mml_audit::{Audited, audit_events};
+use mml_board::{Board, Event};
+use mml_ends::Retrying;
+use mml_lab::Lab;
+use mml_program::{Fault as ProgramFault, lab_of, read_journal};
+use mml_record::{Findings, Verdict, read_asks, read_record};
+use mml_tally::{Ask, Kept, put_recorded_tally};
+use std::alloc::Global;
+use std::fs::File;
+use std::io;
+use std::io::Write;
+use std::rt::Files;
+
+/// Prints the tally of a journal's file with what its record tells, which is verified first.
+pub fn tally_recorded<R: Files<File = File> + Print + AllocGlobal>(
+    rt: &R,
+    task: VerifyTask<'_>,
+) -> Result<(), Fault> {
+    let lab = lab_of(rt, task.lab)?;
+    let journal = read_journal(rt, task.journal)?;
+    let audited = audited_of(rt.alloc(), &lab, journal.as_slice())?;
+    let events = audited.events.as_slice();
+    let mut asks = Vec::new(rt.alloc());
+    let kept = read_seats(rt, &lab, events, task.record, &mut asks)?;
+    let mut writer = Retrying::new(io::writer(rt));
+    let alloc = rt.alloc();
+    match write_recorded(
+        alloc,
+        &lab,
+        &audited.board,
+        events,
+        &kept,
+        asks.as_slice(),
+        &mut writer,
+    ) {
+        Ok(()) => Ok(()),
+        Err(fault) => Err(Fault::from(fault).or_memory(writer.lacked_memory)),
+    }
+}
+
+// The events of the journal, which is one of the lab, and the board to which they lead.
+fn audited_of(alloc: Global, lab: &Lab, text: &[u8]) -> Result<Audited, ProgramFault>
+    ensures { IfOk result (λ audited. is_legal_in lab.now audited.events.items ≡ true) }
+{
+    Ok(audit_events(alloc, lab, text)?)
+}
+
+// What the records of all seats come to; what their lines asked goes behind.
+fn read_seats<R: Files<File = File> + AllocGlobal>(
+    rt: &R,
+    lab: &Lab,
+    events: &[Event],
+    folder: &str,
+    asks: &mut Vec<Ask>,
+) -> Result<Kept, Fault>
+    requires { is_legal_in lab.now events.now ≡ true }
+{
+    let begun = read_begun(rt, folder)?;
+    let mut granted = Vec::new(rt.alloc());
+    let mut all = Findings {
+        sessions: 0,
+        lines: 0,
+        whole: true,
+    };
+    for seat in 0..lab.sessions() {
+        let text = read_seat(rt, folder, seat + 1)?;
+        let text = text.as_slice();
+        let found = read_lines(rt.alloc(), lab, events, seat + 1, text, &mut granted, asks)?;
+        all = together(all, found);
+    }
+    let count = events.len() as u64;
+    match find_misgranted(rt.alloc(), granted.as_slice(), begun, count, all.whole)? {
+        Some(amiss) => Err(Fault::Record(RecordRefusal::of_places(amiss))),
+        None => Ok(Kept {
+            sessions: all.sessions,
+            lines: all.lines,
+            whole: all.whole,
+        }),
+    }
+}
+
+// What the record of a seat comes to; what its lines asked goes behind where it is one.
+fn read_lines(
+    alloc: Global,
+    lab: &Lab,
+    events: &[Event],
+    seat: u8,
+    text: &[u8],
+    granted: &mut Vec<u64>,
+    asks: &mut Vec<Ask>,
+) -> Result<Findings, Fault>
+    requires { is_legal_in lab.now events.now ≡ true }
+{
+    match read_record(alloc, lab, events, seat, text, granted)? {
+        Verdict::Passed(found) => {
+            read_asks(alloc, lab, events, seat, text, asks)?;
+            Ok(found)
+        }
+        Verdict::Refused(bad) => Err(Fault::Record(RecordRefusal::of(seat, bad))),
+    }
+}
+
+/// Writes the tally of the events that led to the board, with what a record comes to and what its lines asked.
+pub fn write_recorded<W: Write>(
+    alloc: Global,
+    lab: &Lab,
+    board: &Board,
+    events: &[Event],
+    kept: &Kept,
+    asks: &[Ask],
+    writer: &mut W,
+) -> Result<(), ProgramFault>
+    ensures { OnOk result (Appends (W.contents writer.old) (W.contents writer.new)
+        (recorded_text lab.now board.now events.now kept.now asks.now)) }
+{
+    let mut text = Vec::new(alloc);
+    match put_recorded_tally(&mut text, alloc, lab, board, events, kept, asks) {
+        Ok(()) => write_text(&text, writer),
+        Err(_) => Err(ProgramFault::Memory),
+    }
+}
