@@ -19,11 +19,10 @@ from tests.model import Lab, read_lab
 from tests.model.record import Recording, verify
 from tests.random.files import said
 from tests.random.labs import drawn_lab
-from tests.random.scripts import Drawing
 from tests.record.classes import hosted
+from tests.record.drawn import drawn_run
 
 SEEDS = range(1, 201)
-LINES = 60
 HURTS = 6
 BYTES = b" 03-eA\n\xff>.!<"
 # What the seats say one after the other in the short run, of which most is refused.
@@ -181,24 +180,6 @@ def at_each_byte(files: Files, lab: Lab) -> int:
             count += 1
         texts[seat] = whole
     return count
-
-
-def drawn_run(rng: Random, lab: Lab) -> Recording:
-    """A run of several seats, some of which are left and taken again."""
-    run = Recording(lab)
-    drawing = Drawing(rng, lab)
-    drawing.model = run.model
-    seats = rng.sample(range(1, lab.sessions + 1), min(lab.sessions, 4))
-    for _ in range(LINES):
-        seat = rng.choice(seats)
-        if rng.random() < 0.03:
-            run.leave(seat)
-        asked = drawing.drawn(seat)
-        if b"\n" not in asked:
-            run.answer(seat, asked)
-    for seat in seats:
-        run.leave(seat)
-    return run
 
 
 def hurt(rng: Random, run: Recording) -> dict[int, bytes]:

@@ -1,9 +1,10 @@
-"""What `tally` prints of a journal: of journals written by hand, and of drawn ones beside a plain count.
+"""What `tally` prints of a journal, and of its record: of those written by hand, and of drawn ones beside a plain count.
 
     python3 -B -m tests.tally [JOURNALS]
 
 The drawn journals are those of the model over drawn labs and scripts; so many are drawn, or 300. Each is told by
-the program as the plain count tells it, and `./class mark` prints the same numbers.
+the program as the plain count tells it, and `./class mark` prints the same numbers. As many drawn runs are told with
+their records.
 """
 from __future__ import annotations
 
@@ -18,7 +19,7 @@ from tests.common.preload import LIMIT, TOP, fail, in_room
 from tests.model import audit, play, read_lab
 from tests.random.labs import drawn_lab
 from tests.random.scripts import drawn_script
-from tests.tally import plain
+from tests.tally import plain, recorded
 
 JOURNALS = 300
 LINES = 80
@@ -118,7 +119,11 @@ def test(room: Path) -> str:
     some = sum(drawn(room, seed) for seed in range(1, count + 1))
     if 2 * some < count:
         fail(f"only {some} of {count} drawn journals have an event")
-    return f"{hands} journals by hand and {some} drawn ones are told as a plain count tells them"
+    hands += recorded.by_hand(room, LAB)
+    denied = sum(recorded.drawn(room, seed) for seed in range(1, count + 1))
+    if 2 * denied < count:
+        fail(f"only in {denied} of {count} drawn runs a student is denied something")
+    return f"{hands} runs by hand, {some} drawn ones and {count} with records are told as a plain count tells them"
 
 
 if __name__ == "__main__":

@@ -1,0 +1,26 @@
+"""Drawn runs of several seats, each with its record."""
+from random import Random
+
+from tests.model import Lab
+from tests.model.record import Recording
+from tests.random.scripts import Drawing
+
+LINES = 60
+
+
+def drawn_run(rng: Random, lab: Lab) -> Recording:
+    """A run of several seats, some of which are left and taken again."""
+    run = Recording(lab)
+    drawing = Drawing(rng, lab)
+    drawing.model = run.model
+    seats = rng.sample(range(1, lab.sessions + 1), min(lab.sessions, 4))
+    for _ in range(LINES):
+        seat = rng.choice(seats)
+        if rng.random() < 0.03:
+            run.leave(seat)
+        asked = drawing.drawn(seat)
+        if b"\n" not in asked:
+            run.answer(seat, asked)
+    for seat in seats:
+        run.leave(seat)
+    return run

@@ -1,0 +1,128 @@
+"""What `tally` prints of a run with a record: one by hand, and drawn ones beside a plain count."""
+from __future__ import annotations
+
+import subprocess
+from pathlib import Path
+from random import Random
+
+from tests.common.hosting import HOST
+from tests.common.preload import LIMIT, fail
+from tests.model import audit, read_lab
+from tests.model.record import Recording
+from tests.random.labs import drawn_lab
+from tests.record.drawn import drawn_run
+from tests.tally import plain
+from tests.tally.asked import asked
+
+# What is said in the seats one after the other, with the place of the clause that denies it in the comment.
+TALK = (
+    (1, b'{"do":"hello","key":"a-key","name":"ana"}'),
+    (1, b'{"do":"hello","key":"a-key","name":"ana"}'),  # greeted, 1
+    (1, b'{"do":"move","node":2,"rule":"update","at":0}'),  # guard, 4
+    (1, b'{"do":"move","node":2,"rule":"seduction","at":7}'),  # stale, 2
+    (1, b'{"do":"move","node":3,"rule":"seduction","at":0}'),  # not-owner, 1
+    (1, b'{"do":"move","node":2,"rule":"seduction","at":0}'),
+    (1, b'{"do":"move","node":2,"rule":"seduction","at":0}'),  # chosen, 3
+    (1, b"no request"),
+    (2, b'{"do":"see","node":1}'),  # not-greeted, by nobody
+    (2, b'{"do":"hello","key":"wrong","name":"ben"}'),  # unknown, by nobody
+    (2, b'{"do":"hello","key":"b-key","name":"ben"}'),
+    (2, b'{"do":"move","node":2,"rule":"marriage","with":1,"at":0}'),  # chosen, 3
+    (2, b'{"do":"move","node":99,"rule":"marriage","with":1,"at":0}'),  # not-owner, 1
+    (2, b'{"do":"close"}'),  # not-teacher, 1
+    (3, b'{"do":"hello","key":"chalk","name":"tess"}'),
+    (3, b'{"do":"close"}'),
+    (3, b'{"do":"close"}'),  # empty, by the teacher
+    (3, b"no request"),
+    *((seat, b'{"do":"bye"}') for seat in (1, 2, 3)),
+)
+TOLD = """denied ana 2 1 1 1 1
+denied ben 2 0 1 0 0
+asked 2 ana 1 0 3 0 ben 0 1 0 0
+record 3 21 whole
+"""
+
+
+class Files:
+    """A lab, a journal and a record in a folder."""
+
+    def __init__(self, room: Path, lab: str, run: Recording) -> None:
+        self.lab, self.journal, self.folder = room / "recorded.toml", room / "recorded.journal", room / "record"
+        self.folder.mkdir(exist_ok=True)
+        for old in self.folder.iterdir():
+            old.unlink()
+        self.lab.write_text(lab, encoding="ascii")
+        self.journal.write_bytes(run.journal)
+        (self.folder / "begun").write_text("0\n", encoding="ascii")
+        for seat, text in run.texts.items():
+            (self.folder / f"{seat}.record").write_bytes(text)
+
+    def told(self) -> tuple[int, str, str]:
+        """How the word ends over them."""
+        call: list[str | Path] = [HOST, "tally", self.lab, self.journal, self.folder]
+        done = subprocess.run(call, stdin=subprocess.DEVNULL, capture_output=True, timeout=LIMIT, check=False)
+        return done.returncode, done.stdout.decode(), done.stderr.decode()
+
+
+def with_record(tally: str, told: str) -> str:
+    """The tally with what is told of the record in its place."""
+    front, bounds, end = tally.partition("bounds ")
+    return front + told + bounds + end
+
+
+def by_hand(room: Path, document: str) -> int:
+    """The run by hand, also where memory was refused, cut, and hurt; how many these are."""
+    lab = read_lab(document.encode())
+    run = Recording(lab)
+    for seat, line in TALK:
+        run.answer(seat, line)
+    bare = plain.tally(lab, run.journal.decode(), stable=False)
+    files = Files(room, document, run)
+    wanted = with_record(bare, TOLD)
+    if asked(lab, run.texts) != TOLD or files.told() != (0, wanted, ""):
+        fail(f"another tally of the run with a record: {files.told()}")
+    first = files.folder / "1.record"
+    text = first.read_bytes()
+    changed = (
+        # It is the line that is no request, whatever it was answered.
+        ("memory", text.replace(b'{"refuse":"malformed"}', b'{"refuse":"memory"}'), (0, wanted, "")),
+        # What was refused so changed nothing, so ana isn't known, and her next hello is granted.
+        ("an unheard hello", text.replace(b'{"ok":"hello","who":"ana"}', b'{"refuse":"memory"}').replace(
+            b'{"clause":1,"deny":"greeted","text":"this connection has a name already"}', b'{"ok":"hello","who":"ana"}'),
+         (0, wanted.replace("denied ana 2 ", "denied ana 1 "), "")),
+        ("a cut", text + b"1 2 !\n1 2 .\n", (0, wanted.replace("record 3 21 whole", "record 4 21 cut"), "")),
+        ("another clause", text.replace(b'"clause":4', b'"clause":3'), (3, "", "verify: seat 1, line 5: not the reply of the rules at place 0\n")),
+    )
+    for name, hurt, end in changed:
+        if hurt == text:
+            fail(f"{name}: nothing is changed")
+        first.write_bytes(hurt)
+        if files.told() != end:
+            fail(f"{name}: {files.told()}")
+    first.unlink()
+    if files.told() != (4, "", "read fault: record\n"):
+        fail(f"a seat without a file: {files.told()}")
+    first.write_bytes(text)
+    files.journal.write_bytes(run.journal[:-1])
+    if files.told()[::2] != (3, "audit: line 2: torn\n"):
+        fail(f"a torn journal: {files.told()}")
+    return len(changed) + 3
+
+
+def drawn(room: Path, seed: int) -> bool:
+    """A drawn run; whether a student was denied something."""
+    rng = Random(seed)
+    document = drawn_lab(rng)
+    lab = read_lab(document.encode("ascii"))
+    run = drawn_run(rng, lab)
+    if rng.random() < 0.2:
+        run.cut(1)
+        run.leave(1)
+    told = asked(lab, run.texts)
+    files = Files(room, document, run)
+    status, text, error = files.told()
+    stable = not audit(lab, run.journal).endswith("not stable")
+    wanted = with_record(plain.tally(lab, run.journal.decode(), stable), told)
+    if (status, text, error) != (0, wanted, ""):
+        fail(f"seed {seed}, with a record: {(status, text, error)}, not {wanted!r}")
+    return any(line.startswith("denied ") and not line.endswith(" 0 0 0 0 0") for line in told.splitlines())
