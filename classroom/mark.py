@@ -18,7 +18,8 @@ from classroom.journal import RULES, events, split
 from classroom.printable import printable
 from classroom.program import Fault
 from classroom.statuses import WARNED
-from classroom.vouched import vouched
+from classroom.tally import DENIED, Asked
+from classroom.vouched import Vouched, vouched
 
 UNTOLD = (
     "Not in a journal: what was asked for and denied, which a record has; when a line was written, and who used a name.",
@@ -28,10 +29,15 @@ UNTOLD = (
 
 @dataclass(frozen=True)
 class Recorded:
-    """What is told of a run's record."""
+    """What is told of a run's record; of one that isn't refused what its lines asked."""
 
     line: str
-    is_refused: bool = False
+    asked: Asked | None = None
+
+    @property
+    def is_refused(self) -> bool:
+        """Whether there is one, which doesn't pass."""
+        return self.asked is None and self != NONE
 
 
 NONE = Recorded("no record: what was asked for and denied isn't known")
@@ -47,13 +53,30 @@ class Run:
     tally: tally.Tally
     records: list[Recorded]
 
+    @property
+    def asked(self) -> Asked | None:
+        """What all records of the run tell together; None where one is refused, or there is none."""
+        together = Asked()
+        for it in self.records:
+            if it.asked is None:
+                return None
+            together.add(it.asked)
+        return together
+
+    def denied(self, name: str) -> list[int | None]:
+        """How many lines of a student each clause denied, and how many were no request, where that is known."""
+        asked = self.asked
+        return [None if asked is None else asked.denied.get(name, Counter())[clause] for clause in DENIED]
+
     def table(self) -> dict[str, Any]:
         """The run as `--json` has it."""
+        asked = self.asked
         students = {
             name: {
                 "granted": {rule: marks.granted[rule] for rule in RULES},
                 "applied": {rule: marks.applied[rule] for rule in RULES},
                 "steps": marks.steps, "first": marks.first, "last": marks.last, "shared": marks.shared,
+                **dict(zip(DENIED, self.denied(name))),
             }
             for name, marks in self.tally.students.items()
         }
@@ -61,9 +84,14 @@ class Run:
             "journal": str(self.journal), "events": self.tally.events, "configuration": self.tally.configuration,
             "stable": self.tally.stable, "pairs": self.pairs, "closes": self.tally.closes, "faults": self.tally.faults,
             "links": self.tally.links, "cuts": self.tally.cuts, "students": students,
-            "shared": {str(node): {name: dict(granted) for name, granted in owners.items()} for node, owners in self.tally.shared.items()},
-            "records": [it.line for it in self.records],
+            "shared": by_node(self.tally.shared), "asked": None if asked is None else by_node(asked.moves),
+            "records": [it.line for it in self.records], "whole": asked is not None and asked.whole,
         }
+
+
+def by_node(shared: dict[int, dict[str, Counter[str]]]) -> dict[str, dict[str, dict[str, int]]]:
+    """The numbers of each owner at each node."""
+    return {str(node): {name: dict(moves) for name, moves in owners.items()} for node, owners in shared.items()}
 
 
 def marked(lab_file: Path, journal: Path) -> Run:
@@ -87,7 +115,12 @@ def recorded(journal: Path) -> list[Recorded]:
     if journal.name != "journal" or not record.kept(journal.parent):
         return [NONE]
     with vouched(journal.parent) as parts:
-        return [Recorded(f"{part.record.name}: {part.line}", part.status != 0) for part in parts]
+        return [Recorded(f"{part.record.name}: {part.line}", asked_in(part)) for part in parts]
+
+
+def asked_in(part: Vouched) -> Asked | None:
+    """What the lines of a record asked, if it passes."""
+    return tally.of(part.lab, part.journal, record=part.copy).asked if part.status == 0 else None
 
 
 def refusal(journal: Path, error: str) -> str:
@@ -101,11 +134,11 @@ def refusal(journal: Path, error: str) -> str:
 
 def rows(runs: list[Run]) -> list[list[str]]:
     """A line for each student and run, below a line of heads."""
-    table = [["journal", "student", "granted", "applied", *RULES, "steps", "first", "last", "shared"]]
+    table = [["journal", "student", "granted", "applied", *RULES, "steps", "first", "last", "shared", *DENIED]]
     for run in runs:
         for name, marks in run.tally.students.items():
             numbers = [marks.granted.total(), marks.applied.total(), *(marks.applied[rule] for rule in RULES), marks.steps,
-                       marks.first, marks.last, marks.shared]
+                       marks.first, marks.last, marks.shared, *run.denied(name)]
             table.append([str(run.journal), name, *("-" if number is None else str(number) for number in numbers)])
     return table
 
@@ -119,18 +152,22 @@ def sentence(run: Run) -> str:
             f"{told.cuts} cuts; pairs: {pairs}")
 
 
-def of_owner(name: str, granted: Counter[str]) -> str:
-    """What an owner was granted at a node."""
+def of_owner(name: str, granted: Counter[str], asked: Counter[str] | None) -> str:
+    """What an owner was granted at a node, and what it asked for there, where that is known."""
     rules = ", ".join(f"{number} {rule}" for rule, number in granted.items() if number)
-    return f"{name} {granted.total()} granted" + (f" ({rules})" if rules else "")
+    of_asked = "" if asked is None else f" of {asked.total()} asked for"
+    return f"{name} {granted.total()} granted{of_asked}" + (f" ({rules})" if rules else "")
 
 
 def shared(run: Run) -> list[str]:
-    """A line for each node of several owners at which moves were granted: whose they were."""
-    return [
-        f"node {node}: " + "; ".join(of_owner(name, granted) for name, granted in owners.items())
-        for node, owners in sorted(run.tally.shared.items()) if any(granted.total() for granted in owners.values())
-    ]
+    """A line for each node of several owners at which moves were granted or asked for: whose they were."""
+    asked = run.asked
+    lines = []
+    for node, owners in sorted(run.tally.shared.items()):
+        there = {name: None if asked is None else asked.moves.get(node, {}).get(name, Counter()) for name in owners}
+        if any(granted.total() for granted in owners.values()) or any(moves.total() for moves in there.values() if moves):
+            lines.append(f"node {node}: " + "; ".join(of_owner(name, granted, there[name]) for name, granted in owners.items()))
+    return lines
 
 
 def text(runs: list[Run]) -> str:
@@ -153,7 +190,7 @@ def mark(words: argparse.Namespace) -> int:
     """Prints the marks of all journals, or refuses the first that the audit refuses."""
     roster = lists.read(Path(words.roster), words) if words.roster else None
     runs = [marked(lab, journal) for lab, journal in folders.given(words.runs)]
-    students = [(run.lab, run.tally.students) for run in runs]
+    students = [(run.lab, run.tally.students, run.asked) for run in runs]
     refused = [f"{run.journal}: {it.line}" for run in runs for it in run.records if it.is_refused]
     for line in refused:
         print(printable(f"class: {line}"), file=sys.stderr)

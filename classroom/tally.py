@@ -30,6 +30,28 @@ class Bounds:
     events: int
 
 
+DENIED = ("clause1", "clause2", "clause3", "clause4", "malformed")
+
+
+@dataclass
+class Asked:
+    """What a record tells: how many of each student's lines each clause denied, and how many were no request; what each
+    owner of a shared node asked for there; and whether nothing is left out of it."""
+
+    denied: dict[str, Counter[str]] = field(default_factory=dict)
+    moves: dict[int, dict[str, Counter[str]]] = field(default_factory=dict)
+    whole: bool = True
+
+    def add(self, other: Asked) -> None:
+        """Adds those of the run's next record."""
+        for name, counts in other.denied.items():
+            self.denied.setdefault(name, Counter()).update(counts)
+        for node, owners in other.moves.items():
+            for name, counts in owners.items():
+                self.moves.setdefault(node, {}).setdefault(name, Counter()).update(counts)
+        self.whole = self.whole and other.whole
+
+
 @dataclass
 class Tally:
     """What a journal tells of its run."""
@@ -46,11 +68,13 @@ class Tally:
     bounds: Bounds = Bounds(0, 0, 0)
     students: dict[str, Marks] = field(default_factory=dict)
     shared: dict[int, dict[str, Counter[str]]] = field(default_factory=dict)
+    asked: Asked | None = None
 
 
-def of(lab: Path, journal: Path, files: tuple[int, ...] = ()) -> Tally:
-    """The tally of a journal that the audit passes; these are open files that the program has."""
-    answer = host_call("tally", lab, journal, files=files)
+def of(lab: Path, journal: Path, files: tuple[int, ...] = (), record: Path | None = None) -> Tally:
+    """The tally of a journal that the audit passes, and of its record where one is given; these are open files that the
+    program has."""
+    answer = host_call("tally", lab, journal, *([] if record is None else [record]), files=files)
     if answer.status != 0:
         raise Fault(answer.error, answer.status)
     return read(answer.output)
@@ -58,18 +82,29 @@ def of(lab: Path, journal: Path, files: tuple[int, ...] = ()) -> Tally:
 
 def read(text: str) -> Tally:
     """The tally that its lines tell."""
-    tally = Tally()
+    tally, asked = Tally(), Asked()
     for line in text.splitlines():
         word, *rest = line.split(" ")
         if word == "student":
             tally.students[rest[0]] = marks(rest[1:])
         elif word == "node":
-            tally.shared[int(rest[0])] = {rest[at]: by_rule(rest[at + 1 : at + 5]) for at in range(1, len(rest), 5)}
+            tally.shared[int(rest[0])] = by_owner(rest[1:])
+        elif word == "denied":
+            asked.denied[rest[0]] = Counter(dict(zip(DENIED, map(int, rest[1:]), strict=True)))
+        elif word == "asked":
+            asked.moves[int(rest[0])] = by_owner(rest[1:])
+        elif word == "record":
+            tally.asked, asked.whole = asked, rest[2] == "whole"
         elif word == "bounds":
             tally.bounds = Bounds(*map(int, rest))
         elif word == "run":
             take_run(tally, rest)
     return tally
+
+
+def by_owner(words: list[str]) -> dict[str, Counter[str]]:
+    """A name and four numbers, for each owner."""
+    return {words[at]: by_rule(words[at + 1 : at + 5]) for at in range(0, len(words), 5)}
 
 
 def marks(words: list[str]) -> Marks:

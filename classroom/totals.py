@@ -9,9 +9,9 @@ from dataclasses import dataclass, field
 from classroom.journal import RULES
 from classroom.lab import Lab
 from classroom.lists import People, Person
-from classroom.tally import Marks
+from classroom.tally import DENIED, Asked, Marks
 
-HEADS = ["granted", "applied", *RULES, "steps", "shared", "runs"]
+HEADS = ["granted", "applied", *RULES, "steps", "shared", "runs", *DENIED, "recorded"]
 
 
 @dataclass
@@ -23,35 +23,42 @@ class Total:
     steps: int = 0
     shared: int = 0
     runs: int = 0
+    denied: Counter[str] = field(default_factory=Counter)
+    recorded: int = 0  # of how many runs a whole record tells what was denied
 
-    def add(self, marks: Marks) -> None:
+    def add(self, marks: Marks, denied: Counter[str], is_whole: bool) -> None:
         """Adds those of a run."""
         self.granted += marks.granted.total()
         self.applied += marks.applied
         self.steps += marks.steps
         self.shared += marks.shared
         self.runs += 1
+        self.denied += denied
+        self.recorded += is_whole
 
     def row(self) -> list[str]:
         """The numbers below HEADS."""
         rules = [self.applied[rule] for rule in RULES]
-        numbers = [self.granted, self.applied.total(), *rules, self.steps, self.shared, self.runs]
+        numbers = [self.granted, self.applied.total(), *rules, self.steps, self.shared, self.runs,
+                   *(self.denied[clause] for clause in DENIED), self.recorded]
         return list(map(str, numbers))
 
 
-Runs = list[tuple[Lab, dict[str, Marks]]]
+Runs = list[tuple[Lab, dict[str, Marks], Asked | None]]
 
 
 def summed(runs: Runs) -> dict[str, tuple[Person, Total]]:
     """The totals by whom the labs say who it is: by the identifier, or where there is none by the name in the lab."""
     found: dict[str, tuple[Person, Total]] = {}
-    for lab, students in runs:
+    for lab, students, asked in runs:
+        is_whole = asked is not None and asked.whole
         persons = lab.without_house().students
         for name, marks in students.items():
             if name not in persons:
                 continue
             person = lab.people.get(name, Person(name))
-            found.setdefault(f"id {person.id}" if person.id else f"name {name}", (person, Total()))[1].add(marks)
+            found.setdefault(f"id {person.id}" if person.id else f"name {name}", (person, Total()))[1].add(
+                marks, asked.denied.get(name, Counter()) if asked else Counter(), is_whole)
     return found
 
 
