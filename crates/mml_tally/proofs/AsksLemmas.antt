@@ -1,14 +1,14 @@
 -- Each line is of one student, or of others; and other names change nothing.
-use Rattle.std.proofs.Common.{◌≡◌, ℕ, ◌+◌, ◌<◌, Bool, true, false, cond, ◌&&◌, ◌||◌, eqb, List, [], ◌∷◌, map, Option, None, Some, is_some, is_none, option_map, ◌↔◌}
-use Rattle.std.proofs.Common.{inl, inr, refl, ap, ◌∙◌, sym, subst, arith}
+use Rattle.std.proofs.Common.{◌≡◌, ℕ, ◌+◌, Bool, true, false, cond, ◌&&◌, ◌||◌, eqb, List, [], ◌∷◌, map, Option, None, Some, is_some, is_none, option_map, ◌↔◌}
+use Rattle.std.proofs.Common.{inl, inr, refl, ap, ◌∙◌, sym, arith}
 use Rattle.std.specs.Prelude.{count_by}
-use Rattle.std.proofs.lemmas.Bool.{cases_eq, or_cases, eq-eqb, ne_eqb, eqb-true}
+use Rattle.std.proofs.lemmas.Bool.{cases_eq, or_cases, ne_eqb, eqb-true}
 use Rattle.std.proofs.lemmas.List.Sums.{sum_by-cons}
 use Rattle.mml_convergence.specs.Potential.{sum_below}
 use Rattle.mml_convergence.proofs.SumsLemmas.{sum_split, sum_of_tests}
 use Rattle.mml_tally.specs.declared.ask.Ask.{Ask}
 use Rattle.mml_tally.specs.declared.ask.Line.{Line}
-use Rattle.mml_tally.specs.Asks.{is_student, asks_by, is_clause, is_malformed, denials_in, denials_of}
+use Rattle.mml_tally.specs.Asks.{is_student, asks_by, is_clause, denials_in, denials_of}
 use Rattle.mml_tally.specs.AskMeaning.{asks_of_others, is_denied, total_denied, is_numbered, IsKnownOf, AreAsksOf, asked_under}
 use Rattle.mml_tally.proofs.CountsLemmas.{one}
 use Rattle.mml_tally.proofs.AppliedLemmas.{only_one}

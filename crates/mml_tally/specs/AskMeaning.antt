@@ -1,5 +1,5 @@
 -- What was asked and denied, told as facts.
-use Rattle.std.specs.Prelude.{ℕ, ◌+◌, ◌<◌, ◌≡◌, ◌==◌, ◌||◌, Bool, true, false, List, [], ◌∷◌, Option, None, Some, is_some, is_none, option_map}
+use Rattle.std.specs.Prelude.{ℕ, ◌+◌, ◌<◌, ◌≡◌, ◌==◌, ◌||◌, Bool, true, List, [], ◌∷◌, Option, None, Some, is_some, is_none, option_map}
 use Rattle.std.specs.List.{filter}
 use Rattle.mml_tally.specs.declared.ask.Ask.{Ask}
 use Rattle.mml_tally.specs.declared.ask.Denials.{Denials}

@@ -1,4 +1,4 @@
-ghost use Rattle.std.specs.Prelude.{◌≡◌, ◌<◌, ◌++◌, All, List, length, OnOk};
+ghost use Rattle.std.specs.Prelude.{◌≡◌, ◌<◌, ◌++◌, All, length, OnOk};
 ghost use Rattle.mml_tally.specs.RecordTexts.{denied_line, denied_text, askers_text, asked_line, asked_text, whole_text, record_line, record_text, recorded_text};
 
 use crate::ask::{Ask, Denials, asked_of, denials_of};

@@ -1,4 +1,4 @@
-use Rattle.std.proofs.Common.{◌<◌, ◌^◌, ◌≡◌, ◌++◌, length, refl, sym, arith, rules}
+use Rattle.std.proofs.Common.{◌<◌, ◌^◌, ◌≡◌, length, refl, sym, arith, rules}
 use Rattle.mml_record.specs.inside.RawEntries.{entry_view}
 use Rattle.mml_record.proofs.AskReadingLemmas.{shorter, read_on, read_all, none_unread, record_tidy}
 use Rattle.mml_record.proofs.asks.read_asks.Goals as goal
