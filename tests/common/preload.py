@@ -11,7 +11,7 @@ import struct
 import subprocess
 import sys
 import tempfile
-from collections.abc import Callable, Mapping
+from collections.abc import Callable, Mapping, Sequence
 from dataclasses import dataclass
 from pathlib import Path
 from typing import NoReturn, Optional
@@ -158,13 +158,13 @@ def free_port() -> int:
 
 
 class Server:
-    """The program as it serves a lab, under a library or not."""
+    """The program as it serves a lab, under a library or not. `before` is what calls it."""
 
-    def __init__(self, words: Callable[[int], list[str]], variables: Mapping[str, str]) -> None:
+    def __init__(self, words: Callable[[int], list[str]], variables: Mapping[str, str], before: Sequence[str] = ()) -> None:
         for _ in range(20):
             self.port = free_port()
             self.process = subprocess.Popen(
-                [PROGRAM, *words(self.port)],
+                [*before, PROGRAM, *words(self.port)],
                 stdin=subprocess.DEVNULL,
                 stdout=subprocess.PIPE,
                 stderr=subprocess.PIPE,

@@ -15,7 +15,7 @@ from pathlib import Path
 from tests.common.hosting import (
     BID, BUSY, BYE, HOST, LONG, NODES, OVER, UNKNOWN, Caller, Host, audit, hello, lab_of, let_in, look
 )
-from tests.common.preload import LIMIT, TOP, Ended, Preloaded, fail
+from tests.common.preload import LIMIT, PROGRAM, TOP, Ended, Preloaded, Server, fail
 from tests.common.side_by_side import Test, try_all
 
 NONE = Ended(0, b"done: 0 events, configuration 0\n", b"")
@@ -245,6 +245,50 @@ def silent_ones(room: Path) -> None:
             each.close()
 
 
+def a_third(room: Path) -> None:
+    """Those who haven't greeted have a third of the places, and one at the desk: the first of them leaves for the next."""
+    lab = lab_of(room, 16)
+    with Host(lab, 0, 0) as host:
+        for port, share in ((host.port, 5), (host.desk, 1)):
+            strangers = [Caller(port) for _ in range(share)]
+            if any(caller.ask(b"{}\n") != MALFORMED for caller in strangers):
+                fail("outsiders: who hasn't greeted isn't answered")
+            for turn in range(3):
+                strangers.append(Caller(port))
+                said = strangers[-1].ask(b"{}\n"), strangers[turn].line(), strangers[turn].line()
+                if said != (MALFORMED, BUSY, b""):
+                    fail(f"outsiders: {share + 1} who haven't greeted are told {said}")
+            if any(caller.ask(b"{}\n") != MALFORMED for caller in strangers[3:]):
+                fail("outsiders: another than the first who hasn't greeted leaves")
+            for caller in strangers:
+                caller.close()
+        ends(host, let_in(host.desk, hello("tess"))[0])
+
+
+def told_busy(port: int, count: int) -> float:
+    """How many seconds pass until so many who come at once to a full port are all told `busy`."""
+    begun = time.monotonic()
+    callers = [Caller(port) for _ in range(count)]
+    for caller in callers:
+        caller.send(hello("cyd"))
+    if any((caller.line(), caller.line()) != (BUSY, b"") for caller in callers):
+        fail("outsiders: who comes to a full port isn't told so")
+    return time.monotonic() - begun
+
+
+def nobody_behind(room: Path) -> None:
+    """Twelve who come at once to a full port wait for a place together, and not one after the other."""
+    lab = lab_of(room, 3)
+    with Host(lab, 0, 0) as host:
+        held = [let_in(host.port, hello(name))[0] for name in ("ana", "ben")]
+        one, twelve = told_busy(host.port, 1), told_busy(host.port, 12)
+        if one < 0.4 or twelve > 6 * one:
+            fail(f"outsiders: who comes to a full port waits {one} seconds, and twelve wait {twelve}")
+        if any(b'"ok":"look"' not in caller.ask(look(name)) for name, caller in zip(("ana", "ben"), held)):
+            fail("outsiders: a newcomer to a full port takes a place")
+        ends(host, let_in(host.desk, hello("tess"))[0])
+
+
 def guesses(room: Path) -> None:
     """Fifteen who guess keys have less than a hundred denials a second in all, honest hellos are told at once, and
     the teacher's program is told."""
@@ -381,10 +425,60 @@ def limits_of_files(room: Path) -> None:
             ended = host.dismissed(teacher)
             if ended != Ended(4, b"", b"journal fault\n"):
                 fail(f"outsiders: a host whose journal can't grow ends with {ended}")
+    # What looks at no limit is ended by the signal, unless `./mml` ignores it.
+    script, turn = room / "script", b'1 {"do":"fault","m":false,"node":1,"p":null}\n'
+    script.write_bytes(b"1 " + hello("tess") + turn * 100)
+    words = ["bash", "-c", f'ulimit -f 1 && exec "$@"', "bash", str(TOP / "mml"), "script", str(lab), str(script), str(room / "script.journal")]
+    done = subprocess.run(words, stdin=subprocess.DEVNULL, capture_output=True, timeout=LIMIT, check=False)
+    if (done.returncode, done.stderr) != (4, b"journal fault\n") or not done.stdout.endswith(b'1 {"refuse":"journal"}\n'):
+        fail(f"outsiders: a script whose journal can't grow ends with {done.returncode}, {done.stderr!r}")
+
+
+def limited(kilobytes: int) -> list[str]:
+    """What calls a program so that each stack may have so many kilobytes, and all together 64 MB of addresses."""
+    return ["bash", "-c", f'ulimit -s {kilobytes} && ulimit -v 65536 && exec "$@"', "bash"]
+
+
+def deepest(port: int, count: int) -> None:
+    """So many connections at once are answered the lines that are nested as deep as may be, and deeper ones are refused."""
+    arrays, objects = b"[" * 126 + b"]" * 126, b'{"a":' * 126 + b"0" + b"}" * 126
+    deep = [look("ana").replace(b"}", b',"x":%s}' % nest) for nest in (arrays, objects, arrays.replace(b"[]", b"[[]]"), b"[" * 4000)]
+    callers = [Caller(port) for _ in range(count)]
+    for caller in callers:
+        caller.send(hello("ana") + b"".join(deep) + BYE)
+    for caller in callers:
+        said = [caller.line() for _ in range(6)]
+        if [b'"ok":"look"' in line for line in said] != [False, True, True, False, False, False]:
+            fail(f"outsiders: nested lines over small stacks are told {said}")
+        if said[3:] != [MALFORMED, MALFORMED, BID]:
+            fail(f"outsiders: lines that are nested too deep are told {said}")
+
+
+def small_stacks(room: Path) -> None:
+    """Stacks of 256 kB are enough for the deepest line, and then little address space is; where they may be smaller
+    no program begins."""
+    lab = lab_of(room, 16)
+    with Host(lab, 0, 0, before=limited(256)) as host:
+        teacher = let_in(host.desk, hello("tess"))[0]
+        deepest(host.port, 15)
+        ends(host, teacher)
+    server = Server(lambda port: ["serve", str(lab), str(port), "16"], {}, limited(256))
+    if not server.listens:
+        fail(f"outsiders: over small stacks a server ends with {server.end()}")
+    deepest(server.port, 16)
+    if server.end() != NONE:
+        fail(f"outsiders: over small stacks a server ends with {server.end()}")
+    script = room / "script"
+    script.write_bytes(b"1 " + BYE)
+    for program, words in ((HOST, ["host", lab, "0", "0"]), (PROGRAM, ["script", lab, script])):
+        done = subprocess.run([*limited(255), program, *words], stdin=subprocess.DEVNULL, capture_output=True, timeout=LIMIT, check=False)
+        if (done.returncode, done.stdout, done.stderr) != (5, b"", b"out of memory\n"):
+            fail(f"outsiders: over stacks that are too small a program ends with {done}")
 
 
 TESTS: list[Test] = [
-    never_reads, silent_ones, guesses, refused_threads, comes_again, one_of_many, journals, limits_of_files, few,
+    never_reads, silent_ones, guesses, refused_threads, comes_again, one_of_many, a_third, nobody_behind, journals,
+    limits_of_files, few, small_stacks,
     three_hellos, a_web_form, words_at_the_end, asks_after_the_bye,
 ]
 

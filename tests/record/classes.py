@@ -1,4 +1,5 @@
 """Classes that a host records, as their user runs it: what their files hold, after a kill too, and where a put fails."""
+import resource
 import subprocess
 from pathlib import Path
 
@@ -117,21 +118,34 @@ def killed_and_resumed(room: Path) -> None:
 
 
 def full_disk(room: Path) -> None:
-    """Where a seat's file takes no more the class goes on, and the host says so at its end."""
-    lab, journal, record = lab_of(room, SEATS), room / "full.journal", room / "full"
-    limited = ["bash", "-c", 'trap "" XFSZ && ulimit -f 1 && exec "$@"', "bash"]
-    with Host(lab, 0, 0, journal, record, before=limited) as host:
-        ana, tess = begin(host)
-        for _ in range(20):
-            if b'"chosen"' not in ana.ask(MOVE):
-                fail("record: a student isn't answered where a disk is full")
-        tess.ask(CLOSE)
-        reply = ana.ask(OTHER)
-        if b'"deny"' not in reply or ana.ask(BYE) != BID:
-            fail(f"record: after a disk is full a student is answered {reply!r}")
-        ended = host.dismissed(tess)
+    """Where a seat's file takes no more the class goes on, and the host says so at its end: where the limit was there
+    before, though nobody ignores the signal of it, and where it comes later, as a disk that is full in an entry."""
+    lab = lab_of(room, SEATS)
+    for name, start in (("before", "ulimit -f 1"), ("later", 'trap "" XFSZ')):
+        journal, record = room / f"{name}.journal", room / f"full {name}"
+        with Host(lab, 0, 0, journal, record, before=["bash", "-c", f'{start} && exec "$@"', "bash"]) as host:
+            resource.prlimit(host.process.pid, resource.RLIMIT_FSIZE, (1024, 1024))
+            fills(host, name)
+        cut(lab, journal, record)
+
+
+def fills(host: Host, name: str) -> None:
+    """A class whose record is cut, to its end."""
+    ana, tess = begin(host)
+    for _ in range(20):
+        if b'"chosen"' not in ana.ask(MOVE):
+            fail(f"record: a student isn't answered where a disk is full, {name}")
+    tess.ask(CLOSE)
+    reply = ana.ask(OTHER)
+    if b'"deny"' not in reply or ana.ask(BYE) != BID:
+        fail(f"record: after a disk is full, {name}, a student is answered {reply!r}")
+    ended = host.dismissed(tess)
     if ended != Ended(4, b"done: 2 events, configuration 1\n", b"record fault\n"):
-        fail(f"record: where a record is cut the host ends with {ended}")
+        fail(f"record: where a record is cut, {name}, the host ends with {ended}")
+
+
+def cut(lab: Path, journal: Path, record: Path) -> None:
+    """Wants a record that says where it is cut."""
     text = texts(record)[f"{STUDENT}.record"]
     entries = text.splitlines(keepends=True)
     if len(text) > 1024 or b"".join(entries[:8]) != b"".join(ANA.splitlines(True)[:8]) or entries[-1] != b"%d 1 !\n" % STUDENT:

@@ -3,11 +3,13 @@
 
 mod journal_file_fault;
 mod lab_copy;
+mod limits;
 mod old_journal;
 mod open_journal;
 mod paths;
 mod pipe;
 
 pub use journal_file_fault::JournalFileFault;
+pub use limits::{file_size_limit, has_small_stacks};
 pub use old_journal::OldJournal;
 pub use open_journal::{BegunJournal, LabFile, OpenJournal};

@@ -2,6 +2,7 @@
 #![tactic(auto)]
 
 use mml_ends::hold_streams;
+use mml_files::has_small_stacks;
 use mml_host_program::is_of_class;
 use mml_program::{Fault, memory_or, words_of};
 use std::fmt::Display;
@@ -27,9 +28,13 @@ fn main(rt: HostRuntime) -> ExitCode {
     }
 }
 
-// The words. Before all else each standard stream that is closed is held, so that no file takes its place.
+// The words. Before all else each standard stream that is closed is held, so that no file takes its place. Over
+// stacks that are too small nothing is begun.
 fn begin<R: Env + Files<File = File> + AllocGlobal>(rt: &R) -> Result<Vec<String>, Fault> {
     hold_streams(rt).map_err(|error| memory_or(&error, Fault::Write))?;
+    if has_small_stacks() {
+        return Err(Fault::Memory);
+    }
     words_of(rt)
 }
 

@@ -8,7 +8,7 @@ use crate::files::{begin_journal_with, read_file, read_journal};
 use crate::script_answering::{answer_script, write_audit, write_size};
 use crate::words::{ScriptTask, ServeTask, Task, read_words};
 use mml_ends::{Retrying, hold_streams};
-use mml_files::OpenJournal;
+use mml_files::{OpenJournal, has_small_stacks};
 use mml_hall::Hall;
 use mml_journal::{NullSink, Sink};
 use mml_lab::{Lab, read_lab};
@@ -39,6 +39,9 @@ pub fn run<
         + AllocGlobal,
 >(rt: &R) -> Result<(), Fault> {
     hold_streams(rt).map_err(|error| memory_or(&error, Fault::Write))?;
+    if has_small_stacks() {
+        return Err(Fault::Memory);
+    }
     let words = words_of(rt)?;
     do_task(rt, read_words(rt.alloc(), words.as_slice())?)
 }

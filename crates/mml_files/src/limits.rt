@@ -1,0 +1,33 @@
+//! What the system lets the program have.
+use libc::getrlimit;
+use libc::types::rlimit;
+
+// What the system is asked for: how large a file may be, and a stack.
+const FILE_SIZE: i32 = 1;
+
+const STACK: i32 = 3;
+
+// How many bytes of stack a program needs: twice what the deepest request takes.
+const NEEDED: u64 = 256 << 10;
+
+/// How large a file may become. Where that isn't known, it may be of any size.
+pub fn file_size_limit() -> u64 {
+    limit_of(FILE_SIZE)
+}
+
+/// Whether stacks may be too small for the deepest request: there a program would end without a word.
+pub fn has_small_stacks() -> bool {
+    limit_of(STACK) < NEEDED
+}
+
+fn limit_of(what: i32) -> u64 {
+    let mut limit = rlimit {
+        rlim_cur: u64::MAX,
+        rlim_max: u64::MAX,
+    };
+    if getrlimit(what, &mut limit) == 0 {
+        limit.rlim_cur
+    } else {
+        u64::MAX
+    }
+}
