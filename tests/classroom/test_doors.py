@@ -4,10 +4,12 @@ from __future__ import annotations
 import http.client
 import queue
 import random
+import select
 import socket
 import threading
 import time
 import unittest
+from unittest import mock
 
 from classroom.by_hand import open_hands
 from classroom.frames import State
@@ -53,18 +55,24 @@ class Doors(unittest.TestCase):
 
     def test_idle_connections_use_up_no_threads(self) -> None:
         self.assertEqual(self.asks(), 404)
+        with mock.patch("classroom.web.ASKING", 10 * LIMIT):
+            idle = [self.connect() for _ in range(2 * CONNECTIONS)]
+            begun = time.monotonic()
+            while len(select.select(idle, [], [], 0.1)[0]) < CONNECTIONS:
+                self.assertLess(time.monotonic() - begun, LIMIT, "nobody is hung up on")
+            self.assertLessEqual(threading.active_count(), self.threads + CONNECTIONS + 1)
+        for it in idle:
+            it.close()
         begun = time.monotonic()
-        idle = [self.connect() for _ in range(5 * CONNECTIONS)]
-        most = 0
         while (status := self.asks()) == 0:
-            most = max(most, threading.active_count())
             self.assertLess(time.monotonic() - begun, LIMIT)
             time.sleep(0.05)
         self.assertEqual(status, 404)
-        self.assertLessEqual(most, self.threads + CONNECTIONS + 1)
+
+    def test_who_is_silent_has_five_seconds(self) -> None:
+        begun, it = time.monotonic(), self.connect()
+        self.assertEqual(it.recv(1), b"")
         self.assertGreater(time.monotonic() - begun, ASKING / 2)
-        for it in idle:
-            self.assertEqual(it.recv(1), b"")
 
     def test_a_request_in_pieces_has_five_seconds(self) -> None:
         begun, it = time.monotonic(), self.connect()
