@@ -107,6 +107,7 @@ class Reader:
             other = bool(granted) and reply == told and not is_next
             return f"not the journal's event at place {place + 1}" if other else f"not the reply of the rules at place {place}"
         self.granted += [place + 1] * len(granted)
+        self.least = place + len(granted)
         self.known = model.names.get(self.seat)
         self.over = told == b'{"ok":"bye"}'
         return None
