@@ -7,11 +7,14 @@ and the records of drawn runs of many clients: as they came, hurt, cut, and besi
 host records classes, one of which is killed, and one meets a full disk. With a number, only that seed's run
 is verified, and its files are left in the working folder.
 """
+import os
+import re
 import subprocess
 import sys
 from collections import Counter
 from pathlib import Path
 from random import Random
+from time import sleep
 
 from tests.common.hosting import HOST, lab_of
 from tests.common.preload import LIMIT, Ended, fail, in_room
@@ -100,6 +103,7 @@ def by_hand(files: Files, lab: Lab) -> int:
         ("torn in a reply", {1: one, 2: two[: two.index(b'{"ok":"bye"}') + 5]}, "seat 2, line 11: torn"),
         ("not an entry", {1: one, 2: b"2 0 ?\n" + two}, "seat 2, line 1: not an entry"),
         ("goes back", {1: one + b"1 1 .\n", 2: two}, "seat 1, line 8: goes back"),
+        ("goes back behind a grant", {1: replaced(one, b"1 2 .\n", b"1 1 .\n"), 2: two}, "seat 1, line 7: goes back"),
         ("past the end", {1: one + b"1 3 .\n", 2: two}, "seat 1, line 8: past the journal's end"),
         ("after a bye", {1: one, 2: replaced(two, b'2 1 .\n', b'2 1 > x\n2 1 < {"refuse":"malformed"}\n')},
          "seat 2, line 13: not the session's end"),
@@ -163,6 +167,48 @@ def other_files(files: Files, lab: Lab) -> None:
         file.write_bytes(content)
     if files.ended(files.lab, files.journal) != Ended(1, b"", b"command line: not understood\n"):
         fail("words are understood that name no record")
+
+
+def most_held(files: Files, lab: Lab) -> int:
+    """The most kB of memory that the program had where it comes to the last seat, whose file is a pipe."""
+    pipe = files.folder / f"{lab.sessions}.record"
+    pipe.unlink()
+    os.mkfifo(pipe)
+    call: list[str | Path] = [HOST, "verify", files.lab, files.journal, files.folder]
+    with subprocess.Popen(call, stdin=subprocess.DEVNULL, stdout=subprocess.DEVNULL, stderr=subprocess.DEVNULL, env=dict[str, str]()) as process:
+        writer = -1
+        while writer < 0 and process.poll() is None:
+            try:
+                writer = os.open(pipe, os.O_WRONLY | os.O_NONBLOCK)
+            except OSError:
+                sleep(0.02)
+        status = Path(f"/proc/{process.pid}/status").read_text(encoding="ascii")
+        if writer >= 0:
+            os.close(writer)
+    pipe.unlink()
+    pipe.write_bytes(b"")
+    found = re.search(r"VmHWM:\s+(\d+) kB", status)
+    if process.returncode or found is None:
+        fail(f"the program ends with {process.returncode} before the last seat's pipe is read")
+    return int(found[1])
+
+
+def by_pieces(files: Files, lab: Lab) -> None:
+    """A record of 5 MB, whole, torn at its end and changed in its middle; it needs less memory than its text has."""
+    run = short_run(lab)
+    entries = [b'1 2 > %s\n1 2 < {"refuse":"malformed"}\n' % (b"x" * (at % 3000)) for at in range(4000)]
+    last, middle = run.texts[1].count(b"\n"), 2500
+    long = {**run.texts, 1: run.texts[1] + b"".join(entries) + b"1 2 .\n"}
+    other = entries[middle].replace(b"malformed", b"full")
+    changed = {**long, 1: run.texts[1] + b"".join([*entries[:middle], other, *entries[middle + 1 :]])}
+    told = f"ok: {run.sessions + 1} sessions, {run.lines + len(entries)} lines, 2 events"
+    files.wants("in pieces", run.journal, {**long, 1: long[1][:-1]}, f"verify: seat 1, line {last + 8001}: torn")
+    files.wants("changed in a piece", run.journal, changed, f"verify: seat 1, line {last + 2 * middle + 1}: not the reply of the rules at place 2")
+    files.verified(run.journal, run.texts)
+    short = most_held(files, lab)
+    files.wants("long", run.journal, long, told)
+    if most_held(files, lab) > short + 4096:
+        fail("a record of 5 MB needs 4 MB more than a short one")
 
 
 def at_each_byte(files: Files, lab: Lab) -> int:
@@ -246,6 +292,7 @@ def work(room: Path) -> str:
     files = Files(room, document)
     hand = by_hand(files, lab)
     other_files(files, lab)
+    by_pieces(files, lab)
     bytes_hurt = at_each_byte(files, lab)
     told = drawn(room)
     counts = f"{hand} records by hand, {bytes_hurt} with a byte hurt and {sum(told.values())} of drawn runs"

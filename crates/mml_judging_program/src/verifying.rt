@@ -16,7 +16,7 @@ use mml_ids::Piece;
 use mml_lab::Lab;
 use mml_lines::{WholeFault, read_whole};
 use mml_program::{Fault as ProgramFault, lab_of, memory_or, read_journal, write_pieces};
-use mml_record::{Findings, Verdict, read_record};
+use mml_record::{Findings, PieceFault, Verdict, read_record_from};
 use std::alloc::Global;
 use std::fs::File;
 use std::io::Write;
@@ -35,8 +35,7 @@ pub fn verify<R: Files<File = File> + Print + AllocGlobal>(
     task: VerifyTask<'_>,
 ) -> Result<(), Fault> {
     let lab = lab_of(rt, task.lab)?;
-    let text = read_journal(rt, task.journal)?;
-    let events = events_of(rt.alloc(), &lab, text.as_slice())?;
+    let events = read_events(rt, &lab, task.journal)?;
     let begun = read_begun(rt, task.record)?;
     let found = verify_seats(rt, &lab, events.as_slice(), begun, task.record)?;
     let mut writer = Retrying::new(io::writer(rt));
@@ -46,11 +45,16 @@ pub fn verify<R: Files<File = File> + Print + AllocGlobal>(
     }
 }
 
-// The events of the journal, which is one of the lab.
-fn events_of(alloc: Global, lab: &Lab, text: &[u8]) -> Result<Vec<Event>, ProgramFault>
+// The events of the journal, which is one of the lab. Its text isn't kept.
+fn read_events<R: Files<File = File> + AllocGlobal>(
+    rt: &R,
+    lab: &Lab,
+    path: &str,
+) -> Result<Vec<Event>, ProgramFault>
     ensures { IfOk result (λ events. is_legal_in lab.now events.items ≡ true) }
 {
-    let audited = audit_events(alloc, lab, text)?;
+    let text = read_journal(rt, path)?;
+    let audited = audit_events(rt.alloc(), lab, text.as_slice())?;
     Ok(audited.events)
 }
 
@@ -71,9 +75,7 @@ fn verify_seats<R: Files<File = File> + AllocGlobal>(
         whole: true,
     };
     for seat in 0..lab.sessions() {
-        let text = read_seat(rt, folder, seat + 1)?;
-        let alloc = rt.alloc();
-        match read_record(alloc, lab, events, seat + 1, text.as_slice(), &mut granted)? {
+        match verify_seat(rt, lab, events, seat + 1, folder, &mut granted)? {
             Verdict::Passed(found) => all = together(all, found),
             Verdict::Refused(bad) => return Err(Fault::Record(RecordRefusal::of(seat + 1, bad))),
         }
@@ -148,6 +150,26 @@ pub(crate) fn read_seat<R: Files<File = File> + AllocGlobal>(
     read_up_to(rt, path.as_str(), MAX_RECORD)
 }
 
+// What a seat's record is found to be, read by pieces.
+fn verify_seat<R: Files<File = File> + AllocGlobal>(
+    rt: &R,
+    lab: &Lab,
+    events: &[Event],
+    seat: u8,
+    folder: &str,
+    granted: &mut Vec<u64>,
+) -> Result<Verdict, Fault>
+    requires { is_legal_in lab.now events.now ≡ true }
+{
+    let path = record_path(rt.alloc(), folder, seat)?;
+    let mut file = open_part(rt, path.as_str())?;
+    match read_record_from(rt.alloc(), lab, events, seat, MAX_RECORD, &mut file, granted) {
+        Ok(verdict) => Ok(verdict),
+        Err(PieceFault::Memory) => Err(Fault::Common(ProgramFault::Memory)),
+        Err(PieceFault::Read | PieceFault::TooLong) => Err(Fault::ReadRecord),
+    }
+}
+
 fn record_path(alloc: Global, folder: &str, seat: u8) -> Result<String, ProgramFault> {
     Ok(format!(in alloc; "{folder}/{seat}.record")?)
 }
@@ -159,12 +181,18 @@ fn read_up_to<R: Files<File = File> + AllocGlobal>(
 ) -> Result<Vec<u8>, Fault>
     ensures { IfOk result (λ bytes. vec_len bytes ≤ limit) }
 {
+    let file = open_part(rt, path)?;
+    match read_whole(rt.alloc(), file, limit) {
+        Ok(bytes) => Ok(bytes),
+        Err(WholeFault::Memory) => Err(Fault::Common(ProgramFault::Memory)),
+        Err(WholeFault::Read | WholeFault::TooLong) => Err(Fault::ReadRecord),
+    }
+}
+
+// Opens a file of the record.
+fn open_part<R: Files<File = File> + AllocGlobal>(rt: &R, path: &str) -> Result<File, Fault> {
     match fs::open(rt, path) {
-        Ok(file) => match read_whole(rt.alloc(), file, limit) {
-            Ok(bytes) => Ok(bytes),
-            Err(WholeFault::Memory) => Err(Fault::Common(ProgramFault::Memory)),
-            Err(WholeFault::Read | WholeFault::TooLong) => Err(Fault::ReadRecord),
-        },
+        Ok(file) => Ok(file),
         Err(error) => match memory_or(&error, ProgramFault::ReadJournal) {
             ProgramFault::Memory => Err(Fault::Common(ProgramFault::Memory)),
             _ => Err(Fault::ReadRecord),
