@@ -24,12 +24,12 @@ use Rattle.mml_codec.specs.declared.reply.Reply.TheVariants as replies
 use Rattle.mml_codec.specs.Facts.{object_text}
 use Rattle.mml_codec.specs.Greetings.{greeting}
 use Rattle.mml_codec.specs.Lines.{request_in}
-use Rattle.mml_codec.specs.Replies.{text, reply_line}
+use Rattle.mml_codec.specs.Replies.{text, reply_line, place_in}
 use Rattle.mml_session.specs.Turns.{is_bye}
 use Rattle.mml_record.specs.declared.entries.Entry.{Entry}
 use Rattle.mml_record.specs.declared.entries.Entry.TheVariants as entry
 use Rattle.mml_record.specs.Reading.{cut}
-use Rattle.mml_record.specs.Certified.{FitsGreeting, FitsAsked, Fits, GoesOn}
+use Rattle.mml_record.specs.Certified.{seen_after, FitsGreeting, FitsAsked, Fits, GoesOn}
 use Rattle.mml_record.specs.Asks.{unended, clause_first, clause_second, clause_member, clause_told, memory_text, known_by, known_asked, known_after, line_of, student_of}
 use Rattle.mml_record.specs.Asks.{asks_from, clause_in, AreAskedOf}
 use Rattle.mml_record.proofs.ReadingLemmas.{avoids, cut_here}
@@ -201,7 +201,7 @@ asked_of_rules lab l known gone least (entry.Said p line out ∷ es) ps on =
       on.7,
       on.8,
       λ k. record { who = student_of known; line = line_of (request_in line); denied = clause k } ∷ asks_from lab.roster (behind k) es,
-      asked_of_rules lab l on.5 (is_bye r) p es on.6 on.10,
+      asked_of_rules lab l on.5 (is_bye r) (seen_after p (place_in r)) es on.6 on.10,
     )
 asked_of_rules lab l known gone least (entry.Left p ∷ es) ps on = asked_of_rules lab l None false p es ps on.2
 asked_of_rules lab l known gone least (entry.Cut p ∷ es) ps on = asked_of_rules lab l None true p es ps on.2
