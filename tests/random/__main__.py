@@ -3,9 +3,9 @@
     python3 -B -m tests.random [SEED]
 
 Replies and journal, what the audit says of that journal, and of it with a byte changed, are those of the
-model; so are a thousand events over large meshes, told after each; and runs under four daemons end in a
-maximal matching, within the bounds on moves and rounds. With a number, only that seed's run is played, and
-its files are left in the working folder.
+model; so are a thousand events over large meshes, told after each, and the tables of `mml_tests_model`; and runs
+under four daemons end in a maximal matching, within the bounds on moves and rounds. With a number, only that
+seed's run is played, and its files are left in the working folder.
 """
 import re
 import sys
@@ -16,7 +16,7 @@ from random import Random
 from tests.common.preload import TOP, fail, in_room
 from tests.model import Lab, audit, play, read_lab
 from tests.model.policy import DENIALS
-from tests.random import ends
+from tests.random import ends, tables
 from tests.random.files import Files, first_other, said
 from tests.random.labs import drawn_lab
 from tests.random.meshes import mesh, mesh_script
@@ -148,6 +148,7 @@ def replaced(room: Path) -> int:
 
 def work(room: Path) -> str:
     """All comparisons."""
+    tables.compare()
     scripts(room)
     meshes(room)
     audits = replaced(room)

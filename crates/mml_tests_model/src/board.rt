@@ -20,10 +20,6 @@ const HIGHER_POINTS: &str = lab!(
     [(5, "ana", "p = 3\n"), (3, "ana", "")]
 );
 
-fn opening(alloc: Global, lab: &Lab) -> Result<Board, Fail> {
-    Ok(Board::new(alloc, lab)?)
-}
-
 /// The first student's request for a move.
 fn grant(index: u64, rule: Rule) -> Option<Event> {
     let node = Rank::new(index)?;
@@ -134,7 +130,7 @@ fn first_line(alloc: Global, lab: &Lab, board: &Board) -> Result<Vec<u8>, Fail> 
 
 /// Whether a board and its copy are told so, what is shown of the first node, and the first line.
 fn are_told_at_first(alloc: Global, lab: &Lab) -> Result<(bool, bool), Fail> {
-    let board = opening(alloc, lab)?;
+    let board = Board::new(alloc, lab)?;
     let opened = are_opening(alloc, &board)?;
     let look = look_at_the_first(alloc, &board)?;
     let line = first_line(alloc, lab, &board)?;
@@ -246,7 +242,7 @@ fn follow(alloc: Global, board: &mut Board) -> Result<(bool, bool), Fail> {
 
 /// The same over a lab.
 fn follow_over(alloc: Global, lab: &Lab) -> Result<(bool, bool), Fail> {
-    let mut board = opening(alloc, lab)?;
+    let mut board = Board::new(alloc, lab)?;
     follow(alloc, &mut board)
 }
 

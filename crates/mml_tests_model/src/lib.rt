@@ -5,6 +5,8 @@
 #[cfg(test)]
 mod board;
 #[cfg(test)]
+mod drawn;
+#[cfg(test)]
 mod ids;
 #[cfg(test)]
 mod journal;

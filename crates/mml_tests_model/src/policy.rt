@@ -8,20 +8,6 @@ use mml_rules::Scene;
 use std::alloc::Global;
 use std::test::Fail;
 
-/// A lab, and its board at the beginning of a run.
-#[derive(Drop)]
-struct Opening {
-    lab: Lab,
-    board: Board,
-}
-
-/// That of a path of three.
-fn path_of_three(alloc: Global) -> Result<Opening, Fail> {
-    let lab = read_lab(alloc, PATH_OF_THREE.as_bytes())?;
-    let board = Board::new(alloc, &lab)?;
-    Ok(Opening { lab, board })
-}
-
 fn word_of(ruling: &Ruling) -> &'static str {
     match ruling {
         Ruling::Denied(_) => "denied",
@@ -68,10 +54,16 @@ fn rulings(alloc: Global, lab: &Lab, board: &Board, cases: &[Case]) -> Result<St
     Ok(text)
 }
 
+/// The same at the beginning of a run.
+fn first_rulings(alloc: Global, lab: &Lab, cases: &[Case]) -> Result<String, Fail> {
+    let board = Board::new(alloc, lab)?;
+    rulings(alloc, lab, &board, cases)
+}
+
 /// The same over a path of three.
 fn rulings_over_the_path(alloc: Global, cases: &[Case]) -> Result<String, Fail> {
-    let opening = path_of_three(alloc)?;
-    rulings(alloc, &opening.lab, &opening.board, cases)
+    let lab = read_lab(alloc, PATH_OF_THREE.as_bytes())?;
+    first_rulings(alloc, &lab, cases)
 }
 
 fn seduction(node: u64) -> Command {

@@ -9,10 +9,6 @@ use mml_lab::{Lab, read_lab};
 use std::alloc::{AllocError, Global};
 use std::test::Fail;
 
-fn path_of_three(alloc: Global) -> Result<Lab, Fail> {
-    Ok(read_lab(alloc, PATH_OF_THREE.as_bytes())?)
-}
-
 /// Takes one byte a put, and fails for good after so many.
 #[derive(Drop)]
 struct ByteSink {
@@ -98,18 +94,6 @@ fn lines_taken(alloc: Global, lab: &Lab) -> Result<(usize, bool, bool), Fail> {
     Ok((hold, none, all))
 }
 
-/// The same of the path of three.
-fn lines_of_the_path_taken(alloc: Global) -> Result<(usize, bool, bool), Fail> {
-    let lab = path_of_three(alloc)?;
-    lines_taken(alloc, &lab)
-}
-
-#[test]
-fn memory_sink_fails_at_each_put(rt: HostRuntime) -> Result<(), Fail> {
-    assert_eq!(rt; lines_of_the_path_taken(rt.alloc())?, (11, true, true));
-    Ok(())
-}
-
 /// Whether the sink has exactly that many bytes of the text, and the journal is then halted.
 fn takes_bytes(alloc: Global, lab: &Lab, text: &[u8], left: usize) -> Result<bool, Memory> {
     let sink = ByteSink {
@@ -134,13 +118,15 @@ fn takes_each_number_of_bytes(alloc: Global, lab: &Lab) -> Result<bool, Fail> {
     Ok(true)
 }
 
-fn takes_each_number_of_the_ten(alloc: Global) -> Result<bool, Fail> {
-    let lab = path_of_three(alloc)?;
-    takes_each_number_of_bytes(alloc, &lab)
+/// The lines and the bytes of the path of three that are taken.
+fn told(alloc: Global) -> Result<((usize, bool, bool), bool), Fail> {
+    let lab = read_lab(alloc, PATH_OF_THREE.as_bytes())?;
+    let lines = lines_taken(alloc, &lab)?;
+    Ok((lines, takes_each_number_of_bytes(alloc, &lab)?))
 }
 
 #[test]
-fn one_byte_a_put_and_a_failure_at_each(rt: HostRuntime) -> Result<(), Fail> {
-    assert!(rt; takes_each_number_of_the_ten(rt.alloc())?);
+fn sinks_fail_at_each_put_and_at_each_byte(rt: HostRuntime) -> Result<(), Fail> {
+    assert_eq!(rt; told(rt.alloc())?, ((11, true, true), true));
     Ok(())
 }

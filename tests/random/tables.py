@@ -1,0 +1,156 @@
+"""What the tables of `mml_tests_model` say, by the plain model.
+
+    python3 -B -m tests.random.tables      prints them, to be read before they are kept
+
+Its tests compare drawn events, and a journal's lines with each byte replaced, with these tables; here the tables
+are compared with the model.
+"""
+from __future__ import annotations
+
+import re
+import sys
+
+from tests.common.preload import TOP, fail
+from tests.model import Lab, read_lab
+from tests.model.events import grant
+from tests.model.journal import LINE, read_line
+from tests.model.policy import denial
+from tests.model.requests import GREATEST, Request
+from tests.model.world import Move, World
+
+TESTS = TOP / "crates/mml_tests_model/src"
+CYCLES = (64, 256)
+DRAWS = 5000
+EVENTS = 1000
+ROW = 80
+REPLACEMENTS = b" 03-eA\n\xff"
+PEOPLE = """events = 100
+sessions = 1
+teacher = { name = "tess", key = "chalk" }
+student = [{ name = "ana", key = "a-key" }, { name = "ben", key = "b-key" }]
+"""
+
+
+def cycle(count: int) -> str:
+    """So many nodes in a cycle, the first half of ana, the others of ben."""
+    links = [[1, count], *([i, i + 1] for i in range(1, count))]
+    owners = ("ana" if 2 * i <= count else "ben" for i in range(1, count + 1))
+    return PEOPLE + f"links = {links}\n" + "".join(f'[[node]]\nid = {i}\nowner = "{name}"\n' for i, name in enumerate(owners, 1))
+
+
+class Numbers:
+    """The numbers of `mml_fakes`, from a seed."""
+
+    def __init__(self, seed: int) -> None:
+        self.state = seed
+
+    def below(self, limit: int) -> int:
+        """The next one, below a limit."""
+        self.state = (self.state * 6364136223846793005 + 1442695040888963407) % 2**64
+        return (self.state >> 33) % limit
+
+
+def drawn(numbers: Numbers, world: World, index: int) -> tuple[str, Request]:
+    """What is asked for next, and who asks; most of it isn't legal."""
+    count = len(world.links)
+    at = (index // 8 + numbers.below(8)) % count
+    i, j = at + 1, (at + count - 2 + numbers.below(6)) % count + 1
+    word = numbers.below(32)
+    if word < 22:
+        rule = world.enabled(i) or "update"
+        is_ana = (2 * i <= count) != (numbers.below(8) == 0)
+        return "ana" if is_ana else "ben", Request("move", node=i, at=world.number, move=Move(rule, j if rule == "marriage" else None))
+    if word < 26:
+        return "tess", Request("close") if word < 24 else Request("release", node=i)
+    if word < 28:
+        p = None if numbers.below(4) == 0 else j
+        return "tess", Request("fault", node=i, p=p, m=numbers.below(2) == 1)
+    return "tess", Request("link" if word < 30 else "cut", a=i, b=j)
+
+
+def refused_before(count: int) -> str:
+    """How many drawn events are illegal before each legal one, over a cycle: a letter, from `a` for none to `z`."""
+    lab = read_lab(cycle(count).encode())
+    world, numbers = lab.opening(), Numbers(count)
+    text, refused, words = "", 0, set[str]()
+    for index in range(DRAWS):
+        who, asked = drawn(numbers, world, index)
+        if denial(lab, world, who, asked):
+            refused += 1
+            continue
+        words.add(asked.move.rule if asked.do == "move" else asked.do)
+        text += chr(ord("a") + min(refused, 25))
+        refused = 0
+        grant(world, asked)
+    if len(text) < EVENTS or len(words) != 9:
+        fail(f"over a cycle of {count} nodes {len(text)} events of these kinds are drawn: {words}")
+    return text
+
+
+def is_shaped(line: bytes) -> bool:
+    """Whether an event is spelled so, be it of the lab or not."""
+    found = LINE.fullmatch(line.decode("latin-1"))
+    return found is not None and max(int(found[1]), int(found[2])) <= GREATEST
+
+
+def event_of(lab: Lab, line: bytes) -> str:
+    """The event of a line, as Rust shows it: a grant, a close, or a fault of the line."""
+    read = read_line(line, lab)
+    if read is None:
+        return "?" if is_shaped(line) else "."
+    place, before, who, asked = read
+    event = "Close"
+    if asked.do == "move":
+        student = [name for name in lab.keys if name != lab.teacher].index(who)
+        rule = asked.move.rule.capitalize() + (f"({rank(asked.move.partner)})" if asked.move.partner else "")
+        event = f"Grant {{ who: Student {{ place: {student} }}, node: {rank(asked.node)}, rule: {rule} }}"
+    return f"{place} {before} {event}"
+
+
+def rank(node: int) -> str:
+    """A node of the built-in lab, as Rust shows its rank."""
+    return f"Rank {{ index: {node - 1} }}"
+
+
+def replaced() -> str:
+    """Under each line of the journal its event, and for each byte that replaces each of its bytes: `.` where no event
+    is spelled so, `?` where one is, but not of the lab, `=` where it is that one, `!` where it is another, which follows."""
+    lab = read_lab((TOP / "examples/built-in.toml").read_bytes())
+    text = ""
+    for line in (TOP / "examples/whole-run.journal").read_bytes().splitlines():
+        own = event_of(lab, line)
+        text += f"{line.decode()}\n{own}\n"
+        for byte in REPLACEMENTS:
+            read = [event_of(lab, line[:at] + bytes([byte]) + line[at + 1 :]) for at in range(len(line))]
+            text += "".join("=" if it == own else it if it in ".?" else "!" for it in read) + "\n"
+            text += "".join(f"{it}\n" for it in read if it not in (own, ".", "?"))
+    return text
+
+
+def rows(text: str) -> str:
+    """A text as the pieces of a Rust constant."""
+    return "".join(f'    "{text[at : at + ROW]}",\n' for at in range(0, len(text), ROW))
+
+
+def kept(file: str, pattern: str) -> str:
+    """What a table has."""
+    found = re.search(pattern, (TESTS / file).read_text(encoding="utf-8"), re.DOTALL)
+    if found is None:
+        fail(f"no table in {file}")
+    return found[1]
+
+
+def compare() -> None:
+    """Each table, beside the model's."""
+    for count in CYCLES:
+        pieces = re.findall(r'"(\w*)"', kept("drawn.rt", rf"const OF_{count}: &str = concat!\(([^)]*)\)"))
+        if "".join(pieces) != refused_before(count):
+            fail(f"the table of drawn events over a cycle of {count} nodes isn't the model's")
+    if kept("journal/replaced.rt", r'const REPLACED: &str = "(.*?)";') != replaced():
+        fail("the table of lines with a byte replaced isn't the model's")
+
+
+if __name__ == "__main__":
+    for nodes in CYCLES:
+        sys.stdout.write(f"const OF_{nodes}: &str = concat!(\n{rows(refused_before(nodes))});\n")
+    sys.stdout.write(f'const REPLACED: &str = "{replaced()}";\n')
