@@ -15,6 +15,7 @@ NODES = 256
 PART = 1000
 HELLO = '{"do":"hello","key":"chalk","name":"tess"}\n'
 WELCOME = '{"ok":"hello","who":"tess"}\n'
+CUT, FULL = '{"a":1,"b":2,"do":"cut"}\n', '{"refuse":"full"}\n'
 PEOPLE = """teacher = { name = "tess", key = "chalk" }
 student = [{ name = "ana", key = "a-key" }]
 """
@@ -69,33 +70,59 @@ def exchange(it: socket.socket, lines: list[str], replies: list[str]) -> None:
         fail(f"another reply among those to {lines[0]!r} and {len(lines) - 1} lines more")
 
 
+def changes(places: Iterable[int]) -> tuple[list[str], list[str]]:
+    """Requests that cut a link and make it again in turn, and their replies."""
+    words = [(place, "cut" if place % 2 else "link") for place in places]
+    form = '{{"a":1,"at":{0},"b":2,"dropped":0,"ok":"{1}","place":{0}}}\n'
+    return [f'{{"a":1,"b":2,"do":"{word}"}}\n' for _, word in words], [form.format(*it) for it in words]
+
+
+def pair(room: Path) -> Path:
+    """A lab of two nodes with a link, and as many events as a lab may allow."""
+    return lab(room, [f'{{ id = {node}, owner = "ana" }}' for node in (1, 2)], "[1, 2]", EVENTS)
+
+
+def wants_audit(room: Path, file: Path, journal: Path) -> None:
+    """Wants a journal that passes with all events."""
+    if not Story(file, b"", room).audit(journal.read_bytes()).startswith(f"ok: {EVENTS} events,".encode()):
+        fail(f"another audit of {EVENTS} events")
+
+
+def scripted(room: Path) -> None:
+    """A link that is cut and made again in a script, as often as a lab may allow and once more."""
+    file, script, journal = pair(room), room / "large.script", room / "large.journal"
+    lines, replies = changes(range(1, EVENTS + 1))
+    script.write_text("".join(f"1 {line}" for line in [HELLO, *lines, CUT]), encoding="ascii")
+    journal.unlink(missing_ok=True)
+    out = good(["script", str(file), str(script), str(journal)]).decode()
+    if out != "".join(f"1 {reply}" for reply in [WELCOME, *replies, FULL]):
+        fail(f"another reply in a script of {EVENTS} events")
+    wants_audit(room, file, journal)
+
+
 def events(room: Path) -> None:
-    """A link that is cut and made again, as often in one run as a lab may allow."""
-    file = lab(room, [f'{{ id = {node}, owner = "ana" }}' for node in (1, 2)], "[1, 2]", EVENTS)
-    journal = room / "large.journal"
+    """The same through a server."""
+    file, journal = pair(room), room / "large.journal"
+    journal.unlink()
     server = Server(lambda port: ["serve", str(file), str(port), "1", str(journal)], {})
     with socket.create_connection(("127.0.0.1", server.port), timeout=LIMIT) as it:
         exchange(it, [HELLO], [WELCOME])
         for first in range(1, EVENTS + 1, PART):
-            places = range(first, first + PART)
-            words = ["cut" if place % 2 else "link" for place in places]
-            lines = [f'{{"a":1,"b":2,"do":"{word}"}}\n' for word in words]
-            form = '{{"a":1,"at":{0},"b":2,"dropped":0,"ok":"{1}","place":{0}}}\n'
-            exchange(it, lines, [form.format(place, word) for place, word in zip(places, words)])
-        exchange(it, ['{"a":1,"b":2,"do":"cut"}\n'], ['{"refuse":"full"}\n'])
+            exchange(it, *changes(range(first, first + PART)))
+        exchange(it, [CUT], [FULL])
     ended = server.end()
     if ended.out != f"done: {EVENTS} events, configuration {EVENTS}\n".encode() or ended.status != 0:
         fail(f"another end after {EVENTS} events: {ended}")
-    if not Story(file, b"", room).audit(journal.read_bytes()).startswith(f"ok: {EVENTS} events,".encode()):
-        fail(f"another audit of {EVENTS} events")
+    wants_audit(room, file, journal)
 
 
 def work(room: Path) -> str:
     """All runs."""
     greatest(room)
     reports(room)
+    scripted(room)
     events(room)
-    return f"the largest lab, reports of {NODES} nodes, and {EVENTS} events of one run"
+    return f"the largest lab, reports of {NODES} nodes, and {EVENTS} events of a script and of a server"
 
 
 if __name__ == "__main__":

@@ -4,7 +4,7 @@ mod replies;
 use mml_codec::{LineFault, Request, read_request, read_request_with, write_request};
 use mml_ids::Word;
 use mml_plain::{Fields, LineScratch, read_fields};
-use std::alloc::Global;
+use std::alloc::{AllocError, Global};
 use std::test::Fail;
 
 /// The canonical text of what was read, or why it is no request.
@@ -98,9 +98,19 @@ fn first_line_read_otherwise(
     Ok(None)
 }
 
-// A part of a name, how it is written, and how often it stands; the same of the key; and how long the
-// text of the greeting is.
-const HELLOS: &[(&str, &str, usize, &str, &str, usize, usize)] = &[
+/// A part of a name, how it is written, and how often it stands; the same of the key; and how long the
+/// text of the greeting is.
+type Hello = (
+    &'static str,
+    &'static str,
+    usize,
+    &'static str,
+    &'static str,
+    usize,
+    usize,
+);
+
+const HELLOS: &[Hello] = &[
     ("ana", "ana", 1, "a-key", "a-key", 1, 41),
     ("\"\n", r#"\"\n"#, 1, "\\", r"\\", 1, 39),
     ("n", "n", 2000, "k", "k", 2000, 4033),
@@ -122,22 +132,29 @@ fn is_hello(
     Ok(written.as_str() == text && is_told(alloc, scratch, text.as_bytes(), text)?)
 }
 
+/// The text of a greeting by a row of these.
+fn shown_hello(alloc: Global, row: &Hello) -> Result<String, AllocError> {
+    let name = row.1.repeat(alloc, row.2)?;
+    let key = row.4.repeat(alloc, row.5)?;
+    format!(in alloc; "{{\"do\":\"hello\",\"key\":\"{key}\",\"name\":\"{name}\"}}")
+}
+
+/// Whether that is written and read so, and as long.
+fn is_row_told(alloc: Global, scratch: &mut LineScratch, row: &Hello) -> Result<bool, Fail> {
+    let text = shown_hello(alloc, row)?;
+    let name = row.0.repeat(alloc, row.2)?;
+    let key = row.3.repeat(alloc, row.5)?;
+    Ok(text.len() == row.6 && is_hello(alloc, scratch, name, key, text.as_str())?)
+}
+
 /// The first row of these that is written or read otherwise.
 fn first_hello_told_otherwise(
     alloc: Global,
     scratch: &mut LineScratch,
 ) -> Result<Option<usize>, Fail> {
-    for (row, (name, shown_name, names, key, shown_key, keys, len)) in HELLOS.iter().enumerate() {
-        let (shown_name, shown_key) = (
-            shown_name.repeat(alloc, *names)?,
-            shown_key.repeat(alloc, *keys)?,
-        );
-        let text = format!(in alloc;
-            "{{\"do\":\"hello\",\"key\":\"{shown_key}\",\"name\":\"{shown_name}\"}}"
-        )?;
-        let (name, key) = (name.repeat(alloc, *names)?, key.repeat(alloc, *keys)?);
-        if text.len() != *len || !is_hello(alloc, scratch, name, key, text.as_str())? {
-            return Ok(Some(row));
+    for (number, row) in HELLOS.iter().enumerate() {
+        if !is_row_told(alloc, scratch, row)? {
+            return Ok(Some(number));
         }
     }
     Ok(None)
@@ -152,15 +169,22 @@ fn named_node(scratch: &mut LineScratch, line: &[u8]) -> Result<Option<u64>, Fai
     Ok(None)
 }
 
+/// The first line and the first greeting that are told otherwise, and the nodes of three lines.
+type Told = (Option<usize>, Option<usize>, [Option<u64>; 3]);
+
+fn told_with(alloc: Global, scratch: &mut LineScratch) -> Result<Told, Fail> {
+    let line = first_line_read_otherwise(alloc, scratch)?;
+    let hello = first_hello_told_otherwise(alloc, scratch)?;
+    let plain = named_node(scratch, br#"{"do": "see", "node": 2}"#)?;
+    let nested = named_node(scratch, br#"{"do":"see","node":3,"x":[{},[1.5]]}"#)?;
+    let great = named_node(scratch, br#"{"do":"see","node":2,"x":[{},[1e999]]}"#)?;
+    Ok((line, hello, [plain, nested, great]))
+}
+
 #[test]
 fn requests_are_read_and_written(rt: HostRuntime) -> Result<(), Fail> {
     let mut scratch = LineScratch::new(rt.alloc(), 4096)?;
-    let line = first_line_read_otherwise(rt.alloc(), &mut scratch)?;
-    let hello = first_hello_told_otherwise(rt.alloc(), &mut scratch)?;
-    let plain = named_node(&mut scratch, br#"{"do": "see", "node": 2}"#)?;
-    let nested = named_node(&mut scratch, br#"{"do":"see","node":3,"x":[{},[1.5]]}"#)?;
-    let great = named_node(&mut scratch, br#"{"do":"see","node":2,"x":[{},[1e999]]}"#)?;
-    assert_eq!(rt; (line, hello), (None, None));
-    assert_eq!(rt; (plain, nested, great), (Some(2), Some(3), None));
+    let told = told_with(rt.alloc(), &mut scratch)?;
+    assert_eq!(rt; told, (None, None, [Some(2), Some(3), None]));
     Ok(())
 }

@@ -1,6 +1,5 @@
 //! Scripts from the bytes that come in to the bytes that go out, over the path of three.
 mod answers;
-mod counts;
 mod journals;
 mod reads;
 mod waiting;

@@ -7,7 +7,7 @@ use mml_fakes::labs::FAR_APART;
 use mml_lab::{Lab, read_lab};
 use mml_policy::{Denial, Ruling, See};
 use mml_rules::{Regs, Scene};
-use mml_stable::report;
+use mml_stable::{Report, report};
 use std::alloc::Global;
 use std::test::Fail;
 
@@ -23,63 +23,63 @@ fn line_of(alloc: Global, lab: &Lab, reply: &Reply) -> Result<String, Fail>
 /// What is shown of the node 65535, whose pointer leads to the node 7.
 fn sight(alloc: Global, lab: &Lab) -> Result<String, Fail> {
     let p = lab.ids().rank_of(7);
-    match lab.ids().rank_of(65535) {
-        Some(node) => {
-            let regs = Regs { p, m: true };
-            let at = u64::MAX;
-            line_of(alloc, lab, &Reply::See(See { at, node, regs }))
-        }
-        None => line_of(alloc, lab, &Reply::Bye),
+    let Some(node) = lab.ids().rank_of(65535) else {
+        return Ok(String::new(alloc));
+    };
+    let regs = Regs { p, m: true };
+    let at = u64::MAX;
+    line_of(alloc, lab, &Reply::See(See { at, node, regs }))
+}
+
+/// Whether the reply to a report that is granted is this one.
+fn is_reported(alloc: Global, board: &Board, told: &Report) -> Result<bool, Fail> {
+    match reply_of(alloc, board, Ruling::Reported)? {
+        Reply::Report(other) => Ok(other.at == told.at && other.stable == told.stable),
+        _ => Ok(false),
     }
 }
 
 /// The report on the lab's opening world, or no text where it isn't of the lab's size, or where the reply
 /// to a report that is granted is another.
 fn report_line(alloc: Global, lab: &Lab) -> Result<String, Fail> {
-    let board = Board::new(alloc, lab)?;
+    let board = &Board::new(alloc, lab)?;
     if lab.ids().len() != board.size() {
         return Ok(String::new(alloc));
     }
-    let told = report(alloc, &board)?;
-    let (at, stable) = (told.at, told.stable);
-    match reply_of(alloc, &board, Ruling::Reported)? {
-        Reply::Report(other) if other.at == at && other.stable == stable => {
-            line_of(alloc, lab, &Reply::Report(told))
-        }
-        _ => Ok(String::new(alloc)),
+    let told = report(alloc, board)?;
+    if !is_reported(alloc, board, &told)? {
+        return Ok(String::new(alloc));
     }
+    line_of(alloc, lab, &Reply::Report(told))
+}
+
+/// The room of a vector once a denial was written into it.
+fn room_after(alloc: Global, lab: &Lab, denial: Denial, out: &mut Vec<u8>) -> Result<usize, Fail> {
+    write_reply(alloc, lab.ids(), lab.roster(), &Reply::Deny(denial), out)?;
+    Ok(out.capacity())
 }
 
 /// The room of a vector at first, and after each of two denials: one with room doesn't grow, and isn't
 /// given back.
 fn rooms(alloc: Global, lab: &Lab) -> Result<[usize; 3], Fail> {
     let mut out = Vec::with_capacity(alloc, REPLY_ROOM)?;
-    let mut rooms = [out.capacity(); 3];
-    write_reply(
-        alloc,
-        lab.ids(),
-        lab.roster(),
-        &Reply::Deny(Denial::Greeted),
-        &mut out,
-    )?;
-    rooms[1] = out.capacity();
-    write_reply(
-        alloc,
-        lab.ids(),
-        lab.roster(),
-        &Reply::Deny(Denial::Hidden),
-        &mut out,
-    )?;
-    rooms[2] = out.capacity();
-    Ok(rooms)
+    let first = out.capacity();
+    let second = room_after(alloc, lab, Denial::Greeted, &mut out)?;
+    let third = room_after(alloc, lab, Denial::Hidden, &mut out)?;
+    Ok([first, second, third])
 }
 
 /// What is shown, the report, and whether a vector stays in its room.
+fn told_of(alloc: Global, lab: &Lab) -> Result<(String, String, bool), Fail> {
+    let rooms = rooms(alloc, lab)?;
+    let stays = rooms[1] == rooms[0] && rooms[2] == rooms[0];
+    Ok((sight(alloc, lab)?, report_line(alloc, lab)?, stays))
+}
+
+/// The same of two nodes far apart.
 fn told(alloc: Global) -> Result<(String, String, bool), Fail> {
     let lab = read_lab(alloc, FAR_APART.as_bytes())?;
-    let rooms = rooms(alloc, &lab)?;
-    let stays = rooms[1] == rooms[0] && rooms[2] == rooms[0];
-    Ok((sight(alloc, &lab)?, report_line(alloc, &lab)?, stays))
+    told_of(alloc, &lab)
 }
 
 #[test]

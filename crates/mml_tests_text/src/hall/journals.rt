@@ -1,4 +1,5 @@
-//! A sink in which each byte may be the last: what it has then, and what the hall says of itself.
+//! A sink in which each byte may be the last: what it has then, and what the hall and audits say of it.
+use mml_audit::{audit, audit_events};
 use mml_fakes::labs::PATH_OF_THREE;
 use mml_fakes::scripts::{GREETINGS, TEN_ACTS, TEN_LINES};
 use mml_fakes::{Drip, FakeWriter};
@@ -19,13 +20,34 @@ fn has_dripped(hall: &Hall<Drip>, puts: usize) -> bool {
         && hall.board().place() == lines as u64
 }
 
+/// Whether the journal of a hall passes both audits, up to the hall's board and with its events, unless its
+/// last line is torn.
+fn is_audited(alloc: Global, hall: &Hall<Drip>) -> bool {
+    let journal = hall.sink().bytes.as_slice();
+    let is_passed = match audit(alloc, hall.lab(), journal) {
+        Ok(board) => board.is_same(hall.board()),
+        Err(_) => false,
+    };
+    let is_listed = match audit_events(alloc, hall.lab(), journal) {
+        Ok(audited) => {
+            audited.board.is_same(hall.board()) && audited.events.as_slice() == hall.events()
+        }
+        Err(_) => false,
+    };
+    let is_whole = match journal.last() {
+        Some(byte) => *byte == b'\n',
+        None => true,
+    };
+    is_passed == is_whole && is_listed == is_whole
+}
+
 /// Whether a script leaves such a hall over a sink that takes one byte a put and fails after so many.
 fn drips(alloc: Global, script: &str, puts: usize) -> Result<bool, Fail> {
     let lab = read_lab(alloc, PATH_OF_THREE.as_bytes())?;
     let sink = Drip::failing_after(puts, alloc);
     let mut writer = FakeWriter::patient(alloc);
     let hall = run_script(alloc, lab, &mut script.as_bytes(), &mut writer, sink)?;
-    Ok(has_dripped(&hall, puts))
+    Ok(has_dripped(&hall, puts) && is_audited(alloc, &hall))
 }
 
 /// The first number of bytes after which something else is left.
