@@ -42,19 +42,30 @@ fn told(alloc: Global) -> Result<bool, Fail> {
     is_answered(alloc, &mut hall)
 }
 
-/// Whether a hall over the lab begins as a board, with no event.
-fn begins_as(alloc: Global, lab: Lab, board: &Board) -> Result<bool, Fail> {
+/// Whether a hall over the lab that a document spells begins as a board, with no event.
+fn begins_as(alloc: Global, document: &str, board: &Board) -> Result<bool, Fail> {
+    let lab = read_lab(alloc, document.as_bytes())?;
     let hall = Hall::new(alloc, lab, NullSink::new())?;
     Ok(board.is_same(hall.board()) && hall.events().is_empty())
 }
 
-/// Whether a board of the largest lab, its copy and that of a hall begin as the same world.
+/// Whether a board is the same world as its copy.
+fn is_copied(alloc: Global, board: &Board) -> Result<bool, Fail> {
+    let copy = board.try_copy(alloc)?;
+    Ok(board.is_same(&copy))
+}
+
+/// Whether a board of a lab, its copy and that of a hall begin as the same world.
+fn are_one(alloc: Global, document: &str, lab: &Lab) -> Result<bool, Fail> {
+    let board = &Board::new(alloc, lab)?;
+    Ok(is_copied(alloc, board)? && begins_as(alloc, document, board)?)
+}
+
+/// The same over the largest lab.
 fn is_one_beginning(alloc: Global) -> Result<bool, Fail> {
     let document = greatest(alloc)?;
     let lab = read_lab(alloc, document.as_bytes())?;
-    let board = Board::new(alloc, &lab)?;
-    let copy = board.try_copy(alloc)?;
-    Ok(board.is_same(&copy) && begins_as(alloc, lab, &board)?)
+    are_one(alloc, document.as_str(), &lab)
 }
 
 #[test]
