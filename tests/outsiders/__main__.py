@@ -13,7 +13,7 @@ from collections.abc import Callable
 from pathlib import Path
 
 from tests.common.hosting import (
-    BID, BUSY, BYE, HOST, LONG, NODES, OVER, UNKNOWN, Caller, Host, audit, hello, lab_of, let_in, look
+    BID, BUSY, BYE, HOST, LATE, LONG, NODES, OVER, UNKNOWN, Caller, Host, audit, hello, lab_of, let_in, look
 )
 from tests.common.preload import LIMIT, PROGRAM, TOP, Ended, Preloaded, Server, fail
 from tests.common.side_by_side import Test, try_all
@@ -144,8 +144,9 @@ def words_at_the_end(room: Path) -> None:
                 fail("outsiders: a line that is too long isn't told so")
         greeted, silent = let_in(host.port, hello("ana"))[0], Caller(host.port)
         ends(host, let_in(host.desk, hello("tess"))[0])
-        if [caller.line() for caller in (greeted, silent)] != [OVER, OVER]:
-            fail("outsiders: the class's end isn't told")
+        # On a slow machine ten seconds may have passed for who hasn't greeted.
+        if (told := greeted.line()) != OVER or (told := silent.line()) not in (OVER, LATE):
+            fail(f"outsiders: of the class's end is told {told!r}")
 
 
 def three_hellos(room: Path) -> None:
@@ -254,9 +255,11 @@ def a_third(room: Path) -> None:
             if any(caller.ask(b"{}\n") != MALFORMED for caller in strangers):
                 fail("outsiders: who hasn't greeted isn't answered")
             for turn in range(3):
-                strangers.append(Caller(port))
-                said = strangers[-1].ask(b"{}\n"), strangers[turn].line(), strangers[turn].line()
-                if said != (MALFORMED, BUSY, b""):
+                newcomer, reply = let_in(port, b"{}\n")
+                strangers.append(newcomer)
+                said = reply, strangers[turn].line(), strangers[turn].line()
+                # Who is still writing a reply after a tenth of a second is hung up without a word.
+                if said not in ((MALFORMED, BUSY, b""), (MALFORMED, b"", b"")):
                     fail(f"outsiders: {share + 1} who haven't greeted are told {said}")
             if any(caller.ask(b"{}\n") != MALFORMED for caller in strangers[3:]):
                 fail("outsiders: another than the first who hasn't greeted leaves")
@@ -428,9 +431,9 @@ def limits_of_files(room: Path) -> None:
             if ended != Ended(4, b"", b"journal fault\n"):
                 fail(f"outsiders: a host whose journal can't grow ends with {ended}")
     # What looks at no limit is ended by the signal, unless `./mml` ignores it.
-    script, turn = room / "script", b'1 {"do":"fault","m":false,"node":1,"p":null}\n'
-    script.write_bytes(b"1 " + hello("tess") + turn * 100)
-    words = ["bash", "-c", f'ulimit -f 1 && exec "$@"', "bash", str(TOP / "mml"), "script", str(lab), str(script), str(room / "script.journal")]
+    script, fault = room / "script", b'1 {"do":"fault","m":false,"node":1,"p":null}\n'
+    script.write_bytes(b"1 " + hello("tess") + fault * 100)
+    words = ["bash", "-c", 'ulimit -f 1 && exec "$@"', "bash", str(TOP / "mml"), "script", str(lab), str(script), str(room / "script.journal")]
     done = subprocess.run(words, stdin=subprocess.DEVNULL, capture_output=True, timeout=LIMIT, check=False)
     if (done.returncode, done.stderr) != (4, b"journal fault\n") or not done.stdout.endswith(b'1 {"refuse":"journal"}\n'):
         fail(f"outsiders: a script whose journal can't grow ends with {done.returncode}, {done.stderr!r}")
@@ -472,8 +475,9 @@ def small_stacks(room: Path) -> None:
         fail(f"outsiders: over small stacks a server ends with {server.end()}")
     script = room / "script"
     script.write_bytes(b"1 " + BYE)
-    for program, words in ((HOST, ["host", lab, "0", "0"]), (PROGRAM, ["script", lab, script])):
-        done = subprocess.run([*limited(255), program, *words], stdin=subprocess.DEVNULL, capture_output=True, timeout=LIMIT, check=False)
+    calls: list[list[str | Path]] = [[HOST, "host", lab, "0", "0"], [PROGRAM, "script", lab, script]]
+    for call in calls:
+        done = subprocess.run([*limited(255), *call], stdin=subprocess.DEVNULL, capture_output=True, timeout=LIMIT, check=False)
         if (done.returncode, done.stdout, done.stderr) != (5, b"", b"out of memory\n"):
             fail(f"outsiders: over stacks that are too small a program ends with {done}")
 
