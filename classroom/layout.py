@@ -17,6 +17,7 @@ ROOM_X, ROOM_Y = WIDTH - 2 * MARGIN, HEIGHT - 2 * MARGIN
 PATIENCE = 5.0  # seconds for Graphviz
 SMALL_BELOW = 24.0  # radius under which rules are told by a letter
 TIGHT_BELOW = 9.0  # radius under which such letters run into each other
+ROOMY = 220.0  # between the nearest two nodes, from which on the field may be half as wide: all is drawn at twice the size
 TURNS = 1200  # parts of an ellipse by which it is measured
 
 
@@ -45,6 +46,13 @@ def lay_out(nodes: Iterable[int], links: Iterable[tuple[int, int]]) -> Layout:
         sprung = by_springs(identifiers, edges)
         return rings if sprung is None else less_tangled(rings, fitted(sprung), edges)
     return rings if rings.radius > layout.radius else layout
+
+
+def halved(layout: Layout) -> Layout:
+    """The layout in half the width and height, within the same margins."""
+    by_x, by_y = (WIDTH / 2 - 2 * MARGIN) / ROOM_X, (HEIGHT / 2 - 2 * MARGIN) / ROOM_Y
+    points = {node: (MARGIN + (x - MARGIN) * by_x, MARGIN + (y - MARGIN) * by_y) for node, (x, y) in layout.points.items()}
+    return Layout(points, layout.nearest * min(by_x, by_y))
 
 
 def less_tangled(rings: Layout, sprung: Layout, links: Links) -> Layout:

@@ -1,16 +1,18 @@
-"""`./class play`: a run as a page, or one configuration as a picture."""
+"""`./class play`: a run as a page, or configurations as a picture."""
 from __future__ import annotations
 
 import argparse
-from itertools import islice
+import re
+from itertools import chain, takewhile
 from pathlib import Path
 
 from classroom import folders
 from classroom.drawing import Drawing, standalone
-from classroom.frames import Frame, frames_of
+from classroom.frames import frames_of
 from classroom.layout import lay_out
 from classroom.page import page_of
 from classroom.program import Fault
+from classroom.sheet import sheet
 
 
 def page(lab_file: Path, journal: Path) -> str:
@@ -19,17 +21,26 @@ def page(lab_file: Path, journal: Path) -> str:
     return page_of(folders.title(lab_file, journal), lab, frames)
 
 
-def picture(lab_file: Path, journal: Path, place: int) -> str:
-    """The configuration after a place as SVG."""
+def places(word: str) -> list[int]:
+    """Numbers with commas between them."""
+    if not re.fullmatch(r"\d+(,\d+)*", word):
+        raise argparse.ArgumentTypeError(f"{word}: places of the journal, with commas between them; 0 is the beginning")
+    return [int(place) for place in word.split(",")]
+
+
+def picture(lab_file: Path, journal: Path, asked: list[int]) -> str:
+    """The configurations after these places as SVG: one that fills it, or several."""
     lab, frames = frames_of(lab_file, journal)
     first = next(frames)
     drawing = Drawing(lab.without_house(), lay_out((node.id for node in lab.nodes), first.state.links))
-    frame: Frame | None = first
-    if place != 0:
-        frame = next(islice(frames, place - 1, None), None) if place > 0 else None
-    if frame is None:
-        raise Fault(f"{journal}: there is no place {place}", 3)
-    return standalone(drawing, frame.state, frame.event)
+    found = {frame.state.place: frame for frame in chain([first], takewhile(lambda frame: frame.state.place <= max(asked), frames))
+             if frame.state.place in asked}
+    for place in asked:
+        if place not in found:
+            raise Fault(f"{journal}: there is no place {place}", 3)
+    if len(asked) > 1:
+        return sheet(drawing, [found[place] for place in asked])
+    return standalone(drawing, found[asked[0]].state, found[asked[0]].event)
 
 
 def play(words: argparse.Namespace) -> int:
@@ -38,7 +49,7 @@ def play(words: argparse.Namespace) -> int:
     if len(runs) != 1:
         raise Fault("play: the folder of a run, or a lab and a journal")
     lab_file, journal = runs[0]
-    output = Path(words.output or ("run.html" if words.svg is None else f"{words.svg}.svg"))
+    output = Path(words.output or ("run.html" if words.svg is None else f"{'-'.join(map(str, words.svg))}.svg"))
     text = page(lab_file, journal) if words.svg is None else picture(lab_file, journal, words.svg)
     output.write_text(text, encoding="utf-8")
     print(f"{output}: {len(text.encode())} bytes")

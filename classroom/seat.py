@@ -11,10 +11,9 @@ from classroom.drawing import Drawing
 from classroom.frames import State
 from classroom.journal import Event
 from classroom.lab import Lab, Node, ordered
-from classroom.layout import HEIGHT, MARGIN, ROOM_X, ROOM_Y, WIDTH, Layout, lay_out
+from classroom.layout import HEIGHT, ROOMY, WIDTH, Layout, halved, lay_out
 
 NEIGHBOUR = "a neighbour"  # in place of its owners, whom no reply tells; no student has such a name
-ROOMY = 220.0  # between the nearest two nodes, from which on the field is half as wide: all is drawn at twice the size
 Told = TypeVar("Told")
 Looks = dict[int, Look]
 
@@ -60,13 +59,6 @@ def drawn(part: Lab, looks: Looks) -> Seen:
     points_at = [(each.node, each.p) for look in looks.values() for each in look.near if each.p in beyond and each.p is not None]
     layout = lay_out((node.id for node in part.nodes), {*part.links, *map(ordered, points_at)})
     return Seen(part, layout, beyond) if layout.nearest < ROOMY else Seen(part, halved(layout), beyond, 2)
-
-
-def halved(layout: Layout) -> Layout:
-    """The layout in half the width and height, within the same margins."""
-    by_x, by_y = (WIDTH / 2 - 2 * MARGIN) / ROOM_X, (HEIGHT / 2 - 2 * MARGIN) / ROOM_Y
-    points = {node: (MARGIN + (x - MARGIN) * by_x, MARGIN + (y - MARGIN) * by_y) for node, (x, y) in layout.points.items()}
-    return Layout(points, layout.nearest * min(by_x, by_y))
 
 
 def state_of(part: Lab, looks: Looks) -> State:

@@ -98,7 +98,7 @@ class Play(Played):
         lab = EXAMPLES / "cycle.toml"
         journal = journal_of(lab, EXAMPLES / "cycle-run.script", self.room / "journal")
         with patch("shutil.which", return_value=None):
-            output.write_text(picture(lab, journal, int(attributes(kept)[0]["place"])))
+            output.write_text(picture(lab, journal, [int(attributes(kept)[0]["place"])]))
         self.assertEqual(output.read_text(), kept.read_text())
 
     def test_words_that_are_wrong(self) -> None:

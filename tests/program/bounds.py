@@ -3,16 +3,24 @@
     python3 -B -m tests.program bounds
 
 Which steps these are is written down here; that each is legal, what it moves and whether the network is
-stable, the program says.
+stable, the program says as they come, and the audit and the tally of their journal once more. A plain count
+of the journal, and that of the class's words along the reports, give the same numbers.
 """
 import json
+import subprocess
 from collections.abc import Iterator
+from dataclasses import dataclass
 from pathlib import Path
+from typing import Any
 
-from tests.common.preload import fail, good
+from classroom.rounds import Recovery
+from tests.common.hosting import HOST
+from tests.common.preload import LIMIT, fail, good
+from tests.model import read_lab
+from tests.tally import plain
 
-MOVES = (4, 5, 6, 7, 12, 41, 64)
-ROUNDS = (2, 3, 4, 5, 6, 7, 40, 101, 240)
+MOVES = (4, 5, 6, 7, 12, 41, 64, 199, 200)
+ROUNDS = (2, 3, 4, 5, 6, 7, 40, 101, 200)
 # A node with the words of its move.
 Move = tuple[int, dict[str, object]]
 Step = list[Move]
@@ -52,9 +60,16 @@ def phases(size: int, are_low: range) -> Iterator[Step]:
             yield [(node, ABANDONMENT) for node in suitors[1:]]
 
 
-def played(room: Path, file: Path, steps: list[Step]) -> list[dict[str, object]]:
+def told(words: list[str | Path], given: bytes = b"") -> str:
+    """What the host's program prints, which has to end well."""
+    done = subprocess.run([HOST, *words], input=given, capture_output=True, timeout=LIMIT, check=False)
+    if done.returncode != 0 or done.stderr:
+        fail(f"{words[0]} ended with {done.returncode}: {done.stderr!r}")
+    return done.stdout.decode("ascii")
+
+
+def played(file: Path, steps: list[Step]) -> list[dict[str, Any]]:
     """The reports before the first step and after each; every move is granted, and moves alone at each close."""
-    script = room / "bound.script"
     ask: dict[str, object] = {"do": "report"}
     lines: list[tuple[int, dict[str, object]]] = [
         (1, {"do": "hello", "key": "a-key", "name": "ana"}), (2, {"do": "hello", "key": "chalk", "name": "tess"}), (2, ask),
@@ -62,14 +77,57 @@ def played(room: Path, file: Path, steps: list[Step]) -> list[dict[str, object]]
     for at, step in enumerate(steps):
         lines += [(1, {"at": at, "do": "move", "node": node, **words}) for node, words in step]
         lines += [(2, {"do": "close"}), (2, ask)]
-    script.write_text("".join(f"{number} {json.dumps(line)}\n" for number, line in lines), encoding="ascii")
-    replies = [json.loads(line.split(b" ", 1)[1]) for line in good(["script", str(file), str(script)]).splitlines()]
+    script = "".join(f"{number} {json.dumps(line)}\n" for number, line in lines)
+    replies = [json.loads(line.split(" ", 1)[1]) for line in told(["answer", file], script.encode()).splitlines()]
     if len(replies) != len(lines) or not all("ok" in reply for reply in replies):
         fail(f"a step of {file.name} wasn't granted")
     closed = [reply["moved"] for reply in replies if reply["ok"] == "close"]
     if closed != [sorted(node for node, _ in step) for step in steps]:
         fail("a step moved others than were granted")
     return [reply for reply in replies if reply["ok"] == "report"]
+
+
+def journal_of(steps: list[Step]) -> str:
+    """The journal of these steps."""
+    events: list[str] = []
+    for at, step in enumerate(steps):
+        for node, words in step:
+            events.append(f"{at} grant ana {node} {words['rule']}" + (f" {words['with']}" if "with" in words else ""))
+        events.append(f"{at} close")
+    return "".join(f"{place} {event}\n" for place, event in enumerate(events, 1))
+
+
+@dataclass(frozen=True)
+class Counted:
+    """What a run has, about which all who count agree, and what the tally says that one may have at the most."""
+
+    moves: int
+    rounds: int
+    most_moves: int
+    most_rounds: int
+    reports: list[dict[str, Any]]
+
+
+def counted(file: Path, steps: list[Step]) -> Counted:
+    """A run that comes to rest with its last step, and not before."""
+    reports = played(file, steps)
+    if [report["stable"] for report in reports] != [False] * len(steps) + [True]:
+        fail(f"{file.name}: not stable where the run ends, or before")
+    found = Recovery(node for node, _ in reports[0]["privileged"])
+    for step, report in zip(steps, reports[1:]):
+        found.step([node for node, _ in step], [node for node, _ in report["privileged"]])
+    journal = file.with_suffix(".journal")
+    journal.write_text(journal_of(steps), encoding="ascii")
+    events = found.moves + len(steps)
+    if good(["audit", str(file), str(journal)]).decode() != f"ok: {events} events, configuration {len(steps)}, stable\n":
+        fail(f"{file.name}: the audit says another thing of its journal")
+    tally = told(["tally", file, journal])
+    if tally != plain.tally(read_lab(file.read_bytes()), journal.read_text(encoding="ascii"), True):
+        fail(f"{file.name}: the tally is another than that of a plain count")
+    *_, bounds, run = (line.split() for line in tally.splitlines())
+    if [int(run[place]) for place in (1, 4, 8)] != [events, len(steps), found.moves]:
+        fail(f"{file.name}: the tally has other numbers: {run}")
+    return Counted(found.moves, found.rounds, int(bounds[1]), int(bounds[2]), reports)
 
 
 def moves(room: Path, size: int) -> int:
@@ -79,14 +137,11 @@ def moves(room: Path, size: int) -> int:
     pointers |= {node: node + 1 for node in range(half + 1, size)} | {size: 2}
     links = [(low, high) for low in range(1, size + 1) for high in range(low + 1, size + 1) if low + high > size]
     alone: list[Step] = [[(node, words)] for node in range(1, size + 1) for words in (UPDATE, ABANDONMENT)]
-    steps = [*alone, *phases(size, range(1, size + 1))]
-    reports = played(room, lab(room, links, sorted(pointers.items())), steps)
-    count = sum(len(step) for step in steps)
-    if count != 3 * size + 2 * min(len(links), size * size // 4) - size % 2:
-        fail(f"{size} nodes: {count} moves")
-    if [report["stable"] for report in reports] != [False] * len(steps) + [True]:
-        fail(f"{size} nodes: not stable where the run ends, or before")
-    return count
+    found = counted(lab(room, links, sorted(pointers.items())), [*alone, *phases(size, range(1, size + 1))])
+    most = 3 * size + 2 * min(len(links), size * size // 4)
+    if (found.most_moves, found.moves) != (most, most - size % 2):
+        fail(f"{size} nodes: {found.moves} moves of {found.most_moves}")
+    return found.moves
 
 
 def rounds(room: Path, size: int) -> int:
@@ -95,13 +150,13 @@ def rounds(room: Path, size: int) -> int:
     links = [(node, high) for node in low for high in range(low.stop, size + 1) if node + high > size]
     nodes: list[tuple[int, int | None]] = [(node, None) for node in range(1, size + 1)]
     steps = [[(node, UPDATE) for node, _ in nodes], *phases(size, low)]
-    reports = played(room, lab(room, links, nodes), steps)
-    for step, report in zip(steps, reports):
+    found = counted(lab(room, links, nodes), steps)
+    for step, report in zip(steps, found.reports):
         if report["privileged"] != [[node, words["rule"]] for node, words in sorted(step, key=lambda move: move[0])]:
             fail(f"{size} nodes: others are privileged than those of a step")
-    if reports[-1]["stable"] is not True or len(steps) != 2 * size - size % 2:
-        fail(f"{size} nodes: {len(steps)} rounds")
-    return len(steps)
+    if not found.rounds == found.most_rounds == len(steps) == 2 * size - size % 2:
+        fail(f"{size} nodes: {found.rounds} rounds of {found.most_rounds}")
+    return found.rounds
 
 
 def work(room: Path) -> str:

@@ -1,11 +1,12 @@
 """Plays drawn scripts over drawn labs by the program and by the plain model, and compares each byte.
 
-    python3 -B -m tests.random [SEED]
+    python3 -B -m tests.random [SEED|ends WORLDS]
 
 Replies and journal, what the audit says of that journal, and of it with a byte changed, are those of the
 model; so are a thousand events over large meshes, told after each, and the tables of `mml_tests_model`; and runs
 under four daemons end in a maximal matching, within the bounds on moves and rounds. With a number, only that
-seed's run is played, and its files are left in the working folder.
+seed's run is played, and its files are left in the working folder; after `ends` only the runs under four daemons,
+from so many worlds.
 """
 import re
 import sys
@@ -91,10 +92,10 @@ def scripts(room: Path) -> None:
         fail(f"only {told[b'pairs']} reports have pairs, and {told[b'open']} open links")
 
 
-def runs_to_an_end(room: Path) -> int:
-    """All drawn runs to an end; how many had a move."""
-    moving = 0
-    for seed in WORLDS:
+def runs_to_an_end(room: Path, worlds: range) -> str:
+    """All drawn runs to an end, nine of ten with a move."""
+    moving, dense = 0, 0
+    for seed in worlds:
         for daemon in ends.DAEMONS:
             rng = Random(seed)
             document = ends.drawn_lab(rng, 1 + seed % 40)
@@ -106,7 +107,11 @@ def runs_to_an_end(room: Path) -> int:
             if fault:
                 fail(f"world {seed} under {daemon.__name__}: {fault}")
             moving += '"moved":' in found
-    return moving
+            dense += course.is_dense()
+    count = len(worlds) * len(ends.DAEMONS)
+    if moving < 0.9 * count or dense < 0.05 * count:
+        fail(f"only {moving} of {count} runs to an end had a move, and {dense} many links")
+    return f"{count} drawn runs to an end, {dense} of them over many links"
 
 
 def meshes(room: Path) -> None:
@@ -152,14 +157,13 @@ def work(room: Path) -> str:
     scripts(room)
     meshes(room)
     audits = replaced(room)
-    count = len(WORLDS) * len(ends.DAEMONS)
-    moving = runs_to_an_end(room)
-    if moving < 0.9 * count:
-        fail(f"only {moving} of {count} runs to an end had a move")
-    return f"{len(SEEDS)} drawn scripts, {audits} audits and {count} drawn runs to an end, as the model has them"
+    return f"{len(SEEDS)} drawn scripts, {audits} audits and {runs_to_an_end(room, WORLDS)}, as the model has them"
 
 
 if __name__ == "__main__":
-    if len(sys.argv) > 1:
+    if sys.argv[1:2] == ["ends"]:
+        in_room(lambda room: runs_to_an_end(room, range(1, int(sys.argv[2]) + 1)))
+    elif len(sys.argv) > 1:
         sys.exit(compare(Path.cwd(), int(sys.argv[1]))[0] or None)
-    in_room(work)
+    else:
+        in_room(work)

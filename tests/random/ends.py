@@ -1,4 +1,4 @@
-"""Runs to where no node is privileged, under three daemons, from worlds that are drawn."""
+"""Runs to where no node is privileged, under four daemons, from worlds that are drawn."""
 import json
 from collections.abc import Callable
 from dataclasses import dataclass
@@ -53,10 +53,11 @@ def lab_of(links: list[Link], found: Registers) -> str:
 
 def drawn_lab(rng: Random, count: int) -> str:
     """A lab of so many nodes, with links and registers that are drawn; some nodes point at none and hold
-    themselves married."""
+    themselves married. Of five networks one may have all links, the others two a node at the most."""
     nodes = list(range(1, count + 1))
     every = complete(rng, nodes)
-    links = rng.sample(every, min(len(every), rng.randint(0, 2 * count)))
+    most = len(every) if rng.random() < 0.2 else min(len(every), 2 * count)
+    links = rng.sample(every, rng.randint(0, most))
     found = registers(rng, nodes, links)
     for i in nodes:
         if rng.random() < 0.25:
@@ -73,6 +74,10 @@ class Course:
     nodes: int
     links: int
     rounds: int
+
+    def is_dense(self) -> bool:
+        """Whether it has more links than the bound on moves counts."""
+        return self.links > self.nodes * self.nodes // 4
 
     def moves(self, replies: list[dict[str, Any]]) -> int:
         """How many moves the closes applied, as these replies tell."""
