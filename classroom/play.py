@@ -8,7 +8,7 @@ from pathlib import Path
 
 from classroom import folders
 from classroom.drawing import Drawing, standalone
-from classroom.frames import frames_of
+from classroom.frames import Frame, frames_of
 from classroom.layout import lay_out
 from classroom.page import page_of
 from classroom.program import Fault
@@ -33,8 +33,10 @@ def picture(lab_file: Path, journal: Path, asked: list[int]) -> str:
     lab, frames = frames_of(lab_file, journal)
     first = next(frames)
     drawing = Drawing(lab.without_house(), lay_out((node.id for node in lab.nodes), first.state.links))
-    found = {frame.state.place: frame for frame in chain([first], takewhile(lambda frame: frame.state.place <= max(asked), frames))
-             if frame.state.place in asked}
+    found: dict[int, Frame] = {}
+    for frame in chain([first], takewhile(lambda frame: frame.state.place <= max(asked), frames)):
+        if frame.state.place in asked:
+            found[frame.state.place] = Frame(frame.event, frame.state.copy())  # The next one is made of it.
     for place in asked:
         if place not in found:
             raise Fault(f"{journal}: there is no place {place}", 3)

@@ -1,6 +1,7 @@
 """The page of a run, in a real browser."""
 from __future__ import annotations
 
+import re
 import unittest
 import xml.etree.ElementTree as ElementTree
 from datetime import datetime
@@ -93,13 +94,31 @@ class Play(Played):
             self.assertEqual(attributes(output), told(frame.state, frame)[:2])
         self.assertEqual(self.call("play", lab, journal, "--svg", "99", "-o", output).returncode, 3)
 
-    def test_the_picture_of_the_documents(self) -> None:
-        kept, output = TOP / "docs" / "cycle.svg", self.room / "cycle.svg"
-        lab = EXAMPLES / "cycle.toml"
-        journal = journal_of(lab, EXAMPLES / "cycle-run.script", self.room / "journal")
-        with patch("shutil.which", return_value=None):
-            output.write_text(picture(lab, journal, [int(attributes(kept)[0]["place"])]))
-        self.assertEqual(output.read_text(), kept.read_text())
+    def test_several_places_in_one_picture(self) -> None:
+        lab, journal = edited_run(self.room)
+        frames = [told(frame.state, frame)[:2] for frame in frames_of(lab, journal)[1]]
+        for places in ([0, 3], [9, 0, 5, 5, 14]):
+            output = self.room / "several.svg"
+            done = self.call("play", lab, journal, "--svg", ",".join(map(str, places)), "-o", output)
+            self.assertEqual((done.returncode, done.stderr), (0, ""))
+            text = output.read_text()
+            cells = [cell for cell in ElementTree.fromstring(text) if cell.tag.endswith("svg")]
+            self.assertEqual([attributes_of(cell) for cell in cells], [frames[place] for place in places])
+            corners = {(cell.get("x"), cell.get("y")) for cell in cells}
+            self.assertEqual((len(corners), text.count('id="arrow"'), text.count('id="')), (len(places), 1, 1))
+        for places in ("0,99", "0,-1", "1,", "x"):
+            done = self.call("play", lab, journal, "--svg", places, "-o", self.room / "none.svg")
+            self.assertEqual((done.returncode, (self.room / "none.svg").exists()), (3 if places == "0,99" else 1, False), places)
+
+    def test_the_pictures_of_the_documents(self) -> None:
+        for name in ("cycle", "crowd"):
+            kept, output = TOP / "docs" / f"{name}.svg", self.room / f"{name}.svg"
+            lab = EXAMPLES / f"{name}.toml"
+            journal = journal_of(lab, EXAMPLES / f"{name}-run.script", self.room / "journal")
+            places = [int(place) for place in re.findall(r'data-place="(\d+)"', kept.read_text())]
+            with patch("shutil.which", return_value=None):
+                output.write_text(picture(lab, journal, places))
+            self.assertEqual(output.read_text(), kept.read_text())
 
     def test_words_that_are_wrong(self) -> None:
         lab, journal = edited_run(self.room)
@@ -110,7 +129,11 @@ class Play(Played):
 
 def attributes(picture: Path) -> tuple[dict[str, str], list[dict[str, str]]]:
     """What stands in an SVG file as data."""
-    root = ElementTree.parse(picture).getroot()
+    return attributes_of(ElementTree.parse(picture).getroot())
+
+
+def attributes_of(root: ElementTree.Element) -> tuple[dict[str, str], list[dict[str, str]]]:
+    """What stands in a drawing as data."""
     groups: list[Any] = [group for group in root.iter() if group.get("class") == "node"]
     nodes = [{name[5:]: value for name, value in group.items() if name.startswith("data-")} for group in groups]
     data = {name[5:]: value for name, value in root.items() if name.startswith("data-")}
