@@ -3,6 +3,7 @@ from __future__ import annotations
 
 import argparse
 import concurrent.futures
+import contextlib
 import csv
 import ctypes
 import io
@@ -28,6 +29,7 @@ from classroom.statuses import FAILED, WARNED
 
 COLUMNS = [each.name for each in fields(Row)]
 CHUNK = 20  # runs of a task
+OTHER = "--csv names another file; the same words go on with the table"
 DIES = 1  # prctl's PR_SET_PDEATHSIG
 Key = tuple[str, int, str, str, int]
 PLAYED = ("central", "synchronous", "random", "adversary")
@@ -203,11 +205,21 @@ def told(own: list[Row], asked: int, words: argparse.Namespace, broken: list[Pat
     """The table, the chart, and whether all is within what is proved."""
     if own:
         print(table(own))
-        if words.plot:
-            Path(words.plot).write_text(chart.chart(own), encoding="utf-8")
-            print(f"chart: {words.plot}")
     print(f"NEWS: {len(broken)} runs break what is proved; kept whole: {', '.join(map(str, broken))}" if broken else
           f"{len(own)} of {asked} runs, all within what is proved; table: {words.csv}")
+    if own and words.plot:
+        with named(words.plot, "--plot names another file, and the same words draw what is in the table"):
+            Path(words.plot).write_text(chart.chart(own), encoding="utf-8")
+        print(f"chart: {words.plot}")
+
+
+@contextlib.contextmanager
+def named(file: str, remedy: str) -> Iterator[None]:
+    """Tells which file couldn't be written, and what helps."""
+    try:
+        yield
+    except OSError as error:
+        raise Fault(f"{file}: {error.strerror}; make room, or {remedy}", 4) from None
 
 
 def experiment(words: argparse.Namespace) -> int:
@@ -218,7 +230,8 @@ def experiment(words: argparse.Namespace) -> int:
     rows = read_rows(path)
     asked = {(it.family, it.nodes, it.daemon.spelled(), it.start, seed) for it in every for seed in seeds}
     done = {key(row) for row in rows}
-    new_file(path)
+    with named(words.csv, OTHER):
+        new_file(path)
     if asked & done:
         print(f"{len(asked & done)} runs are in {path} already")
     tasks = left(every, seeds, done)
@@ -226,7 +239,7 @@ def experiment(words: argparse.Namespace) -> int:
     broken: list[Path] = []
     interrupted = False
     try:
-        with path.open("a", encoding="utf-8") as it:
+        with named(words.csv, OTHER), path.open("a", encoding="utf-8") as it:
             for row, script in measured(tasks, words.at_once or os.cpu_count() or 1):
                 rows.append(row)
                 it.write(line_of(row))

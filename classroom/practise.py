@@ -3,6 +3,7 @@ from __future__ import annotations
 
 import argparse
 import contextlib
+import os
 import random
 import signal
 import time
@@ -165,28 +166,42 @@ def practise(words: argparse.Namespace) -> int:
     names = ["you"] if len(bots) < 2 else [f"you-{number}" for number in range(1, len(bots) + 1)]
     lab = made(words, names)
     folder = new_folder(Path(words.into), Path("practise"))
-    tell = Teller(folder)
     with contextlib.closing(Closing(opened(lab, names, words))) as it:
-        practice = Practice(it.playing, tell, words.timeout if bots else None)
-        for number in (signal.SIGINT, signal.SIGTERM, signal.SIGHUP):
-            signal.signal(number, lambda *_: setattr(practice, "stop", True))
-        files = []
-        for name in names:
-            files.append(folder / f"{name}.slip")
-            labs.write_new(files[-1], "".join(f"{line}\n" for line in slips.slip(lab, name, it.playing.relay.port)))
-        size = f"{words.family} of {len(lab.nodes)} nodes, {words.start}, daemon {words.daemon.spelled()}"
-        tell(f"{size}; " + "; ".join(f"{name}: {', '.join(map(str, lab.nodes_of(name)))}" for name in names))
-        if not bots:
-            tell(f"port {it.playing.relay.port}; start your program with the slip {files[0]}")
-        for name, bot, slip in zip(names, bots, files):
-            it.kept.append(Kept(bot, slip.resolve(), Path.cwd(), None, MEGABYTES))
-            practice.kept.append((name, it.kept[-1]))
-        stable = practice.run()
-        if stable:
-            pairs = ", ".join(f"{a}-{b}" for a, b in it.playing.report["pairs"])
-            tell(f"stable: pairs {pairs or 'none'}; {practice.recovery.told(len(lab.nodes), len(lab.links))}")
-        leave(it.playing, folder, tell)
-        return 0 if stable else WARNED
+        try:
+            return played(it, bots, words, folder)
+        except OSError as error:
+            raise Fault(f"{error.filename or folder}: {error.strerror}; --into names another place", 4) from None
+
+
+def for_its_owner(path: str, flags: int) -> int:
+    """A new file that nobody else reads."""
+    return os.open(path, flags, 0o600)
+
+
+def played(it: Closing, bots: list[Bot], words: argparse.Namespace, folder: Path) -> int:
+    """Plays it in a folder of its own; the status is that of the word."""
+    lab, names, tell = it.playing.lab, it.playing.programs, Teller(folder)
+    practice = Practice(it.playing, tell, words.timeout if bots else None)
+    for number in (signal.SIGINT, signal.SIGTERM, signal.SIGHUP):
+        signal.signal(number, lambda *_: setattr(practice, "stop", True))
+    files = [folder / f"{name}.slip" for name in names]
+    for name, file in zip(names, files):
+        with open(file, "x", encoding="utf-8", opener=for_its_owner) as slip_file:
+            slip_file.write("".join(f"{line}\n" for line in slips.slip(lab, name, it.playing.relay.port)))
+    size = f"{words.family} of {len(lab.nodes)} nodes, {words.start}, daemon {words.daemon.spelled()}"
+    tell(f"{size}; " + "; ".join(f"{name}: {', '.join(map(str, lab.nodes_of(name)))}" for name in names))
+    if not bots:
+        tell(f"port {it.playing.relay.port}; start your program with the slip {files[0]}")
+    for name, bot, slip in zip(names, bots, files):
+        it.kept.append(Kept(bot, slip.resolve(), Path.cwd(), None, MEGABYTES))
+        practice.kept.append((name, it.kept[-1]))
+    stable = practice.run()
+    it.stop_programs()  # From now on nobody answers them.
+    if stable:
+        pairs = ", ".join(f"{a}-{b}" for a, b in it.playing.report["pairs"])
+        tell(f"stable: pairs {pairs or 'none'}; {practice.recovery.told(len(lab.nodes), len(lab.links))}")
+    leave(it.playing, folder, tell)
+    return 0 if stable else WARNED
 
 
 @dataclass
@@ -196,8 +211,12 @@ class Closing:
     playing: Playing
     kept: list[Kept] = field(default_factory=list)
 
-    def close(self) -> None:
-        """Ends programs and class."""
+    def stop_programs(self) -> None:
+        """Ends the programs."""
         for each in self.kept:
             each.stop()
+
+    def close(self) -> None:
+        """Ends programs and class."""
+        self.stop_programs()
         self.playing.end()

@@ -67,6 +67,27 @@ class Disks(InRoom):
         self.assertIn("bot.py: 1 of 1 cases passed\n", done.stdout)
         self.assertIn("</testsuites>", junit.read_text(encoding="utf-8"))
 
+    def test_an_experiment_names_the_file_that_does_not_fit(self) -> None:
+        disk, before = full_disk(self)
+        call: list[str | Path] = [*before, sys.executable, TOP / "class", "experiment", "--family", "path", "--nodes", "4", "--runs", "2"]
+        rows = (
+            (("--csv", disk / "runs.csv"), "runs.csv: No space left on device; make room, or --csv names another file; the same words go on"),
+            (("--csv", self.room / "runs.csv", "--plot", disk / "runs.svg"), "runs.svg: No space left on device; make room, or --plot names"),
+        )
+        for given, why in rows:
+            done = subprocess.run([*call, *given], capture_output=True, text=True, check=False, timeout=LIMIT)
+            self.assertEqual((done.returncode, done.stderr.count("\n")), (4, 1), done.stderr)
+            self.assertIn(f"class: {disk}/{why}", done.stderr)
+        self.assertIn("4 of 4 runs, all within what is proved", done.stdout)
+        self.assertEqual(len((self.room / "runs.csv").read_text(encoding="utf-8").splitlines()), 5)
+
+    def test_practice_says_where_there_may_be_room(self) -> None:
+        disk, before = full_disk(self)
+        done = subprocess.run([*before, sys.executable, TOP / "class", "practise", EXAMPLES / "bot.py", "--into", disk],
+                              capture_output=True, text=True, check=False, timeout=LIMIT)
+        self.assertEqual((done.returncode, done.stderr.count("\n")), (4, 1), done.stderr)
+        self.assertRegex(done.stderr, f"^class: {disk}/2.*-practise: No space left on device; --into names another place$")
+
     def test_a_bot_without_room_of_its_own_is_not_tried(self) -> None:
         told = argparse.Namespace(timeout=20.0, memory=512, at_once=2)
         plan = suites.SMALL[0]

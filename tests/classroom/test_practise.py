@@ -51,6 +51,17 @@ class Practise(InRoom):
         self.assertIn("\nyou: the program has ended, status 1\n", done.stdout)
         self.assertRegex(done.stdout, r"(?m)^it hangs: no program is left, and the class waits for 1 \(you\): seduction, ")
 
+    def test_no_program_goes_on_while_record_and_page_are_made(self) -> None:
+        """These may take long, and nobody would answer it."""
+        given = ["practise", f"python3 {FAULTY} right", "--nodes", "3", "--into", str(self.room / "runs")]
+        code = ("import sys; from classroom import bots, practise, words; kept = []; began = bots.Kept.__init__\n"
+                "bots.Kept.__init__ = lambda self, *given: (kept.append(self), began(self, *given))[1]\n"
+                "practise.leave = lambda *_: print('ended', [each.process.poll() is not None for each in kept])\n"
+                "sys.exit(words.main(sys.argv[1:]))")
+        done = subprocess.run([sys.executable, "-c", code, *given], cwd=TOP, capture_output=True, text=True, check=False, timeout=LIMIT)
+        self.assertEqual(done.returncode, 0, done.stdout + done.stderr)
+        self.assertIn("\nended [True]\n", done.stdout)
+
     def test_two_bots_play_together(self) -> None:
         bot = f"python3 {FAULTY} right"
         done = self.practises(bot, bot, "--family", "star", "--nodes", "5", "--start", "random", "--daemon", "central")
