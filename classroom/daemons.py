@@ -2,6 +2,7 @@
 from __future__ import annotations
 
 import argparse
+import math
 import random
 import re
 from collections.abc import Callable, Sequence
@@ -93,4 +94,22 @@ def movers(how: Daemon, privileged: Sequence[int], chance: random.Random, search
         return [chance.choice(list(privileged))]
     if how.kind == "random":
         return heads(privileged, how.value, chance)
+    if how.kind in ("every", "when-idle"):
+        return in_time(how, privileged, chance)
     return search(privileged) if how.kind == "adversary" else list(privileged)
+
+
+def in_time(how: Daemon, nodes: Sequence[int], chance: random.Random) -> list[int]:
+    """Whose moves the next close finds that applies any, where each node asks after a time that is drawn, a second on average:
+    a close by the clock, or one after so long without a move."""
+    asks = sorted((chance.expovariate(1.0), node) for node in nodes)
+    first = end = asks[0][0]
+    if how.kind == "every" and how.value:
+        end = math.ceil(first / how.value) * how.value
+    found = []
+    for when, node in asks:
+        if how.kind == "when-idle" and when - end <= how.value:
+            end = when
+        if when <= end:
+            found.append(node)
+    return found

@@ -32,7 +32,6 @@ CHUNK = 20  # runs of a task
 OTHER = "--csv names another file; the same words go on with the table"
 DIES = 1  # prctl's PR_SET_PDEATHSIG
 Key = tuple[str, int, str, str, int]
-PLAYED = ("central", "synchronous", "random", "adversary")
 
 
 def sizes(word: str) -> range:
@@ -49,7 +48,8 @@ def add_words(words: argparse.ArgumentParser) -> None:
                        help=f"{networks.NAMED}, or random of 1.5 links a node (path,cycle,random)")
     words.add_argument("--nodes", type=sizes, default=range(4, 17), metavar="A..B", help="how many nodes; A..B/STEP leaves some out (4..16)")
     words.add_argument("--daemon", type=daemons, default=[Daemon("central"), Daemon("synchronous")], metavar="D,..",
-                       help="central, synchronous, random:P, adversary, which searches long (central,synchronous)")
+                       help="central, synchronous, random:P, adversary, which searches long, and every:S and when-idle:S, where a node "
+                       "asks after a second on average (central,synchronous)")
     words.add_argument("--start", choices=networks.STARTS, default="random", help="registers at the beginning (random)")
     words.add_argument("--runs", type=count, default=20, metavar="K", help="runs of each family, size and daemon (20)")
     words.add_argument("--seed", type=int, default=1, help="the first run's; each further run has the next (1)")
@@ -62,8 +62,8 @@ def add_words(words: argparse.ArgumentParser) -> None:
 def settings(words: argparse.Namespace) -> list[Setting]:
     """Each family at each size under each daemon."""
     for how in words.daemon:
-        if how.kind not in PLAYED:
-            raise Fault(f"--daemon {how.spelled()}: nobody is waited for here; central, synchronous, random:P or adversary")
+        if how.kind == "by-hand":
+            raise Fault("--daemon by-hand: nobody is here to close a step")
     found = []
     for family in words.family.split(","):
         for nodes in words.nodes if not family.startswith(SIZED) else [0]:

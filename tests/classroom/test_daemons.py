@@ -11,7 +11,7 @@ from pathlib import Path
 from classroom import lab as labs
 from classroom.client import Client
 from classroom.closing import Striker
-from classroom.daemons import Daemon, Sight, applied
+from classroom.daemons import Daemon, Sight, applied, movers
 from classroom.frames import frames_of
 from classroom.program import Fault
 from classroom.shaking import broken, shaken
@@ -40,6 +40,20 @@ class Alone(unittest.TestCase):
         self.assertEqual(applied(Daemon("every", 2), Sight([1], [1], 0, 2.1), chance, 1), [1])
         self.assertEqual(applied(Daemon("when-idle", 2), Sight([1], [1], 1.9, 9), chance, 1), [])
         self.assertEqual(applied(Daemon("when-idle", 2), Sight([1], [1], 2.1, 0), chance, 1), [1])
+
+    def test_who_asks_in_time_where_times_are_drawn(self) -> None:
+        for seed in range(200):
+            times = random.Random(seed)
+            asks = {node: times.expovariate(1.0) for node in (4, 2, 9)}
+            order = sorted(asks, key=lambda node: asks[node])
+            first, second, third = (asks[node] for node in order)
+            found = movers(Daemon("every", 0.7), [4, 2, 9], random.Random(seed))
+            self.assertEqual(found, [node for node in order if asks[node] // 0.7 == first // 0.7])
+            count = 1 if second - first > 0.4 else 2 if third - second > 0.4 else 3
+            self.assertEqual(movers(Daemon("when-idle", 0.4), [4, 2, 9], random.Random(seed)), order[:count])
+        for kind in ("every", "when-idle"):
+            self.assertEqual(len(movers(Daemon(kind, 0), [4, 2, 9], random.Random(1))), 1)
+            self.assertEqual(len(movers(Daemon(kind, 1000), [4, 2, 9], random.Random(1))), 3)
 
     def test_registers_that_are_drawn(self) -> None:
         nodes, links = [1, 2, 3, 4], [(1, 2), (2, 3), (3, 4)]

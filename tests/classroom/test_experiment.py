@@ -74,6 +74,13 @@ class Runs(InRoom):
         self.assertEqual([row for row, _ in runs(setting, [5])], together[2:])
         self.assertTrue(all(row.stable and row.moves > 0 for row in together))
 
+    def test_daemons_that_go_by_the_clock(self) -> None:
+        for how in (Daemon("every", 0.5), Daemon("when-idle", 0.2)):
+            setting = Setting("cycle", 7, how, "random")
+            rows = [row for row, _ in runs(setting, [3, 4])]
+            self.assertEqual([row for row, _ in runs(setting, [4])], rows[1:])
+            self.assertTrue(all(row.stable and row.rounds <= row.closes <= row.moves for row in rows), rows)
+
     def test_one_program_after_another_where_events_are_used_up(self) -> None:
         setting = Setting("path", 5, Daemon("central"), "random")
         wanted = runs(setting, list(range(6)))
@@ -152,7 +159,7 @@ class Words(InRoom):
         other = self.file("other.csv", "name,mark\nana,1\n")
         rows: tuple[tuple[tuple[str | Path, ...], str], ...] = (
             (("--csv", other), "is no table of an experiment"),
-            (("--daemon", "when-idle:1"), "nobody is waited for here; central, synchronous, random:P or adversary"),
+            (("--daemon", "by-hand"), "--daemon by-hand: nobody is here to close a step"),
             (("--nodes", "9..3"), "9..3 is no A..B within 1..256"),
             (("--family", "ring"), "no family ring"),
         )

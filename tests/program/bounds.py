@@ -19,7 +19,7 @@ from tests.common.preload import LIMIT, fail, good
 from tests.model import read_lab
 from tests.tally import plain
 
-MOVES = (4, 5, 6, 7, 12, 41, 64, 199, 200)
+MOVES = (4, 5, 6, 7, 12, 41, 64, 101, 200)
 ROUNDS = (2, 3, 4, 5, 6, 7, 40, 101, 200)
 # A node with the words of its move.
 Move = tuple[int, dict[str, object]]
