@@ -70,7 +70,7 @@ class Disks(InRoom):
     def test_an_experiment_names_the_file_that_does_not_fit(self) -> None:
         disk, before = full_disk(self)
         call: list[str | Path] = [*before, sys.executable, TOP / "class", "experiment", "--family", "path", "--nodes", "4", "--runs", "2"]
-        rows = (
+        rows: tuple[tuple[tuple[str | Path, ...], str], ...] = (
             (("--csv", disk / "runs.csv"), "runs.csv: No space left on device; make room, or --csv names another file; the same words go on"),
             (("--csv", self.room / "runs.csv", "--plot", disk / "runs.svg"), "runs.svg: No space left on device; make room, or --plot names"),
         )

@@ -97,7 +97,7 @@ class Play(Played):
     def test_several_places_in_one_picture(self) -> None:
         lab, journal = edited_run(self.room)
         frames = [told(frame.state, frame)[:2] for frame in frames_of(lab, journal)[1]]
-        for places in ([0, 3], [9, 0, 5, 5, 14]):
+        for places in ([0, 3], [9, 0, 5, 5, 12]):
             output = self.room / "several.svg"
             done = self.call("play", lab, journal, "--svg", ",".join(map(str, places)), "-o", output)
             self.assertEqual((done.returncode, done.stderr), (0, ""))
@@ -106,9 +106,9 @@ class Play(Played):
             self.assertEqual([attributes_of(cell) for cell in cells], [frames[place] for place in places])
             corners = {(cell.get("x"), cell.get("y")) for cell in cells}
             self.assertEqual((len(corners), text.count('id="arrow"'), text.count('id="')), (len(places), 1, 1))
-        for places in ("0,99", "0,-1", "1,", "x"):
-            done = self.call("play", lab, journal, "--svg", places, "-o", self.room / "none.svg")
-            self.assertEqual((done.returncode, (self.room / "none.svg").exists()), (3 if places == "0,99" else 1, False), places)
+        for word, status in (("0,99", 3), ("0,-1", 1), ("1,", 1), ("x", 1)):
+            done = self.call("play", lab, journal, "--svg", word, "-o", self.room / "none.svg")
+            self.assertEqual((done.returncode, (self.room / "none.svg").exists()), (status, False), word)
 
     def test_the_pictures_of_the_documents(self) -> None:
         for name in ("cycle", "crowd"):

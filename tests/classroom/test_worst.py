@@ -63,6 +63,13 @@ class Worst(unittest.TestCase):
             moves = counted(lab, first + phases(nodes, {*lab.links}, nodes)).moves
             self.assertEqual(moves, bounds.of_lab(lab).moves - nodes % 2, nodes)
 
+    def test_the_example_is_a_crowd_whose_run_takes_the_most_moves(self) -> None:
+        lab, crowd = labs.read(EXAMPLES / "crowd.toml"), made("crowd", 6)
+        self.assertEqual([(node.id, node.p, node.m) for node in lab.nodes], [(node.id, node.p, node.m) for node in crowd.nodes])
+        self.assertEqual(sorted(lab.links), sorted(crowd.links))
+        replies = (EXAMPLES / "crowd-run.out").read_text(encoding="ascii")
+        self.assertEqual((replies.count('"ok":"move"'), replies.count('"deny"')), (bounds.of_lab(lab).moves, 0))
+
     def test_halves_take_the_most_rounds(self) -> None:
         for nodes in (2, 3, 4, 5, 6, 7, 12):
             lab = made("halves", nodes)
