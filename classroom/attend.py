@@ -4,6 +4,7 @@ from __future__ import annotations
 import contextlib
 import os
 import queue
+import resource
 import tempfile
 import time
 from collections.abc import Callable
@@ -20,6 +21,7 @@ TICK = 0.1
 LITTLE = 65536  # bytes of a disk at which there is little room
 PROBE = bytes(512)  # what is written, and taken back, to see whether the disk takes it
 AGAIN = 1.0  # seconds between two looks at the disk
+LINE = 101  # bytes of a journal's line at most
 
 
 def pause(how: Closing) -> float:
@@ -41,6 +43,25 @@ def told_of(left: int, why: str) -> tuple[str, str]:
                     "make room")
 
 
+def limit_of(process: int) -> int | None:
+    """How many bytes a file of a process may have, where it has such a limit (ulimit -f)."""
+    try:
+        limit = resource.prlimit(process, resource.RLIMIT_FSIZE)[0]
+    except (OSError, ValueError):
+        return None
+    return None if limit == resource.RLIM_INFINITY else limit
+
+
+def told_of_limit(left: int, folder: Path) -> tuple[str, str]:
+    """The same of a journal that may grow by so many bytes, since a file of its server has a limit."""
+    how = f"(ulimit -f): end, and go on with ./class run --resume {folder} where there is no such limit"
+    if left >= LITTLE:
+        return "", ""
+    if left >= LINE:
+        return "little", f"the journal may grow by {left} bytes more, since a file of its server has a limit {how}"
+    return "full", f"the journal is as large as a file of its server may be, and what isn't written isn't granted {how}"
+
+
 def nameless(folder: Path) -> IO[bytes] | None:
     """A file without a name on the disk of a folder, where one can be made."""
     try:
@@ -50,11 +71,11 @@ def nameless(folder: Path) -> IO[bytes] | None:
 
 
 class Room:
-    """Whether the disk of a folder has room for a journal's lines."""
+    """Whether the disk of a folder has room for a journal's lines, and the limit on the files of the server that writes it."""
 
-    def __init__(self, folder: Path) -> None:
-        self.folder = folder
-        self.due, self.told = 0.0, ""
+    def __init__(self, folder: Path, server: int | None = None) -> None:
+        self.folder, self.server = folder, server
+        self.due, self.told, self.told_limit = 0.0, "", ""
         self.file = nameless(folder)
 
     def close(self) -> None:
@@ -84,12 +105,25 @@ class Room:
         if now < self.due:
             return []
         self.due = now + AGAIN
+        return [*self.of_disk(), *self.of_limit()]
+
+    def of_disk(self) -> list[str]:
+        """What is new of the disk."""
         left = self.left()
         kind, line = told_of(left, self.why() if left >= LITTLE else "")
         before, self.told = self.told, kind
         if kind == before:
             return []
         return [line] if line else [AGAIN_ROOM] if before == "full" else []
+
+    def of_limit(self) -> list[str]:
+        """What is new of the limit."""
+        limit = limit_of(self.server) if self.server is not None else None
+        journal = self.folder / "journal"
+        left = LITTLE if limit is None or not journal.exists() else limit - journal.stat().st_size
+        kind, line = told_of_limit(left, self.folder)
+        before, self.told_limit = self.told_limit, kind
+        return [line] if line and kind != before else []
 
 
 def turn(desk: Desk, room: Room, until_stable: bool) -> str:
@@ -101,6 +135,9 @@ def turn(desk: Desk, room: Room, until_stable: bool) -> str:
     people = [*(desk.connected.news() if desk.connected else []), *(desk.heard.news(desk.last_step) if desk.heard else [])]
     for line in [*people, *room.news()]:
         desk.tell(line)
+    if desk.heard and desk.heard.over:
+        desk.read()
+        desk.end_by(desk.heard.over)
     if until_stable and desk.report.stable and not desk.is_old and not desk.book.chosen:
         return "stable"
     return desk.over

@@ -55,6 +55,10 @@ LAST = {
 }
 
 
+class Silent(Closed):
+    """The connection has ended without a word, or an answer didn't come in time."""
+
+
 class NoServer(Closed):
     """Nobody listens at the port, or another program does."""
 
@@ -220,12 +224,9 @@ class Client:
         self._rest = b""
         try:
             self.ask(do="hello", name=name, key=key)
-        except NotReply as error:
+        except BaseException as error:
             self._socket.close()
-            raise NoServer(f"at port {port} is another program: it answers {error}") from None
-        except BaseException:
-            self._socket.close()
-            raise
+            raise no_server(port, error) or error from None
 
     @staticmethod
     def from_slip(path: str | Path, limit: float = 30.0) -> Client:
@@ -268,11 +269,11 @@ class Client:
                 more = self._socket.recv(65536)
             except TimeoutError:
                 self._socket.close()
-                raise Closed(f"no answer in {self.limit} seconds") from None
+                raise Silent(f"no answer in {self.limit} seconds") from None
             except OSError as error:
-                raise Closed(str(error)) from None
+                raise Silent(str(error)) from None
             if not more:
-                raise Closed("the server has closed the connection")
+                raise Silent("the server has closed the connection")
             self._rest += more
         line, self._rest = self._rest.split(b"\n", 1)
         return line
@@ -360,6 +361,13 @@ class Client:
         return Report(it["at"], it["stable"], lists["pairs"], tuple(it["free"]), lists["privileged"], lists["open"])
 
 
+def no_server(port: int, error: BaseException) -> NoServer | None:
+    """What an error says of a port where a hello isn't answered as a class's server does it."""
+    if isinstance(error, NotReply):
+        return NoServer(f"at port {port} is another program: it answers {error}")
+    return NoServer(f"no server at port {port} answers a hello: {error}") if isinstance(error, Silent) else None
+
+
 def reply_of(line: bytes) -> dict[str, Any]:
     """The reply of a line."""
     try:
@@ -396,9 +404,20 @@ def stop(error: Exception) -> tuple[int, str]:
     return (0, f"the run is over, or the connection was lost: {error}") if isinstance(error, Closed) else (3, str(error))
 
 
-def goes_on(error: Denied) -> bool:
-    """Whether a denial is one of those that a bot meets: it looks again."""
-    return error.name not in STOPS
+def goes_on(error: Denied | Refused) -> bool:
+    """Whether a denial is one of those that a bot meets, or memory was short: it looks again."""
+    return (error.name if isinstance(error, Denied) else error.word) not in STOPS
+
+
+def seconds_of(words: list[str]) -> float:
+    """How long a bot waits for something new, by the word that may stand last; for ever without one."""
+    try:
+        seconds = float(words[0]) if words else float("inf")
+    except ValueError:
+        seconds = -1.0
+    if len(words) > 1 or not seconds >= 0:
+        raise NoSlip(f"{' '.join(words)}: no number of seconds")
+    return seconds
 
 
 def enter(slip: Slip, patience: float = 60.0) -> Client:
@@ -425,6 +444,9 @@ def run(program: Callable[[list[str]], None], usage: str) -> None:
         status, sentence = stop(error)
         print(f"{Path(sys.argv[0]).name}: {sentence}", file=sys.stderr)
         sys.exit(status)
+    except BrokenPipeError:  # Nobody reads what it prints.
+        os.dup2(os.open(os.devnull, os.O_WRONLY), sys.stdout.fileno())
+        sys.exit(141)
     except KeyboardInterrupt:
         sys.exit(130)
 
@@ -438,7 +460,8 @@ KEYS: dict[str, dict[str, str]] = {
     "link": {"a": NODE, "b": NODE}, "cut": {"a": NODE, "b": NODE},
 }
 RULES = ("update", "marriage", "seduction", "abandonment")
-MOST = 4096  # bytes of a line
+MOST, DEEPEST = 4096, 127  # bytes of a line; objects and lists in one another
+DEEP = f"nested deeper than {DEEPEST}"
 
 
 def is_a(kind: str, value: object) -> bool:
@@ -457,13 +480,17 @@ def said(value: object) -> str:
 
 def wrong(line: str) -> str | None:
     """What is wrong with a line as a request, for which the server has one word; None where nothing is."""
-    if len(line.encode(errors="replace")) >= MOST:
+    if len(sent(line)) >= MOST:
         return f"more than {MOST} bytes: the server ends the connection"
     if line.startswith("\ufeff"):
         return "a byte order mark at its beginning"
     if "\n" in line or "\r" in line:
         return "several lines: a request is one"
+    foreign = next((at for at, char in enumerate(line) if "\ud800" <= char <= "\udfff"), None)
+    if foreign is not None:
+        return f"not UTF-8 at byte {byte(line, foreign)}"
     doubled: list[str] = []
+    strange: list[str] = []
 
     def once(pairs: list[tuple[str, Any]]) -> dict[str, Any]:
         names = [name for name, _ in pairs]
@@ -471,14 +498,45 @@ def wrong(line: str) -> str | None:
         return dict(pairs)
 
     try:
-        asked = json.loads(line, object_pairs_hook=once)
+        asked = json.loads(line, object_pairs_hook=once, parse_int=whole, parse_constant=strange.append)
     except json.JSONDecodeError as error:
         if error.pos >= len(line.rstrip()) and line.strip():
             return "not JSON: it isn't closed at its end, and a request is one line"
-        return f"not JSON at byte {len(line[:error.pos].encode(errors='replace')) + 1}"
+        return f"not JSON at byte {byte(line, error.pos)}"
     except RecursionError:
-        return "nested too deep"
-    return f"{doubled[0]} stands twice" if doubled else wrong_keys(asked)
+        return DEEP
+    if strange:
+        return f"not JSON: {strange[0]} is no number"
+    return wrong_value(asked) or wrong_keys(asked) or (f"{doubled[0]} stands twice, and the last counts" if doubled else None)
+
+
+def sent(line: str) -> bytes:
+    """The bytes of a line: as they were read, where they are no UTF-8."""
+    return line.encode(errors="surrogateescape")
+
+
+def byte(line: str, at: int) -> int:
+    """Which byte a place in a line is, from 1."""
+    return len(sent(line[:at])) + 1
+
+
+def whole(text: str) -> int | float:
+    """An integer; one with a sign is out of range, and so is one past the greatest double."""
+    return -1 if text.startswith("-") else int(text) if float(text) < float("inf") else float("inf")
+
+
+def wrong_value(value: object, deep: int = 1) -> str | None:
+    """What is wrong with a value under whatever key it stands."""
+    if isinstance(value, str) and any("\ud800" <= char <= "\udfff" for char in value):
+        return "half of a surrogate pair"
+    if isinstance(value, float) and abs(value) == float("inf"):
+        return "a number past the greatest double"
+    if not isinstance(value, dict | list):
+        return None
+    if deep > DEEPEST:
+        return DEEP
+    each = [*value, *value.values()] if isinstance(value, dict) else value
+    return next((found for it in each if (found := wrong_value(it, deep + 1))), None)
 
 
 def wrong_keys(asked: object) -> str | None:
@@ -502,8 +560,8 @@ def wrong_keys(asked: object) -> str | None:
 class ByHand:
     """A conversation by hand."""
 
-    def __init__(self, slip: Slip | None, port: int, log: Path | None) -> None:
-        self.log = log
+    def __init__(self, slip: Slip | None, port: int, log: Path | None, limit: float = 30.0) -> None:
+        self.log, self.port = log, port
         self.since = time.monotonic()
         self.greeted = False
         self.ended = False
@@ -513,28 +571,39 @@ class ByHand:
             raise NoServer(f"no server at port {port}: {error}") from None
         self.answers = self.connection.makefile("rb")
         if slip is not None:
+            self.connection.settimeout(limit)
             self.send(json.dumps({"do": "hello", "name": slip.name, "key": slip.key}), shown=False)
+            self.connection.settimeout(None)
 
     def keep(self, line: str) -> None:
-        """Adds a line to the log."""
-        if self.log is not None:
-            with self.log.open("a", encoding="utf-8") as it:
+        """Adds a line to the log, as long as that can be written."""
+        if self.log is None:
+            return
+        try:
+            with self.log.open("a", encoding="utf-8", errors="surrogateescape") as it:
                 it.write(f"{time.strftime('%H:%M:%S')} {line}\n")
+        except OSError as error:
+            self.note(f"{self.log}: {error.strerror}: no more is kept there")
+            self.log = None
+
+    def note(self, text: str) -> None:
+        """Tells what the server doesn't."""
+        print(f"client: {text}", file=sys.stderr, flush=True)
 
     def send(self, line: str, shown: bool = True) -> None:
         """Sends a line, and shows what answers it. A key isn't kept in the log."""
         note = wrong(line) if shown else None
         if note:
-            print(f"client: {note}", file=sys.stderr, flush=True)
+            self.note(note)
             self.keep(f"! {note}")
         self.keep("> " + re.sub(r'("key" *: *)"[^"]*"', r'\1".."', line))
         waited, self.since = time.monotonic() - self.since, time.monotonic()
         try:
-            self.connection.sendall(line.encode(errors="replace") + b"\n")
+            self.connection.sendall(sent(line) + b"\n")
             answer = self.answers.readline().decode(errors="replace").rstrip("\n")
         except OSError:
             answer = ""
-        last = LAST.get(reply_of(answer.encode()).get("refuse", "")) if answer else self.why(line, waited)
+        last = self.last(answer) if answer else self.why(line, waited)
         if last is not None:
             answer = f"the server has closed the connection: {last}"
         print(answer, flush=True)
@@ -542,12 +611,21 @@ class ByHand:
         self.ended = '"ok":"bye"' in answer or "closed the connection" in answer or '"refuse":"busy"' in answer
         self.greeted = self.greeted or '"ok":"hello"' in answer
 
+    def last(self, answer: str) -> str | None:
+        """Why the connection ended, where the server says it by this answer."""
+        try:
+            return LAST.get(reply_of(answer.encode()).get("refuse", ""))
+        except NotReply as error:
+            raise (no_server(self.port, error) if not self.greeted else None) or error from None
+
     def why(self, line: str, waited: float) -> str:
         """Why it ended, as far as that can be known here."""
-        if len(line.encode(errors="replace")) >= MOST:
+        if len(sent(line)) >= MOST:
             return f"a line has at most {MOST} bytes"
         if not self.greeted and waited >= 10:
             return "the first line came later than ten seconds"
+        if not self.greeted:
+            raise NoServer(f"no server at port {self.port} answers a hello")
         if waited >= 600:
             return "no line came for ten minutes"
         return "the class is over, or it was cut off"
@@ -556,16 +634,20 @@ class ByHand:
 def by_hand(words: list[str]) -> None:
     """Sends each line of standard input, and shows the line that answers it."""
     log = None
-    if "--log" in words[:-1]:
+    if "--log" in words:
         place = words.index("--log")
+        if place + 1 == len(words):
+            raise NoSlip("--log FILE")
         log = Path(words[place + 1])
         words = words[:place] + words[place + 2:]
     if len(words) == 1 and words[0].isdecimal():
         talk = ByHand(None, port_of(words[0]), log)
     else:
-        slip, _ = Slip.of(words)
+        slip, rest = Slip.of(words)
+        if rest:
+            raise NoSlip(f"{rest[0]}: no word is taken there")
         talk = ByHand(slip, slip.port, log)
-    for line in [] if talk.ended else sys.stdin:
+    for line in [] if talk.ended else open(0, encoding="utf-8", errors="surrogateescape", newline="\n", closefd=False):
         talk.send(line.rstrip("\r\n"))
         if talk.ended:
             break

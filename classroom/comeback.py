@@ -5,11 +5,10 @@ from collections.abc import Callable, Collection
 from typing import Any
 
 from classroom import lab as labs
-from classroom.journal import Event
+from classroom.journal import EDITS, Event
 from classroom.replay import REPORT, Replay, Script
 from classroom.rounds import Recovery
 
-EDITS = ("fault", "link", "cut")
 MOST_COUNTED = 50  # faults, links and cuts of a run of which it is told how the class came back
 
 

@@ -11,11 +11,11 @@ from classroom import lab as labs
 from classroom.bench import network
 from classroom.client import Client, Closed, Denied, Refused, Report
 from classroom.closing import Closing, closing, spelled
-from classroom.comeback import EDITS, Comeback, Recount
+from classroom.comeback import Comeback, Recount
 from classroom.connected import Connected
 from classroom.heard import Heard
 from classroom.house import HOW, House
-from classroom.journal import Event, events
+from classroom.journal import EDITS, Event, events
 from classroom.present import Book
 from classroom.program import Fault
 from classroom.shaking import Registers, broken, pairs_of, shaken

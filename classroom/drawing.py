@@ -9,7 +9,7 @@ from pathlib import Path
 
 from classroom import labels
 from classroom.frames import OpenLink, State
-from classroom.journal import Event
+from classroom.journal import EDITS, RULES, Event
 from classroom.lab import Lab, ordered
 from classroom.labels import FORMS, Form, Witnesses
 from classroom.layout import HEIGHT, SMALL_BELOW, WIDTH, Layout
@@ -20,7 +20,7 @@ WITNESSES_MOST = 60  # open links up to which each names its witness
 OPEN_MOST = 2000  # open links above which they are told as a number alone
 FAINT_ABOVE = 8  # links for each node above which their lines are the fainter the more they are
 SIGNS = "letters below a node: whose it is"
-LETTERS = "letter beside it: U update, M marriage, S seduction, A abandonment"
+LETTERS = f"letter beside it: {', '.join(f'{rule[:1].upper()} {rule}' for rule in RULES)}"
 LISTED_WIDE, LISTED_HIGH = 220, 18  # of a student's place in the list below a small drawing
 M_LARGE = '<rect x="-6" y="-6" width="12" height="12"/><text y="4">m</text>'
 M_SMALL = '<rect x="-3" y="-3" width="6" height="6"/>'
@@ -237,14 +237,18 @@ class Drawing:
             )
         return "".join(rows), (1 - -len(names) // columns) * LISTED_HIGH
 
+    @property
+    def marks(self) -> dict[str, float]:
+        """How far above the middle of its nodes the word of a fault, link or cut stands."""
+        return {kind: self.layout.radius + 24 if kind == "fault" else 6 for kind in EDITS}
+
     def mark(self, event: Event | None) -> str:
         """The word of a fault, link or cut, where it took place."""
-        if event is None or event.kind not in ("fault", "link", "cut"):
+        if event is None or event.kind not in EDITS:
             return '<text class="mark"></text>'
         points = [self.layout.points[node] for node in event.nodes]
         x, y = sum(x for x, _ in points) / len(points), sum(y for _, y in points) / len(points)
-        up = self.layout.radius + 24 if event.kind == "fault" else 6
-        return f'<text class="mark" x="{x:g}" y="{y - up:g}">⚡ {event.kind}</text>'
+        return f'<text class="mark" x="{x:g}" y="{y - self.marks[event.kind]:g}">⚡ {event.kind}</text>'
 
 
 def married(node: int, state: State) -> bool:

@@ -17,6 +17,7 @@ FLOOD = 100.0  # lines a second
 NOBODY = "someone without a name"
 OTHERS = "names that the lab hasn't"
 MALFORMED = "malformed"
+OVER = ("full", "journal")
 DESK = 1  # the seat of who holds the desk
 
 
@@ -64,6 +65,7 @@ class Heard:
         self.cut: list[str] = []
         self.shown: Counter[str] = Counter()  # whose connections were told
         self.step = 0
+        self.over = ""  # `full` or `journal`, where somebody was refused so: nothing more is granted
         self.due = self.last = time.monotonic()
 
     def catch_up(self, step: int) -> None:
@@ -75,6 +77,7 @@ class Heard:
         self.told.update({key: sum(at.values()) for key, at in self.vain.items()})
         self.lines.clear()
         self.cut.clear()
+        self.over = ""
 
     def news(self, step: int) -> list[str]:
         """Lines of what is new since the last look; `step` is the place of the last step."""
@@ -110,6 +113,7 @@ class Heard:
         else:
             self.lines[who] += entry.seat != DESK
             told = entry.told()
+            self.over = told["refuse"] if told.get("refuse") in OVER else self.over
             if told.get("ok") == "hello":
                 seat.name = told["who"]
             elif told.get("deny") == "unknown":

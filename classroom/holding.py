@@ -134,7 +134,7 @@ def hold(run: Running, it: server.Server) -> int | None:
         status = it.stop()
         run.tell(f"the server {'has ended by itself' if ended else 'was ended'}, status {status}: {it.printed()}")
         return FAILED
-    with contextlib.closing(Room(run.folder)) as room:
+    with contextlib.closing(Room(run.folder, it.process.number)) as room:
         why = attend(desk, it, run.until == "stable", run.typed, room, run.hung)
     return take_leave(it, desk, why, run)
 

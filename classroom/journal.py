@@ -4,7 +4,10 @@ from __future__ import annotations
 from dataclasses import dataclass
 from functools import cached_property
 
-RULES = ("update", "marriage", "seduction", "abandonment")
+from classroom import client
+
+RULES = client.RULES
+EDITS = ("fault", "link", "cut")
 
 
 @dataclass(frozen=True)
@@ -28,7 +31,7 @@ class Event:
     @property
     def makes_configuration(self) -> bool:
         """Whether another configuration comes of it."""
-        return self.kind in ("close", "fault", "link", "cut")
+        return self.kind in ("close", *EDITS)
 
     @cached_property
     def nodes(self) -> tuple[int, ...]:

@@ -139,15 +139,18 @@ def what_stays(drawing: Drawing) -> dict[str, Any]:
     """What of a page's data stays from place to place."""
     return {
         "nodes": [{"id": node.id, "owners": node.owners} for node in drawing.lab.nodes],
-        "points": drawing.layout.points, "radius": drawing.layout.radius,
-        "rules": RULES, "witnessesMost": WITNESSES_MOST, "openMost": OPEN_MOST, "short": drawing.form.short, "brief": drawing.brief,
+        "points": drawing.layout.points,
+        "rules": RULES, "marks": drawing.marks, "witnessesMost": WITNESSES_MOST, "openMost": OPEN_MOST,
+        "short": drawing.form.short, "brief": drawing.brief,
     }
 
 
 def filled(name: str, title: str, drawing: Drawing, picture: str, data: dict[str, Any], more: str = "") -> tuple[str, str]:
     """A page of a drawing by its form."""
+    closing = '<dt>steps are closed</dt><dd id="closing"></dd>\n' if name == "live" else ""
+    told = form("told", {"CLOSING": closing, "STUDENTS": legend(drawing), "MOST": f"{OPEN_MOST:,}"})
     parts = {
-        "TITLE": title, "DRAWING": picture, "STUDENTS": legend(drawing),
+        "TITLE": title, "DRAWING": picture, "TOLD": told,
         "DATA": data_element(json.dumps(data, separators=(",", ":"))), "MORE": more,
     }
     return assembled(name, parts, drawing.style(), ("drawing.css", "player.css"), ("picture.js", f"{name}.js"))
@@ -157,10 +160,14 @@ def assembled(name: str, parts: dict[str, str], more: str, styles: tuple[str, ..
     """A page by its form, with its style and its program inside, and the policy that lets these two alone be used."""
     style = "".join((FOLDER / file).read_text("utf-8") for file in styles) + more
     program = "".join((FOLDER / file).read_text("utf-8") for file in programs)
-    parts = parts | {"TITLE": escape(parts["TITLE"]), "STYLE": style, "PROGRAM": program}
-    head, *rest = (FOLDER / f"{name}.html").read_text("utf-8").split("{{")
-    page = head + "".join(parts[piece.split("}}", 1)[0]] + piece.split("}}", 1)[1] for piece in rest)
+    page = form(name, parts | {"TITLE": escape(parts["TITLE"]), "STYLE": style, "PROGRAM": program})
     return page, f"style-src {hashed(style)}; script-src {hashed(program)}"
+
+
+def form(name: str, parts: dict[str, str]) -> str:
+    """A form, with its parts where their names stand."""
+    head, *rest = (FOLDER / f"{name}.html").read_text("utf-8").split("{{")
+    return head + "".join(parts[piece.split("}}", 1)[0]] + piece.split("}}", 1)[1] for piece in rest)
 
 
 def hashed(text: str) -> str:

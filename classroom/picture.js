@@ -56,7 +56,6 @@ class Drawing {
   constructor(root, data) {
     this.root = root;
     this.data = data;
-    this.radius = data.radius;
     this.pointers = new Map();
     this.learn(data.arrows);
     this.points = data.nodes.map((node) => data.points[node.id]);
@@ -242,7 +241,7 @@ class Drawing {
 
   showMark(row) {
     const places = (row.nodes || []).map((node) => this.points[node]);
-    const shown = ["fault", "link", "cut"].includes(row.kind);
+    const shown = row.kind in this.data.marks;
     this.set(this.layers.removed, "d", row.kind === "cut" ? this.segment(places[0], places[1]) : "");
     const text = shown ? "⚡ " + row.kind : "";
     if (this.said.get("mark") !== text) this.mark.textContent = text;
@@ -250,7 +249,7 @@ class Drawing {
     if (!shown) return;
     const middle = (axis) => places.reduce((sum, point) => sum + point[axis], 0) / places.length;
     this.set(this.mark, "x", String(middle(0)));
-    this.set(this.mark, "y", String(middle(1) - (row.kind === "fault" ? this.radius + 24 : 6)));
+    this.set(this.mark, "y", String(middle(1) - this.data.marks[row.kind]));
   }
 }
 

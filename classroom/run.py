@@ -7,6 +7,7 @@ from pathlib import Path
 
 from classroom import closing, house, server
 from classroom import lab as labs
+from classroom.client import NoSlip, port_of
 from classroom.daemons import FORMS
 from classroom.folders import RECORD, Record, going, new_folder, of_folder
 from classroom.grade import seconds
@@ -20,9 +21,10 @@ CLOSING = closing.closing("when-idle:2")
 
 def port(word: str) -> int:
     """A port's number."""
-    if not (word.isascii() and word.isdecimal() and 1 <= int(word) <= 65535):
-        raise argparse.ArgumentTypeError(f"{word} is no port: 1 to 65535")
-    return int(word)
+    try:
+        return port_of(word)
+    except NoSlip as error:
+        raise argparse.ArgumentTypeError(str(error)) from None
 
 
 def standing(word: str) -> float:

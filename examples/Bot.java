@@ -10,7 +10,8 @@ import java.util.regex.Matcher;
 import java.util.regex.Pattern;
 
 /**
- * Plays a student's nodes with no library: java Bot.java SLIP, or java Bot.java PORT NAME KEYFILE NODE,..
+ * Plays a student's nodes with no library, until the run ends or nothing was new for SECONDS:
+ * java Bot.java SLIP [SECONDS], or java Bot.java PORT NAME KEYFILE NODE,.. [SECONDS]
  * SLIP - is the environment's CENDUWA_SLIP, KEYFILE - its CENDUWA_KEY. Lines are taken apart by hand.
  */
 public class Bot {
@@ -23,8 +24,10 @@ public class Bot {
         "busy", "5 all seats were taken for a minute: come again later",
         "full", "6 nothing is granted any longer: tell your teacher",
         "journal", "6 nothing is granted any longer: tell your teacher");
+    static final String NOBODY = "no server answers a hello at that port; your teacher tells it";
     static PrintStream out;
     static BufferedReader in;
+    static boolean isGreeted;
 
     static void stop(int status, String sentence) {
         System.err.println("Bot: " + sentence);
@@ -41,7 +44,7 @@ public class Bot {
         } catch (IOException error) {
             // It was cut off.
         }
-        if (reply == null) stop(0, "the run is over, or the connection was lost");
+        if (reply == null) stop(isGreeted ? 0 : 4, isGreeted ? "the run is over, or the connection was lost" : NOBODY);
         Matcher no = Pattern.compile("\"(?:deny|refuse)\":\"([a-z-]+)\"").matcher(reply);
         if (no.find() && STOPS.containsKey(no.group(1)) && !no.group(1).equals("busy")) {
             String why = STOPS.get(no.group(1));
@@ -55,14 +58,16 @@ public class Bot {
         for (int second = 0; second <= 60; second++) {
             try {
                 Socket socket = new Socket("127.0.0.1", port);
+                socket.setSoTimeout(30000);
                 out = new PrintStream(socket.getOutputStream(), false, "UTF-8");
                 in = new BufferedReader(new InputStreamReader(socket.getInputStream(), "UTF-8"));
             } catch (IOException error) {
                 stop(4, "no server at port " + port + "; your teacher tells the port");
             }
-            String reply = ask("{\"do\":\"hello\",\"name\":\"" + name + "\",\"key\":\"" + key + "\"}");
+            String reply = ask("{\"do\":\"hello\",\"name\":" + quoted(name) + ",\"key\":" + quoted(key) + "}");
             if (reply.startsWith("{\"ok\":\"hello\"")) {
                 System.out.println(reply);
+                isGreeted = true;
                 return;
             }
             if (reply.contains("\"over\"")) stop(0, "the run is over");
@@ -71,6 +76,10 @@ public class Bot {
             Thread.sleep(1000);
         }
         stop(5, STOPS.get("busy").substring(2));
+    }
+
+    static String quoted(String text) {
+        return '"' + text.replace("\\", "\\\\").replace("\"", "\\\"") + '"';
     }
 
     /** What stands at a key of the reply itself, not of a neighbour in it; null where that is null. */
@@ -87,10 +96,17 @@ public class Bot {
         return null;
     }
 
-    /** What stands after a word at the beginning of a line of a slip, or else the text itself. */
+    /** What stands after a word at the beginning of a line of a slip, or null. */
     static String after(String slip, String word) {
-        Matcher found = Pattern.compile("(?m)^" + word + "\\s+(\\S+)\\s*$").matcher(slip);
-        return found.find() ? found.group(1) : slip.trim();
+        Matcher found = Pattern.compile("(?m)^" + word + "[ \\t]+(\\S+)\\s*$").matcher(slip);
+        return found.find() ? found.group(1) : null;
+    }
+
+    /** The same, which has to be there. */
+    static String line(String slip, String word, String file) {
+        String found = after(slip, word);
+        if (found == null) stop(1, word.equals("nodes") ? "no nodes in " + file : file + ": no line `" + word + " ..`, so it is no slip");
+        return found;
     }
 
     static String read(String file) {
@@ -102,29 +118,44 @@ public class Bot {
         }
     }
 
+    /** How many seconds without news end it, by the word that may stand last. */
+    static double patience(String[] words) {
+        if (words.length != 2 && words.length != 5) return Double.POSITIVE_INFINITY;
+        String last = words[words.length - 1];
+        if (!last.matches("\\d{1,9}(\\.\\d+)?")) stop(1, last + ": no number of seconds");
+        return Double.parseDouble(last);
+    }
+
     public static void main(String[] words) throws Exception {
-        if (words.length != 1 && words.length != 4) stop(1, "usage: java Bot.java SLIP, or PORT NAME KEYFILE NODE,..");
-        String file = words[words.length == 1 ? 0 : 2];
-        boolean isSlip = words.length == 1, isFile = !file.equals("-");
-        String name = isSlip ? "CENDUWA_SLIP" : "CENDUWA_KEY";
-        String slip = isFile ? read(file) : System.getenv(name);
-        if (slip == null) stop(1, "the environment has no " + name);
-        String port = isSlip ? after(slip, "port") : words[0];
-        if (!port.matches("\\d{1,5}")) stop(1, "no port in " + words[0]);
-        String listed = isSlip ? after(slip, "nodes") : words[3];
-        if (!listed.matches("\\d+(,\\d+)*")) stop(1, "no nodes in " + words[0]);
-        enter(Integer.parseInt(port), isSlip ? after(slip, "name") : words[1], isFile || isSlip ? after(slip, "key") : slip);
-        String[] nodes = listed.split(",");
-        while (true) {
+        boolean isSlip = words.length == 1 || words.length == 2;
+        if (!isSlip && words.length != 4 && words.length != 5) stop(1, "usage: java Bot.java SLIP [SECONDS], or PORT NAME KEYFILE NODE,.. [SECONDS]");
+        double patience = patience(words);
+        String file = words[isSlip ? 0 : 2], variable = isSlip ? "CENDUWA_SLIP" : "CENDUWA_KEY";
+        String text = file.equals("-") ? System.getenv(variable) : read(file);
+        if (text == null) stop(1, "the environment has no " + variable);
+        String port = isSlip ? line(text, "port", file) : words[0], name = isSlip ? line(text, "name", file) : words[1];
+        String key = isSlip ? line(text, "key", file) : after(text, "key"), listed = isSlip ? line(text, "nodes", file) : words[3];
+        if (!port.matches("\\d{1,5}") || Integer.parseInt(port) < 1 || Integer.parseInt(port) > 65535) stop(1, port + " is no port: 1 to 65535");
+        if (!listed.matches("\\d+(,\\d+)*")) stop(1, "nodes " + listed + ": no numbers with commas between them");
+        enter(Integer.parseInt(port), name, key == null ? text.trim() : key);
+        play(listed.split(","), patience);
+    }
+
+    /** Looks at each node again and again, and asks for its enabled rule. */
+    static void play(String[] nodes, double patience) throws Exception {
+        String newest = "";
+        for (long since = System.nanoTime(); System.nanoTime() - since < 1e9 * patience; Thread.sleep(100)) {
             for (String node : nodes) {
                 String look = ask("{\"do\":\"look\",\"node\":" + node + "}");
-                String rule = at(look, "rule");
+                String rule = at(look, "rule"), number = at(look, "at");
+                if (number != null && !number.equals(newest)) since = System.nanoTime();
+                newest = number == null ? newest : number;
                 if (rule == null || at(look, "chosen") != null) continue;
                 String with = rule.equals("marriage") ? ",\"with\":" + suitor(look, node) : "";
-                String move = ",\"at\":" + at(look, "at") + ",\"rule\":\"" + rule + "\"" + with + "}";
+                String move = ",\"at\":" + number + ",\"rule\":\"" + rule + "\"" + with + "}";
                 System.out.println(ask("{\"do\":\"move\",\"node\":" + node + move));
             }
-            Thread.sleep(100);
         }
+        ask("{\"do\":\"bye\"}");
     }
 }

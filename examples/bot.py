@@ -7,7 +7,7 @@ import time
 from pathlib import Path
 
 sys.path.append(str(Path(__file__).resolve().parent.parent / "classroom"))
-from client import Denied, NoSlip, Slip, enter, goes_on, run
+from client import Denied, NoSlip, Refused, Slip, enter, goes_on, run, seconds_of
 
 
 def play(words: list[str]) -> None:
@@ -15,19 +15,20 @@ def play(words: list[str]) -> None:
     slip, rest = Slip.of(words)
     if not slip.nodes:
         raise NoSlip(f"no nodes in {words[0]}")
-    patience = float(rest[0]) if rest else float("inf")
+    patience = seconds_of(rest)
     with enter(slip, min(60.0, patience)) as me:
         newest, since = -1, time.monotonic()
         while time.monotonic() - since < patience:
-            for look in [me.look(node) for node in slip.nodes]:
-                if look.at > newest:
-                    newest, since = look.at, time.monotonic()
+            for node in slip.nodes:
                 try:
+                    look = me.look(node)
+                    if look.at > newest:
+                        newest, since = look.at, time.monotonic()
                     if look.rule and not look.chosen:
                         print(slip.name, me.move(look), flush=True)
-                except Denied as denied:  # A step was closed since, or another program was quicker.
-                    print(slip.name, look.node, denied, flush=True)
-                    if not goes_on(denied):
+                except (Denied, Refused) as no:  # A step was closed since, or another program was quicker.
+                    print(slip.name, node, no, flush=True)
+                    if not goes_on(no):
                         raise
             time.sleep(0.1)
 

@@ -7,15 +7,20 @@ import tomllib
 from pathlib import Path
 
 sys.path.append(str(Path(__file__).resolve().parent.parent / "classroom"))
-from client import Client, Denied, Slip, enter, run
+from client import Client, Denied, NoSlip, Slip, enter, run, text_of
 
 PAUSE = 0.5  # seconds for the students before each close
 
 
 def owners_of(lab: list[str]) -> dict[int, list[str]]:
     """The owners of each node, by the lab's file."""
-    nodes = tomllib.loads(Path(lab[0]).read_text(encoding="utf-8-sig"))["node"] if lab else []
-    return {node["id"]: [node["owner"]] if "owner" in node else node["owners"] for node in nodes}
+    if not lab:
+        return {}
+    try:
+        nodes = tomllib.loads(text_of(lab[0]))["node"]
+        return {node["id"]: [node["owner"]] if "owner" in node else node["owners"] for node in nodes}
+    except (ValueError, KeyError, TypeError):
+        raise NoSlip(f"{lab[0]}: no lab's file") from None
 
 
 def close_steps(me: Client, owners: dict[int, list[str]]) -> None:

@@ -4,6 +4,7 @@ from __future__ import annotations
 import json
 import os
 import re
+import resource
 import secrets
 import shutil
 import signal
@@ -101,6 +102,23 @@ class Broken(Cycle):
         self.assertEqual(going.ends(), 4, going.lines)
         self.assertTrue(any(line.startswith("ok: 0 events") for line in going.lines), going.lines)
         self.assertTrue(any("No space left on device; the journal is" in line for line in going.lines), going.lines)
+
+    @unittest.skipUnless(host(), "not tried: no host is built")
+    def test_a_limit_that_leaves_no_trace(self) -> None:
+        """A line of which no byte was written, and nobody acts at the desk."""
+        going = Going(self, CYCLE, "--close", "by-hand")
+        going.type("\n".join(["fault 1 2 true"] * 60))
+        going.until("^configuration 60: ")
+        journal = going.folder / "journal"
+        size = journal.stat().st_size
+        resource.prlimit(going.server(), resource.RLIMIT_FSIZE, (size, size))
+        going.until("^the journal is as large as a file of its server may be, and what isn't written isn't granted ")
+        with Client(going.port, "gus", KEYS["gus"]) as gus, self.assertRaises(Refused) as refused:
+            gus.move(gus.look(4))
+        self.assertEqual((refused.exception.word, journal.stat().st_size), ("journal", size))
+        going.until("^nothing more is granted: journal: ")
+        self.assertEqual(going.ends(), 4, going.lines)
+        self.assertEqual(self.whole(going.folder), 60)
 
     def test_no_event_is_left(self) -> None:
         lab = self.lab("cycle.toml", 8)

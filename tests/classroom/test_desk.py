@@ -278,6 +278,22 @@ class Disk(InRoom):
         self.assertEqual(list(self.room.iterdir()), [])
         self.assertEqual(self.told(Room(self.room / "none"), 10**9), [[]])
 
+    def test_a_limit_on_the_files_of_the_server(self) -> None:
+        server = subprocess.Popen(["sleep", "1000"], preexec_fn=lambda: resource.setrlimit(resource.RLIMIT_FSIZE, (100_000, 100_000)))
+        self.addCleanup(server.wait)
+        self.addCleanup(server.kill)
+        journal, room = self.file("journal", ""), Room(self.room, server.pid)
+        self.addCleanup(room.close)
+        told = []
+        for size in (34_464, 34_465, 50_000, 99_900, 100_000):
+            journal.write_bytes(bytes(size))
+            told.append([line.partition(":")[0] for line in room.of_limit()])
+        self.assertEqual(told, [[], ["the journal may grow by 65535 bytes more, since a file of its server has a limit (ulimit -f)"], [],
+                                ["the journal is as large as a file of its server may be, and what isn't written isn't granted (ulimit -f)"], []])
+        unbounded = Room(self.room, os.getpid())
+        self.addCleanup(unbounded.close)
+        self.assertEqual(unbounded.of_limit(), [])
+
 
 class Memory(InRoom):
     """A server that has no memory for an answer."""

@@ -62,6 +62,22 @@ class Listened(InRoom):
         self.assertEqual(self.news(), [])
         self.assertEqual(self.heard.who(1, 7), "1 of 7 seats: gus")
 
+    def test_nothing_more_is_granted(self) -> None:
+        for word in ("malformed", "memory", "busy"):
+            self.say(5, 0, MOVE, f'{{"refuse":"{word}"}}')
+        self.news()
+        self.assertEqual(self.heard.over, "")
+        for word in ("full", "journal"):
+            self.say(5, 0, MOVE, f'{{"refuse":"{word}"}}')
+            self.news()
+            self.assertEqual(self.heard.over, word)
+        self.say(5, 0, MOVE, STALE)
+        self.news()
+        self.assertEqual(self.heard.over, "journal")
+        again = Heard(self.folder, read(CYCLE))
+        again.catch_up(0)
+        self.assertEqual(again.over, "")
+
     def test_entries_come_in_pieces(self) -> None:
         whole = f'5 0 > {HELLO % ("gus", "k")}\n5 0 < {{"ok":"hello","who":"gus"}}\n5 0 .\n'
         told = []

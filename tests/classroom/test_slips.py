@@ -12,8 +12,10 @@ import time
 import unittest
 from pathlib import Path
 
+from classroom.answering import Answering
 from classroom.client import LAST, Client, NoServer, NoSlip, Slip, wrong
 from classroom.lab import read
+from classroom.program import host
 from tests.classroom.help import CYCLE, EXAMPLES, KEYS, LIMIT, Cycle, Going, InRoom, words
 
 TOP = EXAMPLES.parent
@@ -22,6 +24,19 @@ BY_HAND = (sys.executable, TOP / "classroom/client.py")
 JAVA = ("java", EXAMPLES / "Bot.java")
 BOTS = (BOT, JAVA) if shutil.which("java") else (BOT,)
 Command = tuple[str | Path, ...]
+LOOK = b'{"at":0,"chosen":null,"m":false,"near":[],"node":1,"ok":"look","p":null,"rule":"update"}'
+# Of values under a key that the server ignores: those that make no request of a line, and others.
+STRANGE = (
+    "1e309", "-1e309", "9" * 309, '"\\ud800"', '"\\ud800\\ud800"', "NaN", "Infinity", "-Infinity", "[" * 127 + "]" * 127,
+    '{"a":' * 127 + "1" + "}" * 127, '{"\\udc00":1}', '"\udcff"', '"\t"', "01", "+1", "1.", ".1", '"\\x"', "1,", "'a'",
+)
+PLAIN = ("1e308", "9" * 308, "1e-400", "-0", "-5", '"\\ud83d\\ude00"', "[" * 126 + "]" * 126, '{"a":' * 126 + "1" + "}" * 126, '"\x7f"', "0.1e1")
+WHOLE = (
+    '{"do":"see","node":-0}', '{"do":"see","node":1e0}', '{"do":"see","node":18446744073709551615}', '{"do":"see","node":18446744073709551616}',
+    '{"do":"fault","node":1,"m":false}', '{"do":"fault","node":1,"p":false,"m":false}', '{"do":"move","node":1,"at":0,"rule":["update"]}',
+    '{"do":["see"]}', '{"do":null}', "null", "{}", '{"do":"s\\u0065e","node":1}', '{"d\\u006f":"see","node":1}', '\t{"do":"bye"} ', '\xa0{"do":"bye"}',
+    '{"do":"move","node":1,"at":0,"rule":"update","with":"x"}', '{"do":"hello","name":1,"key":"b"}', '{"do":"bye"}x', "", " ",
+)
 
 
 def call(*command: str | Path, typed: str = "", key: str | None = None, slip: str | None = None) -> subprocess.CompletedProcess[str]:
@@ -84,13 +99,26 @@ class Files(InRoom):
             ("hello", "not JSON at byte 1"), ('{"é":1,}', "not JSON at byte 9"), ('{"do":"lok"}', "unknown do: lok"),
             ("\ufeff" + move, "a byte order mark at its beginning"), ('{"do":\n"close"}', "several lines: a request is one"),
             ('{"do":"close"', "not JSON: it isn't closed at its end, and a request is one line"), ("", "not JSON at byte 1"),
-            ('{"node":1}', 'missing "do"'), ("[1]", "a list, not an object"), ('{"do":"see","do":"see","node":1}', "do stands twice"),
+            ('{"node":1}', 'missing "do"'), ("[1]", "a list, not an object"), ('{"do":"see","do":"see","node":1}', "do stands twice, and the last counts"),
             ('{"do":"see","node":true}', "node is true or false, not a number"), ('{"do":"see","node":1.0}', "node is no whole number, not a number"),
             ('{"do":"see","node":-1}', "node is out of range, not a number"), ('{"do":"move","node":2,"rule":"marriage","at":4}', 'missing "with"'),
             ('{"do":"move","node":2,"rule":"dance","at":4}', "rule is a string, not one of update, marriage, seduction, abandonment"),
             ('{"do":"see","node":1,"x":"' + "a" * 4096 + '"}', "more than 4096 bytes: the server ends the connection"),
         ):
             self.assertEqual(wrong(line), what, line[:60])
+        for value, what in (("1e309", "a number past the greatest double"), ("NaN", "not JSON: NaN is no number"),
+                            ('"\\ud800"', "half of a surrogate pair"), ('"\udcff"', "not UTF-8 at byte 25"), ("[" * 127 + "]" * 127, "nested deeper than 127")):
+            self.assertEqual(wrong(f'{{"do":"see","node":1,"x":{value}}}'), what)
+
+    @unittest.skipUnless(host(), "not tried: no host is built")
+    def test_what_is_wrong_is_what_the_server_refuses(self) -> None:
+        lines = [*WHOLE, *(f'{{"do":"see","node":1,"x":{value}}}' for value in (*STRANGE, *PLAIN))]
+        program = Answering(read(CYCLE))
+        self.addCleanup(program.close)
+        replies = program.answers([(2, line.encode(errors="surrogateescape")) for line in lines])
+        refused = {line for line, reply in zip(lines, replies, strict=True) if reply == b'{"refuse":"malformed"}'}
+        self.assertEqual({line for line in lines if wrong(line)}, refused)
+        self.assertEqual(len(refused), len(STRANGE) + 14)
 
 
 class Fake(InRoom):
@@ -118,6 +146,22 @@ class Fake(InRoom):
         """A slip for that port."""
         return self.file(f"{port}.slip", f"port {port}\nname gus\nkey heron\nnodes 1\n")
 
+    def talks(self, *replies: bytes) -> int:
+        """Answers each line of one connection by the next of these, hangs up, and gives the port."""
+        listener = socket.create_server(("127.0.0.1", 0))
+        self.addCleanup(listener.close)
+
+        def serve() -> None:
+            connection, _ = listener.accept()
+            with connection, connection.makefile("rb") as lines:
+                for reply in replies:
+                    lines.readline()
+                    connection.sendall(reply + b"\n")
+
+        threading.Thread(target=serve, daemon=True).start()
+        port: int = listener.getsockname()[1]
+        return port
+
     def test_the_port_of_another_program_and_of_none(self) -> None:
         with socket.create_server(("127.0.0.1", 0)) as free:
             none = free.getsockname()[1]
@@ -125,13 +169,33 @@ class Fake(InRoom):
             said = call(*command, self.slip(none))
             self.assertEqual((said.returncode, said.stdout), (4, ""), said.stderr)
             self.assertRegex(said.stderr, rf"^\w+(\.py)?: no server at port {none}.*\n$")
-        for command in BOTS:
+        for command in (*BOTS, BY_HAND):
             port = self.answers(b"HTTP/1.1 400 Bad Request\r\n")
             said = call(*command, self.slip(port))
             self.assertEqual((said.returncode, said.stdout), (4, ""), said.stderr)
             self.assertRegex(said.stderr, rf"^\w+(\.py)?: at port {port} is another program.*\n$")
+            said = call(*command, self.slip(self.talks()))
+            self.assertEqual((said.returncode, said.stdout), (4, ""), said.stderr)
+            self.assertRegex(said.stderr, r"^\w+(\.py)?: no server .*answers a hello.*\n$")
         with self.assertRaises(NoServer):
             Client.from_slip(self.slip(self.answers(b"220 mail\r\n")))
+        with self.assertRaisesRegex(NoServer, r"^no server at port \d+ answers a hello: no answer in 0.2 seconds$"):
+            Client.from_slip(self.slip(self.answers(b"")), limit=0.2)
+
+    def test_memory_that_is_short_ends_no_bot(self) -> None:
+        memory, full = b'{"refuse":"memory"}', b'{"refuse":"full"}'
+        for command in BOTS:
+            said = call(*command, self.slip(self.talks(b'{"ok":"hello","who":"gus"}', memory, LOOK, memory, LOOK, full)))
+            self.assertEqual(said.returncode, 6, said.stdout + said.stderr)
+            self.assertRegex(said.stderr, r"^\w+(\.py)?: nothing is granted any longer: tell your teacher\n$")
+
+    def test_a_bot_whose_lines_nobody_reads(self) -> None:
+        port = self.talks(b'{"ok":"hello","who":"gus"}', LOOK, b'{"at":0,"node":1,"ok":"move","place":1,"rule":"update"}')
+        ours, theirs = os.pipe()
+        os.close(ours)
+        said = subprocess.run([*BOT, self.slip(port)], stdout=theirs, stderr=subprocess.PIPE, check=False, timeout=LIMIT)
+        os.close(theirs)
+        self.assertEqual((said.returncode, said.stderr), (141, b""))
 
     def test_a_class_that_is_over(self) -> None:
         for command in BOTS:
@@ -165,10 +229,27 @@ class Fake(InRoom):
             for more in wrong_words:
                 if command is BY_HAND and more == "4711":
                     continue
-                said = call(*command, more)
-                self.assertEqual((said.returncode, said.stdout), (1, ""), (command, more))
-                self.assertEqual(said.stderr.count("\n"), 1, said.stderr)
-                self.assertNotIn("Traceback", said.stderr)
+                self.is_told(*command, more)
+
+    def test_wrong_words_after_a_slip(self) -> None:
+        slip, lab = self.slip(1), self.file("no.toml", "node = 1\n")
+        for command in BOTS:
+            for more in (("soon",), ("nan",), ("-1",), ("5", "6")):
+                self.is_told(*command, slip, *more)
+            for line in ("port 70000", "port 0"):
+                self.is_told(*command, self.file("far.slip", f"{line}\nname gus\nkey heron\nnodes 1\n"))
+            self.is_told(*command, self.file("keyless.slip", "port 1\nname gus\nnodes 1\n"))
+        for given in (self.room / "none.toml", lab):
+            self.is_told(*TEACHER, slip, given)
+        for rest in (("--log",), ("soon",)):
+            self.is_told(*BY_HAND, slip, *rest)
+
+    def is_told(self, *command: str | Path) -> None:
+        """Wants a line about wrong words, and their status."""
+        said = call(*command)
+        self.assertEqual((said.returncode, said.stdout), (1, ""), (command, said.stderr))
+        self.assertEqual(said.stderr.count("\n"), 1, said.stderr)
+        self.assertNotIn("Traceback", said.stderr)
 
 
 class Talking(Cycle):
@@ -245,6 +326,13 @@ class Talking(Cycle):
         self.assertEqual([line.split(" ")[1] for line in kept.splitlines()], [">", "<", "!", ">", "<", ">", "<", ">", "<"])
         said = call(*BY_HAND, self.slip(going.port, "gus"), typed="x" * 5000 + "\n")
         self.assertIn("the server has closed the connection: a line has at most 4096 bytes", said.stdout)
+        said = call(*BY_HAND, self.slip(going.port, "gus"), "--log", "/dev/full", typed='{"do":"bye"}\n')
+        self.assertEqual((said.returncode, said.stdout.splitlines()[-1]), (0, '{"ok":"bye"}'))
+        self.assertEqual(said.stderr, "client: /dev/full: No space left on device: no more is kept there\n")
+        done = subprocess.run([*BY_HAND, self.slip(going.port, "gus")], input=b'{"do":"bye\xff"}\n{"do":"bye"}\n', capture_output=True,
+                              check=False, timeout=LIMIT)
+        self.assertEqual(done.stdout.splitlines()[1:], [b'{"refuse":"malformed"}', b'{"ok":"bye"}'])
+        self.assertEqual((done.returncode, done.stderr), (0, b"client: not UTF-8 at byte 11\n"))
 
 
 if __name__ == "__main__":
