@@ -12,6 +12,7 @@ from pathlib import Path
 from typing import Any
 
 from selenium import webdriver
+from selenium.common.exceptions import SessionNotCreatedException
 from selenium.webdriver.chrome.options import Options
 from selenium.webdriver.chrome.service import Service
 from selenium.webdriver.common.action_chains import ActionChains
@@ -21,6 +22,7 @@ from classroom.frames import Frame, State
 from classroom.program import TOP
 from tests.classroom.help import LIMIT
 
+STARTS = 5  # of a browser, until one is there in time
 Shown = tuple[dict[str, str], list[dict[str, str]], str]
 ATTRIBUTES = """
 const nodes = [...document.querySelectorAll('#drawing .node')].map((node) => ({...node.dataset}));
@@ -37,7 +39,12 @@ def started() -> Any:
         options.add_argument(word)
     service: Any = Service
     chrome: Any = webdriver.Chrome
-    return chrome(options=options, service=service("/usr/bin/chromedriver"))
+    for _ in range(STARTS):
+        try:
+            return chrome(options=options, service=service("/usr/bin/chromedriver"))
+        except SessionNotCreatedException as error:  # It waits a minute for a browser, which may be slower beside other work.
+            late = error
+    raise late
 
 
 @cache

@@ -233,14 +233,15 @@ class Fake(InRoom):
 
     def test_wrong_words_after_a_slip(self) -> None:
         slip, lab = self.slip(1), self.file("no.toml", "node = 1\n")
+        far = self.file("far.slip", "port 70000\nname gus\nkey heron\nnodes 1\n")
+        keyless = self.file("keyless.slip", "port 1\nname gus\nnodes 1\n")
         for command in BOTS:
-            for more in (("soon",), ("nan",), ("-1",), ("5", "6")):
-                self.is_told(*command, slip, *more)
-            for line in ("port 70000", "port 0"):
-                self.is_told(*command, self.file("far.slip", f"{line}\nname gus\nkey heron\nnodes 1\n"))
-            self.is_told(*command, self.file("keyless.slip", "port 1\nname gus\nnodes 1\n"))
-        for given in (self.room / "none.toml", lab):
-            self.is_told(*TEACHER, slip, given)
+            for given in ((slip, "soon"), (slip, "5", "6"), (far,), (keyless,)):
+                self.is_told(*command, *given)
+        for more in ("nan", "-1"):
+            self.is_told(*BOT, slip, more)
+        for file in (self.room / "none.toml", lab):
+            self.is_told(*TEACHER, slip, file)
         for rest in (("--log",), ("soon",)):
             self.is_told(*BY_HAND, slip, *rest)
 
