@@ -46,8 +46,9 @@ def close_steps(me: Client, owners: dict[int, list[str]]) -> None:
 def teach(words: list[str]) -> None:
     """Holds a seat at the students' port as the teacher."""
     slip, lab = Slip.of(words)
+    owners = owners_of(lab)
     with enter(slip) as me:
-        close_steps(me, owners_of(lab))
+        close_steps(me, owners)
 
 
 run(teach, __doc__ or "")

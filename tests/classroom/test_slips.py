@@ -236,10 +236,12 @@ class Fake(InRoom):
         far = self.file("far.slip", "port 70000\nname gus\nkey heron\nnodes 1\n")
         keyless = self.file("keyless.slip", "port 1\nname gus\nnodes 1\n")
         for command in BOTS:
-            for given in ((slip, "soon"), (slip, "5", "6"), (far,), (keyless,)):
-                self.is_told(*command, *given)
-        for more in ("nan", "-1"):
-            self.is_told(*BOT, slip, more)
+            for more in (("soon",), ("5", "6")):
+                self.is_told(*command, slip, *more)
+            for given in (far, keyless):
+                self.is_told(*command, given)
+        for word in ("nan", "-1"):
+            self.is_told(*BOT, slip, word)
         for file in (self.room / "none.toml", lab):
             self.is_told(*TEACHER, slip, file)
         for rest in (("--log",), ("soon",)):
