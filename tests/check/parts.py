@@ -47,6 +47,7 @@ def cases(*names: str, python: str = "python3") -> tuple[str, ...]:
 
 
 BUILT = ("programs",)
+LANGUAGES = ("java", "node", "cc", "rustc")
 PROVED = "[ps]*/**/*.*t"  # a crate's src/, specs/ and proofs/
 EDITS = "wrong/*.edit"
 PROOFS = Part("proofs", ("rt", "ci"), 116, 35, ALL, ("rt",), shows=r"^rt: ")
@@ -58,7 +59,7 @@ def classroom() -> Iterator[Part]:
     for it in sorted((TOP / "tests/classroom").glob("test_*.py")):
         text = it.read_text(encoding="utf-8")
         needs = (*BUILT, "python3", *["browser"] * ("tests.classroom.browser" in text))
-        likes = ("java",) if '"java"' in text else ()
+        likes = tuple(it for it in LANGUAGES if f'"{it}"' in text)
         name = it.stem.replace("test_", "class-")
         yield Part(name, cases(f"classroom.{it.stem}", python="/usr/bin/python3"), 0.2, 0.4, 1, needs, likes)
 

@@ -1,0 +1,79 @@
+//! Plays a student's nodes with no crate: rustc -O bot.rs, then ./bot SLIP, or ./bot PORT NAME KEYFILE NODE,..
+//! SLIP - is the environment's CENDUWA_SLIP, KEYFILE - its CENDUWA_KEY. Lines are taken apart by hand.
+use std::io::{BufRead, BufReader, Write};
+use std::net::TcpStream;
+use std::{env, fs, process, thread, time::Duration};
+/// Denials and refusals that end the bot, with its status and a sentence. The others mean: look again.
+const STOPS: [(&str, i32, &str); 5] = [
+    ("unknown", 2, "name and key don't match: take both from your slip"),
+    ("not-owner", 3, "a node isn't yours: correct the nodes by your slip"),
+    ("malformed", 3, "the server takes a line for no request: correct the program"),
+    ("full journal", 6, "nothing is granted any longer: tell your teacher"),
+    ("over", 0, "the run is over"),
+];
+fn stop(status: i32, sentence: &str) -> ! {
+    eprintln!("bot: {sentence}");
+    process::exit(status)
+}
+
+/// What stands between a key and the next comma or bracket, without quotes.
+fn at<'a>(reply: &'a str, key: &str) -> Option<&'a str> {
+    let (_, rest) = reply.split_once(&format!("\"{key}\":"))?;
+    rest.split([',', '}']).next().map(|found| found.trim_matches('"'))
+}
+
+/// Sends a line, and gives the line that answers it.
+fn ask(server: &mut BufReader<TcpStream>, line: &str) -> String {
+    let mut reply = String::new();
+    let sent = server.get_mut().write_all(format!("{line}\n").as_bytes());
+    let is_lost = sent.is_err() || server.read_line(&mut reply).unwrap_or(0) == 0;
+    if is_lost && line.contains("hello") { stop(4, "no server answers a hello at that port; your teacher tells it") }
+    if is_lost { stop(0, "the run is over, or the connection was lost") }
+    let no = at(&reply, "deny").or(at(&reply, "refuse"));
+    STOPS.iter().filter(|it| it.0.split(' ').any(|word| no == Some(word))).for_each(|it| stop(it.1, it.2));
+    reply
+}
+
+/// Connects and says hello; where no seat is free, again each second, for a minute.
+fn enter(port: u16, name: &str, key: &str) -> BufReader<TcpStream> {
+    for _ in 0..=60 {
+        let stream = TcpStream::connect(("127.0.0.1", port));
+        let none = format!("no server at port {port}; your teacher tells the port");
+        let mut server = BufReader::new(stream.unwrap_or_else(|_| stop(4, &none)));
+        let key = key.replace('\\', r"\\").replace('"', r#"\""#);
+        let reply = ask(&mut server, &format!(r#"{{"do":"hello","name":"{name}","key":"{key}"}}"#));
+        if reply.starts_with(r#"{"ok""#) { return server }
+        if !reply.starts_with('{') { stop(4, &format!("at port {port} is another program; your teacher tells the port")) }
+        thread::sleep(Duration::from_secs(1));
+    }
+    stop(5, "all seats were taken for a minute: come again later")
+}
+
+/// Looks at a node, and asks for its enabled rule; a marriage with a neighbour that points at the node.
+fn play(server: &mut BufReader<TcpStream>, node: &str) {
+    let look = ask(server, &format!(r#"{{"do":"look","node":{node}}}"#));
+    let (number, rule, chosen) = (at(&look, "at").unwrap_or(""), at(&look, "rule").unwrap_or("null"), at(&look, "chosen"));
+    if rule == "null" || chosen != Some("null") { return }
+    let suitor = look.split('{').skip(2).find(|near| at(near, "p") == Some(node)).and_then(|near| at(near, "node"));
+    let with = suitor.filter(|_| rule == "marriage").map_or(String::new(), |it| format!(r#","with":{it}"#));
+    print!("{}", ask(server, &format!(r#"{{"do":"move","node":{node},"rule":"{rule}","at":{number}{with}}}"#)));
+}
+
+fn main() {
+    let words: Vec<String> = env::args().skip(1).collect();
+    let is_slip = words.len() == 1;
+    if !is_slip && words.len() != 4 { stop(1, "usage: bot SLIP, or PORT NAME KEYFILE NODE,..") }
+    let (file, variable) = if is_slip { (&words[0], "CENDUWA_SLIP") } else { (&words[2], "CENDUWA_KEY") };
+    let text = if file == "-" { env::var(variable).ok() } else { fs::read_to_string(file).ok() };
+    let text = text.unwrap_or_else(|| stop(1, &if file == "-" { format!("the environment has no {variable}") } else { format!("{file} can't be read") }));
+    let after = |word: &str| text.lines().find_map(|line| line.strip_prefix(word)?.strip_prefix(' ')).map(str::trim);
+    let said = |word, place: usize| if is_slip { after(word).unwrap_or("") } else { &words[place] };
+    let port = said("port", 0).parse().unwrap_or_else(|_| stop(1, &format!("no port in {}", words[0])));
+    let nodes: Vec<&str> = said("nodes", 3).split(',').collect();
+    if nodes.iter().any(|it| it.parse::<u16>().is_err()) { stop(1, &format!("no nodes in {}", words[0])) }
+    let mut server = enter(port, said("name", 1), after("key").unwrap_or(text.trim()));
+    loop {
+        nodes.iter().for_each(|node| play(&mut server, node));
+        thread::sleep(Duration::from_millis(100));
+    }
+}

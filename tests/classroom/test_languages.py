@@ -1,0 +1,86 @@
+"""The example bots in other languages than Python, each where its compiler or interpreter is on this machine."""
+from __future__ import annotations
+
+import shutil
+import socket
+import subprocess
+import tempfile
+import unittest
+from functools import cache
+from pathlib import Path
+
+from tests.classroom.help import CYCLE, EXAMPLES, LIMIT, Cycle, Going, InRoom, words
+
+Command = tuple[str | Path, ...]
+INTERPRETERS = {"bot.js": ("node",)}
+COMPILERS = {"bot.c": ("cc", "-Wall", "-Wextra", "-Werror", "-O1"), "bot.rs": ("rustc", "--edition", "2021", "-D", "warnings", "-O")}
+PROGRAMS = {"bot.js": "node", "bot.c": "cc", "bot.rs": "rustc"}
+ROOM = tempfile.TemporaryDirectory()  # of what is compiled; it goes with this process
+
+
+def tearDownModule() -> None:
+    """What was compiled goes."""
+    ROOM.cleanup()
+
+
+@cache
+def bots() -> dict[str, Command]:
+    """Each bot that can be tried here, by its file's name: the words to which a slip is added."""
+    found: dict[str, Command] = {}
+    for name, program in PROGRAMS.items():
+        if shutil.which(program) is None:
+            continue
+        made = Path(ROOM.name) / name.replace(".", "_")
+        if name in COMPILERS:
+            subprocess.run([*COMPILERS[name], "-o", made, EXAMPLES / name], check=True, timeout=LIMIT)
+        found[name] = (made,) if name in COMPILERS else (*INTERPRETERS[name], EXAMPLES / name)
+    return found
+
+
+class Languages(unittest.TestCase):
+    """The files themselves."""
+
+    def test_each_is_short_and_tried(self) -> None:
+        for name in PROGRAMS:
+            self.assertLess(len((EXAMPLES / name).read_text(encoding="utf-8").splitlines()), 80, name)
+        missing = [program for name, program in PROGRAMS.items() if name not in bots()]
+        if missing:
+            self.skipTest(f"not tried: {' '.join(missing)}")
+
+
+class Bots(Cycle):
+    """What they do at a run."""
+
+    def test_all_in_one_run(self) -> None:
+        going = Going(self, CYCLE, "--close", "when-idle:0.5", "--until", "stable")
+        for number, name in enumerate(("gus", "hana", "ines", "jonas")):
+            others = [*bots().values()]
+            self.bot(going, name, *(others[number] if number < len(others) else ()))
+        self.assertEqual(going.ends(), 0, going.lines)
+        self.assertGreater(self.whole(going.folder), 10)
+
+    def test_what_ends_them(self) -> None:
+        going = Going(self, CYCLE, "--close", "by-hand")
+        good = self.slip(going.port, "gus")
+        slip = good.read_text(encoding="utf-8")
+        with socket.create_server(("127.0.0.1", 0)) as free:
+            none = free.getsockname()[1]
+        for name, command in bots().items():
+            for status, text in ((1, ""), (1, slip.replace("nodes 1", "nodes x")), (2, slip.replace("key ", "key \\\"")),
+                                 (3, slip.replace("nodes 1", "nodes 2")), (4, slip.replace(f"port {going.port}", f"port {none}"))):
+                said = subprocess.run([*command, self.file("bad.slip", text)], capture_output=True, text=True, check=False, timeout=LIMIT)
+                self.assertEqual((said.returncode, said.stderr.count("\n")), (status, 1), (name, text, said.stderr))
+
+
+class Graded(InRoom):
+    """What they are worth."""
+
+    def test_each_passes_all_of_small(self) -> None:
+        given = [" ".join(map(str, command)) for command in bots().values()]
+        done = words("grade", *given, "--timeout", "120", "--into", self.room / "grades")
+        self.assertEqual(done.returncode, 0, done.stdout + done.stderr)
+        self.assertEqual(done.stdout.count(": 12 of 12 cases passed\n"), len(given), done.stdout)
+
+
+if __name__ == "__main__":
+    unittest.main()
