@@ -12,7 +12,6 @@ from pathlib import Path
 from tests.classroom.help import CYCLE, EXAMPLES, LIMIT, Cycle, Going, InRoom, words
 
 Command = tuple[str | Path, ...]
-INTERPRETERS = {"bot.js": ("node",)}
 COMPILERS = {"bot.c": ("cc", "-Wall", "-Wextra", "-Werror", "-O1"), "bot.rs": ("rustc", "--edition", "2021", "-D", "warnings", "-O")}
 PROGRAMS = {"bot.js": "node", "bot.c": "cc", "bot.rs": "rustc"}
 ROOM = tempfile.TemporaryDirectory()  # of what is compiled; it goes with this process
@@ -33,7 +32,9 @@ def bots() -> dict[str, Command]:
         made = Path(ROOM.name) / name.replace(".", "_")
         if name in COMPILERS:
             subprocess.run([*COMPILERS[name], "-o", made, EXAMPLES / name], check=True, timeout=LIMIT)
-        found[name] = (made,) if name in COMPILERS else (*INTERPRETERS[name], EXAMPLES / name)
+            found[name] = (made,)
+        else:
+            found[name] = (program, EXAMPLES / name)
     return found
 
 

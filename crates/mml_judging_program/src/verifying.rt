@@ -163,7 +163,15 @@ fn verify_seat<R: Files<File = File> + AllocGlobal>(
 {
     let path = record_path(rt.alloc(), folder, seat)?;
     let mut file = open_part(rt, path.as_str())?;
-    match read_record_from(rt.alloc(), lab, events, seat, MAX_RECORD, &mut file, granted) {
+    match read_record_from(
+        rt.alloc(),
+        lab,
+        events,
+        seat,
+        MAX_RECORD,
+        &mut file,
+        granted,
+    ) {
         Ok(verdict) => Ok(verdict),
         Err(PieceFault::Memory) => Err(Fault::Common(ProgramFault::Memory)),
         Err(PieceFault::Read | PieceFault::TooLong) => Err(Fault::ReadRecord),
