@@ -51,7 +51,7 @@ LANGUAGES = ("java", "node", "cc", "rustc")
 PROVED = "[ps]*/**/*.*t"  # a crate's src/, specs/ and proofs/
 EDITS = "wrong/*.edit"
 PROOFS = Part("proofs", ("rt", "ci"), 116, 35, ALL, ("rt",), shows=r"^rt: ")
-WRONG = Part("wrong", module("wrong"), 60, 5, ALL, ("rt",), shows=r"")
+WRONG = Part("wrong", module("wrong"), 75, 5, ALL, ("rt",), shows=r"")
 
 
 def classroom() -> Iterator[Part]:
