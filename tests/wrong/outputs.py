@@ -9,6 +9,7 @@ OPEN = re.compile(r"`search` did not prove ((?:`[^`]+`(?:, )?)+)")
 RESTS = re.compile(r"it (?:calls|passes) [^;]*which (?:is|are) not proved")
 ERROR = re.compile(r"\S+?(?::\d+:\d+)?: error\b.*|error\b.*")
 GOAL = re.compile(r"(?:\./)?proofs/(\S+)/(?:Answers|Invariants|Proof)\.antt:\d+:\d+: error: `([^`]+)`: (.*)")
+CYCLE = re.compile(r"\+\w+$")
 LOST = re.compile(r"has no field|is not in scope|has no `|was not admitted")
 # What rests on an answer that has an error of its own.
 RESTS_ON_ANSWER = re.compile(r"error: \d+ declarations? that depends? on `[^`]+`, which was rejected, (?:was|were) not checked")
@@ -52,7 +53,8 @@ class Told:
         if RESTS_ON_ANSWER.search(line):
             return
         if found and not LOST.search(found[3]):
-            self.add_goal(found[1].replace("/", "::"), found[2])
+            # (the answers of a cycle of calls stand together, and each goal begins with its function's name)
+            self.add_goal(CYCLE.sub(found[2].partition("-")[0], found[1]).replace("/", "::"), found[2])
         else:
             self.errors.append(line)
 

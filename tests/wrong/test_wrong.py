@@ -129,6 +129,10 @@ class Judging(unittest.TestCase):
         found = judged(line + kept("three_bodies.txt"), NEVER, ELSEWHERE)
         self.assertEqual((found.of_round, found.of_edit), ([], {}))
 
+    def test_a_goal_of_a_cycle_of_calls(self) -> None:
+        told = read_output(CRATE, "./proofs/reading/+nested/Answers.antt:53:9: error: `read_value-returns-in_ok-found`: the two types differ\n")
+        self.assertEqual((told.open_goals, told.errors), ({"reading::read_value": ["read_value-returns-in_ok-found"]}, []))
+
     def test_what_rests_on_an_answer(self) -> None:
         """An answer that cites one with an error of its own adds nothing."""
         line = "./proofs/retrying/Retrying/new/Answers.antt:9:5: error: 1 declaration that depends on `a`, which was rejected, was not checked: b\n"
