@@ -5,9 +5,11 @@
 What the replies should be is written down here, by the form of a reply and the numbers of the request.
 """
 import socket
+import subprocess
 from collections.abc import Iterable
 from pathlib import Path
 
+from tests.common.hosting import HOST
 from tests.common.preload import LIMIT, Server, Story, fail, good, in_room
 from tests.program.greatest import EVENTS, greatest
 
@@ -82,28 +84,18 @@ def pair(room: Path) -> Path:
     return lab(room, [f'{{ id = {node}, owner = "ana" }}' for node in (1, 2)], "[1, 2]", EVENTS)
 
 
-def wants_audit(room: Path, file: Path, journal: Path) -> None:
-    """Wants a journal that passes with all events."""
-    if not Story(file, b"", room).audit(journal.read_bytes()).startswith(f"ok: {EVENTS} events,".encode()):
-        fail(f"another audit of {EVENTS} events")
-
-
 def scripted(room: Path) -> None:
-    """A link that is cut and made again in a script, as often as a lab may allow and once more."""
-    file, script, journal = pair(room), room / "large.script", room / "large.journal"
+    """A link that is cut and made again by a script, as often as a lab may allow and once more."""
     lines, replies = changes(range(1, EVENTS + 1))
-    script.write_text("".join(f"1 {line}" for line in [HELLO, *lines, CUT]), encoding="ascii")
-    journal.unlink(missing_ok=True)
-    out = good(["script", str(file), str(script), str(journal)]).decode()
-    if out != "".join(f"1 {reply}" for reply in [WELCOME, *replies, FULL]):
-        fail(f"another reply in a script of {EVENTS} events")
-    wants_audit(room, file, journal)
+    script = "".join(f"1 {line}" for line in [HELLO, *lines, CUT]).encode("ascii")
+    done = subprocess.run([HOST, "answer", pair(room)], input=script, capture_output=True, timeout=LIMIT, check=False)
+    if (done.returncode, done.stdout.decode()) != (0, "".join(f"1 {reply}" for reply in [WELCOME, *replies, FULL])):
+        fail(f"another reply in a script of {EVENTS} events, or its end: {done.returncode} {done.stderr!r}")
 
 
 def events(room: Path) -> None:
     """The same through a server."""
     file, journal = pair(room), room / "large.journal"
-    journal.unlink()
     server = Server(lambda port: ["serve", str(file), str(port), "1", str(journal)], {})
     with socket.create_connection(("127.0.0.1", server.port), timeout=LIMIT) as it:
         exchange(it, [HELLO], [WELCOME])
@@ -113,7 +105,8 @@ def events(room: Path) -> None:
     ended = server.end()
     if ended.out != f"done: {EVENTS} events, configuration {EVENTS}\n".encode() or ended.status != 0:
         fail(f"another end after {EVENTS} events: {ended}")
-    wants_audit(room, file, journal)
+    if not Story(file, b"", room).audit(journal.read_bytes()).startswith(f"ok: {EVENTS} events,".encode()):
+        fail(f"another audit of {EVENTS} events")
 
 
 def work(room: Path) -> str:

@@ -90,6 +90,11 @@ def replaced(text: bytes, old: bytes, new: bytes) -> bytes:
     return text.replace(old, new)
 
 
+def in_seat(seat: int, other: int, text: bytes) -> bytes:
+    """A seat's record as one of another seat."""
+    return re.sub(rb"(?m)^%d " % seat, b"%d " % other, text)
+
+
 def by_hand(files: Files, lab: Lab) -> int:
     """The short record, whole, and with one thing changed each; how many records that were."""
     run = short_run(lab)
@@ -127,7 +132,8 @@ def by_hand(files: Files, lab: Lab) -> int:
          "place 2: granted in no record"),
         ("a lost grant, cut", {1: b"".join(one.splitlines(keepends=True)[:4]) + b"1 2 !\n1 2 .\n", 2: two},
          f"ok: 2 sessions, {run.lines - 1} lines, 2 events, not whole"),
-        ("a grant told twice", {1: one + replaced(one, b"1 2 .\n", b"").replace(b"1 0 ", b"1 2 "), 2: two}, None),
+        ("a grant told again by its seat", {1: one + replaced(one, b"1 2 .\n", b"").replace(b"1 0 ", b"1 2 "), 2: two}, None),
+        ("a grant told twice", {1: one, 2: two, 3: in_seat(1, 3, one)}, "place 1: granted twice"),
         ("cut twice", {1: one + b"1 2 !\n1 2 !\n1 2 .\n", 2: two}, run.told(False).replace("ok: 2 ", "ok: 3 ")),
     ]
     assert place == 2
@@ -229,17 +235,19 @@ def at_each_byte(files: Files, lab: Lab) -> int:
 
 
 def hurt(rng: Random, run: Recording) -> dict[int, bytes]:
-    """Records with a byte, a line or an entry changed, left out or put twice, or two of them exchanged."""
+    """Records with a byte, a line or an entry changed, left out or put twice, or two of them exchanged or the same."""
     texts = dict(run.texts)
     seat = rng.choice([seat for seat, text in texts.items() if text])
     text = texts[seat]
     lines = text.splitlines(keepends=True)
     at = rng.randrange(len(text))
     line = rng.randrange(len(lines))
-    kind = rng.randrange(6)
+    kind = rng.randrange(7)
+    other = rng.choice(list(texts))
     if kind == 0:
-        other = rng.choice(list(texts))
         texts[seat], texts[other] = texts[other], texts[seat]
+    elif kind == 6:
+        texts[other] = in_seat(seat, other, text)
     elif kind == 1:
         texts[seat] = b"".join(lines[:line] + lines[line + rng.choice([1, 2]) :])
     elif kind == 2:
