@@ -15,7 +15,7 @@ from classroom.program import Fault
 
 KEEPER = Path(__file__).resolve().parent / "keeper.py"
 KEPT = ("PATH", "LANG", "LC_ALL", "JAVA_HOME")
-RUN_BY = {".py": [sys.executable], ".java": ["java", "-XX:TieredStopAtLevel=1", "-XX:+UseSerialGC"]}
+RUN_BY = {".py": [sys.executable], ".java": ["java", "-XX:TieredStopAtLevel=1", "-XX:+UseSerialGC"], ".js": ["node"]}
 SHOWN = 400  # bytes of what a bot printed last
 
 
@@ -29,7 +29,7 @@ class Bot:
 
     @staticmethod
     def of(word: str) -> Bot:
-        """The command of a word as a shell would take it; of a file alone whose name ends so, Python's or Java's."""
+        """The command of a word as a shell would take it; of a file alone whose name ends so, Python's, Java's or JavaScript's."""
         try:
             words = shlex.split(word)
         except ValueError as error:
@@ -45,7 +45,7 @@ class Bot:
                        "'python3 bot.py'")
         rest = [str(Path(each).resolve()) if Path(each).is_file() else each for each in words[1:]]
         for each in rest:
-            if Path(each).suffix in (".py", ".java") and not Path(each).is_file():
+            if Path(each).suffix in RUN_BY and not Path(each).is_file():
                 return Bot(name, (), f"{each}: there is no such file")
         return Bot(name, (str(Path(found).absolute()), *rest))
 

@@ -42,7 +42,7 @@ def seconds(word: str) -> float:
 def add_words(words: argparse.ArgumentParser) -> None:
     """The words of `grade`."""
     words.add_argument("bots", nargs="+", metavar="BOT",
-                       help="a command, to which a slip's path is added: 'python3 bot.py'; of bot.py or Bot.java alone the file")
+                       help="a command, to which a slip's path is added: 'python3 bot.py'; of bot.py, Bot.java or bot.js alone the file")
     cases = words.add_mutually_exclusive_group()
     cases.add_argument("--suite", choices=sorted(suites.SUITES), default="small", help="cases that come with the release (small)")
     cases.add_argument("--labs", metavar="FOLDER", help="your own labs")
