@@ -306,8 +306,9 @@ class Talking(Cycle):
     def test_the_run_s_end(self) -> None:
         going = Going(self, CYCLE, "--close", "by-hand")
         slip = self.slip(going.port, "gus")
-        bots = [subprocess.Popen([*command, slip], stdout=subprocess.DEVNULL, stderr=subprocess.PIPE, text=True) for command in BOTS]
-        for _ in bots:
+        bots = []
+        for command in BOTS:  # One by one: two of a name that come at once have one line.
+            bots.append(subprocess.Popen([*command, slip], stdout=subprocess.DEVNULL, stderr=subprocess.PIPE, text=True))
             going.until("^connected: ")
         going.type("end\nend")
         self.assertEqual(going.ends(), 0, going.lines)
