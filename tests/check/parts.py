@@ -50,8 +50,8 @@ BUILT = ("programs",)
 LANGUAGES = ("java", "node", "cc", "rustc")
 PROVED = "[ps]*/**/*.*t"  # a crate's src/, specs/ and proofs/
 EDITS = "wrong/*.edit"
-PROOFS = Part("proofs", ("rt", "ci"), 116, 35, ALL, ("rt",), shows=r"^rt: ")
-WRONG = Part("wrong", module("wrong"), 75, 5, ALL, ("rt",), shows=r"")
+PROOFS = Part("proofs", ("rt", "ci"), 127, 40, ALL, ("rt",), shows=r"^rt: ")
+WRONG = Part("wrong", module("wrong"), 63, 10, ALL, ("rt",), shows=r"")
 
 
 def classroom() -> Iterator[Part]:
