@@ -106,7 +106,7 @@ def kills(room: Path) -> None:
     last = max(at, players.told)  # The reply to the last event may have been lost with a host, and nothing come after it.
     if ended.status != 0 or ended.out != b"done: %d events, " % last + ended.out.split(b"events, ")[-1]:
         fail(f"resume: after {KILLS} kills it ends with {ended}, and place {last} was last")
-    if b", stable" not in audit(lab, journal, players.told) or players.told < 50:
+    if b", stable" not in audit(lab, journal, last) or players.told < 50:
         fail(f"resume: after {KILLS} kills and {players.told} events the run isn't stable")
 
 
