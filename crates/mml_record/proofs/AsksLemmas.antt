@@ -28,11 +28,11 @@ use Rattle.mml_codec.specs.Replies.{text, reply_line, place_in}
 use Rattle.mml_session.specs.Turns.{is_bye}
 use Rattle.mml_record.specs.declared.entries.Entry.{Entry}
 use Rattle.mml_record.specs.declared.entries.Entry.TheVariants as entry
-use Rattle.mml_record.specs.Reading.{cut}
 use Rattle.mml_record.specs.Certified.{seen_after, FitsGreeting, FitsAsked, Fits, GoesOn}
 use Rattle.mml_record.specs.Asks.{unended, clause_first, clause_second, clause_member, clause_told, memory_text, known_by, known_asked, known_after, line_of, student_of}
 use Rattle.mml_record.specs.Asks.{asks_from, clause_in, AreAskedOf}
-use Rattle.mml_record.proofs.ReadingLemmas.{avoids, cut_here}
+use Rattle.mml_journal.specs.Words.{cut}
+use Rattle.mml_journal.proofs.CuttingLemmas.{avoids, cut_here}
 use Rattle.mml_record.proofs.TextLineLemmas.{front_of}
 use Rattle.mml_record.proofs.OnceLemmas.{fits_once}
 

@@ -23,13 +23,12 @@ use Rattle.mml_codec.specs.declared.reply.Reply.TheVariants as reply
 use Rattle.mml_codec.specs.Greetings.{greeting}
 use Rattle.mml_codec.specs.Lines.{request_in}
 use Rattle.mml_codec.specs.Replies.{reply_line}
-use Rattle.mml_journal.specs.Words.{◌>>=◌, is_word}
+use Rattle.mml_journal.specs.Words.{◌>>=◌, cut, is_word}
 use Rattle.mml_tally.specs.declared.ask.Ask.{Ask}
 use Rattle.mml_tally.specs.declared.ask.Line.{Line}
 use Rattle.mml_tally.specs.declared.ask.Line.TheVariants as lines
 use Rattle.mml_record.specs.declared.entries.Entry.{Entry}
 use Rattle.mml_record.specs.declared.entries.Entry.TheVariants as entry
-use Rattle.mml_record.specs.Reading.{cut}
 use Rattle.mml_record.specs.Certified.{Fits}
 
 -- ---- what a line is

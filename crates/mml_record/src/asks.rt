@@ -7,13 +7,15 @@ ghost use Rattle.mml_window.specs.Lists.{is_legal_in};
 ghost use Rattle.mml_record.specs.declared.entries.Entry.{Entry};
 ghost use Rattle.mml_record.specs.Certified.{IsRecordOf};
 ghost use Rattle.mml_record.specs.Entries.{record_text};
-ghost use Rattle.mml_record.specs.inside.RawEntries.{seen, entry_view};
+ghost use Rattle.mml_journal.specs.Words.{seen};
+ghost use Rattle.mml_record.specs.inside.RawEntries.{entry_view};
 ghost use Rattle.mml_record.specs.Asks.{kind_asked, line_of_command, line_of_request, line_of, digit_first, clause_first, clause_second, clause_member, clause_told, memory_text, known_by, known_asked, known_after, student_in, student_of, ask_of, asks_at, known_behind, asks_in};
 
-use crate::reading::{RawEntry, cut, entry_in};
+use crate::reading::{RawEntry, entry_in};
 use mml_board::Event;
 use mml_codec::{Greeting, LineFault, Request, greet, read_request};
 use mml_ids::Memory;
+use mml_journal::cut;
 use mml_lab::{Lab, Roster, Student, Who};
 use mml_policy::{Asked, Command};
 use mml_rules::Kind;
