@@ -12,4 +12,4 @@ mod node_sets;
 
 pub use board::Board;
 pub use done::Done;
-pub use event::{Event, same_events};
+pub use event::{Event, same_event, same_events};
