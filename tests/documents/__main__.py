@@ -10,6 +10,7 @@ A path in `src/`, `specs/`, `proofs/` or `wrong/` that a crate's page names has 
 What a table has under `Contract` has to be declared: a function, a type, a clause or a definition, and on a
 crate's page one that the crate declares or cites. A command block of the pages that show how the program is
 used is run by a test, or is marked: `sh not run`, or `text` for what is only an example of an output.
+`docs/crates.svg` has to be what `tests.documents.crates` draws of `crates.txt`.
 All pages together have at most so many words; `CHANGELOG.md`, which grows, isn't counted.
 """
 from __future__ import annotations
@@ -19,6 +20,8 @@ import subprocess
 import sys
 from collections.abc import Iterable, Iterator
 from pathlib import Path
+
+from tests.documents import crates
 
 TOP = Path(__file__).resolve().parents[2]
 FENCE = re.compile(r"^```.*?^```$", re.MULTILINE | re.DOTALL)
@@ -216,6 +219,7 @@ def main() -> None:
     missing = [f"not there: {page}: {name}" for page in pages for name in dict.fromkeys(told(page, files, folders, words, laws))]
     missing += [f"no contract: {page}: {name}" for page in pages for name in missing_contracts(page, texts, declared, laws)]
     missing += [f"no test runs it: {page}: {line}" for page in USED for line in unrun_blocks(page, files)]
+    missing += crates.faults()
     if total > MOST_WORDS:
         missing.append(f"too long: {total} words in all, of at most {MOST_WORDS}")
     for line in missing:

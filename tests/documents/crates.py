@@ -1,0 +1,141 @@
+"""Draws `docs/crates.svg` of `crates.txt`: the groups in their order, what each hands up, and where a crate is tested.
+
+    python3 -B -m tests.documents.crates > docs/crates.svg
+
+A group begins with a comment line, of which the words up to the first colon or comma are its title; a comment
+`Hands up NAME of CRATE` names the contract. An arrow leads from the last group that one stands on. A crate is
+tested in those of `mml_tests_` that use it, and in the folders of `tests/` that FOLDERS names.
+"""
+from __future__ import annotations
+
+import re
+from dataclasses import dataclass, field
+from pathlib import Path
+from xml.sax.saxutils import escape
+
+TOP = Path(__file__).resolve().parents[2]
+PICTURE = TOP / "docs/crates.svg"
+TESTS = "mml_tests_"
+FOLDERS = {
+    "mml_tally": ["tally"],
+    "mml_stable": ["scripts"],
+    "mml_audit": ["journals"],
+    "mml_record": ["record"],
+    "mml_recording": ["record"],
+    "mml_resuming": ["resume"],
+    "mml_same_lab": ["resume"],
+    "mml_program": ["program"],
+    "mml_server": ["program", "hostile"],
+    "mml_judging_program": ["tally", "record"],
+    "mml_host_program": ["host", "outsiders"],
+    "mml_host": ["host", "hostile"],
+}
+COLUMNS, WIDTH, HEIGHT, GAP, MARGIN = 4, 232, 44, 8, 16
+STYLE = """
+:root, svg { --ground: #ffffff; --text: #1a1a1a; --line: #8a8a8a; --band: #f1f3f7; }
+@media screen and (prefers-color-scheme: dark) {
+  :root, svg { --ground: #16181c; --text: #f2f2f2; --line: #7d838c; --band: #23262d; }
+}
+svg { font-family: system-ui, sans-serif; font-size: 13px; }
+text { fill: var(--text); } .small { font-size: 11px; } .title { font-weight: bold; }
+.ground, .crate { fill: var(--ground); } .band { fill: var(--band); } .crate, .way { stroke: var(--line); fill-opacity: 1; }
+.way { fill: none; stroke-width: 1.5; }
+""".strip()
+
+
+@dataclass
+class Group:
+    """Crates that stand together, in the order of reading, and the contract that they hand up."""
+
+    title: str
+    hands_up: str = ""
+    of: str = ""
+    crates: dict[str, list[str]] = field(default_factory=dict)
+
+
+def groups(text: str) -> list[Group]:
+    """The groups of `crates.txt`."""
+    found: list[Group] = []
+    for line in text.splitlines():
+        handed = re.fullmatch(r"# Hands up (\w+) of (\w+)\.", line)
+        if handed:
+            found[-1].hands_up, found[-1].of = handed[1], handed[2]
+        elif line.startswith("# "):
+            found.append(Group(re.split(r"[:,]", line[2:])[0]))
+        elif ":" in line:
+            crate, used = line.split(":")
+            found[-1].crates[crate] = used.split()
+    return [it for it in found if it.crates]
+
+
+def tested_in(crate: str, all_groups: list[Group]) -> str:
+    """The crates and folders of tests that try a crate."""
+    if crate.startswith(TESTS):
+        return ""
+    uses = {name: used for group in all_groups for name, used in group.crates.items()}
+    crates = [name.removeprefix(TESTS) for name, used in uses.items() if name.startswith(TESTS) and crate in used]
+    places = [*crates, *(f"tests/{it}" for it in FOLDERS.get(crate, []))]
+    return "tested in " + ", ".join(places) if places else "laws alone"
+
+
+def text_at(x: int, y: int, text: str, kind: str = "") -> str:
+    """A line of text."""
+    return f'<text x="{x}" y="{y}"{f""" class="{kind}" """.rstrip() if kind else ""}>{escape(text)}</text>'
+
+
+def band(group: Group, top: int, all_groups: list[Group]) -> tuple[list[str], int]:
+    """A group's drawing, and where it ends."""
+    rows = -(-len(group.crates) // COLUMNS)
+    height = 30 + rows * (HEIGHT + GAP) + GAP
+    width = COLUMNS * (WIDTH + GAP) + GAP
+    drawn = [f'<rect class="band" x="{MARGIN}" y="{top}" width="{width}" height="{height}" rx="6"/>', text_at(MARGIN + GAP, top + 20, group.title, "title")]
+    if group.hands_up:
+        drawn.append(text_at(MARGIN + GAP + 2 * (WIDTH + GAP), top + 20, f"hands up {group.hands_up} ({group.of})"))
+    for at, crate in enumerate(group.crates):
+        x, y = MARGIN + GAP + at % COLUMNS * (WIDTH + GAP), top + 30 + at // COLUMNS * (HEIGHT + GAP)
+        drawn.append(f'<rect class="crate" x="{x}" y="{y}" width="{WIDTH}" height="{HEIGHT}" rx="4"/>')
+        drawn.append(text_at(x + 8, y + 18, crate))
+        drawn.append(text_at(x + 8, y + 35, tested_in(crate, all_groups), "small"))
+    return drawn, top + height
+
+
+def way(above: int, below: int, is_next: bool) -> str:
+    """An arrow from the foot of a band to the head of the next, or past those between by the margin."""
+    middle, head = MARGIN + GAP + WIDTH // 2, below + 20
+    if is_next:
+        return f'<path class="way" d="M{middle} {above} V{below - 2} m-5 -6 l5 6 l5 -6"/>'
+    return f'<path class="way" d="M{MARGIN} {above - 20} H6 V{head} H{MARGIN - 2} m-6 -5 l6 5 l-6 5"/>'
+
+
+def drawing(text: str) -> str:
+    """The picture of a `crates.txt`."""
+    all_groups, feet = groups(text), list[int]()
+    top, drawn = MARGIN, list[str]()
+    for at, group in enumerate(all_groups):
+        used = {it for its in group.crates.values() for it in its}
+        stands_on = max((below for below in range(at) if used & all_groups[below].crates.keys()), default=None)
+        if stands_on is not None:
+            drawn.append(way(feet[stands_on], top, stands_on == at - 1))
+        lines, foot = band(group, top, all_groups)
+        drawn += lines
+        feet.append(foot)
+        top = foot + 20
+    width, height = 2 * MARGIN + COLUMNS * (WIDTH + GAP) + GAP, top + MARGIN - 20
+    head = f'<svg xmlns="http://www.w3.org/2000/svg" viewBox="0 0 {width} {height}" role="img" aria-label="the crates by groups">'
+    return "\n".join([head, f"<style>{STYLE}</style>", f'<rect class="ground" width="{width}" height="{height}"/>', *drawn, "</svg>", ""])
+
+
+def faults() -> list[str]:
+    """What the picture tells that isn't so."""
+    text = (TOP / "crates.txt").read_text(encoding="utf-8")
+    found = [] if PICTURE.exists() and PICTURE.read_text(encoding="utf-8") == drawing(text) else ["docs/crates.svg isn't that of crates.txt: python3 -B -m tests.documents.crates"]
+    for group in groups(text):
+        sources = sorted((TOP / "crates" / group.of / "src").rglob("*.rt")) if group.of else []
+        if group.hands_up and (group.of not in group.crates or not any(re.search(rf"pub fn {group.hands_up}\b", it.read_text(encoding="utf-8")) for it in sources)):
+            found.append(f"crates.txt: {group.of} has no {group.hands_up}")
+    missing = [it for its in FOLDERS.values() for it in its if not (TOP / "tests" / it).is_dir()]
+    return found + [f"no folder tests/{it}" for it in missing]
+
+
+if __name__ == "__main__":
+    print(drawing((TOP / "crates.txt").read_text(encoding="utf-8")), end="")
