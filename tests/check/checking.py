@@ -8,7 +8,7 @@ from pathlib import Path
 
 from tests.check.measure import figures
 from tests.check.needs import install, missing, told
-from tests.check.parts import PROOFS, TOP, Part, minutes
+from tests.check.parts import PROOFS, TOP, Part, minutes_of
 from tests.check.processes import adopt_orphans
 from tests.check.results import not_tried, result
 from tests.check.running import Crew, Done
@@ -76,21 +76,26 @@ def begin(stages: Stages, processors: int) -> None:
     """Gets what is missing, where nothing may be left out; tells how long it will take."""
     if is_gate():
         install([part for stage in stages for part in stage])
-    takes = [(stage[0].name if len(stage) == 1 else "scripts", minutes(stage, processors)) for stage in stages]
-    each = ", ".join(f"{name} {it:.1f}" for name, it in takes)
-    tell(f"check: some {max(1, round(sum(it for _, it in takes)))} minutes on {processors} processors ({each})")
+    names = [stage[0].name if len(stage) == 1 else "scripts" for stage in stages]
+    takes = minutes_of(stages, processors)
+    each = ", ".join(f"{name} {it:.1f}" for name, it in zip(names, takes))
+    tell(f"check: some {max(1, round(sum(takes)))} minutes on {processors} processors ({each})")
 
 
 def run(stages: Stages, crew: Crew, count: Count) -> None:
-    """Runs the stages one after another; where the proofs fail, there is no program to go on with."""
+    """Runs the stages one after another, and from the first on what runs beside; where the proofs fail, there is no
+    program to go on with."""
+    beside = [it for stage in stages for it in stage if it.is_beside]
     for number, stage in enumerate(stages):
-        for done in crew.run(count.with_needs(stage)):
+        here = [it for it in stage if not it.is_beside]
+        for done in crew.run(count.with_needs([*here, *beside] if number == 0 else here)):
             is_well = count.add(done)
             if done.part.name == PROOFS.name:
                 forget_records()
             later = [it.name for after in stages[number + 1:] for it in after]
             if not is_well and done.part.name == PROOFS.name and later:
-                tell(f"not begun, since the proofs failed: {', '.join(later)}")
+                crew.end()
+                tell(f"not done, since the proofs failed: {', '.join(later)}")
                 return
 
 

@@ -26,6 +26,8 @@ class Part:
     needs: tuple[str, ...] = ()  # names of `needs.NEEDS`
     likes: tuple[str, ...] = ()  # what a few of its tests need, which are left out without it
     shows: str = ""  # the lines of its output that are shown as they come
+    hands_on: str = ""  # what in its lines is written to the parts beside, which are told of no more once it has ended
+    is_beside: bool = False  # whether it runs from the beginning on, beside the others, with what they leave idle
 
     def minutes(self, processors: int) -> float:
         """What it takes of the clock."""
@@ -50,8 +52,10 @@ BUILT = ("programs",)
 LANGUAGES = ("java", "node", "cc", "rustc")
 PROVED = "[ps]*/**/*.*t"  # a crate's src/, specs/ and proofs/
 EDITS = "wrong/*.edit"
-PROOFS = Part("proofs", ("rt", "ci"), 127, 40, ALL, ("rt",), shows=r"^rt: ")
-WRONG = Part("wrong", module("wrong"), 63, 10, ALL, ("rt",), shows=r"")
+STANDS = r"^rt: (\w+) (?:proved$|is kept: )"  # a crate whose library is written
+PROOFS = Part("proofs", ("rt", "ci"), 127, 40, ALL, ("rt",), shows=r"^rt: ", hands_on=STANDS)
+WRONG = Part("wrong", module("wrong"), 63, 10, ALL, ("rt",))
+LAST_CRATES = 5  # minutes of the wrong bodies of the crates that are proved last
 
 
 def classroom() -> Iterator[Part]:
@@ -77,7 +81,7 @@ QUICK = [
     Part("hostile-host", module("hostile", "15", "host"), 0.2, 0.5, 2, BUILT),
     Part("resume", module("resume"), 0.5, 1.0, 2, (*BUILT, "rt")),
     Part("record", module("record"), 0.4, 0.5, 1, BUILT),
-    Part("wrong-tests", cases("wrong.test_wrong"), 0.6, 0.6, 1, ("rt",)),
+    Part("wrong-tests", cases("wrong.test_wrong", "wrong.test_beside"), 0.6, 0.6, 1, ("rt",)),
     Part("check", cases("check.test_check", "check.test_pieces"), 0.2, 0.6, 1),
     Part("memory", module("memory", "uses"), 0.2, 0.4, 1, (*BUILT, "rt")),
     Part("tally", module("tally", "20"), 0.1, 0.2, 1, BUILT),
@@ -129,6 +133,22 @@ def proofs_of(crates: list[str]) -> Part:
 def wrong_of(crates: list[str]) -> Part:
     """The wrong bodies of some crates, or of all."""
     return WRONG.over(crates, share({*crates}, EDITS))
+
+
+def wrong_beside() -> Part:
+    """The wrong bodies of all crates, each as it is proved."""
+    return replace(WRONG, command=(*WRONG.command, "--as-proved"), least=min(WRONG.least, LAST_CRATES), is_beside=True)
+
+
+def minutes_of(stages: list[list[Part]], processors: int) -> list[float]:
+    """What stages take of the clock: a part beside only what the others don't leave idle."""
+    takes = [minutes([part for part in stage if not part.is_beside], processors) for stage in stages]
+    idle = sum(takes) * processors - sum(part.work for stage in stages for part in stage if not part.is_beside)
+    for number, stage in enumerate(stages):
+        for part in stage:
+            if part.is_beside:
+                takes[number] += max(part.least, (part.work - idle) / processors)
+    return takes
 
 
 def minutes(parts: list[Part], processors: int) -> float:

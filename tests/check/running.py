@@ -1,6 +1,7 @@
 """Runs parts side by side, each in a session and with a folder of its own."""
 from __future__ import annotations
 
+import contextlib
 import os
 import re
 import subprocess
@@ -39,17 +40,29 @@ class Running:
     begun: float = field(default_factory=time.monotonic)
     shown: int = 0
 
-    def show(self) -> None:
-        """Prints the whole lines of its output that are to be shown and weren't yet."""
+    def show(self) -> list[str]:
+        """Prints the whole lines of its output that are to be shown and weren't yet; answers what they hand on."""
         if not self.part.shows:
-            return
-        with self.output.open("rb") as it:
-            it.seek(self.shown)
-            whole, found, _ = it.read().rpartition(b"\n")
+            return []
+        with self.output.open("rb") as output:
+            output.seek(self.shown)
+            whole, found, _ = output.read().rpartition(b"\n")
         self.shown += len(whole + found)
-        for line in whole.decode(errors="replace").splitlines():
+        lines = whole.decode(errors="replace").splitlines()
+        for line in lines:
             if re.search(self.part.shows, line):
                 print(f"  {line}", flush=True)
+        wanted = self.part.hands_on
+        return [it[1] for line in lines if wanted and (it := re.search(wanted, line))]
+
+    def told(self, words: list[str], is_all: bool = False) -> None:
+        """Writes words to a part beside, if it still reads; lines so few that it needn't."""
+        if self.process.stdin:
+            with contextlib.suppress(BrokenPipeError):
+                self.process.stdin.write("".join(f"{it}\n" for it in words).encode())
+            if is_all:
+                self.process.stdin.close()
+                self.process.stdin = None
 
 
 class Crew:
@@ -62,9 +75,9 @@ class Crew:
         self.checks = Checks()
 
     def fits(self, part: Part) -> bool:
-        """Whether so many processors are free as a part keeps busy."""
-        taken = sum(min(it.part.width, self.processors) for it in self.running.values())
-        return taken + min(part.width, self.processors) <= self.processors
+        """Whether so many processors are free as a part keeps busy; one beside takes none."""
+        taken = sum(min(it.part.width, self.processors) for it in self.running.values() if not it.part.is_beside)
+        return part.is_beside or taken + min(part.width, self.processors) <= self.processors
 
     def begin(self, part: Part) -> None:
         """Starts a part, which takes its temporary files from a folder of its own."""
@@ -75,8 +88,8 @@ class Crew:
         more = {"TMPDIR": str(folder), "PYTHONDONTWRITEBYTECODE": "1"}
         with output.open("wb") as it, HEED.held():
             process = subprocess.Popen(
-                part.command, cwd=TOP, stdin=subprocess.DEVNULL, stdout=it, stderr=subprocess.STDOUT,
-                env={**os.environ, **more}, start_new_session=True,
+                part.command, cwd=TOP, stdin=subprocess.PIPE if part.is_beside else subprocess.DEVNULL, stdout=it,
+                stderr=subprocess.STDOUT, bufsize=0, env={**os.environ, **more}, start_new_session=True,
             )
             self.running[process.pid] = Running(part, process, output)
 
@@ -92,22 +105,32 @@ class Crew:
             if pid in self.running:
                 it = self.running.pop(pid)
                 it.process.returncode = os.waitstatus_to_exitcode(status)
-                it.show()
+                self.show(it, is_all=bool(it.part.hands_on))
+                it.told([], is_all=True)
                 text = it.output.read_text(encoding="utf-8", errors="replace")
                 minutes = (used.ru_utime + used.ru_stime) / 60
                 yield Done(it.part, it.process.returncode, time.monotonic() - it.begun, minutes, text)
 
+    def show(self, of: Running, is_all: bool = False) -> None:
+        """Prints what is to be shown of a part, and hands on to those beside what they are to be told."""
+        words = of.show()
+        for it in self.running.values():
+            if words or is_all:
+                it.told(words, is_all)
+
     def run(self, parts: list[Part]) -> Iterator[Done]:
-        """Runs parts, the first that fits first; gives each as it ends."""
+        """Runs parts, the first that fits first, to the end of all that aren't beside or, where there are none, of
+        those that are; gives each as it ends."""
         waiting = list(parts)
-        while waiting or self.running:
+        is_last = not parts
+        while waiting or any(is_last or not it.part.is_beside for it in self.running.values()):
             for part in [*waiting]:
                 if self.fits(part):
                     waiting.remove(part)
                     self.begin(part)
             yield from self.ended()
             for it in self.running.values():
-                it.show()
+                self.show(it)
             self.checks.look({pid: it.part.name for pid, it in self.running.items() if it.part.name in PROVING})
             if self.running:
                 time.sleep(POLL)

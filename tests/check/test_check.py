@@ -56,9 +56,10 @@ class Words(InTree):
             self.assertEqual((done.returncode, done.stderr, lines[-1]), (0, "", "14 passed, 0 failed"))
             self.assertRegex(lines[0], r"^check: some \d+ minutes on \d+ processors \(proofs [\d.]+, scripts [\d.]+, wrong [\d.]+\)$")
             told = [re.sub(r" +\d+ s ", "", line) for line in lines if line.startswith("ok ")]
-            self.assertEqual([told[0], *sorted(told[1:3]), told[3]], [
-                "ok proofs: 5 passed, 0 failed", "ok one: 3 calls as wanted", "ok two: 2 documents", "ok wrong: 7 passed, 0 failed",
+            self.assertEqual(sorted(told), [
+                "ok one: 3 calls as wanted", "ok proofs: 5 passed, 0 failed", "ok two: 2 documents", "ok wrong: 7 passed, 0 failed",
             ])
+            self.assertLess(told.index("ok proofs: 5 passed, 0 failed"), told.index("ok two: 2 documents"))
             self.assertRegex(lines[-2], r"^processor minutes in all: \d")
             self.assertNotIn("left out", done.stdout)
 
@@ -111,7 +112,7 @@ class Outcomes(InTree):
         done = self.check()
         self.assertEqual((done.returncode, done.stdout.splitlines()[-1]), (1, "40 passed, 3 failed"))
         self.assertIn("refused\n", done.stdout)
-        self.assertIn("not begun, since the proofs failed: well, wrong\n", done.stdout)
+        self.assertIn("not done, since the proofs failed: well, wrong\n", done.stdout)
 
     def test_what_is_missing(self) -> None:
         """It is named with its Debian package; where nothing may be left out it is asked for, and then fails."""
@@ -146,6 +147,52 @@ class Outcomes(InTree):
         self.stand_in(part("well", 'setsid sleep 1000 > /dev/null 2>&1 & echo $! > "$ROOM/pid"; echo 1 call'))
         self.assertEqual(self.check("quick").returncode, 0)
         self.assertFalse(is_there(int((self.room / "pid").read_text(encoding="utf-8"))))
+
+
+class Beside(InTree):
+    """Wrong bodies beside the proofs."""
+
+    def wrong_tells(self, proofs: str, last: str = "echo 7 passed, 0 failed") -> str:
+        """What the wrong bodies are told beside such proofs, by which they begin, and what the check prints."""
+        self.stand_in(part("well", WELL), wrong=f'touch "$ROOM/begun"; cat > "$ROOM/told"; {last}', proofs=proofs)
+        self.said = self.check().stdout
+        return (self.room / "told").read_text(encoding="utf-8")
+
+    def test_crates_that_stand(self) -> None:
+        """Each crate is told while the proofs go on, and nothing after their end."""
+        told = self.wrong_tells("""
+            echo "rt: one proved"; until [ -s "$ROOM/told" ]; do sleep 0.05; done
+            echo "rt: one: its tests are proved"; echo "== two"; echo "rt: two is kept: an earlier run proved it"; echo "rt: three NOT PROVED"
+            echo 5 passed, 0 failed
+        """)
+        self.assertEqual((told, self.said.splitlines()[-1]), ("one\ntwo\n", "13 passed, 0 failed"))
+
+    def test_one_that_reads_nothing(self) -> None:
+        """Wrong bodies that have ended already fail by themselves."""
+        self.stand_in(wrong='touch "$ROOM/begun"; exit 1', proofs="""
+            until [ -e "$ROOM/begun" ]; do sleep 0.05; done; sleep 1
+            for it in 1 2 3; do echo "rt: one proved"; sleep 0.3; done; echo 5 passed, 0 failed
+        """)
+        done = self.check()
+        self.assertEqual((done.returncode, done.stdout.splitlines()[-1]), (1, "5 passed, 1 failed"), done.stdout)
+
+    def test_proofs_that_fail(self) -> None:
+        """They end the wrong bodies, whatever these do."""
+        self.stand_in(part("well", WELL), wrong=GOES_ON, proofs='until [ -e "$ROOM/begun" ]; do sleep 0.05; done; echo 1 passed, 1 failed; exit 1')
+        done = self.check()
+        self.assertEqual((done.returncode, done.stdout.splitlines()[-1]), (1, "1 passed, 1 failed"))
+        pids = [int(pid) for pid in (self.room / "pids").read_text(encoding="utf-8").split()]
+        self.assertEqual([pid for pid in pids if is_there(pid)], [])
+
+    def test_both_ended(self) -> None:
+        """Nothing is left of either where the check is ended."""
+        self.stand_in(part("well", WELL), wrong=GOES_ON, proofs="sleep 1000")
+        going = self.begun()
+        going.send_signal(signal.SIGTERM)
+        said, _ = going.communicate(timeout=LIMIT)
+        self.assertRegex(said, "check: ended by SIGTERM, in proofs, wrong\n")
+        self.assertEqual(going.returncode, 128 + signal.SIGTERM)
+        self.nothing_left()
 
 
 class Ends(InTree):

@@ -7,7 +7,7 @@ from pathlib import Path
 
 from tests.check.kit import fault
 from tests.check.measure import Checks, figures
-from tests.check.parts import ALL, PROOFS, QUICK, WRONG, Part, minutes, proofs_of, uses, wrong_of
+from tests.check.parts import ALL, PROOFS, QUICK, WRONG, Part, minutes, minutes_of, proofs_of, uses, wrong_of
 from tests.check.results import not_tried, result
 from tests.check.running import Crew, Done
 
@@ -77,6 +77,13 @@ class Sharing(unittest.TestCase):
         self.assertEqual(minutes([narrow, narrow, long], 4), 5)
         self.assertEqual([minutes([wide], number) for number in (1, 2, 4, 16)], [8, 4, 2, 1])
         self.assertEqual(minutes([narrow, wide], 2), 6)
+
+    def test_minutes_beside(self) -> None:
+        """What is beside takes what the others don't leave idle, and its last piece at least."""
+        work, beside = Part("w", (), 8, 4, ALL), Part("b", (), 16, 2, ALL, is_beside=True)
+        self.assertEqual([minutes_of([[work], [beside]], number) for number in (1, 2, 4, 8)], [[8, 16], [4, 8], [4, 2], [4, 2]])
+        self.assertEqual(minutes_of([[work], [Part("s", (), 2, 2)], [beside]], 4), [4, 2, 2])
+        self.assertEqual(minutes_of([[work], [Part("b", (), 40, 2, ALL, is_beside=True)]], 4), [4, 8])
 
     def test_some_crates(self) -> None:
         """What some crates take is told by their sizes."""

@@ -13,7 +13,7 @@ TOP = Path(__file__).resolve().parents[2]
 LIMIT = 300.0  # seconds after which something hangs
 # In the place of the tables: each part is a line of a shell.
 TABLES = '''
-PROOFS = Part("proofs", ("sh", "-c", {proofs!r}, "proofs"), 8, 1, ALL, (), shows="^rt: ")
+PROOFS = Part("proofs", ("sh", "-c", {proofs!r}, "proofs"), 8, 1, ALL, (), shows="^rt: ", hands_on=STANDS)
 WRONG = Part("wrong", ("sh", "-c", {wrong!r}, "wrong"), 4, 1, ALL)
 QUICK = [Part(name, ("sh", "-c", line), 1, 0.5, width, needs, likes) for name, line, width, needs, likes in {quick!r}]
 '''

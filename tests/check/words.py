@@ -8,7 +8,7 @@ from functools import partial
 from tests.check.checking import Stages, check
 from tests.check.guard import guarded
 from tests.check.lock import Taken, alone
-from tests.check.parts import PROOFS, QUICK, WRONG, minutes, proofs_of, uses, wrong_of
+from tests.check.parts import PROOFS, QUICK, WRONG, minutes, minutes_of, proofs_of, uses, wrong_beside, wrong_of
 
 TAKEN = 3
 LEFT_OUT = {
@@ -24,7 +24,7 @@ def taking(least: float) -> str:
 
 def parser() -> argparse.ArgumentParser:
     """All words."""
-    whole = sum(minutes(stage, 4) for stage in ([PROOFS], QUICK, [WRONG]))
+    whole = sum(minutes_of([[PROOFS], QUICK, [wrong_beside()]], 4))
     every = argparse.ArgumentParser(
         prog="check", description=f"Tests all of it, {taking(whole)}: proofs, scripts, wrong bodies.",
         epilog="The last line is 'N passed, M failed'. The status is 0 where all passed, 1 where a part failed, "
@@ -55,7 +55,7 @@ def stages_of(word: str | None, names: list[str]) -> tuple[Stages, list[str]]:
         return [[proofs_of(names)]], []
     if word == "wrong":
         return [[wrong_of(names)]], []
-    return [[PROOFS], QUICK, [WRONG]], []
+    return [[PROOFS], QUICK, [wrong_beside()]], []
 
 
 def main(words: list[str] | None = None) -> int:

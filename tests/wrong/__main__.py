@@ -2,6 +2,8 @@
 
     python3 -B -m tests.wrong [CRATE..]             over the libraries that `rt ci` or `rt check` left
     python3 -B -m tests.wrong --rounds [CRATE..]    says only what is tried together
+    python3 -B -m tests.wrong --as-proved           tries each crate once it and those below it are named on standard
+                                                    input, with what is idle; after its end, what is left, with all
 
 Edits of a crate whose texts and functions are apart are put into one copy of it (a round), of which one check
 proves the functions that they name. A function is proved from the clauses of what it calls, so one that is
@@ -13,14 +15,19 @@ though no edit names it, and counts of the check that don't fit what it says.
 from __future__ import annotations
 
 import argparse
+import os
 import signal
 import sys
+import tempfile
+from collections.abc import Iterator
+from dataclasses import replace
 from pathlib import Path
 
-from tests.wrong.checks import lane_count
+from tests.wrong.beside import as_proved, give_way
+from tests.wrong.checks import Running, lane_count
 from tests.wrong.edits import read_edits, rounds_of
 from tests.wrong.libraries import LibraryFault, Tree, tree_at
-from tests.wrong.trying import try_crates
+from tests.wrong.trying import Tried, try_crates
 
 TOP = Path(__file__).resolve().parents[2]
 
@@ -33,6 +40,7 @@ def words() -> argparse.Namespace:
     parser.add_argument("--times", action="store_true", help="say the processor seconds of each crate and of all")
     parser.add_argument("--logs", type=Path, metavar="FOLDER", help="keep what each check prints")
     parser.add_argument("--rounds", action="store_true", help="say only what is tried together")
+    parser.add_argument("--as-proved", action="store_true", help="beside an rt ci whose crates are named on standard input")
     return parser.parse_args()
 
 
@@ -56,12 +64,25 @@ def say_rounds(tree: Tree, crates: list[str]) -> None:
             print(f"FAILED: {crate}: {fault}")
 
 
+def tried_of(tree: Tree, crates: list[str], asked: argparse.Namespace) -> Iterator[Tried]:
+    """What comes of the edits of crates, at once or as the crates are proved."""
+    lanes = lane_count(asked.jobs)
+    if not asked.as_proved:
+        yield from try_crates(tree, crates, lanes, asked.logs, Running())
+        return
+    give_way()
+    running = Running(beside=len(os.sched_getaffinity(0)) // 2)
+    with tempfile.TemporaryDirectory(prefix="mml-wrong-") as room:
+        over = replace(tree, libraries=Path(room))
+        yield from try_crates(over, as_proved(over, crates, sys.stdin, running), lanes, asked.logs, running)
+
+
 def try_all(tree: Tree, crates: list[str], asked: argparse.Namespace) -> int:
     """Tries the edits of crates, and says a line of each as it is done, and how many passed."""
     done = []
     if asked.logs:
         asked.logs.mkdir(parents=True, exist_ok=True)
-    for tried in try_crates(tree, crates, lane_count(asked.jobs), asked.logs):
+    for tried in tried_of(tree, crates, asked):
         done.append(tried)
         print(tried.line(asked.times), flush=True)
         for fault in tried.faults:

@@ -15,6 +15,9 @@ from tests.wrong.libraries import Tree, check_words
 
 # What a check of one of the larger crates may hold in memory.
 MOST_HELD = 2_500_000_000
+# What proofs that run may still take of it.
+LEFT_FREE = 4_000_000_000
+PAUSE = 1.0
 # A check is ended with this process too, however that ends.
 WITH_THIS_PROCESS = ("setpriv", "--pdeathsig", "KILL")
 
@@ -34,16 +37,29 @@ class Ended:
 
 @dataclass
 class Running:
-    """The checks that run now."""
+    """The checks that run now; beside proofs that do, as many as a number, and none where memory is short."""
 
-    lock: threading.Lock = field(default_factory=threading.Lock)
+    beside: int | None = None
+    lock: threading.Condition = field(default_factory=threading.Condition)
     checks: set[subprocess.Popen[bytes]] = field(default_factory=set)
     is_over: bool = False
 
-    def run(self, words: list[str], folder: Path) -> Ended:
-        """Runs one check to its end."""
+    def may_begin(self) -> bool:
+        """Whether another check may."""
+        return self.beside is None or len(self.checks) < self.beside and free_memory() > MOST_HELD + LEFT_FREE
+
+    def go_on_alone(self) -> None:
+        """From now on no proofs run."""
+        with self.lock:
+            self.beside = None
+            self.lock.notify_all()
+
+    def run(self, words: list[str], folder: Path, is_alone: bool = False) -> Ended:
+        """Runs one check to its end, or only once no proofs run."""
         with tempfile.TemporaryFile() as output:
             with self.lock:
+                while not self.is_over and (is_alone and self.beside is not None or not self.may_begin()):
+                    self.lock.wait(PAUSE)
                 if self.is_over:
                     raise Stopped
                 check = subprocess.Popen([*WITH_THIS_PROCESS, *words], cwd=folder, stdin=subprocess.DEVNULL, stdout=output, stderr=subprocess.STDOUT)
@@ -60,6 +76,7 @@ class Running:
         """Ends all checks, and lets none begin."""
         with self.lock:
             self.is_over = True
+            self.lock.notify_all()
             for check in self.checks:
                 check.send_signal(signal.SIGKILL)
 
@@ -78,8 +95,11 @@ def try_round(tree: Tree, crate: str, tried: Round, room: Path, running: Running
     copy, kept = room / "copy", room / "kept"
     kept.mkdir(exist_ok=True)
     copy_crate(tree.folder(crate), copy, tried.texts)
+    words = check_words(tree, crate, tried.functions(), kept)
     try:
-        return running.run(check_words(tree, crate, tried.functions(), kept), copy)
+        ended = running.run(words, copy)
+        # (killed, most likely for want of memory)
+        return running.run(words, copy, is_alone=True) if ended.status == -signal.SIGKILL else ended
     finally:
         shutil.rmtree(copy, ignore_errors=True)
 

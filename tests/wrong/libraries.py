@@ -12,11 +12,13 @@ class LibraryFault(Exception):
 
 @dataclass(frozen=True)
 class Tree:
-    """A copy of the repository, the kit, and what each crate of `crates.txt` uses."""
+    """A copy of the repository, the kit, what each crate of `crates.txt` uses, and a folder of libraries where
+    those that `rt` leaves in the crates aren't to be read."""
 
     top: Path
     kit: Path
     uses: dict[str, list[str]]
+    libraries: Path | None = None
 
     def folder(self, crate: str) -> Path:
         """A crate's folder."""
@@ -27,10 +29,14 @@ class Tree:
         return (self.folder(crate) / "wrong").is_dir()
 
     def library(self, crate: str) -> Path:
-        """Where `rt` leaves a library of the repository, or where the kit has one of its own."""
+        """Where a library of the repository is read, or one of the kit's own."""
         if crate in self.uses:
-            return self.folder(crate) / "out/rlib" / f"{crate}.rlib"
+            return self.libraries / f"{crate}.rlib" if self.libraries else self.left(crate)
         return self.kit / "rlibs" / f"{crate}.rlib"
+
+    def left(self, crate: str) -> Path:
+        """Where `rt` leaves a library of the repository."""
+        return self.folder(crate) / "out/rlib" / f"{crate}.rlib"
 
     def below(self, crate: str) -> list[str]:
         """The crates of the repository that a crate is built from, lowest first."""

@@ -2,7 +2,7 @@
 from __future__ import annotations
 
 import tempfile
-from collections.abc import Iterator
+from collections.abc import Iterable, Iterator
 from concurrent.futures import ThreadPoolExecutor, as_completed
 from dataclasses import dataclass, field
 from pathlib import Path
@@ -62,9 +62,8 @@ def try_crate(tree: Tree, crate: str, running: Running, logs: Path | None = None
     return tried
 
 
-def try_crates(tree: Tree, crates: list[str], lanes: int, logs: Path | None = None) -> Iterator[Tried]:
-    """Tries the edits of crates side by side, and gives what came of each as it is done."""
-    running = Running()
+def try_crates(tree: Tree, crates: Iterable[str], lanes: int, logs: Path | None, running: Running) -> Iterator[Tried]:
+    """Tries the edits of crates side by side, as they are given, and then gives what came of each as it is done."""
     with ThreadPoolExecutor(lanes) as pool:
         try:
             for future in as_completed([pool.submit(try_crate, tree, it, running, logs) for it in crates]):

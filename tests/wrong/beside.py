@@ -1,0 +1,51 @@
+"""Beside an `rt ci` that runs: crates as it proves them, with what it leaves idle."""
+from __future__ import annotations
+
+import contextlib
+import os
+import shutil
+from collections.abc import Iterable, Iterator
+from pathlib import Path
+
+from tests.wrong.checks import Running
+from tests.wrong.libraries import Tree
+
+LAST_IN_TURN = 19
+FIRST_TO_END = 500
+
+
+def give_way() -> None:
+    """Lets all others go first: for a processor, and in what the system ends where memory is short."""
+    os.nice(LAST_IN_TURN)
+    changes = {"oom_score_adj": FIRST_TO_END}
+    if os.getsid(0) == os.getpid():
+        # A session shares processors with others as one, whatever its processes say of themselves.
+        changes["autogroup"] = LAST_IN_TURN
+    for file, number in changes.items():
+        with contextlib.suppress(OSError):
+            Path(f"/proc/self/{file}").write_text(str(number), encoding="ascii")
+
+
+def keep_library(tree: Tree, crate: str) -> None:
+    """Keeps a crate's library as it stands, if it is one: at its end `rt ci` puts back what stood before it."""
+    if not (tree.left(crate) / "format").is_file():
+        return
+    try:
+        shutil.copytree(tree.left(crate), tree.library(crate), copy_function=os.link)
+    except OSError:  # (another disk)
+        shutil.rmtree(tree.library(crate), ignore_errors=True)
+        tree.library(crate).symlink_to(tree.left(crate))
+
+
+def as_proved(tree: Tree, crates: list[str], names: Iterable[str], running: Running) -> Iterator[str]:
+    """Gives each of these crates once it and all below it are named, and at the end of the names what is left."""
+    left, proved = [*crates], set[str]()
+    for name in map(str.strip, names):
+        if name in tree.uses and name not in proved:
+            keep_library(tree, name)
+            proved.add(name)
+        for crate in [it for it in left if {it, *tree.below(it)} <= proved]:
+            left.remove(crate)
+            yield crate
+    running.go_on_alone()
+    yield from left

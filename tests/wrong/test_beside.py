@@ -1,0 +1,159 @@
+"""Wrong bodies beside an `rt ci` that runs, with scripts in the prover's place."""
+from __future__ import annotations
+
+import os
+import signal
+import subprocess
+import sys
+import tempfile
+import threading
+import time
+import unittest
+from collections.abc import Iterator
+from pathlib import Path
+from unittest import mock
+
+from tests.wrong import checks
+from tests.wrong.beside import as_proved
+from tests.wrong.checks import Running, Stopped
+from tests.wrong.edits import Round
+from tests.wrong.libraries import Tree
+
+TOP = Path(__file__).resolve().parents[2]
+MUCH = checks.MOST_HELD + checks.LEFT_FREE + 1
+LIMIT = 300.0
+# Leaves a line in a file and waits for another, but for once, where it is killed.
+KILLED_ONCE = 'echo begun >> log; [ -e once ] || { touch once; kill -9 $$; }; echo ended'
+
+
+class InRoom(unittest.TestCase):
+    """A test with a tree of three crates, of which the last is a program."""
+
+    def setUp(self) -> None:
+        room = tempfile.TemporaryDirectory()
+        self.addCleanup(room.cleanup)
+        self.room = Path(room.name)
+        (self.room / "kept").mkdir()
+        self.tree = Tree(self.room, self.room, {"low": [], "high": ["low"], "top": ["high"]}, self.room / "kept")
+
+    def write(self, crate: str, text: str) -> None:
+        """Leaves a library as `rt` does."""
+        self.tree.left(crate).mkdir(parents=True, exist_ok=True)
+        (self.tree.left(crate) / "format").unlink(missing_ok=True)
+        (self.tree.left(crate) / "format").write_text(text, encoding="utf-8")
+
+
+class Standing(InRoom):
+    """Which crates are tried when."""
+
+    def test_as_proved(self) -> None:
+        """Each crate comes once it and those below it are named, and at the end all that are left."""
+        running = Running(beside=1)
+        told: list[str] = []
+
+        def names() -> Iterator[str]:
+            for name in ("other\n", "high\n", "low\n", "low\n"):
+                told.append(name.strip())
+                yield name
+
+        given = as_proved(self.tree, ["top", "high", "low"], names(), running)
+        self.assertEqual((next(given), told, running.beside), ("high", ["other", "high", "low"], 1))
+        self.assertEqual((next(given), running.beside), ("low", 1))
+        self.assertEqual(([*given], running.beside), (["top"], None))
+
+    def test_libraries_as_they_stood(self) -> None:
+        """What is written in their place later isn't read, and one that isn't named isn't there."""
+        self.write("low", "new")
+        self.write("high", "old")
+        given = as_proved(self.tree, ["low"], iter(("low\n", "top\n")), Running(beside=1))
+        self.assertEqual(next(given), "low")
+        self.write("low", "older")
+        self.assertEqual((self.tree.library("low") / "format").read_text(encoding="utf-8"), "new")
+        self.assertEqual([*given], [])
+        self.assertEqual(({*self.tree.missing("top")}, self.tree.missing("high")), ({"high"}, []))
+
+    def test_libraries_on_another_disk(self) -> None:
+        self.write("low", "new")
+        with mock.patch("os.link", side_effect=OSError):
+            self.assertEqual([*as_proved(self.tree, ["low"], iter(("low\n",)), Running(beside=1))], ["low"])
+        self.assertEqual((self.tree.library("low") / "format").read_text(encoding="utf-8"), "new")
+
+
+class Turns(InRoom):
+    """How many checks run."""
+
+    def begin(self, running: Running, line: str, is_alone: bool = False) -> threading.Thread:
+        """Starts a check in a thread."""
+        def run() -> None:
+            try:
+                self.ended = running.run(["sh", "-c", line], self.room, is_alone)
+            except Stopped:
+                self.was_stopped = True
+
+        it = threading.Thread(target=run)
+        it.start()
+        return it
+
+    def waits(self, path: Path) -> None:
+        """Waits until a file is there."""
+        until = time.monotonic() + LIMIT
+        while not path.exists():
+            self.assertLess(time.monotonic(), until)
+            time.sleep(0.02)
+
+    def test_who_may_begin(self) -> None:
+        """Beside proofs as many as the number, where memory is free; alone all."""
+        running = Running(beside=1)
+        for free, may in ((MUCH, True), (MUCH - 1, False), (0, False)):
+            with mock.patch.object(checks, "free_memory", return_value=free):
+                self.assertEqual(running.may_begin(), may)
+        with mock.patch.object(checks, "free_memory", return_value=MUCH):
+            first = self.begin(running, "touch begun; until [ -e go ]; do sleep 0.05; done")
+            self.waits(self.room / "begun")
+            self.assertFalse(running.may_begin())
+            running.go_on_alone()
+            self.assertTrue(running.may_begin())
+            self.assertEqual(running.run(["true"], self.room).status, 0)
+        (self.room / "go").touch()
+        first.join(LIMIT)
+
+    def test_one_that_waits_for_the_end_of_the_proofs(self) -> None:
+        """It begins then, or is stopped."""
+        for running in (Running(beside=0), Running(beside=1)):
+            waiting = self.begin(running, f"echo begun > {self.room}/begun", is_alone=running.beside == 1)
+            waiting.join(0.5)
+            self.assertFalse((self.room / "begun").exists())
+            running.go_on_alone()
+            waiting.join(LIMIT)
+            self.waits(self.room / "begun")
+            (self.room / "begun").unlink()
+        running = Running(beside=0)
+        waiting = self.begin(running, "true")
+        running.stop()
+        waiting.join(LIMIT)
+        self.assertTrue(self.was_stopped)
+
+    def test_one_that_is_killed(self) -> None:
+        """It runs once more; what is killed again stays so."""
+        words = ["sh", "-c", f"cd {self.room}; {KILLED_ONCE}"]
+        (self.room / "crates/low/src").mkdir(parents=True)
+        with mock.patch.object(checks, "check_words", return_value=words):
+            it = checks.try_round(self.tree, "low", Round([], {}), self.room, Running())
+        self.assertEqual((it.status, it.output, (self.room / "log").read_text(encoding="utf-8")), (0, "ended\n", "begun\nbegun\n"))
+        with mock.patch.object(checks, "check_words", return_value=["sh", "-c", "kill -9 $$"]):
+            it = checks.try_round(self.tree, "low", Round([], {}), self.room, Running())
+        self.assertEqual(it.status, -signal.SIGKILL)
+
+
+class GivingWay(unittest.TestCase):
+    """What the whole of it does beside others."""
+
+    def test_all_others_go_first(self) -> None:
+        line = "from tests.wrong.beside import give_way; give_way(); import os; print(os.nice(0), open('/proc/self/oom_score_adj').read())"
+        said = subprocess.run([sys.executable, "-B", "-c", line], cwd=TOP, capture_output=True, text=True, check=True).stdout
+        number, first_to_end = map(int, said.split())
+        self.assertEqual((number, first_to_end >= 500), (min(19, os.nice(0) + 19), True))
+
+
+if __name__ == "__main__":
+    unittest.main()
