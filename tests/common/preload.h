@@ -14,7 +14,7 @@ extern int *__errno_location(void);
 #define READ_AND_WRITE 3
 #define SHARED 1
 
-static word number(const char *name) {
+static inline word number(const char *name) {
     const char *text = getenv(name);
     word value = 0;
     for (; text && *text >= '0' && *text <= '9'; text++) value = 10 * value + (word)(*text - '0');
@@ -22,7 +22,7 @@ static word number(const char *name) {
 }
 
 /* The bytes of a file that the environment names, shared with whoever reads it; without one these. */
-static void *shared_with(const char *name, void *own, size_t bytes) {
+static inline void *shared_with(const char *name, void *own, size_t bytes) {
     const char *file = getenv(name);
     int opened;
     void *shared;

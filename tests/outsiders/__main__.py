@@ -35,6 +35,15 @@ def ends(host: Host, teacher: Caller, wanted: Ended = NONE) -> None:
         fail(f"outsiders: a host ends with {ended}")
 
 
+def ended_soon(words: list[str | Path]) -> Ended:
+    """How a call ends by itself, which has to be soon."""
+    try:
+        done = subprocess.run(words, stdin=subprocess.DEVNULL, capture_output=True, timeout=60, check=False)
+    except subprocess.TimeoutExpired:
+        fail(f"outsiders: it goes on: {words}")
+    return Ended(done.returncode, done.stdout, done.stderr)
+
+
 def refused_threads(room: Path) -> None:
     """A student for whom no thread can be made is told `busy` at once; the teacher is served without one, and
     the teacher's bye ends the class for all."""
@@ -81,21 +90,23 @@ def asks_after_the_bye(room: Path) -> None:
 
 
 def few(room: Path) -> None:
-    """A host that may have too few threads or files says so, and makes nothing."""
-    lab, journal = lab_of(room, 4), room / "made" / "journal"
-    journal.parent.mkdir()
-    for path, mode in ((room, 0o755), (lab, 0o644), (journal.parent, 0o777)):
-        path.chmod(mode)
-    program = room / "host"
+    """A host that may have too few threads or files says so, and makes nothing; so where a class goes on."""
+    lab, folder, program = lab_of(room, 4), room / "made", room / "host"
+    folder.mkdir()
     program.write_bytes(HOST.read_bytes())
-    program.chmod(0o755)
-    for limit, line in (("nofile=7", b"files may be open"), ("nproc=1", b"threads may be started")):
-        words: list[str | Path] = [*FREE, "prlimit", f"--{limit}", program, "host", lab, "0", "0", journal]
-        done = subprocess.run(words, stdin=subprocess.DEVNULL, capture_output=True, timeout=LIMIT, check=False)
-        if (done.returncode, done.stdout, done.stderr) != (5, b"", b"host: too few " + line + b"\n"):
-            fail(f"outsiders: with {limit} a host says {done}")
-        if list(journal.parent.iterdir()):
-            fail(f"outsiders: with {limit} a host makes a journal")
+    journal = folder / "journal"
+    for begins in (True, False):
+        if not begins:
+            journal.touch()
+        for path, mode in ((room, 0o755), (lab, 0o644), (folder, 0o777), (program, 0o755), (journal, 0o666)):
+            if path.exists():
+                path.chmod(mode)
+        for limit, line in (("nofile=7", b"files may be open"), ("nproc=1", b"threads may be started")):
+            words: list[str | Path] = [*FREE, "prlimit", f"--{limit}", program, "host" if begins else "resume", lab, "0", "0", journal]
+            if (said := ended_soon(words)) != Ended(5, b"", b"host: too few " + line + b"\n"):
+                fail(f"outsiders: with {limit} a host says {said}")
+            if [*folder.iterdir()] != ([] if begins else [journal]):
+                fail(f"outsiders: with {limit} a host makes a file")
 
 
 def comes_again(room: Path) -> None:
@@ -382,6 +393,39 @@ def never_reads(room: Path) -> None:
         ends(host, let_in(host.desk, hello("tess"))[0])
 
 
+def next_wait(library: Preloaded, caller: Caller, piece: bytes) -> float:
+    """How many seconds the host waits for what comes after these bytes, which are answered where they are a line."""
+    before, end = library.counts()[0], time.monotonic() + LIMIT
+    caller.send(piece)
+    if piece.endswith(b"\n") and b'"ok"' not in (said := caller.line()):
+        fail(f"outsiders: {piece!r} is told {said!r}")
+    while True:
+        count, wait = library.counts()
+        # Until it is greeted it waits for ten seconds at most.
+        if count > before and not 0 < wait <= 10_000:
+            return wait / 1000
+        if time.monotonic() > end:
+            fail(f"outsiders: what comes after {piece!r} isn't waited for")
+        time.sleep(0.01)
+
+
+def ten_minutes(room: Path) -> None:
+    """After a greeting each line of a student's has ten minutes, however its bytes come; at the desk a line has any time."""
+    library, lab = Preloaded("outsiders/waits.c", room, "WAITS"), lab_of(room, 4)
+    with Host(lab, 0, 0, variables=library.variables({})) as host:
+        student, waits = Caller(host.port), list[float]()
+        for piece in (hello("ana"), look("ana"), look("ana"), b" ", b" "):
+            waits.append(next_wait(library, student, piece))
+            time.sleep(2)
+        # Where a line's time isn't its own two seconds are missing, and where it begins anew with bytes they are there.
+        if any(not 598.1 < wait <= 600 for wait in waits[:3]) or not 500 < waits[3] <= 598 or not 500 < waits[4] <= 596:
+            fail(f"outsiders: a student's lines have {waits} seconds")
+        teacher = Caller(host.desk)
+        if next_wait(library, teacher, hello("tess")) != 0:
+            fail("outsiders: at the desk a line has its time")
+        ends(host, teacher)
+
+
 def journals(room: Path) -> None:
     """A journal is nobody's output, nor a pipe without a reader, and is for its owner alone to read where nobody has
     said otherwise; the one that takes its place has the mode of the one before."""
@@ -389,10 +433,9 @@ def journals(room: Path) -> None:
     for stream in ("", "2"):
         journal.unlink(missing_ok=True)
         words: list[str | Path] = ["bash", "-c", f'exec "$@" {stream}> {journal}', "bash", HOST, "host", lab, "0", "0", journal]
-        done = subprocess.run(words, stdin=subprocess.DEVNULL, capture_output=True, timeout=LIMIT, check=False)
         wanted = b"" if stream else b"journal fault\n"
-        if done.returncode != 4 or done.stderr != wanted or journal.read_bytes() not in (b"", b"journal fault\n"):
-            fail(f"outsiders: a host whose journal is its own output ends with {done}")
+        if (said := ended_soon(words)) != Ended(4, b"", wanted) or journal.read_bytes() not in (b"", b"journal fault\n"):
+            fail(f"outsiders: a host whose journal is its own output ends with {said}")
     journal.unlink()
     os.mkfifo(room / "pipe")
     with Host(lab, 0, 0, room / "pipe") as host:
@@ -434,9 +477,9 @@ def limits_of_files(room: Path) -> None:
     script, fault = room / "script", b'1 {"do":"fault","m":false,"node":1,"p":null}\n'
     script.write_bytes(b"1 " + hello("tess") + fault * 100)
     words = ["bash", "-c", 'ulimit -f 1 && exec "$@"', "bash", str(TOP / "mml"), "script", str(lab), str(script), str(room / "script.journal")]
-    done = subprocess.run(words, stdin=subprocess.DEVNULL, capture_output=True, timeout=LIMIT, check=False)
-    if (done.returncode, done.stderr) != (4, b"journal fault\n") or not done.stdout.endswith(b'1 {"refuse":"journal"}\n'):
-        fail(f"outsiders: a script whose journal can't grow ends with {done.returncode}, {done.stderr!r}")
+    done = ended_soon([*words])
+    if (done.status, done.error) != (4, b"journal fault\n") or not done.out.endswith(b'1 {"refuse":"journal"}\n'):
+        fail(f"outsiders: a script whose journal can't grow ends with {done.status}, {done.error!r}")
 
 
 def limited(kilobytes: int) -> list[str]:
@@ -477,13 +520,12 @@ def small_stacks(room: Path) -> None:
     script.write_bytes(b"1 " + BYE)
     calls: list[list[str | Path]] = [[HOST, "host", lab, "0", "0"], [PROGRAM, "script", lab, script]]
     for call in calls:
-        done = subprocess.run([*limited(255), *call], stdin=subprocess.DEVNULL, capture_output=True, timeout=LIMIT, check=False)
-        if (done.returncode, done.stdout, done.stderr) != (5, b"", b"out of memory\n"):
-            fail(f"outsiders: over stacks that are too small a program ends with {done}")
+        if (said := ended_soon([*limited(255), *call])) != Ended(5, b"", b"out of memory\n"):
+            fail(f"outsiders: over stacks that are too small a program ends with {said}")
 
 
 TESTS: list[Test] = [
-    never_reads, silent_ones, guesses, refused_threads, comes_again, one_of_many, a_third, nobody_behind, journals,
+    never_reads, ten_minutes, silent_ones, guesses, refused_threads, comes_again, one_of_many, a_third, nobody_behind, journals,
     limits_of_files, few, small_stacks,
     three_hellos, a_web_form, words_at_the_end, asks_after_the_bye,
 ]
