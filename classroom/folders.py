@@ -102,6 +102,11 @@ class Record:
         except (OSError, ValueError, KeyError, TypeError):
             return None
 
+    @staticmethod
+    def lacking(folder: Path, port: int) -> Record:
+        """That of a folder which keeps none, as those that 0.9.0 made first: ports and closing are a new run's."""
+        return Record(str(folder / "lab.toml"), port, 0, None, "when-idle:2", None, Process(0, ""), Process(0, ""))
+
     def write(self, folder: Path) -> None:
         """Keeps it; a full disk, which keeps what stood there, ends nothing."""
         new = folder / f"{RECORD}.new"

@@ -9,7 +9,7 @@ from classroom import closing, house, server
 from classroom import lab as labs
 from classroom.client import NoSlip, port_of
 from classroom.daemons import FORMS
-from classroom.folders import RECORD, Record, going, new_folder, of_folder
+from classroom.folders import Record, going, new_folder, of_folder
 from classroom.grade import seconds
 from classroom.holding import Running, to_the_end
 from classroom.program import Fault
@@ -90,9 +90,7 @@ def resumed(words: argparse.Namespace) -> int:
     """Goes on with a folder's run: its lab, journal, ports, page and way of closing, where no words say another."""
     folder = Path(words.resume)
     lab_file, _ = of_folder(folder)
-    record = Record.read(folder)
-    if record is None:
-        raise Fault(f"{folder}: it has no {RECORD}, which tells the ports")
+    record = Record.read(folder) or Record.lacking(folder, words.port)
     if record.goes_on():
         raise Fault(f"{folder}: its run goes on: ./class attach {folder}")
     lab = labs.read(lab_file)

@@ -1,0 +1,77 @@
+"""Folders of runs that earlier programs left, in `kept/`: each is marked, played and gone on with.
+
+Each is of `./class run` over `examples/cycle.toml`, with bots of three of its students, until both it and its server were killed.
+`first` is of commit 151f29c, the first that called itself 0.9.0, whose program was built without a proof.
+"""
+from __future__ import annotations
+
+import json
+import shutil
+import unittest
+from pathlib import Path
+
+from classroom.program import TOP, call, host
+from tests.classroom.help import KEYS, Cycle, Going, words
+
+KEPT = TOP / "tests/classroom/kept"
+# Of each folder the moves that its closes applied, by student, and its events, both counted by hand.
+COUNTED = {
+    "first": ({"gus": 1, "hana": 1, "ines": 3}, 9),
+}
+
+
+@unittest.skipUnless(host(), "not tried: no host is built")
+class Upgrade(Cycle):
+    """Copies of what is kept."""
+
+    def copied(self, name: str) -> Path:
+        """A folder of its own, which nobody else reads, as a run has it."""
+        folder = self.room / "runs" / f"2026-11-26T2144-{name}"
+        shutil.copytree(KEPT / name, folder)
+        folder.chmod(0o700)
+        return folder
+
+    def marks(self, folder: Path) -> tuple[dict[str, int], int]:
+        """What `mark` counts: applied moves by student, and events."""
+        done = words("mark", "--json", folder)
+        self.assertEqual(done.returncode, 0, done.stderr)
+        run = json.loads(done.stdout)["runs"][0]
+        return {name: total for name, it in run["students"].items() if (total := sum(it["applied"].values()))}, run["events"]
+
+    def test_each_is_counted(self) -> None:
+        self.assertEqual({folder.name for folder in KEPT.iterdir() if folder.is_dir()}, set(COUNTED))
+
+    def test_they_are_marked(self) -> None:
+        for name, counted in COUNTED.items():
+            with self.subTest(name):
+                self.assertEqual(self.marks(self.copied(name)), counted)
+
+    def test_they_are_played(self) -> None:
+        for name, (_, events) in COUNTED.items():
+            with self.subTest(name):
+                folder, page = self.copied(name), self.room / f"{name}.html"
+                done = words("play", folder, "-o", page)
+                self.assertEqual(done.returncode, 0, done.stderr)
+                self.assertIn("ines", page.read_text(encoding="utf-8"))
+                done = words("play", folder, "--svg", str(events), "-o", self.room / f"{name}.svg")
+                self.assertEqual(done.returncode, 0, done.stderr)
+
+    def test_they_are_gone_on_with(self) -> None:
+        for name, (_, events) in COUNTED.items():
+            with self.subTest(name):
+                folder = self.copied(name)
+                before = (folder / "journal").read_bytes()
+                going = Going(self, None, "run", "--resume", folder, "--close", "when-idle:0.5", "--until", "stable")
+                self.assertEqual(going.folder, folder)
+                self.assertTrue(any(f"events {events} of " in line for line in going.lines), going.lines)
+                for student in KEYS:
+                    self.bot(going, student)
+                self.assertEqual(going.ends(), 0, going.lines)
+                self.assertIn("stable, and so the run is ended", going.lines)
+                self.assertGreater(self.whole(folder), events)
+                self.assertTrue((folder / "journal").read_bytes().startswith(before))
+                self.assertEqual(call("audit", folder / "lab.toml", folder / "journal").status, 0)
+
+
+if __name__ == "__main__":
+    unittest.main()
