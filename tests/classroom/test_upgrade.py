@@ -1,7 +1,8 @@
 """Folders of runs that earlier programs left, in `kept/`: each is marked, played and gone on with.
 
 Each is of `./class run` over `examples/cycle.toml`, with bots of three of its students, until both it and its server were killed.
-`first` is of commit 151f29c, the first that called itself 0.9.0, whose program was built without a proof.
+`first` is of commit 151f29c, the first that called itself 0.9.0, whose program was built without a proof. `archive` is of the
+archive that `./release` made of commit ef46f47; it has a record too, in which gus is denied another's node.
 """
 from __future__ import annotations
 
@@ -10,13 +11,14 @@ import shutil
 import unittest
 from pathlib import Path
 
-from classroom.program import TOP, call, host
+from classroom.program import TOP, host, host_call
 from tests.classroom.help import KEYS, Cycle, Going, words
 
 KEPT = TOP / "tests/classroom/kept"
 # Of each folder the moves that its closes applied, by student, and its events, both counted by hand.
 COUNTED = {
     "first": ({"gus": 1, "hana": 1, "ines": 3}, 9),
+    "archive": ({"gus": 1, "hana": 1, "ines": 3}, 9),
 }
 
 
@@ -46,6 +48,13 @@ class Upgrade(Cycle):
             with self.subTest(name):
                 self.assertEqual(self.marks(self.copied(name)), counted)
 
+    def test_a_record_is_verified_and_marked(self) -> None:
+        folder = self.copied("archive")
+        answer = host_call("verify", folder / "lab.toml", folder / "journal", folder / "record")
+        self.assertEqual((answer.status, answer.output.split(",")[-1]), (0, " 9 events\n"), answer.error)
+        students = json.loads(words("mark", "--json", folder).stdout)["runs"][0]["students"]
+        self.assertEqual({name: it["clause1"] for name, it in students.items()}, dict.fromkeys(KEYS, 0) | {"gus": 1})
+
     def test_they_are_played(self) -> None:
         for name, (_, events) in COUNTED.items():
             with self.subTest(name):
@@ -70,7 +79,7 @@ class Upgrade(Cycle):
                 self.assertIn("stable, and so the run is ended", going.lines)
                 self.assertGreater(self.whole(folder), events)
                 self.assertTrue((folder / "journal").read_bytes().startswith(before))
-                self.assertEqual(call("audit", folder / "lab.toml", folder / "journal").status, 0)
+                self.assertEqual(host_call("verify", folder / "lab.toml", folder / "journal", folder / "record").status, 0)
 
 
 if __name__ == "__main__":
