@@ -1,17 +1,25 @@
 -- What comes of the next line of a script.
-use Rattle.std.specs.Prelude.{◌≡◌, ◌≢◌, ℕ, ◌<◌, List, [], ◌∷◌, ◌++◌, length, Option, Result, Ok, Err, ⊤}
+use Rattle.std.specs.Prelude.{Bool, true, false, ◌≡◌, ◌≢◌, ℕ, ◌<◌, List, [], ◌∷◌, ◌++◌, length, Option, Result, Ok, Err, ⊤}
 use Rattle.std.specs.Io.KnownBytes.{Consumes, IsAtEnd, prepend_known}
 use Rattle.mml_lab.specs.Labs.{LabValue}
 use Rattle.mml_lines.specs.LinesOf.{IsWithinLimit}
 use Rattle.mml_lines.specs.Sending.{BreaksOff, Sends}
 use Rattle.mml_lines.specs.declared.lines.TheConstants.{READ_SIZE}
 use Rattle.mml_lines.specs.declared.write_fault.WriteFault.{WriteFault}
+use Rattle.mml_codec.specs.declared.reply.Reply.{Reply}
+use Rattle.mml_codec.specs.declared.reply.Reply.TheVariants as replies
+use Rattle.mml_codec.specs.declared.reply.Refused.TheVariants as refused
 use Rattle.mml_hall.specs.declared.TheConstants.{MAX_SCRIPT_LINE}
 use Rattle.mml_hall.specs.declared.script.Next.{Next}
 use Rattle.mml_hall.specs.declared.script.Next.TheVariants as next
 use Rattle.mml_hall.specs.Turns.{State, RequestLine}
 use Rattle.mml_hall.specs.ScriptLines.{IsScriptLine, IsBad, script_line}
 use Rattle.mml_hall.specs.Scripts.{LineTurn, line_read, line_written}
+
+-- the reply whose line was put: it itself, or out of memory
+abbrev pub told_of : Reply → Bool → Reply
+told_of reply true = reply
+told_of reply false = replies.Refuse refused.Memory
 
 -- the line had its turn; its output line comes after those that aren't written, of which the first are out
 abbrev pub ServesLine : Result ⊤ WriteFault → LabValue → State → State → RequestLine → List (List ℕ) → List (List ℕ) → Option (List ℕ)

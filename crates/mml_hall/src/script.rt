@@ -11,12 +11,13 @@ ghost use Rattle.mml_hall.specs.Journals.{TellsJournal, Journals};
 ghost use Rattle.mml_hall.specs.ScriptLines.{IsScriptLine, line_of};
 ghost use Rattle.mml_hall.specs.Scripts.{Finished, Stopped};
 ghost use Rattle.mml_hall.specs.inside.Ending.{EndsScript};
-ghost use Rattle.mml_hall.specs.Serving.{ServesLine, ServesNext, ServesText};
+ghost use Rattle.mml_codec.specs.Replies.{reply_line, IsAbout, TellsFor};
+ghost use Rattle.mml_hall.specs.Serving.{told_of, ServesLine, ServesNext, ServesText};
 
 use crate::MAX_SCRIPT_LINE;
 use crate::hall::Hall;
 use crate::script_line::{ScriptLine, read_script_line};
-use mml_codec::{REPLY_ROOM, tell_reply};
+use mml_codec::{REPLY_ROOM, Refused, Reply, write_reply};
 use mml_ids::Memory;
 use mml_journal::Sink;
 use mml_lab::Lab;
@@ -311,8 +312,36 @@ fn serve<W: Write, S: Sink>(
         (line_of line.entry) outgoing.old outgoing.new
         (W.contents writer.old) (W.contents writer.new) }
 {
-    let reply = hall.answer(alloc, line.connection, line.request);
-    let lab = hall.lab();
-    let _told = tell_reply(alloc, lab.ids(), lab.roster(), reply, out);
+    let mut reply = Reply::Bye;
+    hall.answer_into(alloc, line.connection, line.request, &mut reply);
+    let _is_whole = put_reply(alloc, hall.lab(), &reply, out);
     outgoing.put(line.front, out, writer)
+}
+
+// Puts the line of a reply, which stays where it is, or one that tells out of memory. Whether it was
+// the reply's own.
+fn put_reply(alloc: Global, lab: &Lab, reply: &Reply, out: &mut Vec<u8>) -> bool
+    requires room { REPLY_ROOM ≤ vec_capacity out.old }
+    requires about { IsAbout lab.now.ids lab.now.roster reply.now }
+    ensures told { TellsFor reply.now (told_of reply.now result) }
+    ensures room { REPLY_ROOM ≤ vec_capacity out.new }
+    ensures line { out.new.items ≡ reply_line lab.now.ids lab.now.roster (told_of reply.now result) }
+{
+    match write_reply(alloc, lab.ids(), lab.roster(), reply, out) {
+        Ok(()) => true,
+        Err(_) => {
+            put_want_of_memory(alloc, lab, out);
+            false
+        }
+    }
+}
+
+// Puts the line that tells out of memory, for which there is room.
+fn put_want_of_memory(alloc: Global, lab: &Lab, out: &mut Vec<u8>)
+    requires room { REPLY_ROOM ≤ vec_capacity out.old }
+    ensures room { REPLY_ROOM ≤ vec_capacity out.new }
+    ensures line { out.new.items ≡ reply_line lab.now.ids lab.now.roster (Reply.Refuse Refused.Memory) }
+{
+    let told = Reply::Refuse(Refused::Memory);
+    write_reply(alloc, lab.ids(), lab.roster(), &told, out).unwrap();
 }
