@@ -3,6 +3,7 @@ pub mod GreetingLemmas
 pub mod MemoryLemmas
 pub mod RecordLemmas
 pub mod LongerLemmas
+pub mod HoldingLemmas
 pub mod EndingLemmas
 pub mod ServingLemmas
 pub mod TalkLemmas

@@ -1,5 +1,5 @@
 -- What comes of a line, from what its parts say.
-use Rattle.std.proofs.Common.{◌≡◌, ℕ, ◌<◌, true, true≢false, List, length, sym, refl, Option, Result, Ok, Err, subst}
+use Rattle.std.proofs.Common.{◌≡◌, ◌≢◌, ℕ, zero, suc, ◌+◌, ◌-◌, ◌*◌, ◌<◌, ◌≤◌, arith, true, true≢false, List, [], ◌++◌, length, sym, refl, Option, Result, Ok, Err, subst}
 use Rattle.std.specs.Io.KnownBytes.{Consumes, prepend_known}
 use Rattle.mml_lab.specs.Labs.{LabValue}
 use Rattle.mml_ids.specs.Lines.{ended}
@@ -23,10 +23,25 @@ bye_is replies.Bye is = refl
 bye_is _ is = absurd (true≢false (sym is))
 
 -- a line was taken, short enough, and no more than one read brought in is held after it
-module _ (number : ℕ) (lab : LabValue) (st after : Standing) (a left c d : Option (List ℕ)) (rec rec' : Option Kept) (held line : List ℕ) (taken : Consumes a (prepend_known held left) (ended line))
-    (short : IsWithinLimit MAX_REQUEST line) (few : length held < READ_SIZE) where
-  pub serves_next : (came : Result Said Closed) → ServesLine came number lab st after line c d rec rec' → ServesNext (next_after came) number lab st after a held left c d rec rec'
+module _ (number : ℕ) (lab : LabValue) (st after : Standing) (a left c d : Option (List ℕ)) (rec rec' : Option Kept) (held line unsent unsent' : List ℕ)
+    (taken : Consumes a (prepend_known held left) (ended line)) (short : IsWithinLimit MAX_REQUEST line) (few : length held < READ_SIZE)
+    (ahead : unsent ≢ [] → length (ended line ++ held) < READ_SIZE) where
+  pub serves_next : (came : Result Said Closed) → ServesLine came number lab st after line unsent unsent' c d rec rec'
+      → ServesNext (next_after came) number lab st after a held left unsent unsent' c d rec rec'
   serves_next (Ok says.Told) had = (had.0, had.2.0, taken_by a (prepend_known held left) line had.0.line taken had.1, had.2.1, had.3)
-  serves_next (Ok says.Bye) had = (had.0, bye_is had.0.reply had.2.0, taken_by a (prepend_known held left) line had.0.line taken had.1, few, had.2.1, had.3)
-  serves_next (Ok (says.Unwritten n)) had = (had.0, n, had.2.0, taken_by a (prepend_known held left) line had.0.line taken had.1, few, had.2.1, had.3)
-  serves_next (Err closed) had = (had.0, line, short, had.1, taken, few, had.2, had.3)
+  serves_next (Ok says.Bye) had =
+      (had.0, bye_is had.0.reply had.2.0, taken_by a (prepend_known held left) line had.0.line taken had.1, few, had.2.1, had.2.2, had.3)
+  serves_next (Ok (says.Unwritten n)) had =
+      (had.0, taken_by a (prepend_known held left) line had.0.line taken had.1, few, had.2.1, (n, had.2.0, had.2.2), had.3)
+  serves_next (Err closed) had = (had.0, line, short, had.1, taken, few, had.2, ahead, had.3, had.4)
+
+-- where something was held, no read was needed, and what is held of the input is no more than it was
+pub unread_before : (limit old new old_reads new_reads taken : ℕ) (unread unsent : List ℕ) → (IsWithinLimit limit unread → unsent ≡ [])
+    → (old_reads < new_reads → IsWithinLimit limit unread) → old_reads ≤ new_reads → taken + new ≤ old + READ_SIZE * (new_reads - old_reads)
+    → old < READ_SIZE → unsent ≢ [] → taken + new < READ_SIZE
+unread_before limit old new old_reads new_reads taken unread unsent out needed grow counted few some =
+    by_reads (new_reads - old_reads) refl
+  where
+    by_reads : (more : ℕ) → new_reads - old_reads ≡ more → taken + new < READ_SIZE
+    by_reads zero e = omega (arith, grow, counted, few, e)
+    by_reads (suc more) e = let read : old_reads < new_reads = omega (arith, e) in absurd (some (out (needed read)))

@@ -33,14 +33,14 @@ pub record AllAnswered (lab : LabValue) (old new : WindowValue) (input left wrot
   pub consumed : Consumes input left (bytes_read talk)
   pub appended : Appends wrote wrote' (bytes_written talk)
 
--- and one line more, of whose reply's line so much is out
+-- and one line more, and so much is out of all replies' lines
 pub record LastAnswered (sent : List ℕ → List ℕ) (lab : LabValue) (old new : WindowValue) (input left wrote wrote' : Option (List ℕ)) : Type 0 where
   pub talk : Talk lab (newcomer old)
   pub after : Standing
   pub last : LineTurn lab talk.end after
   pub stands : after.window ≡ new
   pub consumed : Consumes input left (bytes_read talk ++ line_read last)
-  pub appended : Appends wrote wrote' (bytes_written talk ++ sent (line_written last))
+  pub appended : Appends wrote wrote' (sent (bytes_written talk ++ line_written last))
 
 -- and one line more was taken, a view, which has no reply
 pub record LastUnanswered (lab : LabValue) (old new : WindowValue) (input left wrote wrote' : Option (List ℕ)) : Type 0 where
@@ -65,7 +65,7 @@ Ended end.ReadFault lab old new input left wrote wrote' =
     (held : List ℕ) × AllAnswered lab old new input (prepend_known held left) wrote wrote' × IsWithinLimit MAX_REQUEST held
 Ended end.WriteFault lab old new input left wrote wrote' =
     (held : List ℕ) × (n : ℕ) × (a : LastAnswered (take n) lab old new input (prepend_known held left) wrote wrote')
-    × (n < length (line_written a.last)) × (length held < READ_SIZE)
+    × (n < length (bytes_written a.talk ++ line_written a.last)) × (length held < READ_SIZE)
 Ended end.TooLong lab old new input left wrote wrote' =
     (held : List ℕ) × AllAnswered lab old new input (prepend_known held left) wrote wrote' × IsTooLong MAX_REQUEST held
 Ended end.Closed lab old new input left wrote wrote' =

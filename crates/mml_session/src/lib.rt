@@ -3,6 +3,7 @@
 
 mod answering;
 mod gate;
+mod held;
 pub mod laws;
 mod recorder;
 mod session;

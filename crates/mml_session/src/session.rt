@@ -1,22 +1,25 @@
-ghost use Rattle.std.specs.Prelude.{◌≡◌, ◌<◌, ◌≤◌, None, IfOk, IfSome, length, vec_capacity};
+ghost use Rattle.std.specs.Prelude.{◌≡◌, ◌<◌, ◌≤◌, [], None, IfOk, IfSome, IsTrue, length, vec_capacity};
 ghost use Rattle.std.specs.Io.KnownBytes.{prepend_known};
 ghost use Rattle.mml_lines.specs.LinesOf.{IsWithinLimit};
+ghost use Rattle.mml_lines.specs.declared.lines.TheConstants.{READ_SIZE};
 ghost use Rattle.mml_lines.specs.LinesState.{bytes_ahead, fresh};
 ghost use Rattle.mml_lab.specs.Rosters.{IsPrincipal};
 ghost use Rattle.mml_session.specs.Turns.{standing, is_bye, places_in};
 ghost use Rattle.mml_session.specs.Ends.{Ended, EndedKnown};
 ghost use Rattle.mml_session.specs.Records.{EndedRecorded, Records, entry_for, is_shown};
+ghost use Rattle.mml_session.specs.Holding.{LetsOut};
 ghost use Rattle.mml_session.specs.Serving.{SendsReply, ServesLine, ServesNext, next_after};
 
 use crate::answering::answer;
 use crate::gate::{Gate, Point};
+use crate::held::Held;
 use crate::recorder::{NoRecorder, Recorder};
 use crate::setting::Setting;
 use mml_codec::{LineScratch, MAX_REQUEST, REPLY_ROOM, Reply, tell_reply};
 use mml_ids::Memory;
 use mml_journal::Sink;
 use mml_lab::Who;
-use mml_lines::{Lines, Step, put_all};
+use mml_lines::{Lines, Step};
 use mml_window::{Closed, Desk, House, Window};
 use std::alloc::Global;
 use std::io::{Read, Write};
@@ -48,8 +51,8 @@ pub struct Ending {
     pub who: Option<Who>,
 }
 
-/// Answers the lines of a reader one by one, each reply written before the next line is judged. A
-/// granted event stands though its reply couldn't be written.
+/// Answers the lines of a reader one by one. Replies go out together, so that one write takes many: all
+/// are out before the reader is read again. A granted event stands though its reply couldn't be written.
 pub fn serve_one<Rt: Wait, S: Sink + Drop, H: House, R: Read, W: Write, G: Gate>(
     rt: &Rt,
     alloc: Global,
@@ -120,6 +123,7 @@ pub fn serve_recorded<Rt: Wait, S: Sink + Drop, H: House, R: Read, W: Write, G: 
             who: None,
         };
     };
+    let mut before = None;
     loop {
         let who = session.known;
         match serve_next(
@@ -131,17 +135,19 @@ pub fn serve_recorded<Rt: Wait, S: Sink + Drop, H: House, R: Read, W: Write, G: 
             gate,
             recorder,
         ) {
-            Next::Served => (),
+            Next::Served => before = who,
             Next::Ended(end) => {
+                let ending = Ending { end, who };
+                let ending = let_out(&mut session, ending, before, writer, gate);
                 recorder.left(connection, window.seen_count());
-                return Ending { end, who };
+                return ending;
             }
         }
     }
 }
 
-// What a session holds: who is known on its connection, the lines that come, and room for reading one
-// and for its reply.
+// What a session holds: who is known on its connection, the lines that come, room for reading one and
+// for its reply, and the replies that aren't out.
 #[derive(Drop)]
 struct Session {
     connection: u8,
@@ -149,6 +155,7 @@ struct Session {
     lines: Lines,
     scratch: LineScratch,
     reply: Vec<u8>,
+    held: Held,
 }
 
 impl Session {
@@ -158,6 +165,7 @@ impl Session {
         ensures nobody { IfOk result (λ session. session.known ≡ None) }
         ensures lines { IfOk result (λ session. session.lines ≡ fresh MAX_REQUEST) }
         ensures room { IfOk result (λ session. REPLY_ROOM ≤ vec_capacity session.reply) }
+        ensures nothing_held { IfOk result (λ session. session.held.bytes.items ≡ []) }
     {
         Ok(Session {
             connection,
@@ -165,6 +173,7 @@ impl Session {
             lines: Lines::new(alloc, MAX_REQUEST)?,
             scratch: LineScratch::new(alloc, MAX_REQUEST)?,
             reply: Vec::with_capacity(alloc, REPLY_ROOM)?,
+            held: Held::new(alloc)?,
         })
     }
 }
@@ -176,7 +185,7 @@ enum Next {
     Ended(SessionEnd),
 }
 
-// Reads the next line, answers it and writes the reply.
+// Reads the next line, only where nothing is held, and answers it.
 fn serve_next<Rt: Wait, S: Sink + Drop, H: House, R: Read, W: Write, G: Gate, K: Recorder>(
     setting: &Setting<'_, Rt, S, H>,
     session: &mut Session,
@@ -190,6 +199,14 @@ fn serve_next<Rt: Wait, S: Sink + Drop, H: House, R: Read, W: Write, G: Gate, K:
     requires limit { session.old.lines.limit ≡ MAX_REQUEST }
     requires room { REPLY_ROOM ≤ vec_capacity session.old.reply }
     requires principal { IfSome session.old.known (IsPrincipal H.lab.roster) }
+    requires few { length session.old.lines.unread < READ_SIZE }
+    // Nothing is held at a read.
+    requires out { IsWithinLimit session.old.lines.limit session.old.lines.unread
+        → session.old.held.bytes.items ≡ [] }
+    ensures few { result ≡ Next.Served → length session.new.lines.unread < READ_SIZE }
+    ensures out { result ≡ Next.Served
+        → IsWithinLimit session.new.lines.limit session.new.lines.unread
+        → session.new.held.bytes.items ≡ [] }
     ensures going { result ≡ Next.Served → session.new.lines.ending ≡ None }
     ensures number { session.new.connection ≡ session.old.connection }
     ensures limit { session.new.lines.limit ≡ MAX_REQUEST }
@@ -202,6 +219,7 @@ fn serve_next<Rt: Wait, S: Sink + Drop, H: House, R: Read, W: Write, G: Gate, K:
         (standing session.new.known window.new)
         (prepend_known session.old.lines.unread (R.remaining reader.old))
         session.new.lines.unread (R.remaining reader.new)
+        session.old.held.bytes.items session.new.held.bytes.items
         (W.contents writer.old) (W.contents writer.new)
         (K.kept recorder.old) (K.kept recorder.new) }
 {
@@ -209,7 +227,7 @@ fn serve_next<Rt: Wait, S: Sink + Drop, H: House, R: Read, W: Write, G: Gate, K:
         Step::Line => {
             gate.pass(session.connection, Point::Line);
             let said = serve_line(setting, session, window, writer, recorder);
-            go_on(said, gate, session.connection)
+            go_on(said, &mut session.held, gate, session.connection)
         }
         Step::TooLong => Next::Ended(SessionEnd::TooLong),
         Step::End => Next::Ended(SessionEnd::End),
@@ -217,17 +235,20 @@ fn serve_next<Rt: Wait, S: Sink + Drop, H: House, R: Read, W: Write, G: Gate, K:
     }
 }
 
-// Lets the session stand at its gate where its reply is out, and tells whether it goes on.
-fn go_on<G: Gate>(said: Result<Said, Closed>, gate: &G, connection: u8) -> Next
-    ensures { result ≡ next_after said }
+// Lets the session stand at its gate where replies are out, and tells whether it goes on.
+fn go_on<G: Gate>(said: Result<Said, Closed>, held: &mut Held, gate: &G, connection: u8) -> Next
+    ensures next { result ≡ next_after said }
+    ensures held { held.new.bytes.items ≡ held.old.bytes.items }
 {
     match said {
         Ok(Said::Told) => {
-            gate.pass(connection, Point::Told);
+            held.replies = held.replies.saturating_add(1);
+            pass_told(held, gate, connection);
             Next::Served
         }
         Ok(Said::Bye) => {
-            gate.pass(connection, Point::Told);
+            held.replies = held.replies.saturating_add(1);
+            pass_told(held, gate, connection);
             Next::Ended(SessionEnd::Bye)
         }
         Ok(Said::Unwritten(_)) => Next::Ended(SessionEnd::WriteFault),
@@ -235,18 +256,58 @@ fn go_on<G: Gate>(said: Result<Said, Closed>, gate: &G, connection: u8) -> Next
     }
 }
 
+// Lets the session stand at its gate once for each reply that went out, where none is held any longer.
+fn pass_told<G: Gate>(held: &mut Held, gate: &G, connection: u8)
+    ensures { held.new.bytes.items ≡ held.old.bytes.items }
+{
+    if held.bytes.is_empty() {
+        pass_all(held.replies, gate, connection);
+        held.replies = 0;
+    }
+}
+
+fn pass_all<G: Gate>(replies: u32, gate: &G, connection: u8) {
+    for _ in 0..replies {
+        gate.pass(connection, Point::Told);
+    }
+}
+
+// Lets out what is held at the end of a session. Where that fails, that is its end, and who was known is
+// told as it was before the last line that was answered.
+fn let_out<W: Write, G: Gate>(
+    session: &mut Session,
+    ending: Ending,
+    before: Option<Who>,
+    writer: &mut W,
+    gate: &G,
+) -> Ending
+    ensures { LetsOut ending before result session.old.held.bytes.items
+        (W.contents writer.old) (W.contents writer.new) }
+{
+    match session.held.let_out(writer) {
+        Ok(()) => {
+            pass_told(&mut session.held, gate, session.connection);
+            ending
+        }
+        Err(_) => Ending {
+            end: SessionEnd::WriteFault,
+            who: before,
+        },
+    }
+}
+
 // What came of a reply.
 #[derive(Clone, Copy)]
 enum Said {
-    // Its line is out.
+    // Its line is out, or held.
     Told,
-    // So is that of a bye.
+    // That of a bye is out.
     Bye,
-    // So many bytes of its line are out.
+    // So many bytes of what was held and of its line are out.
     Unwritten(usize),
 }
 
-// Answers the line that was read last and writes the reply, if it has one.
+// Answers the line that was read last, and its reply, if it has one, goes out or is held.
 fn serve_line<Rt: Wait, S: Sink + Drop, H: House, W: Write, K: Recorder>(
     setting: &Setting<'_, Rt, S, H>,
     session: &mut Session,
@@ -254,6 +315,7 @@ fn serve_line<Rt: Wait, S: Sink + Drop, H: House, W: Write, K: Recorder>(
     writer: &mut W,
     recorder: &mut K,
 ) -> Result<Said, Closed>
+    requires going { session.old.lines.ending ≡ None }
     requires line { IsWithinLimit MAX_REQUEST session.old.lines.line }
     requires room { REPLY_ROOM ≤ vec_capacity session.old.reply }
     requires principal { IfSome session.old.known (IsPrincipal H.lab.roster) }
@@ -261,8 +323,12 @@ fn serve_line<Rt: Wait, S: Sink + Drop, H: House, W: Write, K: Recorder>(
     ensures lines { session.new.lines ≡ session.old.lines }
     ensures room { REPLY_ROOM ≤ vec_capacity session.new.reply }
     ensures principal { IfSome session.new.known (IsPrincipal H.lab.roster) }
+    ensures out { result ≡ Ok Said.Told
+        → IsWithinLimit session.new.lines.limit session.new.lines.unread
+        → session.new.held.bytes.items ≡ [] }
     ensures serves { ServesLine result session.old.connection H.lab (standing session.old.known window.old)
         (standing session.new.known window.new) session.old.lines.line
+        session.old.held.bytes.items session.new.held.bytes.items
         (W.contents writer.old) (W.contents writer.new)
         (K.kept recorder.old) (K.kept recorder.new) }
 {
@@ -282,7 +348,9 @@ fn serve_line<Rt: Wait, S: Sink + Drop, H: House, W: Write, K: Recorder>(
         line,
     };
     record(recorder, judged, &told, &session.reply);
-    Ok(send(&told, &session.reply, writer))
+    let is_next_unknown = session.lines.needs_read();
+    let held = &mut session.held;
+    Ok(send(&told, &session.reply, held, is_next_unknown, writer))
 }
 
 // A line that was answered, in which place, and how many events the window had seen then.
@@ -326,13 +394,22 @@ fn places_told(reply: &Reply) -> u64
     }
 }
 
-// Writes the line of a reply.
-fn send<W: Write>(reply: &Reply, line: &[u8], writer: &mut W) -> Said
-    ensures { SendsReply result reply.now line.now
+// Lets the line of a reply go out, or holds it where the next line is held too, unless it is a bye's.
+fn send<W: Write>(
+    reply: &Reply,
+    line: &[u8],
+    held: &mut Held,
+    at_once: bool,
+    writer: &mut W,
+) -> Said
+    ensures sends { SendsReply result reply.now line.now
+        held.old.bytes.items held.new.bytes.items
         (W.contents writer.old) (W.contents writer.new) }
+    ensures out { IsTrue at_once → held.new.bytes.items ≡ [] }
 {
-    match put_all(writer, line) {
-        Ok(()) => { if is_bye(reply) { Said::Bye } else { Said::Told } }
+    let is_last = is_bye(reply);
+    match held.put(line, at_once || is_last, writer) {
+        Ok(()) => { if is_last { Said::Bye } else { Said::Told } }
         Err(fault) => Said::Unwritten(fault.written),
     }
 }

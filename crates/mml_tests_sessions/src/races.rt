@@ -1,10 +1,13 @@
-//! Sessions in threads of their own, held at each line and each reply until the others are there.
+//! Sessions in threads of their own, held at each line and each reply until the others are there. What they
+//! read comes byte by byte, so that each reply goes out before the next line.
+mod bytewise;
 mod locked;
 mod steps;
 
 ghost use Rattle.std.specs.Prelude.{◌<◌, ◌-◌, ◌^◌};
 ghost use Rattle.mml_journal.specs.Taken.{IsFresh};
 
+use bytewise::Bytewise;
 use mml_fakes::labs::PATH_OF_THREE;
 use mml_journal::{MemorySink, Sink};
 use mml_lab::read_lab;
@@ -17,15 +20,18 @@ use std::thread::Threads;
 use std::vec::IntoIter;
 use steps::{Holds, Steps};
 
-type Ends<'a> = (&'a [u8], Vec<u8>);
+type Ends<'a> = (Bytewise<'a>, Vec<u8>);
 
-type Ended<'a, S> = Result<ServedHouse<S, &'a [u8], Vec<u8>>, ServeFault>;
+type Ended<'a, S> = Result<ServedHouse<S, Bytewise<'a>, Vec<u8>>, ServeFault>;
 
 /// Connections that send these texts, in their order.
 fn arrivals_of<'a>(alloc: Global, scripts: &[&'a str]) -> Result<IntoIter<Ends<'a>>, AllocError> {
     let mut coming = Vec::new(alloc);
     for script in scripts {
-        coming.push((script.as_bytes(), Vec::new(alloc)))?;
+        let reader = Bytewise {
+            rest: script.as_bytes(),
+        };
+        coming.push((reader, Vec::new(alloc)))?;
     }
     Ok(coming.into_iter())
 }
@@ -55,7 +61,7 @@ fn serve<'a, S: Sink + Send + Drop, R: Threads + Wait + Sync, G: Gate + Sync>(
 }
 
 /// Whether the connections, by their numbers, were answered so.
-fn are_answered<S: Drop>(house: &ServedHouse<S, &[u8], Vec<u8>>, replies: &[&str]) -> bool {
+fn are_answered<S: Drop>(house: &ServedHouse<S, Bytewise<'_>, Vec<u8>>, replies: &[&str]) -> bool {
     let mut number = 0u8;
     for session in house.sessions.iter() {
         let wanted = replies.get(usize::from(number));
@@ -81,7 +87,7 @@ type Race = (
 );
 
 fn is_outcome(
-    house: &ServedHouse<MemorySink, &[u8], Vec<u8>>,
+    house: &ServedHouse<MemorySink, Bytewise<'_>, Vec<u8>>,
     out: &[u8],
     wanted: &Outcome,
 ) -> bool {
@@ -92,7 +98,7 @@ fn is_outcome(
 }
 
 fn is_some_outcome(
-    house: &ServedHouse<MemorySink, &[u8], Vec<u8>>,
+    house: &ServedHouse<MemorySink, Bytewise<'_>, Vec<u8>>,
     out: &[u8],
     outcomes: &[Outcome],
 ) -> bool {

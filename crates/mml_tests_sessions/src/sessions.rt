@@ -135,7 +135,7 @@ fn lines_have_limits_and_nothing_is_read_after_a_bye(rt: HostRuntime) -> Result<
 }
 
 /// Whether a writer that fails after so many bytes ends the session, and has the beginning of what is
-/// wanted, while a granted event stands though its reply couldn't be written, so that the close applies it.
+/// wanted, while a granted event stands though no reply could be written, so that the close applies it.
 fn tells_a_write<R: Wait>(rt: &R, alloc: Global, good: usize) -> Result<bool, Fail> {
     let reader = FakeReader {
         rest: ANA_MOVES.as_bytes(),
@@ -157,7 +157,7 @@ fn tells_a_write<R: Wait>(rt: &R, alloc: Global, good: usize) -> Result<bool, Fa
         is_ended
             && served.end == wanted
             && served.writer.taken.as_slice() == out
-            && served.is_closed == (good >= ANA_WELCOME.len()),
+            && served.is_closed,
     )
 }
 
@@ -214,5 +214,31 @@ fn first_untold_read<R: Wait>(rt: &R, alloc: Global) -> Result<Option<usize>, Fa
 #[test]
 fn failed_reads_are_told(rt: HostRuntime) -> Result<(), Fail> {
     assert_eq!(rt; first_untold_read(&rt, rt.alloc())?, None);
+    Ok(())
+}
+
+/// How many writes a session takes whose reader gives so many bytes at a time, where all is answered well.
+fn writes_at<R: Wait>(rt: &R, alloc: Global, step: usize) -> Result<Option<usize>, Fail> {
+    let reader = FakeReader {
+        rest: ANA_MOVES.as_bytes(),
+        step,
+        good: usize::MAX,
+        kind: ErrorKind::Other,
+        reads: 0,
+    };
+    let (served, is_ended) = serve(rt, alloc, reader, FakeWriter::patient(alloc))?;
+    let is_well = is_ended && served.writer.taken.as_slice() == REPLIES.as_bytes();
+    Ok(is_well.then_some(usize::MAX - served.writer.good))
+}
+
+#[test]
+fn replies_to_lines_that_came_together_are_one_write(rt: HostRuntime) -> Result<(), Fail> {
+    assert_eq!(rt; writes_at(&rt, rt.alloc(), usize::MAX)?, Some(1));
+    Ok(())
+}
+
+#[test]
+fn a_line_that_came_alone_is_answered_before_the_next_read(rt: HostRuntime) -> Result<(), Fail> {
+    assert_eq!(rt; writes_at(&rt, rt.alloc(), 1)?, Some(2));
     Ok(())
 }

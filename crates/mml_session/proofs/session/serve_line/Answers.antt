@@ -13,7 +13,7 @@ returns-clause-serves g c =
     (rw c.bytes-line.ensures at c.in_ok-reply.ensures.turn) in (
       record { line = line; reply = c.tell_reply-told.result; short = c.requires.line; turn = turn },
       refl,
-      rw (c.deref-2.ensures.value, c.tell_reply-told.ensures.line, c.ids.ensures.ids, c.roster.ensures.roster) at c.send.ensures,
+      rw (c.deref-2.ensures.value, c.tell_reply-told.ensures.line, c.ids.ensures.ids, c.roster.ensures.roster) at c.send.ensures.sends,
       rw (c.seen_count.ensures, c.bytes-line.ensures, c.deref.ensures.value, c.tell_reply-told.ensures.line, c.ids.ensures.ids, c.roster.ensures.roster)
           at c.record.ensures,
     )

@@ -1,11 +1,12 @@
-use Rattle.std.proofs.Common.{refl, sym, subst}
-use Rattle.std.proofs.KnownBytes.{Appends-nil}
+use Rattle.std.proofs.Common.{◌≢◌, ◌<◌, refl, sym, subst, length, ◌++◌, [], arith, length-append}
 use Rattle.std.specs.Io.KnownBytes.{prepend_known}
+use Rattle.mml_ids.specs.Lines.{ended}
 use Rattle.mml_lines.specs.LinesState.{LinesState}
+use Rattle.mml_lines.specs.declared.lines.TheConstants.{READ_SIZE}
 use Rattle.mml_session.specs.declared.session.Next.{Next}
 use Rattle.mml_session.specs.Turns.{standing}
 use Rattle.mml_session.specs.Serving.{ServesNext, next_after}
-use Rattle.mml_session.proofs.ServingLemmas.{serves_next}
+use Rattle.mml_session.proofs.ServingLemmas.{serves_next, unread_before}
 use Rattle.mml_session.proofs.RecordLemmas.{records_nil}
 use Rattle.mml_session.proofs.session.serve_next.Goals as goal
 
@@ -20,14 +21,40 @@ returns-in-Line-clause-serves g c =
     let wrote' = g.W.Write.contents c.serve_line-said.new.writer in
     let given = g.K.Recorder.kept c.args.recorder.now in
     let given' = g.K.Recorder.kept c.serve_line-said.new.recorder in
+    let unsent = c.args.session.now.held.bytes.items in
+    let unsent' = c.serve_line-said.new.session.held.bytes.items in
+    let line = c.next.new.self.line in
+    let unread = c.next.new.self.unread in
+    let ahead : unsent ≢ [] → length (ended line ++ unread) < READ_SIZE = λ some.
+    omega (
+      arith,
+      length-append (ended line) unread,
+      unread_before c.args.session.now.lines.limit (length c.args.session.now.lines.unread) (length unread) c.args.session.now.lines.reads c.next.new.self.reads
+          (length (ended line)) c.args.session.now.lines.unread unsent c.requires.out c.in-Line.ensures.read_where_needed c.in-Line.ensures.reads_grow
+          c.in-Line.ensures.reads_counted c.requires.few some,
+    ) in
     let next =
-    serves_next c.args.session.now.connection g.H.House.lab st after input left wrote wrote' given given' c.next.new.self.unread c.next.new.self.line c.in-Line.ensures.taken says.0 says.1
-    c.serve_line-said.result c.serve_line-said.ensures.serves in
-    subst (λ (n : Next). ServesNext n c.args.session.now.connection g.H.House.lab st after input c.serve_line-said.new.session.lines.unread left wrote wrote' given given') (sym c.go_on.ensures)
-    (subst (λ (l : LinesState). ServesNext (next_after c.serve_line-said.result) c.args.session.now.connection g.H.House.lab st after input l.unread left wrote wrote' given given')
-    (sym c.serve_line-said.ensures.lines) next)
+    serves_next c.args.session.now.connection g.H.House.lab st after input left wrote wrote' given given' unread line unsent unsent' c.in-Line.ensures.taken says.0 says.1
+    ahead c.serve_line-said.result c.serve_line-said.ensures.serves in
+    rw c.go_on.ensures.held
+    (subst (λ (n : Next). ServesNext n c.args.session.now.connection g.H.House.lab st after input c.serve_line-said.new.session.lines.unread left unsent unsent' wrote wrote' given given') (sym c.go_on.ensures.next)
+    (subst (λ (l : LinesState). ServesNext (next_after c.serve_line-said.result) c.args.session.now.connection g.H.House.lab st after input l.unread left unsent unsent' wrote wrote' given given')
+    (sym c.serve_line-said.ensures.lines) next))
 
 pub returns-in-TooLong-clause-serves : goal.returns-in-TooLong-clause-serves
 returns-in-TooLong-clause-serves g c =
-    let says = rw (c.requires.going, c.in-TooLong.ensures.limit, c.requires.limit) at c.in-TooLong.ensures.says in
-    (refl {a = standing c.args.session.now.known c.args.window.now}, c.in-TooLong.ensures.taken, says.0, Appends-nil _, records_nil c.args.session.now.connection _)
+    let says = rw (c.requires.going, c.in-TooLong.ensures.limit, c.requires.limit) at c.in-TooLong.ensures.says in (
+      refl {a = standing c.args.session.now.known c.args.window.now},
+      c.in-TooLong.ensures.taken,
+      says.0,
+      refl {a = c.args.session.now.held.bytes.items},
+      λ some. omega (
+        arith,
+        unread_before c.args.session.now.lines.limit (length c.args.session.now.lines.unread) (length c.next.new.self.unread)
+            c.args.session.now.lines.reads c.next.new.self.reads
+            0 c.args.session.now.lines.unread c.args.session.now.held.bytes.items c.requires.out c.in-TooLong.ensures.read_where_needed c.in-TooLong.ensures.reads_grow
+            c.in-TooLong.ensures.reads_counted c.requires.few some,
+      ),
+      refl,
+      records_nil c.args.session.now.connection _,
+    )

@@ -1,0 +1,106 @@
+//! Replies that go out together.
+ghost use Rattle.std.specs.Prelude.{◌≡◌, ◌<◌, ◌++◌, [], length, take, IfOk, IfErr, OnOk, IsTrue, if◌then◌else◌};
+ghost use Rattle.std.specs.Io.KnownBytes.{Appends};
+ghost use Rattle.mml_session.specs.Holding.{Holds};
+
+use mml_ids::Memory;
+use mml_lines::{WriteFault, put_all};
+use std::alloc::Global;
+use std::io::Write;
+
+// The most bytes that are held.
+const HELD_BYTES: usize = 8192;
+
+// Lines of replies that aren't written yet, so that one write takes many.
+#[derive(Drop)]
+pub(crate) struct Held {
+    pub(crate) bytes: Vec<u8>,
+    // How many replies they are.
+    pub(crate) replies: u32,
+}
+
+impl Held {
+    // Reserves all that it ever needs.
+    pub(crate) fn new(alloc: Global) -> Result<Held, Memory>
+        ensures { IfOk result (λ held. held.bytes.items ≡ []) }
+    {
+        Ok(Held {
+            bytes: Vec::with_capacity(alloc, HELD_BYTES)?,
+            replies: 0,
+        })
+    }
+
+    // Takes a line after those that are held. Where it has no room, and where that is asked, all go out.
+    pub(crate) fn put<W: Write>(
+        &mut self,
+        line: &[u8],
+        at_once: bool,
+        writer: &mut W,
+    ) -> Result<(), WriteFault>
+        ensures ok { OnOk result (Holds (W.contents writer.old) (W.contents writer.new)
+            (self.old.bytes.items ++ line.now) self.new.bytes.items) }
+        ensures out { OnOk result (IsTrue at_once → (self.new.bytes.items ≡ [])
+            × Appends (W.contents writer.old) (W.contents writer.new)
+            (self.old.bytes.items ++ line.now)) }
+        ensures partial { IfErr result (λ fault.
+            fault.written < length (self.old.bytes.items ++ line.now)) }
+        ensures err { IfErr result (λ fault.
+            Appends (W.contents writer.old) (W.contents writer.new)
+            (take fault.written (self.old.bytes.items ++ line.now))) }
+        ensures none { IfErr result (λ _. self.new.bytes.items ≡ []) }
+    {
+        if self.hold(line) {
+            if at_once {
+                return self.let_out(writer);
+            }
+            return Ok(());
+        }
+        let came = put_both(&self.bytes, line, writer);
+        self.bytes.clear();
+        came
+    }
+
+    // Writes all that is held. Nothing is held then, also where that failed.
+    pub(crate) fn let_out<W: Write>(&mut self, writer: &mut W) -> Result<(), WriteFault>
+        ensures none { self.new.bytes.items ≡ [] }
+        ensures ok { OnOk result (Appends (W.contents writer.old) (W.contents writer.new)
+            self.old.bytes.items) }
+        ensures partial { IfErr result (λ fault.
+            fault.written < length self.old.bytes.items) }
+        ensures err { IfErr result (λ fault.
+            Appends (W.contents writer.old) (W.contents writer.new)
+            (take fault.written self.old.bytes.items)) }
+    {
+        let came = put_all(writer, &self.bytes);
+        self.bytes.clear();
+        came
+    }
+
+    // Whether there is room for a line, which is then held.
+    fn hold(&mut self, line: &[u8]) -> bool
+        ensures { self.new.bytes.items
+            ≡ (if result then self.old.bytes.items ++ line.now else self.old.bytes.items) }
+    {
+        if HELD_BYTES < line.len() || HELD_BYTES - line.len() < self.bytes.len() {
+            return false;
+        }
+        self.bytes.extend_from_slice(line).is_ok()
+    }
+}
+
+fn put_both<W: Write>(front: &[u8], rest: &[u8], writer: &mut W) -> Result<(), WriteFault>
+    ensures ok { OnOk result
+        (Appends (W.contents writer.old) (W.contents writer.new) (front.now ++ rest.now)) }
+    ensures partial { IfErr result (λ fault. fault.written < length (front.now ++ rest.now)) }
+    ensures err { IfErr result (λ fault. Appends (W.contents writer.old) (W.contents writer.new)
+        (take fault.written (front.now ++ rest.now))) }
+{
+    put_all(writer, front)?;
+    match put_all(writer, rest) {
+        Ok(()) => Ok(()),
+        Err(fault) => {
+            let written = front.len() + fault.written;
+            Err(WriteFault { written })
+        }
+    }
+}

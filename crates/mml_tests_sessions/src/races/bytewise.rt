@@ -1,0 +1,21 @@
+//! A reader that gives one byte in a read.
+use mml_serving::LetGo;
+use std::io;
+use std::io::Read;
+
+/// Gives these bytes one by one.
+#[derive(Drop)]
+pub struct Bytewise<'a> {
+    pub rest: &'a [u8],
+}
+
+impl<'a> Read for Bytewise<'a> {
+    fn read(&mut self, buf: &mut [u8]) -> io::Result<usize> {
+        let len = buf.len().min(1);
+        self.rest.read(&mut buf[..len])
+    }
+}
+
+impl<'a> LetGo for Bytewise<'a> {
+    fn let_go(&mut self) {}
+}
