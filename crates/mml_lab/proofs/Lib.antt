@@ -16,3 +16,4 @@ pub mod LinksBelowLemmas
 pub mod LinkCountLemmas
 pub mod LinksFaultLemmas
 pub mod OwnersLemmas
+pub mod OwnedLemmas

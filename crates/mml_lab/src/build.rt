@@ -39,7 +39,7 @@ pub(crate) fn build(alloc: Global, checked: Checked) -> Result<Lab, LabFault>
         sessions,
     } = checked;
     let network = Network::of(neighbours, registers);
-    let roster = Roster::new(teacher, students, owners);
+    let roster = Roster::new(alloc, teacher, students, owners)?;
     Ok(Lab::new(ids, roster, network, events, sessions))
 }
 

@@ -9,6 +9,7 @@ mod lab_fault;
 mod lab_reading;
 pub mod laws;
 mod links;
+mod owned;
 mod raw_lab;
 mod roster;
 mod who;

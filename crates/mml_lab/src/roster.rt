@@ -1,19 +1,23 @@
 ghost use Rattle.std.specs.Prelude.{◌≡◌, ◌<◌, ◌≤◌, [], ◌∷◌, length, map, position, slice_index_or, string_bytes, Some, None, IfSome, IsTrue, ◌&&◌, ◌||◌};
-ghost use Rattle.std.specs.Prelude.{is_some, bytes_eq};
+ghost use Rattle.std.specs.Prelude.{ℕ, IfOk, IfErr, is_some, bytes_eq};
+ghost use Rattle.std.specs.FinSet as set;
 ghost use Rattle.std.specs.Map.{lookup};
 ghost use Rattle.mml_ids.specs.Gives.{Gives, unless_fault};
 ghost use Rattle.mml_lab.specs.declared.who.Who.TheVariants.{Student as AStudent};
 ghost use Rattle.mml_lab.specs.declared.TheConstants.{MAX_NAME};
+ghost use Rattle.mml_lab.specs.declared.lab_fault.LabFault.TheVariants.{Memory};
+ghost use Rattle.mml_ids.specs.declared.TheConstants.{MAX_NODES};
 ghost use Rattle.mml_lab.specs.Shape.{is_lab_memory};
 ghost use Rattle.mml_lab.specs.inside.Raw.{account_view, entry_view};
 ghost use Rattle.mml_lab.specs.Rosters.{principal, student_named, owns, name_of, is_name, has_name_and_key, no_account, name_twice, with_owners, IsPrincipal};
 ghost use Rattle.mml_lab.specs.Rosters.{IsRoster};
 
 use crate::lab_fault::LabFault;
+use crate::owned::owned_by_each;
 use crate::raw_lab::Account;
 use crate::who::{Student, Who};
 use indexmap::IndexMap;
-use mml_ids::Rank;
+use mml_ids::{NodeSet, Rank};
 use std::alloc::Global;
 use std::marker::Model;
 
@@ -25,6 +29,8 @@ pub struct Roster {
     students: IndexMap<String, String>,
     // by rank
     owners: Vec<Vec<Student>>,
+    // by student, and an empty row past them: the ranks of the nodes that it owns
+    owned: Vec<NodeSet>,
 }
 
 impl Model for Roster {
@@ -42,20 +48,25 @@ impl Model for Roster {
 impl Roster {
     /// The students' names and keys in the file's order, and for each rank the owners of the node.
     pub(crate) fn new(
+        alloc: Global,
         teacher: Account,
         students: IndexMap<String, String>,
         owners: Vec<Vec<Student>>,
-    ) -> Roster
-        requires { IsRoster (with_owners (account_view teacher)
+    ) -> Result<Roster, LabFault>
+        requires lawful { IsRoster (with_owners (account_view teacher)
             (map entry_view students.entries) (map (λ v. v.items) owners.items)) }
-        ensures { result ≡ with_owners (account_view teacher)
-            (map entry_view students.entries) (map (λ v. v.items) owners.items) }
+        requires nodes { length owners.items ≤ MAX_NODES }
+        ensures roster { IfOk result (λ roster. roster ≡ with_owners (account_view teacher)
+            (map entry_view students.entries) (map (λ v. v.items) owners.items)) }
+        ensures err { IfErr result (λ fault. fault ≡ Memory) }
     {
-        Roster {
+        let owned = owned_by_each(alloc, students.len(), &owners)?;
+        Ok(Roster {
             teacher,
             students,
             owners,
-        }
+            owned,
+        })
     }
 
     /// How many students there are.
@@ -81,17 +92,23 @@ impl Roster {
         }
     }
 
+    /// The nodes that this one owns. It takes the same steps for each student, whatever is owned.
+    pub fn owned(&self, who: Who) -> NodeSet
+        ensures { (i : ℕ) → set.contains result i ≡ owns self.now who i }
+    {
+        match who {
+            Who::Teacher => NodeSet::empty(),
+            Who::Student(student) => {
+                self.owned[usize::from(student.place()).min(self.students.len())]
+            }
+        }
+    }
+
     /// Whether this one owns the node.
     pub fn owns(&self, who: Who, node: Rank) -> bool
         ensures { result ≡ owns self.now who node }
     {
-        match who {
-            Who::Teacher => false,
-            Who::Student(student) => match self.owners.get(node.index() as usize) {
-                Some(owners) => owners.contains(&student),
-                None => false,
-            },
-        }
+        self.owned(who).has(node)
     }
 
     /// The name of one who takes part.

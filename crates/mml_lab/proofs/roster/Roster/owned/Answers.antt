@@ -1,0 +1,34 @@
+use Rattle.std.proofs.Common.{◌≡◌, ◌∙◌, ◌<◌, ◌≤◌, ◌⊎◌, inl, inr, map, length, ap, sym, arith}
+use Rattle.std.specs.FinSet as sets
+use Rattle.std.proofs.lemmas.Bool.{cases_lt}
+use Rattle.std.proofs.lemmas.List.{get_or_default, length-map}
+use Rattle.mml_ids.specs.inside.WordsLemmas.{has_empty}
+use Rattle.mml_lab.specs.inside.Raw.{entry_view}
+use Rattle.mml_lab.specs.inside.Owned.{row_at}
+use Rattle.mml_lab.specs.inside.RosterView.{roster_view}
+use Rattle.mml_lab.specs.Rosters.{owns}
+use Rattle.mml_lab.proofs.OwnedLemmas.{owned_by}
+use Rattle.mml_lab.proofs.roster.Roster.owned.Goals as goal
+
+pub returns-in-Teacher : goal.returns-in-Teacher
+returns-in-Teacher c = λ i.
+    ap (λ r. sets.contains r i) c.empty.ensures ∙ has_empty i ∙ sym (ap (λ w. owns c.args.self.now w i) c.in-Teacher.is)
+
+pub returns-in-Student : goal.returns-in-Student
+returns-in-Student c =
+    let a = c.self.inside in
+    let at = c.min.result in
+    let students = length (map entry_view a.students.entries) in
+    let many : c.len.result ≡ students = c.len.ensures.len ∙ sym (length-map a.students.entries entry_view) in
+    let s : c.from.result ≡ c.in-Student.student = c.from.ensures ∙ c.place.ensures in
+    let within : at < length a.owned.items = omega (arith, c.min.ensures, many, c.self.invariant.rows.count) in
+    let row : c.index.result.now ≡ row_at a.owned.items at = c.index.ensures ∙ sym (get_or_default a.owned.items at sets.empty c.index.result.now within) in
+    let place : ((c.in-Student.student ≤ students) × (at ≡ c.in-Student.student)) ⊎ ((students ≤ c.in-Student.student) × (at ≡ students)) =
+    elim (cases_lt c.in-Student.student students) [
+      | inl below ↦ inl (omega (arith, below), omega (arith, below, c.min.ensures, many, s))
+      | inr past ↦ inr (past, omega (arith, past, c.min.ensures, many, s))
+    ] in
+    λ i.
+    ap (λ r. sets.contains r i) row
+    ∙ owned_by students c.in-Student.student at i (roster_view a).owners a.owned.items c.self.invariant.rows c.self.invariant.lawful.owned place
+    ∙ (λ t. owns (c.self.view_is t) (sym c.in-Student.is t) i)

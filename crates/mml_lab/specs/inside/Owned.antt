@@ -1,0 +1,19 @@
+-- The rows of bits that stand beside the owners of a roster.
+use Rattle.std.specs.Prelude.{◌≡◌, ℕ, ◌+◌, ◌==◌, Bool, List, [], length, slice_index_or}
+use Rattle.std.specs.List.{list_any}
+use Rattle.std.specs.FinSet as set
+use Rattle.std.specs.FinSet.{FinSet}
+use Rattle.std.specs.Ordering.{nat_cmp}
+
+-- the row at a place; empty past the last one
+abbrev pub row_at : List (FinSet nat_cmp) → ℕ → FinSet nat_cmp
+row_at rows s = slice_index_or rows s set.empty
+
+-- the student at place s is among the owners of rank i
+abbrev pub is_owner : List (List ℕ) → ℕ → ℕ → Bool
+is_owner owners s i = list_any (λ o. o == s) (slice_index_or owners i [])
+
+-- a row for each student, and one more; rank i is in the row of s exactly where s owns i
+pub record AreOwned (students : ℕ) (owners : List (List ℕ)) (rows : List (FinSet nat_cmp)) : Type 0 where
+  pub count : length rows ≡ students + 1
+  pub each : (s i : ℕ) → set.contains (row_at rows s) i ≡ is_owner owners s i

@@ -1,0 +1,44 @@
+//! What each student owns, as rows of bits.
+ghost use Rattle.std.specs.Prelude.{◌≡◌, ℕ, ◌<◌, ◌≤◌, ◌==◌, ◌&&◌, ◌||◌, All, length, map, IfOk, IfErr};
+ghost use Rattle.std.specs.List.{list_any};
+ghost use Rattle.std.specs.FinSet as set;
+ghost use Rattle.mml_ids.specs.declared.TheConstants.{MAX_NODES};
+ghost use Rattle.mml_lab.specs.declared.TheConstants.{MAX_STUDENTS};
+ghost use Rattle.mml_lab.specs.declared.lab_fault.LabFault.TheVariants.{Memory};
+ghost use Rattle.mml_lab.specs.inside.Owned.{AreOwned, row_at};
+
+use crate::lab_fault::LabFault;
+use crate::who::Student;
+use mml_ids::{NodeSet, Rank};
+use std::alloc::Global;
+
+/// A row for each student, and an empty one past them: of the ranks of the nodes that it owns.
+pub(crate) fn owned_by_each(
+    alloc: Global,
+    students: usize,
+    owners: &[Vec<Student>],
+) -> Result<Vec<NodeSet>, LabFault>
+    requires students { students ≤ MAX_STUDENTS }
+    requires nodes { length owners.now ≤ MAX_NODES }
+    requires known { All (All (λ s. s < students)) (map (λ v. v.items) owners.now) }
+    ensures rows { IfOk result (λ rows. AreOwned students (map (λ v. v.items) owners.now) rows.items) }
+    ensures err { IfErr result (λ fault. fault ≡ Memory) }
+{
+    let mut rows = vec![in alloc; NodeSet::empty(); students + 1]?;
+    for index in 0..owners.len() {
+        give(&mut rows, Rank::at(index as u64), &owners[index]);
+    }
+    Ok(rows)
+}
+
+/// Puts a node into the rows of its owners.
+fn give(rows: &mut [NodeSet], node: Rank, owners: &[Student])
+    requires { All (λ s. s < length rows.old) owners.now }
+    ensures { (s i : ℕ) → set.contains (row_at rows.new s) i ≡ (set.contains (row_at rows.old s) i
+        || (i == node && list_any (λ o. o == s) owners.now)) }
+{
+    for owner in owners {
+        let place = usize::from(owner.place());
+        rows[place] = rows[place].with(node);
+    }
+}
