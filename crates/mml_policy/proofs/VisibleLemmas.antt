@@ -1,11 +1,12 @@
 -- To whom a node is shown, as tests and as facts.
-use Rattle.std.proofs.Common.{◌≡◌, ℕ, ◌<◌, Bool, true, false, not, ◌&&◌, ◌||◌, inl, inr, refl, sym, ap, ◌∙◌}
+use Rattle.std.proofs.Common.{◌≡◌, ℕ, ◌<◌, Bool, true, false, ◌&&◌, ◌||◌, eqb, inl, inr, refl, sym, ap, ◌∙◌}
 use Rattle.std.specs.Prelude.{◌↔◌}
-use Rattle.std.proofs.lemmas.Bool.{cases_eq, ne_eqb, and_parts, and_from, or_cases, or_left, or_right, both_ways, false_from_ne_true, false≢true}
+use Rattle.std.proofs.lemmas.Bool.{eq-eqb, eqb-true, and_parts, and_from, or_cases, or_left, or_right, both_ways, false_from_ne_true, false≢true}
 use Rattle.std.specs.Ordering.{nat_cmp}
+use Rattle.std.specs.Cmp.{nat_cmp_total}
 use Rattle.std.specs.FinSet as sets
 use Rattle.std.specs.FinSet.{FinSet}
-use Rattle.mml_ids.specs.inside.WordsLemmas.{has_remove}
+use Rattle.mml_ids.specs.inside.WordsLemmas.{has_insert}
 use Rattle.mml_ids.specs.Search.{some_below}
 use Rattle.mml_rules.specs.Configuration.{Configuration, IsLawful}
 use Rattle.mml_ids.proofs.SearchLemmas.{some_below-find, some_below-at}
@@ -60,11 +61,37 @@ no_owner r c x i none = sym (false_from_ne_true (some_below c.size (λ j. c.link
     let both = and_parts (c.linked i found.0) (owns r x found.0) found.2 in
     both_ways (owns r x found.0) (none found.0 both.0) both.1))
 
--- one more is looked at
-pub none_yet : (left rest : FinSet nat_cmp) (a j : ℕ) (test : ℕ → Bool) → rest ≡ sets.remove left a → test a ≡ false
-    → (sets.contains left j ≡ false → test j ≡ false) → sets.contains rest j ≡ false → test j ≡ false
-none_yet left rest a j test removed here before gone = elim (cases_eq j a) [
-  | inl e ↦ ap test e ∙ here
-  | inr ne ↦
-      before (sym (ap (λ b. not b && sets.contains left j) (ne_eqb j a ne)) ∙ sym (has_remove left a j) ∙ sym (ap (λ s. sets.contains s j) removed) ∙ gone)
-]
+-- the rank is i or linked to it, and x owns it
+abbrev pub owned_around : RosterValue → Configuration → Who → ℕ → ℕ → Bool
+owned_around r c x i j = (eqb j i || c.linked i j) && owns r x j
+
+-- a set of a node and its neighbours, in common with a set of owned nodes
+pub has_around : (r : RosterValue) (c : Configuration) (x : Who) (i : ℕ) (near around owned both : FinSet nat_cmp)
+    → ((j : ℕ) → sets.contains near j ≡ c.linked i j) → around ≡ sets.insert near i → ((j : ℕ) → sets.contains owned j ≡ owns r x j)
+    → both ≡ sets.intersection around owned → (j : ℕ) → sets.contains both j ≡ owned_around r c x i j
+has_around r c x i near around owned both linked is_around mine is_both j =
+    ap (λ s. sets.contains s j) is_both ∙ sets.contains-intersection nat_cmp_total around owned j
+    ∙ (λ t. sets.contains (is_around t) j && mine j t) ∙ ap (λ b. b && owns r x j) (has_insert near i j ∙ ap (λ b. eqb j i || b) (linked j))
+
+-- one who owns a node around i owns i or a neighbour of it
+pub around_found : (r : RosterValue) (c : Configuration) (x : Who) (i j : ℕ) → IsLawful c → owned_around r c x i j ≡ true
+    → true ≡ (owns r x i || owns_neighbour r c x i)
+around_found r c x i j lawful is =
+    let parts = and_parts (eqb j i || c.linked i j) (owns r x j) is in
+    elim (or_cases (eqb j i) (c.linked i j) parts.0) [
+      | inl same ↦ sym (or_left (owns r x i) (owns_neighbour r c x i) (ap (owns r x) (sym (eqb-true j i same)) ∙ parts.1))
+      | inr near ↦ sym (or_right (owns r x i) (owns_neighbour r c x i)
+          (owner_found r c x i j (lawful.in_range i j near).1 (and_from (c.linked i j) (owns r x j) near parts.1)))
+    ]
+
+-- one who owns no node around i owns neither i nor a neighbour of it
+pub none_around : (r : RosterValue) (c : Configuration) (x : Who) (i : ℕ) → ((j : ℕ) → owned_around r c x i j ≡ false)
+    → false ≡ (owns r x i || owns_neighbour r c x i)
+none_around r c x i none =
+    no_owner r c x i (λ j linked. gone (eqb j i || c.linked i j) (owns r x j) (none j) (or_right (eqb j i) (c.linked i j) linked))
+    ∙ sym (ap (λ b. b || owns_neighbour r c x i)
+    (gone (eqb i i || c.linked i i) (owns r x i) (none i) (or_left (eqb i i) (c.linked i i) (eq-eqb i i refl))))
+  where
+    gone : (a b : Bool) → (a && b) ≡ false → a ≡ true → b ≡ false
+    gone true b h e = h
+    gone false b h e = absurd (false≢true e)
