@@ -55,16 +55,19 @@ pub fn read_words<'a>(alloc: Global, words: &'a [String]) -> Result<Task<'a>, Pr
 }
 
 fn whole<'a>(alloc: Global) -> Result<Command<'a>, AllocError> {
-    let places = ["lab", "port", "desk"];
-    command_of(alloc, "mml_host", &[])?
-        .subcommand(with_record(
-            alloc,
-            with_journal(alloc, command_of(alloc, "host", &places)?)?,
-        )?)?
-        .subcommand(with_record(
-            alloc,
-            command_of(alloc, "resume", &["lab", "port", "desk", "journal"])?,
-        )?)
+    let whole = command_of(alloc, "mml_host", &[])?;
+    let whole = whole.subcommand(host_words(alloc)?)?;
+    whole.subcommand(resume_words(alloc)?)
+}
+
+fn host_words<'a>(alloc: Global) -> Result<Command<'a>, AllocError> {
+    let command = command_of(alloc, "host", &["lab", "port", "desk"])?;
+    with_record(alloc, with_journal(alloc, command)?)
+}
+
+fn resume_words<'a>(alloc: Global) -> Result<Command<'a>, AllocError> {
+    let places = ["lab", "port", "desk", "journal"];
+    with_record(alloc, command_of(alloc, "resume", &places)?)
 }
 
 // One value more, which may be left out.
