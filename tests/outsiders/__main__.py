@@ -202,9 +202,9 @@ def alone(host: Host) -> float:
     return max(taken)
 
 
-def waits_little(taken: list[float], quiet: float, most: float = 2.0) -> None:
+def waits_little(taken: list[float], quiet: float, most: float = 2.0, slower: float = 20) -> None:
     """Wants that most honest clients wait for less than so many seconds, and what a slow machine makes of that."""
-    if sorted(taken)[len(taken) // 2] > most + 20 * quiet:
+    if sorted(taken)[len(taken) // 2] > most + slower * quiet:
         fail(f"outsiders: honest clients wait for a place: {taken} seconds, alone {quiet}")
 
 
@@ -304,30 +304,32 @@ def nobody_behind(room: Path) -> None:
 
 
 def guesses(room: Path) -> None:
-    """Fifteen who guess keys have less than a hundred denials a second in all, honest hellos are told soon, beside
-    five who guess within a tenth of a second, and the teacher's program is told."""
+    """Fifteen who guess keys have less than a hundred denials a second in all, and are told most of them; honest hellos
+    are told within a tenth of a second, and the teacher's program is told of the guesses."""
     lab = lab_of(room, 16)
     with Host(lab, 0, 0) as host:
         teacher, quiet = let_in(host.desk, hello("tess"))[0], alone(host)
-        stop, denied = threading.Event(), [0] * 15
+        stop, denied, others = threading.Event(), [0] * 15, [0] * 15
 
         def guess(at: int) -> None:
             with socket.create_connection(("127.0.0.1", host.port), LIMIT) as it, it.makefile("rb") as replies:
                 it.sendall(WRONG * 10)
-                denied[at] += sum(line == UNKNOWN for line in replies)
+                told = [*replies]
+                denied[at] += told.count(UNKNOWN)
+                others[at] += UNKNOWN not in told
 
         begun = time.monotonic()
         threads: list[threading.Thread] = []
-        for count, most in ((5, 0.1), (15, 2.0)):
+        for count in (5, 15):
             threads += [thread for at in range(len(threads), count) for thread in until_set(stop, lambda at=at: guess(at))]  # type: ignore[misc]
             taken: list[float] = []
-            for _ in range(10):
+            for _ in range(20):
                 caller = comes(host.port, hello("ana"), taken)
                 if b'"ok":"look"' not in caller.ask(look("ana")):
                     fail("outsiders: a student loses a place to those who guess")
                 caller.ask(BYE)
                 caller.close()
-            waits_little(taken, quiet, most)
+            waits_little(taken, quiet, 0.1, 4)
         while sum(denied) < 100 and time.monotonic() - begun < LIMIT:
             time.sleep(0.05)
         stop.set()
@@ -336,6 +338,8 @@ def guesses(room: Path) -> None:
         rate = sum(denied) / (time.monotonic() - begun)
         if rate > 100 or sum(denied) < 100:
             fail(f"outsiders: {rate} keys are guessed a second")
+        if sum(others) * 4 > sum(denied):
+            fail(f"outsiders: {sum(others)} who guess aren't told that they are wrong, and {sum(denied)} are")
         ended = host.dismissed(teacher)
         if ended.out != NONE.out or b"hellos had no right key" not in ended.error:
             fail(f"outsiders: nobody is told of guesses: {ended}")

@@ -36,10 +36,12 @@ impl Guest {
         self.greeting.is_none() && !self.is_leaving
     }
 
-    // Whether it has had its time.
+    // Whether it has had its time. Of one whose hello is denied nothing more is heard, though it may still
+    // wait for the turn of its denial.
     fn may_go(&self, now: Instant) -> bool {
         self.is_stranger()
             && (self.socket.is_answered.load(Ordering::SeqCst)
+                || self.socket.was_denied()
                 || now.duration_since(self.since) >= Duration::from_millis(GRACE))
     }
 

@@ -101,6 +101,11 @@ impl SharedSocket {
         self.denied.fetch_add(1, Ordering::SeqCst);
     }
 
+    /// Whether one of its hellos was denied.
+    pub(crate) fn was_denied(&self) -> bool {
+        self.denied.load(Ordering::SeqCst) > 0
+    }
+
     /// Whether no more of it is to be read.
     pub(crate) fn is_done(&self) -> bool {
         self.is_ending.load(Ordering::SeqCst) || self.denied.load(Ordering::SeqCst) >= DENIALS

@@ -104,6 +104,24 @@ impl<'a, Rt: Clock + Wait + Eprint> SocketWriter<'a, Rt> {
         }
     }
 
+    // Writes a denial whose connection leaves for a newcomer since it waits for its turn, if it is taken at once.
+    fn write_parting(&mut self, buf: &[u8]) -> io::Result<usize>
+        ensures { WritesAtMost result buf.now }
+    {
+        if !self.is_whole || !buf.starts_with(UNKNOWN) || !self.socket.is_turned_away(self.rt) {
+            return Err(Error::from(ErrorKind::BrokenPipe));
+        }
+        let stream = self.socket.stream.read(self.rt);
+        match &*stream {
+            Some(stream) => {
+                stream.set_write_timeout(Some(Duration::from_millis(PARTING)))?;
+                let mut stream = stream;
+                stream.write(buf)
+            }
+            None => Err(Error::from(ErrorKind::NotConnected)),
+        }
+    }
+
     // Writes the reply that ends the class. Who has read something meanwhile waits for it, and whether it is out.
     fn write_last(&mut self, buf: &[u8]) -> io::Result<usize>
         ensures { WritesAtMost result buf.now }
@@ -136,7 +154,7 @@ impl<'a, Rt: Clock + Wait + Eprint> Write for SocketWriter<'a, Rt> {
                 self.write_now(buf)
             }
         } else {
-            Err(Error::from(ErrorKind::BrokenPipe))
+            self.write_parting(buf)
         };
         self.socket.end_write();
         let taken = written?;
