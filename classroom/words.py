@@ -3,6 +3,7 @@ from __future__ import annotations
 
 import argparse
 import os
+import subprocess
 import sys
 from collections.abc import Callable
 from importlib import import_module
@@ -23,9 +24,9 @@ class Parser(argparse.ArgumentParser):
 
 
 def version() -> str:
-    """What the file VERSION at the top says."""
-    file = TOP / "VERSION"
-    return file.read_text(encoding="utf-8").strip() if file.is_file() else "0.9.0"
+    """Version, commit and toolchain, as `mml` tells them."""
+    said = subprocess.run([TOP / "mml", "--version"], stdin=subprocess.DEVNULL, capture_output=True, text=True, check=False)
+    return said.stdout.strip().removeprefix("Cenduwa ") or "of no known version"
 
 
 def positive(word: str) -> int:
@@ -146,7 +147,7 @@ EACH: dict[str, tuple[str, Callable[[argparse.ArgumentParser], None]]] = {
 def parser(asked: str | None = None) -> argparse.ArgumentParser:
     """All words; where one is asked for, what follows it is there for that one alone, and no other module is loaded."""
     every = Parser(prog="class", description="A class from its list of names to its marks.", epilog=TABLE)
-    every.add_argument("--version", action="version", version=f"class {version()}")
+    every.add_argument("--version", action="store_true", help="show version, commit and toolchain, and exit")
     each = every.add_subparsers(title="words", required=True)
     for name, (what, add) in EACH.items():
         words = each.add_parser(name, help=what, description=what, epilog=EXAMPLES[name])
@@ -158,6 +159,9 @@ def parser(asked: str | None = None) -> argparse.ArgumentParser:
 def main(words: list[str] | None = None) -> int:
     """Does what the words say, and answers the exit status."""
     given = sys.argv[1:] if words is None else words
+    if given[:1] == ["--version"]:
+        print(f"class {version()}")
+        return 0
     asked = parser(next(iter(given), "")).parse_args(given)
     try:
         status: int = asked.work(asked)

@@ -74,7 +74,7 @@ QUICK = [
     Part("hostile", module("hostile"), 0.1, 1.1, 2, BUILT),
     Part("random", module("random"), 1.0, 1.0, 1, BUILT),
     *classroom(),
-    Part("launchers", ("bash", "tests/program/launchers"), 1.2, 1.3, 1, ("built", "rt")),
+    Part("launchers", ("bash", "tests/program/launchers"), 1.2, 1.3, 1, ("built", "rt", "git")),
     Part("host", module("host"), 0.3, 0.8, 2, BUILT),
     Part("outsiders", module("outsiders"), 0.3, 1.0, 2, (*BUILT, "rt")),
     Part("outsiders-bots", module("outsiders.bots"), 0.2, 0.7, 2, BUILT),

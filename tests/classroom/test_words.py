@@ -59,6 +59,17 @@ class Helped(InRoom):
         self.assertEqual(self.completed("history", str(folder), "h"), {"hana"})
 
 
+class Version(InRoom):
+    """What it is."""
+
+    def test_it_is_what_mml_tells(self) -> None:
+        told = subprocess.run([TOP / "mml", "--version"], capture_output=True, text=True, check=True, timeout=LIMIT).stdout
+        self.assertRegex(told, r"^Cenduwa \d+\.\d+\.\d+, commit ([0-9a-f]{7}\+?|unknown), rattle-kit-\S+ logic [0-9a-f]{16}")
+        for more in ((), ("run",)):
+            done = words("--version", *more)
+            self.assertEqual((done.returncode, done.stdout), (0, told.replace("Cenduwa", "class")))
+
+
 class Rekeyed(InRoom):
     """Another key in mid-course."""
 
