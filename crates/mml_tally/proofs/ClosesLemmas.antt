@@ -11,7 +11,7 @@ use Rattle.mml_tally.specs.declared.fate.Fate.{Fate}
 use Rattle.mml_tally.specs.declared.fate.Fate.TheVariants as fate
 use Rattle.mml_tally.specs.declared.granted_move.Move.{Move}
 use Rattle.mml_tally.specs.Moves.{fate_of, moves_from, moves}
-use Rattle.mml_tally.specs.Marks.{is_fate_at, is_applied_at, count_closes}
+use Rattle.mml_tally.specs.Marks.{is_fate_at, is_applied_at, is_fate_applied, is_applied, count_closes}
 use Rattle.mml_tally.specs.inside.Closes.{close_of, count_new}
 use Rattle.mml_tally.proofs.CountsLemmas.{one, count_split, count_one}
 
@@ -181,3 +181,25 @@ closes_counted test (e ∷ es) =
     from_one : (n j : ℕ) (own : List Move) → Rising n 1 own → (ltb 0 j && some_at j own) ≡ some_at j own
     from_one n zero own rising = sym (false_from_ne_true (some_at 0 own) (λ s. let le = none_before n 1 0 own rising s in omega arith))
     from_one n (suc j) own rising = rw (lt-ltb 0 (suc j) (omega arith)) refl
+
+-- ---- and a student of whom a close applied a move has one
+
+none_applied : (n : ℕ) (ms : List Move) → Rising n 1 ms → count_new 0 ms ≡ 0 → filter is_applied ms ≡ []
+none_applied n [] h none = refl
+none_applied n (m ∷ ms) h none = go m.fate (none_applied n ms) h.0 h.2 none
+  where
+    go : (f : Fate) → (Rising n 1 ms → count_new 0 ms ≡ 0 → filter is_applied ms ≡ []) → 1 ≤ close_of 1 f → Rising n (close_of 1 f) ms → cond (eqb (close_of 0 f) 0) 0 1 + count_new (close_of 0 f) ms ≡ 0
+        → cond (is_fate_applied f) (m ∷ filter is_applied ms) (filter is_applied ms) ≡ []
+    go (fate.Applied p) rest some rising none =
+        let on : cond {A = ℕ} (eqb p 0) 0 1 ≡ 1 = ap (λ b. cond b 0 1) (ne_eqb p 0 (λ e. omega (arith, e, some))) in
+        absurd (omega (arith, on, none))
+    go fate.Released rest some rising none = rest rising (omega (arith, none))
+    go fate.Dropped rest some rising none = rest rising (omega (arith, none))
+    go fate.Chosen rest some rising none = rest rising (omega (arith, none))
+
+pub no_close : (test : Move → Bool) (es : List Event) → count_closes (length es) (filter test (moves es)) ≡ 0 → filter is_applied (filter test (moves es)) ≡ []
+no_close test [] none = refl
+no_close test (e ∷ es) none =
+    none_applied (length (e ∷ es)) (filter test (moves (e ∷ es)))
+    (rising_filter test (length (e ∷ es)) 1 (moves (e ∷ es)) (rising_moves (length (e ∷ es)) 1 1 (e ∷ es) (next_after 1 (e ∷ es)) (omega arith) (omega arith)))
+    (closes_counted test (e ∷ es) ∙ none)

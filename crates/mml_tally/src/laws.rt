@@ -44,6 +44,13 @@ pub fn granted_moves_have_one_fate()
         + count_by is_left (moves_by s (moves es)) }
 {}
 
+/// A student to whom no close is counted has no applied move: so the close is counted that applied one, the
+/// last event of all too.
+pub fn who_has_no_close_has_no_applied_move()
+    ensures { (r : RosterValue) (es : List Event) (s : ℕ) →
+        (marks_of r es s).closes ≡ 0 → total (marks_of r es s).applied ≡ 0 }
+{}
+
 /// A student's marks are the same whoever the others are: under other names of theirs, and where several
 /// become one.
 pub fn marks_depend_on_no_other_name()
