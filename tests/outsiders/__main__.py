@@ -202,9 +202,9 @@ def alone(host: Host) -> float:
     return max(taken)
 
 
-def waits_little(taken: list[float], quiet: float, most: float = 2.0, slower: float = 20) -> None:
+def waits_little(taken: list[float], quiet: float, most: float = 2.0) -> None:
     """Wants that most honest clients wait for less than so many seconds, and what a slow machine makes of that."""
-    if sorted(taken)[len(taken) // 2] > most + slower * quiet:
+    if sorted(taken)[len(taken) // 2] > most + 20 * quiet:
         fail(f"outsiders: honest clients wait for a place: {taken} seconds, alone {quiet}")
 
 
@@ -330,7 +330,7 @@ def guesses(room: Path) -> None:
                     fail("outsiders: a student loses a place to those who guess")
                 caller.ask(BYE)
                 caller.close()
-            waits_little(taken, quiet, 0.1, 4)
+            waits_little(taken, quiet, 0.1)
         while sum(denied) < 100 and time.monotonic() - begun < LIMIT:
             time.sleep(0.05)
         stop.set()
