@@ -2,6 +2,7 @@
 use crate::texts::{Count, Kept, Texts, Timed, lab_of, sent_to};
 use mml_hosting::{HostFault, Hosted, ServedSession, no_recorders, serve_host};
 use mml_journal::MemorySink;
+use mml_lab::Lab;
 use mml_session::{NoGate, NoRecorder};
 use std::alloc::{AllocError, Global};
 use std::collections::VecDeque;
@@ -97,42 +98,61 @@ const TALKS: &[Talk] = &[ANA, BEN, NOBODY, FALLEN, ELSEWHERE, AGAIN, AGAIN, TESS
 
 const JOURNAL: &[u8] = b"1 0 grant ana 1 seduction\n2 0 close\n";
 
-/// Hosts these talks over three windows, each once the one before has ended.
+/// What is said at the desk, or else at the port: each talk once the one before has ended.
+fn texts_of<'a>(
+    alloc: Global,
+    talks: &[Talk],
+    is_desk: bool,
+    count: &'a Count,
+) -> Result<Texts<'a>, AllocError> {
+    let mut said = Vec::new(alloc);
+    let mut number = 0u64;
+    for (at_desk, text, _) in talks {
+        if *at_desk == is_desk {
+            said.push(Timed {
+                after: number,
+                number,
+                text,
+            })?;
+        }
+        number = number.saturating_add(1);
+    }
+    Texts::of(alloc, &said, count)
+}
+
+/// Hosts these talks over three windows.
 fn host<R: Threads + Wait + Sync>(
     rt: &R,
     alloc: Global,
     talks: &[Talk],
     out: &mut Vec<u8>,
 ) -> Result<Result<Left, HostFault>, AllocError> {
-    let Ok(lab) = lab_of(alloc, 100)? else {
-        return Ok(Err(HostFault::Memory));
-    };
-    let mut at_desk = Vec::new(alloc);
-    let mut at_port = Vec::new(alloc);
-    let mut number = 0u64;
-    for (is_desk, text, _) in talks {
-        let timed = Timed {
-            after: number,
-            number,
-            text,
-        };
-        if *is_desk {
-            at_desk.push(timed)?;
-        } else {
-            at_port.push(timed)?;
-        }
-        number = number.saturating_add(1);
-    }
     let count = Count::new();
-    let at_desk = Texts::of(alloc, &at_desk, &count)?;
-    let at_port = Texts::of(alloc, &at_port, &count)?;
-    let sink = MemorySink::new(alloc, None);
+    let at_desk = texts_of(alloc, talks, true, &count)?;
+    let at_port = texts_of(alloc, talks, false, &count)?;
+    match lab_of(alloc, 100)? {
+        Ok(lab) => Ok(host_in(rt, alloc, lab, at_desk, at_port, &count, out)),
+        Err(_) => Ok(Err(HostFault::Memory)),
+    }
+}
+
+/// Hosts what comes in this lab.
+fn host_in<R: Threads + Wait + Sync>(
+    rt: &R,
+    alloc: Global,
+    lab: Lab,
+    at_desk: Texts<'_>,
+    at_port: Texts<'_>,
+    count: &Count,
+    out: &mut Vec<u8>,
+) -> Result<Left, HostFault> {
     let Ok(recorders) = no_recorders(alloc, &lab) else {
-        return Ok(Err(HostFault::Memory));
+        return Err(HostFault::Memory);
     };
-    Ok(serve_host(
-        rt, alloc, lab, sink, recorders, at_desk, at_port, &count, &NoGate, out,
-    ))
+    let sink = MemorySink::new(alloc, None);
+    serve_host(
+        rt, alloc, lab, sink, recorders, at_desk, at_port, count, &NoGate, out,
+    )
 }
 
 /// Whether each of these talks was answered so.

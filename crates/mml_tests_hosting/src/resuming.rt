@@ -4,6 +4,7 @@ use crate::texts::{Count, Kept, Texts, Timed, lab_of, sent_to};
 use mml_audit::AuditFault;
 use mml_hosting::{Hosted, ServedSession, no_recorders};
 use mml_journal::{MemorySink, Sink};
+use mml_lab::Lab;
 use mml_policy::Denial;
 use mml_resuming::{ResumeFault, Store, resume_class};
 use mml_session::{NoGate, NoRecorder};
@@ -84,26 +85,40 @@ fn resume<R: Threads + Wait + Sync>(
     old: &str,
     out: &mut Vec<u8>,
 ) -> Result<Result<Left, ResumeFault>, AllocError> {
-    let Ok(lab) = lab_of(alloc, events)? else {
-        return Ok(Err(ResumeFault::Memory));
-    };
     let count = Count::new();
-    let tess = [Timed {
+    let tess = Timed {
         after: 1,
         number: 0,
         text: TESS,
-    }];
-    let ana = [Timed {
+    };
+    let ana = Timed {
         after: 0,
         number: 1,
         text: ANA,
-    }];
-    let at_desk = Texts::of(alloc, &tess, &count)?;
-    let at_port = Texts::of(alloc, &ana, &count)?;
-    let Ok(recorders) = no_recorders(alloc, &lab) else {
-        return Ok(Err(ResumeFault::Memory));
     };
-    Ok(resume_class(
+    let at_desk = Texts::of(alloc, &[tess], &count)?;
+    let at_port = Texts::of(alloc, &[ana], &count)?;
+    match lab_of(alloc, events)? {
+        Ok(lab) => Ok(resume_in(rt, alloc, lab, old, at_desk, at_port, &count, out)),
+        Err(_) => Ok(Err(ResumeFault::Memory)),
+    }
+}
+
+/// Goes on in this lab with what comes.
+fn resume_in<R: Threads + Wait + Sync>(
+    rt: &R,
+    alloc: Global,
+    lab: Lab,
+    old: &str,
+    at_desk: Texts<'_>,
+    at_port: Texts<'_>,
+    count: &Count,
+    out: &mut Vec<u8>,
+) -> Result<Left, ResumeFault> {
+    let Ok(recorders) = no_recorders(alloc, &lab) else {
+        return Err(ResumeFault::Memory);
+    };
+    resume_class(
         rt,
         alloc,
         lab,
@@ -113,10 +128,22 @@ fn resume<R: Threads + Wait + Sync>(
         recorders,
         at_desk,
         at_port,
-        &count,
+        count,
         &NoGate,
         out,
-    ))
+    )
+}
+
+/// Why a class didn't go on, and whether nothing was told.
+fn refused<R: Threads + Wait + Sync>(
+    rt: &R,
+    alloc: Global,
+    events: u64,
+    old: &str,
+) -> Result<(Option<ResumeFault>, bool), AllocError> {
+    let mut out = Vec::new(alloc);
+    let fault = resume(rt, alloc, events, old, &mut out)?.err();
+    Ok((fault, out.is_empty()))
 }
 
 #[test]
@@ -135,18 +162,17 @@ fn a_class_goes_on_where_its_journal_stopped(rt: HostRuntime) -> Result<(), Fail
 
 #[test]
 fn what_is_no_journal_is_refused(rt: HostRuntime) -> Result<(), Fail> {
-    let mut out = Vec::new(rt.alloc());
-    let empty = resume(&rt, rt.alloc(), 100, "1 0 close\n", &mut out)?.err();
-    let long = resume(&rt, rt.alloc(), 1, NEW, &mut out)?.err();
+    let empty = refused(&rt, rt.alloc(), 100, "1 0 close\n")?;
+    let long = refused(&rt, rt.alloc(), 1, NEW)?;
+    let torn = refused(&rt, rt.alloc(), 100, LONG)?;
     let wanted = ResumeFault::Refused(AuditFault::Illegal(1, Denial::Empty));
-    assert_eq!(rt; (empty, out.is_empty()), (Some(wanted), true));
+    assert_eq!(rt; empty, (Some(wanted), true));
     assert_eq!(rt;
-        (long, out.is_empty()),
+        long,
         (Some(ResumeFault::Refused(AuditFault::Full(2))), true)
     );
-    let torn = resume(&rt, rt.alloc(), 100, LONG, &mut out)?.err();
     assert_eq!(rt;
-        (torn, out.is_empty()),
+        torn,
         (Some(ResumeFault::Refused(AuditFault::Torn(2))), true)
     );
     Ok(())

@@ -170,13 +170,18 @@ fn closed(alloc: Global) -> Result<String, AllocError> {
     Ok(text)
 }
 
-/// Whether each kind of reply but a look and a report is written, and whether a report of all nodes is.
-fn told_of_replies(alloc: Global) -> Result<(bool, bool), Fail> {
+/// A hall of that row.
+fn hall_of_256(alloc: Global) -> Result<Hall<NullSink>, Fail> {
     let file = row_of_256(alloc)?;
     let lab = read_lab(alloc, file.as_bytes())?;
-    let hall = &mut Hall::new(alloc, lab, NullSink::new())?;
-    let out = &mut Vec::with_capacity(alloc, REPLY_ROOM)?;
+    Ok(Hall::new(alloc, lab, NullSink::new())?)
+}
+
+/// Whether each kind of reply but a look and a report is written, and whether a report of all nodes is.
+fn told_of_replies(alloc: Global) -> Result<(bool, bool), Fail> {
     let closed = closed(alloc)?;
+    let out = &mut Vec::with_capacity(alloc, REPLY_ROOM)?;
+    let hall = &mut hall_of_256(alloc)?;
     let is_before = are_written(alloc, hall, out, BEFORE);
     let is_moved = are_moves_written(alloc, hall, out)?;
     let is_closed = is_written(alloc, hall, out, 2, r#"{"do":"close"}"#, closed.as_str());
