@@ -7,3 +7,4 @@ pub mod MarksLemmas
 pub mod AsksLemmas
 pub mod FatesLemmas
 pub mod StudentsLemmas
+pub mod NumbersLemmas

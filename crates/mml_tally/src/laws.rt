@@ -4,7 +4,7 @@ ghost use Rattle.mml_lab.specs.Labs.{LabValue, IsLab};
 ghost use Rattle.mml_lab.specs.Rosters.{RosterValue};
 ghost use Rattle.mml_board.specs.declared.event.Event.{Event};
 ghost use Rattle.mml_board.specs.World.{World, opening_of};
-ghost use Rattle.mml_board.specs.Runs.{is_legal_list};
+ghost use Rattle.mml_board.specs.Runs.{is_legal_list, world_of};
 ghost use Rattle.mml_convergence.specs.Potential.{sum_below};
 ghost use Rattle.mml_convergence.specs.Moves.{applied_over};
 ghost use Rattle.mml_tally.specs.declared.fate.Fate.{Fate};
@@ -33,6 +33,13 @@ pub fn students_apply_all_moves()
     ensures run { (lab : LabValue) (es : List Event) → IsLab lab →
         is_legal_list lab.roster (opening_of lab.network) es ≡ true →
         (run_of es).moves ≡ applied_over (opening_of lab.network) es }
+{}
+
+/// The closes, faults, links and cuts of which a run is told are as many as the configurations that it went
+/// on to: its number says so.
+pub fn changes_of_a_run_are_its_configurations()
+    ensures { (w : World) (es : List Event) → (world_of w es).number ≡ w.number
+        + ((run_of es).closes + (run_of es).faults + (run_of es).links + (run_of es).cuts) }
 {}
 
 /// Each granted move of a student was applied, or released, or dropped by a fault, a link or a cut, or is
