@@ -266,7 +266,7 @@ class Desk:
             what = f"journal: no line can be written to it; make room on the disk, then {self.go_on}"
         elif self.lab.events < labs.MOST_EVENTS:
             raised = f"raise `events` in {self.folder}/lab.toml, to at most {labs.MOST_EVENTS}"
-            what = f"full: {self.counted()}; {raised}, then {self.go_on}"
+            what = f"full: {self.counted()}; {raised}, then {self.go_on} --again"
         else:
             what = f"full: {self.counted()}, the most that a lab has; go on with a new lab"
         self.tell(f"nothing more is granted: {what}")

@@ -49,6 +49,7 @@ def add_words(words: argparse.ArgumentParser) -> None:
     """The words of `run`."""
     words.add_argument("labs", nargs="*", metavar="LAB", help="several run side by side, at a port each")
     words.add_argument("--resume", metavar="FOLDER", help="go on with the run of a folder, whose server has ended")
+    words.add_argument("--again", action="store_true", help="with --resume: open a run again that was ended, too; its audit, page and marks are made anew")
     words.add_argument("--port", type=port, default=4711, help="the students' port, or else the next that is free (4711)")
     words.add_argument("--into", default="runs", help="where the run's folder is made (runs)")
     words.add_argument("--serve", action="store_true",
@@ -93,6 +94,8 @@ def resumed(words: argparse.Namespace) -> int:
     record = Record.read(folder) or Record.lacking(folder, words.port)
     if record.goes_on():
         raise Fault(f"{folder}: its run goes on: ./class attach {folder}")
+    if record.ended and not words.again:
+        raise Fault(f"{folder}: this run was ended; --again opens it again, and makes its audit, page and marks anew")
     lab = labs.read(lab_file)
     may_stand_in(words, lab, lab_file)
     run = Running(folder, Path(record.lab), lab, words.close or closing.closing(record.close),
@@ -137,6 +140,8 @@ def run(words: argparse.Namespace) -> int:
     """Runs a lab, or several side by side, or goes on with a run."""
     if bool(words.labs) == bool(words.resume):
         raise Fault("run: a LAB or several, or --resume FOLDER")
+    if words.again and not words.resume:
+        raise Fault("run: --again is for --resume FOLDER")
     if words.resume:
         return resumed(words)
     return one(words) if len(words.labs) == 1 else side_by_side(words)

@@ -286,7 +286,7 @@ class Verified(Disputed):
         (folder / "run.json").write_text(json.dumps({**record, "lab": str(lab)}), encoding="utf-8")
         self.assertEqual(words("key", folder, "gus").returncode, 0)
         key = read(folder / "lab.toml").students["gus"]
-        again = Going(self, None, "run", "--resume", folder, "--close", "by-hand")
+        again = Going(self, None, "run", "--resume", folder, "--again", "--close", "by-hand")
         with Raw(again.port, "gus", key) as gus, Raw(again.port) as old:
             self.assertEqual(old.ask(hello("gus", KEYS["gus"])), UNKNOWN)
             self.assertEqual(gus.ask(b'{"do":"move","node":1,"rule":"update","at":%d, "note":"heron-31"}\n' % 1), GUARD)

@@ -222,12 +222,12 @@ class Resume(Cycle):
         (going.folder / "run.json").write_text(json.dumps({**record, "lab": str(self.room / "mine.toml")}), encoding="utf-8")
         done = words("key", going.folder, "gus")
         self.assertEqual((done.returncode, done.stderr), (0, ""))
-        self.assertIn(f"to go on with it: ./class run --resume {going.folder}", done.stdout)
+        self.assertIn(f"to go on with it: ./class run --resume {going.folder} --again\n", done.stdout)
         slip = Slip.read(self.room / "mine-slips/gus.slip")
         self.assertEqual((slip.port, slip.nodes), (going.port, (1, 4)))
         for file in (lab, self.room / "mine.toml"):
             self.assertEqual(read(file).students, {**KEYS, "gus": slip.key})
-        again = Going(self, None, "run", "--resume", going.folder, "--close", "by-hand")
+        again = Going(self, None, "run", "--resume", going.folder, "--again", "--close", "by-hand")
         with self.assertRaisesRegex(Denied, "unknown"):
             Client(again.port, "gus", KEYS["gus"])
         with Client.of(slip) as gus:
@@ -242,16 +242,37 @@ class Resume(Cycle):
             gus.move(gus.look(4))
         going.type("close")
         line = going.until("^nothing more is granted: full: events 2 of 2; ")
-        self.assertTrue(line.endswith(f"then ./class run --resume {going.folder}"))
+        self.assertTrue(line.endswith(f"then ./class run --resume {going.folder} --again"))
         self.assertEqual(going.ends(), 5, going.lines)
         kept = going.folder / "lab.toml"
         kept.write_text(kept.read_text(encoding="utf-8").replace("events = 2\n", "events = 100\n"), encoding="utf-8")
-        again = Going(self, None, "run", "--resume", going.folder, "--close", "by-hand")
+        again = Going(self, None, "run", "--resume", going.folder, "--again", "--close", "by-hand")
         again.type("fault 1 2 true")
         again.until("^configuration 2: fault 1 2 true; .*; events 3 of 100$")
         again.type("end\nend")
         self.assertEqual(again.ends(), 0, again.lines)
         self.assertEqual(self.whole(going.folder), 3)
+
+    def test_a_class_that_was_ended_is_opened_again_where_that_is_meant(self) -> None:
+        going = Going(self, CYCLE, "--close", "by-hand")
+        going.type("fault 1 2 true")
+        going.until("^configuration 1: ")
+        going.type("end\nend")
+        self.assertEqual(going.ends(), 0, going.lines)
+        folder = going.folder
+        before = {file.name: file.read_bytes() for file in folder.iterdir() if file.is_file()}
+        done = words("run", "--resume", folder)
+        self.assertEqual((done.returncode, done.stdout, done.stderr),
+                         (1, "", f"class: {folder}: this run was ended; --again opens it again, and makes its audit, page and marks anew\n"))
+        self.assertEqual({file.name: file.read_bytes() for file in folder.iterdir() if file.is_file()}, before)
+        again = Going(self, None, "run", "--resume", folder, "--again")
+        self.assertIn("gone on from configuration 1, events 1 of 1000", again.lines)
+        os.kill(again.server(), signal.SIGKILL)
+        self.assertEqual(again.ends(), 4, again.lines)
+        again = Going(self, None, "run", "--resume", folder)  # It is open, and its server died.
+        again.type("end\nend")
+        self.assertEqual(again.ends(), 0, again.lines)
+        self.assertEqual(words("run", CYCLE, "--again").stderr, "class: run: --again is for --resume FOLDER\n")
 
     def test_a_torn_line_and_another_lab(self) -> None:
         going = Going(self, CYCLE, "--close", "by-hand")
