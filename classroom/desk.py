@@ -232,6 +232,7 @@ class Desk:
         """Lets the house play for who is absent: one move at a time, where a step applies one."""
         if self.house is None or self.is_old or self.over:
             return
+        self.house.begun = self.heard is None or self.heard.came
         waiting = [node for node, _ in self.report.privileged if node not in self.book.chosen]
         is_central = self.closing.kind == "central"
         self.house.turn(waiting, len(waiting) if not is_central else 0 if self.book.chosen else 1)

@@ -65,6 +65,8 @@ class Heard:
         self.cut: list[str] = []
         self.shown: Counter[str] = Counter()  # whose connections were told
         self.step = 0
+        self.came = False  # Whether a student has greeted.
+        self.students = lab.without_house().students.keys()
         self.over = ""  # `full` or `journal`, where somebody was refused so: nothing more is granted
         self.due = self.last = time.monotonic()
 
@@ -78,6 +80,10 @@ class Heard:
         self.lines.clear()
         self.cut.clear()
         self.over = ""
+
+    def begin(self) -> None:
+        """Of a server that begins, those who came to the one before it haven't come."""
+        self.came = not self.students.isdisjoint(self.connected())
 
     def news(self, step: int) -> list[str]:
         """Lines of what is new since the last look; `step` is the place of the last step."""
@@ -116,6 +122,7 @@ class Heard:
             self.over = told["refuse"] if told.get("refuse") in OVER else self.over
             if told.get("ok") == "hello":
                 seat.name = told["who"]
+                self.came = self.came or seat.name in self.students
             elif told.get("deny") == "unknown":
                 self.guess(entry.asked_name())
             elif entry.seat != DESK and who != self.lab.teacher[0]:

@@ -21,7 +21,7 @@ from classroom.desk import Desk
 from classroom.ending import finish
 from classroom.folders import Process, Record, title
 from classroom.heard import Heard
-from classroom.house import House
+from classroom.house import WAITS, House
 from classroom.statuses import FAILED, WARNED
 from classroom.teller import Teller
 from classroom.typed import HELP, HUNG, LEAVE, NOW, Terminal, Typed, read_lines
@@ -81,6 +81,10 @@ def open_desk(it: server.Server, run: Running) -> Desk:
         desk.house = House(run.lab, it.port, run.stand_in, run.tell)
     if run.goes_on:
         desk.catch_up()
+    if desk.heard and it.child is not None:
+        desk.heard.begin()
+    if desk.house and desk.heard and not desk.heard.came and desk.house.waits():
+        run.tell(WAITS)
     return desk
 
 

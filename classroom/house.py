@@ -11,6 +11,7 @@ from classroom.program import Fault
 
 LIMIT = 5.0  # seconds that an answer may take
 AGAIN = 2.0  # seconds after which it comes again where it wasn't let in
+WAITS = "the house waits for a first student"
 HOW = "./class new .. --stand-in makes a lab in which each node has it"
 
 
@@ -31,6 +32,7 @@ class House:
         self.students = {name: self.held.intersection(nodes) for name in lab.without_house().students if (nodes := lab.nodes_of(name))}
         self.played: set[str] = set()
         self.since: dict[int, float] = {}  # when the class began to wait for a node
+        self.begun = False  # Whether somebody came for whom it could be too early.
         self.again = 0.0
         self.told_busy = False
 
@@ -56,7 +58,11 @@ class House:
         """For whom it plays."""
         names = ", ".join(name for name in self.students if name in self.played) or "nobody"
         late = f", and each node that has waited for {self.seconds:g} seconds" if self.seconds is not None else ""
-        return f"the house plays for {names}{late}"
+        return f"the house plays for {names}{late}{f'; {WAITS}' if self.waits() else ''}"
+
+    def waits(self) -> bool:
+        """Whether it would play by itself, and doesn't yet: nobody has come who could have played."""
+        return self.seconds is not None and not self.begun
 
     def note(self, event: Event) -> None:
         """A node whose move was granted isn't waited for."""
@@ -64,8 +70,10 @@ class House:
             self.since.pop(event.nodes[0], None)
 
     def due(self, waiting: Collection[int], now: float) -> list[int]:
-        """Those that are its to play now, of the nodes for which the class waits; who has waited longest comes first."""
-        self.since = {node: self.since.get(node, now) for node in waiting if node in self.held}
+        """Those that are its to play now, of the nodes for which the class waits; who has waited longest comes first.
+        Before a first student has come no time passes."""
+        before = self.since if self.begun else {}
+        self.since = {node: before.get(node, now) for node in waiting if node in self.held}
         at_once = set[int]().union(*(self.students[name] for name in self.played))
         late = [node for node, since in self.since.items() if self.seconds is not None and now - since >= self.seconds]
         return sorted(at_once.intersection(self.since).union(late), key=lambda node: (self.since[node], node))

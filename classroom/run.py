@@ -36,7 +36,8 @@ def add_desk_words(words: argparse.ArgumentParser) -> None:
     """The words of who holds a desk."""
     words.add_argument("--daemon", "--close", dest="close", type=closing.mode, metavar="D", help=f"{FORMS} (when-idle:2)")
     words.add_argument("--stand-in", type=standing, metavar="20s",
-                       help="let the house ask for a node that has been privileged so long without its student's move")
+                       help="let the house ask for a node that has been privileged so long without its student's move, from when a first "
+                            "student has greeted")
     words.add_argument("--until", choices=["stable"], help="end the run where no node is privileged")
     words.add_argument("--page", type=port, nargs="?", const=4780, metavar="PORT",
                        help="serve a page of the run, for the projector, at that port or the next free one (4780)")
@@ -49,7 +50,8 @@ def add_words(words: argparse.ArgumentParser) -> None:
     """The words of `run`."""
     words.add_argument("labs", nargs="*", metavar="LAB", help="several run side by side, at a port each")
     words.add_argument("--resume", metavar="FOLDER", help="go on with the run of a folder, whose server has ended")
-    words.add_argument("--again", action="store_true", help="with --resume: open a run again that was ended, too; its audit, page and marks are made anew")
+    words.add_argument("--again", action="store_true",
+                       help="with --resume: open a run again that was ended, too; its audit, page and marks are made anew")
     words.add_argument("--port", type=port, default=4711, help="the students' port, or else the next that is free (4711)")
     words.add_argument("--into", default="runs", help="where the run's folder is made (runs)")
     words.add_argument("--serve", action="store_true",

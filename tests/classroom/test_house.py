@@ -9,6 +9,7 @@ import random
 import re
 import subprocess
 import sys
+import time
 import unittest
 import urllib.request
 from pathlib import Path
@@ -34,8 +35,14 @@ class Alone(unittest.TestCase):
         self.lab = lab
         self.told: list[str] = []
 
+    def house(self, seconds: float | None) -> House:
+        """One that plays, since somebody has come."""
+        house = House(self.lab, 1, seconds, self.told.append)
+        house.begun = True
+        return house
+
     def test_a_node_waits_its_time_and_a_move_begins_it_anew(self) -> None:
-        house = House(self.lab, 1, 20, self.told.append)
+        house = self.house(20)
         self.assertEqual(house.due([1, 2], 100), [])
         self.assertEqual(house.due([1, 2, 3], 119.9), [])
         self.assertEqual(house.due([2, 3, 1], 120), [1, 2])
@@ -44,7 +51,19 @@ class Alone(unittest.TestCase):
         self.assertEqual(house.due([1, 3], 122), [])
         self.assertEqual(house.due([1, 2, 3], 139.9), [3])
         self.assertEqual(house.due([1, 2, 3], 141), [3, 1])
-        self.assertEqual(House(self.lab, 1, None, self.told.append).due([1, 2, 3], 1e9), [])
+        self.assertEqual(self.house(None).due([1, 2, 3], 1e9), [])
+
+    def test_no_time_passes_before_a_first_student_has_come(self) -> None:
+        house = House(self.lab, 1, 20, self.told.append)
+        self.assertEqual((house.due([1, 2], 100), house.due([1, 2], 200)), ([], []))
+        self.assertTrue(house.told().endswith("; the house waits for a first student"))
+        house.play("gus")
+        self.assertEqual(house.due([1, 2], 201), [1])
+        house.stop("gus")
+        house.begun = True
+        self.assertEqual((house.due([1, 2], 202), house.due([1, 2], 220.9)), ([], []))  # It was looked at 201 before he came.
+        self.assertEqual(house.due([1, 2], 221), [1, 2])
+        self.assertFalse(house.waits())
 
     def test_a_student_is_played_at_once_until_it_is_stopped(self) -> None:
         house = House(self.lab, 1, None, self.told.append)
@@ -139,6 +158,25 @@ class Standing(InRoom):
         rows = {row["Name"]: int(row["granted"]) for row in csv.DictReader(io.StringIO(table.stdout))}
         self.assertEqual((list(rows), rows["House"], rows["Gus Roy"]), (["Ana Lima", "Gus Roy", "House", "Eva Sol"], 0, 0))
 
+    def greet(self, going: Going, name: str = "ana-lima") -> None:
+        """A student comes, and goes without a move."""
+        with Client(going.port, name, self.lab.students[name]):
+            pass
+
+    def test_a_class_to_which_nobody_has_come_yet_is_left_to_its_students(self) -> None:
+        going = Going(self, self.made, "--daemon", "synchronous", "--stand-in", "0.2s", "--until", "stable")
+        self.assertIn("the house waits for a first student", going.lines)
+        with Client(going.port, *self.lab.teacher):
+            going.until("^connected: teacher$")  # Who is no student.
+        time.sleep(1)
+        going.type("who")
+        going.until("^the house plays for nobody, and each node that has waited for 0.2 seconds; the house waits for a first student$")
+        self.assertEqual((going.folder / "journal").read_bytes(), b"")
+        self.greet(going)
+        self.assertEqual(going.ends(), 0, going.lines)
+        self.assertIn("stable, and so the run is ended", going.lines)
+        self.assertEqual(set(self.grants(going.folder)), {HOUSE})
+
     def test_a_student_is_played_and_left_alone_again(self) -> None:
         going = Going(self, self.made, "--daemon", "by-hand")
         going.type("play gus-roy")
@@ -176,6 +214,7 @@ class Standing(InRoom):
         going = Going(self, self.made, "--stand-in", "0.1s", "--daemon", "when-idle:0.3", "--page", str(random.randint(20000, 50000)))
         address = going.until("^page http").removeprefix("page ")
         acts = going.until("^page to act http").removeprefix("page to act ")
+        self.greet(going)
         going.type("play gus-roy\nshake all 2")
         going.until("^stable (again )?after ")
         for each in Path("/proc").iterdir():
@@ -198,9 +237,12 @@ class Standing(InRoom):
 
     def test_it_goes_on_after_the_server_died(self) -> None:
         going = Going(self, self.made, "--stand-in", "0.3s", "--daemon", "by-hand")
+        self.greet(going)
         os.kill(going.server(), 9)
         self.assertEqual(going.ends(), 4, going.lines)
         again = Going(self, None, "run", "--resume", going.folder, "--daemon", "synchronous")
+        self.assertIn("the house waits for a first student", again.lines)  # Everyone greets again.
+        self.greet(again)
         again.until("^stable after ")
         again.type("end")
         self.assertEqual(again.ends(), 0, again.lines)
