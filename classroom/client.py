@@ -55,6 +55,10 @@ LAST = {
 }
 
 
+class Over(Closed):
+    """The connection has ended with the class: the server said so."""
+
+
 class Silent(Closed):
     """The connection has ended without a word, or an answer didn't come in time."""
 
@@ -289,7 +293,7 @@ class Client:
         if "deny" in reply:
             raise Denied(reply["clause"], reply["deny"], reply["text"], reply.get("at"))
         if reply.get("refuse") in LAST:
-            raise Closed(LAST[reply["refuse"]])
+            raise (Over if reply["refuse"] == "over" else Closed)(LAST[reply["refuse"]])
         if "refuse" in reply:
             raise Refused(reply["refuse"])
         return reply
@@ -379,7 +383,8 @@ def reply_of(line: bytes) -> dict[str, Any]:
     return reply
 
 
-# Why a program stops, with its exit status; 0 is the run's end, 1 wrong words.
+# Why a program stops, with its exit status; 0 is the run's end, 1 wrong words, 4 no server.
+LOST, LOST_SO = 7, "the connection was lost: start again"
 STOPS = {
     "unknown": (2, "name and key don't match: take both from your slip"),
     "not-owner": (3, "a node isn't yours: correct the nodes by your slip"),
@@ -401,7 +406,9 @@ def stop(error: Exception) -> tuple[int, str]:
         return 1, str(error)
     if isinstance(error, NoServer):
         return 4, f"{error}; your teacher tells the port"
-    return (0, f"the run is over, or the connection was lost: {error}") if isinstance(error, Closed) else (3, str(error))
+    if isinstance(error, Over):
+        return 0, "the run is over"
+    return (LOST, f"{LOST_SO} ({error})") if isinstance(error, Closed) else (3, str(error))
 
 
 def goes_on(error: Denied | Refused) -> bool:

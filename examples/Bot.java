@@ -25,7 +25,7 @@ public class Bot {
     static String ask(String line) {
         requests.print(line + "\n");
         if (!replies.hasNext() && line.contains("\"hello\"")) stop(4, "no server answers a hello at that port; your teacher tells it");
-        String reply = replies.hasNext() ? replies.next() : stop(0, "the run is over, or the connection was lost");
+        String reply = replies.hasNext() ? replies.next() : stop(7, "the connection was lost: start again");
         return switch (find("\"(?:deny|refuse)\":\"([a-z-]+)\"", reply)) {
             case "unknown" -> stop(2, "name and key don't match: take both from your slip");
             case "not-owner" -> stop(3, "a node isn't yours: correct the nodes by your slip");

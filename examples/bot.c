@@ -22,7 +22,7 @@ static const char *STOPS[][2] = {
 static void hear(void) {
     int is_lost = fflush(server) || !fgets(reply, sizeof reply, server);
     if (is_lost && !is_greeted) STOP(4, "no server answers a hello at that port; your teacher tells it");
-    if (is_lost) STOP(0, "the run is over, or the connection was lost");
+    if (is_lost) STOP(7, "the connection was lost: start again");
     int is_no = !strncmp(reply, "{\"refuse\"", 9) || strstr(reply, "\"deny\"");
     for (size_t i = 0; is_no && i < sizeof STOPS / sizeof *STOPS; i++)
         if (strstr(reply, STOPS[i][0])) STOP(STOPS[i][1][0] - '0', "%s", STOPS[i][1] + 2);

@@ -12,7 +12,7 @@ const STOPS = {
   journal: [6, "nothing is granted any longer: tell your teacher"],
   over: [0, "the run is over"],
 };
-const NOBODY = "no server answers a hello at that port; your teacher tells it";
+const [NOBODY, LOST] = ["no server answers a hello at that port; your teacher tells it", "the connection was lost: start again"];
 const wait = (seconds) => new Promise((done) => setTimeout(done, 1000 * seconds));
 
 function stop(status, sentence) {
@@ -31,7 +31,7 @@ async function connect(port) {
   return async (request) => {
     socket.write(JSON.stringify(request) + "\n");
     const line = await lines.next();
-    if (line.done) stop(request.do === "hello" ? 4 : 0, request.do === "hello" ? NOBODY : "the run is over, or the connection was lost");
+    if (line.done) stop(...(request.do === "hello" ? [4, NOBODY] : [7, LOST]));
     if (!line.value.startsWith("{")) stop(4, `at port ${port} is another program; ${hint}`);
     const reply = JSON.parse(line.value);
     const why = STOPS[reply.deny ?? reply.refuse];

@@ -28,7 +28,7 @@ fn ask(server: &mut BufReader<TcpStream>, line: &str) -> String {
     let sent = server.get_mut().write_all(format!("{line}\n").as_bytes());
     let is_lost = sent.is_err() || server.read_line(&mut reply).unwrap_or(0) == 0;
     if is_lost && line.contains("hello") { stop(4, "no server answers a hello at that port; your teacher tells it") }
-    if is_lost { stop(0, "the run is over, or the connection was lost") }
+    if is_lost { stop(7, "the connection was lost: start again") }
     let no = at(&reply, "deny").or(at(&reply, "refuse"));
     STOPS.iter().filter(|it| it.0.split(' ').any(|word| no == Some(word))).for_each(|it| stop(it.1, it.2));
     reply

@@ -1,9 +1,12 @@
 """The example bots in other languages than Python, each where its compiler or interpreter is on this machine."""
 from __future__ import annotations
 
+import os
 import shutil
+import signal
 import socket
 import subprocess
+import sys
 import tempfile
 import unittest
 from functools import cache
@@ -71,6 +74,24 @@ class Bots(Cycle):
                                  (3, slip.replace("nodes 1", "nodes 2")), (4, slip.replace(f"port {going.port}", f"port {none}"))):
                 said = subprocess.run([*command, self.file("bad.slip", text)], capture_output=True, text=True, check=False, timeout=LIMIT)
                 self.assertEqual((said.returncode, said.stderr.count("\n")), (status, 1), (name, text, said.stderr))
+
+
+    def test_a_lost_connection_is_no_end_of_the_run(self) -> None:
+        for how, status, why in (("the run", 0, "the run is over"), ("the server", 7, "the connection was lost: start again")):
+            going = Going(self, CYCLE, "--close", "by-hand")
+            playing = []
+            for name, command in {"bot.py": (sys.executable, EXAMPLES / "bot.py"), **bots()}.items():
+                playing.append((name, subprocess.Popen([*command, self.slip(going.port, "gus")], stdin=subprocess.DEVNULL,
+                                                       stdout=subprocess.DEVNULL, stderr=subprocess.PIPE, text=True)))
+                going.until("^connected: gus")
+            if how == "the run":
+                going.type("end\nend")
+            else:
+                os.kill(going.server(), signal.SIGKILL)
+            self.assertEqual(going.ends(), 0 if how == "the run" else 4, going.lines)
+            for name, bot in playing:
+                said = bot.communicate(timeout=LIMIT)[1]
+                self.assertEqual((bot.returncode, said.partition(": ")[2].partition(" (")[0].rstrip()), (status, why), (name, said))
 
 
 class Graded(InRoom):

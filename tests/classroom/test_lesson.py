@@ -53,13 +53,15 @@ class Lesson(InRoom):
         """A student's slip."""
         return self.room / "maths-slips" / f"{name}.slip"
 
-    def are_told_of_the_end(self, bots: list[subprocess.Popen[str]]) -> None:
-        """Wants that bots ended where their server or its grants did, and said so, one that came too late for it too."""
+    def are_told_of_the_end(self, bots: list[subprocess.Popen[str]], *statuses: int) -> None:
+        """Wants that bots ended with one of these where their server or its grants did, and said so, one that came too late
+        for it too."""
         for bot in bots:
             said = bot.communicate(timeout=LIMIT)[1]
-            why = {0: "the run is over, or the connection was lost", 4: f"no server at port {self.port}",
-                   6: "nothing is granted any longer: tell your teacher"}
-            self.assertIn(why.get(bot.returncode, "another status"), said)
+            why = {0: "the run is over\n", 4: f"no server at port {self.port}", 6: "nothing is granted any longer: tell your teacher",
+                   7: "the connection was lost: start again"}
+            self.assertIn(bot.returncode, statuses, said)
+            self.assertIn(why[bot.returncode], said)
 
     def journal(self, folder: Path) -> list[str]:
         """The whole lines of its journal."""
@@ -104,7 +106,7 @@ class Lesson(InRoom):
         os.kill(going.server(), signal.SIGKILL)
         self.assertEqual(going.ends(), 4, going.lines)
         self.assertIn(f"to go on: ./class run --resume {going.folder}", going.lines)
-        self.are_told_of_the_end(bots)
+        self.are_told_of_the_end(bots, 4, 7)
         return going.folder
 
     def full_disk(self, folder: Path) -> None:
@@ -118,7 +120,7 @@ class Lesson(InRoom):
         going.type("\n".join(["fault 11 null true"] * 60))
         going.until("^nothing more is granted: journal: no line can be written to it; make room on the disk, then ./class run --resume ")
         self.assertEqual(going.ends(), 4, going.lines)
-        self.are_told_of_the_end(bots)
+        self.are_told_of_the_end(bots, 0, 4, 6)
 
     def second_half(self, folder: Path) -> None:
         """Goes on in a terminal, which is closed; the desk is taken, and all end where the network is stable."""
@@ -147,7 +149,7 @@ class Lesson(InRoom):
         going.type("end")
         self.assertEqual(going.ends(), 0, going.lines)
         self.assertFalse(Process.of(record.server.number) == record.server)
-        self.are_told_of_the_end(bots)
+        self.are_told_of_the_end(bots, 0, 4)
 
     def told(self, folder: Path, line: str) -> None:
         """Waits until the run has told a line, with its hour and minute."""

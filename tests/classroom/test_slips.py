@@ -201,7 +201,7 @@ class Fake(InRoom):
         for command in BOTS:
             said = call(*command, self.slip(self.answers(b'{"refuse":"over"}\n')))
             self.assertEqual((said.returncode, said.stdout), (0, ""), said.stderr)
-            self.assertRegex(said.stderr, r"^\w+(\.py)?: the run is over.*\n$")
+            self.assertRegex(said.stderr, r"^\w+(\.py)?: the run is over\n$")
 
     def test_why_a_conversation_by_hand_has_ended(self) -> None:
         for word, why in LAST.items():
@@ -313,7 +313,7 @@ class Talking(Cycle):
         going.type("end\nend")
         self.assertEqual(going.ends(), 0, going.lines)
         for bot in bots:
-            self.assertRegex(bot.communicate(timeout=LIMIT)[1], r"^\w+(\.py)?: the run is over, or the connection was lost.*\n$")
+            self.assertRegex(bot.communicate(timeout=LIMIT)[1], r"^\w+(\.py)?: the run is over\n$")
             self.assertEqual(bot.returncode, 0)
 
     def test_by_hand(self) -> None:
