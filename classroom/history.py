@@ -19,11 +19,12 @@ from classroom.page import page_of
 from classroom.present import Book
 from classroom.printable import printable
 from classroom.program import Fault
-from classroom.record import CUT, Entry, Reader, seats
+from classroom.record import CUT, ENDED, Entry, Reader, seats
 from classroom.vouched import Vouched, vouched
 
 HEADS = ["place", "seat", "session", "asked", "reply", "denied", "event"]
-MARKS = {CUT: "the rest of this connection isn't recorded", ".": "this connection ended"}
+MARKS = {CUT: "the rest of this connection isn't recorded", ENDED: "this connection ended"}
+GOES_ON = "this connection goes on"
 FORMULA = ("=", "+", "-", "@", "\t", "\r")  # with which a table's cell would be one
 Session = list[Entry]
 
@@ -58,7 +59,7 @@ def sessions(part: Vouched) -> Iterator[Session]:
         said: Session = []
         for entry in Reader().take(file.read_bytes()):
             said.append(entry)
-            if entry.mark == ".":
+            if entry.mark == ENDED:
                 yield said
                 said = []
         if said:
@@ -79,8 +80,16 @@ def rows_of(parts: list[Vouched], name: str, hider: Hider) -> list[Row]:
         for said in sessions(part):
             if is_of(said, name):
                 number += 1
-                found += [row_of(entry, number, hider) for entry in said]
+                found += [*(row_of(entry, number, hider) for entry in said), *left_open(part, said, number)]
     return sorted(found, key=lambda row: row.place)
+
+
+def left_open(part: Vouched, said: Session, session: int) -> list[Row]:
+    """What is told of a session without an end, which stands after all events so far: whether it goes on."""
+    if said[-1].mark == ENDED or said[-1].mark == CUT and not part.goes_on:
+        return []
+    events = part.journal.read_bytes().count(b"\n")
+    return [Row(events, said[-1].seat, session, event=GOES_ON if part.goes_on else MARKS[CUT])]
 
 
 def row_of(entry: Entry, session: int, hider: Hider) -> Row:

@@ -7,7 +7,7 @@ import json
 import re
 import sys
 from collections import Counter
-from dataclasses import dataclass
+from dataclasses import dataclass, replace
 from pathlib import Path
 from typing import Any
 
@@ -119,8 +119,9 @@ def recorded(journal: Path) -> list[Recorded]:
 
 
 def asked_in(part: Vouched) -> Asked | None:
-    """What the lines of a record asked, if it passes."""
-    return tally.of(part.lab, part.journal, record=part.copy).asked if part.status == 0 else None
+    """What the lines of a record asked, if it passes; where its server hasn't ended it counts as one that isn't whole."""
+    asked = tally.of(part.lab, part.journal, record=part.copy).asked if part.status == 0 else None
+    return None if asked is None else replace(asked, whole=asked.whole and part.has_ended)
 
 
 def refusal(journal: Path, error: str) -> str:

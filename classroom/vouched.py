@@ -1,13 +1,15 @@
 """The records of a run's folder as `verify` vouches for them: copies of whole entries, beside the journal so far."""
 from __future__ import annotations
 
+import re
 import tempfile
 from collections.abc import Iterator
 from contextlib import contextmanager
 from dataclasses import dataclass
 from pathlib import Path
 
-from classroom.program import host_call
+from classroom.folders import Record
+from classroom.program import Answer, host_call
 from classroom.record import CUT, ENDED, begun, json_object, kept, seats
 from classroom.server import LISTENING
 
@@ -22,6 +24,8 @@ class Vouched:
     copy: Path
     status: int
     line: str
+    has_ended: bool = True  # Whether its server ended as it should.
+    goes_on: bool = False  # Whether its server does, and so its open sessions.
 
     @property
     def lab(self) -> Path:
@@ -65,36 +69,62 @@ def granted(sign: bytes, reply: bytes) -> int:
     return place if isinstance(place, int) else 0
 
 
-def copied(record: Path, into: Path, journal: bytes, is_whole: bool) -> None:
-    """A copy of a record up to so many events. Where its server hasn't ended, each seat is marked as one that may lack
-    entries, as the host itself does when it goes on."""
+def goes_on(run: Path) -> bool:
+    """Whether the server of a folder lives."""
+    record = Record.read(run)
+    return record is not None and record.server.lives()
+
+
+def copied(record: Path, into: Path, journal: bytes) -> None:
+    """A copy of a record up to so many events."""
     events = journal.count(b"\n")
     for file in seats(record):
-        seat = file.name.partition(".")[0]
-        marks = "" if is_whole else "".join(f"{seat} {events} {mark}\n" for mark in (CUT, ENDED))
-        (into / file.name).write_bytes(front(file.read_bytes(), events) + marks.encode())
+        (into / file.name).write_bytes(front(file.read_bytes(), events))
     for name in ("lab", "begun"):
         (into / name).write_bytes((record / name).read_bytes())
     (into / "journal").write_bytes(journal)
 
 
+def is_open(seat: Path) -> bool:
+    """Whether a seat's file ends within a session."""
+    last = seat.read_bytes().rpartition(b"\n")[0].rpartition(b"\n")[2]
+    return last != b"" and not re.fullmatch(rb"\d+ \d+ \.", last)
+
+
+def mark(into: Path) -> None:
+    """Marks a copy as one that may lack entries, by a session that isn't whole, in a seat where none is open if there is one."""
+    events = (into / "journal").read_bytes().count(b"\n")
+    for file in sorted(seats(into), key=is_open)[:1]:
+        seat = file.name.partition(".")[0]
+        with file.open("a", encoding="ascii") as it:
+            it.writelines(f"{seat} {events} {sign}\n" for sign in (CUT, ENDED))
+
+
 @contextmanager
 def vouched(run: Path) -> Iterator[list[Vouched]]:
     """The records of a folder, from the oldest on, in copies that nobody else reads and that go away."""
-    is_whole = has_ended(run)
+    is_whole, lives = has_ended(run), goes_on(run)
     lines = (run / "journal").read_bytes().split(b"\n")[:-1]
     records = kept(run)
     ends = [*map(begun, records[1:]), len(lines)]
     with tempfile.TemporaryDirectory() as room:
         yield [vouch(record, Path(room) / str(number), b"".join(line + b"\n" for line in lines[:end]),
-                     is_whole or record != records[-1])
+                     is_whole or record != records[-1], lives and record == records[-1])
                for number, (record, end) in enumerate(zip(records, ends))]
 
 
-def vouch(record: Path, into: Path, journal: bytes, is_whole: bool) -> Vouched:
-    """A record's copy, verified."""
+def vouch(record: Path, into: Path, journal: bytes, is_whole: bool, lives: bool) -> Vouched:
+    """A record's copy, verified; where its server hasn't ended and an entry is lacking, as one that isn't whole."""
     into.mkdir()
-    copied(record, into, journal, is_whole)
-    answer = host_call("verify", into / "lab", into / "journal", into)
+    copied(record, into, journal)
+    answer = verified(into)
+    if answer.status and not is_whole:
+        mark(into)
+        answer = verified(into)
     line = (answer.output or answer.error).strip()
-    return Vouched(record, into, answer.status, line if is_whole else f"{line}: {UNENDED}")
+    return Vouched(record, into, answer.status, line if is_whole else f"{line}: {UNENDED}", is_whole, not is_whole and lives)
+
+
+def verified(copy: Path) -> Answer:
+    """What the program says of a copy."""
+    return host_call("verify", copy / "lab", copy / "journal", copy)

@@ -14,7 +14,7 @@ from pathlib import Path
 from types import TracebackType
 
 from classroom.lab import read
-from classroom.program import Fault, host
+from classroom.program import Fault, host, host_call
 from classroom.record import begun
 from classroom.tally import DENIED as COLUMNS
 from classroom.vouched import front
@@ -136,7 +136,9 @@ class Told(Disputed):
     def test_a_student_is_answered(self) -> None:
         going = self.disputed()
         now = self.history(going.folder)
-        self.assertIn(", not whole: the server hasn't ended", now.splitlines()[0])
+        verdict = host_call("verify", going.folder / "lab.toml", going.folder / "journal", going.folder / "record").output.strip()
+        self.assertIn(f"{verdict}: the server hasn't ended", now.splitlines()[0])
+        self.assertFalse(json.loads(words("mark", going.folder, "--json").stdout)["runs"][0]["whole"])
         folder = self.ended(going)
         first, _, rest = self.history(folder).partition("\n")
         self.assertRegex(first, r"^.*/record: ok: \d+ sessions, \d+ lines, 3 events$")
@@ -145,6 +147,21 @@ class Told(Disputed):
         other = self.history(folder, name="hana")
         self.assertEqual(other.splitlines()[1:], ["  event 3: configuration 1: 4 (gus) update, 7 (jonas) abandonment"])
         self.assertIn('> {"do": "close"}', self.history(folder, name="tess"))
+
+    def test_a_connection_goes_on(self) -> None:
+        going = Going(self, CYCLE, "--close", "by-hand")
+        with Raw(going.port, "gus") as gus:
+            gus.ask(MOVE % 0)
+            going.until("^connected: gus$")
+            now = self.history(going.folder)
+            self.assertNotIn("ended\n", now)
+            self.assertNotIn("isn't recorded", now)
+            self.assertRegex(now, r"(?m)^  after 1, seat \d+: this connection goes on$")
+            os.kill(going.server(), signal.SIGKILL)
+            self.assertEqual(going.ends(), 4, going.lines)
+        now = self.history(going.folder)
+        self.assertNotIn("goes on", now)
+        self.assertRegex(now, r"(?m)^  after 1, seat \d+: the rest of this connection isn't recorded$")
 
     def test_a_table(self) -> None:
         folder = self.ended(self.disputed())
