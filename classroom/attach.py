@@ -11,7 +11,7 @@ from classroom import lab as labs
 from classroom.closing import closing
 from classroom.folders import Record, of_folder
 from classroom.holding import Running, to_the_end
-from classroom.program import Fault
+from classroom.program import CLASS, Fault
 from classroom.run import add_desk_words, may_stand_in
 from classroom.server import Server
 from classroom.teller import Teller
@@ -46,7 +46,7 @@ def attach(words: argparse.Namespace) -> int:
     lab_file, _ = of_folder(folder)
     record = Record.read(folder)
     if record is None or not record.server.lives():
-        raise Fault(f"{folder}: its server has ended: ./class run --resume {folder}")
+        raise Fault(f"{folder}: its server has ended: {CLASS} run --resume {folder}")
     lab = labs.read(lab_file)
     may_stand_in(words, lab, lab_file)
     free(folder, record)

@@ -14,6 +14,7 @@ from typing import IO
 from classroom.client import Closed
 from classroom.closing import Closing, Striker
 from classroom.desk import Desk
+from classroom.program import CLASS
 from classroom.server import Server
 from classroom.typed import HUNG, LEAVE, NOW, Typed
 
@@ -30,7 +31,7 @@ def pause(how: Closing) -> float:
 
 
 AGAIN_ROOM = ("the disk has room again: if moves are refused as `journal`, which a line that wasn't written brings about, "
-              "end, and go on with ./class run --resume")
+              f"end, and go on with {CLASS} run --resume")
 
 
 def told_of(left: int, why: str) -> tuple[str, str]:
@@ -54,7 +55,7 @@ def limit_of(process: int) -> int | None:
 
 def told_of_limit(left: int, folder: Path) -> tuple[str, str]:
     """The same of a journal that may grow by so many bytes, since a file of its server has a limit."""
-    how = f"(ulimit -f): end, and go on with ./class run --resume {folder} where there is no such limit"
+    how = f"(ulimit -f): end, and go on with {CLASS} run --resume {folder} where there is no such limit"
     if left >= LITTLE:
         return "", ""
     if left >= LINE:

@@ -17,7 +17,7 @@ from classroom.heard import Heard
 from classroom.house import HOW, House
 from classroom.journal import EDITS, Event, events
 from classroom.present import Book
-from classroom.program import Fault
+from classroom.program import CLASS, Fault
 from classroom.shaking import Registers, broken, pairs_of, shaken
 from classroom.typed import EOF, helped, understood
 from classroom.watch import Watch
@@ -58,7 +58,7 @@ class Desk:
         self.lab, self.client, self.tell, self.closing = lab, client, tell, how
         self.shown = lab.without_house()
         self.folder = journal.parent
-        self.go_on = f"./class run --resume {self.folder}"
+        self.go_on = f"{CLASS} run --resume {self.folder}"
         self.journal = journal.open("rb")
         self.book = Book(list(self.shown.students))
         self.rest = b""

@@ -22,6 +22,7 @@ from classroom.ending import finish
 from classroom.folders import Process, Record, title
 from classroom.heard import Heard
 from classroom.house import WAITS, House
+from classroom.program import CLASS
 from classroom.statuses import FAILED, WARNED
 from classroom.teller import Teller
 from classroom.typed import HELP, HUNG, LEAVE, NOW, Terminal, Typed, read_lines
@@ -66,7 +67,7 @@ class Running:
         if record is not None:
             replace(record, left=True).write(self.folder)
         self.tell.around = str
-        self.tell(f"the terminal went away, and the run goes on: ./class attach {self.folder} takes it")
+        self.tell(f"the terminal went away, and the run goes on: {CLASS} attach {self.folder} takes it")
 
 
 def open_desk(it: server.Server, run: Running) -> Desk:
@@ -135,8 +136,8 @@ def hold(run: Running, it: server.Server) -> int | None:
     except (Closed, Refused, Denied) as error:
         run.tell(f"the server: {error}")
         ended = it.ended()
-        status = it.stop()
-        run.tell(f"the server {'has ended by itself' if ended else 'was ended'}, status {status}: {it.printed()}")
+        it.stop()
+        run.tell(f"the server {'has ended by itself' if ended else 'was ended'}, {it.how()}")
         return FAILED
     with contextlib.closing(Room(run.folder, it.process.number)) as room:
         why = attend(desk, it, run.until == "stable", run.typed, room, run.hung)
@@ -158,11 +159,11 @@ def take_leave(it: server.Server, desk: Desk, why: str, run: Running) -> int | N
     if not it.hosted and why != "died":
         it.stop()
     elif not waits(it, run):
-        tell(f"the server is left to itself, process {it.process.number}: while it goes on, ./class attach {run.folder} "
-             "takes its desk; then ./class mark tells the marks")
+        tell(f"the server is left to itself, process {it.process.number}: while it goes on, {CLASS} attach {run.folder} "
+             f"takes its desk; then {CLASS} mark tells the marks")
         return None
     elif why == "died" or it.status() != 0 and not it.lacks_record():
-        tell(f"the server has ended{' by itself' if why == 'died' else ''}, status {it.status()}: {it.printed()}")
+        tell(f"the server has ended{' by itself' if why == 'died' and it.status() >= 0 else ''}, {it.how()}")
         tell(f"to go on: {desk.go_on}")
         return FAILED
     for line in it.printed().splitlines():

@@ -10,7 +10,7 @@ from typing import Any
 
 from classroom.lists import Person
 from classroom.printable import printable
-from classroom.program import Fault, call
+from classroom.program import CLASS, Fault, call
 
 MOST_EVENTS = 100_000
 MOST_SESSIONS = 16
@@ -101,7 +101,7 @@ def read(path: Path) -> Lab:
     if answer.status == 4:
         raise Fault(unread(path, answer.error), 4)
     if answer.status != 0:
-        raise Fault(f"{path}: {answer.error}; `./class check {path}` says more", answer.status)
+        raise Fault(f"{path}: {answer.error}; `{CLASS} check {path}` says more", answer.status)
     it = document(path)
     nodes = [
         Node(each["id"], [each["owner"]] if "owner" in each else each["owners"], each.get("p"), each.get("m", False))

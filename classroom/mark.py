@@ -17,7 +17,7 @@ from classroom.comeback import recoveries
 from classroom.journal import RULES, events, split
 from classroom.printable import printable
 from classroom.program import Fault
-from classroom.statuses import WARNED
+from classroom.statuses import LAB, WARNED
 from classroom.tally import DENIED, Asked
 from classroom.vouched import Vouched, vouched
 
@@ -99,6 +99,8 @@ def marked(lab_file: Path, journal: Path) -> Run:
     try:
         told = tally.of(lab_file, journal)
     except Fault as fault:
+        if fault.status == LAB:
+            raise Fault(f"{lab_file}: {fault}" + "; a lab is named before its journals" * (journal.name != "journal"), LAB) from None
         raise Fault(refusal(journal, str(fault)), fault.status) from None
     lab = labs.read(lab_file)
     found = split(journal.read_text(encoding="ascii"))

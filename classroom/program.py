@@ -2,7 +2,9 @@
 from __future__ import annotations
 
 import os
+import shlex
 import subprocess
+import sys
 from collections.abc import Callable
 from dataclasses import dataclass
 from pathlib import Path
@@ -11,6 +13,10 @@ from typing import TypeVar
 PORTS = 50  # of which the first free one is taken
 Opened = TypeVar("Opened")
 TOP = Path(__file__).resolve().parent.parent
+
+
+# How this was called, for a shell: what is to be typed next begins with it.
+CLASS = shlex.quote(sys.argv[0]) if Path(sys.argv[0]).name == "class" else "./class"
 
 
 class Fault(Exception):

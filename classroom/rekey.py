@@ -11,7 +11,7 @@ from classroom import lab as labs
 from classroom import new, places, slips
 from classroom.client import NoSlip, Slip
 from classroom.folders import Record, of_folder
-from classroom.program import Fault
+from classroom.program import CLASS, Fault
 
 FIRST_PORT = 4711
 
@@ -83,7 +83,7 @@ def rekey(words: argparse.Namespace) -> int:
     if record is not None:
         goes_on = record.goes_on()
         print(f"{'the run that goes on still takes the old one: end it, then' if goes_on else 'to go on with it:'} "
-              f"./class run --resume {words.lab}{' --again' if goes_on or record.ended else ''}")
+              f"{CLASS} run --resume {words.lab}{' --again' if goes_on or record.ended else ''}")
     return 0
 
 

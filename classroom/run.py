@@ -12,7 +12,7 @@ from classroom.daemons import FORMS
 from classroom.folders import Record, going, new_folder, of_folder
 from classroom.grade import seconds
 from classroom.holding import Running, to_the_end
-from classroom.program import Fault
+from classroom.program import CLASS, Fault
 from classroom.several import side_by_side
 from classroom.teller import Teller
 
@@ -70,6 +70,7 @@ def one(words: argparse.Namespace) -> int:
     if not words.beside:
         refuse_beside(into, lab_file)
     folder = new_folder(into, lab_file)
+    (folder / "lab.toml").touch(0o600)  # It has keys.
     (folder / "lab.toml").write_bytes(lab_file.read_bytes())
     run = Running(folder, lab_file, lab, words.close or CLOSING, words.until, words.page, words.typed, Teller(folder),
                   words.play, by_number=words.serve, stand_in=words.stand_in)
@@ -95,7 +96,7 @@ def resumed(words: argparse.Namespace) -> int:
     lab_file, _ = of_folder(folder)
     record = Record.read(folder) or Record.lacking(folder, words.port)
     if record.goes_on():
-        raise Fault(f"{folder}: its run goes on: ./class attach {folder}")
+        raise Fault(f"{folder}: its run goes on: {CLASS} attach {folder}")
     if record.ended and not words.again:
         raise Fault(f"{folder}: this run was ended; --again opens it again, and makes its audit, page and marks anew")
     lab = labs.read(lab_file)
@@ -114,10 +115,10 @@ def refuse_beside(into: Path, lab_file: Path) -> None:
         return
     folder, record = found
     if not record.goes_on():
-        how = f"./class run --resume {folder} goes on with it; --beside starts another class"
+        how = f"{CLASS} run --resume {folder} goes on with it; --beside starts another class"
         raise Fault(f"the last run of {lab_file} didn't end: {how}")
     where = f"a run of {lab_file} goes on at port {record.port}, folder {folder}"
-    how = "" if record.run.lives() and not record.left else f"./class attach {folder} takes it; "
+    how = "" if record.run.lives() and not record.left else f"{CLASS} attach {folder} takes it; "
     raise Fault(f"{where}; {how}--beside starts another class")
 
 

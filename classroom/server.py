@@ -49,6 +49,12 @@ class Server:
             return self.child.wait()
         return 0 if self.printed().rpartition("\n")[2].startswith("done: ") else 4
 
+    def how(self) -> str:
+        """How it ended, with what it printed, if anything."""
+        status, printed = self.status(), self.printed()
+        told = f"status {status}" if status >= 0 else f"by {signal.Signals(-status).name}"
+        return f"{told}: {printed}" if printed else told
+
     def lacks_record(self) -> bool:
         """Whether it ended as it should, but its record didn't take all."""
         lines = self.printed().splitlines()

@@ -8,6 +8,7 @@ import pty
 import random
 import re
 import select
+import shlex
 import signal
 import subprocess
 import sys
@@ -24,6 +25,7 @@ from classroom.program import TOP, call
 EXAMPLES = TOP / "examples"
 CYCLE = EXAMPLES / "cycle.toml"
 KEYS = {"gus": "heron-31", "hana": "swift-86", "ines": "finch-05", "jonas": "plover-48"}
+CLASS = shlex.quote(str(TOP / "class"))  # as the tests call it
 LIMIT = 300  # seconds after which something hangs; a slow machine needs a small part of it
 
 

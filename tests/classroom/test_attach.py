@@ -11,7 +11,7 @@ from pathlib import Path
 from classroom.client import Client
 from classroom.folders import Process
 from classroom.program import host
-from tests.classroom.help import CYCLE, KEYS, LIMIT, Cycle, Going, InTerminal, stop, words
+from tests.classroom.help import CLASS, CYCLE, KEYS, LIMIT, Cycle, Going, InTerminal, stop, words
 
 
 @unittest.skipUnless(host(), "not tried: no host is built")
@@ -76,14 +76,14 @@ class Attach(Cycle):
         done = words("run", CYCLE, "--into", self.room / "runs")
         self.assertEqual(done.returncode, 1)
         self.assertEqual(done.stderr, f"class: a run of {CYCLE} goes on at port {going.port}, folder {going.folder}; "
-                                      f"./class attach {going.folder} takes it; --beside starts another class\n")
+                                      f"{CLASS} attach {going.folder} takes it; --beside starts another class\n")
 
     def test_a_terminal_that_goes_away(self) -> None:
         terminal = InTerminal(self)
         terminal.type(b"fault 1 2 true\n", b" 0 of at most 35 moves")
         os.close(terminal.ours)
         folder = next((self.room / "runs").iterdir())
-        self.until_told(folder, f"the terminal went away, and the run goes on: ./class attach {folder} takes it\n")
+        self.until_told(folder, f"the terminal went away, and the run goes on: {CLASS} attach {folder} takes it\n")
         self.assertIsNone(terminal.process.poll())
         again = Going(self, None, "attach", folder)
         terminal.process.wait(LIMIT)
@@ -128,7 +128,7 @@ class Attach(Cycle):
         going.type("end\nend")
         self.assertEqual(going.ends(), 0, going.lines)
         done = words("attach", going.folder)
-        self.assertEqual((done.returncode, done.stderr), (1, f"class: {going.folder}: its server has ended: ./class run --resume {going.folder}\n"))
+        self.assertEqual((done.returncode, done.stderr), (1, f"class: {going.folder}: its server has ended: {CLASS} run --resume {going.folder}\n"))
         self.assertEqual(words("attach", self.room / "none").returncode, 1)
 
 

@@ -16,7 +16,7 @@ from pathlib import Path
 from classroom import grade, suites
 from classroom.bots import Bot
 from classroom.program import TOP
-from tests.classroom.help import EXAMPLES, LIMIT, InRoom, words
+from tests.classroom.help import CLASS, EXAMPLES, LIMIT, InRoom, words
 
 FAULTY = TOP / "tests/classroom/bots/faulty.py"
 SLEEP = b"98765.25"
@@ -151,7 +151,7 @@ class Folders(InRoom):
         rows = (
             ("none", 4, "none: No such file or directory; it is a folder of labs, NAME.toml"),
             ("empty", 2, "empty: no labs; they are files NAME.toml, which ./class new makes"),
-            ("wrong", 2, "one.toml: lab: not a TOML document; `./class check"),
+            ("wrong", 2, f"one.toml: lab: not a TOML document; `{CLASS} check"),
         )
         for name, status, why in rows:
             done = words("grade", EXAMPLES / "bot.py", "--labs", self.room / name, "--into", self.room / "grades")

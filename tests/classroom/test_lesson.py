@@ -17,7 +17,7 @@ from pathlib import Path
 from classroom.folders import Process, Record
 from classroom.lab import Lab, read
 from classroom.program import TOP, call, host
-from tests.classroom.help import LIMIT, Going, InRoom, InTerminal, words
+from tests.classroom.help import CLASS, LIMIT, Going, InRoom, InTerminal, words
 
 BOT = TOP / "examples/bot.py"
 NAMES = ("Zoë,Müller", "Jonas,Ek", "Ana,Lima", "Gus,Roy", "Ida,Berg", "Tim,Ode", "Eva,Sol", "Bo,Dahl", "Kim,Vo", "Pia,Rot", "Leo,Wolf", "Uma,Das")
@@ -105,7 +105,7 @@ class Lesson(InRoom):
         going.until("^configuration ")
         os.kill(going.server(), signal.SIGKILL)
         self.assertEqual(going.ends(), 4, going.lines)
-        self.assertIn(f"to go on: ./class run --resume {going.folder}", going.lines)
+        self.assertIn(f"to go on: {CLASS} run --resume {going.folder}", going.lines)
         self.are_told_of_the_end(bots, 4, 7)
         return going.folder
 
@@ -118,7 +118,7 @@ class Lesson(InRoom):
         self.assertEqual(going.port, self.port)
         bots = self.bots(list(self.lab.students))
         going.type("\n".join(["fault 11 null true"] * 60))
-        going.until("^nothing more is granted: journal: no line can be written to it; make room on the disk, then ./class run --resume ")
+        going.until("^nothing more is granted: journal: no line can be written to it; make room on the disk, then .*class run --resume ")
         self.assertEqual(going.ends(), 4, going.lines)
         self.are_told_of_the_end(bots, 0, 4, 6)
 
@@ -128,7 +128,7 @@ class Lesson(InRoom):
         terminal.type(b"fault 3 null true\n", b": fault 3 - true; ")
         bots = self.bots(list(self.lab.students))
         os.close(terminal.ours)
-        self.told(folder, f"the terminal went away, and the run goes on: ./class attach {folder} takes it")
+        self.told(folder, f"the terminal went away, and the run goes on: {CLASS} attach {folder} takes it")
         self.assertIsNone(terminal.process.poll())
         record = Record.read(folder)
         assert record is not None

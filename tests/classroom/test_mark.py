@@ -123,6 +123,9 @@ class Mark(InRoom):
         done = words("mark", lab, self.file("journal", "1 0 grant jonas 11 seduction\n"))
         self.assertEqual(done.returncode, 3)
         self.assertIn("audit: line 1: illegal, not-owner: 1 0 grant jonas 11 seduction", done.stderr)
+        done = words("mark", self.file("journal", "1 0 close\n"), lab)
+        self.assertEqual((done.returncode, done.stderr),
+                         (2, f"class: {self.room / 'journal'}: lab: not a TOML document; a lab is named before its journals\n"))
         folder = self.room / "empty"
         folder.mkdir()
         self.assertEqual(words("mark", folder).returncode, 1)

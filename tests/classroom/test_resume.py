@@ -17,7 +17,7 @@ from classroom.client import Client, Closed, Denied, Refused, Slip
 from classroom.folders import Process
 from classroom.lab import Node, read
 from classroom.program import call, host
-from tests.classroom.help import CYCLE, KEYS, Cycle, Going, words
+from tests.classroom.help import CLASS, CYCLE, KEYS, Cycle, Going, words
 
 BOTH = ("host", "run and host")
 KILLS = 10  # of each kind at random points; hosts alone are killed more often by tests/resume
@@ -81,7 +81,7 @@ class Resume(Cycle):
         os.kill(server.number, signal.SIGKILL)
         if what == "host":
             self.assertEqual(going.ends(), 4, going.lines)
-            self.assertIn(f"to go on: ./class run --resume {going.folder}", going.lines)
+            self.assertIn(f"to go on: {CLASS} run --resume {going.folder}", going.lines)
         while server.lives():
             pass
 
@@ -117,7 +117,7 @@ class Resume(Cycle):
                     bot.wait()
                 offered = words("run", CYCLE, "--into", self.room / "runs")
                 self.assertEqual((offered.returncode, offered.stderr),
-                                 (1, f"class: the last run of {CYCLE} didn't end: ./class run --resume {going.folder} goes on with it; "
+                                 (1, f"class: the last run of {CYCLE} didn't end: {CLASS} run --resume {going.folder} goes on with it; "
                                      "--beside starts another class\n"))
                 before = (going.folder / "journal").read_bytes()
                 again = Going(self, None, "run", "--resume", going.folder)
@@ -180,7 +180,7 @@ class Resume(Cycle):
         going.type("\n".join(["fault 1 2 true"] * 110))
         line = going.until("^nothing more is granted: ")
         self.assertEqual(line, "nothing more is granted: journal: no line can be written to it; make room on the disk, then "
-                               f"./class run --resume {going.folder}")
+                               f"{CLASS} run --resume {going.folder}")
         self.assertEqual(going.ends(), 4, going.lines)
         self.assertFalse(any("by itself" in line for line in going.lines), going.lines)
         events = (going.folder / "journal").read_bytes().count(b"\n")
@@ -222,7 +222,7 @@ class Resume(Cycle):
         (going.folder / "run.json").write_text(json.dumps({**record, "lab": str(self.room / "mine.toml")}), encoding="utf-8")
         done = words("key", going.folder, "gus")
         self.assertEqual((done.returncode, done.stderr), (0, ""))
-        self.assertIn(f"to go on with it: ./class run --resume {going.folder} --again\n", done.stdout)
+        self.assertIn(f"to go on with it: {CLASS} run --resume {going.folder} --again\n", done.stdout)
         slip = Slip.read(self.room / "mine-slips/gus.slip")
         self.assertEqual((slip.port, slip.nodes), (going.port, (1, 4)))
         for file in (lab, self.room / "mine.toml"):
@@ -242,7 +242,7 @@ class Resume(Cycle):
             gus.move(gus.look(4))
         going.type("close")
         line = going.until("^nothing more is granted: full: events 2 of 2; ")
-        self.assertTrue(line.endswith(f"then ./class run --resume {going.folder} --again"))
+        self.assertTrue(line.endswith(f"then {CLASS} run --resume {going.folder} --again"))
         self.assertEqual(going.ends(), 5, going.lines)
         kept = going.folder / "lab.toml"
         kept.write_text(kept.read_text(encoding="utf-8").replace("events = 2\n", "events = 100\n"), encoding="utf-8")
@@ -290,7 +290,7 @@ class Resume(Cycle):
         kept.write_text(text, encoding="utf-8")
         again = Going(self, None, "run", "--resume", going.folder)
         self.assertIn("gone on from configuration 1, events 1 of 1000", again.lines)
-        self.assertRegex(words("run", "--resume", going.folder).stderr, "its run goes on: ./class attach ")
+        self.assertRegex(words("run", "--resume", going.folder).stderr, f"its run goes on: {CLASS} attach ")
         again.type("end\nend")
         self.assertEqual(again.ends(), 0, again.lines)
         self.assertEqual(call("audit", kept, going.folder / "journal").status, 0)
