@@ -3,7 +3,7 @@ from __future__ import annotations
 
 import json
 import re
-from dataclasses import asdict, dataclass
+from dataclasses import asdict, dataclass, field
 from datetime import datetime
 from pathlib import Path
 
@@ -92,6 +92,8 @@ class Record:
     left: bool = False  # Whether its terminal went away.
     ended: bool = False  # Whether it ended as it should.
     stand_in: float | None = None  # seconds after which the house plays
+    looks: str | None = None  # The token of the page's address to look at.
+    played: list[str] = field(default_factory=list)  # for whom the house plays at once
 
     @staticmethod
     def read(folder: Path) -> Record | None:

@@ -10,6 +10,7 @@ import threading
 from collections.abc import Callable
 from dataclasses import dataclass, field, replace
 from pathlib import Path
+from typing import Any
 
 from classroom import by_hand, projector, record, server
 from classroom import lab as labs
@@ -47,6 +48,8 @@ class Running:
     goes_on: bool = False  # Whether it had begun before.
     by_number: bool = False  # Whether its server is one for a number of connections.
     stand_in: float | None = None  # seconds after which the house plays
+    looks: str | None = None  # The token of the page's address to look at, where it had one before.
+    played: list[str] = field(default_factory=list)  # for whom the house plays at once
     typed: Typed = field(default_factory=queue.SimpleQueue)
     pages: projector.Pages | None = None
     hands: by_hand.Hands | None = None
@@ -54,8 +57,15 @@ class Running:
 
     def record(self, it: server.Server) -> Record:
         """What its folder keeps while it goes on."""
-        return Record(str(self.lab_file.resolve()), it.port, it.desk, self.page, spelled(self.close), self.until,
-                      Process.of(os.getpid()), it.process, self.play, stand_in=self.stand_in)
+        page, looks = (self.pages.server_port, self.pages.looks) if self.pages else (self.page, self.looks)
+        return Record(str(self.lab_file.resolve()), it.port, it.desk, page, spelled(self.close), self.until,
+                      Process.of(os.getpid()), it.process, self.play, stand_in=self.stand_in, looks=looks, played=self.played)
+
+    def keep(self, **other: Any) -> None:
+        """Keeps something of it otherwise from now on."""
+        record = Record.read(self.folder)
+        if record is not None:
+            replace(record, **other).write(self.folder)
 
     def title(self) -> str:
         """What its page is called."""
@@ -63,9 +73,7 @@ class Running:
 
     def hung(self) -> None:
         """Goes on without its terminal."""
-        record = Record.read(self.folder)
-        if record is not None:
-            replace(record, left=True).write(self.folder)
+        self.keep(left=True)
         self.tell.around = str
         self.tell(f"the terminal went away, and the run goes on: {CLASS} attach {self.folder} takes it")
 
@@ -79,13 +87,15 @@ def open_desk(it: server.Server, run: Running) -> Desk:
     desk.connected = Connected(it.port, run.lab.sessions - 1, desk.client.own_port(), names, not recorded)
     desk.heard = Heard(run.folder / record.FOLDER, run.lab) if recorded else None
     if run.lab.held() and it.hosted:
-        desk.house = House(run.lab, it.port, run.stand_in, run.tell)
+        desk.house = House(run.lab, it.port, run.stand_in, run.tell, run.played, lambda names: run.keep(played=names))
     if run.goes_on:
         desk.catch_up()
     if desk.heard and it.child is not None:
         desk.heard.begin()
     if desk.house and desk.heard and not desk.heard.came and desk.house.waits():
         run.tell(WAITS)
+    if desk.house and desk.house.played:
+        run.tell(desk.house.told())
     return desk
 
 
@@ -192,16 +202,14 @@ def to_the_end(run: Running, start: Callable[[], server.Server]) -> int:
     """Holds the desk of a server that is started or found, and leaves marks and page in the folder."""
     try:
         if run.page is not None:
-            run.pages = projector.open_pages(run.page, run.title(), run.lab, run.typed)
+            run.pages = projector.open_pages(run.page, run.title(), run.lab, run.typed, run.looks)
         if run.play is not None:
             run.hands = by_hand.open_hands(run.play, run.title(), run.lab)
         obey_signals(run.typed)
         status = hold(run, start())
         if status is None:
             return FAILED
-        record = Record.read(run.folder)
-        if record is not None:
-            replace(record, ended=status != FAILED).write(run.folder)
+        run.keep(ended=status != FAILED)
         return finish(run.folder, run.tell) or status
     finally:
         for it in (run.hands, run.pages):

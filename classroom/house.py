@@ -24,13 +24,15 @@ def wanted(lab: Lab, file: object) -> None:
 class House:
     """Asks for moves of nodes for which the class waits, as a look shows them. It takes a seat for a moment each time."""
 
-    def __init__(self, lab: Lab, port: int, seconds: float | None, tell: Callable[[str], None]) -> None:
-        """It plays by itself where a node has waited for so many seconds, if any."""
+    def __init__(self, lab: Lab, port: int, seconds: float | None, tell: Callable[[str], None], played: Collection[str] = (),
+                 keep: Callable[[list[str]], None] = lambda names: None) -> None:
+        """It plays by itself where a node has waited for so many seconds, if any; and at once for those that are named, which
+        are kept where they become others."""
         self.port, self.seconds, self.tell = port, seconds, tell
         self.key = lab.students[HOUSE]
         self.held = set(lab.held())
         self.students = {name: self.held.intersection(nodes) for name in lab.without_house().students if (nodes := lab.nodes_of(name))}
-        self.played: set[str] = set()
+        self.played, self.keep = {name for name in played if name in self.students}, keep
         self.since: dict[int, float] = {}  # when the class began to wait for a node
         self.begun = False  # Whether somebody came for whom it could be too early.
         self.again = 0.0
@@ -39,6 +41,7 @@ class House:
     def play(self, name: str) -> str:
         """Plays a student's nodes from now on, without waiting; says so."""
         self.played.add(self.student(name))
+        self.keep(sorted(self.played))
         return f"the house plays for {name}: {', '.join(map(str, sorted(self.students[name])))}"
 
     def stop(self, name: str) -> str:
@@ -46,6 +49,7 @@ class House:
         if self.student(name) not in self.played:
             raise ValueError(f"the house doesn't play for {name}")
         self.played.discard(name)
+        self.keep(sorted(self.played))
         return f"the house doesn't play for {name} any longer"
 
     def student(self, name: str) -> str:

@@ -31,10 +31,10 @@ class Pages(Web):
     """Serves the pages of one run. An address has a token: one to look at, and one to act at, which may be changed for
     another."""
 
-    def __init__(self, port: int, title: str, lab: Lab, typed: queue.SimpleQueue[str]) -> None:
+    def __init__(self, port: int, title: str, lab: Lab, typed: queue.SimpleQueue[str], looks: str | None = None) -> None:
         super().__init__(port, Page, title)
         self.lab, self.typed = lab, typed
-        self.looks, self.acts = secrets.token_urlsafe(16), secrets.token_urlsafe(16)
+        self.looks, self.acts = looks or secrets.token_urlsafe(16), secrets.token_urlsafe(16)
         self.drawing = Drawing(lab.without_house(), lay_out((node.id for node in lab.nodes), lab.links))
         self.present: Present | None = None
         self.told = 0  # how many pages are told the news
@@ -140,6 +140,6 @@ def message(rows: Frames, present: Present, before: Now | None, now: Now) -> dic
     }
 
 
-def open_pages(port: int, title: str, lab: Lab, typed: queue.SimpleQueue[str]) -> Pages:
-    """At that port, or the next that is free."""
-    return opened(port, lambda number: Pages(number, title, lab, typed))
+def open_pages(port: int, title: str, lab: Lab, typed: queue.SimpleQueue[str], looks: str | None = None) -> Pages:
+    """At that port, or the next that is free; with the token of the address to look at, where it had one before."""
+    return opened(port, lambda number: Pages(number, title, lab, typed, looks))

@@ -103,7 +103,8 @@ def resumed(words: argparse.Namespace) -> int:
     may_stand_in(words, lab, lab_file)
     run = Running(folder, Path(record.lab), lab, words.close or closing.closing(record.close),
                   words.until or record.until, words.page or record.page, words.typed, Teller(folder),
-                  words.play or record.play, goes_on=True, stand_in=words.stand_in or record.stand_in)
+                  words.play or record.play, goes_on=True, stand_in=words.stand_in or record.stand_in,
+                  looks=record.looks, played=record.played)
     before = record
     return to_the_end(run, lambda: begin(run, before.port, before))
 

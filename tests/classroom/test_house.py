@@ -238,9 +238,14 @@ class Standing(InRoom):
     def test_it_goes_on_after_the_server_died(self) -> None:
         going = Going(self, self.made, "--stand-in", "0.3s", "--daemon", "by-hand")
         self.greet(going)
+        for line, told in (("play eva-sol", "for eva-sol: "), ("play gus-roy", "for gus-roy: "), ("stop eva-sol", "doesn't play for eva-sol")):
+            going.type(line)
+            going.until(f"^the house .*{told}")
         os.kill(going.server(), 9)
         self.assertEqual(going.ends(), 4, going.lines)
         again = Going(self, None, "run", "--resume", going.folder, "--daemon", "synchronous")
+        self.assertIn("the house plays for gus-roy, and each node that has waited for 0.3 seconds; the house waits for a first student",
+                      again.lines)
         self.assertIn("the house waits for a first student", again.lines)  # Everyone greets again.
         self.greet(again)
         again.until("^stable after ")
