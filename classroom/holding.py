@@ -25,7 +25,7 @@ from classroom.heard import Heard
 from classroom.house import WAITS, House
 from classroom.program import CLASS
 from classroom.statuses import FAILED, WARNED
-from classroom.teller import Teller
+from classroom.teller import Teller, is_private
 from classroom.typed import HELP, HUNG, LEAVE, NOW, Terminal, Typed, read_lines
 
 LATE = 10.0  # seconds after which it is told that the server's end is waited for
@@ -99,17 +99,24 @@ def open_desk(it: server.Server, run: Running) -> Desk:
     return desk
 
 
-def show(pages: projector.Pages, desk: Desk, tell: Teller) -> None:
-    """Opens the page, and tells it what is told from now on. Where to act is told to the terminal alone."""
+def show(pages: projector.Pages, desk: Desk, tell: Teller, typed: bool) -> None:
+    """Opens the page, and tells it what is told from now on. Where to act is told to the terminal alone, or to a program that
+    types in its place."""
     watch = desk.watched()
+
+    def act() -> None:
+        if is_private(typed):
+            tell.alone(f"page to act {pages.address_to_act}")
+        else:
+            tell("page to act: its address is told at a terminal alone")
 
     def renew() -> None:
         pages.renew()
-        tell.alone(f"page to act {pages.address_to_act}")
+        act()
 
     desk.another_page = renew
     tell(f"page {pages.address}")
-    tell.alone(f"page to act {pages.address_to_act}")
+    act()
     tell.also.append(lambda line: watch.present.put(line=line))
     pages.show(watch.present, tell)
 
@@ -139,7 +146,7 @@ def hold(run: Running, it: server.Server) -> int | None:
         desk = open_desk(it, run)
         listen(run)
         if run.pages is not None:
-            show(run.pages, desk, run.tell)
+            show(run.pages, desk, run.tell, run.takes_lines)
         if run.hands is not None:
             run.hands.show(it.port, run.tell)
             run.tell(f"page to play {run.hands.address}")

@@ -13,6 +13,7 @@ from pathlib import Path
 from classroom import lab as labs
 from classroom.closing import spelled
 from classroom.program import TOP, Fault
+from classroom.teller import is_private
 from classroom.typed import EOF, HELP, Terminal, read_lines
 
 SIGNALS = (signal.SIGINT, signal.SIGTERM)
@@ -41,6 +42,7 @@ class Several:
     def __init__(self, words: argparse.Namespace) -> None:
         self.labs = [Path(lab) for lab in words.labs]
         self.names = [lab.stem for lab in self.labs]
+        self.typed = words.typed
         self.children = [prefixed(words, index) for index in range(len(words.labs))]
         self.terminal: Terminal | None = None
         self.turn = threading.Lock()
@@ -54,9 +56,10 @@ class Several:
                 pass  # The terminal went away; each run keeps its lines.
 
     def follow(self, index: int) -> None:
-        """Shows a run's lines with the lab's name before them."""
+        """Shows a run's lines with the lab's name before them; where its page acts at a terminal alone."""
+        hidden = ("words: ",) if is_private(self.typed) else ("words: ", "page to act http")
         for line in self.children[index].stdout or ():
-            if not line.startswith("words: "):
+            if not line.startswith(hidden):
                 self.say(f"{self.names[index]}: {line}")
 
     def hand_on(self, line: str) -> None:

@@ -2,12 +2,21 @@
 from __future__ import annotations
 
 import os
+import stat
 import sys
 import time
 from collections.abc import Callable
 from pathlib import Path
 
 from classroom.printable import printable
+
+
+def is_private(typed: bool) -> bool:
+    """Whether who reads what is printed is who types: at a terminal, or a program that holds both ends. A file has other readers."""
+    try:
+        return sys.stdout.isatty() or typed and not stat.S_ISREG(os.fstat(sys.stdout.fileno()).st_mode)
+    except (AttributeError, OSError, ValueError):  # It is closed.
+        return False
 
 
 class Teller:

@@ -4,6 +4,7 @@ from __future__ import annotations
 import contextlib
 import io
 import os
+import random
 import re
 import resource
 import signal
@@ -14,6 +15,8 @@ import threading
 import time
 import unittest
 import unittest.mock
+import urllib.error
+import urllib.request
 from pathlib import Path
 
 from classroom import server
@@ -210,6 +213,42 @@ class Late(Cycle):
             os.kill(number, signal.SIGCONT)
         self.assertEqual(going.ends(), 0, going.lines)
         self.assertFalse(any("by itself" in line for line in going.lines), going.lines)
+
+    def test_where_a_page_acts_is_told_to_who_types_alone(self) -> None:
+        for more in ((), ("--typed",)):
+            told = self.room / "told"
+            with told.open("w", encoding="utf-8") as it:
+                run = subprocess.Popen(
+                    [sys.executable, EXAMPLES.parent / "class", "run", CYCLE, "--close", "by-hand", "--into", self.room / "runs", "--beside",
+                     "--port", str(random.randint(20000, 50000)), "--page", str(random.randint(20000, 50000)), *more],
+                    stdin=subprocess.DEVNULL, stdout=it, stderr=it,
+                )
+            try:
+                end = time.monotonic() + LIMIT
+                while "\npage to act" not in told.read_text(encoding="utf-8"):
+                    self.assertLess(time.monotonic(), end)
+                    time.sleep(0.05)
+            finally:
+                run.send_signal(signal.SIGTERM)
+                self.assertEqual(run.wait(LIMIT), 0)
+            text = told.read_text(encoding="utf-8")
+            self.assertIn("\npage to act: its address is told at a terminal alone\n", text)
+            self.assertEqual(text.count("http://"), 1, text)
+
+    def test_the_address_to_look_at_stays_and_where_it_acts_does_not(self) -> None:
+        going = Going(self, CYCLE, "--close", "by-hand", "--page", str(random.randint(20000, 50000)))
+        looks, acts = (going.until(f"^{word} http").removeprefix(f"{word} ") for word in ("page", "page to act"))
+        os.kill(going.server(), signal.SIGKILL)
+        self.assertEqual(going.ends(), 4, going.lines)
+        self.assertIn("the server has ended, by SIGKILL", going.lines)
+        self.assertNotIn(acts.split("/")[3], (going.folder / "run.json").read_text(encoding="utf-8"))
+        self.assertEqual({(going.folder / name).stat().st_mode & 0o777 for name in ("lab.toml", "journal.lab", "journal")}, {0o600})
+        again = Going(self, None, "run", "--resume", going.folder)
+        self.assertEqual(again.until("^page http"), f"page {looks}")
+        with urllib.request.urlopen(looks, timeout=LIMIT) as it:
+            self.assertEqual(it.status, 200)
+        with self.assertRaises(urllib.error.HTTPError):
+            urllib.request.urlopen(acts, timeout=LIMIT)
 
     def test_a_second_run_says_where_the_first_is(self) -> None:
         going = Going(self, CYCLE, "--close", "by-hand")
