@@ -207,6 +207,14 @@ def warnings(path: Path) -> Iterator[str]:
         yield from found
 
 
+def sized(path: Path, told: str) -> str:
+    """The program's line of a lab that it takes, with the house told apart where the lab is read here too."""
+    try:
+        return labs.counted(told, labs.read(path))
+    except Fault:
+        return told
+
+
 def check(words: argparse.Namespace) -> int:
     """Status 0, 5 for warnings alone, and the program's own where it refuses the lab."""
     path = Path(words.lab)
@@ -215,7 +223,7 @@ def check(words: argparse.Namespace) -> int:
         found = refused(path, answer.error) if answer.status == 2 else [labs.unread(path, answer.error)]
         print(*map(printable, found), sep="\n")
         return answer.status
-    print(answer.output.strip())
+    print(sized(path, answer.output.strip()))
     warned = list(warnings(path))
     print(*(f"warning: {printable(each)}\n" for each in warned), sep="", end="")
     return WARNED if warned else 0

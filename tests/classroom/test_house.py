@@ -97,6 +97,7 @@ class Standing(InRoom):
         self.made = self.room / "maths.toml"
         done = words("new", self.made, "--students", self.list, "--nodes", "8", "--start", "random", "--seed", "3", "--stand-in")
         self.assertEqual((done.returncode, done.stderr), (0, ""))
+        self.told = done.stdout
         self.lab: Lab = read(self.made)
 
     def bot(self, going: Going, name: str) -> None:
@@ -129,6 +130,8 @@ class Standing(InRoom):
         self.assertEqual(printed.count("The house may play a node that waits for you."), 4)
         checked = words("check", self.made)
         self.assertEqual((checked.returncode, checked.stdout.count("warning")), (0, 0), checked.stdout)
+        self.assertEqual(checked.stdout.splitlines()[0], "ok: 8 nodes, 8 links, 4 students and the house")
+        self.assertIn("toml: 8 nodes, 8 links, 4 students and the house; slips: ", self.told)
 
     def test_the_house_plays_for_who_is_absent_and_nobody_is_marked_by_it(self) -> None:
         going = Going(self, self.made, "--daemon", "synchronous", "--stand-in", "0.5s")
