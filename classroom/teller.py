@@ -12,9 +12,11 @@ from classroom.printable import printable
 
 
 def is_private(typed: bool) -> bool:
-    """Whether who reads what is printed is who types: at a terminal, or a program that holds both ends. A file has other readers."""
+    """Whether who reads what is printed may act: at a terminal, or a program that holds both ends; or where a service prints,
+    which is the system's journal. A file has other readers."""
     try:
-        return sys.stdout.isatty() or typed and not stat.S_ISREG(os.fstat(sys.stdout.fileno()).st_mode)
+        mode = os.fstat(sys.stdout.fileno()).st_mode
+        return sys.stdout.isatty() or stat.S_ISSOCK(mode) or typed and not stat.S_ISREG(mode)
     except (AttributeError, OSError, ValueError):  # It is closed.
         return False
 
