@@ -22,7 +22,7 @@ from classroom.tally import DENIED, Asked
 from classroom.vouched import Vouched, vouched
 
 UNTOLD = (
-    "Not in a journal: what was asked for and denied, which a record has; when a line was written, and who used a name.",
+    "Not in a journal: when a line was written, and who used a name. What was denied is counted from the record.",
     "A granted move is applied by the next close; a release takes it back, and a fault, link or cut drops it.",
 )
 
