@@ -77,10 +77,11 @@ class Bots(Cycle):
 
 
     def test_a_lost_connection_is_no_end_of_the_run(self) -> None:
+        every: dict[str, Command] = {"bot.py": (sys.executable, EXAMPLES / "bot.py"), **bots()}
         for how, status, why in (("the run", 0, "the run is over"), ("the server", 7, "the connection was lost: start again")):
             going = Going(self, CYCLE, "--close", "by-hand")
             playing = []
-            for name, command in {"bot.py": (sys.executable, EXAMPLES / "bot.py"), **bots()}.items():
+            for name, command in every.items():
                 playing.append((name, subprocess.Popen([*command, self.slip(going.port, "gus")], stdin=subprocess.DEVNULL,
                                                        stdout=subprocess.DEVNULL, stderr=subprocess.PIPE, text=True)))
                 going.until("^connected: gus")
