@@ -110,14 +110,15 @@ class Lesson(InRoom):
         return going.folder
 
     def full_disk(self, folder: Path) -> None:
-        """Goes on, until the disk takes no more."""
-        most = (folder / "journal").stat().st_size // 1024 + 1
+        """Goes on, until the disk takes no more; so far each file has room, the record of a desk that closed in vain too."""
+        journal = folder / "journal"
+        most = max(file.stat().st_size for file in (journal, *(folder / "record").iterdir())) // 1024 + 1
         limited = self.file("host", f'#!/bin/bash\ntrap "" XFSZ\nulimit -f {most}\nexec "{host()}" "$@"\n')
         limited.chmod(0o755)
         going = Going(self, None, "run", "--resume", folder, MML_HOST=str(limited))
         self.assertEqual(going.port, self.port)
         bots = self.bots(list(self.lab.students))
-        going.type("\n".join(["fault 11 null true"] * 60))
+        going.type("\n".join(["fault 11 null true"] * (60 + (1024 * most - journal.stat().st_size) // 20)))
         going.until("^nothing more is granted: journal: no line can be written to it; make room on the disk, then .*class run --resume ")
         self.assertEqual(going.ends(), 4, going.lines)
         self.are_told_of_the_end(bots, 0, 4, 6)
