@@ -75,7 +75,6 @@ class Bots(Cycle):
                 said = subprocess.run([*command, self.file("bad.slip", text)], capture_output=True, text=True, check=False, timeout=LIMIT)
                 self.assertEqual((said.returncode, said.stderr.count("\n")), (status, 1), (name, text, said.stderr))
 
-
     def test_a_lost_connection_is_no_end_of_the_run(self) -> None:
         every: dict[str, Command] = {"bot.py": (sys.executable, EXAMPLES / "bot.py"), **bots()}
         for how, status, why in (("the run", 0, "the run is over"), ("the server", 7, "the connection was lost: start again")):
