@@ -58,8 +58,9 @@ class Running:
     def record(self, it: server.Server) -> Record:
         """What its folder keeps while it goes on."""
         page, looks = (self.pages.server_port, self.pages.looks) if self.pages else (self.page, self.looks)
+        play = self.hands.server_port if self.hands else self.play
         return Record(str(self.lab_file.resolve()), it.port, it.desk, page, spelled(self.close), self.until,
-                      Process.of(os.getpid()), it.process, self.play, stand_in=self.stand_in, looks=looks, played=self.played)
+                      Process.of(os.getpid()), it.process, play, stand_in=self.stand_in, looks=looks, played=self.played)
 
     def keep(self, **other: Any) -> None:
         """Keeps something of it otherwise from now on."""

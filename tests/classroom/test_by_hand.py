@@ -302,14 +302,17 @@ class Wire(InRoom):
         self.assertNotIn(token.encode(), page + replies)
 
     def test_a_run_that_goes_on_serves_it_again(self) -> None:
-        going = Going(self, CYCLE, "--close", "by-hand", "--play", str(random.randint(20000, 50000)))
-        rows = self.enter(going.until("^page to play http").removeprefix("page to play "), "gus", KEYS["gus"])
+        with socket.create_server(("127.0.0.1", 0)) as taken:  # The page is at the next port, and stays there.
+            going = Going(self, CYCLE, "--close", "by-hand", "--play", str(taken.getsockname()[1]))
+            page = going.until("^page to play http").removeprefix("page to play ")
+        rows = self.enter(page, "gus", KEYS["gus"])
         self.assertEqual((rows.next()["who"], rows.next()["at"]), ("gus", 0))
         os.kill(going.server(), signal.SIGKILL)
         self.assertEqual(rows.rest()[-1].keys(), {"ended"})
         self.assertEqual(going.ends(), 4, going.lines)
         again = Going(self, None, "run", "--resume", going.folder)
-        rows = self.enter(again.until("^page to play http").removeprefix("page to play "), "gus", KEYS["gus"])
+        self.assertEqual(again.until("^page to play http").removeprefix("page to play "), page)
+        rows = self.enter(page, "gus", KEYS["gus"])
         self.assertEqual((rows.next()["who"], rows.next()["at"]), ("gus", 0))
 
     def test_heads_hosts_and_what_is_no_request(self) -> None:
