@@ -29,7 +29,8 @@ class Bot:
 
     @staticmethod
     def of(word: str) -> Bot:
-        """The command of a word as a shell would take it; of a file alone whose name ends so, Python's, Java's or JavaScript's."""
+        """The command of a word as a shell would take it, whose first word may also be a file here; of a file alone whose name
+        ends so, and that doesn't say itself what runs it, Python's, Java's or JavaScript's."""
         try:
             words = shlex.split(word)
         except ValueError as error:
@@ -37,9 +38,10 @@ class Bot:
         if not words:
             return Bot(word, (), "an empty word is no command")
         name = " ".join(Path(each).name for each in words)
-        if len(words) == 1 and Path(words[0]).is_file() and not os.access(words[0], os.X_OK):
+        is_file = Path(words[0]).is_file()
+        if len(words) == 1 and is_file and not runs_itself(Path(words[0])):
             words = RUN_BY.get(Path(words[0]).suffix, []) + words
-        found = shutil.which(words[0])
+        found = (shutil.which(Path(words[0]).absolute()) if is_file else None) or shutil.which(words[0])
         if found is None:
             return Bot(name, (), f"{words[0]}: there is no such program, or it can't be run; a BOT is a command, as a shell takes it: "
                        "'python3 bot.py'")
@@ -48,6 +50,16 @@ class Bot:
             if Path(each).suffix in RUN_BY and not Path(each).is_file():
                 return Bot(name, (), f"{each}: there is no such file")
         return Bot(name, (str(Path(found).absolute()), *rest))
+
+
+def runs_itself(file: Path) -> bool:
+    """Whether a file may be run, and of a source says by which program."""
+    if not os.access(file, os.X_OK):
+        return False
+    if file.suffix not in RUN_BY or not os.access(file, os.R_OK):
+        return True
+    with file.open("rb") as it:
+        return it.read(2) == b"#!"
 
 
 def end_strays(folder: Path) -> None:

@@ -121,7 +121,7 @@ def grade(words: argparse.Namespace) -> int:
     for fault in faults + [bot.fault for bot in bots if bot.fault]:
         print(f"class: {fault}", flush=True)
     runnable = [bot for bot in bots if not bot.fault]
-    top = new_folder(Path(words.into), Path("grade"))
+    top = new_folder(Path(words.into), Path("grade")) if runnable else Path()
     stop = threading.Event()
     for number in (signal.SIGINT, signal.SIGTERM, signal.SIGHUP):
         signal.signal(number, lambda *_: stop.set())
@@ -139,7 +139,9 @@ def grade(words: argparse.Namespace) -> int:
         order = {(bot.name, case.name()): place for place, (bot, case) in enumerate((bot, case) for bot in bots for case in cases)}
         results.sort(key=lambda result: order[result.bot, graded.named(result)])
         unwritten = write_all(words, results)
-    print(f"{graded.table(results)}\nrecords and pages: {top}")
+    print(graded.table(results, frozenset(bot.name for bot in bots if bot.fault)))
+    if runnable:
+        print(f"records and pages: {top}")
     for fault in unwritten:
         print(f"class: {printable(fault)}")
     if len(results) < len(bots) * len(cases):

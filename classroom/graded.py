@@ -73,10 +73,11 @@ def told(result: Result) -> str:
                      + (f"\n        {result.why}" if result.why else ""))
 
 
-def table(results: list[Result]) -> str:
-    """How many of its cases each bot passed."""
+def table(results: list[Result], never: frozenset[str] = frozenset()) -> str:
+    """How many of its cases each bot passed; of those that `never` has, that they couldn't be started."""
     rows = []
     for bot in dict.fromkeys(result.bot for result in results):
         own = [result for result in results if result.bot == bot]
-        rows.append(f"{printable(bot)}: {sum(result.passed for result in own)} of {len(own)} cases passed")
+        how = "not tried: it can't be started" if bot in never else f"{sum(result.passed for result in own)} of {len(own)} cases passed"
+        rows.append(f"{printable(bot)}: {how}")
     return "\n".join(rows)

@@ -55,7 +55,7 @@ class Disks(InRoom):
         done = self.grades(before, "--into", disk, "--json", table)
         self.assertEqual(done.returncode, 5, done.stdout + done.stderr)
         self.assertRegex(done.stdout, "(?m)^class: .*: no record: No space left on device; --into names another place$")
-        self.assertIn("bot.py: 1 of 1 cases passed\nno-such-bot: 0 of 1 cases passed\n", done.stdout)
+        self.assertIn("bot.py: 1 of 1 cases passed\nno-such-bot: not tried: it can't be started\n", done.stdout)
         self.assertEqual([each["passed"] for each in json.loads(table.read_text(encoding="utf-8"))], [True, False])
 
     def test_a_table_that_does_not_fit_takes_no_other_away(self) -> None:

@@ -3,6 +3,7 @@ from __future__ import annotations
 
 import concurrent.futures
 import json
+import os
 import shutil
 import signal
 import subprocess
@@ -119,6 +120,31 @@ class Cases(unittest.TestCase):
                 Daemon.of(word)
 
 
+class Commands(InRoom):
+    """What a word names."""
+
+    def test_a_file_that_is_there_is_meant(self) -> None:
+        """With a path or without one, and whatever may run it."""
+        before = Path.cwd()
+        self.addCleanup(os.chdir, before)
+        os.chdir(self.room)
+        room = Path.cwd()
+        told, untold = "#!/usr/bin/env python3\n", "print()\n"
+        for name, text, mode in (("told.py", told, 0o755), ("untold.py", untold, 0o755), ("plain.py", told, 0o644), ("run", told, 0o755)):
+            self.file(name, text).chmod(mode)
+        by_python = str(Path(sys.executable).absolute())
+        rows = ((("told.py", "./told.py", str(room / "told.py")), (str(room / "told.py"),)), (("run", "./run"), (str(room / "run"),)),
+                (("run 3", "./run 3"), (str(room / "run"), "3")), (("untold.py",), (by_python, str(room / "untold.py"))),
+                (("plain.py", "./plain.py"), (by_python, str(room / "plain.py"))))
+        for names, expected in rows:
+            for name in names:
+                bot = Bot.of(name)
+                self.assertEqual((bot.words, bot.fault), (expected, ""), name)
+        self.file("data", "").chmod(0o644)
+        for name in ("data", "none.py", "./none.py"):
+            self.assertIn("there is no such program, or it can't be run", Bot.of(name).fault)
+
+
 class Calls(InRoom):
     """The word itself."""
 
@@ -151,8 +177,16 @@ class Calls(InRoom):
         self.assertEqual(done.returncode, 5, done.stdout + done.stderr)
         self.assertRegex(done.stdout, r"(?m)^class: .*none.toml: lab: .* is missing")
         self.assertRegex(done.stdout, r"(?m)^class: no-such-bot: there is no such program")
-        self.assertIn("no-such-bot: 0 of 2 cases passed\npython3 faulty.py right: 2 of 2 cases passed\n", done.stdout)
+        self.assertIn("no-such-bot: not tried: it can't be started\npython3 faulty.py right: 2 of 2 cases passed\n", done.stdout)
         self.assertEqual([each["passed"] for each in json.loads(table.read_text(encoding="utf-8"))], [False, False, True, True])
+
+    def test_where_no_bot_starts_there_is_no_score(self) -> None:
+        table = self.room / "cases.json"
+        done = words("grade", "no-such-bot", "--into", self.room / "grades", "--json", table)
+        self.assertEqual(done.returncode, 5, done.stdout + done.stderr)
+        self.assertRegex(done.stdout, r"^class: no-such-bot: there is no such program.*\nno-such-bot: not tried: it can't be started\n$")
+        self.assertFalse((self.room / "grades").exists())
+        self.assertEqual(len(json.loads(table.read_text(encoding="utf-8"))), 12)
 
     def test_an_interrupted_grade_keeps_what_it_has_and_leaves_nothing_running(self) -> None:
         table = self.room / "cases.json"
