@@ -18,7 +18,7 @@ from classroom import lab as labs
 from classroom.adversary import Adversary
 from classroom.answering import Answering
 from classroom.bench import network
-from classroom.client import Denied, reply_of
+from classroom.client import Denied, reply_of, wrong
 from classroom.daemons import Daemon, Sight, applied
 from classroom.relay import Relay
 
@@ -38,6 +38,8 @@ class Heard:
     asked: int = 0
     granted: int = 0
     moved: int = 0
+    rules: Counter[str] = field(default_factory=Counter)  # what was granted
+    wanted: set[str] = field(default_factory=set)  # the rules that it asked for
     greeted: int = 0
     denied: Counter[str] = field(default_factory=Counter)
     pauses: deque[bool] = field(default_factory=lambda: deque(maxlen=FLOOD))  # whether one was before the last lines
@@ -55,6 +57,7 @@ class No:
     who: str
     word: str
     text: str
+    kind: str  # what it has in common with others that want no other words
 
 
 @dataclass(frozen=True)
@@ -128,18 +131,24 @@ class Playing:
         """Counts a line of a student's program with its reply."""
         heard = self.heard[who]
         heard.lines += 1
-        heard.asked += asked.get("do") == "move"
+        if asked.get("do") == "move":
+            heard.asked += 1
+            heard.wanted.add(str(asked.get("rule")))
         if told.get("ok") == "move":
             heard.granted += 1
+            heard.rules[told["rule"]] += 1
             self.grant(told["node"], who, told["rule"])
         elif "deny" in told:
             heard.denied[told["deny"]] += 1
             if told["deny"] == "chosen":
                 heard.repeats[number_of(asked.get("node")), number_of(asked.get("at"))] += 1
-            self.on_no(No(who, told["deny"], self.explained(asked, told)))
+            text = self.explained(asked, told)
+            self.on_no(No(who, told["deny"], text, text))
         elif "refuse" in told:
             heard.denied[told["refuse"]] += 1
-            self.on_no(No(who, told["refuse"], f"{told['refuse']}: {line[:120].decode(errors='backslashreplace')}"))
+            note = wrong(line.decode(errors="surrogateescape").replace("\r", " ")) if told["refuse"] == "malformed" else None
+            kind = f"{told['refuse']}: {note}" if note else told["refuse"]
+            self.on_no(No(who, told["refuse"], f"{kind}: {line[:120].decode(errors='backslashreplace')}", kind))
 
     def explained(self, asked: dict[str, Any], told: dict[str, Any]) -> str:
         """A denial with its clause, the node's registers, and what would be granted there."""
@@ -156,6 +165,15 @@ class Playing:
         if look["chosen"]:
             return f"{text}; its move {look['chosen']} waits for the step to close"
         return f"{text}; {look['rule'] or 'nothing'} would be granted there"
+
+    def silence(self, who: str) -> str:
+        """Why nothing comes from a program, as far as its port can tell, after a semicolon."""
+        if self.relay.has_unended():
+            return "; a line came that has no newline at its end"
+        if self.heard[who].greeted:
+            return ""
+        strangers = self.relay.came > sum(heard.greeted for heard in self.heard.values())
+        return "; it connected, but no hello was granted" if strangers else f"; it never connected to port {self.relay.port}"
 
     def part(self, connection: int) -> None:
         """A connection has ended."""

@@ -7,6 +7,7 @@ import os
 import random
 import signal
 import time
+from collections import Counter
 from collections.abc import Callable
 from dataclasses import dataclass, field
 from pathlib import Path
@@ -15,9 +16,11 @@ from classroom import lab as labs
 from classroom import bounds, networks, play, slips
 from classroom.answering import answerer
 from classroom.bots import Bot, Kept
+from classroom.client import RULES
 from classroom.daemons import FORMS, Daemon, daemon
 from classroom.folders import new_folder
 from classroom.grade import count, seconds
+from classroom.heard import MALFORMED, counted
 from classroom.new import start
 from classroom.playing import No, Playing, Step
 from classroom.program import Fault, call, first_free, program
@@ -25,10 +28,12 @@ from classroom.rounds import Recovery
 from classroom.statuses import WARNED
 from classroom.suites import HOUSE, TEACHER, key
 from classroom.teller import Teller
+from classroom.trial import FLOODS
 
 QUIET = 10.0  # seconds without news after which it is told for whom the class waits
 MEGABYTES = 4096  # of a program at home
 REST = 0.3  # seconds that a stable class is held, for late lines
+SEED = 5503  # over seven nodes in a cycle, hurt, both nodes that it deals out need all four rules, whoever is quick
 
 
 def add_words(words: argparse.ArgumentParser) -> None:
@@ -40,7 +45,7 @@ def add_words(words: argparse.ArgumentParser) -> None:
     words.add_argument("--node", metavar="I,..", help="your nodes, dealt out to the BOTs in turn (two for each, by the seed)")
     words.add_argument("--start", choices=networks.STARTS, default="hurt", help="registers at the beginning (hurt)")
     words.add_argument("--daemon", type=daemon, default=Daemon("when-idle", 0.5), metavar="D", help=f"{FORMS} (when-idle:0.5)")
-    words.add_argument("--seed", type=int, default=1, help="for network, start and daemon (1)")
+    words.add_argument("--seed", type=int, default=SEED, help=f"for network, start and daemon ({SEED})")
     words.add_argument("--timeout", type=seconds, default=60.0, metavar="SECONDS",
                        help="without news for so long it ends, where a BOT is named (60)")
     words.add_argument("--port", type=count, help="the port, or else the next that is free (4711; with a BOT any)")
@@ -102,6 +107,8 @@ class Practice:
     kept: list[tuple[str, Kept]] = field(default_factory=list)
     told: str = ""
     stop: bool = False
+    times: Counter[tuple[str, str]] = field(default_factory=Counter)  # of a kind of lines that weren't granted
+    floods: set[str] = field(default_factory=set)
 
     def __post_init__(self) -> None:
         self.recovery = Recovery(node for node, _ in self.playing.report["privileged"])
@@ -109,8 +116,13 @@ class Practice:
         self.playing.on_no, self.playing.on_step = self.no, self.step
 
     def no(self, no: No) -> None:
-        """A line that wasn't granted is explained."""
-        self.tell(f"{no.who}: {no.text}")
+        """A line that wasn't granted is explained; of more of its kind no more is told than how many they are by now."""
+        self.times[no.who, no.kind] += 1
+        times = self.times[no.who, no.kind]
+        if times == 1:
+            self.tell(f"{no.who}: {no.text}")
+        elif str(times).strip("0") == "1":
+            self.tell(f"{no.who}: {times} times by now: {no.kind}")
 
     def step(self, step: Step) -> None:
         """A step as a line."""
@@ -121,18 +133,40 @@ class Practice:
         self.tell(f"configuration {step.at}: {moved}; {left}, {self.recovery.moves} of at most {self.most} moves")
         self.told = ""
 
+    def turn(self) -> None:
+        """Lets the class go on, and sees who floods."""
+        self.playing.turn()
+        self.floods |= {name for name in self.playing.programs if self.playing.heard[name].floods(len(self.playing.lab.nodes_of(name)))}
+
+    def summary(self, name: str) -> str:
+        """What a program did in all."""
+        heard = self.playing.heard[name]
+        moves = ", ".join(rule for rule in RULES if heard.rules[rule])
+        denied = {word: times for word, times in sorted(heard.denied.items()) if word != MALFORMED}
+        text = f"{name}: {counted(heard.granted, 'move')}" + f" ({moves})" * bool(moves) + f", {counted(sum(denied.values()), 'denial')}"
+        text += f" ({', '.join(f'{times} {word}' for word, times in denied.items())})" * bool(denied)
+        if heard.denied[MALFORMED]:
+            text += f", {counted(heard.denied[MALFORMED], 'malformed line')}"
+        never = ", ".join(rule for rule in RULES if rule not in heard.wanted)
+        return text + f"; never asked: {never}" * bool(never) + f"; {FLOODS}" * (name in self.floods)
+
+    def silence(self) -> str:
+        """Why nothing comes from programs, where that can be told."""
+        hints = {name: self.playing.silence(name).removeprefix("; ") for name in self.playing.programs}
+        return "".join(f"; {name}: {hint}" for name, hint in hints.items() if hint)
+
     def run(self) -> bool:
         """To the stable end, or to where it hangs."""
         playing, news = self.playing, self.playing.news
         while not playing.is_stable() and not self.stop:
-            playing.turn()
+            self.turn()
             idle = time.monotonic() - max(playing.news, news)
             for name, kept in list(self.kept):
                 how = kept.ended()
                 if how:
                     self.tell(f"{name}: the program has {how.replace('ended', 'ended, status')}")
                     self.kept.remove((name, kept))
-            waiting = playing.waiting() or "a close"
+            waiting = (playing.waiting() or "a close") + self.silence()
             gone = not self.kept and self.timeout is not None
             if self.timeout is not None and (idle > self.timeout or gone and idle > REST):
                 self.tell(f"it hangs: {'no program is left, and ' if gone else ''}the class waits for {waiting}")
@@ -142,7 +176,7 @@ class Practice:
                 self.told = waiting
         end = time.monotonic() + REST
         while time.monotonic() < end:
-            playing.turn()
+            self.turn()
         return playing.is_stable()
 
 
@@ -201,6 +235,8 @@ def played(it: Closing, bots: list[Bot], words: argparse.Namespace, folder: Path
         pairs = ", ".join(f"{a}-{b}" for a, b in it.playing.report["pairs"])
         tell(f"stable: pairs {pairs or 'none'}; {practice.recovery.told(len(lab.nodes), len(lab.links))}")
     leave(it.playing, folder, tell)
+    for name in names:
+        tell(practice.summary(name))
     return 0 if stable else WARNED
 
 

@@ -30,6 +30,8 @@ class Relay:
         self.answer, self.left = answer, left
         self.free = list(numbers)
         self.callers: list[Caller] = []
+        self.came = 0  # how many were let in
+        self.overlong = False  # whether somebody was hung up on whose line had no end
         self.listener = socket.create_server(("127.0.0.1", port), backlog=32)
         self.listener.setblocking(False)
         self.port: int = self.listener.getsockname()[1]
@@ -68,6 +70,7 @@ class Relay:
             return
         caller = Caller(its, self.free.pop(0))
         self.callers.append(caller)
+        self.came += 1
         self.selector.register(its, selectors.EVENT_READ, caller)
 
     def read(self, caller: Caller) -> None:
@@ -82,6 +85,7 @@ class Relay:
             caller.quiet = 0
             caller.out += reply + b"\n"
             caller.parts = reply == b'{"ok":"bye"}'
+        self.overlong = self.overlong or len(caller.rest) > LONGEST
         caller.parts = caller.parts or not more or len(caller.rest) > LONGEST
 
     def follow(self, caller: Caller) -> None:
@@ -97,6 +101,10 @@ class Relay:
         wants = selectors.EVENT_WRITE if caller.out else 0
         wants |= selectors.EVENT_READ if len(caller.out) < MOST_WAITING and not caller.parts else 0
         self.selector.modify(caller.socket, wants, caller)
+
+    def has_unended(self) -> bool:
+        """Whether somebody sent a part of a line and no newline after it."""
+        return self.overlong or any(caller.rest for caller in self.callers)
 
     def end(self, caller: Caller) -> None:
         """Hangs up."""

@@ -18,6 +18,7 @@ QUIET = 0.6  # seconds that a bot is watched at rest
 LATE = 0.2  # seconds after which it is looked at what a bot asks at rest
 ALLOWED = ("stale", "chosen")
 MOST_REPEATS = 3  # `chosen` for one node under one number
+FLOODS = "it floods: line after line without a pause; a bot waits when it has looked at its nodes"
 
 
 class Fails(Exception):
@@ -102,7 +103,7 @@ class Trial:
         if self.wrong:
             raise Fails(self.wrong)
         if self.heard.floods(len(self.case.made.nodes_of(self.case.who))):
-            raise Fails("it floods: line after line without a pause; a bot waits when it has looked at its nodes")
+            raise Fails(FLOODS)
         if max(self.heard.repeats.values(), default=0) > MOST_REPEATS:
             node, at = self.heard.repeats.most_common(1)[0][0]
             raise Fails(f"it asks again and again for {node} under {at}, whose move is chosen already")
@@ -124,7 +125,8 @@ class Trial:
         end = time.monotonic() + self.limits.seconds
         while not self.playing.is_stable():
             if time.monotonic() > end:
-                raise Fails(f"{what} after {self.limits.seconds:g} seconds: waiting for {self.playing.waiting() or 'a close'}")
+                raise Fails(f"{what} after {self.limits.seconds:g} seconds: waiting for {self.playing.waiting() or 'a close'}"
+                            f"{self.playing.silence(self.case.who)}")
             self.turn()
 
     def until_greeted(self, before: int = 0) -> None:
@@ -133,7 +135,7 @@ class Trial:
         while self.heard.greeted == before:
             if time.monotonic() > end:
                 again = " again, after its connection was closed," if before else ""
-                raise Fails(f"it said no hello{again} in {self.limits.seconds:g} seconds")
+                raise Fails(f"it said no hello{again} in {self.limits.seconds:g} seconds{self.playing.silence(self.case.who)}")
             self.turn()
 
     def rests(self) -> None:

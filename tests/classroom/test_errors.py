@@ -111,7 +111,7 @@ class AtHome(InRoom):
         return done.stdout
 
     def test_bytes_replies_and_silence(self) -> None:
-        self.assertIn("\nyou: malformed: \\x80\\x81", self.practises(f"python3 {FAULTY} binary"))
+        self.assertIn("\nyou: malformed: not UTF-8 at byte 1: \\x80\\x81", self.practises(f"python3 {FAULTY} binary"))
         self.assertRegex(self.practises(f"python3 {FAULTY} pretends"), r"(?m)^it hangs: the class waits for 1 \(")
         self.assertRegex(self.practises(f"python3 {FAULTY} hangs"), r"(?m)^it hangs: the class waits for 1 \(")
 

@@ -35,12 +35,13 @@ OWN = {
     "ignores-faults": ("complete-4", rf"a fault at \d isn't taken up after {SECONDS} seconds: waiting for \d \(bot\)"),
     "needs-order": ("alone-path-4", rf"isn't stable after {SECONDS} seconds: waiting for "),
     "sulks": ("random-6", rf"its connection was closed, and in {SECONDS} seconds it neither came again nor ended"),
-    "binary": ("path-4", r"malformed: \\x80"),
-    "never-ends-a-line": ("path-4", rf"no hello in {SECONDS} seconds"),
+    "binary": ("path-4", r"^malformed: not UTF-8 at byte 1: \\x80"),
+    "quotes-numbers": ("path-4", r'^malformed: node is a string, not a number: {"do": "look", "node": "\d"}$'),
+    "never-ends-a-line": ("path-4", rf"no hello in {SECONDS} seconds; a line came that has no newline at its end$"),
     "forks": ("path-4", "it ended by itself, status 0"),
     "bombs": ("path-4", "it was ended: more than 64 processes"),
     "eats-memory": ("path-4", "it was ended: more than 200 megabytes of memory"),
-    "pretends": ("path-4", rf"no hello in {SECONDS} seconds"),
+    "pretends": ("path-4", rf"no hello in {SECONDS} seconds; it never connected to port \d+$"),
 }
 PLANS = {plan.name: plan for plan in suites.SMALL}
 

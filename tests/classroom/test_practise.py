@@ -51,6 +51,37 @@ class Practise(InRoom):
         self.assertIn("\nyou: the program has ended, status 1\n", done.stdout)
         self.assertRegex(done.stdout, r"(?m)^it hangs: no program is left, and the class waits for 1 \(you\): seduction, ")
 
+    def test_the_nodes_that_are_dealt_out_need_all_four_rules(self) -> None:
+        done = self.practises(EXAMPLES / "bot.py")
+        self.assertEqual(done.returncode, 0, done.stdout + done.stderr)
+        self.assertRegex(done.stdout, r"\nyou: \d+ moves \(update, marriage, seduction, abandonment\), \d+ denials?( \(.*\))?\n$")
+
+    def test_what_a_program_did_is_told_last(self) -> None:
+        done = self.practises(f"python3 {FAULTY} floods", "--family", "path", "--nodes", "2", "--node", "1", "--start", "clean")
+        self.assertEqual(done.returncode, 0, done.stdout + done.stderr)
+        self.assertRegex(done.stdout, r"\nyou: 2 moves \(update, seduction\), \d+ denials?.*; never asked: marriage, abandonment"
+                                      r"(; it floods: line after line .*)?\n$")
+
+    def test_floods_are_told(self) -> None:
+        done = self.practises(f"python3 {FAULTY} floods", "--family", "path", "--nodes", "3", "--node", "1", "--daemon", "by-hand", "--timeout", "10")
+        self.assertEqual(done.returncode, 5, done.stdout + done.stderr)
+        self.assertIn("; it floods: line after line without a pause; a bot waits when it has looked at its nodes\n", done.stdout)
+
+    def test_what_is_malformed_is_told_once_and_counted(self) -> None:
+        done = self.practises(f"python3 {FAULTY} quotes-numbers", "--nodes", "3")
+        self.assertEqual(done.returncode, 0, done.stdout + done.stderr)
+        lines = [line for line in done.stdout.splitlines() if "malformed" in line]
+        self.assertEqual(len(lines), 3, lines)
+        self.assertRegex(lines[0], r'^you: malformed: node is a string, not a number: {"do": "look", "node": "\d"}$')
+        self.assertEqual(lines[1], "you: 10 times by now: malformed: node is a string, not a number")
+        self.assertIn(", 30 malformed lines", lines[2])
+
+    def test_a_program_that_never_connects_is_told_from_one_that_is_silent(self) -> None:
+        done = self.practises(f"python3 {FAULTY} pretends", "--timeout", "1")
+        self.assertEqual(done.returncode, 5, done.stdout + done.stderr)
+        self.assertRegex(done.stdout, r"(?m)^it hangs: the class waits for \d \(you\): .*; you: it never connected to port \d+$")
+        self.assertTrue(done.stdout.endswith("\nyou: 0 moves, 0 denials; never asked: update, marriage, seduction, abandonment\n"), done.stdout)
+
     def test_no_program_goes_on_while_record_and_page_are_made(self) -> None:
         """These may take long, and nobody would answer it."""
         given = ["practise", f"python3 {FAULTY} right", "--nodes", "3", "--into", str(self.room / "runs")]

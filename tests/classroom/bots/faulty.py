@@ -11,7 +11,7 @@ from collections.abc import Callable
 from pathlib import Path
 
 sys.path.append(str(Path(__file__).resolve().parents[3]))
-from classroom.client import Client, Closed, Denied, Look, Slip
+from classroom.client import Client, Closed, Denied, Look, Refused, Slip
 
 FAULT = sys.argv[1]
 SLIP = Slip.read(sys.argv[2])
@@ -62,6 +62,17 @@ def asks_always(me: Client, look: Look) -> None:
         me.ask(do="move", node=look.node, at=look.at + 1000, rule="update")
     except Denied:
         pass
+
+
+def quotes_numbers() -> None:
+    """It puts its nodes' numbers into quotes in its first thirty lines."""
+    with Client.of(SLIP) as me:
+        for _ in range(30):
+            try:
+                me.ask(do="look", node=str(SLIP.nodes[0]))
+            except Refused:
+                pass
+    loop(right)
 
 
 def floods(me: Client, look: Look) -> None:
@@ -164,6 +175,7 @@ FAULTS = {
     "never-updates": lambda: loop(never_updates),
     "marries-anyone": lambda: loop(marries_anyone),
     "asks-always": lambda: loop(asks_always),
+    "quotes-numbers": quotes_numbers,
     "floods": lambda: loop(floods, 0),
     "hangs": hangs,
     "ignores-faults": ignores_faults,
