@@ -560,7 +560,8 @@ def wrong_keys(asked: object) -> str | None:
         if key not in asked:
             return f'missing "{key}"'
         if not is_a(kind, asked[key]):
-            return f"{key} is {said(asked[key])}, not {'one of ' + ', '.join(RULES) if kind == 'a rule' else kind}"
+            it = f'"{asked[key]}"' if kind == "a rule" and isinstance(asked[key], str) else said(asked[key])
+            return f"{key} is {it}, not {'one of ' + ', '.join(RULES) if kind == 'a rule' else kind}"
     return None
 
 

@@ -349,7 +349,7 @@ class Wire(InRoom):
             rows = self.enter(hands.address, "gus", "a")
             token = rows.next()["token"]
             wrong: tuple[tuple[dict[str, object], str], ...] = (
-                ({}, 'missing "node"'), ({"node": 4, "at": 0, "rule": "dance"}, "rule is a string, not one of"),
+                ({}, 'missing "node"'), ({"node": 4, "at": 0, "rule": "dance"}, 'rule is "dance", not one of'),
                 ({"node": 4, "at": -1, "rule": "update"}, "at is out of range, not a number"),
                 ({"node": 4, "at": 0, "rule": "marriage"}, 'missing "with"'),
             )

@@ -102,7 +102,7 @@ class Files(InRoom):
             ('{"node":1}', 'missing "do"'), ("[1]", "a list, not an object"), ('{"do":"see","do":"see","node":1}', "do stands twice, and the last counts"),
             ('{"do":"see","node":true}', "node is true or false, not a number"), ('{"do":"see","node":1.0}', "node is no whole number, not a number"),
             ('{"do":"see","node":-1}', "node is out of range, not a number"), ('{"do":"move","node":2,"rule":"marriage","at":4}', 'missing "with"'),
-            ('{"do":"move","node":2,"rule":"dance","at":4}', "rule is a string, not one of update, marriage, seduction, abandonment"),
+            ('{"do":"move","node":2,"rule":"dance","at":4}', 'rule is "dance", not one of update, marriage, seduction, abandonment'),
             ('{"do":"see","node":1,"x":"' + "a" * 4096 + '"}', "more than 4096 bytes: the server ends the connection"),
         ):
             self.assertEqual(wrong(line), what, line[:60])
