@@ -23,7 +23,7 @@ from classroom.grade import count, seconds
 from classroom.heard import MALFORMED, counted
 from classroom.new import start
 from classroom.playing import No, Playing, Step
-from classroom.program import Fault, call, first_free, program
+from classroom.program import TOP, Fault, call, first_free, program
 from classroom.rounds import Recovery
 from classroom.statuses import WARNED
 from classroom.suites import HOUSE, TEACHER, key
@@ -106,6 +106,7 @@ class Practice:
     timeout: float | None
     kept: list[tuple[str, Kept]] = field(default_factory=list)
     told: str = ""
+    told_at: float = float("-inf")
     stop: bool = False
     times: Counter[tuple[str, str]] = field(default_factory=Counter)  # of a kind of lines that weren't granted
     floods: set[str] = field(default_factory=set)
@@ -171,9 +172,9 @@ class Practice:
             if self.timeout is not None and (idle > self.timeout or gone and idle > REST):
                 self.tell(f"it hangs: {'no program is left, and ' if gone else ''}the class waits for {waiting}")
                 return False
-            if idle > QUIET and self.told != waiting:
+            if idle > QUIET and self.told != waiting and time.monotonic() - self.told_at > QUIET:
                 self.tell(f"waiting for {waiting}")
-                self.told = waiting
+                self.told, self.told_at = waiting, time.monotonic()
         end = time.monotonic() + REST
         while time.monotonic() < end:
             self.turn()
@@ -225,7 +226,8 @@ def played(it: Closing, bots: list[Bot], words: argparse.Namespace, folder: Path
     size = f"{words.family} of {len(lab.nodes)} nodes, {words.start}, daemon {words.daemon.spelled()}"
     tell(f"{size}; " + "; ".join(f"{name}: {', '.join(map(str, lab.nodes_of(name)))}" for name in names))
     if not bots:
-        tell(f"port {it.playing.relay.port}; start your program with the slip {files[0]}")
+        by_hand = f"python3 {os.path.relpath(TOP / 'classroom/client.py')} SLIP"
+        tell(f"port {it.playing.relay.port}; play by hand ({by_hand}), or start your program, with the slip {files[0]}")
     for name, bot, slip in zip(names, bots, files):
         it.kept.append(Kept(bot, slip.resolve(), Path.cwd(), None, MEGABYTES))
         practice.kept.append((name, it.kept[-1]))

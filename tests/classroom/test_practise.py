@@ -107,11 +107,14 @@ class Practise(InRoom):
         self.addCleanup(going.kill)
         lines = iter(going.stdout)
         told = next(line for line in lines if line.startswith("port "))
+        self.assertRegex(told, r"^port \d+; play by hand \(python3 \S*classroom/client.py SLIP\), or start your program, with the slip ")
         slip = Path(told.rpartition("with the slip ")[2].strip())
         nodes = Slip.read(slip).nodes
         with Client.from_slip(slip) as me:
             with self.assertRaises(Denied):
                 me.look(2)
+            me._socket.sendall(b'{"do":"look","node":"1"}\r\n')
+            self.assertEqual(me._line(), b'{"refuse":"malformed"}')
             for _ in range(LIMIT * 10):
                 look = me.look(nodes[0])
                 if look.rule is None and look.m:
@@ -125,6 +128,7 @@ class Practise(InRoom):
         self.assertEqual(going.wait(LIMIT), 0)
         going.stdout.close()
         self.assertTrue(any(line.startswith("you: look 2 is denied as not-owner, clause 1: you do not own this node") for line in rest), rest)
+        self.assertIn('you: malformed: node is a string, not a number: {"do":"look","node":"1"}\\r\n', rest)
         self.assertTrue(any(line.startswith("stable: pairs 1-2; ") for line in rest), rest)
 
     def test_words_that_fit_no_network(self) -> None:
