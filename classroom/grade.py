@@ -125,7 +125,8 @@ def grade(words: argparse.Namespace) -> int:
     stop = threading.Event()
     for number in (signal.SIGINT, signal.SIGTERM, signal.SIGHUP):
         signal.signal(number, lambda *_: stop.set())
-    results = [Result(bot.name, case.lab, case.daemon.spelled(), case.seed, False, bot.fault) for bot in bots for case in cases if bot.fault]
+    results = [Result(bot.name, case.lab, case.daemon.spelled(), case.seed, False, bot.fault, started=False)
+               for bot in bots for case in cases if bot.fault]
     full = False
     try:
         for result in results_of(runnable, cases, words, top, stop):
@@ -139,7 +140,7 @@ def grade(words: argparse.Namespace) -> int:
         order = {(bot.name, case.name()): place for place, (bot, case) in enumerate((bot, case) for bot in bots for case in cases)}
         results.sort(key=lambda result: order[result.bot, graded.named(result)])
         unwritten = write_all(words, results)
-    print(graded.table(results, frozenset(bot.name for bot in bots if bot.fault)))
+    print(graded.table(results))
     if runnable:
         print(f"records and pages: {top}")
     for fault in unwritten:

@@ -12,6 +12,7 @@ from classroom.printable import printable
 from classroom.program import Fault
 from classroom.trial import Result
 
+NEVER = "not tried: it can't be started"
 ABOUT = ("bot", "lab", "daemon", "seed", "passed", "why", "moves", "denied")
 
 
@@ -73,11 +74,11 @@ def told(result: Result) -> str:
                      + (f"\n        {result.why}" if result.why else ""))
 
 
-def table(results: list[Result], never: frozenset[str] = frozenset()) -> str:
-    """How many of its cases each bot passed; of those that `never` has, that they couldn't be started."""
+def table(results: list[Result]) -> str:
+    """How many of its cases each bot passed; of one that was never started, that."""
     rows = []
     for bot in dict.fromkeys(result.bot for result in results):
         own = [result for result in results if result.bot == bot]
-        how = "not tried: it can't be started" if bot in never else f"{sum(result.passed for result in own)} of {len(own)} cases passed"
-        rows.append(f"{printable(bot)}: {how}")
+        passed = f"{sum(result.passed for result in own)} of {len(own)} cases passed"
+        rows.append(f"{printable(bot)}: {passed if any(result.started for result in own) else NEVER}")
     return "\n".join(rows)

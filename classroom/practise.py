@@ -165,7 +165,8 @@ class Practice:
             for name, kept in list(self.kept):
                 how = kept.ended()
                 if how:
-                    self.tell(f"{name}: the program has {how.replace('ended', 'ended, status')}")
+                    kind, _, what = how.partition(" ")
+                    self.tell(f"{name}: the program " + (f"has ended, status {what}" if kind == "ended" else f"was ended: {what}"))
                     self.kept.remove((name, kept))
             waiting = (playing.waiting() or "a close") + self.silence()
             gone = not self.kept and self.timeout is not None

@@ -25,6 +25,10 @@ class Fails(Exception):
     """Why a case isn't passed."""
 
 
+class NotStarted(Fails):
+    """The system can't run the bot's command."""
+
+
 class Stopped(Exception):
     """The grade was interrupted."""
 
@@ -43,6 +47,7 @@ class Result:
     denied: dict[str, int] = field(default_factory=dict)
     seconds: float = 0.0
     unkept: str = ""  # why its record isn't kept
+    started: bool = True
 
 
 @dataclass(frozen=True)
@@ -116,6 +121,8 @@ class Trial:
         """How the bot ended, with what it printed last."""
         assert self.kept is not None
         kind, _, what = how.partition(" ")
+        if kind == "killed" and what.startswith(f"{self.bot.words[0]}: "):
+            raise NotStarted(f"it can't be started: {what}")
         text = f"it ended by itself, status {what}" if kind == "ended" else f"it was ended: {what}"
         last = self.kept.printed()
         return f"{text}; it printed last: {last}" if last else text
@@ -209,7 +216,7 @@ def tried(bot: Bot, case: Case, limits: Limits, room: Path, folder: Path, stop: 
         trial.run()
         result.passed = True
     except Fails as fails:
-        result.why = str(fails)
+        result.why, result.started = str(fails), not isinstance(fails, NotStarted)
     except Fault as fault:
         result.why = f"the class ended: {fault}"
     except Stopped:

@@ -188,6 +188,12 @@ class Calls(InRoom):
         self.assertRegex(done.stdout, r"^class: no-such-bot: there is no such program.*\nno-such-bot: not tried: it can't be started\n$")
         self.assertFalse((self.room / "grades").exists())
         self.assertEqual(len(json.loads(table.read_text(encoding="utf-8"))), 12)
+        foreign = self.file("foreign", "no program of this machine's\n")
+        foreign.chmod(0o755)
+        done = words("grade", foreign, "--into", self.room / "grades")
+        self.assertEqual(done.returncode, 5, done.stdout + done.stderr)
+        self.assertEqual(done.stdout.count(f"it can't be started: {foreign}: Exec format error\n"), 12, done.stdout)
+        self.assertIn("\nforeign: not tried: it can't be started\n", done.stdout)
 
     def test_an_interrupted_grade_keeps_what_it_has_and_leaves_nothing_running(self) -> None:
         table = self.room / "cases.json"
