@@ -53,7 +53,7 @@ LANGUAGES = ("java", "node", "cc", "rustc")
 PROVED = "[ps]*/**/*.*t"  # a crate's src/, specs/ and proofs/
 EDITS = "wrong/*.edit"
 STANDS = r"^rt: (\w+) (?:proved$|is kept: )"  # a crate whose library is written
-PROOFS = Part("proofs", ("rt", "ci"), 127, 40, ALL, ("rt",), shows=r"^rt: ", hands_on=STANDS)
+PROOFS = Part("proofs", ("rt", "ci"), 119, 40, ALL, ("rt",), shows=r"^rt: ", hands_on=STANDS)
 WRONG = Part("wrong", module("wrong"), 63, 10, ALL, ("rt",))
 LAST_CRATES = 5  # minutes of the wrong bodies of the crates that are proved last
 
