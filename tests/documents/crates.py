@@ -128,10 +128,12 @@ def drawing(text: str) -> str:
 def faults() -> list[str]:
     """What the picture tells that isn't so."""
     text = (TOP / "crates.txt").read_text(encoding="utf-8")
-    found = [] if PICTURE.exists() and PICTURE.read_text(encoding="utf-8") == drawing(text) else ["docs/crates.svg isn't that of crates.txt: python3 -B -m tests.documents.crates"]
+    is_so = PICTURE.exists() and PICTURE.read_text(encoding="utf-8") == drawing(text)
+    found = [] if is_so else ["docs/crates.svg isn't that of crates.txt: python3 -B -m tests.documents.crates"]
     for group in groups(text):
-        sources = sorted((TOP / "crates" / group.of / "src").rglob("*.rt")) if group.of else []
-        if group.hands_up and (group.of not in group.crates or not any(re.search(rf"pub fn {group.hands_up}\b", it.read_text(encoding="utf-8")) for it in sources)):
+        sources = (TOP / "crates" / group.of / "src").rglob("*.rt") if group.of in group.crates else iter(())
+        declared = any(re.search(rf"pub fn {group.hands_up}\b", it.read_text(encoding="utf-8")) for it in sources)
+        if group.hands_up and not declared:
             found.append(f"crates.txt: {group.of} has no {group.hands_up}")
     missing = [it for its in FOLDERS.values() for it in its if not (TOP / "tests" / it).is_dir()]
     return found + [f"no folder tests/{it}" for it in missing]
