@@ -13,7 +13,7 @@ use Rattle.mml_hosting.specs.Places.{IsPlace, came_to}
 abbrev pub HaveSame : {A : Type 0} → List A → List A → Type 0
 HaveSame {A} xs ys = (h : A → ℕ) → sum_by h xs ≡ sum_by h ys
 
--- the first connections to come came, and each was served once, beyond the old ones, or was turned away
+-- the first connections to come came; these and the old ones are, each as often, the new ones and those that were turned away
 pub record Attends {C : Type 0} (to_come : Option (List C)) (old new : List C) : Type 0 where
   pub connections : List C
   pub turned : List C
@@ -24,7 +24,7 @@ pub record Attends {C : Type 0} (to_come : Option (List C)) (old new : List C) :
 abbrev pub numbers_of : {H K C : Type 0} → List (Place H K C) → List ℕ
 numbers_of ps = map (λ p. p.number) ps
 
--- as many places as there were, with their numbers, in which the connections that came were served, each once, or they were turned away
+-- as many places as there were, with their numbers, in which the old connections and those that came were served, each as often, but for those that were turned away
 pub record ServesPort {H K C R W : Type 0} (lab : LabValue) (begun : List Event) (given : ℕ → Option Kept) (remaining : R → Option (List ℕ))
     (contents : W → Option (List ℕ)) (recorded : C → Option Kept) (shows : K → ServedSession R W) (to_come : Option (List (R × W)))
     (old new : List (Place H K C)) : Type 0 where

@@ -14,7 +14,7 @@ keeps i (event.Fault j registers) = false
 keeps i (event.Link a b) = false
 keeps i (event.Cut a b) = false
 
--- among the events the rule was granted at node i, to one of its owners, and what came later dropped no move of it
+-- among the events is a grant of the rule at node i, and what came later dropped no move of it
 pub record IsGrantedLast (es : List Event) (i : ℕ) (q : Rule) : Type 0 where
   pub before : List Event
   pub owner : ℕ

@@ -115,7 +115,7 @@ abbrev pub IsRegister : World → ℕ → Option ℕ → Type 0
 IsRegister w i None = Unit {0}
 IsRegister w i (Some j) = (configuration w).linked i j ≡ true
 
--- some node has a chosen move, and the chosen moves are applied
+-- some node has a chosen move, and the event is a close
 pub record MayClose (w : World) (e : Event) : Type 0 where
   pub i : ℕ
   pub move : Rule
