@@ -141,7 +141,7 @@ fn is_dismissed_by(ending: &Ending, is_desk: bool) -> bool
     is_desk && matches!(ending.end, SessionEnd::Bye) && matches!(ending.who, Some(Who::Teacher))
 }
 
-// Sets the mark of a number.
+// Notes whether the thread of the place with this number has come to its end: 1, or 0 while it serves.
 pub(crate) fn set_mark(marks: &[AtomicU64], number: u8, value: u64) {
     if let Some(mark) = marks.get(usize::from(number)) {
         mark.store(value, Ordering::SeqCst);

@@ -220,7 +220,7 @@ fn cut_off_all<
     }
 }
 
-// A mark for each number that a place may have.
+// For each number that a place may have, which is a byte, whether the thread there has come to its end: none has.
 fn new_marks(alloc: Global) -> Result<Vec<AtomicU64>, Memory> {
     let mut marks = Vec::new(alloc);
     for _ in 0..256u16 {

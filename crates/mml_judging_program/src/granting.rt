@@ -13,8 +13,8 @@ pub enum Misgranted {
     Nowhere(u64),
 }
 
-/// The first of these places that is amiss: each is to be one behind the first number, up to the last, and
-/// none may stand there twice; where nothing is left out, each has to stand there.
+/// The first of these places that is amiss. Each has to be one from begun + 1 to count, and none may stand
+/// there twice; where nothing is left out, each of those has to be there.
 pub fn find_misgranted(
     alloc: Global,
     places: &[u64],

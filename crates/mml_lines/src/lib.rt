@@ -11,4 +11,4 @@ mod write_fault;
 pub use lines::{Lines, MAX_LIMIT, MAX_READS, READ_SIZE, Step};
 pub use outgoing::{OUTGOING_BYTES, OUTGOING_LINES, Outgoing};
 pub use whole_reading::{WholeFault, read_whole};
-pub use write_fault::{WriteFault, put_all};
+pub use write_fault::{WriteFault, put_all, put_both};

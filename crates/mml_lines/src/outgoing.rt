@@ -4,7 +4,7 @@ ghost use Rattle.std.specs.Prelude.{◌≡◌, ◌<◌, ◌++◌, ◌∷◌, [],
 ghost use Rattle.std.specs.Io.KnownBytes.{Appends};
 ghost use Rattle.mml_lines.specs.Sending.{BreaksOff, Sends, part_in};
 
-use crate::write_fault::{WriteFault, put_all};
+use crate::write_fault::{WriteFault, put_all, put_both};
 use mml_ids::Memory;
 use std::alloc::Global;
 use std::io::Write;
@@ -137,21 +137,4 @@ fn part_of(lengths: &[usize], out: usize) -> usize
         left -= *len;
     }
     left
-}
-
-fn put_both<W: Write>(front: &[u8], rest: &[u8], writer: &mut W) -> Result<(), WriteFault>
-    ensures ok { OnOk result
-        (Appends (W.contents writer.old) (W.contents writer.new) (front.now ++ rest.now)) }
-    ensures partial { IfErr result (λ fault. fault.written < length (front.now ++ rest.now)) }
-    ensures err { IfErr result (λ fault. Appends (W.contents writer.old) (W.contents writer.new)
-        (take fault.written (front.now ++ rest.now))) }
-{
-    put_all(writer, front)?;
-    match put_all(writer, rest) {
-        Ok(()) => Ok(()),
-        Err(fault) => {
-            let written = front.len() + fault.written;
-            Err(WriteFault { written })
-        }
-    }
 }

@@ -8,7 +8,7 @@ use itoa::Buffer;
 use mml_lab::MAX_SESSIONS;
 use std::num::{NonZeroU8, NonZeroU16};
 
-/// The port that a text names: a number in decimal, without sign or leading zero.
+/// The port that a text names: a number from 1 to 65535 in decimal, without sign or leading zero.
 pub fn read_port(text: &str) -> Option<NonZeroU16>
     ensures { Reads non_zero_u16_get (2 ^ 16 - 1) text.now result }
 {

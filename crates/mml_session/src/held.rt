@@ -4,7 +4,7 @@ ghost use Rattle.std.specs.Io.KnownBytes.{Appends};
 ghost use Rattle.mml_session.specs.Holding.{Holds};
 
 use mml_ids::Memory;
-use mml_lines::{WriteFault, put_all};
+use mml_lines::{WriteFault, put_all, put_both};
 use std::alloc::Global;
 use std::io::Write;
 
@@ -85,22 +85,5 @@ impl Held {
             return false;
         }
         self.bytes.extend_from_slice(line).is_ok()
-    }
-}
-
-fn put_both<W: Write>(front: &[u8], rest: &[u8], writer: &mut W) -> Result<(), WriteFault>
-    ensures ok { OnOk result
-        (Appends (W.contents writer.old) (W.contents writer.new) (front.now ++ rest.now)) }
-    ensures partial { IfErr result (λ fault. fault.written < length (front.now ++ rest.now)) }
-    ensures err { IfErr result (λ fault. Appends (W.contents writer.old) (W.contents writer.new)
-        (take fault.written (front.now ++ rest.now))) }
-{
-    put_all(writer, front)?;
-    match put_all(writer, rest) {
-        Ok(()) => Ok(()),
-        Err(fault) => {
-            let written = front.len() + fault.written;
-            Err(WriteFault { written })
-        }
     }
 }

@@ -21,8 +21,9 @@ pub struct Kept {
     pub whole: bool,
 }
 
-/// Puts what is told of a run that has a record at the end of a text: the board is the one to which the
-/// events led, and these are the record's lines.
+/// Puts the tally of a run that was recorded at the end of a text: what is told of any run, and before its
+/// last two lines what the record comes to. The board is the one to which the events led; the asks are what
+/// the record's lines asked.
 pub fn put_recorded_tally(
     out: &mut Vec<u8>,
     alloc: Global,

@@ -60,7 +60,8 @@ pub(crate) fn leave<H: House>(reading: Entered<H>) -> Seat<H>
     }
 }
 
-/// Lets a reader look until it sees this board.
+/// Lets a reader look until it sees this board. Under the lock nothing is published meanwhile, so the first look
+/// finds it; that it is found is what the comparison shows.
 pub(crate) fn look_for_board<H: House, R: Wait>(rt: &R, reader: Seat<H>, board: &Board) -> Seat<H>
     ensures begins { IsPrefix (view reader.place.place).seen (view result.place.place).seen }
     ensures legal { is_legal_in H.lab (view result.place.place).seen ≡ true }
