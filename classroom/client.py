@@ -439,6 +439,24 @@ def enter(slip: Slip, patience: float = 60.0) -> Client:
         time.sleep(1)
 
 
+def again(slip: Slip, lost: Closed, patience: float = 60.0) -> Client:
+    """Greets again where a connection was lost, each second, for so many seconds, whether a seat is lacking or a server;
+    raises what was lost where that is in vain, or the class is over."""
+    end = time.monotonic() + patience
+    while not isinstance(lost, Over) and time.monotonic() < end:
+        time.sleep(1)
+        try:
+            return Client.of(slip)
+        except Over:
+            raise
+        except Closed:
+            pass
+        except Refused as refused:
+            if refused.word != "busy":
+                raise
+    raise lost
+
+
 def run(program: Callable[[list[str]], None], usage: str) -> None:
     """Runs a program with its words; what ends it is a line, and a status."""
     words = sys.argv[1:]

@@ -1,7 +1,7 @@
 import java.io.*;
 import java.net.Socket;
 import java.nio.file.*;
-import java.util.Scanner;
+import java.util.*;
 import java.util.regex.Pattern;
 
 /** Plays a student's nodes with no library: java Bot.java SLIP, or java Bot.java PORT NAME KEYFILE NODE,..
@@ -24,8 +24,7 @@ public class Bot {
     /** Sends a line, and gives the reply to it. Some denials and refusals end the bot; the others mean: look again. */
     static String ask(String line) {
         requests.print(line + "\n");
-        if (!replies.hasNext() && line.contains("\"hello\"")) stop(4, "no server answers a hello at that port; your teacher tells it");
-        String reply = replies.hasNext() ? replies.next() : stop(7, "the connection was lost: start again");
+        String reply = replies.next();
         return switch (find("\"(?:deny|refuse)\":\"([a-z-]+)\"", reply)) {
             case "unknown" -> stop(2, "name and key don't match: take both from your slip");
             case "not-owner" -> stop(3, "a node isn't yours: correct the nodes by your slip");
@@ -36,30 +35,31 @@ public class Bot {
         };
     }
 
-    /** Connects and says hello; where no seat is free, again each second, for a minute. */
-    static void enter(String port, String name, String key) throws InterruptedException {
-        for (int second = 0; second <= 60; second++, requests.close(), Thread.sleep(1000)) {
-            try {
-                Socket server = new Socket("127.0.0.1", Integer.parseInt(port));
-                requests = new PrintStream(server.getOutputStream(), true, "UTF-8");
-                replies = new Scanner(server.getInputStream(), "UTF-8").useDelimiter("\n");
-            } catch (IOException error) {
-                stop(4, "no server at port " + port + "; your teacher tells the port");
-            }
-            String reply = ask("{\"do\":\"hello\",\"name\":\"" + name + "\",\"key\":\"" + key + "\"}");
-            if (reply.startsWith("{\"ok\"")) return;
-            if (!reply.startsWith("{")) stop(4, "at port " + port + " is another program; your teacher tells the port");
-        }
-        stop(5, "all seats were taken for a minute: come again later");
-    }
-
     /** Looks at a node, and asks for its enabled rule; a marriage is with the neighbour that points at it. */
-    static void play(String node) {
+    static void move(String node) {
         String look = ask("{\"do\":\"look\",\"node\":" + node + "}"), rule = find("\"rule\":\"([a-z]+)\"", look);
         if (rule.isEmpty() || !look.contains("\"chosen\":null")) return;
         String with = rule.equals("marriage") ? ",\"with\":" + find("\"node\":(\\d+),\"p\":" + node + "\\}", look) : "";
         String move = "{\"do\":\"move\",\"node\":" + node + ",\"at\":" + find("\"at\":(\\d+)", look) + ",\"rule\":\"" + rule + "\"" + with + "}";
         System.out.println(ask(move));
+    }
+
+    /** Connects, says hello and plays; where no seat is free, or the connection was lost, again each second, for a minute. */
+    static void play(String port, String name, String key, String[] nodes) throws InterruptedException {
+        boolean wasGreeted = false;
+        for (int second = 0; second <= 60; second++, Thread.sleep(1000)) {
+            try (Socket server = new Socket("127.0.0.1", Integer.parseInt(port))) {
+                requests = new PrintStream(server.getOutputStream(), true, "UTF-8");
+                replies = new Scanner(server.getInputStream(), "UTF-8").useDelimiter("\n");
+                String reply = ask("{\"do\":\"hello\",\"name\":\"" + name + "\",\"key\":\"" + key + "\"}");
+                if (!reply.startsWith("{")) stop(4, "at port " + port + " is another program; your teacher tells the port");
+                wasGreeted = wasGreeted || reply.startsWith("{\"ok\"");
+                for (; reply.startsWith("{\"ok\""); second = 0, Thread.sleep(100)) for (String node : nodes) move(node);
+            } catch (IOException | NoSuchElementException error) {
+                if (!wasGreeted) stop(4, "no server at port " + port + " answers a hello; your teacher tells the port");
+            }
+        }
+        stop(wasGreeted ? 7 : 5, wasGreeted ? "the connection was lost: start again" : "all seats were taken for a minute: come again later");
     }
 
     public static void main(String[] words) throws Exception {
@@ -73,7 +73,6 @@ public class Bot {
         String name = find("^name\\s+(\\S+)", slip), key = find("^key\\s+(\\S+)", slip), nodes = find("^nodes\\s+(\\d+(?:,\\d+)*)\\s*$", slip);
         String lacking = port.isEmpty() || Integer.parseInt(port) > 65535 ? "port" : name.isEmpty() || key.isEmpty() ? "name or key" : nodes.isEmpty() ? "nodes" : "";
         if (!lacking.isEmpty()) stop(1, "no " + lacking + " in " + file);
-        enter(port, name, key);
-        for (;; Thread.sleep(100)) Pattern.compile(",").splitAsStream(nodes).forEach(Bot::play);
+        play(port, name, key, nodes.split(","));
     }
 }

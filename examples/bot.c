@@ -1,6 +1,7 @@
 /* Plays a student's nodes: cc -o bot bot.c, then ./bot SLIP, or ./bot PORT NAME KEYFILE NODE,..
    SLIP - is the environment's CENDUWA_SLIP, KEYFILE - its CENDUWA_KEY. Lines are taken apart by hand. */
 #include <arpa/inet.h>
+#include <signal.h>
 #include <stdio.h>
 #include <stdlib.h>
 #include <string.h>
@@ -10,7 +11,6 @@
 #define ASK(...) (fprintf(server, __VA_ARGS__), hear())
 static char reply[1 << 16], text[1 << 12];
 static FILE *server;
-static int is_greeted;
 /* Denials and refusals that end the bot: its status, a space, and a sentence. The others mean: look again. */
 static const char *STOPS[][2] = {
     {"\"unknown\"", "2 name and key don't match: take both from your slip"},
@@ -18,45 +18,46 @@ static const char *STOPS[][2] = {
     {"\"malformed\"", "3 the server takes a line for no request: correct the program"},
     {"\"full\"", "6 nothing is granted any longer: tell your teacher"},
     {"\"journal\"", "6 nothing is granted any longer: tell your teacher"}, {"\"over\"", "0 the run is over"}};
-/* Takes the line that answers what was sent. */
-static void hear(void) {
-    int is_lost = fflush(server) || !fgets(reply, sizeof reply, server);
-    if (is_lost && !is_greeted) STOP(4, "no server answers a hello at that port; your teacher tells it");
-    if (is_lost) STOP(7, "the connection was lost: start again");
+/* Whether a line comes that answers what was sent. */
+static int hear(void) {
+    if (fflush(server) || !fgets(reply, sizeof reply, server)) return 0;
     int is_no = !strncmp(reply, "{\"refuse\"", 9) || strstr(reply, "\"deny\"");
     for (size_t i = 0; is_no && i < sizeof STOPS / sizeof *STOPS; i++)
         if (strstr(reply, STOPS[i][0])) STOP(STOPS[i][1][0] - '0', "%s", STOPS[i][1] + 2);
+    return 1;
 }
 
-/* Connects and says hello; where no seat is free, again each second, for a minute. */
-static void enter(const char *port, const char *name, const char *key) {
-    struct sockaddr_in at = {.sin_family = AF_INET, .sin_port = htons(atoi(port)), .sin_addr.s_addr = htonl(INADDR_LOOPBACK)};
-    for (int second = 0; second <= 60; second++, fclose(server), sleep(1)) {
-        int it = socket(AF_INET, SOCK_STREAM, 0);
-        if (connect(it, (struct sockaddr *)&at, sizeof at)) STOP(4, "no server at port %s; your teacher tells the port", port);
-        server = fdopen(it, "r+");
-        fprintf(server, "{\"do\":\"hello\",\"name\":\"%s\",\"key\":\"", name);
-        for (const char *byte = key; *byte; byte++) fprintf(server, strchr("\\\"", *byte) ? "\\%c" : "%c", *byte);
-        ASK("\"}\n");
-        if ((is_greeted = !strncmp(reply, "{\"ok\"", 5))) return;
-        if (*reply != '{') STOP(4, "at port %s is another program; your teacher tells the port", port);
-    }
-    STOP(5, "all seats were taken for a minute: come again later");
-}
-
-/* Looks at a node, and asks for its enabled rule; a marriage with a neighbour that points at the node. */
-static void play(long node) {
+/* Looks at a node, and asks for its enabled rule; a marriage with a neighbour that points at it. Whether all was answered. */
+static int move(long node) {
     char rule[32], with[64] = "";
-    ASK("{\"do\":\"look\",\"node\":%ld}\n", node);
+    if (!ASK("{\"do\":\"look\",\"node\":%ld}\n", node)) return 0;
     const char *enabled = strstr(reply, "\"rule\":\"");
-    if (!enabled || !strstr(reply, "\"chosen\":null") || sscanf(enabled, "\"rule\":\"%31[a-z]", rule) != 1) return;
+    if (!enabled || !strstr(reply, "\"chosen\":null") || sscanf(enabled, "\"rule\":\"%31[a-z]", rule) != 1) return 1;
     long at = strtol(reply + strlen("{\"at\":"), NULL, 10), other, p;
     for EACH(near, reply, '{')
         if (*rule == 'm' && sscanf(strchr(near, ',') + 1, "\"node\":%ld,\"p\":%ld}", &other, &p) == 2 && p == node)
             sprintf(with, ",\"with\":%ld", other);
-    ASK("{\"do\":\"move\",\"node\":%ld,\"rule\":\"%s\",\"at\":%ld%s}\n", node, rule, at, with);
-    printf("%s", reply);
-    fflush(stdout);
+    if (!ASK("{\"do\":\"move\",\"node\":%ld,\"rule\":\"%s\",\"at\":%ld%s}\n", node, rule, at, with)) return 0;
+    if (printf("%s", reply) < 0 || fflush(stdout)) exit(141); /* Nobody reads it. */
+    return 1;
+}
+
+/* Connects, says hello and plays; where no seat is free, or the connection was lost, again each second, for a minute. */
+static void play(const char *port, const char *name, const char *key, const char *nodes) {
+    struct sockaddr_in to = {.sin_family = AF_INET, .sin_port = htons(atoi(port)), .sin_addr.s_addr = htonl(INADDR_LOOPBACK)};
+    int was_greeted = 0;
+    for (int second = 0; second <= 60; second++, fclose(server), sleep(1)) {
+        int it = socket(AF_INET, SOCK_STREAM, 0), is_in = !connect(it, (struct sockaddr *)&to, sizeof to);
+        server = fdopen(it, "r+");
+        fprintf(server, "{\"do\":\"hello\",\"name\":\"%s\",\"key\":\"", name);
+        for (const char *byte = key; *byte; byte++) fprintf(server, strchr("\\\"", *byte) ? "\\%c" : "%c", *byte);
+        is_in = is_in && ASK("\"}\n");
+        if (!is_in && !was_greeted) STOP(4, "no server at port %s answers a hello; your teacher tells the port", port);
+        if (is_in && *reply != '{') STOP(4, "at port %s is another program; your teacher tells the port", port);
+        for (is_in &= !strncmp(reply, "{\"ok\"", 5), was_greeted |= is_in; is_in; second = 0, usleep(100000))
+            for EACH(node, nodes, ',') is_in = is_in && move(strtol(node, NULL, 10));
+    }
+    STOP(was_greeted ? 7 : 5, "%s", was_greeted ? "the connection was lost: start again" : "all seats were taken for a minute: come again later");
 }
 
 int main(int count, char **words) {
@@ -65,8 +66,7 @@ int main(int count, char **words) {
     const char *file = words[count == 2 ? 1 : 3], *variable = count == 2 ? "CENDUWA_SLIP" : "CENDUWA_KEY", *given = getenv(variable);
     FILE *from = strcmp(file, "-") ? fopen(file, "r") : given ? fmemopen((char *)given, strlen(given), "r") : NULL;
     if (!from) STOP(1, "%s: can't be read, or the environment lacks %s", file, variable);
-    text[fread(text, 1, sizeof text - 1, from)] = 0;
-    sscanf(text, "%127s", key);
+    text[fread(text, 1, sizeof text - 1, from)] = 0, sscanf(text, "%127s", key);
     for EACH(line, text, '\n') {
         sscanf(line, "port %15s", port), sscanf(line, "name %63s", name);
         sscanf(line, "key %127s", key), sscanf(line, "nodes %2047s", nodes);
@@ -74,6 +74,6 @@ int main(int count, char **words) {
     if (count == 5) snprintf(port, 16, "%s", words[1]), snprintf(name, 64, "%s", words[2]), snprintf(nodes, 2048, "%s", words[4]);
     if (!*port || strspn(port, "0123456789") != strlen(port)) STOP(1, "no port in %s", words[1]);
     if (!*nodes || strspn(nodes, "0123456789,") != strlen(nodes)) STOP(1, "no nodes in %s", words[1]);
-    for (enter(port, name, key);; usleep(100000))
-        for EACH(node, nodes, ',') play(strtol(node, NULL, 10));
+    signal(SIGPIPE, SIG_IGN);
+    play(port, name, key, nodes);
 }

@@ -7,30 +7,40 @@ import time
 from pathlib import Path
 
 sys.path.append(str(Path(__file__).resolve().parent.parent / "classroom"))
-from client import Denied, NoSlip, Refused, Slip, enter, goes_on, run, seconds_of
+from client import Client, Closed, Denied, NoSlip, Refused, Slip, again, enter, goes_on, run, seconds_of
+
+
+def ask(me: Client, nodes: tuple[int, ...], patience: float) -> None:
+    """Looks at each node again and again, and asks for its enabled rule."""
+    newest, since = -1, time.monotonic()
+    while time.monotonic() - since < patience:
+        for node in nodes:
+            try:
+                look = me.look(node)
+                if look.at > newest:
+                    newest, since = look.at, time.monotonic()
+                if look.rule and not look.chosen:
+                    print(me.name, me.move(look), flush=True)
+            except (Denied, Refused) as no:  # A step was closed since, or another program was quicker.
+                print(me.name, node, no, flush=True)
+                if not goes_on(no):
+                    raise
+        time.sleep(0.1)
 
 
 def play(words: list[str]) -> None:
-    """Looks at each node again and again, and asks for its enabled rule."""
+    """Plays, and greets again where the connection is lost: what was granted stands."""
     slip, rest = Slip.of(words)
     if not slip.nodes:
         raise NoSlip(f"no nodes in {words[0]}")
     patience = seconds_of(rest)
-    with enter(slip, min(60.0, patience)) as me:
-        newest, since = -1, time.monotonic()
-        while time.monotonic() - since < patience:
-            for node in slip.nodes:
-                try:
-                    look = me.look(node)
-                    if look.at > newest:
-                        newest, since = look.at, time.monotonic()
-                    if look.rule and not look.chosen:
-                        print(slip.name, me.move(look), flush=True)
-                except (Denied, Refused) as no:  # A step was closed since, or another program was quicker.
-                    print(slip.name, node, no, flush=True)
-                    if not goes_on(no):
-                        raise
-            time.sleep(0.1)
+    me = enter(slip, min(60.0, patience))
+    while True:
+        try:
+            with me:
+                return ask(me, slip.nodes, patience)
+        except Closed as lost:
+            me = again(slip, lost)
 
 
 run(play, __doc__ or "")

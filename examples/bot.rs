@@ -2,7 +2,7 @@
 //! SLIP - is the environment's CENDUWA_SLIP, KEYFILE - its CENDUWA_KEY. Lines are taken apart by hand.
 use std::io::{BufRead, BufReader, Write};
 use std::net::TcpStream;
-use std::{env, fs, process, thread, time::Duration};
+use std::{env, fs, iter, process, thread, time::Duration};
 /// Denials and refusals that end the bot, with its status and a sentence. The others mean: look again.
 const STOPS: [(&str, i32, &str); 5] = [
     ("unknown", 2, "name and key don't match: take both from your slip"),
@@ -22,41 +22,41 @@ fn at<'a>(reply: &'a str, key: &str) -> Option<&'a str> {
     rest.split([',', '}']).next().map(|found| found.trim_matches('"'))
 }
 
-/// Sends a line, and gives the line that answers it.
-fn ask(server: &mut BufReader<TcpStream>, line: &str) -> String {
+/// Sends a line, and gives the line that answers it; none where the connection was lost.
+fn ask(server: &mut BufReader<TcpStream>, line: &str) -> Option<String> {
     let mut reply = String::new();
-    let sent = server.get_mut().write_all(format!("{line}\n").as_bytes());
-    let is_lost = sent.is_err() || server.read_line(&mut reply).unwrap_or(0) == 0;
-    if is_lost && line.contains("hello") { stop(4, "no server answers a hello at that port; your teacher tells it") }
-    if is_lost { stop(7, "the connection was lost: start again") }
+    server.get_mut().write_all(format!("{line}\n").as_bytes()).ok()?;
+    server.read_line(&mut reply).ok().filter(|count| *count > 0)?;
     let no = at(&reply, "deny").or(at(&reply, "refuse"));
     STOPS.iter().filter(|it| it.0.split(' ').any(|word| no == Some(word))).for_each(|it| stop(it.1, it.2));
-    reply
+    Some(reply)
 }
 
-/// Connects and says hello; where no seat is free, again each second, for a minute.
-fn enter(port: u16, name: &str, key: &str) -> BufReader<TcpStream> {
-    for _ in 0..=60 {
-        let stream = TcpStream::connect(("127.0.0.1", port));
-        let none = format!("no server at port {port}; your teacher tells the port");
-        let mut server = BufReader::new(stream.unwrap_or_else(|_| stop(4, &none)));
-        let key = key.replace('\\', r"\\").replace('"', r#"\""#);
-        let reply = ask(&mut server, &format!(r#"{{"do":"hello","name":"{name}","key":"{key}"}}"#));
-        if reply.starts_with(r#"{"ok""#) { return server }
-        if !reply.starts_with('{') { stop(4, &format!("at port {port} is another program; your teacher tells the port")) }
-        thread::sleep(Duration::from_secs(1));
+/// Connects and says hello; where no seat is free, or the connection was lost, again each second, for a minute.
+fn enter(port: u16, name: &str, key: &str, is_lost: bool) -> BufReader<TcpStream> {
+    for second in 0..=60 {
+        thread::sleep(Duration::from_secs(if second > 0 || is_lost { 1 } else { 0 }));
+        let mut server = TcpStream::connect(("127.0.0.1", port)).map(BufReader::new);
+        let reply = server.as_mut().ok().and_then(|it| ask(it, &format!(r#"{{"do":"hello","name":"{name}","key":"{key}"}}"#)));
+        match (reply, server) {
+            (Some(reply), Ok(server)) if reply.starts_with(r#"{"ok""#) => return server,
+            (Some(reply), _) if !reply.starts_with('{') => stop(4, &format!("at port {port} is another program; your teacher tells the port")),
+            (None, _) if !is_lost => stop(4, &format!("no server at port {port} answers a hello; your teacher tells the port")),
+            _ => {}
+        }
     }
-    stop(5, "all seats were taken for a minute: come again later")
+    stop(if is_lost { 7 } else { 5 }, if is_lost { "the connection was lost: start again" } else { "all seats were taken for a minute: come again later" })
 }
 
 /// Looks at a node, and asks for its enabled rule; a marriage with a neighbour that points at the node.
-fn play(server: &mut BufReader<TcpStream>, node: &str) {
-    let look = ask(server, &format!(r#"{{"do":"look","node":{node}}}"#));
+fn play(server: &mut BufReader<TcpStream>, node: &str) -> Option<()> {
+    let look = ask(server, &format!(r#"{{"do":"look","node":{node}}}"#))?;
     let (number, rule, chosen) = (at(&look, "at").unwrap_or(""), at(&look, "rule").unwrap_or("null"), at(&look, "chosen"));
-    if rule == "null" || chosen != Some("null") { return }
+    if rule == "null" || chosen != Some("null") { return Some(()) }
     let suitor = look.split('{').skip(2).find(|near| at(near, "p") == Some(node)).and_then(|near| at(near, "node"));
     let with = suitor.filter(|_| rule == "marriage").map_or(String::new(), |it| format!(r#","with":{it}"#));
-    print!("{}", ask(server, &format!(r#"{{"do":"move","node":{node},"rule":"{rule}","at":{number}{with}}}"#)));
+    print!("{}", ask(server, &format!(r#"{{"do":"move","node":{node},"rule":"{rule}","at":{number}{with}}}"#))?);
+    Some(())
 }
 
 fn main() {
@@ -71,9 +71,9 @@ fn main() {
     let port = said("port", 0).parse().unwrap_or_else(|_| stop(1, &format!("no port in {}", words[0])));
     let nodes: Vec<&str> = said("nodes", 3).split(',').collect();
     if nodes.iter().any(|it| it.parse::<u16>().is_err()) { stop(1, &format!("no nodes in {}", words[0])) }
-    let mut server = enter(port, said("name", 1), after("key").unwrap_or(text.trim()));
-    loop {
-        nodes.iter().for_each(|node| play(&mut server, node));
-        thread::sleep(Duration::from_millis(100));
+    let key = after("key").unwrap_or(text.trim()).replace('\\', r"\\").replace('"', r#"\""#);
+    for is_lost in iter::once(false).chain(iter::repeat(true)) {
+        let mut server = enter(port, said("name", 1), &key, is_lost);
+        while nodes.iter().try_for_each(|node| play(&mut server, node)).is_some() { thread::sleep(Duration::from_millis(100)) }
     }
 }

@@ -8,6 +8,7 @@ import socket
 import subprocess
 import sys
 import tempfile
+import time
 import unittest
 from functools import cache
 from pathlib import Path
@@ -75,23 +76,44 @@ class Bots(Cycle):
                 said = subprocess.run([*command, self.file("bad.slip", text)], capture_output=True, text=True, check=False, timeout=LIMIT)
                 self.assertEqual((said.returncode, said.stderr.count("\n")), (status, 1), (name, text, said.stderr))
 
-    def test_a_lost_connection_is_no_end_of_the_run(self) -> None:
+    def all_in(self, going: Going) -> list[tuple[str, subprocess.Popen[str]]]:
+        """A bot in each language, of one student, all of whom have greeted."""
         every: dict[str, Command] = {"bot.py": (sys.executable, EXAMPLES / "bot.py"), **bots()}
-        for how, status, why in (("the run", 0, "the run is over"), ("the server", 7, "the connection was lost: start again")):
-            going = Going(self, CYCLE, "--close", "by-hand")
-            playing = []
-            for name, command in every.items():
-                playing.append((name, subprocess.Popen([*command, self.slip(going.port, "gus")], stdin=subprocess.DEVNULL,
-                                                       stdout=subprocess.DEVNULL, stderr=subprocess.PIPE, text=True)))
-                going.until("^connected: gus")
-            if how == "the run":
-                going.type("end\nend")
-            else:
-                os.kill(going.server(), signal.SIGKILL)
-            self.assertEqual(going.ends(), 0 if how == "the run" else 4, going.lines)
-            for name, bot in playing:
-                said = bot.communicate(timeout=LIMIT)[1]
-                self.assertEqual((bot.returncode, said.partition(": ")[2].partition(" (")[0].rstrip()), (status, why), (name, said))
+        playing = []
+        for name, command in every.items():
+            bot = subprocess.Popen([*command, self.slip(going.port, "gus")], stdin=subprocess.DEVNULL, stdout=subprocess.DEVNULL,
+                                   stderr=subprocess.PIPE, text=True)
+            self.addCleanup(bot.communicate)
+            self.addCleanup(bot.kill)
+            playing.append((name, bot))
+            going.until("^connected: gus")
+        return playing
+
+    def are_ended(self, playing: list[tuple[str, subprocess.Popen[str]]], status: int, why: str) -> None:
+        """Wants that all end so."""
+        for name, bot in playing:
+            said = bot.communicate(timeout=LIMIT)[1]
+            self.assertEqual((bot.returncode, said.partition(": ")[2].partition(" (")[0].rstrip()), (status, why), (name, said))
+
+    def test_they_greet_again_where_the_class_goes_on(self) -> None:
+        going = Going(self, CYCLE, "--close", "by-hand")
+        playing = self.all_in(going)
+        os.kill(going.server(), signal.SIGKILL)
+        self.assertEqual(going.ends(), 4, going.lines)
+        again = Going(self, None, "run", "--resume", going.folder, "--close", "by-hand")
+        again.until(f"^connected: gus, {len(playing)} connections$" if len(playing) > 1 else "^connected: gus$")
+        again.type("end\nend")
+        self.assertEqual(again.ends(), 0, again.lines)
+        self.are_ended(playing, 0, "the run is over")
+
+    def test_a_connection_that_stays_lost_is_no_end_of_the_run(self) -> None:
+        going = Going(self, CYCLE, "--close", "by-hand")
+        playing = self.all_in(going)
+        begun = time.monotonic()
+        os.kill(going.server(), signal.SIGKILL)
+        self.assertEqual(going.ends(), 4, going.lines)
+        self.are_ended(playing, 7, "the connection was lost: start again")
+        self.assertGreater(time.monotonic() - begun, 55)
 
 
 class Graded(InRoom):

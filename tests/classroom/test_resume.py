@@ -109,12 +109,11 @@ class Resume(Cycle):
         for what in BOTH:
             with self.subTest(what=what):
                 going = Going(self, CYCLE, "--close", "every:0.2", "--beside", "--until", "stable")
-                bots = [self.bot(going, name) for name in KEYS]
+                for name in KEYS:  # Who has greeted greets again, where the class goes on.
+                    self.bot(going, name)
                 for _ in range(random.randint(1, 4)):
                     going.until("^configuration ")
                 self.killed(going, what)
-                for bot in bots:
-                    bot.wait()
                 offered = words("run", CYCLE, "--into", self.room / "runs")
                 self.assertEqual((offered.returncode, offered.stderr),
                                  (1, f"class: the last run of {CYCLE} didn't end: {CLASS} run --resume {going.folder} goes on with it; "
@@ -123,7 +122,7 @@ class Resume(Cycle):
                 again = Going(self, None, "run", "--resume", going.folder)
                 self.assertEqual((again.port, again.folder), (going.port, going.folder))
                 self.assertTrue(any(re.match(r"gone on from configuration \d+, events \d+ of 1000$", line) for line in again.lines), again.lines)
-                for name in KEYS:
+                for name in KEYS:  # And of who hadn't, another bot comes.
                     self.bot(again, name)
                 self.assertEqual(again.ends(), 0, again.lines)
                 self.assertIn("stable, and so the run is ended", again.lines)
