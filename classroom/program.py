@@ -2,13 +2,17 @@
 from __future__ import annotations
 
 import os
+import re
 import shlex
 import subprocess
 import sys
 from collections.abc import Callable
 from dataclasses import dataclass
+from functools import cache
 from pathlib import Path
 from typing import TypeVar
+
+from classroom.statuses import FAILED
 
 PORTS = 50  # of which the first free one is taken
 Opened = TypeVar("Opened")
@@ -44,7 +48,36 @@ def is_clone() -> bool:
 def built(crate: str) -> Path:
     """Where a crate's program stands: as it is built here, or in a release."""
     here = TOP / "crates" / crate
-    return here / "out" / crate if here.is_dir() else TOP / "bin" / crate.replace("mml_server", "mml")
+    if here.is_dir():
+        return here / "out" / crate
+    if refusal := old_library():
+        raise Fault(refusal, FAILED)
+    return TOP / "bin" / crate.replace("mml_server", "mml")
+
+
+@cache
+def old_library() -> str:
+    """What `mml` says where a release wants a C library from a later version on, if so: the loader's own words are no help."""
+    proved = TOP / "PROVED"
+    wanted = re.search(r"(?m)^# wants glibc ([0-9.]+)$", proved.read_text(encoding="utf-8")) if proved.exists() else None
+    here = library() if wanted else ""
+    if wanted is None or numbers(here) >= numbers(wanted[1]):
+        return ""
+    return f"this release wants the GNU C library {wanted[1]} or later, and here is {here or 'another'}: Debian 12 has 2.36"
+
+
+def library() -> str:
+    """The version of the GNU C library that is here; empty where another one is."""
+    try:
+        told = os.confstr("CS_GNU_LIBC_VERSION")
+    except (OSError, ValueError):
+        told = None
+    return (told or "").removeprefix("glibc ")
+
+
+def numbers(version: str) -> list[int]:
+    """The numbers of a version, in their order."""
+    return [int(number) for number in re.findall("[0-9]+", version)]
 
 
 def program() -> Path:

@@ -2,7 +2,9 @@
 from __future__ import annotations
 
 import re
+import shutil
 import subprocess
+import sys
 import unittest
 from pathlib import Path
 
@@ -68,6 +70,36 @@ class Version(InRoom):
         for more in ((), ("run",)):
             done = words("--version", *more)
             self.assertEqual((done.returncode, done.stdout), (0, told.replace("Cenduwa", "class")))
+
+
+class Release(InRoom):
+    """Its words, where its programs can't be started."""
+
+    def test_a_c_library_that_is_too_old(self) -> None:
+        """Each word that starts a program says so in a line, as `mml` does; the others do their work."""
+        for name in ("class", "mml", "VERSION"):
+            shutil.copy(TOP / name, self.room)
+        shutil.copytree(TOP / "classroom", self.room / "classroom", ignore=shutil.ignore_patterns("__pycache__"))
+        (self.room / "bin").mkdir()
+        for name in ("mml", "mml_host"):
+            self.file(f"bin/{name}", "#!/bin/sh\necho started\nexit 1\n").chmod(0o755)
+        lab = TOP / "examples/cycle.toml"
+        asked: tuple[list[str | Path], ...] = (["run", lab], ["demo"], ["check", lab], ["mark", lab, lab], ["practise"])
+        for wanted, here in (("2.999", r"2\.\d+"), ("3.0", r"2\.\d+")):
+            self.file("PROVED", f"# Cenduwa 1.0.0\n# wants glibc {wanted}\n# The files:\n")
+            line = f"this release wants the GNU C library {re.escape(wanted)} or later, and here is {here}: Debian 12 has 2.36\n"
+            said = subprocess.run([self.room / "mml", "check", lab], capture_output=True, text=True, check=False, timeout=LIMIT)
+            self.assertEqual(said.returncode, 127)
+            self.assertRegex(said.stderr, f"^mml: {line}$")
+            for given in asked:
+                done = subprocess.run([sys.executable, self.room / "class", *given], cwd=self.room, stdin=subprocess.DEVNULL,
+                                      capture_output=True, text=True, check=False, timeout=LIMIT)
+                self.assertEqual((done.returncode, done.stdout), (4, ""), given)
+                self.assertRegex(done.stderr, f"^class: (\\S+: )?{line}$", given)
+            self.assertFalse((self.room / "runs").exists())
+        self.file("PROVED", "# wants glibc 2.9\n")
+        done = subprocess.run([sys.executable, self.room / "class", "check", lab], capture_output=True, text=True, check=False, timeout=LIMIT)
+        self.assertNotIn("C library", done.stderr)
 
 
 class Rekeyed(InRoom):
