@@ -12,7 +12,8 @@ import tempfile
 from tests.check.parts import TOP
 
 # Files whose modules have names of their own, and programs that aren't modules of this tree: one call each.
-CALLS = (("class", "bench", "classroom", "tests"), ("check",), ("examples",))
+EXAMPLES_PYTHON = "3.10"  # from which on a student's client and bot run
+CALLS = (("class", "bench", "classroom", "tests"), ("check",), ("examples",), ("--python-version", EXAMPLES_PYTHON, "examples/bot.py"))
 MOST_LETTERS = 160  # of a line
 IGNORED = "E127,E203,E402,W503,W504"  # of the linter's rules: on forms of lines
 
@@ -26,7 +27,7 @@ def python_files() -> list[str]:
 
 def faults_of(command: list[str]) -> list[str]:
     """What a tool says, where it isn't content."""
-    environment = {**os.environ, "MYPYPATH": "classroom"} if command[-1] == "examples" else None
+    environment = {**os.environ, "MYPYPATH": "classroom"} if command[-1].startswith("examples") else None
     done = subprocess.run(command, cwd=TOP, capture_output=True, text=True, check=False, env=environment)
     return [line for line in (done.stdout + done.stderr).splitlines() if line] if done.returncode else []
 

@@ -11,6 +11,7 @@ What a table has under `Contract` has to be declared: a function, a type, a clau
 crate's page one that the crate declares or cites. A command block of the pages that show how the program is
 used is run by a test, or is marked: `sh not run`, or `text` for what is only an example of an output.
 `docs/crates.svg` has to be what `tests.documents.crates` draws of `crates.txt`.
+A number, a status or a limit of `tests.documents.numbers` has to be what it is counted or taken from.
 All pages together have at most so many words; `CHANGELOG.md`, which grows, isn't counted.
 """
 from __future__ import annotations
@@ -21,7 +22,7 @@ import sys
 from collections.abc import Iterable, Iterator
 from pathlib import Path
 
-from tests.documents import crates
+from tests.documents import crates, numbers
 
 TOP = Path(__file__).resolve().parents[2]
 FENCE = re.compile(r"^```.*?^```$", re.MULTILINE | re.DOTALL)
@@ -31,7 +32,7 @@ ELSEWHERE = set(Path(__file__).with_name("elsewhere.txt").read_text(encoding="ut
 
 # The pages that show how the program is used, and by which test their blocks are run: those without a mark
 # by `tests/pages/pages`, but for the commands that another test has in these words.
-USED = ("README.md", "docs/STUDENT.md", "docs/TEACHER.md", "docs/COURSE.md", "docs/OPERATE.md")
+USED = ("README.md", "docs/STUDENT.md", "docs/TEACHER.md", "docs/COURSE.md", "docs/TRUST.md", "docs/OPERATE.md")
 RUN_BY = {("docs/OPERATE.md", "sh"): "tests/pages/operate", ("docs/STUDENT.md", "python"): "tests/pages/pages"}
 RUN_BEFORE = {
     "tar ": ("tests/release/run", "tar -xzf $release.tar.gz"),
@@ -151,7 +152,7 @@ def told(page: str, files: list[str], folders: set[str], words: set[str], laws: 
 
 def is_command(line: str) -> bool:
     """Whether a line of a block is a command."""
-    return bool(re.match(r"(\./|\.ci/|python3 |tar |ssh |java |mkdir )", line.strip().removeprefix("$ ")))
+    return bool(re.match(r"(\./|\.ci/|python3 |tar |ssh |java |mkdir |sha256sum )", line.strip().removeprefix("$ ")))
 
 
 def commands_of(page: str) -> Iterator[str]:
@@ -219,7 +220,7 @@ def main() -> None:
     missing = [f"not there: {page}: {name}" for page in pages for name in dict.fromkeys(told(page, files, folders, words, laws))]
     missing += [f"no contract: {page}: {name}" for page in pages for name in missing_contracts(page, texts, declared, laws)]
     missing += [f"no test runs it: {page}: {line}" for page in USED for line in unrun_blocks(page, files)]
-    missing += crates.faults()
+    missing += crates.faults() + numbers.faults()
     if total > MOST_WORDS:
         missing.append(f"too long: {total} words in all, of at most {MOST_WORDS}")
     for line in missing:

@@ -1,0 +1,92 @@
+"""The numbers, statuses and limits that the pages promise, each beside what it is counted or taken from.
+
+What `promises` gives has to stand on its page in these words, and so a page says nothing else of it. Times are those of
+`tests.check.parts`, by which `./check` tells its own: a page may round them.
+"""
+from __future__ import annotations
+
+import re
+from collections.abc import Iterator
+from pathlib import Path
+
+from classroom import lab, statuses, suites
+from classroom.client import LOST, MOST, STOPS
+from classroom.run import CLOSING
+from classroom.words import parser
+from tests.check.parts import PROOFS, QUICK, minutes_of, wrong_beside
+
+TOP = Path(__file__).resolve().parents[2]
+README, TEACHER, STUDENT, COURSE, OPERATE = "README.md", "docs/TEACHER.md", "docs/STUDENT.md", "docs/COURSE.md", "docs/OPERATE.md"
+WORDS = "none one two three four five six seven eight nine ten eleven twelve".split()
+# How a page says a number of minutes, and for how many it may say so.
+ROUNDED = {"five minutes": (4, 6), "ten minutes": (7, 13), "half an hour or more": (25, 60), "an hour": (45, 75)}
+PROCESSORS = 4
+
+
+def text(path: str) -> str:
+    """What a file of the repository has."""
+    return (TOP / path).read_text(encoding="utf-8")
+
+
+def only(pattern: str, path: str) -> str:
+    """What the pattern's brackets find in a file, once."""
+    found = re.findall(pattern, text(path), re.MULTILINE)
+    if len(found) != 1:
+        raise ValueError(f"{path} has {len(found)} times {pattern}")
+    return str(found[0])
+
+
+def default(word: str, option: str) -> str:
+    """The value of an option of `./class` that isn't given."""
+    needed = {"run": ["run", "lab"], "new": ["new", "lab", "--students", "names"]}
+    return str(getattr(parser(word).parse_args(needed[word]), option))
+
+
+def releases() -> Iterator[tuple[str, str]]:
+    """The archive's name, what it needs, and what the service file allows."""
+    name = f"cenduwa-{text('VERSION').strip()}-x86_64-linux"
+    yield README, f"tar -xzf {name}.tar.gz && cd {name}\n"
+    yield OPERATE, f"\nrelease={name}\n"
+    python = only(r"^if sys\.version_info < \((\d+, \d+)\):", "class").replace(", ", ".")
+    yield README, f"Python {python} for `class`)"
+    yield OPERATE, f"Python {python} for `class`"
+    examples = only(r'^EXAMPLES_PYTHON = "([\d.]+)"', "tests/check/python.py")
+    yield STUDENT, f"`client.py` and `bot.py` want Python {examples} or later (`class`: {python})."
+    unit = "operate/cenduwa@.service"
+    memory, tasks = only(r"^MemoryMax=(\d+)M$", unit), only(r"^TasksMax=(\d+)$", unit)
+    yield OPERATE, f"with at most {memory} MB and {tasks} threads and processes."
+    if only("^Restart=(.*)$", unit) == "no":
+        yield OPERATE, "It is never restarted by itself"
+
+
+def classes() -> Iterator[tuple[str, str]]:
+    """Labs, suites, defaults, and statuses."""
+    yield README, f"`examples/` has {WORDS[len(list((TOP / 'examples').glob('*.toml')))]} labs."
+    small, families = WORDS[len(suites.SMALL)], WORDS[len(suites.FAMILIES)]
+    yield STUDENT, f"`grade` tries {small} cases, each in an empty folder"
+    yield COURSE, f"`small` has {small} cases, `full` {len(suites.FULL)}, over {families} families of networks"
+    yield TEACHER, f"A lab has {lab.MOST_SESSIONS} seats, one of them yours"
+    yield TEACHER, f"starts the server at {default('run', 'port')} or the next free port"
+    yield TEACHER, f"when nothing came for {WORDS[int(CLOSING.value)]} seconds, or as `--daemon` says"
+    yield TEACHER, (f"A word's status is 0 for done, {statuses.USAGE} not as the words are, {statuses.LAB} the lab or {statuses.JOURNAL} "
+                    f"the journal is refused, {statuses.FAILED} failed, {statuses.WARNED} done with warnings.")
+    status = {word: number for word, (number, _) in STOPS.items()}
+    yield STUDENT, (f"0 the run's end, 1 wrong words, {status['unknown']} a wrong key, {status['not-owner']} a wrong node or line, 4 no server, "
+                    f"{status['busy']} no seat for a minute, {status['full']} nothing is granted any longer, {LOST} the connection was lost")
+    yield STUDENT, f"a line of more than {MOST} bytes"
+    yield README, f"of {only(r'>([0-9]+) runs<', 'docs/experiment.svg')} runs]"
+
+
+def times() -> Iterator[tuple[str, tuple[str, ...]]]:
+    """The ways in which README.md may say how long checks and builds take."""
+    proofs, quick = minutes_of([[PROOFS, wrong_beside()], QUICK], PROCESSORS)
+    for command, minutes in (("| Check it: `./check` | all proofs and tests, in a clone with the toolchain | {} |", proofs + quick),
+                             ("| `./check quick` | all that needs no proof, over the programs that are built | {} |", quick),
+                             ("| `./mml build` | proves and builds both programs | {}, ", PROOFS.minutes(PROCESSORS))):
+        yield README, tuple(command.format(said) for said, (least, most) in ROUNDED.items() if least <= minutes <= most)
+
+
+def faults() -> list[str]:
+    """What the pages say otherwise."""
+    wanted = [(page, (promise,)) for page, promise in (*releases(), *classes())] + [*times()]
+    return [f"promised otherwise: {page}: {' or '.join(it.strip() for it in each)}" for page, each in wanted if not any(it in text(page) for it in each)]
