@@ -1,5 +1,5 @@
 -- What an answer says of what is held.
-use Rattle.std.proofs.Common.{◌≡◌, ℕ, ◌+◌, ◌-◌, ◌<◌, List, length, drop, arith, ◌∙◌, Option, Some, None, IfNone}
+use Rattle.std.proofs.Common.{◌≡◌, ℕ, ◌+◌, ◌-◌, ◌<◌, ◌≤◌, List, length, drop, arith, ◌∙◌, Option, Some, None, IfNone}
 use Rattle.std.specs.List.{slice_range}
 use Rattle.std.proofs.Math.Nat.{lt_of_not-le}
 use Rattle.std.proofs.lemmas.List.{length-take, get_or-take, length-drop}
@@ -8,6 +8,10 @@ use Rattle.mml_lines.specs.declared.lines.TheConstants.{READ_SIZE}
 use Rattle.mml_lines.specs.Finding.{HasLine}
 use Rattle.mml_lines.specs.LinesOf.{IsWithinLimit}
 use Rattle.mml_lines.specs.inside.LinesView.{IsReadNoFurther}
+
+-- a line that is at the front is held whole, with its newline
+pub line_within : (limit start len : ℕ) (held : List ℕ) → HasLine len limit (drop start held) → start + len + 1 ≤ length held
+line_within limit start len held line = omega (arith, line.1, length-drop start held)
 
 -- of a line that is at the front, by places in what is held
 pub line_says : (ending : Option Step) (limit start len : ℕ) (held : List ℕ) → HasLine len limit (drop start held) → IsReadNoFurther limit (drop start held)
@@ -22,3 +26,11 @@ line_says None limit start len held line front =
           front.0 len (omega (arith, length-take (length (drop start held) - READ_SIZE) (drop start held)))
           (get_or-take (length (drop start held) - READ_SIZE) (drop start held) len 0 before ∙ line.2)),
     )
+
+-- after a line that is at the front, no more is held than one read brought in
+pub no_further_after : (limit start len : ℕ) (held : List ℕ) → HasLine len limit (drop start held) → IsReadNoFurther limit (drop start held)
+    → IsReadNoFurther limit (drop (start + len + 1) held)
+no_further_after limit start len held line front =
+    let (_, few) = line_says None limit start len held line front in
+    let none : length (drop (start + len + 1) held) - READ_SIZE ≡ 0 = omega (arith, few) in
+    rw none ((λ k l. absurd (omega (arith, l))), omega arith)

@@ -4,6 +4,7 @@ use Rattle.std.specs.Vec.{vec_capacity}
 use Rattle.mml_lines.specs.declared.lines.Lines.TheInside.{Inside}
 use Rattle.mml_lines.specs.declared.lines.TheConstants.{MAX_READS, READ_SIZE}
 use Rattle.mml_lines.specs.LinesOf.{IsWithinLimit}
+use Rattle.mml_lines.specs.Finding.{Shows}
 use Rattle.mml_lines.specs.LinesState.{LinesState}
 use Rattle.mml_lines.specs.NextLine.{ending_of}
 
@@ -21,11 +22,13 @@ lines_view a = record {
 abbrev pub IsReadNoFurther : ℕ → List ℕ → Type 0
 IsReadNoFurther limit unread = IsWithinLimit limit (take (length unread - READ_SIZE) unread)
 
--- the places are within what is held, there is room for one more read and for its bytes before they are held, and there is no line after the end
+-- the places are within what is held, what comes next is known, there is room for one more read and for its bytes before they are held, and there is no
+-- line after the end
 pub record IsLinesInside (a : Inside) : Type 0 where
   pub line : a.line_start ≤ a.line_end
   pub line_held : a.line_end ≤ vec_len a.held
   pub start_held : a.start ≤ vec_len a.held
+  pub ahead : Shows a.ahead a.limit (drop a.start a.held.items)
   pub room : a.limit + READ_SIZE ≤ vec_capacity a.held
   pub chunk : vec_len a.chunk ≡ READ_SIZE
   pub no_further : IsReadNoFurther a.limit (drop a.start a.held.items)
