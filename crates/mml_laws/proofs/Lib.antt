@@ -12,3 +12,4 @@ pub mod ServedLemmas
 pub mod WordsLemmas
 pub mod FilesLemmas
 pub mod WitnessesLemmas
+pub mod RunClosesLemmas

@@ -6,6 +6,7 @@ pub mod files;
 pub mod greetings;
 pub mod journals;
 pub mod looks;
+pub mod marks;
 pub mod places;
 pub mod rest;
 pub mod rulings;

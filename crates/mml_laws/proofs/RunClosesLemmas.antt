@@ -1,0 +1,96 @@
+-- No student is told more closes than the run has.
+use Rattle.std.proofs.Common.{◌≡◌, ℕ, ◌+◌, ◌<◌, ◌≤◌, Bool, true, false, cond, eqb, List, [], ◌∷◌, length, inl, inr, refl, ap, sym, ◌∙◌, arith}
+use Rattle.std.specs.Prelude.{count_by}
+use Rattle.std.specs.List.{filter}
+use Rattle.std.proofs.lemmas.List.Sums.{sum_by-cons}
+use Rattle.std.proofs.lemmas.Bool.{cases_eq, eq-eqb, ne_eqb}
+use Rattle.mml_rules.specs.declared.rule.Rule.{Rule}
+use Rattle.mml_rules.specs.Rules.{kind_of}
+use Rattle.mml_board.specs.declared.event.Event.{Event}
+use Rattle.mml_board.specs.declared.event.Event.TheVariants as event
+use Rattle.mml_convergence.specs.Moves.{is_close}
+use Rattle.mml_tally.specs.declared.granted_move.Move.{Move}
+use Rattle.mml_tally.specs.Moves.{fate_of, moves_from, moves}
+use Rattle.mml_tally.specs.Marks.{count_closes}
+use Rattle.mml_tally.specs.inside.Closes.{close_of, count_new}
+use Rattle.mml_tally.proofs.ClosesLemmas.{next_close, IsNext, fate_next, closes_counted}
+
+-- one event more at the front of those that are counted
+more : (p : Event → Bool) (e : Event) (es : List Event) → count_by p (e ∷ es) ≡ cond (p e) 1 0 + count_by p es
+more p e es = sum_by-cons (λ x. cond (p x) 1 0) e es
+
+module _ (test : Move → Bool) where
+  -- the closes that are counted of the moves of these events, of which the first has place q
+  abbrev counted : ℕ → ℕ → List Event → ℕ
+  counted last q es = count_new last (filter test (moves_from q es))
+
+  -- they are at most the closes, and fewer where the next one was counted before
+  record AreFew (last q : ℕ) (es : List Event) : Type 0 where
+    most : counted last q es ≤ count_by is_close es
+    fewer : last ≡ next_close q es → next_close q es < q + length es → counted last q es + 1 ≤ count_by is_close es
+
+  -- an event that grants nothing and is no close leaves them
+  passed : (last q : ℕ) (e : Event) (es : List Event) → counted last q (e ∷ es) ≡ counted last (q + 1) es → next_close q (e ∷ es) ≡ next_close (q + 1) es
+      → count_by is_close (e ∷ es) ≡ count_by is_close es → AreFew last (q + 1) es → AreFew last q (e ∷ es)
+  passed last q e es same next closes rest = record {
+    most = omega (arith, same, closes, rest.most);
+    fewer = λ at lt. let fewer = rest.fewer (at ∙ next) (omega (arith, next, lt)) in omega (arith, same, closes, fewer);
+  }
+
+  -- a grant is counted where its close is another than the one before: then it is the next one
+  granted : (last q k : ℕ) (es : List Event) → IsNext last (q + 1) es k → AreFew k (q + 1) es
+      → (cond (eqb k last) 0 1 + counted k (q + 1) es ≤ count_by is_close es)
+      × (last ≡ next_close (q + 1) es → next_close (q + 1) es < q + 1 + length es → cond (eqb k last) 0 1 + counted k (q + 1) es + 1 ≤ count_by is_close es)
+  granted last q k es next rest = elim (cases_eq k last) [
+    | inl e ↦
+        let off : cond {A = ℕ} (eqb k last) 0 1 ≡ 0 = ap (λ b. cond b 0 1) (eq-eqb k last e) in
+        (omega (arith, off, rest.most), λ at lt. let fewer = rest.fewer (e ∙ at) lt in omega (arith, off, fewer))
+    | inr ne ↦
+        let on : cond {A = ℕ} (eqb k last) 0 1 ≡ 1 = ap (λ b. cond b 0 1) (ne_eqb k last ne) in
+        elim next.which [
+          | inl e ↦ absurd (ne e)
+          | inr f ↦ let fewer = rest.fewer f.0 f.1 in (omega (arith, on, fewer), λ at lt. absurd (ne (f.0 ∙ sym at)))
+        ]
+  ]
+
+  abbrev move_of : ℕ → ℕ → ℕ → Rule → List Event → Move
+  move_of q s i rule es = record { place = q; who = s; node = i; kind = kind_of rule; fate = fate_of i (q + 1) es }
+
+  abbrev own_from : ℕ → List Event → List Move
+  own_from q es = filter test (moves_from q es)
+
+  few : (last q : ℕ) (es : List Event) → AreFew last q es
+  few last q [] = record { most = omega arith; fewer = λ e lt. absurd (omega (arith, lt)) }
+  few last q (event.Grant s i rule ∷ es) = go (λ k. few k (q + 1) es) (test (move_of q s i rule es)) refl
+    where
+      closes : count_by is_close (event.Grant s i rule ∷ es) ≡ count_by is_close es
+      closes = let e = more is_close (event.Grant s i rule) es in omega (arith, e)
+
+      go : ((k : ℕ) → AreFew k (q + 1) es) → (b : Bool) → test (move_of q s i rule es) ≡ b → AreFew last q (event.Grant s i rule ∷ es)
+      go rest false e =
+          passed last q (event.Grant s i rule) es
+          (ap (λ c. count_new last (cond c (move_of q s i rule es ∷ own_from (q + 1) es) (own_from (q + 1) es))) e) refl closes (rest last)
+      go rest true e =
+          let k = close_of last (fate_of i (q + 1) es) in
+          let both = granted last q k es (fate_next last i (q + 1) es) (rest k) in
+          let here : counted last q (event.Grant s i rule ∷ es) ≡ count_new last (move_of q s i rule es ∷ own_from (q + 1) es) =
+          ap (λ c. count_new last (cond c (move_of q s i rule es ∷ own_from (q + 1) es) (own_from (q + 1) es))) e in
+          record {
+            most = omega (arith, here, closes, both.0);
+            fewer = λ at lt. let fewer = both.1 at (omega (arith, lt)) in omega (arith, here, closes, fewer);
+          }
+  few last q (event.Close ∷ es) =
+      let rest = few last (q + 1) es in
+      let closes = more is_close event.Close es in
+      record { most = omega (arith, closes, rest.most); fewer = λ at lt. omega (arith, closes, rest.most) }
+  few last q (event.Release i ∷ es) =
+      let e = more is_close (event.Release i) es in passed last q (event.Release i) es refl refl (omega (arith, e)) (few last (q + 1) es)
+  few last q (event.Fault i registers ∷ es) =
+      let e = more is_close (event.Fault i registers) es in passed last q (event.Fault i registers) es refl refl (omega (arith, e)) (few last (q + 1) es)
+  few last q (event.Link a b ∷ es) =
+      let e = more is_close (event.Link a b) es in passed last q (event.Link a b) es refl refl (omega (arith, e)) (few last (q + 1) es)
+  few last q (event.Cut a b ∷ es) =
+      let e = more is_close (event.Cut a b) es in passed last q (event.Cut a b) es refl refl (omega (arith, e)) (few last (q + 1) es)
+
+pub closes_of_run : (test : Move → Bool) (es : List Event) → count_closes (length es) (filter test (moves es)) ≤ count_by is_close es
+closes_of_run test es = let counted = closes_counted test es in let most = (few test 0 1 es).most in omega (arith, counted, most)
