@@ -101,7 +101,9 @@ class Bots(Cycle):
         os.kill(going.server(), signal.SIGKILL)
         self.assertEqual(going.ends(), 4, going.lines)
         again = Going(self, None, "run", "--resume", going.folder, "--close", "by-hand")
-        again.until(f"^connected: gus, {len(playing)} connections$" if len(playing) > 1 else "^connected: gus$")
+        all_are_in = f"connected: gus, {len(playing)} connections" if len(playing) > 1 else "connected: gus"
+        if all_are_in not in again.lines:
+            again.until(f"^{all_are_in}$")
         again.type("end\nend")
         self.assertEqual(again.ends(), 0, again.lines)
         self.are_ended(playing, 0, "the run is over")
