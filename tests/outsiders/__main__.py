@@ -304,44 +304,50 @@ def nobody_behind(room: Path) -> None:
         ends(host, let_in(host.desk, hello("tess"))[0])
 
 
-def guesses(room: Path) -> None:
-    """Fifteen who guess keys have less than a hundred denials a second in all, and are told most of them; honest hellos
-    are told within a tenth of a second, and the teacher's program is told of the guesses."""
-    lab = lab_of(room, 16)
-    with Host(lab, 0, 0) as host:
-        teacher, quiet = let_in(host.desk, hello("tess"))[0], alone(host)
-        stop, denied, others = threading.Event(), [0] * 15, [0] * 15
+def guesses(host: Host, quiet: float) -> tuple[int, int, float]:
+    """Beside those who guess keys, fifteen at the students' port and then fourteen at the desk too, honest hellos at both
+    are told within a tenth of a second. Answers how many guesses were denied, how many who guess were told something
+    else, and how many seconds it took."""
+    stop, denied, others = threading.Event(), [0] * 29, [0] * 29
 
-        def guess(at: int) -> None:
-            with socket.create_connection(("127.0.0.1", host.port), LIMIT) as it, it.makefile("rb") as replies:
-                it.sendall(WRONG * 10)
-                told = [*replies]
-                denied[at] += told.count(UNKNOWN)
-                others[at] += UNKNOWN not in told
+    def guess(at: int) -> None:
+        port = host.port if at < 15 else host.desk
+        with socket.create_connection(("127.0.0.1", port), LIMIT) as it, it.makefile("rb") as replies:
+            it.sendall(WRONG * 10)
+            told = [*replies]
+            denied[at] += told.count(UNKNOWN)
+            others[at] += UNKNOWN not in told
 
-        begun = time.monotonic()
-        threads: list[threading.Thread] = []
-        for count in (5, 15):
-            threads += [thread for at in range(len(threads), count) for thread in until_set(stop, lambda at=at: guess(at))]  # type: ignore[misc]
+    begun = time.monotonic()
+    threads: list[threading.Thread] = []
+    for count in (5, 15, 29):
+        threads += [thread for at in range(len(threads), count) for thread in until_set(stop, lambda at=at: guess(at))]  # type: ignore[misc]
+        for port, name in ((host.port, "ana"), (host.desk, "tess")):
             taken: list[float] = []
             for _ in range(20):
-                caller = comes(host.port, hello("ana"), taken)
-                if b'"ok":"look"' not in caller.ask(look("ana")):
-                    fail("outsiders: a student loses a place to those who guess")
-                caller.ask(BYE)
+                caller = comes(port, hello(name), taken)
+                if b'"ok":"look"' not in caller.ask(b'{"do":"look","node":1}\n'):
+                    fail(f"outsiders: {name} loses a place to those who guess")
                 caller.close()
             waits_little(taken, quiet, 0.1)
-        while sum(denied) < 100 and time.monotonic() - begun < LIMIT:
-            time.sleep(0.05)
-        stop.set()
-        for thread in threads:
-            thread.join()
-        rate = sum(denied) / (time.monotonic() - begun)
-        if rate > 100 or sum(denied) < 100:
-            fail(f"outsiders: {rate} keys are guessed a second")
-        if sum(others) * 4 > sum(denied):
-            fail(f"outsiders: {sum(others)} who guess aren't told that they are wrong, and {sum(denied)} are")
-        ended = host.dismissed(teacher)
+    while sum(denied) < 100 and time.monotonic() - begun < LIMIT:
+        time.sleep(0.05)
+    stop.set()
+    for thread in threads:
+        thread.join()
+    return sum(denied), sum(others), time.monotonic() - begun
+
+
+def guessed_keys(room: Path) -> None:
+    """Those who guess keys have less than a hundred denials a second in all, and are told most of them; the teacher's
+    program is told of the guesses."""
+    with Host(lab_of(room, 16), 0, 0) as host:
+        denied, others, seconds = guesses(host, alone(host))
+        if denied / seconds > 100 or denied < 100:
+            fail(f"outsiders: {denied} keys are guessed in {seconds} seconds")
+        if others * 4 > denied:
+            fail(f"outsiders: {others} who guess aren't told that they are wrong, and {denied} are")
+        ended = host.dismissed(let_in(host.desk, hello("tess"))[0])
         if ended.out != NONE.out or b"hellos had no right key" not in ended.error:
             fail(f"outsiders: nobody is told of guesses: {ended}")
 
@@ -530,7 +536,7 @@ def small_stacks(room: Path) -> None:
 
 
 TESTS: list[Test] = [
-    never_reads, ten_minutes, silent_ones, guesses, refused_threads, comes_again, one_of_many, a_third, nobody_behind, journals,
+    never_reads, ten_minutes, silent_ones, guessed_keys, refused_threads, comes_again, one_of_many, a_third, nobody_behind, journals,
     limits_of_files, few, small_stacks,
     three_hellos, a_web_form, words_at_the_end, asks_after_the_bye,
 ]

@@ -2,12 +2,13 @@
 ghost use Rattle.std.specs.Prelude.{◌<◌, IfSome, vec_len};
 
 use crate::last_word::LastWord;
+use crate::parting::Partings;
 use crate::shared_socket::SharedSocket;
 use mml_ids::Memory;
 use std::alloc::Global;
 use std::sync::atomic::{AtomicBool, Ordering};
 use std::sync::{Arc, Mutex, Wait};
-use std::time::{Duration, Instant};
+use std::time::{Clock, Duration, Instant};
 
 // One in so many places is for those who haven't greeted.
 const STRANGERS: usize = 3;
@@ -36,8 +37,7 @@ impl Guest {
         self.greeting.is_none() && !self.is_leaving
     }
 
-    // Whether it has had its time. Of one whose hello is denied nothing more is heard, though it may still
-    // wait for the turn of its denial.
+    // Whether it has had its time. Who waits for the turn of a denial may wait for it elsewhere.
     fn may_go(&self, now: Instant) -> bool {
         self.is_stranger()
             && (self.socket.is_answered.load(Ordering::SeqCst)
@@ -64,6 +64,7 @@ pub struct Crowd {
     guests: Mutex<Vec<Guest>>,
     places: usize,
     is_wanted: AtomicBool,
+    pub(crate) partings: Partings,
 }
 
 impl Crowd {
@@ -73,6 +74,7 @@ impl Crowd {
             guests: Mutex::new(Vec::new(alloc)),
             places,
             is_wanted: AtomicBool::new(false),
+            partings: Partings::new(alloc),
         }
     }
 
@@ -126,18 +128,43 @@ impl Crowd {
         self.is_wanted.load(Ordering::SeqCst)
     }
 
+    /// A hello was denied. Where a newcomer waits for it, the first of those who haven't greeted leaves at once.
+    pub fn note_denial<Rt: Wait + Clock>(&self, rt: &Rt) {
+        if self.is_wanted()
+            && let Ok(now) = Instant::now(rt)
+        {
+            let mut guests = self.guests.lock(rt);
+            let _is_full = self.has_strangers(rt, &mut guests, now);
+        }
+    }
+
+    // Whether those who haven't greeted have their share. Then the first who has had its time leaves.
+    fn has_strangers<Rt: Wait>(&self, rt: &Rt, guests: &mut Vec<Guest>, now: Instant) -> bool {
+        let share = (self.places / STRANGERS).max(1);
+        if count_strangers(guests) < share {
+            return false;
+        }
+        if let Some(at) = oldest_stranger(guests, now)
+            && let Some(guest) = guests.get_mut(at)
+        {
+            guest.leaves(rt);
+        }
+        true
+    }
+
+    /// Whether one is leaving, or has left and is still owed a denial.
+    pub fn is_parting<Rt: Wait>(&self, rt: &Rt) -> bool {
+        let is_leaving = is_one_leaving(&self.guests.lock(rt));
+        // Who has left meanwhile is among these.
+        is_leaving || !self.partings.is_empty(rt)
+    }
+
     /// Whether there is a place for a newcomer, who has waited for so long. Where there is none, one who has
     /// to leave for it does: the first of those who haven't greeted, where they have their share, or after
     /// a moment the last of a name that has more places than it may.
     pub fn has_room<Rt: Wait>(&self, rt: &Rt, now: Instant, waited: Duration) -> bool {
         let mut guests = self.guests.lock(rt);
-        let share = (self.places / STRANGERS).max(1);
-        if count_strangers(&guests) >= share {
-            if let Some(at) = oldest_stranger(&guests, now)
-                && let Some(guest) = guests.get_mut(at)
-            {
-                guest.leaves(rt);
-            }
+        if self.has_strangers(rt, &mut guests, now) {
             return false;
         }
         if guests.len() < self.places {

@@ -86,9 +86,14 @@ impl<'a, Rt: Clock + Wait + Eprint> Port<'a, Rt> {
         }
     }
 
+    // Whether others wait for a place, or for a denial.
+    fn is_hurried(&self) -> bool {
+        !self.waiting.is_empty() || self.crowd.is_parting(self.rt)
+    }
+
     // The next connection, for whose sake nothing is done yet. While others wait it isn't waited for.
     fn accept(&mut self) -> io::Result<Newcomer<'a, Rt>> {
-        self.listener.set_nonblocking(!self.waiting.is_empty())?;
+        self.listener.set_nonblocking(self.is_hurried())?;
         let (stream, _) = self.listener.accept()?;
         // Where the system refuses this, replies still go out, only later.
         let _ = stream.set_nodelay(true);
@@ -186,6 +191,7 @@ impl<'a, Rt: Clock + Wait + Eprint> Port<'a, Rt> {
                 first.turn_away(self.rt, LastWord::Over);
             }
         }
+        self.crowd.partings.close(self.rt);
         Next::Over
     }
 
@@ -201,8 +207,7 @@ impl<'a, Rt: Clock + Wait + Eprint> Port<'a, Rt> {
             }
         }
         if kind != ErrorKind::Interrupted {
-            let is_hurried = !self.waiting.is_empty();
-            self.state.wait_past(self.rt, ended, is_hurried);
+            self.state.wait_past(self.rt, ended, self.is_hurried());
         }
     }
 }
@@ -217,6 +222,7 @@ impl<'a, Rt: Clock + Wait + Eprint> Arrivals<
         if self.state.is_over(self.rt) {
             return self.close();
         }
+        self.crowd.partings.go_on(self.rt);
         if let Some(next) = self.let_in() {
             return next;
         }

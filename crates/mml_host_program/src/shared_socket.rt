@@ -2,7 +2,8 @@
 use crate::last_word::LastWord;
 use std::net::{Shutdown, TcpStream};
 use std::sync::atomic::{AtomicBool, AtomicU64, Ordering};
-use std::sync::{Mutex, RwLock, Wait};
+use std::sync::{Condvar, CondvarTimeouts, Mutex, RwLock, Wait};
+use std::time::{Clock, Duration};
 
 // How many hellos of a connection may be denied before it is ended.
 const DENIALS: u64 = 3;
@@ -24,6 +25,8 @@ pub struct SharedSocket {
     is_writing: AtomicBool,
     is_ending: AtomicBool,
     last: Mutex<Option<LastWord>>,
+    // Whether another thread ends the connection may be waited for.
+    ending: Condvar,
 }
 
 impl SharedSocket {
@@ -39,6 +42,7 @@ impl SharedSocket {
             is_writing: AtomicBool::new(false),
             is_ending: AtomicBool::new(false),
             last: Mutex::new(None),
+            ending: Condvar::new(),
         }
     }
 
@@ -72,8 +76,7 @@ impl SharedSocket {
     /// Ends the connection from another thread than its own, with that word: nothing more is read, and
     /// who is writing is hung up.
     pub(crate) fn end_with<Rt: Wait>(&self, rt: &Rt, word: LastWord) {
-        self.note_last(rt, word);
-        self.is_ending.store(true, Ordering::SeqCst);
+        self.begin_end(rt, word);
         let how = if self.is_writing.load(Ordering::SeqCst) {
             Shutdown::Both
         } else {
@@ -84,6 +87,25 @@ impl SharedSocket {
             // It is refused where the other side is gone.
             let _ = stream.shutdown(how);
         }
+    }
+
+    // Both at once, so that who waits for the end isn't told before.
+    fn begin_end<Rt: Wait>(&self, rt: &Rt, word: LastWord) {
+        let mut last = self.last.lock(rt);
+        if last.is_none() {
+            *last = Some(word);
+        }
+        self.is_ending.store(true, Ordering::SeqCst);
+        self.ending.notify_all();
+    }
+
+    /// Waits until another thread ends the connection, for so long at most.
+    pub(crate) fn wait_for_end<Rt: Wait + Clock>(&self, rt: &Rt, time: Duration) {
+        let _ended = self
+            .ending
+            .wait_timeout_while(rt, self.last.lock(rt), time, |_| {
+                !self.is_ending.load(Ordering::SeqCst)
+            });
     }
 
     /// A write begins, unless the connection is being ended; and it has ended.

@@ -4,6 +4,7 @@ ghost use Rattle.std.specs.Io.{WritesAtMost};
 
 use crate::crowd::Crowd;
 use crate::last_word::LastWord;
+use crate::parting::UNKNOWN;
 use crate::shared_socket::SharedSocket;
 use crate::socket_reader::Incoming;
 use crate::state::HostState;
@@ -37,12 +38,13 @@ const TURN: u64 = 15;
 
 const TURN_SIZE: usize = 1024;
 
-// How the replies begin to a hello that is granted, and to one whose name and key don't match.
+// Of a denial whose turn comes within so many milliseconds the place may be left before that.
+const NEAR: u64 = 500;
+
+// How the reply begins to a hello that is granted, and how it ends.
 const GREETED: &[u8] = b"{\"ok\":\"hello\",\"who\":\"";
 
 const GREETED_END: &[u8] = b"\"}\n";
-
-const UNKNOWN: &[u8] = b"{\"clause\":2,\"deny\":\"unknown\",";
 
 const BID: &[u8] = b"{\"ok\":\"bye\"}\n";
 
@@ -61,20 +63,23 @@ pub struct SocketWriter<'a, Rt> {
     is_whole: bool,
     // Whether the other side has taken nothing for too long.
     is_deaf: bool,
+    // The turn of the denial that it is owed when it has left.
+    owed: Option<Instant>,
 }
 
 impl<'a, Rt: Clock + Wait + Eprint> SocketWriter<'a, Rt> {
-    // Takes note of a reply before it goes out. A name and key that don't match are denied in their turn.
-    fn note(&mut self, reply: &[u8]) {
+    // Takes note of a reply before it goes out. A name and key that don't match are denied in their turn,
+    // which is answered.
+    fn note(&mut self, reply: &[u8]) -> io::Result<Option<Instant>> {
         let socket = &self.socket;
         if socket.is_greeted.load(Ordering::SeqCst) {
-            return;
+            return Ok(None);
         }
         if let Some(name) = name_in(reply) {
             self.is_teachers = self.is_desk && self.state.is_teacher(name);
             self.crowd.greet(self.rt, self.alloc, socket.number, reply);
             socket.is_greeted.store(true, Ordering::SeqCst);
-        } else if reply.starts_with(UNKNOWN) {
+        } else if reply == UNKNOWN {
             socket.note_denial();
             if let Some(count) = self.state.note_denial(self.rt) {
                 let rt = self.rt;
@@ -82,8 +87,21 @@ impl<'a, Rt: Clock + Wait + Eprint> SocketWriter<'a, Rt> {
                     "host: {count} hellos had no right key: somebody may be guessing"
                 );
             }
-            thread::sleep(self.rt, self.state.turn_of_denial(self.rt));
+            self.crowd.note_denial(self.rt);
+            let turn = self.state.turn_of_denial(self.rt)?;
+            self.wait_for_turn(turn)?;
+            return Ok(Some(turn));
         }
+        Ok(None)
+    }
+
+    // Waits for the turn of a denial, or until the place is wanted, if the turn is near.
+    fn wait_for_turn(&self, turn: Instant) -> io::Result<()> {
+        let wait = turn.duration_since(Instant::now(self.rt)?);
+        let near = Duration::from_millis(NEAR);
+        thread::sleep(self.rt, wait.saturating_sub(near));
+        self.socket.wait_for_end(self.rt, wait.min(near));
+        Ok(())
     }
 
     // Writes what the other side takes.
@@ -104,22 +122,15 @@ impl<'a, Rt: Clock + Wait + Eprint> SocketWriter<'a, Rt> {
         }
     }
 
-    // Writes a denial whose connection leaves for a newcomer since it waits for its turn, if it is taken at once.
-    fn write_parting(&mut self, buf: &[u8]) -> io::Result<usize>
+    // Takes note of a denial whose connection leaves for a newcomer: it is told that in its turn.
+    fn leave_owed(&mut self, buf: &[u8], turn: Option<Instant>) -> io::Result<usize>
         ensures { WritesAtMost result buf.now }
     {
-        if !self.is_whole || !buf.starts_with(UNKNOWN) || !self.socket.is_turned_away(self.rt) {
+        if turn.is_none() || !self.socket.is_turned_away(self.rt) {
             return Err(Error::from(ErrorKind::BrokenPipe));
         }
-        let stream = self.socket.stream.read(self.rt);
-        match &*stream {
-            Some(stream) => {
-                stream.set_write_timeout(Some(Duration::from_millis(PARTING)))?;
-                let mut stream = stream;
-                stream.write(buf)
-            }
-            None => Err(Error::from(ErrorKind::NotConnected)),
-        }
+        self.owed = turn;
+        Ok(buf.len())
     }
 
     // Writes the reply that ends the class. Who has read something meanwhile waits for it, and whether it is out.
@@ -144,9 +155,7 @@ impl<'a, Rt: Clock + Wait + Eprint> Write for SocketWriter<'a, Rt> {
         if self.is_deaf {
             return Err(Error::from(ErrorKind::TimedOut));
         }
-        if self.is_whole {
-            self.note(buf);
-        }
+        let turn = if self.is_whole { self.note(buf)? } else { None };
         let written = if self.socket.begin_write() {
             if self.is_teachers && self.is_whole && buf == BID {
                 self.write_last(buf)
@@ -154,7 +163,7 @@ impl<'a, Rt: Clock + Wait + Eprint> Write for SocketWriter<'a, Rt> {
                 self.write_now(buf)
             }
         } else {
-            self.write_parting(buf)
+            self.leave_owed(buf, turn)
         };
         self.socket.end_write();
         let taken = written?;
@@ -197,6 +206,7 @@ impl<'a, Rt: Clock + Wait + Eprint> Outgoing<'a, Rt> {
                 is_teachers: false,
                 is_whole: true,
                 is_deaf: false,
+                owed: None,
             }),
         }
     }
@@ -220,17 +230,21 @@ impl<'a, Rt: Clock + Wait + Eprint> HangUp for Outgoing<'a, Rt> {
         let socket = &writer.socket;
         let is_served = socket.is_served.load(Ordering::SeqCst);
         let stream = socket.stream.write(rt).take();
-        if let Some(stream) = stream {
-            if writer.is_whole
-                && let Some(word) = socket.last(rt)
-            {
-                say(&stream, word);
+        match (stream, writer.owed) {
+            (Some(stream), Some(turn)) => writer.crowd.partings.add(rt, stream, turn),
+            (Some(stream), None) => {
+                if writer.is_whole
+                    && let Some(word) = socket.last(rt)
+                {
+                    say(&stream, word);
+                }
+                if is_served && !socket.is_turned_away(rt) {
+                    linger(stream, writer.crowd);
+                } else {
+                    part_from(stream);
+                }
             }
-            if is_served && !socket.is_turned_away(rt) {
-                linger(stream, writer.crowd);
-            } else {
-                part_from(stream);
-            }
+            (None, _) => {}
         }
         // Who was served leaves its place when that may be used again.
         if !is_served {

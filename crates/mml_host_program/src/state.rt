@@ -3,6 +3,7 @@ use crate::crowd::Crowd;
 use mml_ids::Memory;
 use mml_lab::{Lab, Who};
 use std::alloc::Global;
+use std::io;
 use std::sync::{Condvar, CondvarTimeouts, Mutex, RwLock, Wait};
 use std::time::{Clock, Duration, Instant};
 
@@ -118,18 +119,16 @@ impl HostState {
             .wait_timeout_while(rt, self.news.lock(rt), pause, |news| news.ended == count);
     }
 
-    /// How long a denial of a name and key has to wait: each has its turn, whoever it is told.
-    pub fn turn_of_denial<Rt: Wait + Clock>(&self, rt: &Rt) -> Duration {
-        let Ok(now) = Instant::now(rt) else {
-            return Duration::from_millis(DENIAL);
-        };
+    /// When a denial of a name and key is told: each has its turn, whoever it is told.
+    pub fn turn_of_denial<Rt: Wait + Clock>(&self, rt: &Rt) -> io::Result<Instant> {
+        let now = Instant::now(rt)?;
         let mut news = self.news.lock(rt);
         let turn = match news.next_denial {
             Some(next) if next > now => next,
             _ => now,
         };
         news.next_denial = turn.checked_add(Duration::from_millis(DENIAL));
-        turn.duration_since(now)
+        Ok(turn)
     }
 
     /// A name and key were denied; answers how many were, where it is time to tell.

@@ -1,0 +1,129 @@
+//! Those who left their place before the turn of their denial.
+use crate::last_word::LastWord;
+use std::alloc::Global;
+use std::collections::VecDeque;
+use std::io::{Read, Write};
+use std::net::{Shutdown, TcpStream};
+use std::sync::{Mutex, Wait};
+use std::time::{Clock, Duration, Instant};
+
+// How the reply is to a hello whose name and key don't match.
+pub(crate) const UNKNOWN: &[u8] =
+    b"{\"clause\":2,\"deny\":\"unknown\",\"text\":\"name and key do not match\"}\n";
+
+// How many milliseconds the other side has to take what it was told.
+const PARTING: u64 = 20;
+
+// The most bytes that are taken of it then.
+const PARTING_SIZE: usize = 4096;
+
+// One who has left, and when it goes on with it.
+#[derive(Drop)]
+struct Parting {
+    stream: TcpStream,
+    next: Instant,
+    is_told: bool,
+}
+
+impl Parting {
+    // Tells it the denial once its turn has come, and then lets go of it after a while.
+    fn goes_on(self, now: Instant) -> Option<Parting> {
+        if now < self.next {
+            return Some(self);
+        }
+        let stream = self.stream;
+        if self.is_told {
+            take_unwanted(&stream);
+            return None;
+        }
+        tell(&stream, UNKNOWN);
+        tell(&stream, LastWord::Busy.line());
+        if stream.shutdown(Shutdown::Write).is_err() {
+            return None;
+        }
+        take_unwanted(&stream);
+        let next = now.checked_add(Duration::from_millis(PARTING))?;
+        Some(Parting {
+            stream,
+            next,
+            is_told: true,
+        })
+    }
+}
+
+// Writes a line, if the other side takes it at once.
+fn tell(stream: &TcpStream, line: &[u8]) {
+    let mut stream = stream;
+    let _ = stream.write(line);
+}
+
+// Takes what has come: a socket that is closed over bytes which nobody took throws away what it has still to send.
+fn take_unwanted(stream: &TcpStream) {
+    let mut stream = stream;
+    let mut unwanted = [0; PARTING_SIZE];
+    let _ = stream.read(&mut unwanted);
+}
+
+/// Those who have left their place at a port for a newcomer, and are still owed the denial of their hello.
+#[derive(Drop)]
+pub struct Partings {
+    all: Mutex<VecDeque<Parting>>,
+}
+
+impl Partings {
+    /// Nobody is owed anything.
+    pub fn new(alloc: Global) -> Partings {
+        Partings {
+            all: Mutex::new(VecDeque::new(alloc)),
+        }
+    }
+
+    /// Whether nobody is owed anything.
+    pub fn is_empty<Rt: Wait>(&self, rt: &Rt) -> bool {
+        self.all.lock(rt).is_empty()
+    }
+
+    /// One has left whose denial has its turn then. Without memory it isn't told.
+    pub fn add<Rt: Wait>(&self, rt: &Rt, stream: TcpStream, turn: Instant) {
+        if stream.set_nonblocking(true).is_err() {
+            return;
+        }
+        let parting = Parting {
+            stream,
+            next: turn,
+            is_told: false,
+        };
+        let _ = self.all.lock(rt).push_back(parting);
+    }
+
+    /// Tells those whose turn has come, and lets go of those who had time to take it. It waits for none.
+    pub fn go_on<Rt: Wait + Clock>(&self, rt: &Rt) {
+        let mut all = self.all.lock(rt);
+        if all.is_empty() {
+            return;
+        }
+        let Ok(now) = Instant::now(rt) else {
+            return;
+        };
+        for _ in 0..all.len() {
+            if let Some(first) = all.pop_front()
+                && let Some(parting) = first.goes_on(now)
+            {
+                // It has the room that it had.
+                let _ = all.push_back(parting);
+            }
+        }
+    }
+
+    /// Nobody is told a denial any more.
+    pub fn close<Rt: Wait>(&self, rt: &Rt) {
+        let mut all = self.all.lock(rt);
+        for _ in 0..all.len() {
+            if let Some(first) = all.pop_front()
+                && !first.is_told
+            {
+                tell(&first.stream, LastWord::Over.line());
+            }
+        }
+    }
+}
