@@ -217,7 +217,7 @@ def until_set(stop: threading.Event, act: Callable[[], None]) -> list[threading.
             except OSError:
                 time.sleep(0.01)
 
-    thread = threading.Thread(target=work)
+    thread = threading.Thread(target=work, daemon=True)  # A test that fails ends, too.
     thread.start()
     return [thread]
 
