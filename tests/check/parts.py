@@ -22,7 +22,7 @@ class Part:
     command: tuple[str, ...]
     work: float  # processor minutes
     least: float  # minutes of the clock, however many processors there are
-    width: int = 1  # how many processors it keeps busy
+    width: float = 1  # how many processors it keeps busy: less than one where it mostly waits
     needs: tuple[str, ...] = ()  # names of `needs.NEEDS`
     likes: tuple[str, ...] = ()  # what a few of its tests need, which are left out without it
     shows: str = ""  # the lines of its output that are shown as they come
@@ -53,8 +53,8 @@ LANGUAGES = ("java", "node", "cc", "rustc")
 PROVED = "[ps]*/**/*.*t"  # a crate's src/, specs/ and proofs/
 EDITS = "wrong/*.edit"
 STANDS = r"^rt: (\w+) (?:proved$|is kept: )"  # a crate whose library is written
-PROOFS = Part("proofs", ("rt", "ci"), 119, 40, ALL, ("rt",), shows=r"^rt: ", hands_on=STANDS)
-WRONG = Part("wrong", module("wrong"), 63, 10, ALL, ("rt",))
+PROOFS = Part("proofs", ("rt", "ci"), 125, 60, ALL, ("rt",), shows=r"^rt: ", hands_on=STANDS)
+WRONG = Part("wrong", module("wrong"), 77, 10, ALL, ("rt",))
 LAST_CRATES = 5  # minutes of the wrong bodies of the crates that are proved last
 
 
@@ -65,35 +65,35 @@ def classroom() -> Iterator[Part]:
         needs = (*BUILT, "python3", *["browser"] * ("tests.classroom.browser" in text))
         likes = tuple(it for it in LANGUAGES if f'"{it}"' in text)
         name = it.stem.replace("test_", "class-")
-        yield Part(name, cases(f"classroom.{it.stem}", python="/usr/bin/python3"), 0.2, 0.4, 1, needs, likes)
+        yield Part(name, cases(f"classroom.{it.stem}", python="/usr/bin/python3"), 0.2, 0.4, 0.5, needs, likes)
 
 
 # What needs no proof. The first that fits is begun first, so that the long ones stand before the short ones.
 QUICK = [
     Part("release", ("bash", "tests/release/run"), 1.5, 2.5, 1, ("built", "root", "release", "openssh-server", "git")),
-    Part("hostile", module("hostile"), 0.1, 1.1, 2, BUILT),
+    Part("hostile", module("hostile"), 0.1, 1.1, 0.5, BUILT),
     Part("random", module("random"), 1.0, 1.0, 1, BUILT),
     *classroom(),
     Part("launchers", ("bash", "tests/program/launchers"), 1.2, 1.3, 1, ("built", "rt", "git")),
-    Part("host", module("host"), 0.3, 0.8, 2, BUILT),
-    Part("outsiders", module("outsiders"), 0.3, 1.0, 2, (*BUILT, "rt")),
-    Part("outsiders-bots", module("outsiders.bots"), 0.2, 0.7, 2, BUILT),
-    Part("hostile-host", module("hostile", "15", "host"), 0.2, 0.5, 2, BUILT),
-    Part("resume", module("resume"), 0.5, 1.0, 2, (*BUILT, "rt")),
+    Part("host", module("host"), 0.3, 0.8, 0.5, BUILT),
+    Part("outsiders", module("outsiders"), 0.3, 1.0, 0.5, (*BUILT, "rt")),
+    Part("outsiders-bots", module("outsiders.bots"), 0.2, 0.7, 0.5, BUILT),
+    Part("hostile-host", module("hostile", "15", "host"), 0.2, 0.5, 0.5, BUILT),
+    Part("resume", module("resume"), 0.5, 1.0, 0.5, (*BUILT, "rt")),
     Part("record", module("record"), 0.4, 0.5, 1, BUILT),
-    Part("wrong-tests", cases("wrong.test_wrong", "wrong.test_beside"), 0.6, 0.6, 1, ("rt",)),
-    Part("check", cases("check.test_check", "check.test_pieces"), 0.2, 0.6, 1),
-    Part("memory", module("memory", "uses"), 0.2, 0.4, 1, (*BUILT, "rt")),
-    Part("tally", module("tally", "20"), 0.1, 0.2, 1, BUILT),
+    Part("wrong-tests", cases("wrong.test_wrong", "wrong.test_beside", "wrong.test_saved"), 0.6, 0.6, 1, ("rt",)),
+    Part("check", cases("check.test_check", "check.test_pieces"), 0.2, 0.6, 0.5),
+    Part("memory", module("memory", "uses"), 0.2, 0.4, 0.5, (*BUILT, "rt")),
+    Part("tally", module("tally", "20"), 0.1, 0.2, 0.5, BUILT),
     Part("calls", module("program"), 0.2, 0.3, 1, BUILT),
     Part("refusals", module("memory", "tests"), 0.2, 0.2, 1, ("tests", "rt")),
-    Part("program", ("bash", "tests/program/run"), 0.1, 0.2, 1, BUILT),
-    Part("faults", module("faults"), 0.1, 0.2, 1, (*BUILT, "rt")),
+    Part("program", ("bash", "tests/program/run"), 0.1, 0.2, 0.5, BUILT),
+    Part("faults", module("faults"), 0.1, 0.2, 0.5, (*BUILT, "rt")),
     Part("audits", module("program.audits"), 0.2, 0.2, 1, BUILT),
     Part("labs", module("labs"), 0.1, 0.1, 1, BUILT),
     Part("lines", module("program.lines"), 0.1, 0.1, 1, BUILT),
     Part("halted", module("program.halted"), 0.1, 0.1, 1, BUILT),
-    Part("journals", ("bash", "tests/journals/run"), 0.1, 0.2, 1, BUILT),
+    Part("journals", ("bash", "tests/journals/run"), 0.1, 0.2, 0.5, BUILT),
     Part("large", module("program.large"), 0.1, 0.1, 1, BUILT),
     Part("documents", module("documents"), 0.1, 0.1, 1, ("git",)),
     Part("python", module("check.python"), 0.5, 0.5, 1, ("git", "types")),

@@ -387,15 +387,18 @@ def never_reads(room: Path) -> None:
         deaf = let_in(host.port, hello("ana"))[0]
         deaf.socket.setblocking(False)
         held, last, looks = "", time.monotonic(), 0
+        earlier = last
         while looks < 500:
             try:
                 deaf.socket.send(look("ana") * 1000)
             except BlockingIOError:
                 pass
             except ConnectionError:
+                # What moved at the last look may have been the end itself.
+                last = earlier if looks == 1 else last
                 break
             if (now := queues(host, deaf)) != held:
-                held, last, looks = now, time.monotonic(), 0
+                earlier, held, last, looks = last, now, time.monotonic(), 0
             time.sleep(0.05)
             looks += 1
         # Since anything moved. In seconds it isn't earlier; looks take longer on a slow machine, as all does.

@@ -3,7 +3,7 @@ from __future__ import annotations
 
 import tempfile
 from collections.abc import Iterable, Iterator
-from concurrent.futures import ThreadPoolExecutor, as_completed
+from concurrent.futures import Future, ThreadPoolExecutor, as_completed
 from dataclasses import dataclass, field
 from pathlib import Path
 
@@ -12,6 +12,7 @@ from tests.wrong.edits import Round, read_edits, rounds_of
 from tests.wrong.judging import judge
 from tests.wrong.libraries import Tree
 from tests.wrong.outputs import read_output
+from tests.wrong.saved import find_name, hand_on
 
 
 @dataclass
@@ -41,8 +42,8 @@ class Tried:
         self.faults += [f"{name}: {fault}" for name, faults in judged.of_edit.items() for fault in faults]
 
 
-def try_crate(tree: Tree, crate: str, running: Running, logs: Path | None = None) -> Tried:
-    """Tries the edits of a crate."""
+def try_crate(tree: Tree, crate: str, running: Running, logs: Path | None = None, saved: Future[str] | None = None) -> Tried:
+    """Tries the edits of a crate; what its library holds is handed on under the name of what is saved, if that is found."""
     folder, tried = tree.folder(crate), Tried(crate)
     edits, tried.faults = read_edits(folder)
     tried.failed = len(tried.faults)
@@ -52,6 +53,9 @@ def try_crate(tree: Tree, crate: str, running: Running, logs: Path | None = None
         tried.faults.append(f"not built, which `rt ci` or `rt check` does: {', '.join(dict.fromkeys(missing))}")
         return tried
     with tempfile.TemporaryDirectory(prefix="mml-wrong-") as room:
+        name = saved.result() if saved else ""
+        if name:
+            hand_on(tree.library(crate), Path(room) / "kept" / name)
         for it in rounds_of(edits, folder):
             ended = try_round(tree, crate, it, Path(room), running)
             tried.checks += 1
@@ -66,7 +70,8 @@ def try_crates(tree: Tree, crates: Iterable[str], lanes: int, logs: Path | None,
     """Tries the edits of crates side by side, as they are given, and then gives what came of each as it is done."""
     with ThreadPoolExecutor(lanes) as pool:
         try:
-            for future in as_completed([pool.submit(try_crate, tree, it, running, logs) for it in crates]):
+            saved = pool.submit(find_name, tree)
+            for future in as_completed([pool.submit(try_crate, tree, it, running, logs, saved) for it in crates]):
                 yield future.result()
         finally:
             running.stop()

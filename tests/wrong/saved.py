@@ -1,0 +1,49 @@
+"""What a crate's library holds of the check that proved it, put where the checks of its wrong bodies look for it.
+
+A library has the modules that were checked for it. A check that goes on from a folder takes from there what is up
+to date, and checks the rest: so a function that no edit touches, and that calls none that one does, isn't proved
+once more. Where a library has no such modules, or the prover saves under no name, all are checked.
+"""
+from __future__ import annotations
+
+import json
+import shutil
+import tempfile
+from pathlib import Path
+
+from tests.wrong.checks import Running
+from tests.wrong.libraries import Tree, check_words
+
+NOTHING = "nothing"
+TEXT = "#![tactic(auto)]\n\n/// Does nothing.\npub fn nothing() {}\n"
+
+
+def find_name(tree: Tree) -> str:
+    """The name of the folder in which the checks of this prover save modules, or none. It waits for no other check."""
+    with tempfile.TemporaryDirectory(prefix="mml-wrong-") as room:
+        alone, kept = Tree(Path(room), tree.kit, {NOTHING: []}), Path(room) / "kept"
+        (alone.folder(NOTHING) / "src").mkdir(parents=True)
+        (alone.folder(NOTHING) / "src/lib.rt").write_text(TEXT, encoding="utf-8")
+        kept.mkdir()
+        Running().run([*check_words(alone, NOTHING, set(), kept), "--only", ""], alone.folder(NOTHING))
+        names = [it.name for it in kept.iterdir() if it.is_dir()]
+    return names[0] if len(names) == 1 else ""
+
+
+def hand_on(library: Path, to: Path) -> None:
+    """Puts the modules that a library holds into a folder, each as a file of its name."""
+    listed, modules = (library / "toolchain" / it for it in ("checked.json", "checked.a"))
+    if not (listed.is_file() and modules.is_file()):
+        return
+    to.mkdir(parents=True)
+    try:
+        with listed.open(encoding="utf-8") as lines, modules.open("rb") as all_of_them:
+            for line in lines:
+                name, begins, size = json.loads(line)
+                if "/" in name:  # (no module, but the sum of all)
+                    continue
+                all_of_them.seek(begins)
+                if (to / f"{name}.oantt").write_bytes(all_of_them.read(size)) != size:
+                    raise ValueError(name)
+    except (ValueError, TypeError, OSError):  # (another form than this prover's, or no room)
+        shutil.rmtree(to)

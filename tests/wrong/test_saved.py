@@ -1,0 +1,96 @@
+"""The test of what is handed on from a library to the checks of its crate's wrong bodies.
+
+    python3 -B -m unittest tests.wrong.test_saved      a minute of processor; needs the toolchain and no library
+"""
+from __future__ import annotations
+
+import json
+import re
+import shutil
+import tempfile
+import unittest
+from pathlib import Path
+
+from tests.wrong.checks import Running, try_round
+from tests.wrong.edits import Round, apply_edit
+from tests.wrong.judging import judge
+from tests.wrong.libraries import tree_at
+from tests.wrong.outputs import read_output
+from tests.wrong.saved import find_name, hand_on
+from tests.wrong.test_wrong import CRATE, NEVER, TOP
+
+LOADED = re.compile(rf"(?m)^crate {CRATE}: modules loaded=(\d+) checked=(\d+)$")
+
+
+def write_library(library: Path, modules: dict[str, bytes]) -> None:
+    """Writes what a library holds of its check, with the sum of all at its end."""
+    held, lines = b"!<arch>\n", ""
+    for name, text in (*modules.items(), ("sum/all", b"of all")):
+        lines += json.dumps([name, len(held), len(text)]) + "\n"
+        held += text + b"\n"
+    (library / "toolchain").mkdir(parents=True)
+    (library / "toolchain/checked.a").write_bytes(held)
+    (library / "toolchain/checked.json").write_text(lines, encoding="utf-8")
+
+
+class HandingOn(unittest.TestCase):
+    """Libraries written by hand."""
+
+    def setUp(self) -> None:
+        room = tempfile.TemporaryDirectory()
+        self.addCleanup(room.cleanup)
+        self.library, self.to = Path(room.name) / "it.rlib", Path(room.name) / "kept/saved"
+
+    def test_each_module_is_a_file(self) -> None:
+        """Each has its own bytes, and the sum is none."""
+        write_library(self.library, {"It": b"one", "It-proofs.f": b"\0two\n"})
+        hand_on(self.library, self.to)
+        self.assertEqual({it.name: it.read_bytes() for it in self.to.iterdir()}, {"It.oantt": b"one", "It-proofs.f.oantt": b"\0two\n"})
+
+    def test_a_library_without_modules(self) -> None:
+        """Nothing is handed on."""
+        (self.library / "toolchain").mkdir(parents=True)
+        hand_on(self.library, self.to)
+        self.assertFalse(self.to.exists())
+
+    def test_another_form(self) -> None:
+        """Of a list that isn't read to its end nothing is handed on."""
+        for line in ("no list", '["It", 1]', '["It", "1", "2"]', "7", '["It", -1, 2]', '["It", 8, 1000]'):
+            shutil.rmtree(self.library, ignore_errors=True)
+            write_library(self.library, {"It": b"one"})
+            with (self.library / "toolchain/checked.json").open("a", encoding="utf-8") as it:
+                it.write(f"{line}\n")
+            hand_on(self.library, self.to)
+            self.assertFalse(self.to.exists(), line)
+
+
+class TakingUp(unittest.TestCase):
+    """The prover itself, over a copy of the smallest crate that has wrong bodies."""
+
+    def test_what_is_handed_on_is_taken(self) -> None:
+        """A check takes what the one before saved, and refuses a wrong body all the same."""
+        with tempfile.TemporaryDirectory() as room:
+            top, folder = Path(room) / "top", Path(room) / "top/crates" / CRATE
+            for part in ("src", "proofs"):
+                shutil.copytree(TOP / "crates" / CRATE / part, folder / part)
+            (top / "crates.txt").write_text(f"{CRATE}:\n", encoding="utf-8")
+            tree = tree_at(top)
+            name = find_name(tree)
+            texts: list[dict[str, str]] = [{}, apply_edit(NEVER, {}, folder)]
+            for number, text in enumerate(texts):
+                place = Path(room) / str(number)
+                place.mkdir()
+                if number:
+                    hand_on(tree.library(CRATE), place / "kept" / name)
+                ended = try_round(tree, CRATE, Round([NEVER], text), place, Running())
+                found = LOADED.search(ended.output)
+                assert found is not None, ended.output
+                self.assertEqual(int(found[1]) > int(found[2]), number == 1, found[0])
+                self.assertEqual(bool(judge([NEVER], ended.status, read_output(CRATE, ended.output)).of_edit), number == 0)
+                if not number:
+                    saved = {it.stem: it.read_bytes() for it in (place / "kept" / name).glob("Rattle-*.oantt")}
+                    write_library(tree.library(CRATE), saved)
+
+
+if __name__ == "__main__":
+    unittest.main()
