@@ -1,19 +1,21 @@
 -- What a file without an error is.
-use Rattle.std.proofs.Common.{◌≡◌, ◌≤◌, true, not, ◌∷◌, length, None}
-use Rattle.std.specs.Prelude.{option_map}
-use Rattle.std.specs.List.{position}
-use Rattle.std.proofs.lemmas.Bool.{ltb-false, not-false}
-use Rattle.mml_ids.specs.Gives.{fault_if}
+use Rattle.std.proofs.Common.{◌≡◌, ◌≤◌, ℕ, zero, suc, Bool, true, false, not, List, [], ◌∷◌, length, Option, Some, None, Result, Ok, Err, refl, sym, ap, ◌∙◌}
+use Rattle.std.specs.List.{position, slice_get}
+use Rattle.std.proofs.lemmas.Bool.{ltb-false}
+use Rattle.mml_ids.specs.Gives.{◌>>◌, fault_if}
 use Rattle.mml_ids.specs.Search.{first_below}
-use Rattle.mml_ids.proofs.GivesLemmas.{both_none, if_none, map_none}
+use Rattle.mml_ids.proofs.GivesLemmas.{bind-ok, if_none, map_none}
 use Rattle.mml_ids.specs.Ids.{id_fault}
 use Rattle.mml_lab.specs.declared.TheConstants.{MAX_EVENTS, MAX_SESSIONS, MAX_STUDENTS}
+use Rattle.mml_lab.specs.declared.lab_fault.LabFault.{LabFault}
 use Rattle.mml_lab.specs.declared.lab_fault.LabFault.TheVariants as fault
-use Rattle.mml_lab.specs.declared.lab_fault.Key.TheVariants as key
 use Rattle.mml_lab.specs.Shape.{NodeSpec, RawSpec}
 use Rattle.mml_lab.specs.Rosters.{is_account, name_twice}
-use Rattle.mml_lab.specs.Labs.{file_ids, lacks_owner, lacks_end, is_loop, is_link_again, points_astray, is_within, are_one_twice, both_fault, ids_fault}
-use Rattle.mml_lab.specs.Labs.{forms_fault, no_owner_fault, owner_twice_fault, owners_fault, links_fault, pointers_fault, limits_fault, lab_fault}
+use Rattle.mml_lab.specs.Labs.{LabValue, file_ids, lacks_owner, lacks_end, is_loop, is_link_again, points_astray, is_within, are_one_twice, both_fault, ids_fault}
+use Rattle.mml_lab.specs.Labs.{forms_fault, no_owner_fault, owner_twice_fault, ends_fault, loops_fault, again_fault, pointers_fault, checked, error_of, lab_fault}
+use Rattle.mml_lab.specs.Labs.{lab_in, lab_from}
+use Rattle.mml_lab.specs.LabErrors.{errors_of}
+use Rattle.mml_lab.proofs.LabErrorsLemmas.{first_of, first_error}
 
 pub record IsFaultless (raw : RawSpec) : Type 0 where
   pub single : position (λ (node : NodeSpec). node.both) raw.nodes ≡ None
@@ -30,34 +32,55 @@ pub record IsFaultless (raw : RawSpec) : Type 0 where
   pub sessions : is_within MAX_SESSIONS raw.sessions ≡ true
   pub students : length raw.students ≤ MAX_STUDENTS
 
+none_at : (ts : List (Option LabFault)) → first_of ts ≡ None → (k : ℕ) (t : Option LabFault) → slice_get ts k ≡ Some t → t ≡ None
+none_at [] none k t at = absurd cc
+none_at (None ∷ ts) none zero t at = cc
+none_at (None ∷ ts) none (suc k) t at = none_at ts none k t at
+none_at (Some f ∷ ts) none k t at = absurd cc
+
+holds : (b : Bool) (e : LabFault) → fault_if (not b) e ≡ None → b ≡ true
+holds true e h = refl
+holds false e h = absurd cc
+
 -- a file without an error passes every test
 pub faultless : (raw : RawSpec) → lab_fault raw ≡ None → IsFaultless raw
-unfolding lab_fault both_fault ids_fault forms_fault no_owner_fault owner_twice_fault owners_fault links_fault pointers_fault limits_fault
+unfolding both_fault ids_fault forms_fault no_owner_fault owner_twice_fault ends_fault loops_fault again_fault pointers_fault
 faultless raw none =
-    let first = both_none (both_fault raw.nodes) _ none in
-    let a = both_none (ids_fault raw.nodes) _ first.1 in
-    let b = both_none (forms_fault (raw.teacher ∷ raw.students)) _ a.1 in
-    let c = both_none (name_twice (raw.teacher ∷ raw.students)) _ b.1 in
-    let d = both_none (owners_fault raw.students raw.nodes) _ c.1 in
-    let e = both_none (links_fault raw.nodes raw.links) _ d.1 in
-    let f = both_none (pointers_fault raw.links raw.nodes) _ e.1 in
-    let own = both_none (option_map fault.NoOwner (position (lacks_owner raw.students) raw.nodes)) _ d.0 in
-    let g = both_none (option_map fault.LinkEnd (position (lacks_end raw.nodes) raw.links)) _ e.0 in
-    let h = both_none (option_map fault.Loop (position is_loop raw.links)) _ g.1 in
-    let i = both_none (fault_if (not (is_within MAX_EVENTS raw.events)) (fault.Limit key.Events)) _ f.1 in
-    let j = both_none (fault_if (not (is_within MAX_SESSIONS raw.sessions)) (fault.Limit key.Sessions)) _ i.1 in
+    let at = none_at (errors_of raw) (sym (first_error raw).first ∙ none) in
     record {
-      single = map_none fault.BothOwners _ first.0;
-      ids = map_none fault.Id _ a.0;
-      forms = map_none fault.Name _ b.0;
-      names = c.0;
-      owners = map_none fault.NoOwner _ own.0;
-      apart = map_none fault.OwnerTwice _ own.1;
-      ends = map_none fault.LinkEnd _ g.0;
-      loops = map_none fault.Loop _ h.0;
-      once = map_none fault.LinkTwice _ h.1;
-      pointers = map_none fault.BadPointer _ f.0;
-      events = not-false _ (if_none _ _ i.0);
-      sessions = not-false _ (if_none _ _ j.0);
-      students = ltb-false MAX_STUDENTS (length raw.students) (if_none _ _ j.1);
+      single = map_none fault.BothOwners _ (at 0 _ refl);
+      ids = map_none fault.Id _ (at 1 _ refl);
+      forms = map_none fault.Name _ (at 2 _ refl);
+      names = at 3 _ refl;
+      owners = map_none fault.NoOwner _ (at 4 _ refl);
+      apart = map_none fault.OwnerTwice _ (at 5 _ refl);
+      ends = map_none fault.LinkEnd _ (at 6 _ refl);
+      loops = map_none fault.Loop _ (at 7 _ refl);
+      once = map_none fault.LinkTwice _ (at 8 _ refl);
+      pointers = map_none fault.BadPointer _ (at 9 _ refl);
+      events = holds (is_within MAX_EVENTS raw.events) _ (at 10 _ refl);
+      sessions = holds (is_within MAX_SESSIONS raw.sessions) _ (at 11 _ refl);
+      students = ltb-false MAX_STUDENTS (length raw.students) (if_none _ _ (at 12 _ refl));
     }
+
+-- a file gives a lab exactly where it has no error, and it is the lab in it
+pub made : (raw : RawSpec) (lab : LabValue) → lab_from raw ≡ Ok lab → (lab_fault raw ≡ None) × (lab_in raw ≡ lab)
+unfolding lab_from
+made raw lab is = let passed = bind-ok (checked raw) (λ _. Ok (lab_in raw)) lab is in let same : lab_in raw ≡ lab = cc in (ap error_of passed.1, same)
+
+pub makes : (raw : RawSpec) → lab_fault raw ≡ None → lab_from raw ≡ Ok (lab_in raw)
+unfolding lab_from
+makes raw = by (checked raw)
+  where
+    by : (r : Result (Unit {0}) LabFault) → error_of r ≡ None → (r >> Ok (lab_in raw)) ≡ Ok (lab_in raw)
+    by (Ok u) is = refl
+    by (Err f) is = absurd cc
+
+-- the error for which a file gives no lab is its first
+pub refuses : (raw : RawSpec) (f : LabFault) → lab_from raw ≡ Err f → lab_fault raw ≡ Some f
+unfolding lab_from
+refuses raw f = by (checked raw)
+  where
+    by : (r : Result (Unit {0}) LabFault) → (r >> Ok (lab_in raw)) ≡ Err f → error_of r ≡ Some f
+    by (Ok u) is = absurd cc
+    by (Err g) is = cc

@@ -1,6 +1,6 @@
 -- The lab of a file without an error is a lab.
 use Rattle.std.proofs.Common.{◌≡◌, ℕ, ℤ, pos, negsuc, ◌<◌, ◌≤◌, ◌==◌, Bool, true, false, not, ◌&&◌, ◌||◌, ltb, List, [], length, get_or, map, Option, Some}
-use Rattle.std.proofs.Common.{None, ◌⊎◌, inl, inr, refl, sym, ap, ◌∙◌, subst, arith, All}
+use Rattle.std.proofs.Common.{Ok, None, ◌⊎◌, inl, inr, refl, sym, ap, ◌∙◌, subst, arith, All}
 use Rattle.std.specs.Prelude.{slice_index, unwrap_or, position}
 use Rattle.std.specs.List.{list_any}
 use Rattle.std.specs.Option.{option_and_then, option_map_or}
@@ -22,14 +22,15 @@ use Rattle.mml_lab.specs.declared.TheConstants.{MAX_EVENTS, MAX_SESSIONS}
 use Rattle.mml_lab.specs.Shape.{Account, NodeSpec, RawSpec}
 use Rattle.mml_lab.specs.Rosters.{has_name, no_account, with_owners, IsRoster}
 use Rattle.mml_lab.specs.Labs.{IsLab, number_of, file_ids, joins, is_linked, is_loop, is_within, lacks_owner, points_astray, node_with, place_of, owners_in}
-use Rattle.mml_lab.specs.Labs.{owners_with, registers_in, registers_with, neighbours_of, network_in, lab_in}
+use Rattle.mml_lab.specs.Labs.{owners_with, registers_in, registers_with, neighbours_of, network_in, lab_in, lab_from}
+use Rattle.mml_lab.specs.Labs.{LabValue}
 use Rattle.mml_ids.proofs.MapLemmas.{list_any-map}
 use Rattle.mml_ids.proofs.SearchLemmas.{position-None}
 use Rattle.mml_lab.proofs.RosterMeaningLemmas.{is_roster}
 use Rattle.mml_lab.proofs.NeighboursLemmas.{has-neighbours_of}
 use Rattle.mml_ids.proofs.InOrderLemmas.{in_order-moves}
 use Rattle.mml_ids.proofs.InOrderTableLemmas.{in_order-table}
-use Rattle.mml_lab.proofs.LabFaultLemmas.{IsFaultless}
+use Rattle.mml_lab.proofs.LabFaultLemmas.{IsFaultless, faultless, made}
 use Rattle.mml_ids.proofs.FindLemmas.{IsFound, find-is, find-some, list_any-found, list_any-same}
 
 -- a number that is some natural number above 0 is not negative
@@ -233,3 +234,7 @@ lab_in-lab raw right = record {
   some_sessions = (within MAX_SESSIONS raw.sessions right.sessions).0;
   few_sessions = (within MAX_SESSIONS raw.sessions right.sessions).1;
 }
+
+-- and so is each lab that a file gives
+pub lawful_from : (raw : RawSpec) (lab : LabValue) → lab_from raw ≡ Ok lab → IsLab lab
+lawful_from raw lab is = let m = made raw lab is in subst (λ l. IsLab l) m.1 (lab_in-lab raw (faultless raw m.0))

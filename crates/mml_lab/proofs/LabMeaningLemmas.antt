@@ -1,35 +1,34 @@
 -- What the definitions of a lab mean.
-use Rattle.std.proofs.Common.{◌≡◌, ◌≢◌, ◌↔◌, ℕ, ℤ, pos, zero, suc, ◌<◌, ◌==◌, Bool, true, false, not, ◌&&◌, ◌||◌, ltb, List, [], ◌∷◌, length, get_or, take, map}
-use Rattle.std.proofs.Common.{Option, Some, None, Result, Ok, Err, ◌⊎◌, inl, inr, refl, sym, ap, ◌∙◌, subst, arith, All, Contains}
-use Rattle.std.specs.Prelude.{slice_index, slice_get, position, unwrap_or}
+use Rattle.std.proofs.Common.{◌≡◌, ◌≢◌, ◌↔◌, ℕ, ℤ, pos, ◌<◌, ◌==◌, Bool, true, false, not, ◌&&◌, ◌||◌, ltb, List, [], length, get_or, take, map}
+use Rattle.std.proofs.Common.{Option, Some, None, Ok, ◌⊎◌, inl, inr, refl, sym, ap, ◌∙◌, subst, arith, Contains}
+use Rattle.std.specs.Prelude.{slice_index, position, unwrap_or}
 use Rattle.std.specs.List.{list_any, Any}
 use Rattle.std.specs.Option.{option_and_then, option_map_or}
 use Rattle.std.specs.Ordering.{int_eq}
-use Rattle.std.proofs.lemmas.Bool.{cases_order, eqb-true, eq-eqb, and_parts, and_from, or_cases, not-false, both_ways, lt-ltb}
+use Rattle.std.proofs.lemmas.Bool.{cases_Bool, cases_order, eqb-true, eq-eqb, and_parts, and_from, or_cases, not-false, both_ways, lt-ltb}
 use Rattle.std.proofs.lemmas.Bool.Decides.{Decides-int_eq}
 use Rattle.std.proofs.lemmas.List.{get_or-map, get_or_default, get_or-take, length-map, length-take-le}
 use Rattle.std.proofs.lemmas.List.Folds.{list_any_at, Any-from_list_any, list_any-from_Any}
 use Rattle.std.proofs.lemmas.List.Sorted.{list_any-IsPermutation}
-use Rattle.mml_ids.specs.Gives.{◌>>=◌, unless_fault}
-use Rattle.mml_ids.specs.Ids.{in_order, rank_in, is_again_at}
+use Rattle.mml_ids.proofs.GivesLemmas.{bind-ok}
+use Rattle.mml_ids.specs.Ids.{in_order, rank_in, is_again_at, IsTable}
 use Rattle.mml_ids.proofs.IdsLemmas.{rank_of_id, sound}
 use Rattle.mml_rules.specs.declared.regs.Regs.{Regs}
 use Rattle.mml_rules.specs.Network.{no_regs, registers_at, configuration_of}
 use Rattle.mml_lab.specs.declared.who.Who.TheVariants as who
-use Rattle.mml_lab.specs.declared.lab_fault.LabFault.{LabFault}
 use Rattle.mml_lab.specs.Shape.{NodeSpec, RawSpec, spelled}
 use Rattle.mml_lab.specs.Rosters.{RosterValue, has_name, with_owners, owns, owners_of, name_of}
-use Rattle.mml_lab.specs.Labs.{LabValue, IsLab, number_of, file_ids, is_node, joins, is_linked, is_loop, is_link_again, lacks_owner, lacks_end, points_astray}
-use Rattle.mml_lab.specs.Labs.{node_with, registers_in, place_of, owners_in, owners_with, lab_in, lab_fault, lab_of}
-use Rattle.mml_lab.specs.LabMeaning.{Joins, HasLink, HasNode}
+use Rattle.mml_lab.specs.Labs.{LabValue, IsLab, number_of, file_ids, is_node, joins, is_linked, is_loop, lacks_owner, lacks_end, points_astray}
+use Rattle.mml_lab.specs.Labs.{node_with, registers_in, place_of, owners_in, owners_with, lab_from, lab_of}
+use Rattle.mml_lab.specs.LabMeaning.{Joins, HasLink, HasNode, JoinNodes}
 use Rattle.mml_ids.proofs.MapLemmas.{list_any-map}
-use Rattle.mml_ids.proofs.SearchLemmas.{position-None}
+use Rattle.mml_ids.proofs.SearchLemmas.{position-None, position-none}
 use Rattle.mml_ids.proofs.SearchLemmas.{none-is}
 use Rattle.mml_lab.proofs.RosterMeaningLemmas.{student_of_name, name_of_student}
 use Rattle.mml_ids.proofs.InOrderLemmas.{in_order-moves}
-use Rattle.mml_lab.proofs.LabFaultLemmas.{IsFaultless, faultless}
+use Rattle.mml_lab.proofs.LabFaultLemmas.{IsFaultless}
 use Rattle.mml_ids.proofs.FindLemmas.{list_any-found}
-use Rattle.mml_lab.proofs.LabInLemmas.{positive, lab_in-lab, node_at, IsNodeAt, linked-in, registers-in, net, table, roster, place-position, owners-known}
+use Rattle.mml_lab.proofs.LabInLemmas.{positive, lawful_from, node_at, IsNodeAt, linked-in, registers-in, net, table, roster, place-position, owners-known}
 
 -- a link is found to join two numbers exactly where it does
 pub joins-means : (a b : ℤ) (link : ℤ × ℤ) → (joins a b link ≡ true) ↔ Joins a b link
@@ -49,7 +48,7 @@ joins-means a b link = (there, back)
     back (inl e) = ap (λ x. x || (int_eq link.0 b && int_eq link.1 a)) (and_from _ _ ((Decides-int_eq link.0 a).1 e.0) ((Decides-int_eq link.1 b).1 e.1))
     back (inr e) = or_right (int_eq link.0 a && int_eq link.1 b) _ (and_from _ _ ((Decides-int_eq link.0 b).1 e.0) ((Decides-int_eq link.1 a).1 e.1))
 
-any_means : {X : Type 0} (p : X → Bool) (P : X → Type 0) → ((x : X) → (p x ≡ true) ↔ P x) → (xs : List X) → (list_any p xs ≡ true) ↔ Any P xs
+pub any_means : {X : Type 0} (p : X → Bool) (P : X → Type 0) → ((x : X) → (p x ≡ true) ↔ P x) → (xs : List X) → (list_any p xs ≡ true) ↔ Any P xs
 any_means p P means xs = (
   λ e. let a = Any-from_list_any p xs e in (a.0, a.1, a.2, a.3, (means a.1).0 a.4),
   λ a. list_any-from_Any p xs (a.0, a.1, a.2, a.3, (means a.1).1 a.4),
@@ -62,40 +61,63 @@ linked-means raw a b = any_means (joins a b) (Joins a b) (joins-means a b) raw.l
 pub node-means : (raw : RawSpec) (id : ℤ) → (is_node raw.nodes id ≡ true) ↔ HasNode raw id
 node-means raw id = any_means (λ node. int_eq node.id id) (λ node. node.id ≡ id) (λ node. Decides-int_eq node.id id) raw.nodes
 
--- a link's ends are nodes
-pub ends-are : (raw : RawSpec) → IsFaultless raw → All (λ link. HasNode raw link.0 × HasNode raw link.1) raw.links
-ends-are raw right = λ k d lt.
-    let link : ℤ × ℤ = get_or raw.links k d in
-    let both = not-false (is_node raw.nodes link.0 && is_node raw.nodes link.1) (position-None (lacks_end raw.nodes) raw.links d right.ends k lt) in
-    let parts = and_parts (is_node raw.nodes link.0) (is_node raw.nodes link.1) both in
-    ((node-means raw link.0).0 parts.0, (node-means raw link.1).0 parts.1)
+-- no link lacks an end or is a loop exactly where each joins two nodes that differ
+pub join-means : (raw : RawSpec) → ((position (lacks_end raw.nodes) raw.links ≡ None) × (position is_loop raw.links ≡ None)) ↔ JoinNodes raw
+join-means raw = (λ none. there none.0 none.1, back)
+  where
+    kept : (b : Bool) → b ≡ true → not b ≡ false
+    kept b e = ap not e
 
--- in a file without an error no link has one node at both ends
-pub ends-differ : (raw : RawSpec) → IsFaultless raw → All (λ link. link.0 ≢ link.1) raw.links
-ends-differ raw right = λ k d lt same.
-    let link : ℤ × ℤ = get_or raw.links k d in
-    both_ways (is_loop link) (position-None is_loop raw.links d right.loops k lt) ((Decides-int_eq link.0 link.1).1 same)
+    there : position (lacks_end raw.nodes) raw.links ≡ None → position is_loop raw.links ≡ None → JoinNodes raw
+    there ends loops = record {
+      nodes = λ k d lt.
+          let link : ℤ × ℤ = get_or raw.links k d in
+          let both = not-false (is_node raw.nodes link.0 && is_node raw.nodes link.1) (position-None (lacks_end raw.nodes) raw.links d ends k lt) in
+          let parts = and_parts (is_node raw.nodes link.0) (is_node raw.nodes link.1) both in
+          ((node-means raw link.0).0 parts.0, (node-means raw link.1).0 parts.1);
+      different = λ k d lt same.
+          let link : ℤ × ℤ = get_or raw.links k d in
+          both_ways (is_loop link) (position-None is_loop raw.links d loops k lt) ((Decides-int_eq link.0 link.1).1 same);
+    }
 
--- the element at an index, and before another
-slice_get-is : {X : Type 0} (xs : List X) (k : ℕ) (x : X) → slice_get xs k ≡ Some x → (k < length xs) × (get_or xs k x ≡ x)
-slice_get-is [] k x e = absurd cc
-slice_get-is (y ∷ ys) zero x e = let same : y ≡ x = cc in (omega arith, same)
-slice_get-is (y ∷ ys) (suc k) x e = let r = slice_get-is ys k x e in (omega (arith, r.0), r.1)
+    apart : (link : ℤ × ℤ) → link.0 ≢ link.1 → (is_loop link ≡ true) ⊎ (is_loop link ≡ false) → is_loop link ≡ false
+    apart link differ (inl loop) = absurd (differ ((Decides-int_eq link.0 link.1).0 loop))
+    apart link differ (inr none) = none
 
--- in a file without an error no two links join the same nodes
-pub links-once : (raw : RawSpec) (i j : ℕ) (link again : ℤ × ℤ) → IsFaultless raw → i < j → slice_get raw.links i ≡ Some link
-    → slice_get raw.links j ≡ Some again → ¬ Joins again.0 again.1 link
-links-once raw i j link again right less first second joined =
-    let at_i = slice_get-is raw.links i link first in
-    let at_j = slice_get-is raw.links j again second in
-    let apart : option_map_or (λ l. is_linked (take j raw.links) l.0 l.1) (slice_get raw.links j) false ≡ false =
-    none-is (is_link_again raw.links) (length raw.links) right.once j at_j.0 in
-    let none : is_linked (take j raw.links) again.0 again.1 ≡ false =
-    sym (ap (λ (o : Option (ℤ × ℤ)). option_map_or (λ l. is_linked (take j raw.links) l.0 l.1) o false) second) ∙ apart in
-    let short : length (take j raw.links) ≡ j = length-take-le j raw.links (omega (arith, at_j.0)) in
-    both_ways (is_linked (take j raw.links) again.0 again.1) none
-    (list_any_at (joins again.0 again.1) (take j raw.links) i link (omega arith)
-    (ap (joins again.0 again.1) (get_or-take j raw.links i link less ∙ at_i.1) ∙ (joins-means again.0 again.1 link).1 joined))
+    back : JoinNodes raw → (position (lacks_end raw.nodes) raw.links ≡ None) × (position is_loop raw.links ≡ None)
+    back join = (
+      position-none (lacks_end raw.nodes) raw.links (pos 0, pos 0) (λ k lt.
+          let link : ℤ × ℤ = get_or raw.links k (pos 0, pos 0) in
+          let ends = join.nodes k (pos 0, pos 0) lt in
+          kept (is_node raw.nodes link.0 && is_node raw.nodes link.1) (and_from _ _ ((node-means raw link.0).1 ends.0) ((node-means raw link.1).1 ends.1))),
+      position-none is_loop raw.links (pos 0, pos 0)
+          (λ k lt. apart (get_or raw.links k (pos 0, pos 0)) (join.different k (pos 0, pos 0) lt) (cases_Bool (is_loop (get_or raw.links k (pos 0, pos 0))))),
+    )
+
+-- an identifier is in the table exactly where it is some node's
+listed : (nodes : List NodeSpec) (n : ℕ) → list_any (λ k. k == n) (in_order (file_ids nodes)) ≡ list_any (λ node. number_of node.id == n) nodes
+listed nodes n =
+    sym (list_any-map (λ k. k == n) (λ (node : NodeSpec). number_of node.id) nodes
+    ∙ list_any-IsPermutation (λ k. k == n) (file_ids nodes) (in_order (file_ids nodes)) (in_order-moves (file_ids nodes)))
+
+-- an identifier of the file has a rank
+pub ranked : (nodes : List NodeSpec) → IsTable (in_order (file_ids nodes)) → (z : ℤ) → Any (λ node. node.id ≡ z) nodes
+    → (j : ℕ) × (j < length (in_order (file_ids nodes))) × (rank_in (in_order (file_ids nodes)) (number_of z) ≡ Some j)
+    × (z ≡ pos (slice_index (in_order (file_ids nodes)) j))
+ranked nodes table z node =
+    let ids = in_order (file_ids nodes) in
+    let n = number_of z in
+    let same : number_of node.1.id ≡ n = ap number_of node.4 in
+    let some : list_any (λ k. k == n) ids ≡ true =
+    listed nodes n ∙ list_any-from_Any (λ (x : NodeSpec). number_of x.id == n) nodes (node.0, node.1, node.2, node.3, eq-eqb (number_of node.1.id) n same) in
+    let a = Any-from_list_any (λ k. k == n) ids some in
+    let j = a.0 in
+    let here : slice_index ids j ≡ n = get_or_default ids j 0 a.1 a.2 ∙ a.3 ∙ eqb-true a.1 n a.4 in
+    (j, a.2, rank_of_id ids j n table a.2 (sym (get_or_default ids j n 0 a.2 ∙ here)), positive z (slice_index ids j) (sym here) (table.positive j a.2))
+
+-- the links of a file without an error do
+pub all-join : (raw : RawSpec) → IsFaultless raw → JoinNodes raw
+all-join raw right = (join-means raw).0 (right.ends, right.loops)
 
 module _ (raw : RawSpec) (right : IsFaultless raw) where
   abbrev ids : List ℕ
@@ -106,8 +128,7 @@ module _ (raw : RawSpec) (right : IsFaultless raw) where
     λ stands. let n = node_at raw right stands.0 stands.1 in
         let here : slice_index ids stands.0 ≡ id = get_or_default ids stands.0 0 id stands.1 ∙ stands.2 in
         (n.1.stands.place, n.0, n.1.stands.within, n.1.stands.there, n.1.named ∙ ap pos here),
-    λ node. let some : list_any (λ n. n == id) ids ≡ true = sym (list_any-map (λ n. n == id) (λ node. number_of node.id) raw.nodes
-        ∙ list_any-IsPermutation (λ n. n == id) (file_ids raw.nodes) ids (in_order-moves (file_ids raw.nodes)))
+    λ node. let some : list_any (λ n. n == id) ids ≡ true = listed raw.nodes id
         ∙ list_any-from_Any (λ (n : NodeSpec). number_of n.id == id) raw.nodes
         (node.0, node.1, node.2, node.3, eq-eqb (number_of node.1.id) id (ap number_of node.4)) in
         let a = Any-from_list_any (λ n. n == id) ids some in
@@ -166,23 +187,6 @@ module _ (raw : RawSpec) (right : IsFaultless raw) where
   p-null i node lt stands named null =
       ap (λ (r : Regs). r.p) (registers-are i node lt stands named) ∙ ap (option_and_then (λ p. rank_in ids (number_of p))) null
 
-  -- an end of a link has a rank
-  rank_at : (z : ℤ) → HasNode raw z → (j : ℕ) × (j < length ids) × (rank_in ids (number_of z) ≡ Some j) × (z ≡ pos (slice_index ids j))
-  rank_at z node =
-      let n = number_of z in
-      let same : number_of node.1.id ≡ n = ap number_of node.4 in
-      let some : list_any (λ k. k == n) ids ≡ true = sym (list_any-map (λ k. k == n) (λ x. number_of x.id) raw.nodes
-      ∙ list_any-IsPermutation (λ k. k == n) (file_ids raw.nodes) ids (in_order-moves (file_ids raw.nodes)))
-      ∙ list_any-from_Any (λ (x : NodeSpec). number_of x.id == n) raw.nodes (node.0, node.1, node.2, node.3, eq-eqb (number_of node.1.id) n same) in
-      let a = Any-from_list_any (λ k. k == n) ids some in
-      let j = a.0 in
-      let here : slice_index ids j ≡ n = get_or_default ids j 0 a.1 a.2 ∙ a.3 ∙ eqb-true a.1 n a.4 in (
-        j,
-        a.2,
-        rank_of_id ids j n (table raw right) a.2 (sym (get_or_default ids j n 0 a.2 ∙ here)),
-        positive z (slice_index ids j) (sym here) ((table raw right).positive j a.2),
-      )
-
   pub p-is : (i : ℕ) (node : NodeSpec) (z : ℤ) → i < length ids → Contains raw.nodes node → node.id ≡ pos (slice_index ids i) → node.p ≡ Some z
       → (j : ℕ) × ((configuration_of (net raw right)).p i ≡ Some j) × (z ≡ pos (slice_index ids j)) × ((configuration_of (net raw right)).linked i j ≡ true)
   p-is i node z lt stands named points =
@@ -191,12 +195,12 @@ module _ (raw : RawSpec) (right : IsFaultless raw) where
       let linked : is_linked raw.links node.id z ≡ true =
       not-false _ (ap (λ (o : Option ℤ). option_map_or (λ p. not (is_linked raw.links node.id p)) o false) (sym points) ∙ kept) in
       let link = (linked-means raw node.id z).0 linked in
-      let ends = ends-are raw right link.0 link.1 link.2 in
+      let ends = (all-join raw right).nodes link.0 link.1 link.2 in
       let target : HasNode raw z = elim link.4 [
         | inl e ↦ subst (HasNode raw) (ap (λ (l : ℤ × ℤ). l.1) link.3 ∙ e.1) ends.1
         | inr e ↦ subst (HasNode raw) (ap (λ (l : ℤ × ℤ). l.0) link.3 ∙ e.0) ends.0
       ] in
-      let r = rank_at z target in (
+      let r = ranked raw.nodes (table raw right) z target in (
         r.0,
         ap (λ (g : Regs). g.p) (registers-are i node lt stands named) ∙ ap (option_and_then (λ p. rank_in ids (number_of p))) points ∙ r.2,
         r.3,
@@ -247,12 +251,4 @@ module _ (raw : RawSpec) (right : IsFaultless raw) where
 -- a lab that bytes spell is lawful
 pub lawful : (bytes : List ℕ) (lab : LabValue) → lab_of bytes ≡ Ok lab → IsLab lab
 unfolding lab_of
-lawful bytes lab = by (spelled bytes)
-  where
-    at : (raw : RawSpec) (o : Option LabFault) → lab_fault raw ≡ o → unless_fault o (lab_in raw) ≡ Ok lab → IsLab lab
-    at raw None none is = let same : lab_in raw ≡ lab = cc in subst (λ l. IsLab l) same (lab_in-lab raw (faultless raw none))
-    at raw (Some f) found is = absurd cc
-
-    by : (r : Result RawSpec LabFault) → (r >>= λ raw. unless_fault (lab_fault raw) (lab_in raw)) ≡ Ok lab → IsLab lab
-    by (Err f) is = absurd cc
-    by (Ok raw) is = at raw (lab_fault raw) refl is
+lawful bytes lab is = let raw = bind-ok (spelled bytes) lab_from lab is in lawful_from raw.0 lab raw.2

@@ -20,7 +20,7 @@ use Rattle.mml_ids.proofs.SearchLemmas.{none-is}
 use Rattle.mml_ids.proofs.InOrderLemmas.{in_order-moves}
 use Rattle.mml_lab.proofs.LabFaultLemmas.{IsFaultless}
 use Rattle.mml_lab.proofs.LabInLemmas.{positive, is_linked_turned, linked-in, net, table}
-use Rattle.mml_lab.proofs.LabMeaningLemmas.{joins-means, ends-are, ends-differ}
+use Rattle.mml_lab.proofs.LabMeaningLemmas.{joins-means, all-join}
 use Rattle.mml_lab.proofs.LinksBelowLemmas.{pairs_below, links_below-pairs, pairs_same, pairs_one, no_pairs}
 
 abbrev Link : Type 0
@@ -149,8 +149,8 @@ module _ (raw : RawSpec) (right : IsFaultless raw) where
 
       step : pairs_below (near ids (take k raw.links)) (length ids) ≡ k → pairs_below (near ids (take (k + 1) raw.links)) (length ids) ≡ k + 1
       step so_far =
-          let nodes = ends-are raw right k (pos 0, pos 0) lt in
-          let ranks = ranks_of link nodes.0 nodes.1 (ends-differ raw right k (pos 0, pos 0) lt) in
+          let nodes = (all-join raw right).nodes k (pos 0, pos 0) lt in
+          let ranks = ranks_of link nodes.0 nodes.1 ((all-join raw right).different k (pos 0, pos 0) lt) in
           let here : get_or raw.links k link ≡ link = get_or_default raw.links k link (pos 0, pos 0) lt in
           let apart : is_linked (take k raw.links) link.0 link.1 ≡ false =
           sym (ap (λ (o : Option Link). option_map_or (λ l. is_linked (take k raw.links) l.0 l.1) o false) (slice_get-get_or raw.links k (pos 0, pos 0) lt))

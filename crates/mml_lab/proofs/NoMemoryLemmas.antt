@@ -1,8 +1,8 @@
 -- No bytes spell out of memory: neither a file without its keys nor one with an error.
-use Rattle.std.proofs.Common.{◌≢◌, ℕ, List, ◌∷◌, length, Bool, true, false, cond, ◌&&◌, Option, Some, None, Result, Ok, Err, subst}
-use Rattle.std.specs.Prelude.{codes, ok_or, nat_lt, nat_le}
+use Rattle.std.proofs.Common.{◌≡◌, ◌≢◌, ◌⊎◌, inl, inr, ℕ, List, ◌∷◌, length, Bool, true, false, cond, ◌&&◌, Option, Some, None, Result, Ok, Err, subst}
+use Rattle.std.specs.Prelude.{codes, ok_or, nat_lt, nat_le, IfErr}
 use Rattle.toml.specs.Data.{Data, Items, no_items, item, Members, get_member, as_str, as_integer, as_bool, as_table, as_array}
-use Rattle.mml_ids.specs.Gives.{◌>>=◌, unless_fault}
+use Rattle.mml_ids.specs.Gives.{◌>>=◌}
 use Rattle.mml_ids.specs.declared.id_table.IdFault.TheVariants as id
 use Rattle.mml_lab.specs.declared.TheConstants.{MAX_OWNERS}
 use Rattle.mml_lab.specs.declared.lab_fault.LabFault.{LabFault}
@@ -10,20 +10,26 @@ use Rattle.mml_lab.specs.declared.lab_fault.LabFault.TheVariants as fault
 use Rattle.mml_lab.specs.declared.lab_fault.Key.{Key}
 use Rattle.mml_lab.specs.declared.lab_fault.Key.TheVariants as key
 use Rattle.mml_lab.specs.Shape.{need, of_kind, needed, optional, optional_of, each, account_in, student_of, names_of, owner_names, node_of, two_of, link_of}
-use Rattle.mml_lab.specs.Shape.{links_of, teacher_of, students_of, nodes_of, raw_of, table_in, spelled}
-use Rattle.mml_lab.specs.Labs.{LabValue, lab_fault, lab_in, lab_of}
-use Rattle.mml_lab.proofs.LabOfLemmas.{TellsOfFile, OfFault, lab_fault-tells}
+use Rattle.mml_lab.specs.Shape.{RawSpec, links_of, teacher_of, students_of, nodes_of, raw_of, table_in, spelled}
+use Rattle.mml_lab.specs.Labs.{lab_fault, lab_from, lab_of}
+use Rattle.mml_lab.proofs.LabFaultLemmas.{refuses}
+use Rattle.mml_lab.proofs.LabOfLemmas.{no_memory, no_memory_of_ids}
+
+-- the error is not out of memory
+abbrev Tells : LabFault → Type 0
+Tells fault.Memory = ⊥
+Tells (fault.Id id.Memory) = ⊥
+Tells _ = Unit {0}
 
 -- if the result is an error, it is not out of memory
 abbrev OfResult : {A : Type 0} → Result A LabFault → Type 0
-OfResult (Ok x) = Unit {0}
-OfResult (Err f) = TellsOfFile f
+OfResult r = IfErr r Tells
 
 then : {A B : Type 0} (r : Result A LabFault) (f : A → Result B LabFault) → OfResult r → ((x : A) → OfResult (f x)) → OfResult (r >>= f)
 then (Ok x) f first rest = rest x
 then (Err e) f first rest = first
 
-or_fault : {A : Type 0} (o : Option A) (f : LabFault) → TellsOfFile f → OfResult (ok_or o f)
+or_fault : {A : Type 0} (o : Option A) (f : LabFault) → Tells f → OfResult (ok_or o f)
 or_fault None f tells = tells
 or_fault (Some x) f tells = tt
 
@@ -116,19 +122,25 @@ file : (bytes : List ℕ) → OfResult (spelled bytes)
 unfolding spelled
 file bytes = then (ok_or (table_in bytes) fault.NotToml) raw_of (or_fault (table_in bytes) fault.NotToml tt) raw
 
-unless : (o : Option LabFault) (lab : LabValue) → OfFault TellsOfFile o → OfResult (unless_fault o lab)
-unless None lab h = tt
-unless (Some f) lab h = h
-
-lab : (bytes : List ℕ) → OfResult (lab_of bytes)
+-- bytes that are refused spell no file, for that error, or a file with it
+refused : (bytes : List ℕ) (f : LabFault) → lab_of bytes ≡ Err f → (spelled bytes ≡ Err f) ⊎ ((raw : RawSpec) × (lab_fault raw ≡ Some f))
 unfolding lab_of
-lab bytes =
-    then (spelled bytes) (λ raw. unless_fault (lab_fault raw) (lab_in raw)) (file bytes) (λ raw. unless (lab_fault raw) (lab_in raw) (lab_fault-tells raw))
+refused bytes f = by (spelled bytes)
+  where
+    by : (r : Result RawSpec LabFault) → (r >>= lab_from) ≡ Err f → (r ≡ Err f) ⊎ ((raw : RawSpec) × (lab_fault raw ≡ Some f))
+    by (Err e) is = inl cc
+    by (Ok raw) is = inr (raw, refuses raw f is)
 
 -- no bytes are refused because memory ran out
 pub spells_no_memory : (bytes : List ℕ) → lab_of bytes ≢ Err fault.Memory
-spells_no_memory bytes is = subst OfResult is (lab bytes)
+spells_no_memory bytes is = elim (refused bytes fault.Memory is) [
+  | inl e ↦ subst OfResult e (file bytes)
+  | inr r ↦ no_memory r.0 r.1
+]
 
 -- nor because it ran out for the identifiers
 pub spells_no_memory_of_ids : (bytes : List ℕ) → lab_of bytes ≢ Err (fault.Id id.Memory)
-spells_no_memory_of_ids bytes is = subst OfResult is (lab bytes)
+spells_no_memory_of_ids bytes is = elim (refused bytes (fault.Id id.Memory) is) [
+  | inl e ↦ subst OfResult e (file bytes)
+  | inr r ↦ no_memory_of_ids r.0 r.1
+]

@@ -3,8 +3,8 @@ use Rattle.std.proofs.Common.{◌≡◌, ℕ, List, [], ◌∷◌, Bool, true, f
 use Rattle.std.specs.Prelude.{option_map, is_some, bytes_eq, ◌==◌}
 use Rattle.std.specs.List.{list_any, find}
 use Rattle.std.specs.Map.{lookup}
-use Rattle.mml_ids.specs.Gives.{Faults, unless_fault}
-use Rattle.mml_ids.specs.Ids.{id_fault, in_order, is_id_memory}
+use Rattle.mml_ids.specs.Gives.{Faults}
+use Rattle.mml_ids.specs.Ids.{id_fault, is_id_memory}
 use Rattle.mml_ids.specs.declared.id_table.IdFault.{IdFault}
 use Rattle.mml_ids.specs.declared.id_table.IdFault.TheVariants as id
 use Rattle.mml_lab.specs.declared.raw_lab.RawNode.{RawNode}
@@ -12,7 +12,7 @@ use Rattle.mml_lab.specs.Shape.{NodeSpec, is_lab_memory}
 use Rattle.mml_lab.specs.inside.Raw.{node_view, entry_view}
 use Rattle.mml_lab.specs.Rosters.{has_name}
 use Rattle.mml_lab.specs.Faults.{id_fault_as}
-use Rattle.mml_lab.specs.Labs.{number_of, file_ids, node_with, ids_fault}
+use Rattle.mml_lab.specs.Labs.{number_of, file_ids, node_with, ids_fault, unless}
 use Rattle.mml_ids.proofs.MapLemmas.{find-map, map-map}
 
 -- the identifiers that were read are those of the file's nodes
@@ -34,15 +34,14 @@ some-lookup name (e ∷ es) = go (bytes_eq name (string_bytes e.0)) (some-lookup
     go true h = refl
     go false h = h
 
--- identifiers without an error, put in order, are the file's table
-pub table_ok : (nodes : List NodeSpec) (ids table : List ℕ) → ids ≡ file_ids nodes → id_fault ids ≡ None → table ≡ in_order ids
-    → unless_fault (ids_fault nodes) (in_order (file_ids nodes)) ≡ Ok table
+-- identifiers without an error are those of a file without one
+pub table_ok : (nodes : List NodeSpec) (ids : List ℕ) → ids ≡ file_ids nodes → id_fault ids ≡ None → unless (ids_fault nodes) ≡ Ok tt
 unfolding ids_fault
-table_ok nodes ids table same sound ordered = rw (← same, sound, ordered) refl
+table_ok nodes ids same sound = rw (← same, sound) refl
 
 -- the error of the identifiers is the file's, unless memory ran out
 pub table_fault : (nodes : List NodeSpec) (ids : List ℕ) (e : IdFault) → ids ≡ file_ids nodes → Faults is_id_memory e (id_fault ids)
-    → MatchBool (is_lab_memory (id_fault_as e)) (Unit {0}) (unless_fault (ids_fault nodes) (in_order (file_ids nodes)) ≡ Err (id_fault_as e))
+    → MatchBool (is_lab_memory (id_fault_as e)) (Unit {0}) (unless (ids_fault nodes) ≡ Err (id_fault_as e))
 unfolding ids_fault
 table_fault nodes ids id.Empty same found = rw (← same, found) refl
 table_fault nodes ids id.TooMany same found = rw (← same, found) refl

@@ -1,11 +1,11 @@
 -- The lab that a file spells, and the first error of one that spells none.
 use Rattle.std.specs.Prelude.{◌≡◌, ℕ, zero, suc, ℤ, pos, negsuc, ◌+◌, ◌<◌, ◌≤◌, Bool, false, not, ◌&&◌, ◌||◌, nat_lt, nat_le, List, [], ◌∷◌, length, map, take}
-use Rattle.std.specs.Prelude.{slice_index, position, bytes_eq, Option, option_map, unwrap_or, ◌==◌, Result}
+use Rattle.std.specs.Prelude.{slice_index, position, bytes_eq, Option, Some, None, option_map, unwrap_or, ◌==◌, Result, Ok, Err}
 use Rattle.std.specs.List.{list_any, find, slice_get}
 use Rattle.std.specs.Option.{option_map_or, option_and_then}
 use Rattle.std.specs.Ordering.{nat_cmp, int_eq}
 use Rattle.std.specs.FinSet.{FinSet}
-use Rattle.mml_ids.specs.Gives.{first_fault, fault_if, unless_fault, ◌>>=◌}
+use Rattle.mml_ids.specs.Gives.{need, unless_fault, ◌>>=◌, ◌>>◌}
 use Rattle.mml_ids.specs.Search.{first_below, count_below}
 use Rattle.mml_ids.specs.Sets.{those_below}
 use Rattle.mml_ids.specs.Ids.{id_fault, in_order, rank_in, IsTable}
@@ -100,35 +100,76 @@ no_owner_fault students nodes = option_map fault.NoOwner (position (lacks_owner 
 unfoldable pub owner_twice_fault : List NodeSpec → Option LabFault
 owner_twice_fault nodes = option_map fault.OwnerTwice (position (λ node. are_one_twice node.owners) nodes)
 
-unfoldable pub owners_fault : List Account → List NodeSpec → Option LabFault
-owners_fault students nodes = first_fault (no_owner_fault students nodes) (owner_twice_fault nodes)
+-- an end of a link is no node
+unfoldable pub ends_fault : List NodeSpec → List (ℤ × ℤ) → Option LabFault
+ends_fault nodes links = option_map fault.LinkEnd (position (lacks_end nodes) links)
 
--- an end is no node, then a link has one node at both ends, then a link stood before
-unfoldable pub links_fault : List NodeSpec → List (ℤ × ℤ) → Option LabFault
-links_fault nodes links = first_fault (option_map fault.LinkEnd (position (lacks_end nodes) links))
-    (first_fault (option_map fault.Loop (position is_loop links))
-    (option_map fault.LinkTwice (first_below (is_link_again links) (length links))))
+-- both ends of a link are one node
+unfoldable pub loops_fault : List (ℤ × ℤ) → Option LabFault
+loops_fault links = option_map fault.Loop (position is_loop links)
+
+-- a link that stood before
+unfoldable pub again_fault : List (ℤ × ℤ) → Option LabFault
+again_fault links = option_map fault.LinkTwice (first_below (is_link_again links) (length links))
 
 -- a node points at one that isn't its neighbour
 unfoldable pub pointers_fault : List (ℤ × ℤ) → List NodeSpec → Option LabFault
 pointers_fault links nodes = option_map fault.BadPointer (position (points_astray links) nodes)
 
--- too many events or none, then too many sessions or none, then too many students
-unfoldable pub limits_fault : ℤ → ℤ → ℕ → Option LabFault
-limits_fault events sessions students = first_fault (fault_if (not (is_within MAX_EVENTS events)) (fault.Limit key.Events))
-    (first_fault (fault_if (not (is_within MAX_SESSIONS sessions)) (fault.Limit key.Sessions))
-    (fault_if (nat_lt MAX_STUDENTS students) (fault.Limit key.Student)))
+-- ends where there is an error
+abbrev pub unless : Option LabFault → Result (Unit {0}) LabFault
+unless fault = unless_fault fault tt
 
--- the first error: each test goes over the whole file before the next
-unfoldable pub lab_fault : RawSpec → Option LabFault
-lab_fault raw = first_fault (both_fault raw.nodes)
-    (first_fault (ids_fault raw.nodes)
-    (first_fault (forms_fault (raw.teacher ∷ raw.students))
-    (first_fault (name_twice (raw.teacher ∷ raw.students))
-    (first_fault (owners_fault raw.students raw.nodes)
-    (first_fault (links_fault raw.nodes raw.links)
-    (first_fault (pointers_fault raw.links raw.nodes)
-    (limits_fault raw.events raw.sessions (length raw.students))))))))
+-- the nodes: none with both keys of its owners, and their identifiers are a table
+unfoldable pub identified : List NodeSpec → Result (Unit {0}) LabFault
+identified nodes = do
+  unless (both_fault nodes)
+  unless (ids_fault nodes)
+
+-- who takes part: all names and keys have their forms, and each name stands once
+unfoldable pub enrolled : Account → List Account → Result (Unit {0}) LabFault
+enrolled teacher students = do
+  unless (forms_fault (teacher ∷ students))
+  unless (name_twice (teacher ∷ students))
+
+-- the owners: all are students, and both of a node differ
+unfoldable pub owned : List Account → List NodeSpec → Result (Unit {0}) LabFault
+owned students nodes = do
+  unless (no_owner_fault students nodes)
+  unless (owner_twice_fault nodes)
+
+-- the links: each end is a node, both ends differ, and none stood before
+unfoldable pub linked : List NodeSpec → List (ℤ × ℤ) → Result (Unit {0}) LabFault
+linked nodes links = do
+  unless (ends_fault nodes links)
+  unless (loops_fault links)
+  unless (again_fault links)
+
+-- the numbers of events, sessions and students
+unfoldable pub limited : ℤ → ℤ → ℕ → Result (Unit {0}) LabFault
+limited events sessions students = do
+  need (is_within MAX_EVENTS events) (fault.Limit key.Events)
+  need (is_within MAX_SESSIONS sessions) (fault.Limit key.Sessions)
+  need (nat_le students MAX_STUDENTS) (fault.Limit key.Student)
+
+-- the tests of a file, in the order in which errors are told: each goes over the whole file before the next
+unfoldable pub checked : RawSpec → Result (Unit {0}) LabFault
+checked raw = do
+  identified raw.nodes
+  enrolled raw.teacher raw.students
+  owned raw.students raw.nodes
+  linked raw.nodes raw.links
+  unless (pointers_fault raw.links raw.nodes)
+  limited raw.events raw.sessions (length raw.students)
+
+-- the error that ended the steps
+abbrev pub error_of : {A E : Type 0} → Result A E → Option E
+error_of (Ok x) = None
+error_of (Err e) = Some e
+
+-- the first error of a file
+abbrev pub lab_fault : RawSpec → Option LabFault
+lab_fault raw = error_of (checked raw)
 
 -- the node of the file with that identifier
 abbrev pub node_with : List NodeSpec → ℕ → Option NodeSpec
@@ -172,9 +213,15 @@ lab_in raw = let ids = in_order (file_ids raw.nodes) in record {
   sessions = number_of raw.sessions;
 }
 
+-- the lab of a file, or its first error
+unfoldable pub lab_from : RawSpec → Result LabValue LabFault
+lab_from raw = do
+  checked raw
+  Ok (lab_in raw)
+
 -- the lab that bytes spell, or the first error
 unfoldable pub lab_of : List ℕ → Result LabValue LabFault
-lab_of bytes = spelled bytes >>= λ raw. unless_fault (lab_fault raw) (lab_in raw)
+lab_of bytes = spelled bytes >>= lab_from
 
 -- how many links there are whose greater end is below n
 abbrev pub links_below : Configuration → ℕ → ℕ

@@ -6,7 +6,6 @@ ghost use Rattle.mml_lab.specs.declared.TheConstants.{MAX_STUDENTS};
 ghost use Rattle.mml_lab.specs.Shape.{is_lab_memory};
 ghost use Rattle.mml_lab.specs.inside.Raw.{node_view, entry_view};
 ghost use Rattle.mml_lab.specs.Labs.{IsLab, number_of, registers_in, registers_with, place_of, owners_in, owners_with, node_with};
-ghost use Rattle.mml_lab.specs.inside.Checks.{lab_from};
 ghost use Rattle.mml_lab.specs.inside.ChecksView.{checked_view};
 ghost use Rattle.mml_lab.specs.declared.lab_fault.LabFault.TheVariants.{Memory};
 
@@ -23,10 +22,10 @@ use mml_rules::{Network, Regs};
 use std::alloc::Global;
 
 /// The lab of a file that was checked.
-#[tactic(auto, unfolding(crate::specs::inside::Checks::lab_from))]
+#[tactic(auto, unfolding(crate::specs::inside::Checks::lab_with))]
 pub(crate) fn build(alloc: Global, checked: Checked) -> Result<Lab, LabFault>
-    requires { IsLab (lab_from (checked_view checked)) }
-    ensures { Gives is_lab_memory (λ lab. lab) result (Ok (lab_from (checked_view checked))) }
+    requires { IsLab (checked_view checked) }
+    ensures { Gives is_lab_memory (λ lab. lab) result (Ok (checked_view checked)) }
 {
     let (registers, owners) = parts(alloc, &checked)?;
     let Checked {

@@ -1,19 +1,20 @@
 //! The errors between what a file spells and a lab.
-ghost use Rattle.std.specs.Prelude.{◌≡◌, ◌∷◌, not, position, map, length, string_bytes, IfOk};
+ghost use Rattle.std.specs.Prelude.{◌≡◌, ◌≤◌, ◌&&◌, ◌∷◌, not, position, map, length, string_bytes, IfOk};
 ghost use Rattle.std.specs.List.{list_any};
-ghost use Rattle.mml_ids.specs.Gives.{Gives, unless_fault};
+ghost use Rattle.std.specs.Ordering.{int_eq};
+ghost use Rattle.mml_ids.specs.Gives.{Gives, need};
 ghost use Rattle.mml_ids.specs.Ids.{in_order};
+ghost use Rattle.mml_lab.specs.declared.lab_fault.LabFault.TheVariants.{Limit};
 ghost use Rattle.mml_lab.specs.Shape.{is_lab_memory};
 ghost use Rattle.mml_lab.specs.inside.Raw.{account_view, node_view, entry_view, raw_view};
 ghost use Rattle.mml_lab.specs.Rosters.{has_name};
-ghost use Rattle.mml_lab.specs.Labs.{number_of, file_ids, lacks_owner, are_one_twice, is_within, both_fault, ids_fault, forms_fault, no_owner_fault};
-ghost use Rattle.mml_lab.specs.Labs.{owner_twice_fault, owners_fault, limits_fault};
-ghost use Rattle.mml_lab.specs.inside.Checks.{limits_in, identified, enrolled, joined, checked};
+ghost use Rattle.mml_lab.specs.Labs.{number_of, file_ids, joins, is_linked, lacks_owner, are_one_twice, points_astray, is_within, both_fault, ids_fault};
+ghost use Rattle.mml_lab.specs.Labs.{forms_fault, no_owner_fault, owner_twice_fault, pointers_fault, unless, identified, enrolled, owned, limited, lab_from};
 ghost use Rattle.mml_lab.specs.inside.ChecksView.{checked_view, found_view};
 
 use crate::accounts::first_malformed;
 use crate::lab_fault::{Key, LabFault};
-use crate::links::{neighbours, pointers_fault};
+use crate::links::neighbours;
 use crate::raw_lab::{Account, RawLab, RawNode};
 use crate::roster::students_map;
 use crate::{MAX_EVENTS, MAX_SESSIONS, MAX_STUDENTS};
@@ -42,7 +43,7 @@ pub struct Checked {
 
 /// Goes through the errors in the order of `LabFault`.
 pub(crate) fn check(alloc: Global, raw: RawLab) -> Result<Checked, LabFault>
-    ensures { Gives is_lab_memory checked_view result (checked (raw_view raw)) }
+    ensures { Gives is_lab_memory checked_view result (lab_from (raw_view raw)) }
 {
     let RawLab {
         events,
@@ -95,7 +96,7 @@ struct Bounds {
 }
 
 /// Goes through the errors with the parts of a file. Its teacher and its nodes stay with the caller.
-#[tactic(auto, unfolding(crate::specs::inside::Checks::checked))]
+#[tactic(auto, unfolding(crate::specs::Labs::lab_from, crate::specs::Labs::checked))]
 fn gather(
     alloc: Global,
     teacher: &Account,
@@ -104,7 +105,7 @@ fn gather(
     links: &[(i64, i64)],
     bounds: Bounds,
 ) -> Result<Found, LabFault>
-    ensures { Gives is_lab_memory (found_view teacher.now nodes.now) result (checked (record {
+    ensures { Gives is_lab_memory (found_view teacher.now nodes.now) result (lab_from (record {
       events = bounds.events;
       sessions = bounds.sessions;
       teacher = account_view teacher.now;
@@ -115,8 +116,10 @@ fn gather(
 {
     let ids = identify(alloc, nodes)?;
     let students = enrol(alloc, teacher, students)?;
-    let neighbours = join(alloc, &ids, &students, nodes, links)?;
-    let (events, sessions) = limits(bounds.events, bounds.sessions, count(&students))?;
+    check_owners(&students, nodes)?;
+    let neighbours = neighbours(alloc, &ids, nodes, links)?;
+    unless(pointers_fault(links, nodes))?;
+    let (events, sessions) = limits(bounds, count(&students))?;
     Ok(Found {
         ids,
         students,
@@ -127,44 +130,39 @@ fn gather(
 }
 
 /// The table of the identifiers, if no node has both keys of its owners.
-#[tactic(auto, unfolding(crate::specs::inside::Checks::identified))]
+#[tactic(auto, unfolding(crate::specs::Labs::identified))]
 fn identify(alloc: Global, nodes: &[RawNode]) -> Result<IdTable, LabFault>
-    ensures { Gives is_lab_memory (λ ids. ids) result (identified (map node_view nodes.now)) }
+    ensures tests { Gives is_lab_memory (λ _. tt {0}) result (identified (map node_view nodes.now)) }
+    ensures table { IfOk result (λ ids. ids ≡ in_order (file_ids (map node_view nodes.now))) }
 {
     unless(both_fault(nodes))?;
     id_table(alloc, nodes)
 }
 
 /// The students, if all names and keys are of their forms and each name stands once.
-#[tactic(auto, unfolding(crate::specs::inside::Checks::enrolled))]
+#[tactic(auto, unfolding(crate::specs::Labs::enrolled))]
 fn enrol(
     alloc: Global,
     teacher: &Account,
     students: Vec<Account>,
 ) -> Result<IndexMap<String, String>, LabFault>
-    ensures { Gives is_lab_memory (λ m. map entry_view m.entries) result
+    ensures tests { Gives is_lab_memory (λ _. tt {0}) result
         (enrolled (account_view teacher.now) (map account_view students.items)) }
+    ensures students { IfOk result
+        (λ m. map entry_view m.entries ≡ map account_view students.items) }
 {
     unless(forms_fault(teacher, &students))?;
     students_map(alloc, teacher, students)
 }
 
-/// The rows of neighbours, if owners, links and pointers are right.
-#[tactic(auto, unfolding(crate::specs::inside::Checks::joined))]
-fn join(
-    alloc: Global,
-    ids: &IdTable,
-    students: &IndexMap<String, String>,
-    nodes: &[RawNode],
-    links: &[(i64, i64)],
-) -> Result<Vec<NodeSet>, LabFault>
-    ensures { Gives is_lab_memory (λ rows. rows.items) result
-        (joined ids.now (map entry_view students.now.entries) (map node_view nodes.now) links.now) }
+/// Ends where an owner is no student, or both of a node are one.
+#[tactic(auto, unfolding(crate::specs::Labs::owned))]
+fn check_owners(students: &IndexMap<String, String>, nodes: &[RawNode]) -> Result<(), LabFault>
+    ensures { Gives is_lab_memory (λ u. u) result
+        (owned (map entry_view students.now.entries) (map node_view nodes.now)) }
 {
-    unless(owners_fault(students, nodes))?;
-    let neighbours = neighbours(alloc, ids, links)?;
-    unless(pointers_fault(ids, &neighbours, nodes))?;
-    Ok(neighbours)
+    unless(no_owner_fault(students, nodes))?;
+    unless(owner_twice_fault(nodes))
 }
 
 fn count(students: &IndexMap<String, String>) -> usize
@@ -174,8 +172,8 @@ fn count(students: &IndexMap<String, String>) -> usize
 }
 
 /// Ends where there is an error.
-fn unless(fault: Option<LabFault>) -> Result<(), LabFault>
-    ensures { Gives is_lab_memory (λ u. u) result (unless_fault fault tt) }
+pub(crate) fn unless(fault: Option<LabFault>) -> Result<(), LabFault>
+    ensures { Gives is_lab_memory (λ u. u) result (unless fault) }
 {
     match fault {
         Some(fault) => Err(fault),
@@ -201,9 +199,9 @@ fn first_with_both(nodes: &[RawNode]) -> Option<usize>
 
 /// The nodes' identifiers.
 fn id_table(alloc: Global, nodes: &[RawNode]) -> Result<IdTable, LabFault>
-    ensures { Gives is_lab_memory (λ ids. ids) result
-        (unless_fault (ids_fault (map node_view nodes.now))
-        (in_order (file_ids (map node_view nodes.now)))) }
+    ensures tests { Gives is_lab_memory (λ _. tt {0}) result
+        (unless (ids_fault (map node_view nodes.now))) }
+    ensures table { IfOk result (λ ids. ids ≡ in_order (file_ids (map node_view nodes.now))) }
 {
     let ids = file_ids(alloc, nodes)?;
     Ok(IdTable::new(alloc, &ids)?)
@@ -223,17 +221,6 @@ fn forms_fault(teacher: &Account, students: &[Account]) -> Option<LabFault>
         Some(place) => Some(LabFault::Name(place)),
         None => None,
     }
-}
-
-#[tactic(auto, unfolding(crate::specs::Labs::owners_fault))]
-fn owners_fault(students: &IndexMap<String, String>, nodes: &[RawNode]) -> Option<LabFault>
-    ensures { result ≡
-        owners_fault (map entry_view students.now.entries) (map node_view nodes.now) }
-{
-    if let Some(fault) = no_owner_fault(students, nodes) {
-        return Some(fault);
-    }
-    owner_twice_fault(nodes)
 }
 
 #[tactic(auto, unfolding(crate::specs::Labs::no_owner_fault))]
@@ -297,34 +284,78 @@ fn are_one_twice(names: &[String]) -> bool
     names.len() == 2 && names[0] == names[1]
 }
 
-fn is_within(greatest: u64, number: i64) -> bool
-    ensures { result ≡ is_within greatest number }
+/// The number, if it is from 1 to the greatest.
+fn within(greatest: u64, number: i64, key: Key) -> Result<u64, LabFault>
+    ensures test { Gives is_lab_memory (λ _. tt {0}) result
+        (need (is_within greatest number) (Limit key)) }
+    ensures number { IfOk result (λ n. n ≡ number_of number) }
+    ensures few { IfOk result (λ n. n ≤ greatest) }
 {
     let number = number_of(number);
-    0 < number && number <= greatest
+    if 0 < number && number <= greatest {
+        Ok(number)
+    } else {
+        Err(LabFault::Limit(key))
+    }
 }
 
-/// The numbers of events and sessions, within their limits.
-fn limits(events: i64, sessions: i64, students: usize) -> Result<(u64, u8), LabFault>
-    ensures { Gives is_lab_memory (λ e. e) result
-        (limits_in events sessions students) }
+/// The numbers of events and sessions, if they and that of the students are within their limits.
+#[tactic(auto, unfolding(crate::specs::Labs::limited))]
+fn limits(bounds: Bounds, students: usize) -> Result<(u64, u8), LabFault>
+    ensures tests { Gives is_lab_memory (λ _. tt {0}) result
+        (limited bounds.events bounds.sessions students) }
+    ensures events { IfOk result (λ e. e.0 ≡ number_of bounds.events) }
+    ensures sessions { IfOk result (λ e. e.1 ≡ number_of bounds.sessions) }
 {
-    unless(limits_fault(events, sessions, students))?;
-    Ok((number_of(events), number_of(sessions) as u8))
+    let events = within(MAX_EVENTS, bounds.events, Key::Events)?;
+    let sessions = within(MAX_SESSIONS, bounds.sessions, Key::Sessions)?;
+    if students as u64 <= MAX_STUDENTS {
+        Ok((events, sessions as u8))
+    } else {
+        Err(LabFault::Limit(Key::Student))
+    }
 }
 
-#[tactic(auto, unfolding(crate::specs::Labs::limits_fault))]
-fn limits_fault(events: i64, sessions: i64, students: usize) -> Option<LabFault>
-    ensures { result ≡ limits_fault events sessions students }
+#[tactic(auto, unfolding(crate::specs::Labs::pointers_fault))]
+fn pointers_fault(links: &[(i64, i64)], nodes: &[RawNode]) -> Option<LabFault>
+    ensures { result ≡ pointers_fault links.now (map node_view nodes.now) }
 {
-    if !is_within(MAX_EVENTS, events) {
-        return Some(LabFault::Limit(Key::Events));
+    match first_astray(links, nodes) {
+        Some(index) => Some(LabFault::BadPointer(index)),
+        None => None,
     }
-    if !is_within(MAX_SESSIONS, sessions) {
-        return Some(LabFault::Limit(Key::Sessions));
+}
+
+fn first_astray(links: &[(i64, i64)], nodes: &[RawNode]) -> Option<usize>
+    ensures { result ≡ position (λ node. points_astray links.now (node_view node)) nodes.now }
+{
+    nodes.iter().position(|node| points_astray(links, node))
+}
+
+/// Whether the node points at one that it isn't linked to.
+fn points_astray(links: &[(i64, i64)], node: &RawNode) -> bool
+    ensures { result ≡ points_astray links.now (node_view node.now) }
+{
+    match node.p {
+        Some(p) => !is_linked(links, node.id, p),
+        None => false,
     }
-    if students as u64 > MAX_STUDENTS {
-        return Some(LabFault::Limit(Key::Student));
-    }
-    None
+}
+
+fn is_linked(links: &[(i64, i64)], a: i64, b: i64) -> bool
+    ensures { result ≡ is_linked links.now a b }
+{
+    links.iter().any(|link| joins(a, b, *link))
+}
+
+fn joins(a: i64, b: i64, link: (i64, i64)) -> bool
+    ensures { result ≡ joins a b link }
+{
+    has_ends(link, a, b) || has_ends(link, b, a)
+}
+
+fn has_ends(link: (i64, i64), first: i64, second: i64) -> bool
+    ensures { result ≡ (int_eq link.0 first && int_eq link.1 second) }
+{
+    link.0 == first && link.1 == second
 }

@@ -11,6 +11,7 @@ use crate::raw_lab::read_bytes;
 use std::alloc::Global;
 
 /// The lab of a TOML document, or its first error in the order of `LabFault`.
+#[tactic(auto, unfolding(crate::specs::Labs::lab_of))]
 pub fn read_lab(alloc: Global, bytes: &[u8]) -> Result<Lab, LabFault>
     ensures { Gives is_lab_memory (λ lab. lab) result (lab_of bytes.now) }
 {

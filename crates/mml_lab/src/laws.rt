@@ -7,7 +7,7 @@ ghost use Rattle.mml_lab.specs.declared.TheConstants.{MAX_NAME, MAX_KEY, MAX_EVE
 ghost use Rattle.mml_lab.specs.declared.who.Who.{Who};
 ghost use Rattle.mml_lab.specs.declared.lab_fault.LabFault.TheVariants as fault;
 ghost use Rattle.mml_lab.specs.Shape.{Account, NodeSpec, RawSpec};
-ghost use Rattle.mml_lab.specs.Labs.{LabValue, IsLab, lab_fault, lab_in, lab_of, link_count, links_fault};
+ghost use Rattle.mml_lab.specs.Labs.{LabValue, IsLab, lab_fault, lab_in, lab_of, link_count, linked};
 ghost use Rattle.mml_lab.specs.LabMeaning.{Joins, HasLink, HasNode, IsNodeOf, IsLabOfFile, JoinNodes, IsLinkAgain, IsFirstLinkAgain, id_at};
 ghost use Rattle.mml_lab.specs.Rosters.{RosterValue, IsRoster, principal, owns, owners_of, name_of, student_named, is_name, is_key, name_twice};
 ghost use Rattle.mml_lab.specs.RosterMeaning.{IsKnownAs, IsName, IsKey, IsFirstAgain, AreDistinctBelow};
@@ -63,10 +63,10 @@ pub fn links_join_two_nodes()
 /// The error of a link that stands twice comes exactly where there is one, and tells the first.
 pub fn link_twice_is_the_first()
     ensures fault { (raw : RawSpec) (k : ℕ) →
-        (links_fault raw.nodes raw.links ≡ Some (fault.LinkTwice k))
+        (linked raw.nodes raw.links ≡ Err (fault.LinkTwice k))
         ↔ (JoinNodes raw × IsFirstLinkAgain raw.links k) }
     ensures none { (raw : RawSpec) →
-        (links_fault raw.nodes raw.links ≡ None)
+        (linked raw.nodes raw.links ≡ Ok tt)
         ↔ (JoinNodes raw × ((k : ℕ) → ¬ IsLinkAgain raw.links k)) }
     ensures told { (raw : RawSpec) (k : ℕ) →
         lab_fault raw ≡ Some (fault.LinkTwice k) → IsFirstLinkAgain raw.links k }

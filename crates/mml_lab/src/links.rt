@@ -1,56 +1,86 @@
-//! The checks of links and pointers, by the ranks of the nodes.
-ghost use Rattle.std.specs.Prelude.{◌≡◌, ◌<◌, ◌==◌, ◌&&◌, ◌||◌, ℕ, None, position, map, length, is_some, IfSome};
+//! The checks of links, and the rows of neighbours by the ranks of the nodes.
+ghost use Rattle.std.specs.Prelude.{◌≡◌, ◌<◌, ◌==◌, ◌&&◌, ◌||◌, ℕ, None, position, map, length, IfSome, IfOk};
+ghost use Rattle.std.specs.List.{list_any};
 ghost use Rattle.std.specs.Option.{ForSome};
+ghost use Rattle.std.specs.Ordering.{int_eq};
 ghost use Rattle.std.specs.FinSet as set;
 ghost use Rattle.mml_ids.specs.Gives.{Gives};
+ghost use Rattle.mml_ids.specs.Ids.{in_order};
 ghost use Rattle.mml_rules.specs.Configuration.{holds};
 ghost use Rattle.mml_rules.specs.Network.{neighbours_at};
 ghost use Rattle.mml_lab.specs.Shape.{is_lab_memory};
 ghost use Rattle.mml_lab.specs.inside.Raw.{node_view};
-ghost use Rattle.mml_lab.specs.Labs.{number_of, is_loop};
-ghost use Rattle.mml_lab.specs.inside.Checks.{rank_at, lacks_rank, are_near, rows_in, linked_in, points_past, past_fault};
+ghost use Rattle.mml_lab.specs.Labs.{number_of, file_ids, is_node, lacks_end, is_loop, neighbours_of, ends_fault, loops_fault, again_fault, unless, linked};
+ghost use Rattle.mml_lab.specs.inside.Checks.{rank_at, lacks_rank, are_near};
 
-use crate::checks::number_of;
+use crate::checks::{number_of, unless};
 use crate::lab_fault::LabFault;
 use crate::raw_lab::RawNode;
 use mml_ids::{IdTable, NodeSet, Rank};
 use std::alloc::Global;
 
-/// For each node the nodes that a link joins to it.
-#[tactic(auto, unfolding(crate::specs::inside::Checks::linked_in))]
+/// For each node the nodes that a link joins to it, if the links are right.
+#[tactic(auto, unfolding(crate::specs::Labs::linked))]
 pub(crate) fn neighbours(
     alloc: Global,
     ids: &IdTable,
+    nodes: &[RawNode],
     links: &[(i64, i64)],
 ) -> Result<Vec<NodeSet>, LabFault>
-    ensures { Gives is_lab_memory (λ rows. rows.items) result (linked_in ids.now links.now) }
+    requires { ids.now ≡ in_order (file_ids (map node_view nodes.now)) }
+    ensures tests { Gives is_lab_memory (λ _. tt {0}) result
+        (linked (map node_view nodes.now) links.now) }
+    ensures rows { IfOk result (λ rows. rows.items ≡ map (neighbours_of ids.now links.now) ids.now) }
 {
-    if let Some(index) = first_without_end(ids, links) {
-        return Err(LabFault::LinkEnd(index));
-    }
-    if let Some(index) = first_loop(links) {
-        return Err(LabFault::Loop(index));
-    }
+    let _count = ids.len();
+    unless(ends_fault(nodes, links))?;
+    unless(loops_fault(links))?;
     rows(alloc, ids, links)
 }
 
-fn first_without_end(ids: &IdTable, links: &[(i64, i64)]) -> Option<usize>
-    ensures { result ≡ position (lacks_rank ids.now) links.now }
+#[tactic(auto, unfolding(crate::specs::Labs::ends_fault))]
+fn ends_fault(nodes: &[RawNode], links: &[(i64, i64)]) -> Option<LabFault>
+    ensures { result ≡ ends_fault (map node_view nodes.now) links.now }
 {
-    links.iter().position(|link| lacks_rank(ids, *link))
+    match first_without_end(nodes, links) {
+        Some(index) => Some(LabFault::LinkEnd(index)),
+        None => None,
+    }
 }
 
-fn lacks_rank(ids: &IdTable, link: (i64, i64)) -> bool
-    ensures { result ≡ lacks_rank ids.now link }
+fn first_without_end(nodes: &[RawNode], links: &[(i64, i64)]) -> Option<usize>
+    ensures { result ≡ position (lacks_end (map node_view nodes.now)) links.now }
+{
+    links.iter().position(|link| lacks_end(nodes, *link))
+}
+
+fn lacks_end(nodes: &[RawNode], link: (i64, i64)) -> bool
+    ensures { result ≡ lacks_end (map node_view nodes.now) link }
 {
     let (a, b) = link;
-    !(is_node(ids, a) && is_node(ids, b))
+    !(is_node(nodes, a) && is_node(nodes, b))
 }
 
-fn is_node(ids: &IdTable, id: i64) -> bool
-    ensures { result ≡ is_some (rank_at ids.now id) }
+fn is_node(nodes: &[RawNode], id: i64) -> bool
+    ensures { result ≡ is_node (map node_view nodes.now) id }
 {
-    rank_at(ids, id).is_some()
+    has_id(nodes, id)
+}
+
+fn has_id(nodes: &[RawNode], id: i64) -> bool
+    ensures { result ≡ list_any (λ node. int_eq node.id id) nodes.now }
+{
+    nodes.iter().any(|node| node.id == id)
+}
+
+#[tactic(auto, unfolding(crate::specs::Labs::loops_fault))]
+fn loops_fault(links: &[(i64, i64)]) -> Option<LabFault>
+    ensures { result ≡ loops_fault links.now }
+{
+    match first_loop(links) {
+        Some(index) => Some(LabFault::Loop(index)),
+        None => None,
+    }
 }
 
 fn first_loop(links: &[(i64, i64)]) -> Option<usize>
@@ -68,7 +98,8 @@ fn is_loop(link: (i64, i64)) -> bool
 /// The rows of neighbours, or the first link whose ends, in either order, are those of one before it.
 fn rows(alloc: Global, ids: &IdTable, links: &[(i64, i64)]) -> Result<Vec<NodeSet>, LabFault>
     requires { position (lacks_rank ids.now) links.now ≡ None }
-    ensures { Gives is_lab_memory (λ rows. rows.items) result (rows_in ids.now links.now) }
+    ensures tests { Gives is_lab_memory (λ _. tt {0}) result (unless (again_fault links.now)) }
+    ensures rows { IfOk result (λ rows. rows.items ≡ map (neighbours_of ids.now links.now) ids.now) }
 {
     let mut rows = vec![in alloc; NodeSet::empty(); ids.len() as usize]?;
     for index in 0..links.len() {
@@ -126,33 +157,4 @@ fn insert(rows: &mut [NodeSet], node: Rank, neighbour: Rank)
 {
     let place = node.index() as usize;
     rows[place] = rows[place].with(neighbour);
-}
-
-/// The first node that points at one that isn't its neighbour.
-#[tactic(auto, unfolding(crate::specs::inside::Checks::past_fault))]
-pub(crate) fn pointers_fault(ids: &IdTable, rows: &[NodeSet], nodes: &[RawNode]) -> Option<LabFault>
-    requires { length rows.now ≡ length ids.now }
-    ensures { result ≡ past_fault ids.now rows.now (map node_view nodes.now) }
-{
-    match first_past(ids, rows, nodes) {
-        Some(index) => Some(LabFault::BadPointer(index)),
-        None => None,
-    }
-}
-
-fn first_past(ids: &IdTable, rows: &[NodeSet], nodes: &[RawNode]) -> Option<usize>
-    requires { length rows.now ≡ length ids.now }
-    ensures { result ≡ position (λ node. points_past ids.now rows.now (node_view node)) nodes.now }
-{
-    nodes.iter().position(|node| points_past(ids, rows, node))
-}
-
-fn points_past(ids: &IdTable, rows: &[NodeSet], node: &RawNode) -> bool
-    requires { length rows.now ≡ length ids.now }
-    ensures { result ≡ points_past ids.now rows.now (node_view node.now) }
-{
-    match node.p {
-        Some(p) => !are_near(rows, rank_at(ids, node.id), rank_at(ids, p)),
-        None => false,
-    }
 }

@@ -137,24 +137,44 @@ impl Roster {
     }
 }
 
+/// Whether these are the account's name and key. Both are compared, also where the name is another.
 fn has_name_and_key(account: &Account, name: &str, key: &str) -> bool
     ensures { result ≡ has_name_and_key name.now key.now (account_view account.now) }
 {
-    name == account.name.as_str() && key == account.key.as_str()
+    let is_named = name == account.name.as_str();
+    let is_keyed = key == account.key.as_str();
+    is_named & is_keyed
 }
 
-/// The place of the student with that name and key.
+/// The place of the student with that name and key. Each student's name and key are compared, so
+/// that a student's name takes the steps of an unknown one of its length.
 fn student_with(students: &IndexMap<String, String>, name: &str, key: &str) -> Option<usize>
     ensures value { result ≡
         position (has_name_and_key name.now key.now) (map entry_view students.now.entries) }
     ensures within { IfSome result (λ place. place < length students.now.entries) }
 {
-    let place = students.get_index_of(name)?;
-    let (_, found) = students.get_index(place)?;
-    if key == found.as_str() {
-        Some(place)
-    } else {
-        None
+    let mut found = None;
+    for place in 0..students.len() {
+        if is_at(students, place, name, key) && found.is_none() {
+            found = Some(place);
+        }
+    }
+    found
+}
+
+/// Whether the student at a place has that name and key.
+fn is_at(students: &IndexMap<String, String>, place: usize, name: &str, key: &str) -> bool
+    requires { place < length students.now.entries }
+    ensures { result ≡ has_name_and_key name.now key.now
+        (slice_index_or (map entry_view students.now.entries) place no_account) }
+{
+    match students.get_index(place) {
+        Some((known, secret)) => {
+            let is_named = name == known.as_str();
+            let is_keyed = key == secret.as_str();
+            is_named & is_keyed
+        }
+        None => unreachable!(),
     }
 }
 

@@ -10,6 +10,5 @@ pub mod HallPlacesLemmas
 pub mod SessionPlacesLemmas
 pub mod ServedLemmas
 pub mod WordsLemmas
-pub mod FilesLemmas
 pub mod WitnessesLemmas
 pub mod RunClosesLemmas

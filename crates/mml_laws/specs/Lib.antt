@@ -6,5 +6,4 @@ pub mod Ends
 pub mod Told
 pub mod Served
 pub mod Words
-pub mod Files
 pub mod Witnesses

@@ -1,31 +1,18 @@
--- What a file that was checked stands for.
+-- What a file that was checked stands for: its lab.
 use Rattle.std.specs.Prelude.{List, map}
 use Rattle.mml_lab.specs.declared.raw_lab.Account.{Account}
 use Rattle.mml_lab.specs.declared.raw_lab.RawNode.{RawNode}
-use Rattle.mml_lab.specs.declared.checks.Checked.{Checked as KeptChecked}
+use Rattle.mml_lab.specs.declared.checks.Checked.{Checked}
 use Rattle.mml_lab.specs.declared.checks.Found.{Found}
+use Rattle.mml_lab.specs.Labs.{LabValue}
 use Rattle.mml_lab.specs.inside.Raw.{account_view, entry_view, node_view}
-use Rattle.mml_lab.specs.inside.Checks.{Checked}
+use Rattle.mml_lab.specs.inside.Checks.{lab_with}
 
-abbrev pub checked_view : KeptChecked → Checked
-checked_view c = record {
-  ids = c.ids;
-  teacher = account_view c.teacher;
-  students = map entry_view c.students.entries;
-  nodes = map node_view c.nodes.items;
-  neighbours = c.neighbours.items;
-  events = c.events;
-  sessions = c.sessions;
-}
+abbrev pub checked_view : Checked → LabValue
+checked_view c =
+    lab_with c.ids (account_view c.teacher) (map entry_view c.students.entries) (map node_view c.nodes.items) c.neighbours.items c.events c.sessions
 
 -- the same of what was found out, with the teacher and the nodes of the file
-abbrev pub found_view : Account → List RawNode → Found → Checked
-found_view teacher nodes f = record {
-  ids = f.ids;
-  teacher = account_view teacher;
-  students = map entry_view f.students.entries;
-  nodes = map node_view nodes;
-  neighbours = f.neighbours.items;
-  events = f.events;
-  sessions = f.sessions;
-}
+abbrev pub found_view : Account → List RawNode → Found → LabValue
+found_view teacher nodes f =
+    lab_with f.ids (account_view teacher) (map entry_view f.students.entries) (map node_view nodes) f.neighbours.items f.events f.sessions

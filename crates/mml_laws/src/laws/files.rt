@@ -3,7 +3,7 @@ ghost use Rattle.std.specs.Prelude.{◌≡◌, Some};
 ghost use Rattle.mml_lab.specs.declared.lab_fault.LabFault.{LabFault};
 ghost use Rattle.mml_lab.specs.Labs.{lab_fault};
 ghost use Rattle.mml_lab.specs.Shape.{RawSpec};
-ghost use Rattle.mml_laws.specs.Files.{IsFirstError};
+ghost use Rattle.mml_lab.specs.LabErrors.{IsFirstError};
 
 /// The error that is told of a lab file is one that it has, and it has none that comes before it in the order
 /// of the errors: each is looked for in the whole file before the next.

@@ -1,4 +1,5 @@
-use Rattle.mml_lab.proofs.LinksFaultLemmas.{twice-fault, twice-none, twice-told}
+use Rattle.mml_lab.proofs.LabOfLemmas.{twice-told}
+use Rattle.mml_lab.proofs.LinksFaultLemmas.{twice-fault, twice-none}
 use Rattle.mml_lab.proofs.laws.link_twice_is_the_first.Goals as goal
 
 pub returns : goal.returns

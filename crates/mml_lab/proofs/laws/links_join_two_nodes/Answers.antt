@@ -1,10 +1,12 @@
 use Rattle.mml_lab.proofs.LabFaultLemmas.{faultless}
-use Rattle.mml_lab.proofs.LabMeaningLemmas.{ends-are, ends-differ, links-once}
+use Rattle.mml_lab.proofs.LabMeaningLemmas.{all-join}
+use Rattle.mml_lab.proofs.LinksFaultLemmas.{none-means}
 use Rattle.mml_lab.proofs.laws.links_join_two_nodes.Goals as goal
 
 pub returns : goal.returns
 returns c = record {
-  nodes = λ raw none. ends-are raw (faultless raw none);
-  different = λ raw none. ends-differ raw (faultless raw none);
-  once = λ raw i j link again none. links-once raw i j link again (faultless raw none);
+  nodes = λ raw none. (all-join raw (faultless raw none)).nodes;
+  different = λ raw none. (all-join raw (faultless raw none)).different;
+  once = λ raw i j link again none less first second joined. (none-means raw.links).0 (faultless raw none).once j
+      (record { earlier = i; before = less; link = link; again = again; first = first; second = second; joins = joined });
 }

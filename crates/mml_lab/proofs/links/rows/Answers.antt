@@ -10,7 +10,7 @@ use Rattle.mml_rules.specs.Network.{neighbours_at}
 use Rattle.mml_lab.specs.Labs.{is_link_again}
 use Rattle.mml_lab.specs.inside.Checks.{rank_at, are_near}
 use Rattle.mml_lab.proofs.NeighboursLemmas.{no_rows, one_more}
-use Rattle.mml_lab.proofs.ChecksLemmas.{again-at, again-fault, all-rows}
+use Rattle.mml_lab.proofs.ChecksLemmas.{again-at, again-found, again-none, all-rows}
 use Rattle.mml_lab.proofs.links.rows.Goals as goal
 
 pub loop-index-init : goal.loop-index-init
@@ -29,7 +29,7 @@ returns-then-are_near c =
     let again : is_link_again links k ≡ true =
     sym (again-at ids c.len.ensures.table links k c.loop-index.rows.items d c.loop-index-test.true c.requires c.loop-index.invariant.are)
     ∙ (λ t. are_near (sym c.deref.ensures.value t) (sym a t) (sym b t)) ∙ sym c.are_near.ensures ∙ c.if-are_near.true in
-    again-fault ids links k c.loop-index.rows.items c.loop-index-test.true c.loop-index.invariant again
+    record { tests = again-found ids links k c.loop-index.rows.items c.loop-index-test.true c.loop-index.invariant again; rows = tt }
 
 pub loop-index-preserved : goal.loop-index-preserved
 unfolding rank_at
@@ -61,4 +61,7 @@ loop-index-preserved c =
     })
 
 pub returns : goal.returns
-returns c = all-rows c.args.ids.now c.args.links.now c.loop-index.index c.loop-index.rows.items c.loop-index-test.false c.loop-index.invariant
+returns c = record {
+  tests = again-none c.args.ids.now c.args.links.now c.loop-index.index c.loop-index.rows.items c.loop-index-test.false c.loop-index.invariant;
+  rows = all-rows c.args.ids.now c.args.links.now c.loop-index.index c.loop-index.rows.items c.loop-index-test.false c.loop-index.invariant;
+}

@@ -1,16 +1,15 @@
 -- The errors of a lab file in their order.
-use Rattle.std.specs.Prelude.{◌≡◌, ℕ, ◌<◌, not, nat_lt, List, [], ◌∷◌, length, position, Option, Some, None, option_map}
+use Rattle.std.specs.Prelude.{◌≡◌, ℕ, ◌<◌, not, nat_lt, List, [], ◌∷◌, length, Option, Some, None}
 use Rattle.std.specs.List.{slice_get}
 use Rattle.mml_ids.specs.Gives.{fault_if}
-use Rattle.mml_ids.specs.Search.{first_below}
 use Rattle.mml_lab.specs.declared.TheConstants.{MAX_EVENTS, MAX_SESSIONS, MAX_STUDENTS}
 use Rattle.mml_lab.specs.declared.lab_fault.LabFault.{LabFault}
 use Rattle.mml_lab.specs.declared.lab_fault.LabFault.TheVariants as fault
 use Rattle.mml_lab.specs.declared.lab_fault.Key.TheVariants as key
 use Rattle.mml_lab.specs.Shape.{RawSpec}
 use Rattle.mml_lab.specs.Rosters.{name_twice}
-use Rattle.mml_lab.specs.Labs.{both_fault, ids_fault, forms_fault, no_owner_fault, owner_twice_fault, pointers_fault, lacks_end, is_loop}
-use Rattle.mml_lab.specs.Labs.{is_link_again, is_within}
+use Rattle.mml_lab.specs.Labs.{both_fault, ids_fault, forms_fault, no_owner_fault, owner_twice_fault, ends_fault, loops_fault, again_fault, pointers_fault}
+use Rattle.mml_lab.specs.Labs.{is_within}
 
 -- the place of an error of a file that has all keys, each of its kind, in the order in which they are told: both keys for owners,
 -- identifiers, names and keys, names that stand twice, owners that are no students, owners that are one twice, ends that are no nodes,
@@ -40,9 +39,9 @@ errors_of raw =
     ∷ name_twice (raw.teacher ∷ raw.students)
     ∷ no_owner_fault raw.students raw.nodes
     ∷ owner_twice_fault raw.nodes
-    ∷ option_map fault.LinkEnd (position (lacks_end raw.nodes) raw.links)
-    ∷ option_map fault.Loop (position is_loop raw.links)
-    ∷ option_map fault.LinkTwice (first_below (is_link_again raw.links) (length raw.links))
+    ∷ ends_fault raw.nodes raw.links
+    ∷ loops_fault raw.links
+    ∷ again_fault raw.links
     ∷ pointers_fault raw.links raw.nodes
     ∷ fault_if (not (is_within MAX_EVENTS raw.events)) (fault.Limit key.Events)
     ∷ fault_if (not (is_within MAX_SESSIONS raw.sessions)) (fault.Limit key.Sessions)

@@ -1,0 +1,150 @@
+-- The errors of a lab file are told in their order.
+use Rattle.std.proofs.Common.{◌≡◌, ◌<◌, ◌+◌, ℕ, zero, suc, Bool, true, false, List, [], ◌∷◌, ◌++◌, Option, Some, None, Result, Ok, Err, inl, inr, option_map, not, nat_lt, nat_le}
+use Rattle.std.proofs.Common.{length, refl, sym, ap, ◌∙◌, subst, arith}
+use Rattle.std.specs.List.{slice_get}
+use Rattle.std.proofs.lemmas.Bool.{cases_lt, lt-ltb, le-ltb, lt-leb, le-leb}
+use Rattle.mml_ids.specs.Gives.{◌>>◌, need, first_fault, fault_if}
+use Rattle.mml_lab.specs.declared.TheConstants.{MAX_EVENTS, MAX_SESSIONS, MAX_STUDENTS}
+use Rattle.mml_lab.specs.declared.lab_fault.LabFault.{LabFault}
+use Rattle.mml_lab.specs.declared.lab_fault.LabFault.TheVariants as fault
+use Rattle.mml_lab.specs.declared.lab_fault.Key.TheVariants as key
+use Rattle.mml_lab.specs.Shape.{RawSpec}
+use Rattle.mml_lab.specs.Rosters.{name_twice}
+use Rattle.mml_lab.specs.Labs.{both_fault, ids_fault, forms_fault, no_owner_fault, owner_twice_fault, ends_fault, loops_fault, again_fault, pointers_fault, unless}
+use Rattle.mml_lab.specs.Labs.{is_within, identified, enrolled, owned, linked, limited, checked, error_of, lab_fault}
+use Rattle.mml_lab.specs.LabErrors.{order_of, errors_of, IsFirstError}
+
+-- the first of a list of errors
+abbrev pub first_of : List (Option LabFault) → Option LabFault
+first_of [] = None
+first_of (t ∷ ts) = first_fault t (first_of ts)
+
+-- ---- each has its place in the order
+
+abbrev HasOrder : ℕ → Option LabFault → Type 0
+HasOrder n t = (f : LabFault) → t ≡ Some f → order_of f ≡ n
+
+mapped : {A : Type 0} (n : ℕ) (make : A → LabFault) (o : Option A) → ((x : A) → order_of (make x) ≡ n) → HasOrder n (option_map make o)
+mapped n make None each f h = absurd cc
+mapped n make (Some x) each f h = let same : make x ≡ f = cc in ap order_of (sym same) ∙ each x
+
+tested : (n : ℕ) (b : Bool) (e : LabFault) → order_of e ≡ n → HasOrder n (fault_if b e)
+tested n true e is f h = let same : e ≡ f = cc in ap order_of (sym same) ∙ is
+tested n false e is f h = absurd cc
+
+abbrev HaveOrder : ℕ → List (Option LabFault) → Type 0
+HaveOrder n [] = Unit {0}
+HaveOrder n (t ∷ ts) = HasOrder n t × HaveOrder (n + 1) ts
+
+have_order : (raw : RawSpec) → HaveOrder 0 (errors_of raw)
+unfolding both_fault ids_fault forms_fault no_owner_fault owner_twice_fault ends_fault loops_fault again_fault pointers_fault
+have_order raw = (
+  mapped 0 fault.BothOwners _ (λ x. refl),
+  (
+    mapped 1 fault.Id _ (λ x. refl),
+    (
+      mapped 2 fault.Name _ (λ x. refl),
+      (
+        mapped 3 fault.NameTwice _ (λ x. refl),
+        (
+          mapped 4 fault.NoOwner _ (λ x. refl),
+          (
+            mapped 5 fault.OwnerTwice _ (λ x. refl),
+            (
+              mapped 6 fault.LinkEnd _ (λ x. refl),
+              (
+                mapped 7 fault.Loop _ (λ x. refl),
+                (
+                  mapped 8 fault.LinkTwice _ (λ x. refl),
+                  (
+                    mapped 9 fault.BadPointer _ (λ x. refl),
+                    (
+                      tested 10 _ (fault.Limit key.Events) refl,
+                      (tested 11 _ (fault.Limit key.Sessions) refl, (tested 12 _ (fault.Limit key.Student) refl, tt)),
+                    ),
+                  ),
+                ),
+              ),
+            ),
+          ),
+        ),
+      ),
+    ),
+  ),
+)
+
+-- ---- the first one
+
+record IsFirstIn (n : ℕ) (ts : List (Option LabFault)) (f : LabFault) : Type 0 where
+  at : ℕ
+  order : order_of f ≡ n + at
+  here : slice_get ts at ≡ Some (Some f)
+  before : (k : ℕ) → k < at → slice_get ts k ≡ Some None
+
+first_in : (n : ℕ) (ts : List (Option LabFault)) (f : LabFault) → HaveOrder n ts → first_of ts ≡ Some f → IsFirstIn n ts f
+first_in n [] f have h = absurd cc
+first_in n (Some e ∷ ts) f have h =
+    record { at = 0; order = have.0 f h ∙ (omega arith); here = ap (λ o. Some o) h; before = λ k lt. absurd (omega (arith, lt)) }
+first_in n (None ∷ ts) f have h =
+    let rest = first_in (n + 1) ts f have.1 h in
+    record { at = suc rest.at; order = rest.order ∙ (omega arith); here = rest.here; before = before rest.at rest.before }
+  where
+    before : (at : ℕ) → ((k : ℕ) → k < at → slice_get ts k ≡ Some None) → (k : ℕ) → k < suc at → slice_get (None ∷ ts) k ≡ Some None
+    before at each zero lt = refl
+    before at each (suc k) lt = each k (omega (arith, lt))
+
+-- the steps end in the first of these errors
+pub record EndsIn (r : Result (Unit {0}) LabFault) (ts : List (Option LabFault)) : Type 0 where
+  pub first : error_of r ≡ first_of ts
+
+one : (t : Option LabFault) → EndsIn (unless t) (t ∷ [])
+one None = record { first = refl }
+one (Some e) = record { first = refl }
+
+one_if : (b : Bool) (e : LabFault) → EndsIn (need b e) (fault_if (not b) e ∷ [])
+one_if true e = record { first = refl }
+one_if false e = record { first = refl }
+
+one_above : (n greatest : ℕ) (e : LabFault) → EndsIn (need (nat_le n greatest) e) (fault_if (nat_lt greatest n) e ∷ [])
+one_above n greatest e = elim (cases_lt greatest n) [
+  | inl more ↦ record { first = rw (lt-ltb greatest n more, lt-leb n greatest more) refl }
+  | inr few ↦ record { first = rw (le-ltb greatest n few, le-leb n greatest few) refl }
+]
+
+more : (r s : Result (Unit {0}) LabFault) {ts us : List (Option LabFault)} → EndsIn r ts → EndsIn s us → EndsIn (r >> s) (ts ++ us)
+more r s {ts} {us} a b = record { first = by r ts a.first }
+  where
+    by : (r : Result (Unit {0}) LabFault) (ts : List (Option LabFault)) → error_of r ≡ first_of ts → error_of (r >> s) ≡ first_of (ts ++ us)
+    by (Ok u) [] same = b.first
+    by (Ok u) (None ∷ ts) same = by (Ok u) ts same
+    by (Ok u) (Some e ∷ ts) same = absurd cc
+    by (Err e) [] same = absurd cc
+    by (Err e) (None ∷ ts) same = by (Err e) ts same
+    by (Err e) (Some f ∷ ts) same = same
+
+-- the first error of a file is the first of those that it has
+pub first_error : (raw : RawSpec) → EndsIn (checked raw) (errors_of raw)
+unfolding checked identified enrolled owned linked limited
+first_error raw =
+    let in_events = is_within MAX_EVENTS raw.events in
+    let in_sessions = is_within MAX_SESSIONS raw.sessions in
+    more (identified raw.nodes) _ (more (unless (both_fault raw.nodes)) _ (one (both_fault raw.nodes)) (one (ids_fault raw.nodes)))
+    (more (enrolled raw.teacher raw.students) _
+    (more (unless (forms_fault (raw.teacher ∷ raw.students))) _ (one (forms_fault (raw.teacher ∷ raw.students))) (one (name_twice (raw.teacher ∷ raw.students))))
+    (more (owned raw.students raw.nodes) _
+    (more (unless (no_owner_fault raw.students raw.nodes)) _ (one (no_owner_fault raw.students raw.nodes)) (one (owner_twice_fault raw.nodes)))
+    (more (linked raw.nodes raw.links) _ (more (unless (ends_fault raw.nodes raw.links)) _ (one (ends_fault raw.nodes raw.links))
+    (more (unless (loops_fault raw.links)) _ (one (loops_fault raw.links)) (one (again_fault raw.links))))
+    (more (unless (pointers_fault raw.links raw.nodes)) _ (one (pointers_fault raw.links raw.nodes))
+    (more (need in_events (fault.Limit key.Events)) _ (one_if in_events (fault.Limit key.Events))
+    (more (need in_sessions (fault.Limit key.Sessions)) _ (one_if in_sessions (fault.Limit key.Sessions))
+    (one_above (length raw.students) MAX_STUDENTS (fault.Limit key.Student))))))))
+
+-- it is told before those that come after it in the order
+pub told_in_order : (raw : RawSpec) (f : LabFault) → lab_fault raw ≡ Some f → IsFirstError raw f
+told_in_order raw f h =
+    let first = first_in 0 (errors_of raw) f (have_order raw) (sym (first_error raw).first ∙ h) in
+    let at : first.at ≡ order_of f = omega (arith, first.order) in record {
+      here = subst (λ k. slice_get (errors_of raw) k ≡ Some (Some f)) at first.here;
+      before = λ k lt. first.before k (omega (arith, lt, at));
+    }

@@ -1,0 +1,45 @@
+-- What a loop over a list has found so far.
+use Rattle.std.proofs.Common.{◌≡◌, ℕ, ◌+◌, ◌<◌, ◌≤◌, List, length, get_or, Option, Some, None, Bool, true, false, ◌⊎◌, inl, inr, sym, arith}
+use Rattle.std.specs.Prelude.{is_some, IfSome}
+use Rattle.std.specs.List.{position}
+use Rattle.std.proofs.lemmas.Bool.{cases_order}
+use Rattle.mml_ids.proofs.SearchLemmas.{position-none, position-at}
+
+-- the first of the first n elements that passes, or that none of them does
+abbrev pub IsSoFar : {X : Type 0} → (X → Bool) → List X → X → ℕ → Option ℕ → Type 0
+IsSoFar p xs d n None = (k : ℕ) → k < n → p (get_or xs k d) ≡ false
+IsSoFar p xs d n (Some i) = (i < n) × (p (get_or xs i d) ≡ true) × ((k : ℕ) → k < i → p (get_or xs k d) ≡ false)
+
+module _ {X : Type 0} (p : X → Bool) (xs : List X) (d : X) where
+  -- nothing was gone through
+  pub at_start : IsSoFar p xs d 0 None
+  at_start = λ k lt. absurd (omega arith)
+
+  -- the next element passes, and none did before
+  pub at_first : (n : ℕ) (o : Option ℕ) → IsSoFar p xs d n o → is_some o ≡ false → true ≡ p (get_or xs n d) → IsSoFar p xs d (n + 1) (Some n)
+  at_first n None none _ here = (omega arith, sym here, none)
+  at_first n (Some i) found none here = absurd cc
+
+  -- one was found before
+  pub at_later : (n : ℕ) (o : Option ℕ) → IsSoFar p xs d n o → is_some o ≡ true → IsSoFar p xs d (n + 1) o
+  at_later n None none found = absurd cc
+  at_later n (Some i) (lt, here, before) _ = (omega arith, here, before)
+
+  -- the next element doesn't pass
+  pub at_other : (n : ℕ) (o : Option ℕ) → IsSoFar p xs d n o → false ≡ p (get_or xs n d) → IsSoFar p xs d (n + 1) o
+  at_other n None none other = λ k lt. by k lt (cases_order k n)
+    where
+      by : (k : ℕ) → k < n + 1 → (k ≡ n) ⊎ ((k < n) ⊎ (n < k)) → p (get_or xs k d) ≡ false
+      by k lt (inl same) = rw same (sym other)
+      by k lt (inr (inl before)) = none k before
+      by k lt (inr (inr after)) = absurd (omega arith)
+  at_other n (Some i) (lt, here, before) other = (omega arith, here, before)
+
+  -- all were gone through
+  pub at_end : (n : ℕ) (o : Option ℕ) → n ≡ length xs → IsSoFar p xs d n o → o ≡ position p xs
+  at_end n None all none = sym (position-none p xs d (λ k lt. none k (omega arith)))
+  at_end n (Some i) all (lt, here, before) = sym (position-at p xs i d (omega arith) here before)
+
+  pub is_within : (n : ℕ) (o : Option ℕ) → IsSoFar p xs d n o → n ≤ length xs → IfSome o (λ i. i < length xs)
+  is_within n None none within = tt
+  is_within n (Some i) (lt, here, before) within = omega arith
