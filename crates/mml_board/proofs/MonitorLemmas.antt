@@ -1,15 +1,12 @@
 -- What the monitor keeps over a change.
-use Rattle.std.proofs.Common.{◌≡◌, ℕ, ◌<◌, ◌+◌, Bool, true, false, cond, not, ◌&&◌, ◌||◌, eqb, ltb, Option, None, Some, is_some, List, length, set, sym, refl}
-use Rattle.std.proofs.Common.{ap, ◌∙◌, subst, arith, length-set, add-one}
-use Rattle.std.proofs.lemmas.Bool.{eq-eqb, ne_eqb, eqb-true, lt-ltb, both_ways, or_left, or_right, false_from_ne_true}
+use Rattle.std.proofs.Common.{◌≡◌, ℕ, ◌<◌, Bool, true, false, cond, not, ◌&&◌, ◌||◌, eqb, ltb, None, Some, is_some, List, length, set, sym, refl}
+use Rattle.std.proofs.Common.{ap, ◌∙◌, subst, arith, length-set}
+use Rattle.std.proofs.lemmas.Bool.{eq-eqb, ne_eqb, lt-ltb, both_ways, or_left, or_right, false_from_ne_true}
 use Rattle.std.specs.FinSet as sets
 use Rattle.std.specs.FinSet.{FinSet}
 use Rattle.std.specs.Ordering.{nat_cmp}
-use Rattle.mml_ids.specs.Sets.{those_below}
 use Rattle.mml_ids.specs.inside.WordsLemmas.{has_empty, has_insert, has_remove, same_ranks, has-those_below}
 use Rattle.mml_rules.specs.declared.regs.Regs.{Regs}
-use Rattle.mml_rules.specs.declared.rule.Kind.{Kind}
-use Rattle.mml_rules.specs.declared.rule.Rule.{Rule}
 use Rattle.mml_rules.specs.Configuration.{Configuration, IsLawful, holds}
 use Rattle.mml_rules.specs.Rules.{enabled_kind, is_privileged, moved}
 use Rattle.mml_rules.specs.Around.{AgreeAround}
@@ -19,8 +16,11 @@ use Rattle.mml_rules.proofs.NetworkLemmas.{registers_at-set, length-unpointed, l
 use Rattle.mml_rules.proofs.NetworkLemmas.{without_link-lawful}
 use Rattle.mml_board.specs.World.{World, configuration, chosen_at, IsWorld, privileged_count}
 use Rattle.mml_board.specs.Events.{moved_registers}
+use Rattle.mml_board.specs.inside.Kept.{AreChosen}
 use Rattle.mml_board.specs.inside.Monitor.{is_privileged_node, privileged_set, IsUntouched}
 use Rattle.mml_board.proofs.WorldLemmas.{closed, moved_at, length-moved_registers, length-without_link}
+use Rattle.mml_board.proofs.EventsLemmas.{nulled, unpointed-at}
+use Rattle.mml_board.proofs.ChoicesLemmas.{not_some}
 use Rattle.mml_board.proofs.KeptLemmas.{len-those_below}
 
 -- the privileged set has exactly the nodes that are privileged
@@ -37,39 +37,9 @@ pub len-privileged : (c : Configuration) → sets.len (privileged_set c) ≡ pri
 unfolding privileged_set
 len-privileged c = len-those_below c.size (is_privileged c)
 
--- the privileged ranks among all nodes make the privileged set
-pub privileged-from : (c : Configuration) (n : ℕ) (s : FinSet nat_cmp) → n ≡ c.size → s ≡ those_below n (is_privileged c) → s ≡ privileged_set c
-unfolding privileged_set
-privileged-from c n s e f = f ∙ ap (λ (k : ℕ). those_below k (is_privileged c)) e
-
--- no rank is below 0
-pub those_none : (t : ℕ → Bool) → sets.empty ≡ those_below 0 t
-unfolding those_below
-those_none t = refl
-
--- a rank that passes is put into the set of those below it that pass
-pub those_with : (n : ℕ) (t : ℕ → Bool) (s : FinSet nat_cmp) → s ≡ those_below n t → t n ≡ true → sets.insert s n ≡ those_below (n + 1) t
-unfolding those_below
-those_with n t s e h =
-    ap (λ (u : FinSet nat_cmp). sets.insert u n) e ∙ sym (ap (λ b. cond b (sets.insert (those_below n t) n) (those_below n t)) h)
-    ∙ ap (λ (k : ℕ). those_below k t) (sym (add-one n))
-
--- a rank that doesn't pass leaves the set of those below it that pass
-pub those_skip : (n : ℕ) (t : ℕ → Bool) (s : FinSet nat_cmp) → s ≡ those_below n t → t n ≡ false → s ≡ those_below (n + 1) t
-unfolding those_below
-those_skip n t s e h = e ∙ sym (ap (λ b. cond b (sets.insert (those_below n t) n) (those_below n t)) h) ∙ ap (λ (k : ℕ). those_below k t) (sym (add-one n))
-
-none_kind : (o : Option Kind) → is_some o ≡ false → None ≡ o
-none_kind None h = refl
-none_kind (Some k) h = cc
-
 -- at a node that isn't privileged no rule is enabled
 pub idle-kind : (c : Configuration) (j : ℕ) → j < c.size → is_privileged_node c j ≡ false → None ≡ enabled_kind c j
-idle-kind c j l h = none_kind (enabled_kind c j) (sym (ap (λ b. b && is_privileged c j) (lt-ltb j c.size l)) ∙ h)
-
--- for a node, a test of being privileged is one of being a privileged node
-pub node_test : (c : Configuration) (j : ℕ) (b : Bool) → j < c.size → b ≡ is_privileged c j → b ≡ is_privileged_node c j
-node_test c j b l e = e ∙ sym (ap (λ x. x && is_privileged c j) (lt-ltb j c.size l))
+idle-kind c j l h = sym (not_some (enabled_kind c j) (sym (ap (λ b. b && is_privileged c j) (lt-ltb j c.size l)) ∙ h))
 
 or_none : (x y : Bool) → x ≡ false → (x || y) ≡ y
 or_none x y h = ap (λ z. z || y) h
@@ -89,30 +59,6 @@ put-out s a j = has_remove s a j ∙ go (eqb j a)
     go : (b : Bool) → (not b && sets.contains s j) ≡ cond b false (sets.contains s j)
     go true = refl
     go false = refl
-
--- one more node is looked at
-pub one_refreshed : (before now next nodes left left' : FinSet nat_cmp) (test : ℕ → Bool) (a : ℕ) (b : Bool) → b ≡ test a
-    → ((j : ℕ) → sets.contains next j ≡ cond (eqb j a) b (sets.contains now j)) → left' ≡ sets.remove left a → sets.contains nodes a ≡ true
-    → ((j : ℕ) → sets.contains now j ≡ cond (sets.contains left j) (sets.contains before j) (cond (sets.contains nodes j) (test j) (sets.contains before j)))
-    → (j : ℕ) → sets.contains next j ≡ cond (sets.contains left' j) (sets.contains before j) (cond (sets.contains nodes j) (test j) (sets.contains before j))
-one_refreshed before now next nodes left left' test a b f e k there h j =
-    e j ∙ go (eqb j a) refl ∙ sym (ap (λ x. cond x (sets.contains before j) (cond (sets.contains nodes j) (test j) (sets.contains before j)))
-    (ap (λ t. sets.contains t j) k ∙ has_remove left a j))
-  where
-    go : (x : Bool) → eqb j a ≡ x → cond x b (sets.contains now j)
-        ≡ cond (not x && sets.contains left j) (sets.contains before j) (cond (sets.contains nodes j) (test j) (sets.contains before j))
-    go true q =
-        let same : j ≡ a = eqb-true j a q in
-        f ∙ ap test (sym same) ∙ ap (λ x. cond x (test j) (sets.contains before j)) (sym (ap (sets.contains nodes) same ∙ there))
-    go false q = h j
-
--- once no node is left to be looked at, each one of those looked at is as its test says, and all others as before
-pub all_refreshed : (before now nodes left : FinSet nat_cmp) (test : ℕ → Bool) → left ≡ sets.empty
-    → ((j : ℕ) → sets.contains now j ≡ cond (sets.contains left j) (sets.contains before j) (cond (sets.contains nodes j) (test j) (sets.contains before j)))
-    → (j : ℕ) → sets.contains now j ≡ cond (sets.contains nodes j) (test j) (sets.contains before j)
-all_refreshed before now nodes left test e h j =
-    h j
-    ∙ ap (λ x. cond x (sets.contains before j) (cond (sets.contains nodes j) (test j) (sets.contains before j))) (ap (λ t. sets.contains t j) e ∙ has_empty j)
 
 -- the node and its neighbours are looked at
 pub around_refreshed : (c : Configuration) (now next row left left' : FinSet nat_cmp) (a : ℕ) → IsLawful c → ((k : ℕ) → sets.contains row k ≡ c.linked a k)
@@ -135,15 +81,6 @@ around_refreshed c now next row left left' a lawful rows e h k j u = h j ∙ go 
           ∙ sym (has_insert row a j) ∙ q)
           (rows j ∙ lawful.symmetric j a (subst (λ z. c.linked j z ≡ true) same linked))) (u.near i linked);
     })
-
--- a node and those in its row are nodes
-pub around-within : (c : Configuration) (row : FinSet nat_cmp) (a j : ℕ) → IsLawful c → a < c.size → ((k : ℕ) → sets.contains row k ≡ c.linked a k)
-    → sets.contains (sets.insert row a) j ≡ true → j < c.size
-around-within c row a j lawful l rows h = go (eqb j a) refl (sym (has_insert row a j) ∙ h)
-  where
-    go : (b : Bool) → eqb j a ≡ b → (b || sets.contains row j) ≡ true → j < c.size
-    go true e q = let same = eqb-true j a e in omega arith
-    go false e q = (lawful.in_range a j (sym (rows j) ∙ q)).1
 
 -- where nothing was changed, each node is untouched
 pub none_touched : (c : Configuration) (s : FinSet nat_cmp) (j : ℕ) → s ≡ sets.empty → IsUntouched c s j
@@ -201,13 +138,8 @@ link_differs s n a b w la lb ha hb = record {
 
 unpoint_same : (s : FinSet nat_cmp) (registers : List Regs) (a b i : ℕ) → a < length registers → sets.contains s a ≡ true → sets.contains s i ≡ false
     → registers_at (unpointed registers a b) i ≡ registers_at registers i
-unpoint_same s registers a b i l h k = go (holds (registers_at registers a).p b)
-  where
-    go : (x : Bool) → registers_at (cond x (set registers a (record { p = None; m = (registers_at registers a).m })) registers) i ≡ registers_at registers i
-    go true =
-        registers_at-set registers a i (record { p = None; m = (registers_at registers a).m }) l
-        ∙ ap (λ b. cond b (record { p = None; m = (registers_at registers a).m }) (registers_at registers i)) (unlike s i a h k)
-    go false = refl
+unpoint_same s registers a b i l h k =
+    unpointed-at registers a b i l ∙ ap (λ x. nulled (x && holds (registers_at registers i).p b) (registers_at registers i)) (unlike s i a h k)
 
 pub cut_differs : (s : FinSet nat_cmp) (n : Network) (a b : ℕ) → IsNetwork n → a < length n.registers → b < length n.registers → sets.contains s a ≡ true
     → sets.contains s b ≡ true → DifferAt s (configuration_of n) (configuration_of (without_link n a b))
@@ -224,12 +156,8 @@ cut_differs s n a b w la lb ha hb = record {
     same i k =
         unpoint_same s (unpointed n.registers a b) b a i (omega (arith, length-unpointed n.registers a b)) hb k ∙ unpoint_same s n.registers a b i la ha k
 
-not_some : (o : Option Rule) → is_some o ≡ false → o ≡ None
-not_some None h = refl
-not_some (Some r) h = cc
-
 -- a close changes the configuration at the chosen nodes alone
-pub close_differs : (s : FinSet nat_cmp) (w : World) → IsWorld w → ((i : ℕ) → is_some (chosen_at w.chosen i) ≡ sets.contains s i)
+pub close_differs : (s : FinSet nat_cmp) (w : World) → IsWorld w → AreChosen w.chosen s
     → DifferAt s (configuration w) (configuration_of (closed w))
 close_differs s w k h = record {
   size = sym (length-moved_registers w);
@@ -239,7 +167,7 @@ close_differs s w k h = record {
 }
   where
     same : (i : ℕ) → sets.contains s i ≡ false → registers_at (moved_registers w) i ≡ registers_at w.network.registers i
-    same i q = moved_at w k.choices i ∙ ap (λ o. moved (configuration w) i o) (not_some (chosen_at w.chosen i) (h i ∙ q))
+    same i q = moved_at w k.choices i ∙ ap (λ o. moved (configuration w) i o) (not_some (chosen_at w.chosen i) (sym (h i) ∙ q))
 
 -- after a change at some nodes alone, the privileged set is still right at each untouched node
 pub right_after : (s privileged : FinSet nat_cmp) (n m n' : Network) → IsNetwork n → IsNetwork m → n' ≡ m → DifferAt s (configuration_of n) (configuration_of m)
@@ -258,17 +186,6 @@ in_one s a = has_insert s a a ∙ or_left (eqb a a) _ (eq-eqb a a refl)
 pub in_insert : (s : FinSet nat_cmp) (a i : ℕ) → sets.contains s i ≡ true → sets.contains (sets.insert s a) i ≡ true
 in_insert s a i h = has_insert s a i ∙ or_right (eqb i a) _ h
 
-pub insert-within : (s : FinSet nat_cmp) (a n : ℕ) → ((j : ℕ) → sets.contains s j ≡ true → j < n) → a < n → (j : ℕ)
-    → sets.contains (sets.insert s a) j ≡ true → j < n
-insert-within s a n within l j h = go (eqb j a) refl (sym (has_insert s a j) ∙ h)
-  where
-    go : (b : Bool) → eqb j a ≡ b → (b || sets.contains s j) ≡ true → j < n
-    go true e q = let same = eqb-true j a e in omega arith
-    go false e q = within j q
-
-pub empty-within : (n j : ℕ) → sets.contains (sets.empty {R = nat_cmp}) j ≡ true → j < n
-empty-within n j h = absurd (both_ways _ (has_empty j) h)
-
 -- ---- where an event changes the configuration
 
 has_first : (s : FinSet nat_cmp) (a b : ℕ) → s ≡ sets.insert (sets.insert sets.empty a) b → sets.contains s a ≡ true
@@ -276,17 +193,6 @@ has_first s a b e = ap (λ t. sets.contains t a) e ∙ in_insert (sets.insert se
 
 has_second : (s : FinSet nat_cmp) (a b : ℕ) → s ≡ sets.insert (sets.insert sets.empty a) b → sets.contains s b ≡ true
 has_second s a b e = ap (λ t. sets.contains t b) e ∙ in_one (sets.insert sets.empty a) b
-
--- the set of one node has nodes alone
-pub node-within : (s : FinSet nat_cmp) (a n k : ℕ) → s ≡ sets.insert sets.empty a → k ≡ n → a < n → (j : ℕ) → sets.contains s j ≡ true → j < k
-node-within s a n k e f l j h = subst (λ (m : ℕ). j < m) (sym f) (insert-within sets.empty a n (empty-within n) l j (sym (ap (λ t. sets.contains t j) e) ∙ h))
-
--- the set of two nodes has nodes alone
-pub ends-within : (s : FinSet nat_cmp) (a b n k : ℕ) → s ≡ sets.insert (sets.insert sets.empty a) b → k ≡ n → a < n → b < n → (j : ℕ)
-    → sets.contains s j ≡ true → j < k
-ends-within s a b n k e f la lb j h =
-    subst (λ (m : ℕ). j < m) (sym f)
-    (insert-within (sets.insert sets.empty a) b n (insert-within sets.empty a n (empty-within n) la) lb j (sym (ap (λ t. sets.contains t j) e) ∙ h))
 
 -- the privileged nodes before an event are right after it where it changes nothing
 module _ (s privileged : FinSet nat_cmp) (n n' : Network) (k : IsNetwork n) (right : privileged ≡ privileged_set (configuration_of n)) where

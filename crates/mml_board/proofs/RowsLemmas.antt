@@ -1,10 +1,10 @@
 -- What the rows of bits beside a network say, and how they follow its changes.
 use Rattle.std.proofs.Common.{◌≡◌, ℕ, ◌<◌, ◌≤◌, ◌+◌, Bool, true, false, cond, not, ◌&&◌, ◌||◌, eqb, ltb, Option, None, Some, is_none, is_some, List, length}
-use Rattle.std.proofs.Common.{◌++◌, take, set, sym, refl, ap, ◌∙◌, subst, arith, inl, inr, length-set}
+use Rattle.std.proofs.Common.{set, sym, refl, ap, ◌∙◌, subst, arith, inl, inr, length-set}
 use Rattle.std.specs.Prelude.{replicate, IfSome, IfNone}
 use Rattle.std.proofs.lemmas.Bool.{cases_eq, cases_lt, eq-eqb, ne_eqb, eqb-true, eqb-false, lt-ltb, le-ltb, and_right, and_parts, and_from, both_ways}
 use Rattle.std.proofs.lemmas.Bool.{false_from_ne_true}
-use Rattle.std.proofs.lemmas.List.{get_or-replicate, length-replicate, take_at}
+use Rattle.std.proofs.lemmas.List.{get_or-replicate, length-replicate}
 use Rattle.std.specs.FinSet as sets
 use Rattle.std.specs.FinSet.{FinSet}
 use Rattle.std.specs.Ordering.{nat_cmp}
@@ -58,6 +58,10 @@ pub none_told : (o : Option ℕ) (b : Bool) → is_some o ≡ not b → b ≡ is
 none_told o true h = sym (ap not h)
 none_told o false h = sym (ap not h)
 
+-- no rank is below 0
+pub below_none : (j : ℕ) (b : Bool) → false ≡ (ltb j 0 && b)
+below_none j b = sym (ap (λ x. x && b) (le-ltb j 0 (omega arith)))
+
 -- ---- rows that are made
 
 -- empty rows are those of no rank
@@ -67,13 +71,10 @@ no_rows registers rows free believing is e f = record {
   count = ap length is ∙ length-replicate (length registers) sets.empty;
   pointing =
       λ i j l. ap (λ r. sets.contains (neighbours_at r i) j) is ∙ ap (λ s. sets.contains s j) (get_or-replicate (length registers) i sets.empty sets.empty l)
-      ∙ has_empty j ∙ none j (holds (registers_at registers j).p i);
-  null = λ j. ap (λ s. sets.contains s j) e ∙ has_empty j ∙ none j (is_none (registers_at registers j).p);
-  true_m = λ j. ap (λ s. sets.contains s j) f ∙ has_empty j ∙ none j (registers_at registers j).m;
+      ∙ has_empty j ∙ below_none j (holds (registers_at registers j).p i);
+  null = λ j. ap (λ s. sets.contains s j) e ∙ has_empty j ∙ below_none j (is_none (registers_at registers j).p);
+  true_m = λ j. ap (λ s. sets.contains s j) f ∙ has_empty j ∙ below_none j (registers_at registers j).m;
 }
-  where
-    none : (j : ℕ) (b : Bool) → false ≡ (ltb j 0 && b)
-    none j b = sym (ap (λ x. x && b) (le-ltb j 0 (omega arith)))
 
 next_other : (j k : ℕ) → eqb j k ≡ false → ltb j (k + 1) ≡ ltb j k
 next_other j k e = elim (cases_lt j k) [
@@ -90,6 +91,14 @@ next_other j k e = elim (cases_lt j k) [
 next_here : (j k : ℕ) → eqb j k ≡ true → (ltb j (k + 1) ≡ true) × (ltb j k ≡ false)
 next_here j k e = let s = eqb-true j k e in (lt-ltb j (k + 1) (omega arith), le-ltb j k (omega arith))
 
+-- what passes among the ranks below k, and k, are those that pass among the ranks below k + 1
+pub below_next : (test : ℕ → Bool) (j k : ℕ) (b : Bool) → b ≡ test k → cond (eqb j k) b (ltb j k && test j) ≡ (ltb j (k + 1) && test j)
+below_next test j k b is = go (eqb j k) refl
+  where
+    go : (e : Bool) → eqb j k ≡ e → cond e b (ltb j k && test j) ≡ (ltb j (k + 1) && test j)
+    go true e = is ∙ ap test (sym (eqb-true j k e)) ∙ sym (ap (λ x. x && test j) (next_here j k e).0)
+    go false e = sym (ap (λ x. x && test j) (next_other j k e))
+
 -- the rows of one node more
 pub next_rows : (registers : List Regs) (k : ℕ) (p : Option ℕ) (m : Bool) (rows rows' : List (FinSet nat_cmp))
     (free believing free' believing' : FinSet nat_cmp)
@@ -103,8 +112,8 @@ next_rows registers k p m rows rows' free believing free' believing' are l pk mk
   pointing =
       λ i j w. ap (λ r. sets.contains (neighbours_at r i) j) is ∙ has-with_suitor rows p k i j (λ x q. subst (λ n. x < n) (sym are.count) (l x q))
       ∙ ap (λ x. (holds p i && eqb j k) || x) (are.pointing i j w) ∙ go_p i j (eqb j k) refl;
-  null = λ j. f j ∙ ap (cond (eqb j k) (is_none p)) (are.null j) ∙ go (λ (r : Regs). is_none r.p) j (is_none p) (ap is_none pk) (eqb j k) refl;
-  true_m = λ j. b j ∙ ap (cond (eqb j k) m) (are.true_m j) ∙ go (λ (r : Regs). r.m) j m mk (eqb j k) refl;
+  null = λ j. f j ∙ ap (cond (eqb j k) (is_none p)) (are.null j) ∙ below_next (λ i. is_none (registers_at registers i).p) j k (is_none p) (ap is_none pk);
+  true_m = λ j. b j ∙ ap (cond (eqb j k) m) (are.true_m j) ∙ below_next (λ i. (registers_at registers i).m) j k m mk;
 }
   where
     go_p : (i j : ℕ) (e : Bool) → eqb j k ≡ e
@@ -123,17 +132,7 @@ next_rows registers k p m rows rows' free believing free' believing' are l pk mk
         ap (λ x. x || (ltb j k && holds (registers_at registers j).p i)) (and_right (holds p i) false refl)
         ∙ sym (ap (λ x. x && holds (registers_at registers j).p i) (next_other j k e))
 
-    go : (test : Regs → Bool) (j : ℕ) (v : Bool) → v ≡ test (registers_at registers k) → (e : Bool) → eqb j k ≡ e
-        → cond e v (ltb j k && test (registers_at registers j)) ≡ (ltb j (k + 1) && test (registers_at registers j))
-    go test j v is true e =
-        is ∙ ap (λ x. test (registers_at registers x)) (sym (eqb-true j k e)) ∙ sym (ap (λ x. x && test (registers_at registers j)) (next_here j k e).0)
-    go test j v is false e = sym (ap (λ x. x && test (registers_at registers j)) (next_other j k e))
-
 -- ---- rows that follow a node's registers
-
--- what a vector holds once a slice of its length was written back
-pub written_back : (n : ℕ) (rows old : List (FinSet nat_cmp)) → length rows ≡ n → take n (rows ++ old) ≡ rows
-written_back n rows old e = take_at rows old n e
 
 -- where registers are set, the node leaves the row of its old pointer and joins that of its new one
 pub rows-set : (registers : List Regs) (a : ℕ) (p : Option ℕ) (x : Regs) (rows rows' rows'' : List (FinSet nat_cmp))

@@ -8,10 +8,10 @@ use Rattle.std.specs.FinSet as sets
 use Rattle.mml_rules.specs.declared.regs.Regs.{Regs}
 use Rattle.mml_rules.specs.declared.rule.Rule.{Rule}
 use Rattle.mml_rules.specs.Configuration.{Configuration, IsLawful}
-use Rattle.mml_rules.specs.Rules.{guard, moved, step, AllHold}
+use Rattle.mml_rules.specs.Rules.{guard, moved, step, AllHold, IsWithin}
 use Rattle.mml_rules.specs.Network.{Network, no_regs, neighbours_at, registers_at, configuration_of, IsNetwork, unpointed, with_registers, with_link}
 use Rattle.mml_rules.specs.Network.{without_link}
-use Rattle.mml_rules.proofs.StepLemmas.{step-lawful}
+use Rattle.mml_rules.proofs.StepLemmas.{effect-linked, step-lawful}
 use Rattle.mml_rules.proofs.NetworkLemmas.{length-unpointed, with_registers-lawful, with_link-lawful, without_link-lawful}
 use Rattle.mml_board.specs.declared.event.Event.{Event}
 use Rattle.mml_board.specs.World.{World, size, configuration, chosen_at, IsWorld}
@@ -119,12 +119,23 @@ pub may_point-linked : (n : Network) (i j : ℕ) (o : Option ℕ) → may_point 
 may_point-linked n i j None h e = cc
 may_point-linked n i j (Some k) h e = let same : k ≡ j = cc in subst (λ x. sets.contains (neighbours_at n.neighbours i) x ≡ true) same h
 
+-- what has a chosen move has a place in the list
+pub chosen_within : (xs : List (Option Rule)) (i : ℕ) → is_some (chosen_at xs i) ≡ true → i < length xs
+chosen_within xs i h = elim (cases_lt i (length xs)) [
+  | inl lt ↦ lt
+  | inr ge ↦ absurd (both_ways _ (ap is_some (get_or_past xs i None ge)) h)
+]
+
 -- what has a chosen move is a node
 pub chosen_node : (w : World) (i : ℕ) → length w.chosen ≡ size w → is_some (chosen_at w.chosen i) ≡ true → i < size w
-chosen_node w i e h = elim (cases_lt i (size w)) [
-  | inl lt ↦ lt
-  | inr ge ↦ absurd (both_ways _ (ap is_some (get_or_past w.chosen i None (omega arith))) h)
-]
+chosen_node w i e h = let l = chosen_within w.chosen i h in omega (arith, e, l)
+
+-- the partner that a rule names is a node, where its guard holds
+pub partner_within : (c : Configuration) (i : ℕ) (r : Rule) → IsLawful c → guard c i r ≡ true → IsWithin c.size r
+partner_within c i Rule.Update l h = tt
+partner_within c i (Rule.Marriage j) l h = (l.in_range i j (effect-linked c i j (Rule.Marriage j) l h refl)).1
+partner_within c i Rule.Seduction l h = tt
+partner_within c i Rule.Abandonment l h = tt
 
 -- a cut leaves the number of nodes
 pub length-without_link : (n : Network) (a b : ℕ) → length (without_link n a b).registers ≡ length n.registers

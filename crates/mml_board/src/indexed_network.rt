@@ -143,8 +143,7 @@ impl IndexedNetwork {
     {
         let _size = self.network.size();
         let registers = &registers;
-        remove_suitor(&mut self.suitors, self.network.p(node), node);
-        add_suitor(&mut self.suitors, registers.p, node);
+        move_suitor(&mut self.suitors, node, self.network.p(node), registers.p);
         self.free = put(self.free, node, registers.p.is_none());
         self.believing = put(self.believing, node, registers.m);
         self.network.set_registers(node, *registers);
@@ -188,6 +187,16 @@ impl IndexedNetwork {
             );
         }
     }
+}
+
+/// Takes a node from the row of the node that it pointed at to that of the one that it points at.
+fn move_suitor(suitors: &mut [NodeSet], node: Rank, from: Option<Rank>, to: Option<Rank>)
+    requires from { (i : ℕ) → from ≡ Some i → i < length suitors.old }
+    requires to { (i : ℕ) → to ≡ Some i → i < length suitors.old }
+    ensures { suitors.new ≡ with_suitor (without_suitor suitors.old from node) to node }
+{
+    remove_suitor(suitors, from, node);
+    add_suitor(suitors, to, node);
 }
 
 /// Puts a node into the row of the node that it points at.

@@ -2,9 +2,10 @@
 #![tactic(auto)]
 
 mod board;
+mod choices;
 mod done;
+mod effects;
 mod event;
-mod granted;
 mod indexed_network;
 pub mod laws;
 mod monitor;

@@ -16,17 +16,15 @@ pub fn privileged_set(network: &IndexedNetwork) -> NodeSet
     let mut nodes = NodeSet::empty();
     for index in 0..network.size() {
         let node = Rank::at(index);
-        if enabled(network, node).is_some() {
-            nodes = nodes.with(node);
-        }
+        let is_privileged = enabled(network, node).is_some();
+        nodes = put(nodes, node, is_privileged);
     }
     nodes
 }
 
 /// The privileged nodes after a change: the changed nodes and their neighbours are looked at anew.
 pub fn refresh(network: &IndexedNetwork, privileged: NodeSet, changed: NodeSet) -> NodeSet
-    requires changed { (j : ℕ) → set.contains changed j ≡ true → j < length network.now.registers }
-    requires others { (j : ℕ) → IsUntouched (configuration_of network.now) changed j →
+    requires { (j : ℕ) → IsUntouched (configuration_of network.now) changed j →
         set.contains privileged j ≡ is_privileged_node (configuration_of network.now) j }
     ensures { result ≡ privileged_set (configuration_of network.now) }
 {
@@ -40,8 +38,8 @@ pub fn refresh(network: &IndexedNetwork, privileged: NodeSet, changed: NodeSet) 
     privileged
 }
 
+/// What is in the set of these nodes is looked at anew.
 fn refresh_each(network: &IndexedNetwork, privileged: NodeSet, nodes: NodeSet) -> NodeSet
-    requires { (j : ℕ) → set.contains nodes j ≡ true → j < length network.now.registers }
     ensures { (j : ℕ) → set.contains result j ≡
         (if set.contains nodes j then is_privileged_node (configuration_of network.now) j
         else set.contains privileged j) }
@@ -49,8 +47,14 @@ fn refresh_each(network: &IndexedNetwork, privileged: NodeSet, nodes: NodeSet) -
     let mut privileged = privileged;
     let mut left = nodes;
     while let Some(node) = left.take_least() {
-        let is_privileged = enabled(network, node).is_some();
-        privileged = put(privileged, node, is_privileged);
+        privileged = put(privileged, node, is_privileged(network, node));
     }
     privileged
+}
+
+/// Whether the rank is that of a node, which is privileged.
+fn is_privileged(network: &IndexedNetwork, node: Rank) -> bool
+    ensures { result ≡ is_privileged_node (configuration_of network.now) node }
+{
+    node.index() < network.size() && enabled(network, node).is_some()
 }

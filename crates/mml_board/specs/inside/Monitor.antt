@@ -1,14 +1,13 @@
 -- Which nodes are privileged, and which a change leaves as they were.
-use Rattle.std.specs.Prelude.{◌≡◌, ℕ, Bool, true, false, ◌&&◌, nat_lt, List}
+use Rattle.std.specs.Prelude.{◌≡◌, ℕ, ◌≤◌, Bool, true, false, ◌&&◌, nat_lt, List, length}
 use Rattle.std.specs.FinSet as set
 use Rattle.std.specs.FinSet.{FinSet}
 use Rattle.std.specs.Ordering.{nat_cmp}
 use Rattle.mml_ids.specs.Sets.{those_below}
+use Rattle.mml_rules.specs.declared.regs.Regs.{Regs}
 use Rattle.mml_rules.specs.Configuration.{Configuration}
 use Rattle.mml_rules.specs.Rules.{is_privileged}
-use Rattle.mml_board.specs.declared.granted.Granted.{Granted}
-use Rattle.mml_board.specs.World.{World, configuration}
-use Rattle.mml_board.specs.inside.Kept.{IsKept}
+use Rattle.mml_board.specs.World.{World, configuration, IsWorld}
 
 abbrev pub is_privileged_node : Configuration → ℕ → Bool
 is_privileged_node c j = nat_lt j c.size && is_privileged c j
@@ -21,7 +20,10 @@ pub record IsUntouched (c : Configuration) (changed : FinSet nat_cmp) (j : ℕ) 
   pub here : set.contains changed j ≡ false
   pub near : (k : ℕ) → c.linked j k ≡ true → set.contains changed k ≡ false
 
--- the world is kept, and the monitor has the privileged nodes
-pub record IsBoard (w : World) (chosen : FinSet nat_cmp) (granted : List Granted) (privileged : FinSet nat_cmp) : Type 0 where
-  pub kept : IsKept w chosen granted
+-- the world is lawful, with no more configurations than events; there is room for the effect of each node, and the
+-- monitor has the privileged nodes
+pub record IsBoard (w : World) (effects : List Regs) (privileged : FinSet nat_cmp) : Type 0 where
+  pub world : IsWorld w
+  pub room : length effects ≡ length w.network.registers
+  pub number : w.number ≤ w.place
   pub monitor : privileged ≡ privileged_set (configuration w)

@@ -1,24 +1,27 @@
-use Rattle.std.proofs.Common.{ap, sym, ◌∙◌, arith, is_some}
+use Rattle.std.proofs.Common.{◌≡◌, ◌&&◌, ap, ◌∙◌, arith, is_some, cond, eqb, ltb, length}
 use Rattle.std.specs.FinSet as sets
+use Rattle.mml_ids.specs.inside.WordsLemmas.{has_empty}
 use Rattle.mml_rules.specs.Rules.{is_privileged}
 use Rattle.mml_rules.specs.Network.{configuration_of}
-use Rattle.mml_board.proofs.monitor.privileged_set.Goals.{then-is_some, else-is_some}
-use Rattle.mml_board.proofs.MonitorLemmas.{those_none, those_with, those_skip, privileged-from}
+use Rattle.mml_board.proofs.RowsLemmas.{below_none, below_next}
+use Rattle.mml_board.proofs.MonitorLemmas.{privileged-is}
 use Rattle.mml_board.proofs.monitor.privileged_set.Goals as goal
 
 pub loop-index-init : goal.loop-index-init
-loop-index-init c = c.empty-nodes.ensures ∙ those_none (is_privileged (configuration_of c.args.network.now))
+loop-index-init c = λ j. ap (λ t. sets.contains t j) c.empty-nodes.ensures ∙ has_empty j ∙ below_none j (is_privileged (configuration_of c.args.network.now) j)
 
 pub loop-index-preserved : goal.loop-index-preserved
-loop-index-preserved c = elim c.if-is_some.branch [
-  | then-is_some w ↦ w.nodes-is ∙ w.with-nodes.ensures ∙ ap (sets.insert c.loop-index.nodes) c.at-node.ensures
-      ∙ those_with c.loop-index.index (is_privileged (configuration_of c.args.network.now)) c.loop-index.nodes c.loop-index.invariant
-      (sym (c.is_some.ensures ∙ ap (λ o. is_some o) c.enabled.ensures ∙ ap (is_privileged (configuration_of c.args.network.now)) c.at-node.ensures)
-      ∙ w.if-is_some.true)
-  | else-is_some w ↦ w.nodes-is ∙ those_skip c.loop-index.index (is_privileged (configuration_of c.args.network.now)) c.loop-index.nodes c.loop-index.invariant
-      (sym (c.is_some.ensures ∙ ap (λ o. is_some o) c.enabled.ensures ∙ ap (is_privileged (configuration_of c.args.network.now)) c.at-node.ensures)
-      ∙ w.if-is_some.false)
-]
+loop-index-preserved c = λ j.
+    let d = configuration_of c.args.network.now in
+    let k = c.loop-index.index in
+    let b = c.is_some-is_privileged.result in
+    c.put-nodes.ensures j ∙ ap (cond (eqb j c.at-node.result) b) (c.loop-index.invariant j)
+    ∙ ap (λ i. cond (eqb j i) b (ltb j k && is_privileged d j)) c.at-node.ensures
+    ∙ below_next (is_privileged d) j k b
+    (c.is_some-is_privileged.ensures ∙ ap (λ o. is_some o) c.enabled.ensures ∙ ap (is_privileged d) c.at-node.ensures)
 
 pub returns : goal.returns
-returns c = privileged-from (configuration_of c.args.network.now) c.loop-index.index c.loop-index.nodes (omega arith) c.loop-index.invariant
+returns c =
+    let d = configuration_of c.args.network.now in
+    let all : c.loop-index.index ≡ length c.args.network.now.registers = omega (arith, c.size-index-end.ensures.size) in
+    privileged-is d c.loop-index.nodes (λ j. c.loop-index.invariant j ∙ ap (λ n. ltb j n && is_privileged d j) all)

@@ -1,8 +1,8 @@
-use Rattle.std.proofs.Common.{◌≡◌}
+use Rattle.std.proofs.Common.{◌≡◌, ℕ, ◌&&◌, ltb}
+use Rattle.std.specs.FinSet as sets
 use Rattle.mml_rules.specs.Rules.{is_privileged}
 use Rattle.mml_rules.specs.Network.{configuration_of}
-use Rattle.mml_ids.specs.Sets.{those_below}
 use Rattle.mml_board.proofs.monitor.privileged_set.Given as goal
 
 abbrev pub invariant-loop-index : goal.invariant-loop-index
-invariant-loop-index l = l.nodes ≡ those_below l.index (is_privileged (configuration_of l.network))
+invariant-loop-index l = (j : ℕ) → sets.contains l.nodes j ≡ (ltb j l.index && is_privileged (configuration_of l.network) j)

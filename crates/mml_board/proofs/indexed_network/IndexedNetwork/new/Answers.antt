@@ -1,11 +1,12 @@
 use Rattle.std.proofs.Common.{◌≡◌, ◌<◌, ℕ, cond, eqb, ap, sym, ◌∙◌, subst, arith, rules, length, is_none}
+use Rattle.std.proofs.lemmas.List.{take_at}
 use Rattle.std.specs.Prelude.{replicate}
 use Rattle.std.specs.FinSet as sets
 use Rattle.std.specs.Ordering.{nat_cmp}
 use Rattle.mml_rules.specs.Network.{Network, registers_at, configuration_of}
 use Rattle.mml_rules.proofs.RulesLemmas.{pointee_in}
 use Rattle.mml_board.specs.inside.Rows.{with_suitor, AreRows}
-use Rattle.mml_board.proofs.RowsLemmas.{no_rows, next_rows, none_told, written_back, length-with_suitor}
+use Rattle.mml_board.proofs.RowsLemmas.{no_rows, next_rows, none_told, length-with_suitor}
 use Rattle.mml_board.proofs.indexed_network.IndexedNetwork.new.Goals as goal
 
 pub loop-index-init : goal.loop-index-init
@@ -30,7 +31,7 @@ loop-index-preserved c =
     next_rows n.registers k c.p.result c.m.result c.loop-index.suitors.items _ c.loop-index.free c.loop-index.believing _ _ c.loop-index.invariant
     (λ i e. pointee_in (configuration_of n) c.at-node.result i c.size-index-end.ensures.lawful (sym c.p.ensures ∙ e))
     p (c.m.ensures ∙ ap (λ x. (registers_at n.registers x).m) same)
-    (written_back c.loop-index.suitors.len c.add_suitor.new.suitors _ (omega (arith, added, c.loop-index.suitors.ok.0)) ∙ c.add_suitor.ensures
+    (take_at c.add_suitor.new.suitors _ c.loop-index.suitors.len (omega (arith, added, c.loop-index.suitors.ok.0)) ∙ c.add_suitor.ensures
     ∙ (λ z. with_suitor (c.deref_mut.ensures.value z) c.p.result (same z)))
     (λ j. c.put-free.ensures j
     ∙ (λ z. cond (eqb j (same z)) (none_told c.p-in-loop-index.result c.is_none.result c.is_none.ensures z) (sets.contains c.loop-index.free j))

@@ -1,0 +1,47 @@
+-- The set of the nodes that have a chosen move, beside the list of the choices.
+use Rattle.std.proofs.Common.{◌≡◌, ℕ, ◌<◌, Bool, true, false, cond, ◌||◌, eqb, Option, None, Some, is_some, List, [], ◌∷◌, length}
+use Rattle.std.proofs.Common.{zero, suc, set, replicate, sym, refl, ap, ◌∙◌}
+use Rattle.std.specs.List.{list_any}
+use Rattle.std.specs.FinSet as sets
+use Rattle.std.specs.FinSet.{FinSet}
+use Rattle.std.specs.Ordering.{nat_cmp}
+use Rattle.mml_ids.specs.inside.WordsLemmas.{has_empty}
+use Rattle.mml_rules.specs.declared.rule.Rule.{Rule}
+use Rattle.mml_board.specs.World.{chosen_at}
+use Rattle.mml_board.specs.inside.Kept.{AreChosen}
+use Rattle.mml_board.proofs.WorldLemmas.{chosen_at-set, length-none, none_at, same_lists}
+
+-- what is not some is none
+pub not_some : {X : Type 0} (o : Option X) → is_some o ≡ false → o ≡ None
+not_some None h = refl
+not_some (Some r) h = cc
+
+-- a choice that is set, and the set with its node or without
+pub are_chosen-set : (xs : List (Option Rule)) (s s' : FinSet nat_cmp) (a : ℕ) (o : Option Rule) → a < length xs → AreChosen xs s
+    → ((i : ℕ) → sets.contains s' i ≡ cond (eqb i a) (is_some o) (sets.contains s i)) → AreChosen (set xs a o) s'
+are_chosen-set xs s s' a o l are h i = h i ∙ go (eqb i a) ∙ sym (ap is_some (chosen_at-set xs a i o l))
+  where
+    go : (b : Bool) → cond b (is_some o) (sets.contains s i) ≡ is_some (cond b o (chosen_at xs i))
+    go true = refl
+    go false = are i
+
+-- where no move is chosen, the set is empty
+pub are_chosen-none : (n : ℕ) (s : FinSet nat_cmp) → s ≡ sets.empty → AreChosen (replicate n None) s
+are_chosen-none n s e i = ap (λ t. sets.contains t i) e ∙ has_empty i ∙ sym (ap is_some (none_at n i))
+
+none_of : (xs : List (Option Rule)) (s : FinSet nat_cmp) → AreChosen xs s → s ≡ sets.empty → (i : ℕ) → is_some (chosen_at xs i) ≡ false
+none_of xs s are e i = sym (are i) ∙ ap (λ t. sets.contains t i) e ∙ has_empty i
+
+-- where the set is empty, every choice is none
+pub all_dropped : (xs : List (Option Rule)) (s : FinSet nat_cmp) → AreChosen xs s → s ≡ sets.empty → xs ≡ replicate (length xs) None
+all_dropped xs s are e =
+    same_lists None xs (replicate (length xs) None) (sym (length-none (length xs) None))
+    (λ i l. not_some (chosen_at xs i) (none_of xs s are e i) ∙ sym (none_at (length xs) i))
+
+-- where the set is empty, no move is chosen
+pub none_chosen : (xs : List (Option Rule)) (s : FinSet nat_cmp) → AreChosen xs s → s ≡ sets.empty → list_any is_some xs ≡ false
+none_chosen xs s are e = go xs (none_of xs s are e)
+  where
+    go : (xs : List (Option Rule)) → ((i : ℕ) → is_some (chosen_at xs i) ≡ false) → list_any is_some xs ≡ false
+    go [] h = refl
+    go (x ∷ xs) h = ap (λ b. b || list_any is_some xs) (h zero) ∙ go xs (λ i. h (suc i))

@@ -1,0 +1,37 @@
+-- Loops that do something once for each rank of a set.
+use Rattle.std.proofs.Common.{◌≡◌, ℕ, Bool, true, false, cond, not, ◌&&◌, eqb, sym, refl, ap, ◌∙◌}
+use Rattle.std.proofs.lemmas.Bool.{eqb-true}
+use Rattle.std.specs.FinSet as sets
+use Rattle.std.specs.FinSet.{FinSet}
+use Rattle.std.specs.Ordering.{nat_cmp}
+use Rattle.mml_ids.specs.inside.WordsLemmas.{has_empty, has_remove}
+use Rattle.mml_board.proofs.KeptLemmas.{in_remove}
+
+-- those that are left are ranks of the set, and have what stood there before; all others of the set have f
+abbrev pub IsDone : {X : Type 0} → (ℕ → X) → (ℕ → X) → FinSet nat_cmp → FinSet nat_cmp → (ℕ → X) → Type 0
+IsDone before f nodes left now = record {
+  within : (i : ℕ) → sets.contains left i ≡ true → sets.contains nodes i ≡ true;
+  values : (i : ℕ) → now i ≡ cond (sets.contains left i) (before i) (cond (sets.contains nodes i) (f i) (before i));
+}
+
+-- it is done for one rank more
+pub one_done : {X : Type 0} (before f now next : ℕ → X) (nodes left left' : FinSet nat_cmp) (a : ℕ) (x : X) → x ≡ f a → sets.contains left a ≡ true
+    → left' ≡ sets.remove left a → ((i : ℕ) → next i ≡ cond (eqb i a) x (now i)) → IsDone before f nodes left now → IsDone before f nodes left' next
+one_done before f now next nodes left left' a x is here k e done = record {
+  within = λ i h. done.within i (in_remove left a i (sym (ap (λ t. sets.contains t i) k) ∙ h));
+  values = λ i. e i ∙ go i (eqb i a) refl
+      ∙ sym (ap (λ b. cond b (before i) (cond (sets.contains nodes i) (f i) (before i))) (ap (λ t. sets.contains t i) k ∙ has_remove left a i));
+}
+  where
+    go : (i : ℕ) (b : Bool) → eqb i a ≡ b
+        → cond b x (now i) ≡ cond (not b && sets.contains left i) (before i) (cond (sets.contains nodes i) (f i) (before i))
+    go i true q =
+        let same : i ≡ a = eqb-true i a q in
+        is ∙ ap f (sym same) ∙ ap (λ b. cond b (f i) (before i)) (sym (ap (sets.contains nodes) same ∙ done.within a here))
+    go i false q = done.values i
+
+-- it is done for each rank of the set
+pub all_done : {X : Type 0} (before f now : ℕ → X) (nodes left : FinSet nat_cmp) → left ≡ sets.empty → IsDone before f nodes left now
+    → (i : ℕ) → now i ≡ cond (sets.contains nodes i) (f i) (before i)
+all_done before f now nodes left e done i =
+    done.values i ∙ ap (λ b. cond b (before i) (cond (sets.contains nodes i) (f i) (before i))) (ap (λ t. sets.contains t i) e ∙ has_empty i)

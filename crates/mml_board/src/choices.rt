@@ -1,0 +1,113 @@
+//! The chosen moves, and beside them the set of the nodes that have one.
+ghost use Rattle.std.specs.Prelude.{◌≡◌, ℕ, ◌<◌, None, length, replicate, slice_set, is_some, IfOk};
+ghost use Rattle.std.specs.FinSet as set;
+ghost use Rattle.std.specs.List.{list_any};
+ghost use Rattle.mml_board.specs.World.{chosen_at};
+ghost use Rattle.mml_board.specs.inside.Kept.{AreChosen};
+
+use crate::node_sets::put;
+use mml_ids::{Memory, NodeSet, Rank};
+use mml_rules::Rule;
+use std::alloc::Global;
+use std::marker::Model;
+
+/// For each node its chosen move, if it has one. Contracts see the list.
+#[derive(Debug, Drop)]
+pub struct Choices {
+    // by rank
+    rules: Vec<Option<Rule>>,
+    // the nodes that have one
+    nodes: NodeSet,
+}
+
+impl Model for Choices {
+    ghost use Rattle.std.specs.Prelude.{Option, List};
+    ghost use Rattle.mml_rules.specs.declared.rule.Rule.{Rule};
+    ghost use Rattle.mml_board.specs.inside.Kept.{AreChosen};
+
+    ghost Value = { List (Option Rule) };
+
+    ghost view = { λ a. a.rules.items };
+
+    ghost invariant = { λ a. AreChosen a.rules.items a.nodes };
+}
+
+impl Choices {
+    /// So many nodes, none of which has a chosen move.
+    pub fn none(alloc: Global, count: usize) -> Result<Choices, Memory>
+        ensures { IfOk result (λ choices. choices ≡ replicate count None) }
+    {
+        let rules = vec![in alloc; None; count]?;
+        Ok(Choices {
+            rules,
+            nodes: NodeSet::empty(),
+        })
+    }
+
+    /// Equal choices.
+    pub fn try_copy(&self, alloc: Global) -> Result<Choices, Memory>
+        ensures { IfOk result (λ choices. choices ≡ self.now) }
+    {
+        let rules = Vec::from_slice(alloc, &self.rules)?;
+        Ok(Choices {
+            rules,
+            nodes: self.nodes,
+        })
+    }
+
+    /// The chosen move of a node, if it has one; none where it is past the last one.
+    pub fn at(&self, node: Rank) -> Option<Rule>
+        ensures { result ≡ chosen_at self.now node }
+    {
+        match self.rules.get(node.index() as usize) {
+            Some(rule) => *rule,
+            None => None,
+        }
+    }
+
+    /// The nodes that have a chosen move.
+    pub fn nodes(&self) -> NodeSet
+        ensures { AreChosen self.now result }
+    {
+        self.nodes
+    }
+
+    /// Whether some node has a chosen move.
+    pub fn is_any(&self) -> bool
+        ensures { result ≡ list_any is_some self.now }
+    {
+        match self.nodes.greatest() {
+            Some(_) => true,
+            None => false,
+        }
+    }
+
+    /// Makes this the choice of a node.
+    pub fn choose(&mut self, node: Rank, rule: Option<Rule>)
+        requires { node < length self.old }
+        ensures { self.new ≡ slice_set self.old node rule }
+    {
+        let rule = &rule;
+        self.rules[node.index() as usize] = *rule;
+        self.nodes = put(self.nodes, node, rule.is_some());
+    }
+
+    /// Drops every chosen move.
+    pub fn drop_all(&mut self)
+        ensures { self.new ≡ replicate (length self.old) None }
+    {
+        drop_each(&mut self.rules, self.nodes);
+        self.nodes = NodeSet::empty();
+    }
+}
+
+/// Drops the chosen moves, which these nodes have.
+fn drop_each(rules: &mut [Option<Rule>], nodes: NodeSet)
+    requires { AreChosen rules.old nodes }
+    ensures { rules.new ≡ replicate (length rules.old) None }
+{
+    let mut left = nodes;
+    while let Some(node) = left.take_least() {
+        rules[node.index() as usize] = None;
+    }
+}

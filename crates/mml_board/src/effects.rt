@@ -1,0 +1,80 @@
+//! A close: the chosen moves are applied at once, so each effect is computed before one is written.
+ghost use Rattle.std.specs.Prelude.{◌≡◌, ℕ, ◌<◌, true, Some, length, if◌then◌else◌};
+ghost use Rattle.std.specs.FinSet as set;
+ghost use Rattle.mml_rules.specs.declared.rule.Rule.{Rule};
+ghost use Rattle.mml_rules.specs.Network.{neighbours_at, registers_at, configuration_of};
+ghost use Rattle.mml_rules.specs.Rules.{guard, moved, AllHold};
+ghost use Rattle.mml_board.specs.World.{chosen_at};
+ghost use Rattle.mml_board.specs.inside.Kept.{AreChosen};
+
+use crate::choices::Choices;
+use crate::indexed_network::IndexedNetwork;
+use mml_ids::{NodeSet, Rank};
+use mml_rules::{Regs, Rule, Scene, effect};
+
+/// Applies the chosen moves at once. What `effects` held before doesn't matter.
+pub fn move_chosen(network: &mut IndexedNetwork, effects: &mut [Regs], chosen: &Choices)
+    requires choices { length chosen.now ≡ length network.old.registers }
+    requires room { length effects.old ≡ length network.old.registers }
+    requires hold { AllHold (configuration_of network.old) (chosen_at chosen.now) }
+    ensures room { length effects.new ≡ length effects.old }
+    ensures neighbours { network.new.neighbours ≡ network.old.neighbours }
+    ensures size { length network.new.registers ≡ length network.old.registers }
+    ensures registers { (i : ℕ) → registers_at network.new.registers i ≡
+        moved (configuration_of network.old) i (chosen_at chosen.now i) }
+{
+    let _size = network.size();
+    let nodes = chosen.nodes();
+    compute_effects(network, effects, chosen, nodes);
+    write_effects(network, effects, nodes);
+}
+
+/// Computes the effects of the chosen moves, which these nodes have.
+fn compute_effects(network: &IndexedNetwork, effects: &mut [Regs], chosen: &Choices, nodes: NodeSet)
+    requires choices { length chosen.now ≡ length network.now.registers }
+    requires room { length effects.old ≡ length network.now.registers }
+    requires hold { AllHold (configuration_of network.now) (chosen_at chosen.now) }
+    requires nodes { AreChosen chosen.now nodes }
+    ensures room { length effects.new ≡ length effects.old }
+    ensures effects { (i : ℕ) → registers_at effects.new i ≡
+        (if set.contains nodes i then moved (configuration_of network.now) i (chosen_at chosen.now i)
+        else registers_at effects.old i) }
+{
+    let mut left = nodes;
+    while let Some(node) = left.take_least() {
+        effects[node.index() as usize] = moved(network, node, chosen.at(node));
+    }
+}
+
+/// A node's registers after its chosen move, if it has one.
+fn moved(network: &IndexedNetwork, node: Rank, rule: Option<Rule>) -> Regs
+    requires node { node < length network.now.registers }
+    requires holds { (r : Rule) → rule ≡ Some r →
+        guard (configuration_of network.now) node r ≡ true }
+    ensures { result ≡ moved (configuration_of network.now) node rule }
+{
+    let _size = network.size();
+    match rule {
+        Some(rule) => effect(network, node, rule),
+        None => network.registers(node),
+    }
+}
+
+/// Writes the effects of the moves of these nodes.
+fn write_effects(network: &mut IndexedNetwork, effects: &[Regs], nodes: NodeSet)
+    requires room { length effects.now ≡ length network.old.registers }
+    requires within { (i : ℕ) → set.contains nodes i ≡ true → i < length network.old.registers }
+    requires linked { (i j : ℕ) → set.contains nodes i ≡ true →
+        (registers_at effects.now i).p ≡ Some j →
+        set.contains (neighbours_at network.old.neighbours i) j ≡ true }
+    ensures neighbours { network.new.neighbours ≡ network.old.neighbours }
+    ensures size { length network.new.registers ≡ length network.old.registers }
+    ensures registers { (i : ℕ) → registers_at network.new.registers i ≡
+        (if set.contains nodes i then registers_at effects.now i
+        else registers_at network.old.registers i) }
+{
+    let mut left = nodes;
+    while let Some(node) = left.take_least() {
+        network.set_registers(node, effects[node.index() as usize]);
+    }
+}
