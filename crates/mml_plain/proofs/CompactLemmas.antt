@@ -1,10 +1,12 @@
 -- A compact text, read member by member, spells the tokens that are printed as it.
-use Rattle.std.proofs.Common.{◌≡◌, ℕ, suc, ◌+◌, ◌-◌, ◌<◌, List, [], ◌∷◌, ◌++◌, length, take, get_or, Bool, true, false, fold, map, not, ◌==◌, Some, option_and_then}
+use Rattle.std.proofs.Common.{◌≡◌, ℕ, zero, suc, ◌+◌, ◌-◌, ◌<◌, List, [], ◌∷◌, ◌++◌, length, take, get_or, Bool, true, false, fold, map, not, ◌==◌, Some, option_and_then}
 use Rattle.std.proofs.Common.{refl, sym, ap, inl, ◌∙◌, subst, append_assoc, length-append, decimal, ◌^◌}
 use Rattle.std.proofs.Common.{arith, drop, ◌≢◌, ltb-true, ◌≤◌, ◌*◌, ◌/◌, ◌%◌, option_map, nat_lt}
 use Rattle.std.specs.Str.{IsUtf8}
 use Rattle.std.proofs.lemmas.Bool.{and_parts, and_from, eq-eqb, both_ways, not-true}
-use Rattle.std.proofs.lemmas.List.{take_more, drop_more, take-append-drop}
+use Rattle.std.proofs.lemmas.List.{take_more, take_all}
+use Rattle.std.proofs.lemmas.Nat.{be_bytes_4}
+use Rattle.std.specs.Int.{w32, to_be_bytes, from_be_bytes}
 use Rattle.std.proofs.lemmas.Fmt.{decimal_digit, decimal_step, IsAscii-decimal}
 use Rattle.json.proofs.Printed.Strings.{escape_byte_plain}
 use Rattle.std.proofs.lemmas.Str.{IsUtf8-append, IsUtf8-nil, IsUtf8-from_ascii}
@@ -24,7 +26,8 @@ use Rattle.mml_plain.specs.declared.member_value.MemberValue.{MemberValue}
 use Rattle.mml_plain.specs.declared.member_value.MemberValue.TheVariants.{Null, Truth, Number, Other}
 use Rattle.mml_plain.specs.Reading.{members_at, if_over, object_at}
 use Rattle.mml_plain.specs.Shown.{Shows}
-use Rattle.mml_plain.specs.Compact.{is_bare_byte, is_bare, ended, Spaced, BeginsValue, BeginsMember}
+use Rattle.mml_plain.specs.Compact.{is_bare_byte, is_bare, ended, Spaced, BeginsValue, BeginsMember, BeginsQuoted, PutsKnown, PutsMember}
+use Rattle.mml_plain.specs.declared.fields.Fields.{Fields}
 use Rattle.mml_plain.proofs.ReadingLemmas.{items_next, members_suc, members_next, value_array, value_object}
 
 abbrev SpacedTokens : Type 0
@@ -263,10 +266,6 @@ bare-append (x ∷ xs) b h one = let both = and_parts (is_bare_byte x) (is_bare 
 pub bare_more : (xs : List ℕ) (i d : ℕ) → i < length xs → is_bare (take i xs) ≡ true → is_bare_byte (get_or xs i d) ≡ true → is_bare (take (i + 1) xs) ≡ true
 bare_more xs i d h was one = ap is_bare (take_more xs i d h) ∙ bare-append (take i xs) (get_or xs i d) was one
 
--- a text is parted at the quotation mark in it
-pub quote_there : (xs : List ℕ) (i d : ℕ) → i < length xs → get_or xs i d ≡ 34 → take i xs ++ 34 ∷ drop (i + 1) xs ≡ xs
-quote_there xs i d h e = ap (λ t. take i xs ++ t) (sym (drop_more xs i d h ∙ ap (λ b. b ∷ drop (i + 1) xs) e)) ∙ take-append-drop i xs
-
 other_than : (b k : ℕ) → not (b == k) ≡ true → b ≢ k
 other_than b k h e = both_ways _ (not-true _ h) (eq-eqb b k e)
 
@@ -407,3 +406,46 @@ no_members_value text rest e = record {
   shows = record { text = refl; number = refl; truth = refl; register = refl };
   spelled = e;
 }
+
+-- ---- keys that are known
+
+-- a member with such a key
+pub known_key : (text in_key rest : List ℕ) (old new : Fields) → BeginsQuoted text in_key → PutsKnown in_key rest old new → PutsMember text rest old new
+known_key text in_key rest old new quoted known = record {
+  key = known.key;
+  value = known.value;
+  member = record {
+    at_key = quoted.at_quote;
+    spaced = quoted.spaced;
+    key_utf8 = bare_utf8 known.key known.is_bare_key;
+    after_key = known.after_key;
+    key = key_is quoted.at_quote in_key (58 ∷ known.after_key) known.key known.after_key quoted.quote known.key_first known.is_bare_key refl;
+    at_value = known.named.at_value;
+    spaced_value = known.named.spaced_value;
+    value = known.named.value;
+  };
+  put = known.put;
+}
+
+-- ---- four bytes at once
+
+below_256 : (a b c d : ℕ) → a < 256 → b < 256 → c < 256 → d < 256 → (i : ℕ) → get_or (a ∷ b ∷ c ∷ d ∷ []) i 0 < 256
+below_256 a b c d h j k l zero = h
+below_256 a b c d h j k l (suc zero) = j
+below_256 a b c d h j k l (suc (suc zero)) = k
+below_256 a b c d h j k l (suc (suc (suc zero))) = l
+below_256 a b c d h j k l (suc (suc (suc (suc i)))) = omega arith
+
+-- the first four of a text's bytes as a number, and the others
+pub four_first : (xs : List ℕ) (n : ℕ) → 4 ≤ length xs → ((i : ℕ) → get_or xs i 0 < 256)
+    → n ≡ from_be_bytes w32 (get_or xs 0 0 ∷ get_or xs 1 0 ∷ get_or xs 2 0 ∷ get_or xs 3 0 ∷ []) → xs ≡ to_be_bytes w32 n ++ take (length xs - 4) (drop 4 xs)
+four_first [] n h small is = absurd (omega (arith, h))
+four_first (a ∷ []) n h small is = absurd (omega (arith, h))
+four_first (a ∷ b ∷ []) n h small is = absurd (omega (arith, h))
+four_first (a ∷ b ∷ c ∷ []) n h small is = absurd (omega (arith, h))
+four_first (a ∷ b ∷ c ∷ d ∷ xs) n h small is =
+    let others : length (a ∷ b ∷ c ∷ d ∷ xs) - 4 ≡ length xs = omega arith in
+    let front : to_be_bytes w32 n ≡ a ∷ b ∷ c ∷ d ∷ [] =
+    be_bytes_4 (a ∷ b ∷ c ∷ d ∷ []) n refl (below_256 a b c d (small 0) (small 1) (small 2) (small 3)) is in
+    ap (λ l. a ∷ b ∷ c ∷ d ∷ l) (sym (ap (λ m. take m xs) others ∙ take_all (length xs) xs (omega arith)))
+    ∙ ap (λ l. l ++ take (length (a ∷ b ∷ c ∷ d ∷ xs) - 4) xs) (sym front)

@@ -6,6 +6,8 @@ use Rattle.json.specs.Print.{token_text, ends, print_from, ArePrintable}
 use Rattle.json.specs.Spaced.{IsGap}
 use Rattle.serde_json.specs.Data.{Data}
 use Rattle.mml_plain.specs.declared.member_value.MemberValue.{MemberValue}
+use Rattle.mml_plain.specs.declared.fields.Fields.{Fields}
+use Rattle.mml_plain.specs.Fields.{with}
 use Rattle.mml_plain.specs.Reading.{value_at}
 use Rattle.mml_plain.specs.Shown.{Shows}
 
@@ -26,6 +28,16 @@ pub record Spaced (text : List ℕ) (rest : List ℕ) : Type 0 where
 -- the last of these tokens ends a value
 abbrev pub ended : List Token → Bool
 ended ts = fold (λ _ t. ends t) false ts
+
+-- spaces and a quotation mark, and then the rest
+pub record BeginsQuoted (text : List ℕ) (rest : List ℕ) : Type 0 where
+  pub at_quote : List ℕ
+  pub spaced : Spaced text at_quote
+  pub quote : at_quote ≡ 34 ∷ rest
+
+-- this holds where something follows
+abbrev pub IsEmptyOr : List ℕ → Type 0 → Type 0
+IsEmptyOr rest P = (b : ℕ) (bs : List ℕ) → rest ≡ b ∷ bs → P
 
 -- the text begins with a value, before the rest
 pub record BeginsValue (text : List ℕ) (v : MemberValue) (rest : List ℕ) : Type 0 where
@@ -49,3 +61,26 @@ pub record BeginsMember (text : List ℕ) (k : List ℕ) (v : MemberValue) (rest
   pub at_value : List ℕ
   pub spaced_value : Spaced after_key at_value
   pub value : BeginsValue at_value v rest
+
+-- what follows a colon begins with a value
+pub record BeginsAfter (text : List ℕ) (v : MemberValue) (rest : List ℕ) : Type 0 where
+  pub at_value : List ℕ
+  pub spaced_value : Spaced text at_value
+  pub value : BeginsValue at_value v rest
+
+-- the text begins with a member, which the fields have now
+pub record PutsMember (text : List ℕ) (rest : List ℕ) (old : Fields) (new : Fields) : Type 0 where
+  pub key : List ℕ
+  pub value : MemberValue
+  pub member : BeginsMember text key value rest
+  pub put : new ≡ with key value old
+
+-- the same behind the quotation mark of its key
+pub record PutsKnown (text : List ℕ) (rest : List ℕ) (old : Fields) (new : Fields) : Type 0 where
+  pub key : List ℕ
+  pub is_bare_key : is_bare key ≡ true
+  pub value : MemberValue
+  pub after_key : List ℕ
+  pub key_first : text ≡ key ++ 34 ∷ 58 ∷ after_key
+  pub named : BeginsAfter after_key value rest
+  pub put : new ≡ with key value old

@@ -1,14 +1,31 @@
-//! Objects whose strings have no escape, read byte by byte, with no index. Spaces stand only behind
-//! braces, commas and colons, where a hand types them.
-ghost use Rattle.std.specs.Prelude.{◌≡◌, ◌≤◌, ◌<◌, ◌^◌, ◌++◌, ◌∷◌, ◌+◌, [], Some, IfSome, true, length, take, drop, decimal, slice_index, IsUtf8};
+//! Objects whose strings have no escape, read from front to back, of a known key four bytes at once.
+//! Spaces stand only behind braces, commas and colons, where a hand types them.
+ghost use Rattle.std.specs.Prelude.{◌≡◌, ◌≤◌, ◌<◌, ◌^◌, ◌++◌, ◌∷◌, ◌+◌, [], Some, IfSome, None, true, length, take, drop, decimal, slice_index, IsUtf8};
+ghost use Rattle.std.specs.Int.{w32, to_be_bytes};
 ghost use Rattle.json.specs.Lex.{tokens};
 ghost use Rattle.serde_json.specs.Data.{Members, object, no_members};
 ghost use Rattle.mml_plain.specs.Reading.{object_at};
 ghost use Rattle.mml_plain.specs.Holds.{Holds};
-ghost use Rattle.mml_plain.specs.Compact.{is_bare_byte, is_bare, BeginsValue, BeginsMember, Spaced};
+ghost use Rattle.mml_plain.specs.Compact.{is_bare_byte, is_bare, BeginsValue, BeginsMember, BeginsAfter, BeginsQuoted, IsEmptyOr, PutsKnown, PutsMember, Spaced};
+ghost use Rattle.mml_plain.specs.declared.member_value.MemberValue.TheVariants.{Text, Number};
 
 use crate::fields::Fields;
 use crate::member_value::MemberValue;
+
+// The keys that most requests have, by their first four bytes behind the quotation mark.
+const DO: u32 = 0x646f_223a;
+
+const NODE: u32 = 0x6e6f_6465;
+
+const AT: u32 = 0x6174_223a;
+
+const RULE: u32 = 0x7275_6c65;
+
+const WITH: u32 = 0x7769_7468;
+
+const KEY: u32 = 0x6b65_7922;
+
+const NAME: u32 = 0x6e61_6d65;
 
 /// Whether the line is such an object, and then what its keys name. The fields come empty; where it
 /// isn't, they hold anything.
@@ -22,15 +39,163 @@ pub(crate) fn read_compact<'a>(line: &'a [u8], fields: &mut Fields<'a>) -> bool
         return false;
     };
     'members: loop {
-        let Some((key, value, more)) = member(rest) else {
-            return false;
-        };
-        fields.put(key, &value);
+        let more = next_member(rest, fields);
         let Some(next) = behind(more, b',') else {
             return is_end(more);
         };
         rest = next;
     }
+}
+
+/// Puts the next member into the fields; what follows it, or nothing where there is no member.
+#[inline(always)]
+fn next_member<'a>(text: &'a [u8], fields: &mut Fields<'a>) -> &'a [u8]
+    ensures { IsEmptyOr result.now (PutsMember text.now result.now fields.old fields.new) }
+{
+    if let Some(rest) = known_member(text, fields) {
+        return rest;
+    }
+    any_member(text, fields)
+}
+
+/// The same for a key that most requests have, with the kind of value that it names, where at least
+/// eight bytes follow its quotation mark. Where the member is no such one, the fields stay.
+#[inline(always)]
+fn known_member<'a>(text: &'a [u8], fields: &mut Fields<'a>) -> Option<&'a [u8]>
+    ensures member { IfSome result (λ rest. PutsMember text.now rest.now fields.old fields.new) }
+    ensures other { result ≡ None → fields.new ≡ fields.old }
+{
+    let in_key = in_quotes(text)?;
+    // Each member has so many but one that ends the line, and then no bound below is tested in vain.
+    if in_key.len() < 8 {
+        return None;
+    }
+    let (front, text) = four_bytes(in_key)?;
+    if let Some(rest) = known_number(front, text, fields) {
+        return Some(rest);
+    }
+    let rest = known_text(front, text, fields)?;
+    Some(rest)
+}
+
+/// Puts the number that follows a key with these four bytes into the fields.
+#[inline(always)]
+fn known_number<'a>(front: u32, text: &'a [u8], fields: &mut Fields<'a>) -> Option<&'a [u8]>
+    ensures member { IfSome result (λ rest. PutsKnown (to_be_bytes w32 front ++ text.now) rest.now fields.old fields.new) }
+    ensures other { result ≡ None → fields.new ≡ fields.old }
+{
+    if front == NODE {
+        let (node, rest) = number_value(quote_and_colon(text)?)?;
+        fields.node = Some(node);
+        return Some(rest);
+    }
+    if front == AT {
+        let (at, rest) = number_value(text)?;
+        fields.at = Some(at);
+        return Some(rest);
+    }
+    if front == WITH {
+        let (partner, rest) = number_value(quote_and_colon(text)?)?;
+        fields.with = Some(partner);
+        return Some(rest);
+    }
+    None
+}
+
+/// The same for a text.
+#[inline(always)]
+fn known_text<'a>(front: u32, text: &'a [u8], fields: &mut Fields<'a>) -> Option<&'a [u8]>
+    ensures member { IfSome result (λ rest. PutsKnown (to_be_bytes w32 front ++ text.now) rest.now fields.old fields.new) }
+    ensures other { result ≡ None → fields.new ≡ fields.old }
+{
+    if front == DO {
+        let (word, rest) = text_value(text)?;
+        fields.word = Some(word);
+        return Some(rest);
+    }
+    if front == RULE {
+        let (rule, rest) = text_value(quote_and_colon(text)?)?;
+        fields.rule = Some(rule);
+        return Some(rest);
+    }
+    if front == NAME {
+        let (name, rest) = text_value(quote_and_colon(text)?)?;
+        fields.name = Some(name);
+        return Some(rest);
+    }
+    if front == KEY {
+        let (key, rest) = text_value(behind(text, b':')?)?;
+        fields.key = Some(key);
+        return Some(rest);
+    }
+    None
+}
+
+/// Puts any member into the fields; what follows it, or nothing where there is none.
+#[inline(never)]
+fn any_member<'a>(text: &'a [u8], fields: &mut Fields<'a>) -> &'a [u8]
+    ensures { IsEmptyOr result.now (PutsMember text.now result.now fields.old fields.new) }
+{
+    let Some((key, value, rest)) = member(text) else {
+        return &text[..0];
+    };
+    fields.put(key, &value);
+    rest
+}
+
+/// What follows the spaces and the quotation mark at the front.
+#[inline(always)]
+fn in_quotes<'a>(text: &'a [u8]) -> Option<&'a [u8]>
+    ensures { IfSome result (λ rest. BeginsQuoted text.now rest.now) }
+{
+    if let Some(rest) = behind(text, b'"') {
+        return Some(rest);
+    }
+    let at_quote = unspaced(text);
+    let rest = behind(at_quote, b'"')?;
+    Some(rest)
+}
+
+/// What follows the quotation mark and the colon behind a key.
+#[inline(always)]
+fn quote_and_colon<'a>(text: &'a [u8]) -> Option<&'a [u8]>
+    ensures { IfSome result (λ rest. text.now ≡ 34 ∷ 58 ∷ rest.now) }
+{
+    let at_colon = behind(text, b'"')?;
+    let rest = behind(at_colon, b':')?;
+    Some(rest)
+}
+
+/// A text behind a colon, and what follows it.
+#[inline(always)]
+fn text_value<'a>(text: &'a [u8]) -> Option<(&'a str, &'a [u8])>
+    ensures { IfSome result (λ r. BeginsAfter text.now (Text r.0) r.1.now) }
+{
+    let in_word = in_quotes(text)?;
+    let (word, rest) = bare_word(in_word)?;
+    Some((word, rest))
+}
+
+/// The same for a number.
+#[inline(always)]
+fn number_value<'a>(text: &'a [u8]) -> Option<(u64, &'a [u8])>
+    ensures { IfSome result (λ r. BeginsAfter text.now (Number r.0) r.1.now) }
+{
+    let at_value = unspaced(text);
+    let (number, rest) = whole_number(at_value)?;
+    Some((number, rest))
+}
+
+/// The four bytes at the front, as one number, and what follows them.
+#[inline(always)]
+fn four_bytes<'a>(text: &'a [u8]) -> Option<(u32, &'a [u8])>
+    ensures { IfSome result (λ r. text.now ≡ to_be_bytes w32 r.0 ++ r.1.now) }
+{
+    if text.len() < 4 {
+        return None;
+    }
+    let bytes = [text[0], text[1], text[2], text[3]];
+    Some((u32::from_be_bytes(bytes), &text[4..]))
 }
 
 /// Whether the brace that ends the text is all there is.
@@ -57,6 +222,20 @@ fn behind<'a>(text: &'a [u8], byte: u8) -> Option<&'a [u8]>
 fn unspaced<'a>(text: &'a [u8]) -> &'a [u8]
     ensures { Spaced text.now result.now }
 {
+    let Some(rest) = behind(text, b' ') else {
+        return text;
+    };
+    if rest.is_empty() || rest[0] != b' ' {
+        return rest;
+    }
+    past_spaces(text)
+}
+
+/// The same where there are many.
+#[inline(never)]
+fn past_spaces<'a>(text: &'a [u8]) -> &'a [u8]
+    ensures { Spaced text.now result.now }
+{
     let mut rest = text;
     'spaces: while let Some(next) = behind(rest, b' ') {
         rest = next;
@@ -69,8 +248,7 @@ fn unspaced<'a>(text: &'a [u8]) -> &'a [u8]
 fn member<'a>(text: &'a [u8]) -> Option<(&'a str, MemberValue<'a>, &'a [u8])>
     ensures { IfSome result (λ r. BeginsMember text.now r.0.now r.1 r.2.now) }
 {
-    let at_key = unspaced(text);
-    let in_key = behind(at_key, b'"')?;
+    let in_key = in_quotes(text)?;
     let (key, behind_key) = bare_word(in_key)?;
     let after_key = behind(behind_key, b':')?;
     let at_value = unspaced(after_key);
@@ -140,11 +318,10 @@ fn bare_end(text: &[u8]) -> Option<usize>
     let mut end = 0usize;
     'word: while end < text.len() {
         let byte = text[end];
-        if byte == b'"' {
-            return Some(end);
-        }
         if is_bare_byte(byte) {
             end += 1;
+        } else if byte == b'"' {
+            return Some(end);
         } else {
             return None;
         }
@@ -156,7 +333,8 @@ fn bare_end(text: &[u8]) -> Option<usize>
 fn is_bare_byte(byte: u8) -> bool
     ensures { result ≡ is_bare_byte byte }
 {
-    31 < byte && byte < 128 && byte != b'"' && byte != b'\\'
+    // Small letters first.
+    (b'\\' < byte && byte < 128) || (31 < byte && byte < b'\\' && byte != b'"')
 }
 
 #[inline(always)]

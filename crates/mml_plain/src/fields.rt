@@ -43,23 +43,29 @@ impl<'a> Fields<'a> {
     }
 
     /// One member more. A key that was there names what comes last.
-    #[inline(never)]
+    #[inline(always)]
     pub(crate) fn put(&mut self, key: &str, value: &MemberValue<'a>)
         ensures { self.new ≡ with key.now value.now self.old }
     {
-        match key {
-            "do" => self.word = value.text(),
-            "name" => self.name = value.text(),
-            "key" => self.key = value.text(),
-            "node" => self.node = value.number(),
-            "rule" => self.rule = value.text(),
-            "with" => self.with = value.number(),
-            "at" => self.at = value.number(),
-            "p" => self.p = value.register(),
-            "m" => self.m = value.truth(),
-            "a" => self.a = value.number(),
-            "b" => self.b = value.number(),
-            _ => {}
+        if key.len() == 1 {
+            match key {
+                "p" => self.p = value.register(),
+                "m" => self.m = value.truth(),
+                "a" => self.a = value.number(),
+                "b" => self.b = value.number(),
+                _ => {}
+            }
+        } else {
+            match key {
+                "do" => self.word = value.text(),
+                "name" => self.name = value.text(),
+                "key" => self.key = value.text(),
+                "node" => self.node = value.number(),
+                "rule" => self.rule = value.text(),
+                "with" => self.with = value.number(),
+                "at" => self.at = value.number(),
+                _ => {}
+            }
         }
     }
 }

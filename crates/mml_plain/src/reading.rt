@@ -31,6 +31,21 @@ pub fn read_fields<'a>(
     if read_compact(line, fields) {
         return Ok(true);
     }
+    read_tokens(line, scratch, fields)
+}
+
+/// The same by the tokens of the line, whatever the fields hold.
+#[inline(never)]
+fn read_tokens<'a>(
+    line: &'a [u8],
+    scratch: &'a mut LineScratch,
+    fields: &mut Fields<'a>,
+) -> Result<bool, AllocError>
+    ensures object { result ≡ Ok true → (ms : Members) × (object_in line.now ≡ Some ms)
+        × Holds fields.new (object ms) }
+    ensures other { result ≡ Ok false → object_in line.now ≡ None }
+    ensures memory { OnErr result (scratch.old < length line.now) }
+{
     let Ok(text) = std::str::from_utf8(line) else {
         return Ok(false);
     };

@@ -1,3 +1,4 @@
+use Rattle.std.proofs.Common.{[]}
 use Rattle.serde_json.specs.Data.{no_members, put}
 use Rattle.mml_plain.proofs.FieldsLemmas.{holds_with}
 use Rattle.mml_plain.proofs.CompactLemmas.{begun, comma, over, over_utf8, member}
@@ -9,27 +10,29 @@ members-init c = (no_members, begun c.args.line.now c.in-Some.rest.now c.in-Some
 pub returns-in_default-behind : goal.returns-in_default-behind
 returns-in_default-behind c = λ e.
     let l = c.members in
-    let k = c.in-Some-member.key.now in
-    let v = c.in-Some-member.value in
-    let m = c.in-Some-member.ensures in
+    let p = c.next_member-more.ensures 125 [] (c.is_end.ensures e) in
+    let k = p.key in
+    let v = p.value in
+    let m = p.member in
     let found = l.invariant.0 in
-    let more = c.in-Some-member.more.now in (
+    let more = c.next_member-more.result.now in (
       put k m.value.datum found,
       over_utf8 c.args.line.now more (put k m.value.datum found) (c.is_end.ensures e) (member c.args.line.now l.rest.now more k v found m l.invariant.1),
       over c.args.line.now more (put k m.value.datum found) (c.is_end.ensures e) (member c.args.line.now l.rest.now more k v found m l.invariant.1),
-      rw c.put.ensures (holds_with k v m.value.datum found m.value.shows l.fields l.invariant.2),
+      rw p.put (holds_with k v m.value.datum found m.value.shows l.fields l.invariant.2),
     )
 
 pub members-preserved : goal.members-preserved
 members-preserved c =
     let l = c.members in
-    let k = c.in-Some-member.key.now in
-    let v = c.in-Some-member.value in
-    let m = c.in-Some-member.ensures in
+    let p = c.next_member-more.ensures 44 c.in-Some-behind.next.now c.in-Some-behind.ensures in
+    let k = p.key in
+    let v = p.value in
+    let m = p.member in
     let found = l.invariant.0 in
-    let more = c.in-Some-member.more.now in (
+    let more = c.next_member-more.result.now in (
       put k m.value.datum found,
       comma c.args.line.now more c.in-Some-behind.next.now (put k m.value.datum found) c.in-Some-behind.ensures
           (member c.args.line.now l.rest.now more k v found m l.invariant.1),
-      rw c.put.ensures (holds_with k v m.value.datum found m.value.shows l.fields l.invariant.2),
+      rw p.put (holds_with k v m.value.datum found m.value.shows l.fields l.invariant.2),
     )

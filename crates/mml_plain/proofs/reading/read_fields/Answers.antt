@@ -1,43 +1,6 @@
-use Rattle.std.proofs.Common.{◌≡◌, List, ℕ, Bool, true, false, Some, None, Result, Ok, subst, ap, ◌∙◌}
-use Rattle.std.specs.Bool.{MatchBool}
-use Rattle.std.specs.declared.alloc.AllocError.{AllocError}
-use Rattle.std.specs.Str.{IsUtf8}
-use Rattle.json.specs.Token.{Token}
-use Rattle.json.specs.Lex.{tokens}
-use Rattle.serde_json.specs.Data.{Members, object}
-use Rattle.mml_plain.specs.Reading.{object_at, object_in}
-use Rattle.mml_plain.specs.Holds.{Holds}
-use Rattle.mml_plain.specs.declared.fields.Fields.{Fields}
-use Rattle.mml_plain.proofs.ReadingLemmas.{no_text, object_in_is}
+use Rattle.std.proofs.Common.{◌∙◌}
+use Rattle.mml_plain.proofs.ReadingLemmas.{object_in_is}
 use Rattle.mml_plain.proofs.reading.read_fields.Goals as goal
-
-abbrev the_answer : Bool → Result Bool AllocError
-the_answer b = Ok b
-
-abbrev Found : Bool → Fields → List Token → Type 0
-Found b fields ts = MatchBool b ((ms : Members) × (object_at ts ≡ Some ms) × Holds fields (object ms)) (object_at ts ≡ None)
-
-object_is : (b : Bool) (fields : Fields) (line : List ℕ) → IsUtf8 line → Found b fields (tokens line) → the_answer b ≡ Ok true
-    → (ms : Members) × (object_in line ≡ Some ms) × Holds fields (object ms)
-object_is true fields line u h e = (h.0, object_in_is line u ∙ h.1, h.2)
-object_is false fields line u h e = absurd (cc)
-
-other_is : (b : Bool) (fields : Fields) (line : List ℕ) → IsUtf8 line → Found b fields (tokens line) → the_answer b ≡ Ok false → object_in line ≡ None
-other_is true fields line u h e = absurd (cc)
-other_is false fields line u h e = object_in_is line u ∙ h
-
-pub returns-in_default-clause-other : goal.returns-in_default-clause-other
-returns-in_default-clause-other c = λ e. no_text c.args.line.now (c.in_default.ensures.cases.0)
-
-pub returns-clause-object : goal.returns-clause-object
-returns-clause-object c =
-    object_is c.read_object.result c.read_object.new.fields c.args.line.now c.in-Ok.ensures.cases.1
-    (subst (Found c.read_object.result c.read_object.new.fields) (c.in_ok-reader.ensures.ok ∙ ap tokens c.in-Ok.ensures.cases.0) c.read_object.ensures)
-
-pub returns-clause-other : goal.returns-clause-other
-returns-clause-other c =
-    other_is c.read_object.result c.read_object.new.fields c.args.line.now c.in-Ok.ensures.cases.1
-    (subst (Found c.read_object.result c.read_object.new.fields) (c.in_ok-reader.ensures.ok ∙ ap tokens c.in-Ok.ensures.cases.0) c.read_object.ensures)
 
 pub returns-then-read_compact-clause-object : goal.returns-then-read_compact-clause-object
 returns-then-read_compact-clause-object c = λ e.
