@@ -1,7 +1,7 @@
 -- Texts with commas between them, made one by one.
-use Rattle.std.proofs.Common.{◌≡◌, ℕ, ◌+◌, ◌<◌, ◌≤◌, List, [], ◌∷◌, ◌++◌, length, map, take, get_or, true, false, decimal, sym, ap, ◌∙◌, refl, append-nil}
-use Rattle.std.proofs.Common.{append_assoc, lit≤}
-use Rattle.std.specs.Prelude.{flat_map, slice_index}
+use Rattle.std.proofs.Common.{◌≡◌, ℕ, ◌+◌, ◌<◌, List, [], ◌∷◌, ◌++◌, length, map, take, get_or, true, false, sym, ap, ◌∙◌, refl, append-nil}
+use Rattle.std.proofs.Common.{append_assoc}
+use Rattle.std.specs.Prelude.{flat_map}
 use Rattle.std.specs.Ordering.{nat_cmp}
 use Rattle.std.specs.FinSet as set
 use Rattle.std.specs.FinSet.{FinSet}
@@ -14,11 +14,6 @@ use Rattle.mml_codec.specs.Facts.{node_text, members, separated}
 abbrev pub comma_after : List (List ℕ) → List ℕ
 comma_after [] = []
 comma_after (x ∷ xs) = 44 ∷ []
-
--- the comma before one more text is one byte at the most
-pub length-comma_after : (xs : List (List ℕ)) → length (comma_after xs) ≤ 1
-length-comma_after [] = lit≤ tt
-length-comma_after (x ∷ xs) = lit≤ tt
 
 comma_after-more : (xs : List (List ℕ)) (x : List ℕ) → comma_after (xs ++ x ∷ []) ≡ 44 ∷ []
 comma_after-more [] x = refl
@@ -46,12 +41,12 @@ pub comma_without : (ids : List ℕ) (s : FinSet nat_cmp) (n i : ℕ) (comma : L
 comma_without ids s n i comma e h so_far = so_far ∙ sym (ap comma_after (passing_without (set.contains s) (node_text ids) n (ap (set.contains s) (sym e) ∙ h)))
 
 -- a comma, where one is due, and the rank's identifier go behind the texts so far
-pub text_with : (ids : List ℕ) (s : FinSet nat_cmp) (n i id : ℕ) (start held put comma : List ℕ) → i ≡ n → set.contains s i ≡ true → id ≡ slice_index ids i
-    → comma ≡ comma_after (texts ids s n) → held ≡ start ++ separated (texts ids s n) → put ≡ held ++ (comma ++ (decimal id ++ []))
+pub text_with : (ids : List ℕ) (s : FinSet nat_cmp) (n i : ℕ) (start held put comma : List ℕ) → i ≡ n → set.contains s i ≡ true
+    → comma ≡ comma_after (texts ids s n) → held ≡ start ++ separated (texts ids s n) → put ≡ held ++ (comma ++ node_text ids i)
     → put ≡ start ++ separated (texts ids s (n + 1))
-text_with ids s n i id start held put comma e h is comma_is so_far more =
-    let one : comma ++ (decimal id ++ []) ≡ comma_after (texts ids s n) ++ node_text ids n =
-    ap (λ t. comma ++ t) (append-nil (decimal id) ∙ ap decimal (is ∙ ap (slice_index ids) e)) ∙ ap (λ t. t ++ node_text ids n) comma_is in
+text_with ids s n i start held put comma e h comma_is so_far more =
+    let one : comma ++ node_text ids i ≡ comma_after (texts ids s n) ++ node_text ids n =
+    ap (λ k. comma ++ node_text ids k) e ∙ ap (λ t. t ++ node_text ids n) comma_is in
     more ∙ ap (λ t. held ++ t) one ∙ ap (λ t. t ++ (comma_after (texts ids s n) ++ node_text ids n)) so_far
     ∙ append_assoc start (separated (texts ids s n)) (comma_after (texts ids s n) ++ node_text ids n)
     ∙ ap (λ t. start ++ t) (sym (ap separated (passing_with (set.contains s) (node_text ids) n (ap (set.contains s) (sym e) ∙ h))

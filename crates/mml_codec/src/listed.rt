@@ -53,7 +53,7 @@ pub(crate) fn put_list<T: Listed>(
 
 // A comma, where one stood before.
 #[inline(always)]
-fn with_comma(line: Vec<u8>, later: bool) -> Vec<u8>
+pub(crate) fn with_comma(line: Vec<u8>, later: bool) -> Vec<u8>
     requires { length line.items + 1 ≤ vec_capacity line }
     ensures text { result.items ≡ line.items ++ comma_if later }
     ensures capacity { vec_capacity result ≡ vec_capacity line }

@@ -11,7 +11,7 @@ ghost use Rattle.mml_codec.specs.ReplyValues.{AreWritableCounts};
 ghost use Rattle.mml_policy.specs.About.{IsSeen, IsLookedAt};
 ghost use Rattle.mml_codec.specs.inside.Puts.{number_front, deny_parts, look_head, look_tail, look_parts, joined_text};
 
-use crate::listed::put_list;
+use crate::listed::{put_list, with_comma};
 use crate::reply::{REPLY_ROOM, Refused, Reply};
 use crate::report_writing::put_report;
 use mml_ids::{
@@ -349,45 +349,51 @@ fn with_move(text: Vec<u8>, ids: &IdTable, moment: Moment, node: Rank, kind: Kin
     with_text(text, "}")
 }
 
-#[tactic(auto, unfolding(crate::specs::Facts::object_text))]
 fn put_close(ids: &IdTable, moment: Moment, moved: NodeSet, out: &mut Vec<u8>) -> Result<(), Memory>
     ensures { Puts (object_text ids.now
         (done_fields moment.at moment.place (done.Close moved)))
         TEXT_ROOM out.old out.new result }
 {
-    put(
-        out,
-        &[
-            Piece::Text("{\"at\":"),
-            Piece::Number(moment.at),
-            Piece::Text(",\"moved\":["),
-        ],
-    )?;
-    put_members(ids, moved, out)?;
-    put(
-        out,
-        &[
-            Piece::Text("],\"ok\":\"close\",\"place\":"),
-            Piece::Number(moment.place),
-            Piece::Text("}"),
-        ],
-    )
+    make_room(out, TEXT_ROOM)?;
+    *out = with_close(taken(out), ids, moment, moved);
+    Ok(())
+}
+
+#[inline(always)]
+#[tactic(auto, unfolding(crate::specs::Facts::object_text))]
+fn with_close(text: Vec<u8>, ids: &IdTable, moment: Moment, moved: NodeSet) -> Vec<u8>
+    requires room { length text.items + TEXT_ROOM ≤ vec_capacity text }
+    ensures adds { Adds (object_text ids.now
+        (done_fields moment.at moment.place (done.Close moved))) TEXT_ROOM text result }
+{
+    let text = with_text(text, "{\"at\":");
+    let text = with_number(text, moment.at);
+    let text = with_text(text, ",\"moved\":[");
+    let text = with_members(text, ids, moved);
+    let text = with_text(text, "],\"ok\":\"close\",\"place\":");
+    let text = with_number(text, moment.place);
+    with_text(text, "}")
 }
 
 // An identifier and its comma take 6 bytes at most, and there are 256 nodes at most.
-fn put_members(ids: &IdTable, moved: NodeSet, out: &mut Vec<u8>) -> Result<(), Memory>
-    ensures { Puts (separated (map (node_text ids.now) (members (length ids.now) moved)))
-        1536 out.old out.new result }
+#[inline(always)]
+fn with_members(text: Vec<u8>, ids: &IdTable, moved: NodeSet) -> Vec<u8>
+    requires room { length text.items + 1536 ≤ vec_capacity text }
+    ensures text { result.items ≡ text.items
+        ++ separated (map (node_text ids.now) (members (length ids.now) moved)) }
+    ensures capacity { vec_capacity result ≡ vec_capacity text }
+    ensures grows { length result.items ≤ length text.items + 1536 }
 {
-    let mut comma = "";
+    let mut line = text;
+    let mut later = false;
     for index in 0..ids.len() {
         let node = Rank::at(index);
         if moved.has(node) {
-            put(out, &[Piece::Text(comma), Piece::Id(ids.node_id(node))])?;
-            comma = ",";
+            line = with_node(with_comma(line, later), ids, node);
+            later = true;
         }
     }
-    Ok(())
+    line
 }
 
 fn put_fault(
@@ -734,12 +740,4 @@ pub(crate) fn with_kind(text: Vec<u8>, kind: Kind) -> Vec<u8>
         Kind::Seduction => with_text(text, "\"seduction\""),
         Kind::Abandonment => with_text(text, "\"abandonment\""),
     }
-}
-
-// In a contract a number is any; that of a piece fits its type.
-pub(crate) fn counted(count: u64) -> Piece<'static>
-    ensures piece { result ≡ Number count }
-    ensures fits { count < 2 ^ 64 }
-{
-    Piece::Number(count)
 }

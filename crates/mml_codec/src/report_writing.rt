@@ -1,13 +1,17 @@
 //! The text of a report.
-ghost use Rattle.std.specs.Prelude.{◌≡◌, ◌≤◌, ◌<◌, ◌^◌, ◌++◌, length, OnOk, vec_capacity};
+ghost use Rattle.std.specs.Prelude.{codes, decimal, ◌≡◌, ◌≤◌, ◌<◌, ◌+◌, ◌^◌, ◌++◌, length, OnOk, vec_capacity};
+ghost use Rattle.mml_ids.specs.Pieces.{truth_text};
 ghost use Rattle.mml_stable.specs.Reports.{NamesNodes};
 ghost use Rattle.mml_codec.specs.Facts.{object_text};
 ghost use Rattle.mml_codec.specs.Replies.{report_fields};
 
 use crate::listed::put_list;
-use crate::reply_writing::counted;
-use mml_ids::{IdTable, Memory, Piece, put, truth_text};
+use crate::reply_writing::with_count;
+use mml_ids::{IdTable, Memory, make_room, taken, with_text};
 use mml_stable::Report;
+
+// Enough for what a report says before its lists, or after them.
+const REPORT_ROOM: usize = 64;
 
 #[tactic(auto, unfolding(crate::specs::Facts::object_text))]
 pub(crate) fn put_report(ids: &IdTable, report: &Report, out: &mut Vec<u8>) -> Result<(), Memory>
@@ -17,27 +21,76 @@ pub(crate) fn put_report(ids: &IdTable, report: &Report, out: &mut Vec<u8>) -> R
     ensures capacity { vec_capacity out.old ≤ vec_capacity out.new }
     ensures count { report.now.at < 2 ^ 64 }
 {
-    put(
-        out,
-        &[
-            Piece::Text("{\"at\":"),
-            counted(report.at),
-            Piece::Text(",\"free\":["),
-        ],
-    )?;
+    put_head(report.at, out)?;
     put_list(ids, report.free.as_slice(), out)?;
-    put(out, &[Piece::Text("],\"ok\":\"report\",\"open\":[")])?;
+    put_part("],\"ok\":\"report\",\"open\":[", out)?;
     put_list(ids, report.open_links.as_slice(), out)?;
-    put(out, &[Piece::Text("],\"pairs\":[")])?;
+    put_part("],\"pairs\":[", out)?;
     put_list(ids, report.pairs.as_slice(), out)?;
-    put(out, &[Piece::Text("],\"privileged\":[")])?;
+    put_part("],\"privileged\":[", out)?;
     put_list(ids, report.privileged.as_slice(), out)?;
-    put(
-        out,
-        &[
-            Piece::Text("],\"stable\":"),
-            Piece::Text(truth_text(report.stable)),
-            Piece::Text("}"),
-        ],
-    )
+    put_end(report.stable, out)
+}
+
+// What stands before the lists.
+#[inline(always)]
+fn put_head(at: u64, out: &mut Vec<u8>) -> Result<(), Memory>
+    ensures text { OnOk result (out.new.items ≡
+        out.old.items ++ (codes "{\"at\":" ++ (decimal at ++ codes ",\"free\":["))) }
+    ensures capacity { vec_capacity out.old ≤ vec_capacity out.new }
+    ensures count { at < 2 ^ 64 }
+{
+    make_room(out, REPORT_ROOM)?;
+    *out = with_head(taken(out), at);
+    Ok(())
+}
+
+#[inline(always)]
+fn with_head(text: Vec<u8>, at: u64) -> Vec<u8>
+    requires { length text.items + REPORT_ROOM ≤ vec_capacity text }
+    ensures text { result.items ≡
+        text.items ++ (codes "{\"at\":" ++ (decimal at ++ codes ",\"free\":[")) }
+    ensures capacity { vec_capacity result ≡ vec_capacity text }
+    ensures count { at < 2 ^ 64 }
+{
+    let text = with_text(text, "{\"at\":");
+    let text = with_count(text, at);
+    with_text(text, ",\"free\":[")
+}
+
+// A literal between two lists.
+#[inline(always)]
+fn put_part(part: &str, out: &mut Vec<u8>) -> Result<(), Memory>
+    ensures text { OnOk result (out.new.items ≡ out.old.items ++ part.now) }
+    ensures capacity { vec_capacity out.old ≤ vec_capacity out.new }
+{
+    make_room(out, part.len())?;
+    *out = with_text(taken(out), part);
+    Ok(())
+}
+
+// What stands after the lists.
+#[inline(always)]
+fn put_end(stable: bool, out: &mut Vec<u8>) -> Result<(), Memory>
+    ensures text { OnOk result (out.new.items ≡
+        out.old.items ++ (codes "],\"stable\":" ++ (truth_text stable ++ codes "}"))) }
+    ensures capacity { vec_capacity out.old ≤ vec_capacity out.new }
+{
+    make_room(out, REPORT_ROOM)?;
+    *out = with_end(taken(out), stable);
+    Ok(())
+}
+
+#[inline(always)]
+fn with_end(text: Vec<u8>, stable: bool) -> Vec<u8>
+    requires { length text.items + REPORT_ROOM ≤ vec_capacity text }
+    ensures text { result.items ≡
+        text.items ++ (codes "],\"stable\":" ++ (truth_text stable ++ codes "}")) }
+    ensures capacity { vec_capacity result ≡ vec_capacity text }
+{
+    if stable {
+        with_text(text, "],\"stable\":true}")
+    } else {
+        with_text(text, "],\"stable\":false}")
+    }
 }

@@ -65,7 +65,7 @@ fills_all was now capacity ps n f room = elim (eq-or-lt_of_le f.bound) [
 ]
 
 -- one digit more
-pub digit_more : (was front all : List ℕ) (n : ℕ) → 10 ≤ n → n < 10000 → front ≡ was ++ decimal (n / 10) → all ≡ front ++ decimal (n % 10)
+pub digit_more : (was front all : List ℕ) (n : ℕ) → 10 ≤ n → n < 100000 → front ≡ was ++ decimal (n / 10) → all ≡ front ++ decimal (n % 10)
     → all ≡ was ++ decimal n
 digit_more was front all n many few before last =
     last ∙ ap (λ t. t ++ decimal (n % 10)) before ∙ append_assoc was (decimal (n / 10)) (decimal (n % 10))

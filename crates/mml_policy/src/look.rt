@@ -41,10 +41,10 @@ fn near(alloc: Global, board: &Board, node: Rank) -> Result<Vec<(Rank, Regs)>, M
     ensures { IfOk result (λ nodes. nodes.items ≡ near board.now node) }
 {
     let _size = board.size();
-    let mut near = Vec::new(alloc);
     let mut left = board.neighbours(node);
+    let mut near = Vec::with_capacity(alloc, left.len() as usize)?;
     while let Some(other) = left.take_least() {
-        near.push((other, board.regs(other)))?;
+        near.push_reserved((other, board.regs(other)));
     }
     Ok(near)
 }

@@ -1,6 +1,6 @@
 ghost use Rattle.std.specs.Prelude.{◌≡◌, ◌<◌, true, false, length};
 ghost use Rattle.mml_rules.specs.declared.rule.Rule.{Rule};
-ghost use Rattle.mml_rules.specs.Rules.{is_married, guard, kind_of};
+ghost use Rattle.mml_rules.specs.Rules.{is_married, guard, kind_of, enabled_kind};
 ghost use Rattle.mml_board.specs.World.{configuration};
 ghost use Rattle.mml_stable.specs.Walk.{top, walk, certificate};
 
@@ -43,8 +43,8 @@ fn walk(board: &Board, node: Rank) -> Option<(Rank, Kind)>
     requires { node < length board.now.network.registers }
     ensures { result ≡ walk (configuration board.now) node }
 {
-    let last = top(board, node);
-    match board.enabled(last) {
+    let (last, enabled) = top(board, node);
+    match enabled {
         Some(Kind::Update) => Some((last, Kind::Update)),
         Some(Kind::Marriage) => Some((last, Kind::Marriage)),
         Some(Kind::Abandonment) => Some((last, Kind::Abandonment)),
@@ -53,21 +53,23 @@ fn walk(board: &Board, node: Rank) -> Option<(Rank, Kind)>
     }
 }
 
-/// The first node along the pointers that is privileged or points at no node.
-fn top(board: &Board, node: Rank) -> Rank
+/// The first node along the pointers that is privileged or points at no node, and the rule that is
+/// enabled there.
+fn top(board: &Board, node: Rank) -> (Rank, Option<Kind>)
     requires { node < length board.now.network.registers }
-    ensures top { result ≡ top (configuration board.now) node }
-    ensures within { result < length board.now.network.registers }
+    ensures top { result.0 ≡ top (configuration board.now) node }
+    ensures enabled { result.1 ≡ enabled_kind (configuration board.now) result.0 }
 {
     let mut at = node;
     for step in 0..board.size() {
-        if board.enabled(at).is_some() {
-            return at;
+        let enabled = board.enabled(at);
+        if enabled.is_some() {
+            return (at, enabled);
         }
         match board.p(at) {
             Some(next) => at = next,
-            None => return at,
+            None => return (at, None),
         }
     }
-    at
+    (at, board.enabled(at))
 }

@@ -1,4 +1,4 @@
-use Rattle.std.proofs.Common.{◌∙◌, ◌<◌, ℕ, List, ◌++◌, ◌∷◌, [], map, ap, sym}
+use Rattle.std.proofs.Common.{◌∙◌, ◌<◌, ℕ, List, ◌++◌, ◌∷◌, [], map, ap, sym, rules}
 use Rattle.std.specs.FinSet as sets
 use Rattle.mml_ids.proofs.SetsLemmas.{ranks_in, one_put, all_put}
 use Rattle.mml_rules.specs.declared.regs.Regs.{Regs}
@@ -12,8 +12,9 @@ pub loop-other-init : goal.loop-other-init
 loop-other-init c = record {
   within = λ j h. (c.size-size.ensures.lawful.in_range c.args.node j (ap (λ s. sets.contains s j) (sym c.neighbours-left.ensures) ∙ h)).1;
   so_far =
-      ap (λ (xs : List (ℕ × Regs)). xs ++ map (shown c.args.board.now) (ranks_in (size c.args.board.now) c.neighbours-left.result)) c.new-near.ensures.items
+      ap (λ (xs : List (ℕ × Regs)). xs ++ map (shown c.args.board.now) (ranks_in (size c.args.board.now) c.neighbours-left.result)) c.in_ok-near.ensures.items
       ∙ near-is c.args.board.now c.args.node c.neighbours-left.result c.neighbours-left.ensures;
+  room = search rules;
 }
 
 pub loop-other-preserved : goal.loop-other-preserved
@@ -26,7 +27,8 @@ loop-other-preserved c =
     record {
       within = λ j h. c.loop-other.invariant.within j (in_remove left other j (ap (λ s. sets.contains s j) (sym taken.rest) ∙ h));
       so_far = one_put (shown w) (size w) left _ other c.loop-other.near.items _ (near w c.args.node) taken.member taken.least below taken.rest
-          (c.in_ok-push.ensures.items ∙ ap (λ (r : Regs). c.loop-other.near.items ++ (other, r) ∷ []) c.regs.ensures) c.loop-other.invariant.so_far;
+          (c.push_reserved.ensures.items ∙ ap (λ (r : Regs). c.loop-other.near.items ++ (other, r) ∷ []) c.regs.ensures) c.loop-other.invariant.so_far;
+      room = search rules;
     }
 
 pub returns : goal.returns

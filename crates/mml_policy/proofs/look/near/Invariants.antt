@@ -1,4 +1,4 @@
-use Rattle.std.proofs.Common.{◌≡◌, ℕ, ◌<◌, ◌++◌, true, map, length}
+use Rattle.std.proofs.Common.{◌≡◌, ℕ, ◌<◌, ◌≤◌, ◌+◌, ◌++◌, true, map, length, vec_capacity}
 use Rattle.std.specs.FinSet as sets
 use Rattle.mml_ids.proofs.SetsLemmas.{ranks_in}
 use Rattle.mml_board.specs.World.{size}
@@ -6,11 +6,12 @@ use Rattle.mml_policy.specs.Shown.{near}
 use Rattle.mml_policy.proofs.NearLemmas.{shown}
 use Rattle.mml_policy.proofs.look.near.Given as goal
 
--- what was put, and what is shown of those that are left
+-- what was put, what is shown of those that are left, and that there is room for them
 abbrev pub invariant-loop-other : goal.invariant-loop-other
 invariant-loop-other l = record {
   within : (j : ℕ) → sets.contains l.left j ≡ true → j < length l.board.network.registers;
   so_far : l.near.items ++ map (shown l.board) (ranks_in (size l.board) l.left) ≡ near l.board l.fn.node;
+  room : length l.near.items + sets.len l.left ≤ vec_capacity l.near;
 }
 
 abbrev pub decreases-loop-other : goal.decreases-loop-other
