@@ -94,20 +94,6 @@ passing_more t f n =
 
 -- ---- a set without one of its ranks
 
--- the set less the set of one rank is the set with that rank removed
-pub without_one : (s : FinSet nat_cmp) (a : ℕ) → sets.difference s (sets.insert sets.empty a) ≡ sets.remove s a
-without_one s a = same_ranks _ _ (λ q.
-    sets.contains-difference nat_cmp_total s (sets.insert sets.empty a) q
-    ∙ ap (λ b. sets.contains s q && not b) (has_insert sets.empty a q ∙ ap (λ b. eqb q a || b) (has_empty q))
-    ∙ go (sets.contains s q) (eqb q a)
-    ∙ sym (has_remove s a q))
-  where
-    go : (x y : Bool) → (x && not (y || false)) ≡ (not y && x)
-    go true true = refl
-    go true false = refl
-    go false true = refl
-    go false false = refl
-
 -- a set is longer by one than without one of its ranks
 pub len-remove_one : (s : FinSet nat_cmp) (a : ℕ) → sets.contains s a ≡ true → sets.len s ≡ sets.len (sets.remove s a) + 1
 len-remove_one s a h =

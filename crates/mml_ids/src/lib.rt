@@ -18,7 +18,9 @@ pub use items::Items;
 pub use memory::Memory;
 pub use node_id::NodeId;
 pub use node_set::NodeSet;
-pub use piece::{Piece, make_room, put, taken, truth_text, with_id, with_number, with_text};
+pub use piece::{
+    Piece, make_room, put, taken, truth_text, with_bytes, with_id, with_number, with_text,
+};
 pub use rank::Rank;
 pub use word::Word;
 

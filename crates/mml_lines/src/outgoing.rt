@@ -5,7 +5,7 @@ ghost use Rattle.std.specs.Io.KnownBytes.{Appends};
 ghost use Rattle.mml_lines.specs.Sending.{BreaksOff, Sends, part_in};
 
 use crate::write_fault::{WriteFault, put_all, put_both};
-use mml_ids::Memory;
+use mml_ids::{Memory, taken, with_bytes};
 use std::alloc::Global;
 use std::io::Write;
 use std::marker::Model;
@@ -117,7 +117,8 @@ impl Outgoing {
         if room - front.len() < rest.len() {
             return false;
         }
-        self.bytes.extend_from_slice(front).unwrap();
+        // The front is short.
+        self.bytes = with_bytes(taken(&mut self.bytes), front);
         self.bytes.extend_from_slice(rest).unwrap();
         self.lengths.push_reserved(front.len() + rest.len());
         true

@@ -137,6 +137,25 @@ set_of-set n words new r l in_words here there =
       | inr ne ↦ ap (λ b. ltb q n && b) (bits_beside words new r q in_words there ne) ∙ sym (ap (λ b. b || (ltb q n && bit_in words q)) (ne_eqb q r ne))
     ]
 
+clear_here : (b : Bool) → (b && eqb 0 1) ≡ false
+clear_here true = refl
+clear_here false = refl
+
+pub set_of-clear : (n : ℕ) (words : List ℕ) (new r : ℕ) → r / 64 < length words → bit_at new (r % 64) ≡ 0
+    → ((i : ℕ) → i < 64 → i ≢ r % 64 → bit_at new i ≡ bit_at (get_or words (r / 64) 0) i) → set_of n (set words (r / 64) new) ≡ sets.remove (set_of n words) r
+set_of-clear n words new r in_words here there =
+    same_ranks _ _ (λ q. has-set_of n (set words (r / 64) new) q ∙ at q ∙ sym (has_remove (set_of n words) r q ∙ ap (λ b. not (eqb q r) && b) (has-set_of n words q)))
+  where
+    at : (q : ℕ) → (ltb q n && bit_in (set words (r / 64) new) q) ≡ (not (eqb q r) && (ltb q n && bit_in words q))
+    at q = elim (cases_eq q r) [
+      | inl e ↦
+          ap (λ x. ltb q n && bit_in (set words (r / 64) new) x) e
+          ∙ ap (λ b. ltb q n && b) (bit_here words new r in_words ∙ ap (λ x. eqb x 1) here)
+          ∙ clear_here (ltb q n)
+          ∙ sym (ap (λ b. not b && (ltb q n && bit_in words q)) (eq-eqb q r e))
+      | inr ne ↦ ap (λ b. ltb q n && b) (bits_beside words new r q in_words there ne) ∙ sym (ap (λ b. not b && (ltb q n && bit_in words q)) (ne_eqb q r ne))
+    ]
+
 pub put_words : (n : ℕ) (words : List ℕ) (p new : ℕ) → AreWords n words → p < n → new < 2 ^ 64 → AreWords n (set words p new)
 put_words n words p new a l h = record {
   count = length-set words p new ∙ a.count;

@@ -6,5 +6,5 @@ use Rattle.mml_ids.proofs.node_set.NodeSet.take_least.Goals as goal
 pub returns-clause-fewer : goal.returns-clause-fewer
 returns-clause-fewer c =
     let less = len-remove_one c.args.self.now c.in_ok-rank.rank c.in_ok-rank.ensures.member in
-    let count = ap sets.len c.except.ensures in
+    let count = ap sets.len c.take_out.ensures in
     omega arith
