@@ -57,6 +57,28 @@ fn settle<Rt: Wait, S: Sink + Drop, H: House>(
     ensures closed { IfErr result (λ _. (known.new ≡ known.old) × (window.new ≡ window.old)
         × AsksToSee known.old request) }
 {
+    match (*known, &request) {
+        (Some(who), Request::Do(command)) => obey(setting, window, who, command),
+        _ => greet_on(setting, window, known, request),
+    }
+}
+
+// What comes of any request; a command of one who is known needn't come here. It is large, and rare.
+#[inline(never)]
+fn greet_on<Rt: Wait, S: Sink + Drop, H: House>(
+    setting: &Setting<'_, Rt, S, H>,
+    window: &mut Window<H>,
+    known: &mut Option<Who>,
+    request: Request,
+) -> Result<Reply, Closed>
+    requires principal { IfSome known.old (IsPrincipal H.lab.roster) }
+    ensures principal { IfSome known.new (IsPrincipal H.lab.roster) }
+    ensures settles { IfOk result (λ reply. Settles H.lab (standing known.old window.old)
+        (greeting H.lab.roster known.old request) reply (standing known.new window.new)) }
+    ensures about { IfOk result (IsAbout H.lab.ids H.lab.roster) }
+    ensures closed { IfErr result (λ _. (known.new ≡ known.old) × (window.new ≡ window.old)
+        × AsksToSee known.old request) }
+{
     match greet(window.roster(), *known, request) {
         Greeting::Answered { reply, known: now } => {
             *known = now;

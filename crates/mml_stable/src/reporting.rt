@@ -25,12 +25,14 @@ pub fn report(alloc: Global, board: &Board) -> Result<Report, Memory>
 fn whole(alloc: Global, board: &Board) -> Result<Report, Memory>
     ensures { IfOk result (λ report. report ≡ report_of board.now) }
 {
+    let pairs = pairs(alloc, board)?;
+    let (free, free_set) = free_nodes(alloc, board)?;
     Ok(Report {
         at: board.number(),
-        pairs: Items::of(pairs(alloc, board)?),
-        free: Items::of(free_nodes(alloc, board)?),
+        pairs: Items::of(pairs),
+        free: Items::of(free),
         privileged: Items::of(privileged_nodes(alloc, board)?),
-        open_links: Items::of(open_links(alloc, board)?),
+        open_links: Items::of(open_links(alloc, board, free_set)?),
         stable: is_stable(board),
     })
 }
@@ -50,23 +52,29 @@ fn pairs(alloc: Global, board: &Board) -> Result<Vec<(Rank, Rank)>, Memory>
     Ok(all)
 }
 
-fn free_nodes(alloc: Global, board: &Board) -> Result<Vec<Rank>, Memory>
-    ensures { IfOk result (λ all. all.items ≡ free_nodes (configuration board.now)) }
+/// The nodes that are in no pair, as a list and as a set.
+#[tactic(auto, unfolding(mml_ids::specs::Sets::those_below))]
+fn free_nodes(alloc: Global, board: &Board) -> Result<(Vec<Rank>, NodeSet), Memory>
+    ensures list { IfOk result (λ free. free.0.items ≡ free_nodes (configuration board.now)) }
+    ensures set { IfOk result (λ free. free.1
+        ≡ those_below (length board.now.network.registers) (is_free (configuration board.now))) }
 {
-    let mut all = Vec::new(alloc);
+    let mut all = Vec::with_capacity(alloc, board.size() as usize)?;
+    let mut set = NodeSet::empty();
     for index in 0..board.size() {
         let node = Rank::at(index);
         if !married(board, node) {
             all.push(node)?;
+            set = set.with(node);
         }
     }
-    Ok(all)
+    Ok((all, set))
 }
 
 fn privileged_nodes(alloc: Global, board: &Board) -> Result<Vec<(Rank, Kind)>, Memory>
     ensures { IfOk result (λ all. all.items ≡ privileged_nodes (configuration board.now)) }
 {
-    let mut all = Vec::new(alloc);
+    let mut all = Vec::with_capacity(alloc, board.privileged_count() as usize)?;
     for index in 0..board.size() {
         let node = Rank::at(index);
         if let Some(kind) = board.enabled(node) {
@@ -74,22 +82,6 @@ fn privileged_nodes(alloc: Global, board: &Board) -> Result<Vec<(Rank, Kind)>, M
         }
     }
     Ok(all)
-}
-
-/// The nodes that are in no pair, as a set.
-#[tactic(auto, unfolding(mml_ids::specs::Sets::those_below))]
-fn free_set(board: &Board) -> NodeSet
-    ensures { result
-        ≡ those_below (length board.now.network.registers) (is_free (configuration board.now)) }
-{
-    let mut free = NodeSet::empty();
-    for index in 0..board.size() {
-        let node = Rank::at(index);
-        if !married(board, node) {
-            free = free.with(node);
-        }
-    }
-    free
 }
 
 /// The greater ends of the open links of a node.
@@ -135,10 +127,11 @@ fn put_open_links(
     Ok(())
 }
 
-fn open_links(alloc: Global, board: &Board) -> Result<Vec<OpenLink>, Memory>
+fn open_links(alloc: Global, board: &Board, free: NodeSet) -> Result<Vec<OpenLink>, Memory>
+    requires free { free
+        ≡ those_below (length board.now.network.registers) (is_free (configuration board.now)) }
     ensures { IfOk result (λ all. all.items ≡ open_links (configuration board.now)) }
 {
-    let free = free_set(board);
     let mut all = Vec::new(alloc);
     for index in 0..board.size() {
         let a = Rank::at(index);

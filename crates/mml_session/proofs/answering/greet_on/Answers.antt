@@ -1,6 +1,6 @@
 use Rattle.mml_session.proofs.GreetingLemmas.{closed_so}
 use Rattle.mml_session.proofs.TellingLemmas.{settled_so}
-use Rattle.mml_session.proofs.answering.settle.Goals as goal
+use Rattle.mml_session.proofs.answering.greet_on.Goals as goal
 
 pub returns-in-Answered-clause-about : goal.returns-in-Answered-clause-about
 returns-in-Answered-clause-about g c = rw c.roster.ensures.roster at c.in-Answered.ensures.about.0 g.H.House.lab.ids
