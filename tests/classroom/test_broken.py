@@ -125,10 +125,15 @@ class Broken(Cycle):
         lab.write_text(re.sub(r"(?m)^events = \d+", "events = 1", lab.read_text(encoding="utf-8")), encoding="utf-8")
         going = Going(self, lab, "--close", "every:0.1")
         with Client(going.port, "gus", KEYS["gus"]) as gus:
-            gus.move(gus.look(4))
+            look = gus.look(4)
+            try:
+                self.assertEqual(gus.move(look).place, 1)
+            except Closed:  # The event ends the class, and at its end nobody is answered any more whose reply isn't out yet.
+                pass
         self.assertEqual(going.ends(), 5, going.lines)
         self.assertTrue(any(line.startswith("nothing more is granted: full: events 1 of 1; ") for line in going.lines), going.lines)
         self.assertEqual(self.whole(going.folder), 1)
+        self.assertEqual((going.folder / "journal").read_text(encoding="ascii"), "1 0 grant gus 4 update\n")
 
     def test_a_folder_that_takes_nothing_more(self) -> None:
         going = Going(self, CYCLE)
