@@ -10,6 +10,7 @@ import re
 import select
 import shlex
 import signal
+import socket
 import subprocess
 import sys
 import tempfile
@@ -17,6 +18,8 @@ import termios
 import threading
 import time
 import unittest
+from collections.abc import Iterator
+from contextlib import contextmanager
 from pathlib import Path
 
 from classroom.lab import read
@@ -35,6 +38,27 @@ def words(*given: str | Path, typed: str | None = None, **more: str) -> subproce
         [sys.executable, TOP / "class", *given], input=typed or "", capture_output=True, text=True, check=False,
         env={**os.environ, **more}, timeout=LIMIT,
     )
+
+
+def a_port() -> int:
+    """A port that is free, below those that Linux gives to connections, so that it is free as well where a class goes on."""
+    while True:
+        port = random.randint(20000, 32000)
+        with socket.socket() as it:
+            it.setsockopt(socket.SOL_SOCKET, socket.SO_REUSEADDR, 1)  # As a server takes it: a connection that has ended is no matter.
+            try:
+                it.bind(("127.0.0.1", port))
+            except OSError:
+                continue
+        return port
+
+
+@contextmanager
+def no_server() -> Iterator[int]:
+    """A port at which nobody listens, and that nobody else gets meanwhile."""
+    with socket.socket() as it:
+        it.bind(("127.0.0.1", 0))
+        yield it.getsockname()[1]
 
 
 def stop(process: int) -> None:
@@ -70,8 +94,7 @@ class Going:
     def __init__(self, test: InRoom, lab: Path | None, *more: str | Path, before: tuple[str, ...] = (), **environment: str) -> None:
         """`before` are words before the call: another program that makes it. Without a lab, `more` are all words."""
         self.lines: list[str] = []
-        at = str(random.randint(20000, 50000))
-        words: list[str | Path] = ["run", lab, "--into", test.room / "runs", "--port", at, *more] if lab else [*more]
+        words: list[str | Path] = ["run", lab, "--into", test.room / "runs", "--port", str(a_port()), *more] if lab else [*more]
         self.process = subprocess.Popen(
             [*before, sys.executable, TOP / "class", *words, "--typed"],
             stdin=subprocess.PIPE, stdout=subprocess.PIPE, stderr=subprocess.STDOUT, text=True,
@@ -85,17 +108,29 @@ class Going:
 
     def until(self, pattern: str) -> str:
         """Reads lines until one has the pattern; a run that doesn't tell it is ended."""
+        for line in self.read():
+            if re.search(pattern, line):
+                return line
+        raise AssertionError(f"no {pattern} in {self.lines}")
+
+    def until_each(self, *patterns: str) -> None:
+        """The same, until each pattern was in one, in whichever order."""
+        left = list(patterns)
+        while left:
+            line = self.until("|".join(left))
+            left = [pattern for pattern in left if not re.search(pattern, line)]
+
+    def read(self) -> Iterator[str]:
+        """The next lines; a run that goes on for too long is ended."""
         assert self.process.stdout is not None
         late = threading.Timer(LIMIT, self.process.terminate)
         late.start()
         try:
             for line in self.process.stdout:
                 self.lines.append(line.rstrip("\n"))
-                if re.search(pattern, line):
-                    return self.lines[-1]
+                yield self.lines[-1]
         finally:
             late.cancel()
-        raise AssertionError(f"no {pattern} in {self.lines}")
 
     def type(self, line: str) -> None:
         """Types a line."""
@@ -105,8 +140,8 @@ class Going:
 
     def ends(self) -> int:
         """Reads to the end, and gives the status."""
-        assert self.process.stdout is not None
-        self.lines += [line.rstrip("\n") for line in self.process.stdout]
+        for _ in self.read():
+            pass
         return self.process.wait(LIMIT)
 
     def server(self) -> int:
@@ -150,7 +185,11 @@ class InTerminal:
             self.text += os.read(self.ours, 4096)
 
     def type(self, line: bytes, wanted: bytes) -> None:
-        """Types a line, and reads until that was written."""
+        """Types a line where lines are edited, which isn't so for a moment after another one, and reads until that was written."""
+        end = time.monotonic() + LIMIT
+        while termios.tcgetattr(self.ours)[3] & termios.ICANON:
+            assert time.monotonic() < end, self.text
+            time.sleep(0.01)
         os.write(self.ours, line)
         self.until(wanted)
 
@@ -171,7 +210,8 @@ class Cycle(InRoom):
     def slip(self, port: int, name: str) -> Path:
         """A student's slip."""
         nodes = ",".join(map(str, read(CYCLE).nodes_of(name)))
-        return self.file(f"{name}-{port}.slip", f"port {port}\nname {name}\nkey {KEYS[name]}\nnodes {nodes}\n")
+        made = self.room / f"{name}-{port}.slip"  # Who was given it before may still be about to read it.
+        return made if made.exists() else self.file(made.name, f"port {port}\nname {name}\nkey {KEYS[name]}\nnodes {nodes}\n")
 
     def whole(self, folder: Path) -> int:
         """Wants a finished folder, which nobody else reads; gives the number of its events."""

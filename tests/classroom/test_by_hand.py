@@ -4,7 +4,6 @@ from __future__ import annotations
 import http.client
 import json
 import os
-import random
 import re
 import signal
 import socket
@@ -23,7 +22,7 @@ from classroom.by_hand import Hands, open_hands
 from classroom.client import Client
 from classroom.lab import read
 from tests.classroom.browser import browser, pale, show_as, until
-from tests.classroom.help import CYCLE, KEYS, LIMIT, Going, InRoom
+from tests.classroom.help import CYCLE, KEYS, LIMIT, Going, InRoom, a_port
 from tests.classroom.test_page import hashed
 from tests.classroom.test_shown import PHONE, resize
 
@@ -55,7 +54,7 @@ class Playing(InRoom):
 
     def begin(self, lab: Path = CYCLE, *more: str) -> None:
         """Starts a run whose steps are closed by hand."""
-        self.going = Going(self, lab, "--close", "by-hand", "--play", str(random.randint(20000, 50000)), *more)
+        self.going = Going(self, lab, "--close", "by-hand", "--play", str(a_port()), *more)
         self.address = self.going.until("^page to play http").removeprefix("page to play ")
 
     def open(self, more: str = "") -> None:
@@ -219,6 +218,7 @@ class Playing(InRoom):
         self.come()
         self.is_told("busy: all seats are taken; come again later")
         other.bye()
+        self.seats("0 of 1 seats: nobody")
         self.come()
         self.is_in()
         self.assertEqual(self.press(4, "update"), "configuration 0, update: granted, at place 1; it is applied when the step closes")
@@ -269,7 +269,7 @@ class Wire(InRoom):
         return rows
 
     def test_nothing_hidden_and_no_key_came_over_the_wire(self) -> None:
-        going = Going(self, CYCLE, "--close", "by-hand", "--play", str(random.randint(20000, 50000)))
+        going = Going(self, CYCLE, "--close", "by-hand", "--play", str(a_port()))
         address = going.until("^page to play http").removeprefix("page to play ")
         _, page = self.ask(address, "GET", "/")
         rows = self.enter(address, "gus", KEYS["gus"])
@@ -302,7 +302,7 @@ class Wire(InRoom):
         self.assertNotIn(token.encode(), page + replies)
 
     def test_a_run_that_goes_on_serves_it_again(self) -> None:
-        with socket.create_server(("127.0.0.1", 0)) as taken:  # The page is at the next port, and stays there.
+        with socket.create_server(("127.0.0.1", a_port())) as taken:  # The page is at the next port, and stays there.
             going = Going(self, CYCLE, "--close", "by-hand", "--play", str(taken.getsockname()[1]))
             page = going.until("^page to play http").removeprefix("page to play ")
         rows = self.enter(page, "gus", KEYS["gus"])
@@ -467,7 +467,7 @@ class Host:
 @contextmanager
 def served(test: unittest.TestCase) -> Iterator[Hands]:
     """Pages over the cycle, whose server isn't there yet."""
-    hands = open_hands(random.randint(20000, 50000), "cycle", read(CYCLE))
+    hands = open_hands(a_port(), "cycle", read(CYCLE))
     hands.show(1, print)
     try:
         yield hands

@@ -4,7 +4,6 @@ from __future__ import annotations
 import contextlib
 import io
 import os
-import random
 import re
 import resource
 import signal
@@ -29,7 +28,7 @@ from classroom.printable import printable
 from classroom.program import host
 from classroom.teller import Teller
 from classroom.typed import FORMS, NOW, Terminal, Typed, understood
-from tests.classroom.help import CYCLE, EXAMPLES, KEYS, LIMIT, Cycle, Going, InRoom, InTerminal, stop, words
+from tests.classroom.help import CYCLE, EXAMPLES, KEYS, LIMIT, Cycle, Going, InRoom, InTerminal, a_port, stop, words
 
 
 class Forms(unittest.TestCase):
@@ -141,7 +140,7 @@ class Words(Cycle):
         with process.stdout:
             for line in process.stdout:
                 told.append(line)
-                if sum(": page http" in each for each in told) == 2 and line.count(": page "):
+                if ": page http" in line and sum(": page http" in each for each in told) == 2:
                     process.stdin.write("2: fault 1 null true\n9: close\n")
                 if "lab-2: configuration 1: fault 1 - true" in line:
                     process.stdin.write("end\nend\n")
@@ -174,13 +173,17 @@ class Late(Cycle):
         it = server.start(self.room, CYCLE, 29000, self.room / "journal")
         self.addCleanup(lambda: it.ended() or it.stop())
         lines: list[str] = []
-        desk = Desk(lab, self.room / "journal", Client(it.desk, *lab.teacher, limit=0.5), Daemon("by-hand"), lines.append)
+        desk = Desk(lab, self.room / "journal", Client(it.desk, *lab.teacher), Daemon("by-hand"), lines.append)
         typed, found = Typed(), []
         room = Room(self.room)
         self.addCleanup(room.close)
         holding = threading.Thread(target=lambda: found.append(attend(desk, it, False, typed, room, lambda: None)))
-        holding.start()
         stop(it.process.number)
+        desk.client.limit = 0.5  # The connection that is made again has more: what is slow isn't late.
+        patient = unittest.mock.patch("classroom.desk.Client", lambda port, name, key, limit: Client(port, name, key))
+        patient.start()
+        self.addCleanup(patient.stop)
+        holding.start()
         typed.put("fault 1 2 true")
         self.until(lambda: any(line.startswith("the desk: no answer in 0.5 seconds") for line in lines))
         os.kill(it.process.number, signal.SIGCONT)
@@ -220,7 +223,7 @@ class Late(Cycle):
             with told.open("w", encoding="utf-8") as it:
                 run = subprocess.Popen(
                     [sys.executable, EXAMPLES.parent / "class", "run", CYCLE, "--close", "by-hand", "--into", self.room / "runs", "--beside",
-                     "--port", str(random.randint(20000, 50000)), "--page", str(random.randint(20000, 50000)), *more],
+                     "--port", str(a_port()), "--page", str(a_port()), *more],
                     stdin=subprocess.DEVNULL, stdout=it, stderr=it,
                 )
             try:
@@ -236,7 +239,7 @@ class Late(Cycle):
             self.assertEqual(text.count("http://"), 1, text)
 
     def test_the_address_to_look_at_stays_and_where_it_acts_does_not(self) -> None:
-        going = Going(self, CYCLE, "--close", "by-hand", "--page", str(random.randint(20000, 50000)))
+        going = Going(self, CYCLE, "--close", "by-hand", "--page", str(a_port()))
         looks, acts = (going.until(f"^{word} http").removeprefix(f"{word} ") for word in ("page", "page to act"))
         os.kill(going.server(), signal.SIGKILL)
         self.assertEqual(going.ends(), 4, going.lines)

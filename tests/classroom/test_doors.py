@@ -3,7 +3,6 @@ from __future__ import annotations
 
 import http.client
 import queue
-import random
 import select
 import socket
 import threading
@@ -17,7 +16,7 @@ from classroom.lab import read
 from classroom.projector import open_pages
 from classroom.watch import Present
 from classroom.web import ASKING, CONNECTIONS, Web
-from tests.classroom.help import CYCLE, LIMIT
+from tests.classroom.help import CYCLE, LIMIT, a_port
 
 
 class Doors(unittest.TestCase):
@@ -27,7 +26,7 @@ class Doors(unittest.TestCase):
 
     def setUp(self) -> None:
         self.threads = threading.active_count()
-        self.port = self.opened(random.randint(20000, 50000)).server_port
+        self.port = self.opened(a_port()).server_port
 
     def opened(self, port: int) -> Web:
         """The page for the projector."""

@@ -102,21 +102,21 @@ class Disks(InRoom):
 class AtHome(InRoom):
     """Programs that misbehave while a student practises."""
 
-    def practises(self, bot: str, **environment: str) -> str:
-        """What is told of a bot that hangs or ends."""
-        done = words("practise", bot, "--family", "path", "--nodes", "3", "--start", "clean", "--daemon", "synchronous", "--timeout", "3",
-                     "--into", self.room / "runs", **environment)
+    def practises(self, bot: str, seconds: str = "3") -> str:
+        """What is told of a bot that hangs or ends; one that does something before has more seconds."""
+        done = words("practise", bot, "--family", "path", "--nodes", "3", "--start", "clean", "--daemon", "synchronous", "--timeout", seconds,
+                     "--into", self.room / "runs")
         self.assertEqual(done.returncode, 5, done.stdout + done.stderr)
         self.assertRegex(done.stdout, r"(?m)^page: .*/run.html; what was said: .*/conversation.txt$")
         return done.stdout
 
     def test_bytes_replies_and_silence(self) -> None:
-        self.assertIn("\nyou: malformed: not UTF-8 at byte 1: \\x80\\x81", self.practises(f"python3 {FAULTY} binary"))
+        self.assertIn("\nyou: malformed: not UTF-8 at byte 1: \\x80\\x81", self.practises(f"python3 {FAULTY} binary", "15"))
         self.assertRegex(self.practises(f"python3 {FAULTY} pretends"), r"(?m)^it hangs: the class waits for 1 \(")
         self.assertRegex(self.practises(f"python3 {FAULTY} hangs"), r"(?m)^it hangs: the class waits for 1 \(")
 
     def test_nothing_stays_of_what_it_started(self) -> None:
-        told = self.practises(f"python3 {FAULTY} forks")
+        told = self.practises(f"python3 {FAULTY} forks", str(LIMIT))
         self.assertIn("\nyou: the program has ended, status 0\n", told)
         end = time.monotonic() + LIMIT
         while any(SLEEP in cmdline(each) for each in Path("/proc").iterdir()):

@@ -72,6 +72,14 @@ def left_behind() -> list[str]:
     return found
 
 
+def nothing_left(test: unittest.TestCase) -> None:
+    """Wants that nothing goes on which a bot started. Other tests beside this one have such bots, for a moment."""
+    end = time.monotonic() + LIMIT
+    while left := left_behind():
+        test.assertLess(time.monotonic(), end, left)
+        time.sleep(0.05)
+
+
 class Faults(InRoom):
     """Bots of known faults."""
 
@@ -82,7 +90,7 @@ class Faults(InRoom):
             result = going[fault].result()
             self.assertFalse(result.passed, fault)
             self.assertRegex(result.why, why, fault)
-        self.assertEqual(left_behind(), [])
+        nothing_left(self)
 
     def test_a_right_bot_passes_the_same_cases(self) -> None:
         plans = sorted({plan for plan, _ in OWN.values()})
@@ -213,7 +221,7 @@ class Calls(InRoom):
         self.assertEqual(going.wait(LIMIT), 4, lines)
         self.assertIn("interrupted: 12 of 24 cases\n", lines)
         self.assertEqual(len(json.loads(table.read_text(encoding="utf-8"))), 12)
-        self.nothing_left()
+        nothing_left(self)
 
     def test_a_grade_that_is_killed_leaves_nothing_running(self) -> None:
         going = subprocess.Popen([sys.executable, TOP / "class", "grade", f"python3 {FAULTY} leaves", "--into", self.room / "grades"],
@@ -222,14 +230,7 @@ class Calls(InRoom):
             time.sleep(0.05)
         going.kill()
         going.wait(LIMIT)
-        self.nothing_left()
-
-    def nothing_left(self) -> None:
-        """Wants that nothing goes on which a bot started."""
-        end = time.monotonic() + LIMIT
-        while left_behind():
-            self.assertLess(time.monotonic(), end)
-            time.sleep(0.05)
+        nothing_left(self)
 
 
 if __name__ == "__main__":

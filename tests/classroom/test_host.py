@@ -66,9 +66,9 @@ class Hosted(Cycle):
         gus = self.bot(going, "gus")
         going.until("^connected: gus$")
         self.bot(going, "hana")
-        going.until("^all seats are taken: who comes now is told so; who tells whose they are$")
+        going.until_each("^connected: hana$", "^all seats are taken: who comes now is told so; who tells whose they are$")
         going.type("who")
-        self.assertRegex(going.until("^connected: 2 "), "^connected: 2 of 2 seats: gus, (hana|1 without a name)$")
+        going.until("^connected: 2 of 2 seats: gus, hana$")
         for _ in range(3):
             with self.assertRaises(Refused) as refused:
                 Client(going.port, "ines", KEYS["ines"])

@@ -4,7 +4,6 @@ from __future__ import annotations
 import os
 import shutil
 import signal
-import socket
 import subprocess
 import sys
 import tempfile
@@ -13,7 +12,7 @@ import unittest
 from functools import cache
 from pathlib import Path
 
-from tests.classroom.help import CYCLE, EXAMPLES, LIMIT, Cycle, Going, InRoom, words
+from tests.classroom.help import CYCLE, EXAMPLES, LIMIT, Cycle, Going, InRoom, no_server, words
 
 Command = tuple[str | Path, ...]
 COMPILERS = {"bot.c": ("cc", "-Wall", "-Wextra", "-Werror", "-O1"), "bot.rs": ("rustc", "--edition", "2021", "-D", "warnings", "-O")}
@@ -68,8 +67,7 @@ class Bots(Cycle):
         going = Going(self, CYCLE, "--close", "by-hand")
         good = self.slip(going.port, "gus")
         slip = good.read_text(encoding="utf-8")
-        with socket.create_server(("127.0.0.1", 0)) as free:
-            none = free.getsockname()[1]
+        none = self.enterContext(no_server())
         for name, command in bots().items():
             for status, text in ((1, ""), (1, slip.replace("nodes 1", "nodes x")), (2, slip.replace("key ", "key \\\"")),
                                  (3, slip.replace("nodes 1", "nodes 2")), (4, slip.replace(f"port {going.port}", f"port {none}"))):

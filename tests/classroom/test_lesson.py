@@ -4,7 +4,6 @@ from __future__ import annotations
 import csv
 import io
 import os
-import random
 import re
 import signal
 import subprocess
@@ -17,7 +16,7 @@ from pathlib import Path
 from classroom.folders import Process, Record
 from classroom.lab import Lab, read
 from classroom.program import TOP, call, host
-from tests.classroom.help import CLASS, LIMIT, Going, InRoom, InTerminal, words
+from tests.classroom.help import CLASS, LIMIT, Going, InRoom, InTerminal, a_port, words
 
 BOT = TOP / "examples/bot.py"
 NAMES = ("Zoë,Müller", "Jonas,Ek", "Ana,Lima", "Gus,Roy", "Ida,Berg", "Tim,Ode", "Eva,Sol", "Bo,Dahl", "Kim,Vo", "Pia,Rot", "Leo,Wolf", "Uma,Das")
@@ -31,7 +30,7 @@ class Lesson(InRoom):
     def setUp(self) -> None:
         super().setUp()
         self.list = self.file("names.csv", "First name,Surname,ID number\n" + "".join(f"{name},{number}\n" for number, name in enumerate(NAMES, 101)))
-        self.file_of_lab, self.port = self.room / "maths.toml", random.randint(20000, 50000)
+        self.file_of_lab, self.port = self.room / "maths.toml", a_port()
         made = words("new", self.file_of_lab, "--students", self.list, "--family", "grid:4x3", "--start", "hurt", "--port", str(self.port))
         self.assertEqual(made.returncode, 0, made.stderr)
         self.assertEqual(words("check", self.file_of_lab).returncode, 0)

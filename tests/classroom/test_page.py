@@ -5,7 +5,6 @@ import base64
 import hashlib
 import http.client
 import json
-import random
 import re
 import socket
 import unittest
@@ -19,7 +18,7 @@ from classroom.client import Client
 from classroom.frames import frames_of
 from classroom.lab import read
 from tests.classroom.browser import Shown, browser, is_ready, pale, press, show_as, shown, told, until
-from tests.classroom.help import EXAMPLES, Going, InRoom
+from tests.classroom.help import EXAMPLES, Going, InRoom, a_port
 
 CYCLE = EXAMPLES / "cycle.toml"
 
@@ -34,7 +33,7 @@ class Live(InRoom):
 
     def begin(self, *more: str) -> None:
         """Starts a run with a page, whose steps are closed by hand, and opens it."""
-        port = str(random.randint(20000, 50000))
+        port = str(a_port())
         self.going = Going(self, CYCLE, "--close", "by-hand", "--page", port, *more)
         self.looks = self.going.until("^page http").removeprefix("page ")
         self.address = self.going.until("^page to act http").removeprefix("page to act ")

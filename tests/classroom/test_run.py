@@ -10,7 +10,7 @@ import unittest
 from pathlib import Path
 
 from classroom.client import Client, Closed, Denied, Refused
-from tests.classroom.help import CYCLE, EXAMPLES, KEYS, LIMIT, Cycle, Going, words
+from tests.classroom.help import CYCLE, EXAMPLES, KEYS, LIMIT, Cycle, Going, no_server, words
 
 
 class Run(Cycle):
@@ -115,9 +115,7 @@ class Run(Cycle):
         self.assertIn("2 events, configuration 1", words("mark", going.folder).stdout)
 
     def test_no_server(self) -> None:
-        with socket.create_server(("127.0.0.1", 0)) as free:
-            port = free.getsockname()[1]
-        with self.assertRaises(Closed):
+        with no_server() as port, self.assertRaises(Closed):
             Client(port, "gus", "key")
 
     def test_a_silent_server(self) -> None:

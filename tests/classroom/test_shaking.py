@@ -2,7 +2,6 @@
 from __future__ import annotations
 
 import os
-import random
 import re
 import unittest
 from typing import Any
@@ -14,7 +13,7 @@ from classroom.lab import read
 from classroom.program import host
 from classroom.shaking import broken
 from tests.classroom.browser import browser, is_ready, shown, until
-from tests.classroom.help import CYCLE, KEYS, Cycle, Going, words
+from tests.classroom.help import CYCLE, KEYS, Cycle, Going, a_port, words
 
 
 class Counted(unittest.TestCase):
@@ -79,7 +78,7 @@ class ByThePage(Cycle):
 
     def test_shake_and_break(self) -> None:
         driver: Any = browser()
-        going = Going(self, CYCLE, "--daemon", "synchronous", "--page", str(random.randint(20000, 50000)))
+        going = Going(self, CYCLE, "--daemon", "synchronous", "--page", str(a_port()))
         looks = going.until("^page http").removeprefix("page ")
         driver.get(going.until("^page to act http").removeprefix("page to act "))
         until(driver, is_ready)

@@ -1,7 +1,6 @@
 """What pages show and where: each text as the program replies, on a phone and on a projector, and nothing upon another."""
 from __future__ import annotations
 
-import random
 import unittest
 from itertools import combinations
 from pathlib import Path
@@ -12,7 +11,7 @@ from selenium.webdriver.common.keys import Keys
 from classroom.client import Client, Denied
 from classroom.lab import read
 from tests.classroom.browser import Played, browser, is_ready, press, until
-from tests.classroom.help import CYCLE, Going, InRoom, words
+from tests.classroom.help import CYCLE, Going, InRoom, a_port, words
 
 PHONE, LAPTOP, PROJECTOR = (390, 844), (1280, 720), (1920, 1080)
 TEXTS = ("place", "number", "privileged", "pairs", "open", "moves", "since", "stable", "closing", "event")
@@ -83,7 +82,7 @@ class Told(InRoom):
         self.driver: Any = browser()
         self.addCleanup(resize, self.driver, None)
         self.lab = read(CYCLE)
-        self.going = Going(self, CYCLE, "--close", "by-hand", "--page", str(random.randint(20000, 50000)))
+        self.going = Going(self, CYCLE, "--close", "by-hand", "--page", str(a_port()))
         self.driver.get(self.going.until("^page http").removeprefix("page "))
         until(self.driver, is_ready)
         self.teacher = self.client(*self.lab.teacher)
@@ -219,7 +218,7 @@ class Sizes(Played):
 
     def test_on_phone_laptop_and_projector(self) -> None:
         lab = self.lab(1, "--family", "random:14:22")
-        port = random.randint(20000, 50000)
+        port = a_port()
         test = InRoom()
         test.room = self.room
         going = Going(test, lab, "--close", "by-hand", "--page", str(port))
@@ -263,10 +262,8 @@ class Sizes(Played):
         before = self.driver.execute_script(SIZES)["scale"]
         press(self.driver, "f")
         until(self.driver, lambda driver: driver.execute_script("return document.fullscreenElement !== null"))
-        found = self.driver.execute_script(SIZES)
-        inner: list[int] = self.driver.execute_script("return [innerWidth, innerHeight]")
-        self.assertEqual(found["picture"], [0, 0, *inner])
-        self.assertGreater(found["scale"], before)
+        until(self.driver, lambda driver: driver.execute_script(SIZES)["picture"] == [0, 0, *driver.execute_script("return [innerWidth, innerHeight]")])
+        self.assertGreater(self.driver.execute_script(SIZES)["scale"], before)
         press(self.driver, "f")
         until(self.driver, lambda driver: driver.execute_script("return document.fullscreenElement === null"))
         press(self.driver, Keys.ESCAPE)

@@ -16,7 +16,7 @@ from classroom.answering import Answering
 from classroom.client import LAST, Client, NoServer, NoSlip, Slip, wrong
 from classroom.lab import read
 from classroom.program import host
-from tests.classroom.help import CYCLE, EXAMPLES, KEYS, LIMIT, Cycle, Going, InRoom, words
+from tests.classroom.help import CYCLE, EXAMPLES, KEYS, LIMIT, Cycle, Going, InRoom, no_server, words
 
 TOP = EXAMPLES.parent
 BOT, TEACHER = (sys.executable, EXAMPLES / "bot.py"), (sys.executable, EXAMPLES / "teacher.py")
@@ -163,8 +163,7 @@ class Fake(InRoom):
         return port
 
     def test_the_port_of_another_program_and_of_none(self) -> None:
-        with socket.create_server(("127.0.0.1", 0)) as free:
-            none = free.getsockname()[1]
+        none = self.enterContext(no_server())
         for command in (*BOTS, BY_HAND):
             said = call(*command, self.slip(none))
             self.assertEqual((said.returncode, said.stdout), (4, ""), said.stderr)

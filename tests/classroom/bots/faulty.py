@@ -84,15 +84,14 @@ def floods(me: Client, look: Look) -> None:
 
 
 def ignores_faults() -> None:
-    """It believes itself done where there was nothing to ask for a while."""
-    since = time.monotonic()
+    """It believes itself done where its nodes are married."""
     with Client.of(SLIP) as me:
-        while time.monotonic() - since < 0.5:
-            for node in SLIP.nodes:
-                look = me.look(node)
-                since = time.monotonic() if look.rule else since
+        looks = [me.look(node) for node in SLIP.nodes]
+        while any(look.rule or not look.m for look in looks):
+            for look in looks:
                 right(me, look)
             time.sleep(PAUSE)
+            looks = [me.look(node) for node in SLIP.nodes]
         while True:
             me.look(SLIP.nodes[0])
             time.sleep(PAUSE)
