@@ -96,8 +96,10 @@ class Sharing(unittest.TestCase):
         for processors in (1, 2, 4):
             with tempfile.TemporaryDirectory() as folder:
                 log = Path(folder) / "log"
-                line = f'echo "begin $0" >> {log}; sleep 0.3; echo "end $0" >> {log}; echo 1 call'
-                parts = [Part(name, (*SHELL, line, name), 1, 1, width) for name, width in (("a", 1), ("w", ALL), ("b", 1), ("c", 2))]
+                waits = f'for _ in $(seq 3000); do [ "$(grep -c "begin [abc]" {log})" -lt 3 ] || break; sleep 0.1; done'
+                line = f'echo "begin $0" >> {log}; sleep 0.3; %s; echo "end $0" >> {log}; echo 1 call'
+                parts = [Part(name, (*SHELL, line % (waits if processors == 4 and width < ALL else ":"), name), 1, 1, width)
+                         for name, width in (("a", 1), ("w", ALL), ("b", 1), ("c", 2))]
                 ended = [it.part.name for it in Crew(Path(folder), processors).run(parts)]
                 self.assertEqual(sorted(ended), ["a", "b", "c", "w"])
                 lines = log.read_text(encoding="utf-8").splitlines()

@@ -13,7 +13,7 @@ import unittest
 from collections import Counter
 from pathlib import Path
 
-from classroom.client import Client, Closed, Denied, Refused, Slip
+from classroom.client import Client, Closed, Denied, Refused, Slip, enter
 from classroom.folders import Process
 from classroom.lab import Node, read
 from classroom.program import call, host
@@ -38,7 +38,7 @@ class Players:
         clients: dict[str, Client] = {}
         try:
             for name, key in [*KEYS.items(), lab.teacher]:
-                clients[name] = Client(self.port, name, key)
+                clients[name] = enter(Slip(self.port, name, key, ()))
             while not self.over.is_set():
                 self.turn(lab.nodes, clients, clients[lab.teacher[0]])
         except Closed:

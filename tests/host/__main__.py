@@ -135,7 +135,8 @@ def connect_and_close(room: Path) -> None:
         while (held[-1] - held[-2]) * 50 > held[-1] and len(held) < 30:
             loop = threading.Thread(target=knocks, args=[host.port, 2000])
             loop.start()
-            while loop.is_alive():
+            most = turns + 10  # A slow machine's loop takes longer, and a script has a megabyte at most.
+            while loop.is_alive() and turns < most:
                 goes_on(talk, student, teacher, turns)
                 turns += 1
             loop.join()
