@@ -431,9 +431,9 @@ def ten_minutes(room: Path) -> None:
         student, waits = Caller(host.port), list[float]()
         for piece in (hello("ana"), look("ana"), look("ana"), b" ", b" "):
             waits.append(next_wait(library, student, piece))
-            time.sleep(2)
-        # Where a line's time isn't its own two seconds are missing, and where it begins anew with bytes they are there.
-        if any(not 598.1 < wait <= 600 for wait in waits[:3]) or not 500 < waits[3] <= 598 or not 500 < waits[4] <= 596:
+            time.sleep(5)
+        # Where a line's time isn't its own five seconds are missing, and where it begins anew with bytes they are there.
+        if any(not 595.1 < wait <= 600 for wait in waits[:3]) or not 500 < waits[3] <= 595 or not 500 < waits[4] <= 590:
             fail(f"outsiders: a student's lines have {waits} seconds")
         teacher = Caller(host.desk)
         if next_wait(library, teacher, hello("tess")) != 0:
