@@ -439,7 +439,7 @@ def enter(slip: Slip, patience: float = 60.0) -> Client:
         time.sleep(1)
 
 
-def again(slip: Slip, lost: Closed, patience: float = 60.0) -> Client:
+def again(slip: Slip, lost: Closed | Refused, patience: float = 60.0) -> Client:
     """Greets again where a connection was lost, each second, for so many seconds, whether a seat is lacking or a server;
     raises what was lost where that is in vain, or the class is over."""
     end = time.monotonic() + patience

@@ -30,7 +30,7 @@ async function connect(port) {
   socket.on("close", () => input.close());
   return async (request) => {
     socket.write(JSON.stringify(request) + "\n");
-    const line = await lines.next();
+    const line = await lines.next().catch(() => ({ done: true })); // It may have been reset.
     if (line.done) throw LOST;
     if (!line.value.startsWith("{")) stop(4, `at port ${port} is another program; your teacher tells the port`);
     const reply = JSON.parse(line.value);

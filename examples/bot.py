@@ -39,7 +39,9 @@ def play(words: list[str]) -> None:
         try:
             with me:
                 return ask(me, slip.nodes, patience)
-        except Closed as lost:
+        except (Closed, Refused) as lost:
+            if isinstance(lost, Refused) and lost.word != "busy":  # Which is told to who leaves for a newcomer, too.
+                raise
             me = again(slip, lost)
 
 

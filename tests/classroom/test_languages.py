@@ -4,6 +4,8 @@ from __future__ import annotations
 import os
 import shutil
 import signal
+import socket
+import struct
 import subprocess
 import sys
 import tempfile
@@ -114,6 +116,29 @@ class Bots(Cycle):
         self.assertEqual(going.ends(), 4, going.lines)
         self.are_ended(playing, 7, "the connection was lost: start again")
         self.assertGreater(time.monotonic() - begun, 55)
+
+
+class Reset(InRoom):
+    """A server that resets a connection in the place of an answer, as the system does for one that was killed."""
+
+    def test_they_come_again(self) -> None:
+        every: dict[str, Command] = {"bot.py": (sys.executable, EXAMPLES / "bot.py"), **bots()}
+        for name, command in every.items():
+            with self.subTest(name), socket.create_server(("127.0.0.1", 0)) as listener:
+                listener.settimeout(LIMIT)
+                slip = self.file("gus.slip", f"port {listener.getsockname()[1]}\nname gus\nkey heron\nnodes 1\n")
+                bot = subprocess.Popen([*command, slip], stdin=subprocess.DEVNULL, stdout=subprocess.DEVNULL, stderr=subprocess.PIPE, text=True)
+                self.addCleanup(bot.kill)
+                for is_reset in (True, False):
+                    its, _ = listener.accept()
+                    with its, its.makefile("rb") as lines:
+                        lines.readline()
+                        its.sendall(b'{"ok":"hello","who":"gus"}\n')
+                        lines.readline()
+                        its.setsockopt(socket.SOL_SOCKET, socket.SO_LINGER, struct.pack("ii", is_reset, 0))
+                        its.sendall(b"" if is_reset else b'{"refuse":"over"}\n')
+                said = bot.communicate(timeout=LIMIT)[1]
+                self.assertEqual((bot.returncode, said.partition(": ")[2]), (0, "the run is over\n"), said)
 
 
 class Graded(InRoom):

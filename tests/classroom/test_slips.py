@@ -146,17 +146,18 @@ class Fake(InRoom):
         """A slip for that port."""
         return self.file(f"{port}.slip", f"port {port}\nname gus\nkey heron\nnodes 1\n")
 
-    def talks(self, *replies: bytes) -> int:
-        """Answers each line of one connection by the next of these, hangs up, and gives the port."""
+    def talks(self, *replies: bytes, then: tuple[bytes, ...] = ()) -> int:
+        """Answers each line of one connection by the next of these, hangs up, and gives the port; `then` are those of a second one."""
         listener = socket.create_server(("127.0.0.1", 0))
         self.addCleanup(listener.close)
 
         def serve() -> None:
-            connection, _ = listener.accept()
-            with connection, connection.makefile("rb") as lines:
-                for reply in replies:
-                    lines.readline()
-                    connection.sendall(reply + b"\n")
+            for answers in (replies, then) if then else (replies,):
+                connection, _ = listener.accept()
+                with connection, connection.makefile("rb") as lines:
+                    for reply in answers:
+                        lines.readline()
+                        connection.sendall(reply + b"\n")
 
         threading.Thread(target=serve, daemon=True).start()
         port: int = listener.getsockname()[1]
@@ -187,6 +188,13 @@ class Fake(InRoom):
             said = call(*command, self.slip(self.talks(b'{"ok":"hello","who":"gus"}', memory, LOOK, memory, LOOK, full)))
             self.assertEqual(said.returncode, 6, said.stdout + said.stderr)
             self.assertRegex(said.stderr, r"^\w+(\.py)?: nothing is granted any longer: tell your teacher\n$")
+
+    def test_who_leaves_for_a_newcomer_comes_again(self) -> None:
+        hello = b'{"ok":"hello","who":"gus"}'
+        for command in BOTS:
+            said = call(*command, self.slip(self.talks(hello, LOOK, b'{"refuse":"busy"}', then=(hello, b'{"refuse":"over"}'))))
+            self.assertEqual(said.returncode, 0, said.stdout + said.stderr)
+            self.assertRegex(said.stderr, r"^\w+(\.py)?: the run is over\n$")
 
     def test_a_bot_whose_lines_nobody_reads(self) -> None:
         port = self.talks(b'{"ok":"hello","who":"gus"}', LOOK, b'{"at":0,"node":1,"ok":"move","place":1,"rule":"update"}')
