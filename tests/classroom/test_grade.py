@@ -12,10 +12,11 @@ import tempfile
 import threading
 import time
 import unittest
+import unittest.mock
 from pathlib import Path
 from xml.etree import ElementTree
 
-from classroom import suites
+from classroom import suites, trial
 from classroom.bots import Bot
 from classroom.daemons import Daemon
 from classroom.program import TOP, call
@@ -84,7 +85,8 @@ class Faults(InRoom):
     """Bots of known faults."""
 
     def test_each_fails_the_case_that_is_its_own(self) -> None:
-        with concurrent.futures.ThreadPoolExecutor(len(OWN)) as pool:
+        # What is at rest is watched for longer, since a slow machine may halt a bot for a while.
+        with unittest.mock.patch.object(trial, "QUIET", 3.0), concurrent.futures.ThreadPoolExecutor(len(OWN)) as pool:
             going = {fault: pool.submit(case, faulty(fault), plan, Limits(SECONDS, 200), self.room) for fault, (plan, _) in OWN.items()}
         for fault, (_, why) in OWN.items():
             result = going[fault].result()

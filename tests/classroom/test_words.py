@@ -1,6 +1,7 @@
 """The words of `./class`: each with its help and an example, completed by bash, and those that need no run."""
 from __future__ import annotations
 
+import os
 import re
 import shutil
 import subprocess
@@ -85,6 +86,7 @@ class Release(InRoom):
             self.file(f"bin/{name}", "#!/bin/sh\necho started\nexit 1\n").chmod(0o755)
         lab = TOP / "examples/cycle.toml"
         asked: tuple[list[str | Path], ...] = (["run", lab], ["demo"], ["check", lab], ["mark", lab, lab], ["practise"])
+        own = {name: value for name, value in os.environ.items() if name not in ("MML_PROGRAM", "MML_HOST")}
         for wanted, here in (("2.999", r"2\.\d+"), ("3.0", r"2\.\d+")):
             self.file("PROVED", f"# Cenduwa 1.0.0\n# wants glibc {wanted}\n# The files:\n")
             line = f"this release wants the GNU C library {re.escape(wanted)} or later, and here is {here}: Debian 12 has 2.36\n"
@@ -93,7 +95,7 @@ class Release(InRoom):
             self.assertRegex(said.stderr, f"^mml: {line}$")
             for given in asked:
                 done = subprocess.run([sys.executable, self.room / "class", *given], cwd=self.room, stdin=subprocess.DEVNULL,
-                                      capture_output=True, text=True, check=False, timeout=LIMIT)
+                                      capture_output=True, text=True, check=False, timeout=LIMIT, env=own)
                 self.assertEqual((done.returncode, done.stdout), (4, ""), given)
                 self.assertRegex(done.stderr, f"^class: (\\S+: )?{line}$", given)
             self.assertFalse((self.room / "runs").exists())

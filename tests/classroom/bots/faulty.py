@@ -19,13 +19,15 @@ PAUSE = 0.05
 SLEEP = "98765.25"  # what is left behind is known by it
 
 
-def ask(me: Client, look: Look) -> None:
-    """Asks as a right bot does."""
+def ask(me: Client, look: Look) -> bool:
+    """Asks as a right bot does; whether it was granted."""
     try:
         me.move(look)
     except Denied as denied:
         if denied.name not in ("stale", "chosen"):
             raise
+        return False
+    return True
 
 
 def loop(wants: Callable[[Client, Look], None], pause: float = PAUSE) -> None:
@@ -84,14 +86,15 @@ def floods(me: Client, look: Look) -> None:
 
 
 def ignores_faults() -> None:
-    """It believes itself done where its nodes are married."""
+    """It believes itself done where each of its nodes was granted the move by which it says that it is married."""
+    left = set(SLIP.nodes)
     with Client.of(SLIP) as me:
-        looks = [me.look(node) for node in SLIP.nodes]
-        while any(look.rule or not look.m for look in looks):
-            for look in looks:
-                right(me, look)
+        while left:
+            for node in SLIP.nodes:
+                look = me.look(node)
+                if look.rule and not look.chosen and ask(me, look) and look.rule == "update" and not look.m:
+                    left.discard(node)
             time.sleep(PAUSE)
-            looks = [me.look(node) for node in SLIP.nodes]
         while True:
             me.look(SLIP.nodes[0])
             time.sleep(PAUSE)
