@@ -10,6 +10,10 @@ A wrong body is a file `crates/NAME/wrong/WHAT_IT_DOES.edit`:
 FUNCTION is a path below the crate, GOAL what the prover must leave open there; there may be several such
 lines. Each TEXT is one line, `old` stands exactly once in the file, and further pairs apply to what the
 earlier ones made. A pair of `proofs/` gives a part of the body its new name in an answer.
+
+A line `# round: 2` keeps an edit out of the first round. What stands between two functions that are edited in one
+round, being called by the one and calling the other, is proved there once more, and so is all that cites a constant
+that is edited there: so an edit of a constant, and of what stands above many others, is cheaper in a later round.
 """
 from __future__ import annotations
 
@@ -18,6 +22,7 @@ from dataclasses import dataclass
 from pathlib import Path
 
 MARK = "# refused:"
+ROUND = "# round:"
 
 
 class EditFault(Exception):
@@ -47,11 +52,12 @@ class Pair:
 
 @dataclass(frozen=True)
 class Edit:
-    """A wrong body, and where it is refused."""
+    """A wrong body, where it is refused, and the first round that it may be tried in."""
 
     name: str
     wanted: tuple[Refusal, ...]
     pairs: tuple[Pair, ...]
+    first: int = 1
 
     def functions(self) -> set[str]:
         """The functions that refuse it."""
@@ -78,15 +84,24 @@ def refusal_of(name: str, text: str) -> Refusal:
     return Refusal(*words)
 
 
+def round_of(name: str, text: str) -> int:
+    """The number of a round that isn't the first."""
+    if not text.strip().isdecimal() or int(text) < 2:
+        raise EditFault(f"{name}: not a line '{ROUND} NUMBER' of a later round than the first: {ROUND}{text}")
+    return int(text)
+
+
 def parse_edit(name: str, text: str) -> Edit:
     """The edit that a file's text spells."""
     wanted: list[Refusal] = []
     pairs: list[Pair] = []
-    file = old = ""
+    first, file, old = 1, "", ""
     for line in text.split("\n"):
         word, _, rest = line.partition(":")
         if word == MARK.rstrip(":"):
             wanted.append(refusal_of(name, rest))
+        elif word == ROUND.rstrip(":"):
+            first = round_of(name, rest)
         elif word == "file":
             file = rest.strip()
         elif word == "old":
@@ -100,7 +115,7 @@ def parse_edit(name: str, text: str) -> Edit:
         raise EditFault(f"{name}: no line '{MARK} FUNCTION GOAL'; with any goal there, this test says the right one")
     if not any(it.file.startswith("src/") for it in pairs) or old:
         raise EditFault(f"{name}: no whole pair of an 'old:' and a 'new:' line in a file of src/")
-    return Edit(name, tuple(wanted), tuple(pairs))
+    return Edit(name, tuple(wanted), tuple(pairs), first)
 
 
 def apply_edit(edit: Edit, texts: Mapping[str, str], folder: Path) -> dict[str, str]:
@@ -147,9 +162,9 @@ def joined(into: Round, edit: Edit, folder: Path) -> bool:
 
 
 def rounds_of(edits: Iterable[Edit], folder: Path) -> list[Round]:
-    """The rounds in which a crate's edits are tried: each edit in the first that takes it."""
+    """The rounds in which a crate's edits are tried: each edit in the first that takes it, of those that it may be in."""
     rounds: list[Round] = []
-    for edit in edits:
-        if not any(joined(it, edit, folder) for it in rounds):
+    for edit in sorted(edits, key=lambda it: it.first):
+        if not any(joined(it, edit, folder) for it in rounds[edit.first - 1 :]):
             rounds.append(Round([edit], apply_edit(edit, {}, folder)))
     return rounds

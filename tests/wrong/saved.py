@@ -35,7 +35,7 @@ def hand_on(library: Path, to: Path) -> None:
     listed, modules = (library / "toolchain" / it for it in ("checked.json", "checked.a"))
     if not (listed.is_file() and modules.is_file()):
         return
-    to.mkdir(parents=True)
+    to.mkdir(parents=True, exist_ok=True)
     try:
         with listed.open(encoding="utf-8") as lines, modules.open("rb") as all_of_them:
             for line in lines:

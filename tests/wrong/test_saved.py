@@ -47,6 +47,15 @@ class HandingOn(unittest.TestCase):
         hand_on(self.library, self.to)
         self.assertEqual({it.name: it.read_bytes() for it in self.to.iterdir()}, {"It.oantt": b"one", "It-proofs.f.oantt": b"\0two\n"})
 
+    def test_what_a_check_left(self) -> None:
+        """A module that a check saved since then gives way to the library's, and what the library lacks stays."""
+        write_library(self.library, {"It": b"one"})
+        hand_on(self.library, self.to)
+        (self.to / "It.oantt").write_bytes(b"two")
+        (self.to / "More.oantt").write_bytes(b"more")
+        hand_on(self.library, self.to)
+        self.assertEqual({it.name: it.read_bytes() for it in self.to.iterdir()}, {"It.oantt": b"one", "More.oantt": b"more"})
+
     def test_a_library_without_modules(self) -> None:
         """Nothing is handed on."""
         (self.library / "toolchain").mkdir(parents=True)

@@ -203,6 +203,7 @@ class Reading(unittest.TestCase):
             ("# refused: f g\nfile: src/lib.rt\nold: one\n", "no whole pair"),
             ("# refused: f g\nfile: proofs/f/Answers.antt\nold: one\nnew: 1\n", "no whole pair .* of src/"),
             ("# refused: f g\nfile: src/lib.rt\nold: one\nmore\nnew: 1\n", "a line that isn't read: more"),
+            ("# refused: f g\n# round: 1\nfile: src/lib.rt\nold: one\nnew: 1\n", "not a line '# round: NUMBER'"),
         ):
             with self.assertRaisesRegex(EditFault, said):
                 parse_edit("it.edit", text)
@@ -237,6 +238,17 @@ class Reading(unittest.TestCase):
         self.assertEqual(faults, [])
         self.assertEqual([[it.name for it in one.edits] for one in rounds], [["a.edit", "b.edit"], ["c.edit", "d.edit"]])
         self.assertEqual(rounds[0].texts, {"src/lib.rt": "1\ntwo\ntwo\n3\n"})
+
+    def test_a_later_round(self) -> None:
+        """An edit that is kept out of the first round is tried in the first of the later ones that takes it."""
+        self.write("a.edit", "# refused: f g", "# round: 2", "file: src/lib.rt", "old: one", "new: 1")
+        self.write("b.edit", "# refused: h g", "file: src/lib.rt", "old: three", "new: 3")
+        self.write("c.edit", "# refused: h k", "file: src/lib.rt", "old: three", "new: tree")
+        self.write("d.edit", "# refused: h l", "# round: 2", "file: src/lib.rt", "old: three", "new: thee")
+        edits, faults = read_edits(self.folder)
+        self.assertEqual((faults, [it.first for it in edits]), ([], [2, 1, 1, 2]))
+        rounds = rounds_of(edits, self.folder)
+        self.assertEqual([[it.name for it in one.edits] for one in rounds], [["b.edit"], ["c.edit", "a.edit"], ["d.edit"]])
 
     def test_the_list_of_crates(self) -> None:
         """Comments and words after a crate's name aren't crates that it uses."""

@@ -54,9 +54,10 @@ def try_crate(tree: Tree, crate: str, running: Running, logs: Path | None = None
         return tried
     with tempfile.TemporaryDirectory(prefix="mml-wrong-") as room:
         name = saved.result() if saved else ""
-        if name:
-            hand_on(tree.library(crate), Path(room) / "kept" / name)
         for it in rounds_of(edits, folder):
+            # (in each round: the one before left its wrong bodies there, and the right ones would be proved once more)
+            if name:
+                hand_on(tree.library(crate), Path(room) / "kept" / name)
             ended = try_round(tree, crate, it, Path(room), running)
             tried.checks += 1
             tried.seconds += ended.seconds
