@@ -27,7 +27,8 @@ FOLDERS = {
     "mml_program": ["program"],
     "mml_server": ["program", "hostile"],
     "mml_judging_program": ["tally", "record"],
-    "mml_host_program": ["host", "outsiders"],
+    "mml_ports": ["host", "outsiders"],
+    "mml_host_program": ["host", "resume"],
     "mml_host": ["host", "hostile"],
 }
 COLUMNS, WIDTH, HEIGHT, GAP, MARGIN = 4, 232, 44, 8, 16

@@ -4,6 +4,7 @@ ghost use Rattle.std.specs.Prelude.{◌≡◌, true, false};
 use mml_files::JournalFileFault;
 use mml_hosting::HostFault;
 use mml_ids::Memory;
+use mml_ports::ListenFault;
 use mml_program::Fault as ProgramFault;
 use mml_recording::RecordFault;
 use mml_resuming::ResumeFault;
@@ -78,6 +79,15 @@ impl From<ProgramFault> for Fault {
 impl From<JournalFileFault> for Fault {
     fn from(fault: JournalFileFault) -> Fault {
         Fault::Common(ProgramFault::from(fault))
+    }
+}
+
+impl From<ListenFault> for Fault {
+    fn from(fault: ListenFault) -> Fault {
+        match fault {
+            ListenFault::Refused => Fault::Listen,
+            ListenFault::Memory => Fault::Common(ProgramFault::Memory),
+        }
     }
 }
 

@@ -1,8 +1,6 @@
 //! The two ports of a class, which are taken before its journal is begun.
-use crate::fault::Fault;
 use crate::port::{EndBell, Port};
 use crate::state::HostState;
-use mml_program::Fault as ProgramFault;
 use std::alloc::Global;
 use std::io;
 use std::net::{Ipv4Addr, Net, SocketAddr, TcpListener, TcpStream};
@@ -12,6 +10,15 @@ use std::time::{Clock, Duration};
 /// How many seconds each line of a student's connection may take after the one before. At the desk it may
 /// take any time.
 pub const NEXT_LINE: u64 = 600;
+
+/// Why a port can't be listened on.
+#[derive(Clone, Copy, Debug, PartialEq, Eq)]
+pub enum ListenFault {
+    /// The system refuses it, or another listens there.
+    Refused,
+    /// A growth was refused.
+    Memory,
+}
 
 /// Two ports that were taken, with their numbers.
 #[derive(Drop)]
@@ -27,7 +34,7 @@ pub fn listen_at<R: Net<Listener = TcpListener, Stream = TcpStream>>(
     rt: &R,
     port: u16,
     desk: u16,
-) -> Result<Ports, Fault> {
+) -> Result<Ports, ListenFault> {
     let (listener, port) = listen(rt, port)?;
     let (desk_listener, desk) = listen(rt, desk)?;
     Ok(Ports {
@@ -42,7 +49,7 @@ pub fn listen_at<R: Net<Listener = TcpListener, Stream = TcpStream>>(
 fn listen<R: Net<Listener = TcpListener, Stream = TcpStream>>(
     rt: &R,
     port: u16,
-) -> Result<(TcpListener, u16), Fault> {
+) -> Result<(TcpListener, u16), ListenFault> {
     let bound = || -> io::Result<(TcpListener, u16)> {
         let listener = TcpListener::bind(rt, on_this_machine(port))?;
         let port = listener.local_addr()?.port();
@@ -52,10 +59,10 @@ fn listen<R: Net<Listener = TcpListener, Stream = TcpStream>>(
 }
 
 // Out of memory where an error says so.
-fn listen_fault(error: &io::Error) -> Fault {
+fn listen_fault(error: &io::Error) -> ListenFault {
     match error.kind() {
-        io::ErrorKind::OutOfMemory => Fault::Common(ProgramFault::Memory),
-        _ => Fault::Listen,
+        io::ErrorKind::OutOfMemory => ListenFault::Memory,
+        _ => ListenFault::Refused,
     }
 }
 
@@ -68,7 +75,7 @@ pub fn bell_of<'a, R>(
     rt: &'a R,
     state: &'a HostState,
     ports: &Ports,
-) -> Result<EndBell<'a, R>, Fault> {
+) -> Result<EndBell<'a, R>, ListenFault> {
     let spare = ports.desk_listener.try_clone();
     let spare = spare.map_err(|error| listen_fault(&error))?;
     Ok(EndBell {

@@ -1,0 +1,22 @@
+//! The ports of a host over sockets: who comes, who is served and who leaves, and a connection's ends.
+#![tactic(auto)]
+
+mod crowd;
+mod last_word;
+mod parting;
+mod port;
+mod shared_socket;
+mod socket_reader;
+mod socket_writer;
+mod state;
+mod two_ports;
+
+pub use crowd::Crowd;
+pub use last_word::LastWord;
+pub use parting::Partings;
+pub use port::{EndBell, Port};
+pub use shared_socket::SharedSocket;
+pub use socket_reader::{GREETING, Incoming, SocketReader};
+pub use socket_writer::{Kept, Outgoing, SocketCutOff, SocketWriter, WRITE_LIMIT};
+pub use state::HostState;
+pub use two_ports::{ListenFault, NEXT_LINE, Ports, bell_of, listen_at, open_ports};
