@@ -409,14 +409,14 @@ def never_reads(room: Path) -> None:
 
 
 def next_wait(library: Preloaded, caller: Caller, piece: bytes) -> float:
-    """How many seconds the host waits for what comes after these bytes, which are answered where they are a line."""
+    """How many seconds the host's next read may wait after these bytes, which are answered where they are a line."""
     before, end = library.counts()[0], time.monotonic() + LIMIT
     caller.send(piece)
     if piece.endswith(b"\n") and b'"ok"' not in (said := caller.line()):
         fail(f"outsiders: {piece!r} is told {said!r}")
     while True:
         count, wait = library.counts()
-        # Until it is greeted it waits for ten seconds at most.
+        # Until it is greeted a read waits for ten seconds at most.
         if count > before and not 0 < wait <= 10_000:
             return wait / 1000
         if time.monotonic() > end:

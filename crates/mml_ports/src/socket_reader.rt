@@ -41,6 +41,8 @@ pub struct SocketReader<'a, Rt> {
     is_first_read: bool,
     // The bytes of the line that is being read.
     size: usize,
+    // How long the socket lets a read wait.
+    limit: Option<Duration>,
 }
 
 /// A reader that a signal doesn't end.
@@ -64,11 +66,15 @@ impl<'a, Rt: Clock + Wait> SocketReader<'a, Rt> {
             first: FirstLine::Awaited,
             is_first_read: false,
             size: 0,
+            limit: None,
         }))
     }
 
-    // How long may still be waited, where there is an end to it.
+    // How long may still be waited, where there is an end to it. A line that isn't begun has its whole time.
     fn time_left(&self) -> io::Result<Option<Duration>> {
+        if self.has_greeted && self.size == 0 {
+            return Ok(self.patience);
+        }
         let Some(deadline) = self.deadline else {
             return Ok(None);
         };
@@ -88,14 +94,20 @@ impl<'a, Rt: Clock + Wait> SocketReader<'a, Rt> {
         Ok(())
     }
 
-    // Reads what has come, or comes within the time that is left.
-    fn read_in_time(&self, buf: &mut [u8]) -> io::Result<usize>
+    // Reads what has come, or comes within the time that is left. The socket is told that time only where it
+    // is another than before.
+    fn read_in_time(&mut self, buf: &mut [u8]) -> io::Result<usize>
         ensures { ReadsAtMost result buf.new }
     {
+        let left = self.time_left()?;
+        let is_known = left == self.limit;
+        self.limit = left;
         let stream = self.socket.stream.read(self.rt);
         match &*stream {
             Some(stream) => {
-                stream.set_read_timeout(self.time_left()?)?;
+                if !is_known {
+                    stream.set_read_timeout(left)?;
+                }
                 let mut stream = stream;
                 stream.read(buf)
             }
@@ -104,13 +116,14 @@ impl<'a, Rt: Clock + Wait> SocketReader<'a, Rt> {
     }
 
     // The same, up to the end of a line.
-    fn read_line_in_time(&self, buf: &mut [u8]) -> io::Result<usize>
+    fn read_line_in_time(&mut self, buf: &mut [u8]) -> io::Result<usize>
         ensures { ReadsAtMost result buf.new }
     {
+        self.limit = self.time_left()?;
         let stream = self.socket.stream.read(self.rt);
         match &*stream {
             Some(stream) => {
-                stream.set_read_timeout(self.time_left()?)?;
+                stream.set_read_timeout(self.limit)?;
                 let seen = stream.peek(buf)?;
                 let end = end_of_line(buf, seen);
                 let mut stream = stream;
