@@ -1,5 +1,19 @@
-//! Labs that several tests speak of, as TOML documents.
+//! Labs that several tests speak of, as TOML documents, and what is read of a document.
+use mml_board::Board;
+use mml_lab::{Lab, read_lab};
 use std::alloc::{AllocError, Global};
+use std::test::Fail;
+
+/// The lab of a document. It is in a box since each way out of a function that holds a lab drops all of
+/// its parts, which is what the proof of a test then costs.
+pub fn boxed_lab(alloc: Global, document: &str) -> Result<Box<Lab>, Fail> {
+    Ok(Box::new(alloc, read_lab(alloc, document.as_bytes())?)?)
+}
+
+/// The board at the beginning of a run, in a box for the same reason.
+pub fn boxed_board(alloc: Global, lab: &Lab) -> Result<Box<Board>, Fail> {
+    Ok(Box::new(alloc, Board::new(alloc, lab)?)?)
+}
 
 /// A lab with 100 events and four connections, whose teacher is tess: its links, its students by name and
 /// key, and its nodes by identifier, owner and what else stands there.

@@ -4,10 +4,10 @@ ghost use Rattle.std.specs.Prelude.{◌<◌, length};
 
 use mml_board::{Board, Event};
 use mml_fakes::lab;
-use mml_fakes::labs::PATH_OF_THREE;
+use mml_fakes::labs::{PATH_OF_THREE, boxed_board, boxed_lab};
 use mml_ids::Rank;
 use mml_journal::next_line;
-use mml_lab::{Lab, Student, read_lab};
+use mml_lab::{Lab, Student};
 use mml_policy::look_of;
 use mml_rules::{Regs, Rule, Scene};
 use std::alloc::{AllocError, Global};
@@ -130,7 +130,7 @@ fn first_line(alloc: Global, lab: &Lab, board: &Board) -> Result<Vec<u8>, Fail> 
 
 /// Whether a board and its copy are told so, what is shown of the first node, and the first line.
 fn are_told_at_first(alloc: Global, lab: &Lab) -> Result<(bool, bool), Fail> {
-    let board = Board::new(alloc, lab)?;
+    let board = boxed_board(alloc, lab)?;
     let opened = are_opening(alloc, &board)?;
     let look = look_at_the_first(alloc, &board)?;
     let line = first_line(alloc, lab, &board)?;
@@ -141,7 +141,7 @@ fn are_told_at_first(alloc: Global, lab: &Lab) -> Result<(bool, bool), Fail> {
 
 /// The same where the higher points.
 fn are_told_where_higher_points(alloc: Global) -> Result<(bool, bool), Fail> {
-    let lab = read_lab(alloc, HIGHER_POINTS.as_bytes())?;
+    let lab = boxed_lab(alloc, HIGHER_POINTS)?;
     are_told_at_first(alloc, &lab)
 }
 
@@ -242,13 +242,13 @@ fn follow(alloc: Global, board: &mut Board) -> Result<(bool, bool), Fail> {
 
 /// The same over a lab.
 fn follow_over(alloc: Global, lab: &Lab) -> Result<(bool, bool), Fail> {
-    let mut board = Board::new(alloc, lab)?;
+    let mut board = boxed_board(alloc, lab)?;
     follow(alloc, &mut board)
 }
 
 /// The same from the beginning of a run.
 fn are_told(alloc: Global) -> Result<(bool, bool), Fail> {
-    let lab = read_lab(alloc, PATH_OF_THREE.as_bytes())?;
+    let lab = boxed_lab(alloc, PATH_OF_THREE)?;
     follow_over(alloc, &lab)
 }
 

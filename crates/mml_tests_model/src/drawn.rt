@@ -2,8 +2,9 @@
 use mml_board::{Board, Event};
 use mml_fakes::Numbers;
 use mml_fakes::cycles::cycle;
+use mml_fakes::labs::{boxed_board, boxed_lab};
 use mml_ids::Rank;
-use mml_lab::{Lab, Student, read_lab};
+use mml_lab::{Lab, Student};
 use mml_rules::{Kind, Regs, Rule, Scene};
 use std::alloc::{AllocError, Global};
 use std::test::Fail;
@@ -137,14 +138,14 @@ fn letters_on(alloc: Global, lab: &Lab, board: &mut Board) -> Result<Vec<u8>, Al
 
 /// The same from the beginning of a run.
 fn letters_over(alloc: Global, lab: &Lab) -> Result<Vec<u8>, Fail> {
-    let mut board = Board::new(alloc, lab)?;
+    let mut board = boxed_board(alloc, lab)?;
     Ok(letters_on(alloc, lab, &mut board)?)
 }
 
 /// Whether these are the letters over a cycle of so many nodes.
 fn are_letters(alloc: Global, nodes: u64, wanted: &str) -> Result<bool, Fail> {
     let file = cycle(alloc, nodes, 100, 1)?;
-    let lab = read_lab(alloc, file.as_bytes())?;
+    let lab = boxed_lab(alloc, file.as_str())?;
     Ok(letters_over(alloc, &lab)?.as_slice() == wanted.as_bytes())
 }
 

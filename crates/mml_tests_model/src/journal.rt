@@ -2,10 +2,10 @@
 mod replaced;
 
 use mml_board::Event;
-use mml_fakes::labs::PATH_OF_THREE;
+use mml_fakes::labs::{PATH_OF_THREE, boxed_lab};
 use mml_ids::{Memory, Rank};
 use mml_journal::{JournalFault, event_text, read_event};
-use mml_lab::{Lab, Student, read_lab};
+use mml_lab::{Lab, Student};
 use mml_rules::{Regs, Rule};
 use std::alloc::Global;
 use std::test::Fail;
@@ -130,7 +130,7 @@ fn are_told(alloc: Global, lab: &Lab) -> Result<(bool, bool, bool), Fail> {
 
 /// The same, and whether lines with a byte replaced are read as they should be.
 fn told(alloc: Global) -> Result<((bool, bool, bool), bool), Fail> {
-    let lab = read_lab(alloc, PATH_OF_THREE.as_bytes())?;
+    let lab = boxed_lab(alloc, PATH_OF_THREE)?;
     Ok((are_told(alloc, &lab)?, replaced::are_read_so(alloc, &lab)?))
 }
 

@@ -1,8 +1,9 @@
 //! What a document is read as, through the readers of a lab.
 ghost use Rattle.std.specs.Prelude.{◌<◌, length};
 
+use mml_fakes::labs::boxed_lab;
 use mml_ids::{Memory, Rank};
-use mml_lab::{Lab, Roster, Student, Who, read_lab};
+use mml_lab::{Lab, Roster, Student, Who};
 use mml_rules::{Network, Scene};
 use std::alloc::{AllocError, Global};
 use std::test::Fail;
@@ -71,7 +72,7 @@ fn shown(alloc: Global, lab: &Lab) -> Result<String, AllocError> {
 }
 
 // Students in another order than their nodes, two owners, and a pointer from the highest node.
-const DOCUMENT: &[u8] = br#"
+const DOCUMENT: &str = r#"
 events = 100
 sessions = 4
 links = [[1, 4], [7, 1], [1, 65535]]
@@ -147,10 +148,10 @@ fn told(alloc: Global, lab: &Lab) -> Result<(String, bool, Option<&'static str>)
 /// The same of a document, with whether it shows that.
 fn told_of(
     alloc: Global,
-    document: &[u8],
+    document: &str,
     wanted: &str,
 ) -> Result<(bool, bool, Option<&'static str>), Fail> {
-    let lab = read_lab(alloc, document)?;
+    let lab = boxed_lab(alloc, document)?;
     let (text, is_copied, other) = told(alloc, &lab)?;
     Ok((text.as_str() == wanted, is_copied, other))
 }

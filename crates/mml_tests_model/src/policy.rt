@@ -1,8 +1,8 @@
 //! What comes of a command where the limit of events is reached, or the journal is halted, and a look.
 use mml_board::Board;
-use mml_fakes::labs::PATH_OF_THREE;
+use mml_fakes::labs::{PATH_OF_THREE, boxed_board, boxed_lab};
 use mml_ids::{Memory, Rank};
-use mml_lab::{Lab, Who, read_lab};
+use mml_lab::{Lab, Who};
 use mml_policy::{Asked, Command, Course, Ruling, rule_on};
 use mml_rules::Scene;
 use std::alloc::Global;
@@ -56,13 +56,13 @@ fn rulings(alloc: Global, lab: &Lab, board: &Board, cases: &[Case]) -> Result<St
 
 /// The same at the beginning of a run.
 fn first_rulings(alloc: Global, lab: &Lab, cases: &[Case]) -> Result<String, Fail> {
-    let board = Board::new(alloc, lab)?;
+    let board = boxed_board(alloc, lab)?;
     rulings(alloc, lab, &board, cases)
 }
 
 /// The same over a path of three.
 fn rulings_over_the_path(alloc: Global, cases: &[Case]) -> Result<String, Fail> {
-    let lab = read_lab(alloc, PATH_OF_THREE.as_bytes())?;
+    let lab = boxed_lab(alloc, PATH_OF_THREE)?;
     first_rulings(alloc, &lab, cases)
 }
 

@@ -1,7 +1,7 @@
 //! What is told of a run.
 use mml_board::Board;
+use mml_fakes::labs::{boxed_board, boxed_lab};
 use mml_ids::Rank;
-use mml_lab::{Lab, read_lab};
 use mml_rules::Kind;
 use mml_stable::{OpenLink, Report, report};
 use std::alloc::{AllocError, Global};
@@ -51,7 +51,7 @@ fn push_link(text: &mut String, link: &OpenLink) -> Result<(), AllocError> {
 }
 
 // Two pairs, of which one isn't written down, and a link between two that are free.
-const DOCUMENT: &[u8] = br#"
+const DOCUMENT: &str = r#"
 events = 100
 sessions = 1
 links = [[1, 2], [2, 3], [3, 4], [4, 5], [5, 6]]
@@ -74,14 +74,10 @@ fn told_of_board(alloc: Global, board: &Board) -> Result<String, Fail> {
     Ok(told(alloc, &report)?)
 }
 
-fn told_of_lab(alloc: Global, lab: &Lab) -> Result<String, Fail> {
-    let board = Board::new(alloc, lab)?;
+fn told_of(alloc: Global, document: &str) -> Result<String, Fail> {
+    let lab = boxed_lab(alloc, document)?;
+    let board = boxed_board(alloc, &lab)?;
     told_of_board(alloc, &board)
-}
-
-fn told_of(alloc: Global, document: &[u8]) -> Result<String, Fail> {
-    let lab = read_lab(alloc, document)?;
-    told_of_lab(alloc, &lab)
 }
 
 #[test]

@@ -5,11 +5,16 @@ use mml_ids::{MAX_NODES, NodeSet, Rank};
 fn gives_in_order(set: NodeSet, ranks: &[u64]) -> bool {
     let mut left = set;
     for index in ranks {
-        if left.take_least().map(Rank::index) != Some(*index) {
+        if taken(&mut left) != Some(*index) {
             return false;
         }
     }
-    left.take_least().is_none()
+    taken(&mut left).is_none()
+}
+
+/// The least rank of a set, which is taken out.
+fn taken(left: &mut NodeSet) -> Option<u64> {
+    Some(left.take_least()?.index())
 }
 
 /// Whether a set has these ranks, of which the first is the least and the last the greatest, and no
@@ -67,17 +72,35 @@ fn drawn_set(seed: u64) -> NodeSet {
     set
 }
 
+fn has(set: NodeSet, index: u64) -> bool {
+    match Rank::new(index) {
+        Some(rank) => set.has(rank),
+        None => false,
+    }
+}
+
+fn least_of(set: NodeSet) -> Option<u64> {
+    Some(set.least()?.index())
+}
+
+fn greatest_of(set: NodeSet) -> Option<u64> {
+    Some(set.greatest()?.index())
+}
+
 /// The set has the ranks whose places are true in the list, and no others.
 fn is_list(set: NodeSet, list: &[bool]) -> bool {
-    let members = list.iter().enumerate().all(|(index, there)| {
-        Rank::new(index as u64).is_some_and(|rank| set.has(rank) == *there)
-    });
-    let least = list.iter().position(|there| *there);
-    let greatest = list.iter().rposition(|there| *there);
-    members
-        && set.len() == list.iter().filter(|there| **there).count() as u64
-        && set.least().map(Rank::index) == least.map(|index| index as u64)
-        && set.greatest().map(Rank::index) == greatest.map(|index| index as u64)
+    let (mut count, mut least, mut greatest) = (0u64, None, None);
+    for (index, there) in list.iter().enumerate() {
+        if has(set, index as u64) != *there {
+            return false;
+        }
+        if *there {
+            count = count.saturating_add(1);
+            least = least.or(Some(index as u64));
+            greatest = Some(index as u64);
+        }
+    }
+    (set.len(), least_of(set), greatest_of(set)) == (count, least, greatest)
 }
 
 /// The first two sets, what both have, what only the first has, and the ranks above one are as in plain

@@ -1,11 +1,11 @@
 //! Sinks that fail at each put, and at each byte.
 ghost use Rattle.std.specs.Prelude.{◌-◌, Some};
 
-use mml_fakes::labs::PATH_OF_THREE;
+use mml_fakes::labs::{PATH_OF_THREE, boxed_lab};
 use mml_fakes::scripts::TEN_LINES;
 use mml_ids::Memory;
 use mml_journal::{Journal, MemorySink, Sink, SinkFault, event_text, read_event};
-use mml_lab::{Lab, read_lab};
+use mml_lab::Lab;
 use std::alloc::{AllocError, Global};
 use std::test::Fail;
 
@@ -120,7 +120,7 @@ fn takes_each_number_of_bytes(alloc: Global, lab: &Lab) -> Result<bool, Fail> {
 
 /// The lines and the bytes of the path of three that are taken.
 fn told(alloc: Global) -> Result<((usize, bool, bool), bool), Fail> {
-    let lab = read_lab(alloc, PATH_OF_THREE.as_bytes())?;
+    let lab = boxed_lab(alloc, PATH_OF_THREE)?;
     let lines = lines_taken(alloc, &lab)?;
     Ok((lines, takes_each_number_of_bytes(alloc, &lab)?))
 }
