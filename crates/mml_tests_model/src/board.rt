@@ -8,7 +8,7 @@ use mml_fakes::labs::{PATH_OF_THREE, boxed_board, boxed_lab};
 use mml_ids::Rank;
 use mml_journal::next_line;
 use mml_lab::{Lab, Student};
-use mml_policy::look_of;
+use mml_policy::{Look, look_of};
 use mml_rules::{Regs, Rule, Scene};
 use std::alloc::{AllocError, Global};
 use std::test::Fail;
@@ -98,20 +98,23 @@ fn look_at_the_first(alloc: Global, board: &Board) -> Result<String, Fail> {
         return Ok(String::from_str(alloc, "no node")?);
     }
     let look = look_of(alloc, board, node)?;
-    let mut text = format!(in alloc;
-        "{} {:?} {:?} {:?}",
-        look.at, look.regs.p, look.chosen, look.enabled
-    )?;
-    for (other, regs) in look.near.as_slice() {
-        write!(
-            text,
-            " {} {:?} {}",
-            other.index(),
-            regs.p.map(Rank::index),
-            regs.m
-        )?;
-    }
+    Ok(shown(alloc, &look)?)
+}
+
+fn shown(alloc: Global, look: &Look) -> Result<String, AllocError> {
+    let (p, chosen, enabled) = (look.regs.p, look.chosen, look.enabled);
+    let mut text = format!(in alloc; "{} {p:?} {chosen:?} {enabled:?}", look.at)?;
+    push_near(&mut text, look.near.as_slice())?;
     Ok(text)
+}
+
+/// The nodes near to it, with their registers.
+fn push_near(text: &mut String, near: &[(Rank, Regs)]) -> Result<(), AllocError> {
+    for (other, regs) in near {
+        let (index, p) = (other.index(), regs.p.map(Rank::index));
+        write!(text, " {index} {p:?} {}", regs.m)?;
+    }
+    Ok(())
 }
 
 /// The line of the first event, which the higher node asks for.

@@ -142,17 +142,26 @@ fn letters_over(alloc: Global, lab: &Lab) -> Result<Vec<u8>, Fail> {
     Ok(letters_on(alloc, lab, &mut board)?)
 }
 
+/// A cycle of so many nodes.
+fn lab_of(alloc: Global, nodes: u64) -> Result<Box<Lab>, Fail> {
+    let file = cycle(alloc, nodes, 100, 1)?;
+    boxed_lab(alloc, file.as_str())
+}
+
 /// Whether these are the letters over a cycle of so many nodes.
 fn are_letters(alloc: Global, nodes: u64, wanted: &str) -> Result<bool, Fail> {
-    let file = cycle(alloc, nodes, 100, 1)?;
-    let lab = boxed_lab(alloc, file.as_str())?;
+    let lab = lab_of(alloc, nodes)?;
     Ok(letters_over(alloc, &lab)?.as_slice() == wanted.as_bytes())
+}
+
+/// Whether both rows of letters are so.
+fn are_told(alloc: Global) -> Result<(bool, bool), Fail> {
+    let of_64 = are_letters(alloc, 64, OF_64)?;
+    Ok((of_64, are_letters(alloc, 256, OF_256)?))
 }
 
 #[test]
 fn drawn_events_are_legal_or_not(rt: HostRuntime) -> Result<(), Fail> {
-    let of_64 = are_letters(rt.alloc(), 64, OF_64)?;
-    let of_256 = are_letters(rt.alloc(), 256, OF_256)?;
-    assert_eq!(rt; (of_64, of_256), (true, true));
+    assert_eq!(rt; are_told(rt.alloc())?, (true, true));
     Ok(())
 }

@@ -112,9 +112,14 @@ fn read_and_written(
     Ok(Some((found, text.as_slice() == line)))
 }
 
+/// Whether the line says just that.
+fn is_line_of(alloc: Global, lab: &Lab, line: &[u8], event: &Event) -> Result<bool, Memory> {
+    Ok(read_and_written(alloc, lab, line)? == Some((*event, true)))
+}
+
 fn are_read_and_written(alloc: Global, lab: &Lab) -> Result<bool, Fail> {
     for (line, event) in OTHERS.iter().zip(other_events().iter()) {
-        if read_and_written(alloc, lab, line)? != Some((*event, true)) {
+        if !is_line_of(alloc, lab, line, event)? {
             return Ok(false);
         }
     }
