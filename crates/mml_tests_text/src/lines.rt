@@ -31,18 +31,25 @@ fn told<R: Read>(lines: &mut Lines, alloc: Global, reader: &mut R) -> Result<Str
 fn told_to_the_end<R: Read>(alloc: Global, limit: usize, reader: &mut R) -> Result<String, Fail> {
     let mut lines = Lines::new(alloc, limit.min(MAX_LIMIT))?;
     let mut text = told(&mut lines, alloc, reader)?;
-    let mut late = b"late\n".as_slice();
-    let again = told(&mut lines, alloc, &mut late)?;
-    let once_more = told(&mut lines, alloc, &mut late)?;
-    if !text.ends_with(again.as_str()) || again != once_more || late.len() != 5 {
+    if !is_repeated(&mut lines, alloc, text.as_str())? {
         text.push_str("and another end")?;
     }
     Ok(text)
 }
 
-// A limit, how many digits there are, what ends them, whether they come as a line, and the end that is
-// told then.
-const LENGTHS: &[(usize, usize, &str, bool, &str)] = &[
+/// Whether two more calls repeat the end of what was told, and read nothing.
+fn is_repeated(lines: &mut Lines, alloc: Global, text: &str) -> Result<bool, AllocError> {
+    let mut late = b"late\n".as_slice();
+    let again = told(lines, alloc, &mut late)?;
+    let once_more = told(lines, alloc, &mut late)?;
+    Ok(text.ends_with(again.as_str()) && again == once_more && late.len() == 5)
+}
+
+/// A limit, how many digits there are, what ends them, whether they come as a line, and the end that is
+/// told then.
+type Length = (usize, usize, &'static str, bool, &'static str);
+
+const LENGTHS: &[Length] = &[
     (4096, 4096, "\n", true, "End \n"),
     (4096, 4097, "\n", false, "TooLong \n"),
     (4096, 4096, "", false, "End \n"),
@@ -67,18 +74,28 @@ fn is_told(alloc: Global, limit: usize, line: &str, end: &str, wanted: &str) -> 
     Ok(told_to_the_end(alloc, limit, &mut text.as_bytes())?.as_str() == wanted)
 }
 
+/// What is to be told of a line that comes, or doesn't, before the end.
+fn wanted(alloc: Global, line: &str, is_line: bool, last: &str) -> Result<String, AllocError> {
+    if is_line {
+        format!(in alloc; "Line {line}\n{last}")
+    } else {
+        String::from_str(alloc, last)
+    }
+}
+
+/// Whether that is told of a row.
+fn is_length_told(alloc: Global, row: &Length) -> Result<bool, Fail> {
+    let (limit, len, end, is_line, last) = row;
+    let line = digits(alloc, *len)?;
+    let wanted = wanted(alloc, line.as_str(), *is_line, last)?;
+    is_told(alloc, *limit, line.as_str(), end, wanted.as_str())
+}
+
 /// The first row of these of which something else is told.
 fn first_length_told_otherwise(alloc: Global) -> Result<Option<usize>, Fail> {
-    for (row, (limit, len, end, is_line, last)) in LENGTHS.iter().enumerate() {
-        let line = digits(alloc, *len)?;
-        let (before, shown, after) = if *is_line {
-            ("Line ", line.as_str(), "\n")
-        } else {
-            ("", "", "")
-        };
-        let wanted = format!(in alloc; "{before}{shown}{after}{last}")?;
-        if !is_told(alloc, *limit, line.as_str(), end, wanted.as_str())? {
-            return Ok(Some(row));
+    for (number, row) in LENGTHS.iter().enumerate() {
+        if !is_length_told(alloc, row)? {
+            return Ok(Some(number));
         }
     }
     Ok(None)
@@ -90,28 +107,31 @@ fn a_line_is_as_long_as_the_limit(rt: HostRuntime) -> Result<(), Fail> {
     Ok(())
 }
 
-fn told_in_parts(alloc: Global, cut: usize, step: usize) -> Result<String, Fail> {
+/// Whether the same is told of two parts, of which the second comes in reads of so many bytes.
+fn is_told_in_parts(alloc: Global, cut: usize, step: usize) -> Result<bool, Fail> {
     let (first, second) = TEXT.split_at(cut.min(TEXT.len()));
     let mut reader = Parts {
         first,
         second,
         step,
     };
-    told_to_the_end(alloc, 2, &mut reader)
+    Ok(told_to_the_end(alloc, 2, &mut reader)?.as_str() == TOLD)
 }
 
-/// The first cut that changes what is told, where the second part comes in reads of so many bytes.
+/// The first cut that changes what is told.
 fn first_cut_that_changes(alloc: Global, step: usize) -> Result<Option<usize>, Fail> {
     for cut in 0..=TEXT.len() {
-        if told_in_parts(alloc, cut, step)?.as_str() != TOLD {
+        if !is_told_in_parts(alloc, cut, step)? {
             return Ok(Some(cut));
         }
     }
     Ok(None)
 }
 
-// How many bytes a read gives, how many reads are good, what is told, and how many reads there are.
-const READS: [(usize, usize, &str, usize); 11] = [
+/// How many bytes a read gives, how many reads are good, what is told, and how many reads there are.
+type Reads = (usize, usize, &'static str, usize);
+
+const READS: &[Reads] = &[
     (1, 0, "ReadFault \n", 1),
     (1, 1, "ReadFault \n", 2),
     (1, 2, "ReadFault \n", 3),
@@ -126,25 +146,35 @@ const READS: [(usize, usize, &str, usize); 11] = [
     (100, 1, "Line ab\nLine \nLine cd\nReadFault \n", 2),
 ];
 
+/// Whether that is told of a row.
+fn are_reads_told(alloc: Global, row: &Reads) -> Result<bool, Fail> {
+    let (step, good, wanted, reads) = row;
+    let mut reader = FakeReader::failing_after(*good, TEXT);
+    reader.step = *step;
+    let told = told_to_the_end(alloc, 2, &mut reader)?;
+    Ok(told.as_str() == *wanted && reader.reads == *reads)
+}
+
 /// The first row of these of which something else is told.
 fn first_reads_told_otherwise(alloc: Global) -> Result<Option<usize>, Fail> {
-    for (row, (step, good, wanted, reads)) in READS.iter().enumerate() {
-        let mut reader = FakeReader::failing_after(*good, TEXT);
-        reader.step = *step;
-        let told = told_to_the_end(alloc, 2, &mut reader)?;
-        if told.as_str() != *wanted || reader.reads != *reads {
-            return Ok(Some(row));
+    for (number, row) in READS.iter().enumerate() {
+        if !are_reads_told(alloc, row)? {
+            return Ok(Some(number));
         }
     }
     Ok(None)
 }
 
+/// The first cuts that change what is told, by bytes and at once, and the first other row of reads.
+fn first_told_otherwise(alloc: Global) -> Result<[Option<usize>; 3], Fail> {
+    let by_bytes = first_cut_that_changes(alloc, 1)?;
+    let at_once = first_cut_that_changes(alloc, 100)?;
+    Ok([by_bytes, at_once, first_reads_told_otherwise(alloc)?])
+}
+
 #[test]
 fn cuts_change_nothing_and_a_failed_read_ends_the_lines(rt: HostRuntime) -> Result<(), Fail> {
-    let by_bytes = first_cut_that_changes(rt.alloc(), 1)?;
-    let at_once = first_cut_that_changes(rt.alloc(), 100)?;
-    let failed = first_reads_told_otherwise(rt.alloc())?;
-    assert_eq!(rt; (by_bytes, at_once, failed), (None, None, None));
+    assert_eq!(rt; first_told_otherwise(rt.alloc())?, [None; 3]);
     Ok(())
 }
 
@@ -163,7 +193,12 @@ fn count_lines(lines: &mut Lines, reader: &mut FakeReader) -> (u32, Step) {
 /// and how many bytes are left.
 fn counted(alloc: Global) -> Result<(u32, Step, usize), Fail> {
     let breaks = vec![in alloc; b'\n'; MAX_READS as usize + 1]?;
-    let mut reader = FakeReader::failing_after(usize::MAX, breaks.as_slice());
+    counted_in(alloc, breaks.as_slice())
+}
+
+/// The same of these bytes.
+fn counted_in(alloc: Global, breaks: &[u8]) -> Result<(u32, Step, usize), Fail> {
+    let mut reader = FakeReader::failing_after(usize::MAX, breaks);
     let mut lines = Lines::new(alloc, 4096)?;
     let (count, step) = count_lines(&mut lines, &mut reader);
     Ok((count, step, reader.rest.len()))
@@ -172,20 +207,32 @@ fn counted(alloc: Global) -> Result<(u32, Step, usize), Fail> {
 /// Whether a line of 4,096 bytes comes whole by reads of one byte, and then the end; and how many
 /// reads there were.
 fn comes_by_bytes(alloc: Global) -> Result<(bool, usize), Fail> {
-    let line = digits(alloc, 4096)?;
-    let text = format!(in alloc; "{line}\n")?;
-    let mut reader = FakeReader::failing_after(usize::MAX, text.as_bytes());
+    let mut text = digits(alloc, 4096)?;
+    text.push('\n')?;
+    line_comes_by_bytes(alloc, text.as_bytes())
+}
+
+/// The same of this line and its end.
+fn line_comes_by_bytes(alloc: Global, text: &[u8]) -> Result<(bool, usize), Fail> {
+    let mut reader = FakeReader::failing_after(usize::MAX, text);
     let mut lines = Lines::new(alloc, 4096)?;
-    let is_line = lines.next(&mut reader) == Step::Line && lines.bytes() == line.as_bytes();
+    let is_line = lines.next(&mut reader) == Step::Line;
+    let is_whole = text.strip_suffix(b"\n") == Some(lines.bytes());
     let is_end = lines.next(&mut reader) == Step::End;
-    Ok((is_line && is_end, reader.reads))
+    Ok((is_line && is_whole && is_end, reader.reads))
+}
+
+/// What is counted, and what comes by bytes.
+type Counts = ((u32, Step, usize), (bool, usize));
+
+fn counts(alloc: Global) -> Result<Counts, Fail> {
+    Ok((counted(alloc)?, comes_by_bytes(alloc)?))
 }
 
 #[test]
 fn reads_are_counted_over_all_lines(rt: HostRuntime) -> Result<(), Fail> {
-    let (counted, by_bytes) = (counted(rt.alloc())?, comes_by_bytes(rt.alloc())?);
     // One read for each byte, and one that finds the end.
     let wanted = ((MAX_READS, Step::ReadFault, 1), (true, 4098));
-    assert_eq!(rt; (counted, by_bytes), wanted);
+    assert_eq!(rt; counts(rt.alloc())?, wanted);
     Ok(())
 }

@@ -3,8 +3,8 @@ ghost use Rattle.mml_codec.specs.Replies.{IsAbout};
 
 use mml_board::Board;
 use mml_codec::{REPLY_ROOM, Reply, reply_of, write_reply};
-use mml_fakes::labs::FAR_APART;
-use mml_lab::{Lab, read_lab};
+use mml_fakes::labs::{FAR_APART, boxed_board, boxed_lab};
+use mml_lab::Lab;
 use mml_policy::{Denial, Ruling, See};
 use mml_rules::{Regs, Scene};
 use mml_stable::{Report, report};
@@ -42,7 +42,7 @@ fn is_reported(alloc: Global, board: &Board, told: &Report) -> Result<bool, Fail
 /// The report on the lab's opening world, or no text where it isn't of the lab's size, or where the reply
 /// to a report that is granted is another.
 fn report_line(alloc: Global, lab: &Lab) -> Result<String, Fail> {
-    let board = &Board::new(alloc, lab)?;
+    let board = &*boxed_board(alloc, lab)?;
     if lab.ids().len() != board.size() {
         return Ok(String::new(alloc));
     }
@@ -78,7 +78,7 @@ fn told_of(alloc: Global, lab: &Lab) -> Result<(String, String, bool), Fail> {
 
 /// The same of two nodes far apart.
 fn told(alloc: Global) -> Result<(String, String, bool), Fail> {
-    let lab = read_lab(alloc, FAR_APART.as_bytes())?;
+    let lab = boxed_lab(alloc, FAR_APART)?;
     told_of(alloc, &lab)
 }
 

@@ -113,11 +113,17 @@ fn sent(alloc: Global) -> Result<[usize; 3], Fail> {
     Ok(out)
 }
 
+/// The first other rows over writers that fail and that take nothing, and what was sent.
+type Written = (Option<usize>, Option<usize>, [usize; 3]);
+
+fn told_of_writes(alloc: Global) -> Result<Written, Fail> {
+    let failed = first_other_put(alloc, Refusal::Fails(ErrorKind::Other))?;
+    let refused = first_other_put(alloc, Refusal::TakesNothing)?;
+    Ok((failed, refused, sent(alloc)?))
+}
+
 #[test]
 fn writes_tell_what_went_out(rt: HostRuntime) -> Result<(), Fail> {
-    let failed = first_other_put(rt.alloc(), Refusal::Fails(ErrorKind::Other))?;
-    let refused = first_other_put(rt.alloc(), Refusal::TakesNothing)?;
-    let found = (failed, refused, sent(rt.alloc())?);
-    assert_eq!(rt; found, (None, None, [0, 2048, 2052]));
+    assert_eq!(rt; told_of_writes(rt.alloc())?, (None, None, [0, 2048, 2052]));
     Ok(())
 }
