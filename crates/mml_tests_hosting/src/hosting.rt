@@ -126,14 +126,12 @@ fn host<R: Threads + Wait + Sync>(
     alloc: Global,
     talks: &[Talk],
     out: &mut Vec<u8>,
-) -> Result<Result<Left, HostFault>, AllocError> {
+) -> Result<Result<Left, HostFault>, Fail> {
     let count = Count::new();
     let at_desk = texts_of(alloc, talks, true, &count)?;
     let at_port = texts_of(alloc, talks, false, &count)?;
-    match lab_of(alloc, 100)? {
-        Ok(lab) => Ok(host_in(rt, alloc, lab, at_desk, at_port, &count, out)),
-        Err(_) => Ok(Err(HostFault::Memory)),
-    }
+    let lab = lab_of(alloc, 100)?;
+    Ok(host_in(rt, alloc, lab, at_desk, at_port, &count, out))
 }
 
 /// Hosts what comes in this lab.
@@ -167,25 +165,34 @@ fn are_answered(left: &Left, talks: &[Talk]) -> bool {
     true
 }
 
+/// Whether the talks were answered so, and the journal and the last line are so.
+fn told_of_talks<R: Threads + Wait + Sync>(rt: &R, alloc: Global) -> Result<[bool; 3], Fail> {
+    let mut out = Vec::new(alloc);
+    match host(rt, alloc, TALKS, &mut out)? {
+        Ok(left) => {
+            let is_journal = left.log.sink.bytes() == JOURNAL;
+            let is_last = out.as_slice() == b"done: 2 events, configuration 1\n".as_slice();
+            Ok([are_answered(&left, TALKS), is_journal, is_last])
+        }
+        Err(_) => Err(Fail::from("a fault")),
+    }
+}
+
 #[test]
 fn sessions_come_one_after_another(rt: HostRuntime) -> Result<(), Fail> {
-    let mut out = Vec::new(rt.alloc());
-    let Ok(left) = host(&rt, rt.alloc(), TALKS, &mut out)? else {
-        return Err(Fail::from("a fault"));
-    };
-    let is_journal = left.log.sink.bytes() == JOURNAL;
-    let is_last = out.as_slice() == b"done: 2 events, configuration 1\n".as_slice();
-    assert_eq!(rt;
-        (are_answered(&left, TALKS), is_journal, is_last),
-        (true, true, true)
-    );
+    assert_eq!(rt; told_of_talks(&rt, rt.alloc())?, [true; 3]);
     Ok(())
+}
+
+/// Whether a house whose teacher says no bye at the desk isn't dismissed, and tells nothing.
+fn is_undismissed<R: Threads + Wait + Sync>(rt: &R, alloc: Global) -> Result<bool, Fail> {
+    let mut out = Vec::new(alloc);
+    let left = host(rt, alloc, &[NOBODY, ELSEWHERE], &mut out)?;
+    Ok(matches!(left, Err(HostFault::Undismissed)) && out.is_empty())
 }
 
 #[test]
 fn a_bye_at_the_port_ends_no_house(rt: HostRuntime) -> Result<(), Fail> {
-    let mut out = Vec::new(rt.alloc());
-    let left = host(&rt, rt.alloc(), &[NOBODY, ELSEWHERE], &mut out)?;
-    assert!(rt; matches!(left, Err(HostFault::Undismissed)) && out.is_empty());
+    assert!(rt; is_undismissed(&rt, rt.alloc())?);
     Ok(())
 }

@@ -8,7 +8,7 @@ use mml_lab::Lab;
 use mml_policy::Denial;
 use mml_resuming::{ResumeFault, Store, resume_class};
 use mml_session::{NoGate, NoRecorder};
-use std::alloc::{AllocError, Global};
+use std::alloc::Global;
 use std::collections::VecDeque;
 use std::sync::Wait;
 use std::test::Fail;
@@ -84,7 +84,7 @@ fn resume<R: Threads + Wait + Sync>(
     events: u64,
     old: &str,
     out: &mut Vec<u8>,
-) -> Result<Result<Left, ResumeFault>, AllocError> {
+) -> Result<Result<Left, ResumeFault>, Fail> {
     let count = Count::new();
     let tess = Timed {
         after: 1,
@@ -98,10 +98,8 @@ fn resume<R: Threads + Wait + Sync>(
     };
     let at_desk = Texts::of(alloc, &[tess], &count)?;
     let at_port = Texts::of(alloc, &[ana], &count)?;
-    match lab_of(alloc, events)? {
-        Ok(lab) => Ok(resume_in(rt, alloc, lab, old, at_desk, at_port, &count, out)),
-        Err(_) => Ok(Err(ResumeFault::Memory)),
-    }
+    let lab = lab_of(alloc, events)?;
+    Ok(resume_in(rt, alloc, lab, old, at_desk, at_port, &count, out))
 }
 
 /// Goes on in this lab with what comes.
@@ -140,40 +138,55 @@ fn refused<R: Threads + Wait + Sync>(
     alloc: Global,
     events: u64,
     old: &str,
-) -> Result<(Option<ResumeFault>, bool), AllocError> {
+) -> Result<(Option<ResumeFault>, bool), Fail> {
     let mut out = Vec::new(alloc);
     let fault = resume(rt, alloc, events, old, &mut out)?.err();
     Ok((fault, out.is_empty()))
 }
 
+/// Whether ana and tess are told that, and the journal and what is told are so.
+fn told_of_a_class<R: Threads + Wait + Sync>(rt: &R, alloc: Global) -> Result<[bool; 4], Fail> {
+    let mut out = Vec::new(alloc);
+    match resume(rt, alloc, 100, OLD, &mut out)? {
+        Ok(left) => {
+            let is_ana_told = sent_to(&left, 1) == Some(ANA_IS_TOLD.as_bytes());
+            let is_tess_told = sent_to(&left, 0) == Some(TESS_IS_TOLD.as_bytes());
+            let is_journal = left.log.sink.bytes() == NEW.as_bytes();
+            let is_told = out.as_slice() == TOLD.as_bytes();
+            Ok([is_ana_told, is_tess_told, is_journal, is_told])
+        }
+        Err(_) => Err(Fail::from("a fault")),
+    }
+}
+
 #[test]
 fn a_class_goes_on_where_its_journal_stopped(rt: HostRuntime) -> Result<(), Fail> {
-    let mut out = Vec::new(rt.alloc());
-    let Ok(left) = resume(&rt, rt.alloc(), 100, OLD, &mut out)? else {
-        return Err(Fail::from("a fault"));
-    };
-    let is_ana_told = sent_to(&left, 1) == Some(ANA_IS_TOLD.as_bytes());
-    let is_tess_told = sent_to(&left, 0) == Some(TESS_IS_TOLD.as_bytes());
-    let is_journal = left.log.sink.bytes() == NEW.as_bytes();
-    let is_told = out.as_slice() == TOLD.as_bytes();
-    assert_eq!(rt; [is_ana_told, is_tess_told, is_journal, is_told], [true; 4]);
+    assert_eq!(rt; told_of_a_class(&rt, rt.alloc())?, [true; 4]);
     Ok(())
+}
+
+/// Whether a class over this journal doesn't go on for this reason, and nothing is told.
+fn is_refused<R: Threads + Wait + Sync>(
+    rt: &R,
+    alloc: Global,
+    events: u64,
+    old: &str,
+    wanted: AuditFault,
+) -> Result<bool, Fail> {
+    Ok(refused(rt, alloc, events, old)? == (Some(ResumeFault::Refused(wanted)), true))
+}
+
+/// Whether what is illegal, too long and torn is refused so.
+fn are_refused<R: Threads + Wait + Sync>(rt: &R, alloc: Global) -> Result<[bool; 3], Fail> {
+    let illegal = AuditFault::Illegal(1, Denial::Empty);
+    let is_empty = is_refused(rt, alloc, 100, "1 0 close\n", illegal)?;
+    let is_long = is_refused(rt, alloc, 1, NEW, AuditFault::Full(2))?;
+    let is_torn = is_refused(rt, alloc, 100, LONG, AuditFault::Torn(2))?;
+    Ok([is_empty, is_long, is_torn])
 }
 
 #[test]
 fn what_is_no_journal_is_refused(rt: HostRuntime) -> Result<(), Fail> {
-    let empty = refused(&rt, rt.alloc(), 100, "1 0 close\n")?;
-    let long = refused(&rt, rt.alloc(), 1, NEW)?;
-    let torn = refused(&rt, rt.alloc(), 100, LONG)?;
-    let wanted = ResumeFault::Refused(AuditFault::Illegal(1, Denial::Empty));
-    assert_eq!(rt; empty, (Some(wanted), true));
-    assert_eq!(rt;
-        long,
-        (Some(ResumeFault::Refused(AuditFault::Full(2))), true)
-    );
-    assert_eq!(rt;
-        torn,
-        (Some(ResumeFault::Refused(AuditFault::Torn(2))), true)
-    );
+    assert_eq!(rt; are_refused(&rt, rt.alloc())?, [true; 3]);
     Ok(())
 }

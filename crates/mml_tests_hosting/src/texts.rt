@@ -7,7 +7,7 @@ use mml_fakes::cycles::cycle;
 use mml_fakes::meeting::wait_for;
 use mml_hosting::{Arrivals, Bell, CutOff, Hosted, Next, ServedSession};
 use mml_journal::MemorySink;
-use mml_lab::{Lab, LabFault, read_lab};
+use mml_lab::{Lab, read_lab};
 use mml_serving::HangUp;
 use mml_session::NoRecorder;
 use std::alloc::{AllocError, Global};
@@ -15,6 +15,7 @@ use std::collections::VecDeque;
 use std::io;
 use std::io::Write;
 use std::sync::atomic::{AtomicU64, Ordering};
+use std::test::Fail;
 use std::vec::IntoIter;
 
 /// Counts the sessions that have ended.
@@ -133,9 +134,9 @@ impl<'a> Arrivals<VecDeque<u8>, Kept, Nothing> for Texts<'a> {
 }
 
 /// A cycle of six nodes with so many events, and three sessions.
-pub fn lab_of(alloc: Global, events: u64) -> Result<Result<Lab, LabFault>, AllocError> {
+pub fn lab_of(alloc: Global, events: u64) -> Result<Lab, Fail> {
     let text = cycle(alloc, 6, events, 3)?;
-    Ok(read_lab(alloc, text.as_bytes()))
+    Ok(read_lab(alloc, text.as_bytes())?)
 }
 
 /// What the connection with the number was sent, if it was served.

@@ -10,7 +10,7 @@ ghost use Rattle.mml_journal.specs.Taken.{IsFresh};
 use bytewise::Bytewise;
 use mml_fakes::labs::PATH_OF_THREE;
 use mml_journal::{MemorySink, Sink};
-use mml_lab::read_lab;
+use mml_lab::{Lab, read_lab};
 use mml_serving::{ServeFault, ServedHouse, serve_arrivals};
 use mml_session::{Gate, NoGate};
 use std::alloc::{AllocError, Global};
@@ -36,6 +36,17 @@ fn arrivals_of<'a>(alloc: Global, scripts: &[&'a str]) -> Result<IntoIter<Ends<'
     Ok(coming.into_iter())
 }
 
+/// The document of the path of three with as many sessions as there may be, and a node of two.
+fn document_of_sixteen(alloc: Global) -> Result<String, AllocError> {
+    let file = PATH_OF_THREE.replacen(alloc, "sessions = 4", "sessions = 16", 1)?;
+    file.replacen(alloc, "owner = \"ben\"", "owners = [\"ben\", \"ana\"]", 1)
+}
+
+fn lab_of_sixteen(alloc: Global) -> Result<Lab, Fail> {
+    let file = document_of_sixteen(alloc)?;
+    Ok(read_lab(alloc, file.as_bytes())?)
+}
+
 /// What comes of the first so many of these scripts over the path of three and a sink, with as many
 /// sessions as there may be; the last line goes out.
 fn serve<'a, S: Sink + Send + Drop, R: Threads + Wait + Sync, G: Gate + Sync>(
@@ -50,13 +61,11 @@ fn serve<'a, S: Sink + Send + Drop, R: Threads + Wait + Sync, G: Gate + Sync>(
     requires fresh { IsFresh (S.contents sink) }
     requires countable { S.failures sink < 2 ^ 64 - 1 }
 {
-    let file = PATH_OF_THREE.replacen(alloc, "sessions = 4", "sessions = 16", 1)?;
-    let file = file.replacen(alloc, "owner = \"ben\"", "owners = [\"ben\", \"ana\"]", 1)?;
-    let lab = read_lab(alloc, file.as_bytes())?;
+    let arrivals = arrivals_of(alloc, scripts)?;
+    let lab = lab_of_sixteen(alloc)?;
     if connections > lab.sessions() {
         return Err(Fail::from("more connections than sessions"));
     }
-    let arrivals = arrivals_of(alloc, scripts)?;
     Ok(serve_arrivals(rt, alloc, lab, arrivals, connections, sink, gate, out))
 }
 
@@ -309,33 +318,30 @@ fn held_sessions_are_answered_one_by_one(rt: HostRuntime) -> Result<(), Fail> {
     Ok(())
 }
 
-/// Whether of three connections the first two are served and left in their order, and where one comes of
-/// two that are wanted it is an error, and no last line is written.
-fn told_of_arrivals<R: Threads + Wait + Sync>(rt: &R, alloc: Global) -> Result<(bool, bool), Fail> {
+const BYE: &str = "{\"do\":\"bye\"}\n";
+
+/// Whether of three connections the first two are served and left in their order.
+fn are_two_left<R: Threads + Wait + Sync>(rt: &R, alloc: Global) -> Result<bool, Fail> {
     let mut out = Vec::new(alloc);
     let sink = MemorySink::new(alloc, None);
-    let bye = "{\"do\":\"bye\"}\n";
-    let two = serve(
-        rt,
-        alloc,
-        sink,
-        &[ANA_MOVES, bye, bye],
-        2,
-        &NoGate,
-        &mut out,
-    )?;
+    let scripts = [ANA_MOVES, BYE, BYE];
     let wanted: Outcome = (&[ANA_GRANTED, "{\"ok\":\"bye\"}\n"], ANA_JOURNAL, ONE_MOVED);
-    let are_two = match two {
-        Ok(house) => is_outcome(&house, &out, &wanted),
-        Err(_) => false,
-    };
-    let mut none = Vec::new(alloc);
+    match serve(rt, alloc, sink, &scripts, 2, &NoGate, &mut out)? {
+        Ok(house) => Ok(is_outcome(&house, &out, &wanted)),
+        Err(_) => Ok(false),
+    }
+}
+
+/// Whether it is an error where one comes of two that are wanted, and no last line is written.
+fn is_lack_told<R: Threads + Wait + Sync>(rt: &R, alloc: Global) -> Result<bool, Fail> {
+    let mut out = Vec::new(alloc);
     let sink = MemorySink::new(alloc, None);
-    let one = serve(rt, alloc, sink, &[ANA_MOVES], 2, &NoGate, &mut none)?;
-    Ok((
-        are_two,
-        matches!(one, Err(ServeFault::Accept)) && none.is_empty(),
-    ))
+    let one = serve(rt, alloc, sink, &[ANA_MOVES], 2, &NoGate, &mut out)?;
+    Ok(matches!(one, Err(ServeFault::Accept)) && out.is_empty())
+}
+
+fn told_of_arrivals<R: Threads + Wait + Sync>(rt: &R, alloc: Global) -> Result<(bool, bool), Fail> {
+    Ok((are_two_left(rt, alloc)?, is_lack_told(rt, alloc)?))
 }
 
 #[test]

@@ -171,17 +171,18 @@ fn closed(alloc: Global) -> Result<String, AllocError> {
 }
 
 /// A hall of that row.
-fn hall_of_256(alloc: Global) -> Result<Hall<NullSink>, Fail> {
+fn hall_of_256(alloc: Global) -> Result<Box<Hall<NullSink>>, Fail> {
     let file = row_of_256(alloc)?;
     let lab = read_lab(alloc, file.as_bytes())?;
-    Ok(Hall::new(alloc, lab, NullSink::new())?)
+    let hall = Hall::new(alloc, lab, NullSink::new())?;
+    Ok(Box::new(alloc, hall)?)
 }
 
 /// Whether each kind of reply but a look and a report is written, and whether a report of all nodes is.
 fn told_of_replies(alloc: Global) -> Result<(bool, bool), Fail> {
     let closed = closed(alloc)?;
     let out = &mut Vec::with_capacity(alloc, REPLY_ROOM)?;
-    let hall = &mut hall_of_256(alloc)?;
+    let hall = &mut *hall_of_256(alloc)?;
     let is_before = are_written(alloc, hall, out, BEFORE);
     let is_moved = are_moves_written(alloc, hall, out)?;
     let is_closed = is_written(alloc, hall, out, 2, r#"{"do":"close"}"#, closed.as_str());

@@ -1,6 +1,6 @@
 //! What `check`, `audit` and `script` write, over writers that fail after so many writes or flushes.
 use mml_fakes::FakeWriter;
-use mml_fakes::labs::PATH_OF_THREE;
+use mml_fakes::labs::{PATH_OF_THREE, boxed_lab};
 use mml_fakes::scripts::{FIRST_LOOK, FIRST_LOOK_REPLIES, TEN_LINES};
 use mml_journal::NullSink;
 use mml_lab::{Lab, read_lab};
@@ -44,10 +44,14 @@ fn are_lines_told(alloc: Global, lab: &Lab) -> bool {
         && is_told(is_failed, &failing, Some(Fault::Write), b"")
 }
 
+fn told_of_lines(alloc: Global) -> Result<bool, Fail> {
+    let lab = boxed_lab(alloc, BUILT_IN)?;
+    Ok(is_listening_told(alloc) && are_lines_told(alloc, &lab))
+}
+
 #[test]
 fn lines_go_out_in_one_write(rt: HostRuntime) -> Result<(), Fail> {
-    let lab = read_lab(rt.alloc(), BUILT_IN.as_bytes())?;
-    let are_told = is_listening_told(rt.alloc()) && are_lines_told(rt.alloc(), &lab);
+    let are_told = told_of_lines(rt.alloc())?;
     let is_path = PATH_OF_THREE.strip_prefix('\n') == Some(BUILT_IN);
     assert_eq!(rt; (are_told, is_path), (true, true));
     Ok(())
@@ -94,17 +98,22 @@ const ROWS: &[Row] = &[
     (BYE, 1000, 100, 100, None, LEFT, 1000),
 ];
 
-/// Whether that comes of a script over the built-in lab.
-fn is_answered(alloc: Global, row: &Row) -> Result<bool, Fail> {
-    let (script, times, writes, flushes, wanted, replies, count) = row;
-    let script = script.repeat(alloc, *times)?;
-    let replies = replies.repeat(alloc, *count)?;
-    let mut writer = FakeWriter::failing_after(*writes, alloc);
-    writer.good_flushes = *flushes;
+/// How a script over the built-in lab ends.
+fn fault_of(alloc: Global, script: &str, writer: &mut FakeWriter) -> Result<Option<Fault>, Fail> {
     let lab = read_lab(alloc, BUILT_IN.as_bytes())?;
     let mut reader = script.as_bytes();
-    let ended = answer_script(alloc, lab, &mut reader, &mut writer, NullSink::new());
-    Ok(ended.err() == *wanted && writer.taken.as_slice() == replies.as_bytes())
+    Ok(answer_script(alloc, lab, &mut reader, writer, NullSink::new()).err())
+}
+
+/// Whether that comes of a script.
+fn is_answered(alloc: Global, row: &Row) -> Result<bool, Fail> {
+    let (script, times, writes, flushes, wanted, replies, count) = row;
+    let mut writer = FakeWriter::failing_after(*writes, alloc);
+    writer.good_flushes = *flushes;
+    let script = script.repeat(alloc, *times)?;
+    let fault = fault_of(alloc, script.as_str(), &mut writer)?;
+    let replies = replies.repeat(alloc, *count)?;
+    Ok(fault == *wanted && writer.taken.as_slice() == replies.as_bytes())
 }
 
 /// The first row of which something else comes.

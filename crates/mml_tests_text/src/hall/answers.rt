@@ -1,7 +1,7 @@
 //! Requests to a hall, and how it begins.
 use mml_board::Board;
 use mml_codec::{REPLY_ROOM, tell_reply};
-use mml_fakes::labs::{PAIR, greatest};
+use mml_fakes::labs::{PAIR, boxed_board, boxed_lab, greatest};
 use mml_hall::Hall;
 use mml_journal::NullSink;
 use mml_lab::{Lab, read_lab};
@@ -35,17 +35,22 @@ fn is_answered(alloc: Global, hall: &mut Hall<NullSink>) -> Result<bool, Fail> {
     Ok(are_so && hall.board().number() == 0 && hall.board().place() == 0)
 }
 
+/// A hall over the lab that a document spells.
+fn hall_of(alloc: Global, document: &str) -> Result<Box<Hall<NullSink>>, Fail> {
+    let lab = read_lab(alloc, document.as_bytes())?;
+    let hall = Hall::new(alloc, lab, NullSink::new())?;
+    Ok(Box::new(alloc, hall)?)
+}
+
 /// The same of a hall over a lab of three nodes.
 fn told(alloc: Global) -> Result<bool, Fail> {
-    let lab = read_lab(alloc, PAIR.as_bytes())?;
-    let mut hall = Hall::new(alloc, lab, NullSink::new())?;
+    let mut hall = hall_of(alloc, PAIR)?;
     is_answered(alloc, &mut hall)
 }
 
 /// Whether a hall over the lab that a document spells begins as a board, with no event.
 fn begins_as(alloc: Global, document: &str, board: &Board) -> Result<bool, Fail> {
-    let lab = read_lab(alloc, document.as_bytes())?;
-    let hall = Hall::new(alloc, lab, NullSink::new())?;
+    let hall = hall_of(alloc, document)?;
     Ok(board.is_same(hall.board()) && hall.events().is_empty())
 }
 
@@ -57,20 +62,23 @@ fn is_copied(alloc: Global, board: &Board) -> Result<bool, Fail> {
 
 /// Whether a board of a lab, its copy and that of a hall begin as the same world.
 fn are_one(alloc: Global, document: &str, lab: &Lab) -> Result<bool, Fail> {
-    let board = &Board::new(alloc, lab)?;
+    let board = &*boxed_board(alloc, lab)?;
     Ok(is_copied(alloc, board)? && begins_as(alloc, document, board)?)
 }
 
 /// The same over the largest lab.
 fn is_one_beginning(alloc: Global) -> Result<bool, Fail> {
     let document = greatest(alloc)?;
-    let lab = read_lab(alloc, document.as_bytes())?;
+    let lab = boxed_lab(alloc, document.as_str())?;
     are_one(alloc, document.as_str(), &lab)
+}
+
+fn told_of_halls(alloc: Global) -> Result<(bool, bool), Fail> {
+    Ok((told(alloc)?, is_one_beginning(alloc)?))
 }
 
 #[test]
 fn requests_are_answered(rt: HostRuntime) -> Result<(), Fail> {
-    let (told, is_one) = (told(rt.alloc())?, is_one_beginning(rt.alloc())?);
-    assert_eq!(rt; (told, is_one), (true, true));
+    assert_eq!(rt; told_of_halls(rt.alloc())?, (true, true));
     Ok(())
 }

@@ -20,33 +20,47 @@ fn has_dripped(hall: &Hall<Drip>, puts: usize) -> bool {
         && hall.board().place() == lines as u64
 }
 
-/// Whether the journal of a hall passes both audits, up to the hall's board and with its events, unless its
-/// last line is torn.
-fn is_audited(alloc: Global, hall: &Hall<Drip>) -> bool {
-    let journal = hall.sink().bytes.as_slice();
-    let is_passed = match audit(alloc, hall.lab(), journal) {
+/// Whether a journal passes an audit up to a hall's board.
+fn is_passed(alloc: Global, hall: &Hall<Drip>, journal: &[u8]) -> bool {
+    match audit(alloc, hall.lab(), journal) {
         Ok(board) => board.is_same(hall.board()),
         Err(_) => false,
-    };
-    let is_listed = match audit_events(alloc, hall.lab(), journal) {
+    }
+}
+
+/// The same of the audit that tells the events, which are the hall's.
+fn is_listed(alloc: Global, hall: &Hall<Drip>, journal: &[u8]) -> bool {
+    match audit_events(alloc, hall.lab(), journal) {
         Ok(audited) => {
             audited.board.is_same(hall.board()) && audited.events.as_slice() == hall.events()
         }
         Err(_) => false,
-    };
+    }
+}
+
+/// Whether the journal of a hall passes both audits, up to the hall's board and with its events, unless its
+/// last line is torn.
+fn is_audited(alloc: Global, hall: &Hall<Drip>) -> bool {
+    let journal = hall.sink().bytes.as_slice();
     let is_whole = match journal.last() {
         Some(byte) => *byte == b'\n',
         None => true,
     };
-    is_passed == is_whole && is_listed == is_whole
+    is_passed(alloc, hall, journal) == is_whole && is_listed(alloc, hall, journal) == is_whole
 }
 
-/// Whether a script leaves such a hall over a sink that takes one byte a put and fails after so many.
-fn drips(alloc: Global, script: &str, puts: usize) -> Result<bool, Fail> {
+/// The hall of a script over a sink that takes one byte a put and fails after so many.
+fn hall_of(alloc: Global, script: &str, puts: usize) -> Result<Box<Hall<Drip>>, Fail> {
     let lab = read_lab(alloc, PATH_OF_THREE.as_bytes())?;
     let sink = Drip::failing_after(puts, alloc);
     let mut writer = FakeWriter::patient(alloc);
     let hall = run_script(alloc, lab, &mut script.as_bytes(), &mut writer, sink)?;
+    Ok(Box::new(alloc, hall)?)
+}
+
+/// Whether a script leaves such a hall.
+fn drips(alloc: Global, script: &str, puts: usize) -> Result<bool, Fail> {
+    let hall = hall_of(alloc, script, puts)?;
     Ok(has_dripped(&hall, puts) && is_audited(alloc, &hall))
 }
 

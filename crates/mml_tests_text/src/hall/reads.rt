@@ -103,17 +103,23 @@ fn is_bad_line_told(alloc: Global) -> Result<bool, Fail> {
     is_told(alloc, script, "2 {\"ok\":\"bye\"}\n", 1, end)
 }
 
+/// Whether two scripts, a long greeting and a bad line are each read once.
+fn are_read_once(alloc: Global) -> Result<[bool; 4], Fail> {
+    let look = is_read_once(alloc, FIRST_LOOK, FIRST_LOOK_REPLIES)?;
+    let greeting = is_read_once(alloc, GREETING, GREETING_REPLIES)?;
+    let long = is_long_greeting_answered(alloc)?;
+    Ok([look, greeting, long, is_bad_line_told(alloc)?])
+}
+
+/// The same, the first read that isn't told, and the first other row of buffers.
+fn told(alloc: Global) -> Result<([bool; 4], [Option<usize>; 2]), Fail> {
+    let are_read_once = are_read_once(alloc)?;
+    let firsts = [first_untold_read(alloc)?, first_other_buffer(alloc)?];
+    Ok((are_read_once, firsts))
+}
+
 #[test]
 fn each_read_is_made_once(rt: HostRuntime) -> Result<(), Fail> {
-    let look = is_read_once(rt.alloc(), FIRST_LOOK, FIRST_LOOK_REPLIES)?;
-    let greeting = is_read_once(rt.alloc(), GREETING, GREETING_REPLIES)?;
-    let long = is_long_greeting_answered(rt.alloc())?;
-    let bad = is_bad_line_told(rt.alloc())?;
-    let (byte, buffer) = (
-        first_untold_read(rt.alloc())?,
-        first_other_buffer(rt.alloc())?,
-    );
-    let found = ((look, greeting, long, bad), (byte, buffer));
-    assert_eq!(rt; found, ((true, true, true, true), (None, None)));
+    assert_eq!(rt; told(rt.alloc())?, ([true; 4], [None; 2]));
     Ok(())
 }

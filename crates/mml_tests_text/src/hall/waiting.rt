@@ -119,12 +119,18 @@ fn first_cut_that_changes(alloc: Global) -> Result<Option<usize>, Fail> {
     Ok(None)
 }
 
+/// What is told of looks and of greetings, and the first cut that changes something.
+type Told = ((bool, usize), (bool, usize), Option<usize>);
+
+fn told(alloc: Global) -> Result<Told, Fail> {
+    let looks = asked(alloc, FIRST_LOOK, FIRST_LOOK_REPLIES)?;
+    let greets = asked(alloc, GREETING, GREETING_REPLIES)?;
+    Ok((looks, greets, first_cut_that_changes(alloc)?))
+}
+
 #[test]
 fn replies_go_out_before_the_next_read(rt: HostRuntime) -> Result<(), Fail> {
-    let looks = asked(rt.alloc(), FIRST_LOOK, FIRST_LOOK_REPLIES)?;
-    let greets = asked(rt.alloc(), GREETING, GREETING_REPLIES)?;
-    let cut = first_cut_that_changes(rt.alloc())?;
     // A read for each line, and one that finds the end.
-    assert_eq!(rt; (looks, greets, cut), ((true, 5), (true, 8), None));
+    assert_eq!(rt; told(rt.alloc())?, ((true, 5), (true, 8), None));
     Ok(())
 }

@@ -72,12 +72,15 @@ fn first_untold_flush(alloc: Global) -> Result<Option<usize>, Fail> {
     Ok(None)
 }
 
+/// The first write and the first flush that aren't told.
+type Untold = (Option<(usize, usize)>, Option<usize>);
+
+fn first_untold(alloc: Global) -> Result<Untold, Fail> {
+    Ok((first_untold_write(alloc)?, first_untold_flush(alloc)?))
+}
+
 #[test]
 fn failed_writes_and_flushes_are_told(rt: HostRuntime) -> Result<(), Fail> {
-    let (write, flush) = (
-        first_untold_write(rt.alloc())?,
-        first_untold_flush(rt.alloc())?,
-    );
-    assert_eq!(rt; (write, flush), (None, None));
+    assert_eq!(rt; first_untold(rt.alloc())?, (None, None));
     Ok(())
 }
