@@ -53,8 +53,8 @@ LANGUAGES = ("java", "node", "cc", "rustc")
 PROVED = "[ps]*/**/*.*t"  # a crate's src/, specs/ and proofs/
 EDITS = "wrong/*.edit"
 STANDS = r"^rt: (\w+) (?:proved$|is kept: )"  # a crate whose library is written
-PROOFS = Part("proofs", ("rt", "ci"), 125, 60, ALL, ("rt",), shows=r"^rt: ", hands_on=STANDS)
-WRONG = Part("wrong", module("wrong"), 77, 10, ALL, ("rt",))
+PROOFS = Part("proofs", ("rt", "ci"), 105, 42, ALL, ("rt",), shows=r"^rt: ", hands_on=STANDS)
+WRONG = Part("wrong", module("wrong"), 57, 10, ALL, ("rt",))
 LAST_CRATES = 5  # minutes of the wrong bodies of the crates that are proved last
 
 
