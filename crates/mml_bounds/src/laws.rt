@@ -38,8 +38,8 @@ pub fn courtships_in_numbers()
     ensures odd { (k : ℕ) → most_courtships (2 * k + 1) ≡ k * k + k }
 {}
 
-/// In a step of moves whose guards hold, this potential falls by at least the number of nodes that move; and
-/// it is at most 3 for each of n nodes, and 2 for each of n²/4.
+/// In a step of moves whose guards hold, the potential that counts courtships falls by at least the number of
+/// nodes that move; and it is at most 3 for each of n nodes, and 2 for each of n²/4.
 pub fn step_lowers_courting_potential()
     ensures lower { (c : Configuration) (chosen : ℕ → Option Rule) → IsLawful c → AllHold c chosen →
         courting_potential (step c chosen) + count_below c.size (moves chosen) ≤ courting_potential c }
@@ -47,9 +47,9 @@ pub fn step_lowers_courting_potential()
         courting_potential c ≤ 3 * c.size + 2 * most_courtships c.size }
 {}
 
-/// The bound on rounds is reached for each number of nodes from 2 on that a lab may have: whoever owns each
-/// node of the two halves has a legal list of grants and closes with one round less than the bound, after
-/// which some node is privileged. So too where each close applies one move: as many moves as closes.
+/// The bound on rounds, 2n or, where n is odd, 2n - 1, is reached for each number n of nodes from 2 on that a
+/// lab may have: whoever owns each node of the two halves has a legal list of grants and closes with one round
+/// less, after which some node is privileged; and one in which each close applies one move.
 pub fn rounds_are_reached()
     ensures world { (n : ℕ) → n ≤ MAX_NODES →
         IsWorld (halves_world n) × (size (halves_world n) ≡ n) }
@@ -67,9 +67,9 @@ pub fn rounds_are_reached()
         (¬ IsStable (configuration (world_of (halves_world n) es))) }
 {}
 
-/// The bound on moves is reached for each even number of nodes from 4 on that a lab may have, and missed by
-/// one for each odd number: whoever owns each node of the crowd has a legal list of grants and closes that
-/// applies so many.
+/// The bound on moves, 3 for each of n nodes and 2 for each of n²/4, rounded down, is reached for each even n
+/// from 4 on that a lab may have, and missed by one for each odd n: whoever owns each node of the crowd has a
+/// legal list of grants and closes that applies so many.
 pub fn moves_are_reached()
     ensures world { (n : ℕ) → 4 ≤ n → n ≤ MAX_NODES →
         IsWorld (crowd_world n) × (size (crowd_world n) ≡ n) }
@@ -87,8 +87,8 @@ pub fn moves_are_reached()
 
 /// From 4 nodes on the comb is a tree: it has one link less than nodes, and each node but the last is linked
 /// to a higher one. Whoever owns each node has a legal list of grants and closes that applies one move less
-/// than the bound for so many links, and two less where the number of nodes is odd. That no tree takes more
-/// isn't stated.
+/// than 3 for each node and 2 for each link, and two less where the number of nodes is odd. That no tree takes
+/// more isn't stated.
 pub fn trees_reach_their_moves()
     ensures world { (n : ℕ) → 4 ≤ n → n ≤ MAX_NODES →
         IsWorld (comb_world n) × (size (comb_world n) ≡ n) }

@@ -52,15 +52,16 @@ pub fn moves_are_bounded()
         applied_over w es ≤ 2 * link_count w.network + 3 * size w }
 {}
 
-/// So there are no more closes than that, since each applies a move.
+/// From any world, a legal list of grants, releases and closes has at most 2 closes for each link and 3 for
+/// each node, since each close applies a move.
 pub fn closes_are_bounded()
     ensures { (r : RosterValue) (w : World) (es : List Event) → IsWorld w →
         is_legal_list r w es ≡ true → list_all is_of_step es ≡ true →
         count_closes es ≤ 2 * link_count w.network + 3 * size w }
 {}
 
-/// The bound is reached: in a class of one student, who owns a triangle with a tail, a legal list of grants and
-/// closes applies 20 moves, which is 2 for each of the 4 links and 3 for each of the 4 nodes.
+/// No bound on all moves below 2 for each link and 3 for each node holds: in a class of one student, who owns a
+/// triangle with a tail, a legal list of grants and closes applies 20, for 4 links and 4 nodes.
 pub fn bound_is_reached()
     ensures roster { IsRoster sole_owner }
     ensures world { IsWorld triangle_world }
@@ -92,7 +93,7 @@ pub fn rounds_are_bounded()
         ¬ IsStable (configuration (world_of w es)) → k < rounds_for (size w) }
 {}
 
-/// That is 2n, or 2n - 1 where n is odd.
+/// Four rounds for each two of n nodes, and one for a node left over, are 2n, or 2n - 1 where n is odd.
 pub fn rounds_in_numbers()
     ensures at_most { (n : ℕ) → rounds_for n ≤ 2 * n }
     ensures even { (k : ℕ) → rounds_for (2 * k) ≡ 4 * k }
@@ -105,7 +106,8 @@ pub fn stable_lists_have_rounds()
         Rounds k w es }
 {}
 
-/// So there are at most that many closes, if each finds a chosen move at every privileged node.
+/// From any world, a legal list of grants, releases and closes, each close of which finds a chosen move at every
+/// privileged node, has at most 2n closes for n nodes, and 2n - 1 where n is odd.
 pub fn full_closes_are_few()
     ensures { (r : RosterValue) (w : World) (es : List Event) → IsWorld w →
         is_legal_list r w es ≡ true → list_all is_of_step es ≡ true → ClosesFull w es →
@@ -129,7 +131,8 @@ pub fn runs_end_stable()
         (es : List Event) × LeadsToRest r w (4 * link_count w.network + 6 * size w) es }
 {}
 
-/// Potentials counted by hand: two linked nodes, and a network in which all of the bound is used.
+/// Potentials counted by hand: of two linked nodes, and of all nodes of a triangle with a tail, whose 20 are
+/// all of 2 for each link and 3 for each node.
 pub fn potentials_by_hand()
     ensures apart { (potential (two_nodes None false None false) 0 ≡ 3) ×
         (potential (two_nodes None false None false) 1 ≡ 1) }

@@ -58,7 +58,8 @@ pub fn hidden_values_change_no_turn()
         StatesAlike lab s (turn mishap lab st k line).state (turn mishap other su k line).state }
 {}
 
-/// After the plain turns of a line on any connection the states are alike, where the worlds are.
+/// States that are alike for a student are so after the plain turns of a line on any connection, where the
+/// worlds then are.
 pub fn lines_of_others_keep_states_alike()
     ensures { (lab other : LabValue) (s : ℕ) (st su : State) (k : ℕ) (line : List ℕ) →
         AreTwins lab other → StatesAlike lab s st su →
@@ -105,8 +106,9 @@ pub fn hidden_values_change_no_script()
         StatesAlike lab s (end_of lab st lines) (end_of other su lines) }
 {}
 
-/// The same where turns meet mishaps, the same in both runs, and are halted the same after each line of
-/// another's, for any number of connections that are hers throughout.
+/// Two runs of one script in which the same mishaps befall the same lines, and whose worlds stay alike for a
+/// student, and are halted the same, at each line of another's: all that is written on connections that are
+/// hers throughout, however many, is the same; and the states at the end are alike.
 pub fn hidden_values_change_no_script_with_mishaps()
     ensures connections { (lab other : LabValue) (s : ℕ) (st su : State) (some : ℕ → Bool)
         (bs : List BefallenLine) → AreTwins lab other → StatesAlike lab s st su →
@@ -125,14 +127,14 @@ pub fn hidden_values_change_no_script_with_mishaps()
         StatesAlike lab s (end_with lab st bs) (end_with other su bs) }
 {}
 
-/// In each run something, or nothing, befell each line.
+/// Each run is that of turns whose mishaps are told: one for each line, or none.
 pub fn something_befell_each_line()
     ensures { (lab : LabValue) (st : State) (lines : List RequestLine) (rs : List Reply)
         (end : State) → Run lab st lines rs end → Befalls lab st lines rs end }
 {}
 
-/// Where nobody but the student is known, and each hello that is granted is hers, the worlds need not
-/// be looked at: all replies are the same, and so are all bytes.
+/// Two runs of one script from states that are alike for a student, where nobody but she is known and each
+/// hello that is granted is hers: all replies are the same, and so are all bytes, whatever the worlds come to.
 pub fn one_who_is_alone_can_not_tell()
     ensures replies { (lab other : LabValue) (s : ℕ) (st su : State) (lines : List RequestLine) →
         AreTwins lab other → StatesAlike lab s st su → OnlySheIsKnown s st →
@@ -148,7 +150,7 @@ pub fn one_who_is_alone_can_not_tell()
         AreUnhindered u.replies → bytes_written t ≡ bytes_written u }
 {}
 
-/// At the beginning the states are alike where the labs' networks are, and nobody is known.
+/// Where runs begin the states are alike for a student if the labs' networks are, and nobody is known.
 pub fn runs_begin_alike()
     ensures states { (lab other : LabValue) (s : ℕ) → AreTwins lab other → IsLab lab →
         IsLab other → Alike lab.roster s (opening_of lab.network) (opening_of other.network) →

@@ -78,7 +78,7 @@ pub fn a_see_shows_the_registers()
         ruling ids r limit is_halted w x (command.See id) ≡ Denied Hidden }
 {}
 
-/// A node is looked at exactly by its owners and the teacher.
+/// A node is looked at exactly where there is such a node, by its owners and the teacher.
 pub fn a_look_takes_an_owner()
     ensures { (ids : List ℕ) (r : RosterValue) (w : World) (x : Who) (id : ℕ) →
         (verdict ids r w x (command.Look id) ≡ verdicts.Show) ↔ MayLook ids r x id }
@@ -92,7 +92,7 @@ pub fn a_look_shows_what_is_visible()
 {}
 
 /// A step is closed exactly by the teacher, where some move is chosen; else it is denied by the first of these
-/// that doesn't hold. So it is of the commands below.
+/// that doesn't hold.
 pub fn a_close_takes_a_chosen_node()
     ensures granted { (ids : List ℕ) (r : RosterValue) (w : World) (x : Who) (e : Event) →
         (verdict ids r w x command.Close ≡ verdicts.Grant e) ↔
@@ -101,7 +101,8 @@ pub fn a_close_takes_a_chosen_node()
         (verdict ids r w x command.Close ≡ verdicts.Deny d) ↔ DeniesClose w x d }
 {}
 
-/// The registers of a node are set exactly by the teacher, to a pointer that is null or a neighbour.
+/// The registers of a node are set exactly by the teacher, where there is such a node, to a pointer that is null
+/// or a neighbour; else it is denied by the first of these that doesn't hold.
 pub fn a_fault_takes_a_neighbour()
     ensures granted { (ids : List ℕ) (r : RosterValue) (w : World) (x : Who) (id : ℕ) (p : Option ℕ)
         (m : Bool) (e : Event) → (verdict ids r w x (command.Fault id p m) ≡ verdicts.Grant e) ↔
@@ -111,7 +112,8 @@ pub fn a_fault_takes_a_neighbour()
         DeniesFault ids w x id p d }
 {}
 
-/// A link is made exactly by the teacher, between two different nodes that aren't linked.
+/// A link is made exactly by the teacher, where there are both nodes, they differ and they aren't linked; else
+/// it is denied by the first of these that doesn't hold.
 pub fn a_link_takes_two_unlinked_nodes()
     ensures granted { (ids : List ℕ) (r : RosterValue) (w : World) (x : Who) (first second : ℕ)
         (e : Event) → (verdict ids r w x (command.Link first second) ≡ verdicts.Grant e) ↔
@@ -121,7 +123,8 @@ pub fn a_link_takes_two_unlinked_nodes()
         DeniesLink ids w x first second d }
 {}
 
-/// A link is removed exactly by the teacher, between two nodes that are linked.
+/// A link is removed exactly by the teacher, where there are both nodes and they are linked; else it is denied
+/// by the first of these that doesn't hold.
 pub fn a_cut_takes_two_linked_nodes()
     ensures granted { (ids : List ℕ) (r : RosterValue) (w : World) (x : Who) (first second : ℕ)
         (e : Event) → (verdict ids r w x (command.Cut first second) ≡ verdicts.Grant e) ↔
@@ -131,7 +134,8 @@ pub fn a_cut_takes_two_linked_nodes()
         DeniesCut ids w x first second d }
 {}
 
-/// A chosen move is dropped exactly by the teacher.
+/// A chosen move is released exactly by the teacher, where there is such a node and it has one; else it is
+/// denied by the first of these that doesn't hold.
 pub fn a_release_takes_a_chosen_node()
     ensures granted { (ids : List ℕ) (r : RosterValue) (w : World) (x : Who) (id : ℕ) (e : Event) →
         (verdict ids r w x (command.Release id) ≡ verdicts.Grant e) ↔

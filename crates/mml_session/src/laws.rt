@@ -23,13 +23,13 @@ pub fn seen_goes_on()
         IsPrefix st.window.seen t.end.window.seen }
 {}
 
-/// Each line has one reply.
+/// Each line of a talk has one reply.
 pub fn one_reply_each()
     ensures { (lab : LabValue) (st : Standing) (t : Talk lab st) →
         length t.replies ≡ length t.lines }
 {}
 
-/// The lines that were answered are the first of the input, and all where no line comes after them.
+/// The lines of a talk are the first of the input, and all where no line comes after them.
 pub fn lines_of_a_talk()
     ensures first { (lab : LabValue) (st : Standing) (t : Talk lab st) (rest : List ℕ) →
         lines_of (bytes_read t ++ rest) ≡ t.lines ++ lines_of rest }

@@ -37,7 +37,7 @@ pub fn reports_name_nodes()
     ensures { (w : World) → IsWorld w → NamesNodes (size w) (report_of w) }
 {}
 
-/// A report lists exactly these: the nodes that point at each other, the lower one first; the nodes in no
+/// A report lists exactly the nodes that point at each other, the lower one first; the nodes in no
 /// pair; the nodes at which some rule may be applied, each with the kind of that rule; and the links between
 /// two nodes in no pair, the lower one first, each with its witness.
 pub fn lists_are_exact()
@@ -51,8 +51,8 @@ pub fn lists_are_exact()
         Contains (open_links c) l ↔ IsOpenLink c l }
 {}
 
-/// Each of these lists rises: pairs and privileged nodes by the first node, open links by the first and then
-/// by the second. So nothing stands in one twice.
+/// Each list of a report rises: free nodes by their ranks, pairs and privileged nodes by the first node, open
+/// links by the first and then by the second. So nothing stands in one twice.
 pub fn lists_rise()
     ensures pairs { (c : Configuration) → Rises (λ p q. p.0 < q.0) (pairs c) }
     ensures free { (c : Configuration) → Rises (λ i j. i < j) (free_nodes c) }

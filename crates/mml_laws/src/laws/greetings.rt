@@ -33,9 +33,9 @@ pub fn a_connection_is_known_as_one()
         greeting r None (requests.Hello name key) ≡ Answered (reply.Deny denial.Unknown) None }
 {}
 
-/// So it is on each connection of a hall: whatever befell the turn, a denied hello or command changes
-/// nothing, and where nothing did, a known connection's command is ruled on as that of the one who is
-/// known.
+/// In a hall a hello on a connection that is known is denied as `greeted`, and a command on one that isn't as
+/// `not-greeted`, or refused as `memory`; neither changes anything. In a plain turn a command on a connection
+/// that is known is ruled on as that of the one who is known.
 pub fn a_hall_knows_its_connections_so()
     ensures again { (lab : LabValue) (st : hall.State) (k : ℕ) (line : List ℕ) (out : hall.Outcome)
         (x : Who) (name key : List ℕ) → hall.known_on st k ≡ Some x →
@@ -51,7 +51,9 @@ pub fn a_hall_knows_its_connections_so()
         IsTold st (reply.Deny denial.NotGreeted) out }
 {}
 
-/// So it is in a session.
+/// In a session a hello of one who is known is denied as `greeted`, and a command of one who isn't as
+/// `not-greeted`, or refused as `memory`; neither changes anything. A command of one who is known is answered as
+/// that one's, who stays known, or refused as `memory`.
 pub fn a_session_knows_its_connection_so()
     ensures again { (lab : LabValue) (st next : session.Standing) (line : List ℕ) (r : Reply)
         (x : Who) (name key : List ℕ) → st.known ≡ Some x →

@@ -33,9 +33,9 @@ pub fn replies_of_a_hall_name_their_events()
         IsPrefix st.events end.events }
 {}
 
-/// So it is in a session, and at its last line, beside any legal list of the lab's events that begins with
-/// what its window has seen at the end: the events of a house, which all of its windows have seen a
-/// beginning of.
+/// In a session, and at its last line, a reply that names place p answers one who was known, and event p is the
+/// one that this one's command is granted after the first p - 1. The events are any legal list of the lab's that
+/// begins with what its window has seen at the end, as those of a house do.
 pub fn replies_of_a_session_name_their_events()
     ensures talk { (lab : LabValue) (st : session.Standing) (t : Talk lab st) (l : List Event) →
         IsLab lab → is_legal_in lab l ≡ true → length l ≤ lab.events →
