@@ -21,8 +21,8 @@ pub fn read_request(alloc: Global, line: &[u8]) -> Result<Request, LineFault>
     read_request_with(alloc, line, &mut scratch)
 }
 
-/// The same with memory that is kept from line to line: a line for which it has room takes none beside
-/// it, but for the words of a hello.
+/// The request that a line is, with memory that is kept from line to line: a line for which it has room
+/// takes none beside it, but for the words of a hello.
 pub fn read_request_with(
     alloc: Global,
     line: &[u8],
@@ -161,6 +161,7 @@ fn asked_at(fields: &Fields<'_>) -> Option<Asked>
     }
 }
 
+/// The request for a fault that the fields ask, if those that it wants are there.
 #[tactic(auto, unfolding(crate::specs::Requests::fault_of))]
 fn fault_of(fields: &Fields<'_>) -> Option<Request>
     ensures { (d : Data) → Holds fields.now d → result ≡ fault_of d }

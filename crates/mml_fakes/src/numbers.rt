@@ -1,6 +1,6 @@
 //! Numbers that look drawn.
 
-/// The same numbers each time, from a seed.
+/// Numbers that a seed settles: from one seed they are the same each time.
 #[derive(Drop)]
 pub struct Numbers {
     pub state: u64,

@@ -25,7 +25,7 @@ use std::thread::{Promise, PromisedHandle, Scope, Threads};
 /// What a connection is told for which no place is free.
 pub const BUSY: &[u8] = b"{\"refuse\":\"busy\"}\n";
 
-// That the connection was served in the place.
+// A thread's promise that the connection was served in the place.
 #[derive(Drop)]
 struct Pledge<H: Begun, K: Drop, C: Drop, R: Drop, W: Drop>(
     Snapshot<Place<H, K, C>>,

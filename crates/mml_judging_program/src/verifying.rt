@@ -150,7 +150,8 @@ pub(crate) fn read_seat<R: Files<File = File> + AllocGlobal>(
     read_up_to(rt, path.as_str(), MAX_RECORD)
 }
 
-// What a seat's record is found to be, read by pieces.
+// What a seat's record is found to be, read by pieces. The places of the events that it grants go behind those
+// that are there.
 fn verify_seat<R: Files<File = File> + AllocGlobal>(
     rt: &R,
     lab: &Lab,
@@ -225,7 +226,7 @@ pub fn write_verified<W: Write>(
     }
 }
 
-// The same with this end of the line.
+// Writes the line that tells of a record that passed, with this end.
 fn write_ended<W: Write>(
     alloc: Global,
     found: Findings,

@@ -58,8 +58,9 @@ fn next_member<'a>(text: &'a [u8], fields: &mut Fields<'a>) -> &'a [u8]
     any_member(text, fields)
 }
 
-/// The same for a key that most requests have, with the kind of value that it names, where at least
-/// eight bytes follow its quotation mark. Where the member is no such one, the fields stay.
+/// Puts a member into the fields whose key most requests have, with the kind of value that it names, where at
+/// least eight bytes follow its quotation mark; and gives what follows it. Where the member is no such one, the
+/// fields stay.
 #[inline(always)]
 fn known_member<'a>(text: &'a [u8], fields: &mut Fields<'a>) -> Option<&'a [u8]>
     ensures member { IfSome result (λ rest. PutsMember text.now rest.now fields.old fields.new) }
@@ -102,7 +103,8 @@ fn known_number<'a>(front: u32, text: &'a [u8], fields: &mut Fields<'a>) -> Opti
     None
 }
 
-/// The same for a text.
+/// Puts a member into the fields whose key begins with these four bytes and names a text, and gives what
+/// follows it. Where the member is no such one, the fields stay.
 #[inline(always)]
 fn known_text<'a>(front: u32, text: &'a [u8], fields: &mut Fields<'a>) -> Option<&'a [u8]>
     ensures member { IfSome result (λ rest. PutsKnown (to_be_bytes w32 front ++ text.now) rest.now fields.old fields.new) }
@@ -176,7 +178,7 @@ fn text_value<'a>(text: &'a [u8]) -> Option<(&'a str, &'a [u8])>
     Some((word, rest))
 }
 
-/// The same for a number.
+/// A number behind a colon, and what follows it.
 #[inline(always)]
 fn number_value<'a>(text: &'a [u8]) -> Option<(u64, &'a [u8])>
     ensures { IfSome result (λ r. BeginsAfter text.now (Number r.0) r.1.now) }
@@ -231,7 +233,7 @@ fn unspaced<'a>(text: &'a [u8]) -> &'a [u8]
     past_spaces(text)
 }
 
-/// The same where there are many.
+/// What follows the spaces at the front, where there are many.
 #[inline(never)]
 fn past_spaces<'a>(text: &'a [u8]) -> &'a [u8]
     ensures { Spaced text.now result.now }

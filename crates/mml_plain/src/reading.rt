@@ -34,7 +34,7 @@ pub fn read_fields<'a>(
     read_tokens(line, scratch, fields)
 }
 
-/// The same by the tokens of the line, whatever the fields hold.
+/// Reads the fields by the tokens of the line, whatever they held. Whether the line is an object.
 #[inline(never)]
 fn read_tokens<'a>(
     line: &'a [u8],

@@ -115,7 +115,7 @@ impl<'a, Rt: Clock + Wait> SocketReader<'a, Rt> {
         }
     }
 
-    // The same, up to the end of a line.
+    // Reads what has come, or comes within the time that is left, up to the end of a line.
     fn read_line_in_time(&mut self, buf: &mut [u8]) -> io::Result<usize>
         ensures { ReadsAtMost result buf.new }
     {

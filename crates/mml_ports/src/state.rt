@@ -10,7 +10,7 @@ use std::time::{Clock, Duration, Instant};
 // How many milliseconds the wait for the end of a session takes at most.
 const PAUSE: u64 = 100;
 
-// The same while newcomers wait.
+// How many milliseconds that wait takes at most while newcomers wait.
 const SHORT_PAUSE: u64 = 5;
 
 // How many milliseconds lie between two denials of a name and key, at both ports together.

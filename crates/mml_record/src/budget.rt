@@ -8,7 +8,8 @@ pub trait Budget {
     /// Whether the text of an entry, of so many bytes, may be put of whoever is known, who is charged for it.
     fn takes_entry(&mut self, bytes: u64) -> bool;
 
-    /// The same of a session's end.
+    /// Whether the text of a session's end, of so many bytes, may be put of whoever is known, who is charged
+    /// for it.
     fn takes_end(&mut self, bytes: u64) -> bool;
 
     /// A session has ended, so that nobody is known.

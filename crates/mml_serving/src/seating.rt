@@ -95,7 +95,7 @@ pub(crate) fn serve_all<
     )
 }
 
-// That the connection was served to an end, through a window that had seen nothing.
+// A thread's promise that the connection was served to an end, through a window that had seen nothing.
 #[derive(Drop)]
 struct Pledge<R: Drop, W: Drop>(Snapshot<Connection<R, W>>);
 

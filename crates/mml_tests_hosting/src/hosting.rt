@@ -80,7 +80,7 @@ const NOTHING_CLOSED: &str = r#"{"ok":"hello","who":"tess"}
 /// The teacher's bye at a student's port ends nothing.
 const ELSEWHERE: Talk = (false, TESS_CLOSES, NOTHING_CLOSED);
 
-/// The same at the desk ends the house.
+/// The teacher's bye at the desk ends the house.
 const TESS: Talk = (true, TESS_CLOSES, NOTHING_CLOSED);
 
 /// One who comes again.

@@ -142,7 +142,7 @@ fn are_told_at_first(alloc: Global, lab: &Lab) -> Result<(bool, bool), Fail> {
     Ok((opened == (true, true), is_shown && is_line))
 }
 
-/// The same where the higher points.
+/// Whether board, copy, first node and first line are told so where the higher node points.
 fn are_told_where_higher_points(alloc: Global) -> Result<(bool, bool), Fail> {
     let lab = boxed_lab(alloc, HIGHER_POINTS)?;
     are_told_at_first(alloc, &lab)
@@ -243,13 +243,13 @@ fn follow(alloc: Global, board: &mut Board) -> Result<(bool, bool), Fail> {
     Ok((moved, changed))
 }
 
-/// The same over a lab.
+/// Whether moves and changes are told so from the beginning of a run over a lab.
 fn follow_over(alloc: Global, lab: &Lab) -> Result<(bool, bool), Fail> {
     let mut board = boxed_board(alloc, lab)?;
     follow(alloc, &mut board)
 }
 
-/// The same from the beginning of a run.
+/// Whether moves and changes are told so from the beginning of a run over the path of three.
 fn are_told(alloc: Global) -> Result<(bool, bool), Fail> {
     let lab = boxed_lab(alloc, PATH_OF_THREE)?;
     follow_over(alloc, &lab)

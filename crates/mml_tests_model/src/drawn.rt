@@ -136,7 +136,7 @@ fn letters_on(alloc: Global, lab: &Lab, board: &mut Board) -> Result<Vec<u8>, Al
     Ok(letters)
 }
 
-/// The same from the beginning of a run.
+/// The letters of the events that are drawn from the beginning of a run.
 fn letters_over(alloc: Global, lab: &Lab) -> Result<Vec<u8>, Fail> {
     let mut board = boxed_board(alloc, lab)?;
     Ok(letters_on(alloc, lab, &mut board)?)

@@ -133,7 +133,7 @@ fn are_told(alloc: Global, lab: &Lab) -> Result<(bool, bool, bool), Fail> {
     Ok((shapes, unknowns, are_read_and_written(alloc, lab)?))
 }
 
-/// The same, and whether lines with a byte replaced are read as they should be.
+/// Whether shapes, unknowns and events are told as they should be, and lines with a byte replaced.
 fn told(alloc: Global) -> Result<((bool, bool, bool), bool), Fail> {
     let lab = boxed_lab(alloc, PATH_OF_THREE)?;
     Ok((are_told(alloc, &lab)?, replaced::are_read_so(alloc, &lab)?))

@@ -145,7 +145,7 @@ fn told(alloc: Global, lab: &Lab) -> Result<(String, bool, Option<&'static str>)
     ))
 }
 
-/// The same of a document, with whether it shows that.
+/// Whether a document's lab shows that, whether its network is copied, and the first name with another place.
 fn told_of(
     alloc: Global,
     document: &str,

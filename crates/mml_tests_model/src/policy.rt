@@ -54,13 +54,13 @@ fn rulings(alloc: Global, lab: &Lab, board: &Board, cases: &[Case]) -> Result<St
     Ok(text)
 }
 
-/// The same at the beginning of a run.
+/// What is ruled in each case at the beginning of a run.
 fn first_rulings(alloc: Global, lab: &Lab, cases: &[Case]) -> Result<String, Fail> {
     let board = boxed_board(alloc, lab)?;
     rulings(alloc, lab, &board, cases)
 }
 
-/// The same over a path of three.
+/// What is ruled in each case at the beginning of a run over a path of three.
 fn rulings_over_the_path(alloc: Global, cases: &[Case]) -> Result<String, Fail> {
     let lab = boxed_lab(alloc, PATH_OF_THREE)?;
     first_rulings(alloc, &lab, cases)

@@ -86,7 +86,8 @@ fn lines_that_hold(alloc: Global, lab: &Lab) -> Result<usize, Fail> {
     Ok(11)
 }
 
-/// The same; and what comes of a first put numbered 0, and with no put that fails.
+/// How many lines come through before a put that fails takes others with it; and what comes of a first put
+/// numbered 0, and with no put that fails.
 fn lines_taken(alloc: Global, lab: &Lab) -> Result<(usize, bool, bool), Fail> {
     let hold = lines_that_hold(alloc, lab)?;
     let none = takes_lines(alloc, lab, Some(0), 0)?;

@@ -207,7 +207,7 @@ fn refuses_the_second<H: House, R: Wait>(
         && book.events().len() == 1
 }
 
-/// The same of a house, of which no window keeps the place.
+/// Whether a house's book decides so, of which no window keeps a place, and how the house ends.
 fn decides_alone<H: House, R: Wait>(
     rt: &R,
     alloc: Global,

@@ -26,8 +26,8 @@ fn told<R: Read>(lines: &mut Lines, alloc: Global, reader: &mut R) -> Result<Str
     Ok(text)
 }
 
-/// The same, where each later call repeats the end and reads nothing from another reader; else a
-/// text that says so.
+/// What each call tells up to the end, where each later one repeats it and reads nothing from another reader;
+/// else a text that says so.
 fn told_to_the_end<R: Read>(alloc: Global, limit: usize, reader: &mut R) -> Result<String, Fail> {
     let mut lines = Lines::new(alloc, limit.min(MAX_LIMIT))?;
     let mut text = told(&mut lines, alloc, reader)?;
@@ -196,7 +196,7 @@ fn counted(alloc: Global) -> Result<(u32, Step, usize), Fail> {
     counted_in(alloc, breaks.as_slice())
 }
 
-/// The same of these bytes.
+/// How many lines come of these bytes by a byte each read, what ends them, and how many bytes are left.
 fn counted_in(alloc: Global, breaks: &[u8]) -> Result<(u32, Step, usize), Fail> {
     let mut reader = FakeReader::failing_after(usize::MAX, breaks);
     let mut lines = Lines::new(alloc, 4096)?;
@@ -212,7 +212,7 @@ fn comes_by_bytes(alloc: Global) -> Result<(bool, usize), Fail> {
     line_comes_by_bytes(alloc, text.as_bytes())
 }
 
-/// The same of this line and its end.
+/// Whether this line comes whole by reads of one byte, and then the end; and how many reads there were.
 fn line_comes_by_bytes(alloc: Global, text: &[u8]) -> Result<(bool, usize), Fail> {
     let mut reader = FakeReader::failing_after(usize::MAX, text);
     let mut lines = Lines::new(alloc, 4096)?;

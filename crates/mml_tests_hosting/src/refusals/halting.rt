@@ -89,7 +89,7 @@ fn grant_in(
     is_so.then_some((found, was_none))
 }
 
-/// The same in a hall of its own.
+/// What became, in a hall of its own, of a grant whose nth request for memory was refused, and whether none was.
 fn granted(alloc: Global, nth: usize, is_there: bool) -> Result<Option<(Grant, bool)>, Fail> {
     let lab = read_lab(alloc, PATH_OF_THREE.as_bytes())?;
     let mut hall = Hall::new(alloc, lab, MemorySink::new(alloc, None))?;

@@ -64,7 +64,7 @@ impl Visit<MemorySink> for Asked {
     }
 }
 
-/// The same of a house over the path of three with so many events, whose sink fails at that put.
+/// What is told of a house over the path of three with so many events, whose sink fails at that put.
 fn told_of<R: Wait>(
     rt: &R,
     alloc: Global,

@@ -50,7 +50,7 @@ fn is_kept(rt: &HostRuntime, path: &str, kept: &str) -> bool {
     old && is_begun && new && kept
 }
 
-/// The same of two paths, whose files are taken away again.
+/// Whether a file is kept under the second path, where it was begun under the first. Both are taken away again.
 fn told_of_paths(rt: &HostRuntime, path: Path<'_>, kept: Path<'_>) -> Result<bool, Fail> {
     fs::write(rt, path, BUILT_IN.as_bytes())?;
     let text = path.to_str().ok_or("a path")?;

@@ -81,7 +81,7 @@ impl<'a> Steps<'a> {
         self.given_up.load(Ordering::SeqCst) == 0 && self.misled.load(Ordering::SeqCst) == 0
     }
 
-    /// The same, and whether each connection passed so many steps.
+    /// Whether all passed lines and replies in turn, nobody gave up, and each connection passed so many steps.
     pub fn were_kept(&self, steps: u64) -> bool {
         self.were_led()
             && self

@@ -76,7 +76,7 @@ fn told_of(alloc: Global, lab: &Lab) -> Result<(String, String, bool), Fail> {
     Ok((sight(alloc, lab)?, report_line(alloc, lab)?, stays))
 }
 
-/// The same of two nodes far apart.
+/// What is shown of two nodes far apart, the report, and whether a vector stays in its room.
 fn told(alloc: Global) -> Result<(String, String, bool), Fail> {
     let lab = boxed_lab(alloc, FAR_APART)?;
     told_of(alloc, &lab)

@@ -42,7 +42,7 @@ fn hall_of(alloc: Global, document: &str) -> Result<Box<Hall<NullSink>>, Fail> {
     Ok(Box::new(alloc, hall)?)
 }
 
-/// The same of a hall over a lab of three nodes.
+/// Whether a look is answered so in a hall over a lab of three nodes, and changes nothing.
 fn told(alloc: Global) -> Result<bool, Fail> {
     let mut hall = hall_of(alloc, PAIR)?;
     is_answered(alloc, &mut hall)
@@ -66,7 +66,7 @@ fn are_one(alloc: Global, document: &str, lab: &Lab) -> Result<bool, Fail> {
     Ok(is_copied(alloc, board)? && begins_as(alloc, document, board)?)
 }
 
-/// The same over the largest lab.
+/// Whether a board of the largest lab, its copy and that of a hall begin as the same world.
 fn is_one_beginning(alloc: Global) -> Result<bool, Fail> {
     let document = greatest(alloc)?;
     let lab = boxed_lab(alloc, document.as_str())?;

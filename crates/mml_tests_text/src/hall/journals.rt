@@ -28,7 +28,7 @@ fn is_passed(alloc: Global, hall: &Hall<Drip>, journal: &[u8]) -> bool {
     }
 }
 
-/// The same of the audit that tells the events, which are the hall's.
+/// Whether a journal passes the audit that tells the events, up to a hall's board, and they are the hall's.
 fn is_listed(alloc: Global, hall: &Hall<Drip>, journal: &[u8]) -> bool {
     match audit_events(alloc, hall.lab(), journal) {
         Ok(audited) => {

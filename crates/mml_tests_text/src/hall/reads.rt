@@ -111,7 +111,7 @@ fn are_read_once(alloc: Global) -> Result<[bool; 4], Fail> {
     Ok([look, greeting, long, is_bad_line_told(alloc)?])
 }
 
-/// The same, the first read that isn't told, and the first other row of buffers.
+/// Whether scripts are each read once, the first read that isn't told, and the first other row of buffers.
 fn told(alloc: Global) -> Result<([bool; 4], [Option<usize>; 2]), Fail> {
     let are_read_once = are_read_once(alloc)?;
     let firsts = [first_untold_read(alloc)?, first_other_buffer(alloc)?];
