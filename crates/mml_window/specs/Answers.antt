@@ -15,7 +15,7 @@ use Rattle.mml_policy.specs.declared.refusal.Refusal.{Refusal}
 use Rattle.mml_policy.specs.declared.refusal.Refusal.TheVariants.{Full, Journal, Memory}
 use Rattle.mml_window.specs.Lists.{is_legal_in, world_in, ruling_at}
 use Rattle.mml_window.specs.Windows.{WindowValue, window, window_with}
-use Rattle.mml_window.specs.Books.{BookValue, IsBook, Grows, Halts}
+use Rattle.mml_window.specs.Books.{BookValue, IsBook, Grows, HaltsBook}
 
 -- an event would take place there
 abbrev pub Grants : LabValue → List Event → Who → Command → Type 0
@@ -34,7 +34,7 @@ Decides lab failures old who command (Denied d) new = (ruling_at lab (world_in l
 Decides lab failures old who command (Refused Full) new =
     (ruling_at lab (world_in lab old.events) who command ≡ ruling.Full) × (length old.events ≡ lab.events) × (new ≡ old)
 Decides lab failures old who command (Refused Journal) new =
-    Grants lab old.events who command × (((old.halted ≡ true) × (new ≡ old)) ⊎ Halts failures old new)
+    Grants lab old.events who command × (((old.halted ≡ true) × (new ≡ old)) ⊎ HaltsBook failures old new)
 Decides lab failures old who command (Refused Memory) new = Grants lab old.events who command × (old.halted ≡ false) × (new ≡ old)
 Decides lab failures old who command (Granted place number done) new =
     (e : Event) × Takes lab old.events who command e place number done × Grows failures old new e
@@ -43,7 +43,7 @@ Decides lab failures old who command (Granted place number done) new =
 abbrev pub Lets : {S : Type 0} → LabValue → (S → ℕ) → BookValue S → Event → Done → Answer → BookValue S → Type 0
 Lets lab failures old e done (Denied d) new = ⊥
 Lets lab failures old e done (Refused Full) new = ⊥
-Lets lab failures old e done (Refused Journal) new = Halts failures old new
+Lets lab failures old e done (Refused Journal) new = HaltsBook failures old new
 Lets lab failures old e done (Refused Memory) new = new ≡ old
 Lets lab failures old e done (Granted place number d) new =
     (d ≡ done) × (place ≡ length old.events + 1) × (number ≡ (world_in lab new.events).number) × Grows failures old new e

@@ -1,5 +1,5 @@
 use crate::published::Published;
-use crate::seeing::{Kept, View};
+use crate::seeing::{Publishing, View};
 use left_right::reader::{Reader, Reading};
 use left_right::writer::Writer;
 use mml_board::Event;
@@ -25,11 +25,11 @@ impl House for Brand {
     ghost lab = { no_lab };
 }
 
-/// A reader's place at what a house publishes.
-pub(crate) type Place<H> = Reader<Published, View, Kept<H>>;
+/// A reader's slot at what a house publishes.
+pub(crate) type Place<H> = Reader<Published, View, Publishing<H>>;
 
 /// A reader that has entered, with what it reads.
-pub(crate) type Entered<H> = Reading<Published, View, Kept<H>>;
+pub(crate) type Entered<H> = Reading<Published, View, Publishing<H>>;
 
 /// What publishes for a house.
-pub(crate) type Press<H> = Writer<Published, Event, View, Kept<H>>;
+pub(crate) type Press<H> = Writer<Published, Event, View, Publishing<H>>;

@@ -10,15 +10,16 @@ pub struct View {
     pub seen: LinkedList<Event>,
 }
 
-/// What is published is legal in the lab of H, and what each has seen is a beginning of it.
-pub struct Kept<H: House> {
+/// The protocol by which a house publishes: what is published is legal in the lab of H, and what each has seen
+/// is a beginning of it.
+pub struct Publishing<H: House> {
     of: PhantomData<H>,
 }
 
-impl<H: House> Protocol<Published, View> for Kept<H> {
-    ghost use Rattle.mml_window.specs.Rule.{IsKept, newcomer};
+impl<H: House> Protocol<Published, View> for Publishing<H> {
+    ghost use Rattle.mml_window.specs.Rule.{IsPublishedTo, newcomer};
 
-    ghost holds = { IsKept H.lab };
+    ghost holds = { IsPublishedTo H.lab };
 
     ghost first = { newcomer };
 }

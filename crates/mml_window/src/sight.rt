@@ -1,6 +1,6 @@
 use mml_policy::Denial;
 
-/// The writer is gone, or the window has no reader's place.
+/// The writer is gone, or the window has no reader's slot.
 #[derive(Clone, Copy, Debug, PartialEq, Eq)]
 pub struct Closed;
 
@@ -11,6 +11,6 @@ pub enum SightFault {
     Denied(Denial),
     /// Memory was refused. What is asked would be shown.
     Memory,
-    /// The writer is gone, or the window has no reader's place.
+    /// The writer is gone, or the window has no reader's slot.
     Closed,
 }

@@ -38,7 +38,7 @@ pub(crate) fn is_each_once<H: House>(windows: &[Window<H>], first: u64, most: u6
             return false;
         }
     }
-    are_at_end(windows, &cursors)
+    are_counted_off(windows, &cursors)
 }
 
 /// Moves the first cursor on that stands before this place. None may.
@@ -57,14 +57,14 @@ fn count_off<H: House>(windows: &[Window<H>], cursors: &mut Cursors, place: u64)
     false
 }
 
-/// Whether no place is left behind a cursor.
-fn are_at_end<H: House>(windows: &[Window<H>], cursors: &Cursors) -> bool
+/// Whether each window's cursor is past all its places.
+fn are_counted_off<H: House>(windows: &[Window<H>], cursors: &Cursors) -> bool
     requires few { length windows.now ≤ MAX_SESSIONS }
     ensures { MatchBool result (left_of windows.now cursors.now ≡ [])
         ((p : ℕ) × (0 < times p (left_of windows.now cursors.now))) }
 {
     'windows: for index in 0..windows.len() {
-        if !windows[index].is_at_end(cursors[index]) {
+        if !windows[index].is_counted_off(cursors[index]) {
             return false;
         }
     }

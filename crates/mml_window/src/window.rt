@@ -17,7 +17,7 @@ ghost use Rattle.mml_window.specs.Tallies.{times};
 ghost use Rattle.mml_window.specs.inside.Cursors.{IsStuck};
 
 use crate::house::{House, Place, Press};
-use crate::looking::{Seat, enter, leave, look_for_all, look_for_board, look_for_event};
+use crate::looking::{Reader, enter, leave, look_for_all, look_for_board, look_for_event};
 use crate::press::new_place;
 use crate::showing::{look_at, report_at, see_at};
 use crate::sight::{Closed, SightFault};
@@ -34,9 +34,9 @@ use std::sync::{Arc, Wait};
 /// the runtime, so none can wait for the lock.
 #[derive(Drop)]
 pub struct Window<H: House> {
-    // None while a call of this crate is at work, and where there was no reader's place at the start:
+    // None while a call of this crate is at work, and where there was no reader's slot at the start:
     // then nothing was seen.
-    reader: Option<Seat<H>>,
+    reader: Option<Reader<H>>,
     lab: Arc<Lab>,
     places: Vec<u64>,
     // Why its last act was refused, if it was.
@@ -54,17 +54,17 @@ impl<H: House> Model for Window<H> {
     ghost Value = { WindowValue };
 
     ghost view = { λ w. window_with
-        (unwrap_or (option_map (λ r. known r.place.place) w.reader) newcomer).seen w.places.items
+        (unwrap_or (option_map (λ r. known r.slot.place) w.reader) newcomer).seen w.places.items
         w.refused };
 
     ghost invariant = { λ w. IsWindow H.lab (window_with
-        (unwrap_or (option_map (λ r. known r.place.place) w.reader) newcomer).seen w.places.items
+        (unwrap_or (option_map (λ r. known r.slot.place) w.reader) newcomer).seen w.places.items
         w.refused)
         × (arc_value w.lab ≡ H.lab) × (H.lab.events ≤ vec_capacity w.places) };
 }
 
 impl<H: House> Window<H> {
-    /// A window that has seen nothing and has no reader's place yet.
+    /// A window that has seen nothing and has no reader yet.
     pub(crate) fn new(lab: Arc<Lab>, places: Vec<u64>) -> Window<H>
         requires lawful { IsLab H.lab }
         requires lab { arc_value lab ≡ H.lab }
@@ -81,13 +81,13 @@ impl<H: House> Window<H> {
         }
     }
 
-    /// Takes a reader's place, where it has seen nothing.
-    pub(crate) fn take_place(&mut self, place: Place<H>)
+    /// Takes a reader's slot, where it has seen nothing.
+    pub(crate) fn take_slot(&mut self, slot: Place<H>)
         requires window { self.old ≡ window [] [] }
-        requires place { view place.place ≡ viewer [] }
+        requires slot { view slot.place ≡ viewer [] }
         ensures { self.new ≡ self.old }
     {
-        self.reader = Some(Seat::new(place));
+        self.reader = Some(Reader::new(slot));
     }
 
     /// How many events it has seen.
@@ -197,7 +197,7 @@ impl<H: House> Window<H> {
     {
         let reader = match self.reader.take() {
             Some(reader) => reader,
-            None => Seat::new(new_place(rt, press)),
+            None => Reader::new(new_place(rt, press)),
         };
         self.reader = Some(look_for_board(rt, reader, &press.published().board));
     }
@@ -219,7 +219,7 @@ impl<H: House> Window<H> {
     {
         let reader = match self.reader.take() {
             Some(reader) => reader,
-            None => Seat::new(new_place(rt, press)),
+            None => Reader::new(new_place(rt, press)),
         };
         self.reader = Some(look_for_event(rt, reader, place, event));
         self.places.push_reserved(place);
@@ -234,7 +234,7 @@ impl<H: House> Window<H> {
     {
         let reader = match self.reader.take() {
             Some(reader) => reader,
-            None => Seat::new(new_place(rt, press)),
+            None => Reader::new(new_place(rt, press)),
         };
         self.reader = Some(look_for_all(rt, reader, press.published().events.as_slice()));
     }
@@ -259,8 +259,8 @@ impl<H: House> Window<H> {
         }
     }
 
-    /// Whether no place is left at the cursor.
-    pub(crate) fn is_at_end(&self, cursor: usize) -> bool
+    /// Whether the cursor is past all its places.
+    pub(crate) fn is_counted_off(&self, cursor: usize) -> bool
         ensures { MatchBool result (drop cursor self.now.places ≡ [])
             ((p : ℕ) × (0 < times p (drop cursor self.now.places))) }
     {
@@ -268,11 +268,11 @@ impl<H: House> Window<H> {
     }
 }
 
-fn read_number<H: House>(reader: Seat<H>) -> (Seat<H>, Result<u64, Closed>)
-    ensures tells { TellsNumber H.lab (window (view reader.place.place).seen []) result.1
-        (window (view result.0.place.place).seen []) }
-    ensures few { length (view reader.place.place).seen ≤ H.lab.events
-        → length (view result.0.place.place).seen ≤ H.lab.events }
+fn read_number<H: House>(reader: Reader<H>) -> (Reader<H>, Result<u64, Closed>)
+    ensures tells { TellsNumber H.lab (window (view reader.slot.place).seen []) result.1
+        (window (view result.0.slot.place).seen []) }
+    ensures few { length (view reader.slot.place).seen ≤ H.lab.events
+        → length (view result.0.slot.place).seen ≤ H.lab.events }
 {
     match enter(reader) {
         Ok(reading) => {
@@ -284,17 +284,17 @@ fn read_number<H: House>(reader: Seat<H>) -> (Seat<H>, Result<u64, Closed>)
 }
 
 fn read_see<H: House>(
-    reader: Seat<H>,
+    reader: Reader<H>,
     lab: &Lab,
     who: Who,
     node: u64,
-) -> (Seat<H>, Result<See, SightFault>)
+) -> (Reader<H>, Result<See, SightFault>)
     requires lab { lab.now ≡ H.lab }
-    ensures tells { Tells rulings.Seen H.lab (window (view reader.place.place).seen []) who
-        (command.See node) result.1 (window (view result.0.place.place).seen []) }
+    ensures tells { Tells rulings.Seen H.lab (window (view reader.slot.place).seen []) who
+        (command.See node) result.1 (window (view result.0.slot.place).seen []) }
     ensures memory { IfErr result.1 (λ fault. fault ≢ faults.Memory) }
-    ensures few { length (view reader.place.place).seen ≤ H.lab.events
-        → length (view result.0.place.place).seen ≤ H.lab.events }
+    ensures few { length (view reader.slot.place).seen ≤ H.lab.events
+        → length (view result.0.slot.place).seen ≤ H.lab.events }
 {
     let _nodes = lab.node_count();
     match enter(reader) {
@@ -308,16 +308,16 @@ fn read_see<H: House>(
 
 fn read_look<H: House>(
     alloc: Global,
-    reader: Seat<H>,
+    reader: Reader<H>,
     lab: &Lab,
     who: Who,
     node: u64,
-) -> (Seat<H>, Result<Look, SightFault>)
+) -> (Reader<H>, Result<Look, SightFault>)
     requires lab { lab.now ≡ H.lab }
-    ensures tells { Tells rulings.Looked H.lab (window (view reader.place.place).seen []) who
-        (command.Look node) result.1 (window (view result.0.place.place).seen []) }
-    ensures few { length (view reader.place.place).seen ≤ H.lab.events
-        → length (view result.0.place.place).seen ≤ H.lab.events }
+    ensures tells { Tells rulings.Looked H.lab (window (view reader.slot.place).seen []) who
+        (command.Look node) result.1 (window (view result.0.slot.place).seen []) }
+    ensures few { length (view reader.slot.place).seen ≤ H.lab.events
+        → length (view result.0.slot.place).seen ≤ H.lab.events }
 {
     let _nodes = lab.node_count();
     match enter(reader) {
@@ -331,16 +331,16 @@ fn read_look<H: House>(
 
 fn read_report<H: House>(
     alloc: Global,
-    reader: Seat<H>,
+    reader: Reader<H>,
     lab: &Lab,
     who: Who,
-) -> (Seat<H>, Result<Report, SightFault>)
+) -> (Reader<H>, Result<Report, SightFault>)
     requires lab { lab.now ≡ H.lab }
-    ensures tells { Tells (λ r. rulings.Reported) H.lab (window (view reader.place.place).seen []) who
-        command.Report result.1 (window (view result.0.place.place).seen []) }
-    ensures report { IfOk result.1 (λ r. r ≡ report_of (world_in H.lab (view result.0.place.place).seen)) }
-    ensures few { length (view reader.place.place).seen ≤ H.lab.events
-        → length (view result.0.place.place).seen ≤ H.lab.events }
+    ensures tells { Tells (λ r. rulings.Reported) H.lab (window (view reader.slot.place).seen []) who
+        command.Report result.1 (window (view result.0.slot.place).seen []) }
+    ensures report { IfOk result.1 (λ r. r ≡ report_of (world_in H.lab (view result.0.slot.place).seen)) }
+    ensures few { length (view reader.slot.place).seen ≤ H.lab.events
+        → length (view result.0.slot.place).seen ≤ H.lab.events }
 {
     let _nodes = lab.node_count();
     match enter(reader) {

@@ -13,7 +13,7 @@ returns-then-found g c =
     let all : c.in-Ok.reading.part.value.events.items ≡ c.args.events.now =
     ap (λ s. s.events.items) (sym c.get.ensures) ∙ c.has_all-found.ensures c.if-found.true in record {
       view = c.leave-reader.ensures ∙ (f.view ∙ ap (λ l. viewer l) all);
-      begins = subst (λ (l : List Event). IsPrefix (view c.args.reader.place.place).seen l) all (prefix_trans _ _ _ c.looks.invariant f.begins);
+      begins = subst (λ (l : List Event). IsPrefix (view c.args.reader.slot.place).seen l) all (prefix_trans _ _ _ c.looks.invariant f.begins);
       legal = subst (λ (l : List Event). is_legal_in g.H.House.lab l ≡ true) all f.published.legal;
       few = subst (λ (l : List Event). length l ≤ g.H.House.lab.events) all f.published.few;
     }

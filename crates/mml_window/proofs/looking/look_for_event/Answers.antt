@@ -11,7 +11,7 @@ returns-then-found g c =
     let f = c.in-Ok.ensures.saw in
     let ends = c.ends_in-found.ensures c.if-found.true in
     let later = prefix_trans _ _ _ c.looks.invariant f.begins in
-    let next : c.in-Ok.reading.part.value.events.items ≡ (view c.args.reader.place.place).seen ++ c.args.event.now ∷ [] =
+    let next : c.in-Ok.reading.part.value.events.items ≡ (view c.args.reader.slot.place).seen ++ c.args.event.now ∷ [] =
     one_more _ _ ends.1.0 _ later
     (ap (λ s. length s.events.items) (sym c.get.ensures) ∙ (ends.0 ∙ c.requires.next)) (ap (λ s. s.events.items) (sym c.get.ensures) ∙ ends.1.1) in
     record {

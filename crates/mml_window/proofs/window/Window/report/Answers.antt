@@ -9,7 +9,7 @@ use Rattle.mml_window.proofs.window.Window.report.Goals as goal
 pub returns-clause-tells : goal.returns-clause-tells
 returns-clause-tells g c =
     tells_beside (λ r. rulings.Reported) g.H.House.lab
-    (view c.in-Some.reader.place.place).seen _ c.self.inside.places.items c.self.inside.refused c.args.who command.Report _ c.args.self.now
+    (view c.in-Some.reader.slot.place).seen _ c.self.inside.places.items c.self.inside.refused c.args.who command.Report _ c.args.self.now
     (search rules) c.read_report-reader.ensures.tells
 
 pub returns-clause-nodes : goal.returns-clause-nodes

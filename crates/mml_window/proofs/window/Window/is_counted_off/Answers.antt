@@ -1,6 +1,6 @@
 use Rattle.std.proofs.Common.{rules, ◌≡◌, length, refl}
 use Rattle.mml_window.proofs.TallyLemmas.{at_end}
-use Rattle.mml_window.proofs.window.Window.is_at_end.Goals as goal
+use Rattle.mml_window.proofs.window.Window.is_counted_off.Goals as goal
 
 pub returns : goal.returns
 returns g c =

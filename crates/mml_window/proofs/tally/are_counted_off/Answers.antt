@@ -1,10 +1,10 @@
 use Rattle.std.proofs.Common.{rules, ◌≡◌, ◌++◌, ◌∙◌, ℕ, List, drop, get_or, length, ap, sym, arith}
 use Rattle.mml_window.proofs.TallyLemmas.{window_among, window_more, left_all}
-use Rattle.mml_window.proofs.tally.are_at_end.Goals as goal
+use Rattle.mml_window.proofs.tally.are_counted_off.Goals as goal
 
-pub returns-then-not-is_at_end : goal.returns-then-not-is_at_end
-returns-then-not-is_at_end g c =
-    let left = c.if-not-is_at_end.ensures in
+pub returns-then-not-is_counted_off : goal.returns-then-not-is_counted_off
+returns-then-not-is_counted_off g c =
+    let left = c.if-not-is_counted_off.ensures in
     let among =
     window_among c.args.windows.now c.args.cursors.now c.windows.index c.index-windows-index.result (record {
       is = search rules;
@@ -22,7 +22,7 @@ windows-preserved g c =
       cursor = omega (arith, c.windows-test.true, c.requires.few, c.told-cursors);
     })
     ∙ ap (λ (l : List ℕ). l ++ drop (get_or c.args.cursors.now c.windows.index 0) c.index-windows-index.result.places) c.windows.invariant
-    ∙ c.if-not-is_at_end.ensures
+    ∙ c.if-not-is_counted_off.ensures
 
 pub returns : goal.returns
 returns g c =
