@@ -223,8 +223,8 @@ fn read_ask(
     }
 }
 
-/// What the lines of the place with this number asked, and which clause denied each, go behind those that
-/// are there. The text is that of a record, beside the list of events of a journal of the lab.
+/// Puts what the lines of the seat with this number asked, and which clause denied each, behind what is there.
+/// The text is that of a record, beside the list of events of a journal of the lab.
 pub fn read_asks(
     alloc: Global,
     lab: &Lab,
