@@ -35,11 +35,11 @@ impl Budgets {
     pub fn new(alloc: Global, lab: &Lab) -> Result<Budgets, RecordFault> {
         let roster = lab.roster();
         let mut accounts = Vec::new(alloc);
-        accounts.push(account_of(alloc, roster.name_of(Who::Teacher))?)?;
-        for place in 0..roster.student_count() {
-            let student = Student::new(place as u16);
+        accounts.push(new_account(alloc, roster.name_of(Who::Teacher))?)?;
+        for index in 0..roster.student_count() {
+            let student = Student::new(index as u16);
             let name = roster.name_of(Who::Student(student));
-            accounts.push(account_of(alloc, name)?)?;
+            accounts.push(new_account(alloc, name)?)?;
         }
         Ok(Budgets {
             accounts,
@@ -47,8 +47,8 @@ impl Budgets {
         })
     }
 
-    // The place of the account with this name.
-    fn place_of(&self, name: &[u8]) -> Option<usize> {
+    // The index of the account with this name.
+    fn index_of(&self, name: &[u8]) -> Option<usize> {
         self.accounts
             .iter()
             .position(|account| account.name.as_bytes() == name)
@@ -57,7 +57,7 @@ impl Budgets {
     // What was put of an account, or of those who aren't known.
     fn spent_by(&self, account: Option<usize>) -> &AtomicU64 {
         match account {
-            Some(place) => match self.accounts.get(place) {
+            Some(index) => match self.accounts.get(index) {
                 Some(account) => &account.spent,
                 None => &self.unknown,
             },
@@ -66,7 +66,7 @@ impl Budgets {
     }
 }
 
-fn account_of(alloc: Global, name: &str) -> Result<Account, RecordFault> {
+fn new_account(alloc: Global, name: &str) -> Result<Account, RecordFault> {
     Ok(Account {
         name: String::from_str(alloc, name)?,
         spent: AtomicU64::new(0),
@@ -104,7 +104,7 @@ impl SeatBudget {
 impl Budget for SeatBudget {
     fn hear(&mut self, reply: &[u8]) {
         if let Some(name) = greeted_in(reply) {
-            self.account = self.budgets.place_of(name);
+            self.account = self.budgets.index_of(name);
         }
     }
 

@@ -57,8 +57,8 @@ fn has_same_names(a: &Roster, b: &Roster) -> bool
     if a.student_count() != b.student_count() {
         return false;
     }
-    for place in 0..a.student_count() {
-        if a.name_of(student_at(place)) != b.name_of(student_at(place)) {
+    for index in 0..a.student_count() {
+        if a.name_of(student_at(index)) != b.name_of(student_at(index)) {
             return false;
         }
     }
@@ -95,18 +95,18 @@ fn has_same_owners(a: &Roster, b: &Roster, node: Rank) -> bool
     requires { length a.now.students ≡ length b.now.students }
     ensures { IsTrue result ↔ HasSameOwners a.now b.now node }
 {
-    for place in 0..a.student_count() {
-        if a.owns(student_at(place), node) != b.owns(student_at(place), node) {
+    for index in 0..a.student_count() {
+        if a.owns(student_at(index), node) != b.owns(student_at(index), node) {
             return false;
         }
     }
     true
 }
 
-// The student at a place of the file's order.
-fn student_at(place: u64) -> Who
-    requires { place < 256 }
-    ensures { result ≡ Who.Student place }
+// The student with an index in the file's order.
+fn student_at(index: u64) -> Who
+    requires { index < 256 }
+    ensures { result ≡ Who.Student index }
 {
-    Who::Student(Student::new(place as u16))
+    Who::Student(Student::new(index as u16))
 }

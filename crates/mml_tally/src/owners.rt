@@ -14,8 +14,8 @@ pub fn owners_of(alloc: Global, roster: &Roster, node: Rank) -> Result<Vec<Stude
         (λ owners. All (λ s. s < length roster.now.students) owners.items) }
 {
     let mut owners = Vec::new(alloc);
-    for place in 0..roster.student_count() {
-        let student = Student::new(place as u16);
+    for index in 0..roster.student_count() {
+        let student = Student::new(index as u16);
         if roster.owns(Who::Student(student), node) {
             owners.push(student)?;
         }
@@ -28,8 +28,8 @@ pub fn is_shared(roster: &Roster, node: Rank) -> bool
     ensures { result ≡ is_shared roster.now node }
 {
     let mut owners = 0u64;
-    for place in 0..roster.student_count() {
-        let student = Student::new(place as u16);
+    for index in 0..roster.student_count() {
+        let student = Student::new(index as u16);
         if roster.owns(Who::Student(student), node) {
             owners += 1;
         }

@@ -62,8 +62,8 @@ fn put_denied(out: &mut Vec<u8>, alloc: Global, lab: &Lab, asks: &[Ask]) -> Resu
         ≡ out.old.items ++ denied_text lab.now asks.now (length lab.now.roster.students)) }
 {
     let roster = lab.roster();
-    for place in 0..roster.student_count() {
-        let student = Student::new(place as u16);
+    for index in 0..roster.student_count() {
+        let student = Student::new(index as u16);
         let denied = denials_of(alloc, asks, student)?;
         put_denials(out, roster.name_of(Who::Student(student)), &denied)?;
     }

@@ -65,8 +65,8 @@ fn put_students(out: &mut Vec<u8>, alloc: Global, lab: &Lab, all: &[Move]) -> Re
         out.new.items ≡ out.old.items ++ students_text lab.now es (length lab.now.roster.students)) }
 {
     let roster = lab.roster();
-    for place in 0..roster.student_count() {
-        let student = Student::new(place as u16);
+    for index in 0..roster.student_count() {
+        let student = Student::new(index as u16);
         let marks = marks_of(alloc, roster, all, student)?;
         put_student(out, roster.name_of(Who::Student(student)), &marks)?;
     }

@@ -4,8 +4,8 @@ use Rattle.mml_lab.specs.Rosters.{owns}
 use Rattle.mml_stable.specs.Reports.{each_below, listed_if}
 use Rattle.mml_tally.proofs.owners.is_shared.Given as goal
 
-abbrev pub invariant-loop-place : goal.invariant-loop-place
-invariant-loop-place l = record {
-  owners : l.owners ≡ length (each_below l.place (λ s. listed_if (owns l.roster (who.Student s) l.node) s));
-  few : l.owners ≤ l.place;
+abbrev pub invariant-loop-index : goal.invariant-loop-index
+invariant-loop-index l = record {
+  owners : l.owners ≡ length (each_below l.index (λ s. listed_if (owns l.roster (who.Student s) l.node) s));
+  few : l.owners ≤ l.index;
 }
