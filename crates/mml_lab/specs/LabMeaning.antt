@@ -47,7 +47,7 @@ pub record IsLinkAgain (links : List (ℤ × ℤ)) (k : ℕ) : Type 0 where
   pub second : slice_get links k ≡ Some again
   pub joins : Joins again.0 again.1 link
 
--- the link at k joins what an earlier one joins, and k is the first such place
+-- the link at k joins what an earlier one joins, and k is the first such index
 pub record IsFirstLinkAgain (links : List (ℤ × ℤ)) (k : ℕ) : Type 0 where
   pub again : IsLinkAgain links k
   pub first : (j : ℕ) → j < k → ¬ IsLinkAgain links j

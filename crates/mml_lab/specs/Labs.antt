@@ -20,7 +20,7 @@ use Rattle.mml_lab.specs.Shape.{Account, NodeSpec, RawSpec, spelled}
 use Rattle.mml_lab.specs.Rosters.{RosterValue, IsRoster, is_account, has_name, name_twice, with_owners}
 
 pub record LabValue : Type 0 where
-  -- the identifiers of the nodes in rising order; a node's rank is its place here
+  -- the identifiers of the nodes in rising order; a node's rank is its index here
   pub ids : List ℕ
   pub roster : RosterValue
   -- the links and registers at the beginning, by rank
@@ -88,7 +88,7 @@ both_fault nodes = option_map fault.BothOwners (position (λ node. node.both) no
 unfoldable pub ids_fault : List NodeSpec → Option LabFault
 ids_fault nodes = option_map fault.Id (id_fault (file_ids nodes))
 
--- a name or a key isn't of its form, the teacher's at place 0
+-- a name or a key isn't of its form, the teacher's at index 0
 unfoldable pub forms_fault : List Account → Option LabFault
 forms_fault accounts = option_map fault.Name (position (λ a. not (is_account a)) accounts)
 
@@ -183,11 +183,11 @@ neighbours_of ids links id = those_below (length ids) (λ rank. is_linked links 
 abbrev pub registers_in : List ℕ → NodeSpec → Regs
 registers_in ids node = record { p = option_and_then (λ p. rank_in ids (number_of p)) node.p; m = node.m }
 
--- the place of that name among the students; 0 where none has it, which is an error
+-- the index of that name among the students; 0 where none has it, which is an error
 abbrev pub place_of : List Account → List ℕ → ℕ
 place_of students name = unwrap_or (position (has_name name) students) 0
 
--- the places of a node's owners among the students
+-- the indexes of a node's owners among the students
 abbrev pub owners_in : List Account → NodeSpec → List ℕ
 owners_in students node = map (place_of students) node.owners
 

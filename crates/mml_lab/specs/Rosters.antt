@@ -43,11 +43,11 @@ has_name_and_key name key a = bytes_eq name a.name && bytes_eq key a.key
 abbrev pub no_account : Account
 no_account = record { name = []; key = [] }
 
--- the name at this place of the list stands before it already
+-- the name at this index of the list stands before it already
 abbrev pub is_name_again : List Account → ℕ → Bool
 is_name_again accounts k = list_any (has_name (slice_index_or accounts k no_account).name) (take k accounts)
 
--- the first name that stands before it already, the teacher's at place 0
+-- the first name that stands before it already, the teacher's at index 0
 abbrev pub name_twice : List Account → Option LabFault
 name_twice accounts = option_map fault.NameTwice (first_below (is_name_again accounts) (length accounts))
 
@@ -67,7 +67,7 @@ abbrev pub principal : RosterValue → List ℕ → List ℕ → Option Who
 principal r name key =
     if has_name_and_key name key r.teacher then Some who.Teacher else option_map who.Student (position (has_name_and_key name key) r.students)
 
--- the place of the student with that name
+-- the index of the student with that name
 abbrev pub student_named : RosterValue → List ℕ → Option ℕ
 student_named r name = position (has_name name) r.students
 

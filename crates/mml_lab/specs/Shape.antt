@@ -19,15 +19,15 @@ is_lab_memory _ = false
 
 -- the value under a key that has to be there
 abbrev pub need : Key → List ℕ → Members → Result Data LabFault
-need place name members = ok_or (get_member name members) (fault.Missing place)
+need at name members = ok_or (get_member name members) (fault.Missing at)
 
 -- the value, if it is of the kind
 abbrev pub of_kind : {A : Type 0} → Key → (Data → Option A) → Data → Result A LabFault
-of_kind place kind value = ok_or (kind value) (fault.WrongKind place)
+of_kind at kind value = ok_or (kind value) (fault.WrongKind at)
 
 -- the value under a key that has to be there, if it is of the kind
 abbrev pub needed : {A : Type 0} → Key → List ℕ → (Data → Option A) → Members → Result A LabFault
-needed place name kind members = need place name members >>= λ value. of_kind place kind value
+needed at name kind members = need at name members >>= λ value. of_kind at kind value
 
 -- what is read of the value under a key that may be left out
 abbrev pub optional : {A : Type 0} → (Data → Result A LabFault) → Option Data → Result (Option A) LabFault
@@ -36,7 +36,7 @@ optional read (Some value) = read value >>= λ found. Ok (Some found)
 
 -- the value under a key that may be left out, if it is of the kind
 abbrev pub optional_of : {A : Type 0} → Key → (Data → Option A) → Option Data → Result (Option A) LabFault
-optional_of place kind = optional (of_kind place kind)
+optional_of at kind = optional (of_kind at kind)
 
 -- false where there is none
 abbrev pub or_false : Option Bool → Bool
@@ -55,9 +55,9 @@ pub record Account : Type 0 where
 
 -- a name and a key
 unfoldable pub account_in : Key → Key → Members → Result Account LabFault
-account_in name_place key_place members = do
-  name ← needed name_place (codes "name") as_str members
-  secret ← needed key_place (codes "key") as_str members
+account_in name_at key_at members = do
+  name ← needed name_at (codes "name") as_str members
+  secret ← needed key_at (codes "key") as_str members
   Ok (record { name = name; key = secret })
 
 unfoldable pub student_of : Data → Result Account LabFault

@@ -49,7 +49,7 @@ fn is_account(account: &Account) -> bool
     is_name(account.name.as_bytes()) && is_key(account.key.as_bytes())
 }
 
-/// The first whose name or key isn't of its form: the teacher at place 0, and the students from 1.
+/// The first whose name or key isn't of its form: the teacher at index 0, and the students from 1.
 pub(crate) fn first_malformed(teacher: &Account, students: &[Account]) -> Option<usize>
     ensures { result ≡ position (λ a. not (is_account a))
         (account_view teacher.now ∷ map account_view students.now) }
@@ -58,14 +58,14 @@ pub(crate) fn first_malformed(teacher: &Account, students: &[Account]) -> Option
         return Some(0);
     }
     match first_malformed_student(students) {
-        Some(place) => Some(place + 1),
+        Some(index) => Some(index + 1),
         None => None,
     }
 }
 
 fn first_malformed_student(students: &[Account]) -> Option<usize>
     ensures value { result ≡ position (λ a. not (is_account (account_view a))) students.now }
-    ensures within { IfSome result (λ place. place < length students.now) }
+    ensures within { IfSome result (λ index. index < length students.now) }
 {
     students.iter().position(|student| !is_account(student))
 }

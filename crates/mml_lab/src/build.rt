@@ -158,7 +158,7 @@ fn student_named(students: &IndexMap<String, String>, name: &str) -> Student
     ensures { result ≡ place_of (map entry_view students.now.entries) name.now }
 {
     match students.get_index_of(name) {
-        Some(place) => Student::new(place as u16),
+        Some(index) => Student::new(index as u16),
         None => Student::new(0),
     }
 }

@@ -218,7 +218,7 @@ fn forms_fault(teacher: &Account, students: &[Account]) -> Option<LabFault>
     ensures { result ≡ forms_fault (account_view teacher.now ∷ map account_view students.now) }
 {
     match first_malformed(teacher, students) {
-        Some(place) => Some(LabFault::Name(place)),
+        Some(index) => Some(LabFault::Name(index)),
         None => None,
     }
 }
@@ -262,14 +262,15 @@ fn lacks_student(students: &IndexMap<String, String>, names: &[String]) -> bool
     ensures { result ≡ list_any (λ name. not (list_any (has_name (string_bytes name))
         (map entry_view students.now.entries))) names.now }
 {
-    names.iter().any(|name| is_no_student(students, name))
+    names.iter().any(|name| !is_student(students, name))
 }
 
-fn is_no_student(students: &IndexMap<String, String>, name: &String) -> bool
-    ensures { result ≡ not (list_any (has_name (string_bytes name.now))
-        (map entry_view students.now.entries)) }
+/// Whether the name is a student's.
+fn is_student(students: &IndexMap<String, String>, name: &String) -> bool
+    ensures { result ≡ list_any (has_name (string_bytes name.now))
+        (map entry_view students.now.entries) }
 {
-    !students.contains_key(name.as_str())
+    students.contains_key(name.as_str())
 }
 
 fn first_with_owner_twice(nodes: &[RawNode]) -> Option<usize>

@@ -4,7 +4,7 @@ ghost use Rattle.mml_lab.specs.declared.lab_fault.LabFault.TheVariants.{Memory};
 use mml_ids::IdFault;
 use std::alloc::{AllocError, AllocFailed};
 
-/// A place of the lab file, in the order in which the places are read.
+/// A key of the lab file, in the order in which the keys are read.
 #[derive(Clone, Copy, Debug, PartialEq, Eq)]
 pub enum Key {
     /// `events`: how many events a run may have at most.

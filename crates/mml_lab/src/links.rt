@@ -155,6 +155,6 @@ fn insert(rows: &mut [NodeSet], node: Rank, neighbour: Rank)
     ensures { (i q : ℕ) → set.contains (neighbours_at rows.new i) q
         ≡ (set.contains (neighbours_at rows.old i) q || (node == i && neighbour == q)) }
 {
-    let place = node.index() as usize;
-    rows[place] = rows[place].with(neighbour);
+    let index = node.index() as usize;
+    rows[index] = rows[index].with(neighbour);
 }

@@ -38,7 +38,7 @@ fn give(rows: &mut [NodeSet], node: Rank, owners: &[Student])
         || (i == node && list_any (λ o. o == s) owners.now)) }
 {
     for owner in owners {
-        let place = usize::from(owner.place());
-        rows[place] = rows[place].with(node);
+        let index = usize::from(owner.index());
+        rows[index] = rows[index].with(node);
     }
 }

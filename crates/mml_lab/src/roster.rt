@@ -99,7 +99,7 @@ impl Roster {
         match who {
             Who::Teacher => NodeSet::empty(),
             Who::Student(student) => {
-                self.owned[usize::from(student.place()).min(self.students.len())]
+                self.owned[usize::from(student.index()).min(self.students.len())]
             }
         }
     }
@@ -120,7 +120,7 @@ impl Roster {
     {
         match who {
             Who::Teacher => self.teacher.name.as_str(),
-            Who::Student(student) => name_at(&self.students, usize::from(student.place())),
+            Who::Student(student) => name_at(&self.students, usize::from(student.index())),
         }
     }
 

@@ -5,11 +5,11 @@ use Rattle.std.specs.FinSet as set
 use Rattle.std.specs.FinSet.{FinSet}
 use Rattle.std.specs.Ordering.{nat_cmp}
 
--- the row at a place; empty past the last one
+-- the row at an index; empty past the last one
 abbrev pub row_at : List (FinSet nat_cmp) → ℕ → FinSet nat_cmp
 row_at rows s = slice_index_or rows s set.empty
 
--- the student at place s is among the owners of rank i
+-- student s is among the owners of rank i
 abbrev pub is_owner : List (List ℕ) → ℕ → ℕ → Bool
 is_owner owners s i = list_any (λ o. o == s) (slice_index_or owners i [])
 

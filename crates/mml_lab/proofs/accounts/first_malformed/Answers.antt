@@ -13,7 +13,7 @@ returns-then-not-is_account c =
 pub returns-in-Some : goal.returns-in-Some
 returns-in-Some c =
     let good : not (is_account (account_view c.args.teacher.now)) ≡ false = search rules in
-    ap Some (add-one c.in-Some.place)
+    ap Some (add-one c.in-Some.index)
     ∙ ap (option_map suc) (c.in-Some.ensures.value ∙ position-map (λ a. not (is_account a)) account_view c.args.students.now)
     ∙ sym (position-later (λ a. not (is_account a)) (account_view c.args.teacher.now) (map account_view c.args.students.now) good)
 

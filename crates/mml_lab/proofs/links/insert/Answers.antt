@@ -4,6 +4,6 @@ use Rattle.mml_lab.proofs.links.insert.Goals as goal
 
 pub returns : goal.returns
 returns c =
-    let place : c.index-place.result ≡ c.args.node = c.index-place.ensures.value in
-    let row = c.index-rows-place.is ∙ ap (λ k. get_or c.args.rows.now k c.index-rows-place.result) place in
-    rw place (inserted c.args.rows.now c.args.node c.args.neighbour c.index-rows-place.result c.with.result c.requires row c.with.ensures)
+    let at : c.index-index.result ≡ c.args.node = c.index-index.ensures.value in
+    let row = c.index-rows-index.is ∙ ap (λ k. get_or c.args.rows.now k c.index-rows-index.result) at in
+    rw at (inserted c.args.rows.now c.args.node c.args.neighbour c.index-rows-index.result c.with.result c.requires row c.with.ensures)

@@ -20,9 +20,9 @@ returns-in-Student c =
     let at = c.min.result in
     let students = length (map entry_view a.students.entries) in
     let many : c.len.result ≡ students = c.len.ensures.len ∙ sym (length-map a.students.entries entry_view) in
-    let s : c.from.result ≡ c.in-Student.student = c.from.ensures ∙ c.place.ensures in
+    let s : c.from.result ≡ c.in-Student.student = c.from.ensures ∙ c.index.ensures in
     let within : at < length a.owned.items = omega (arith, c.min.ensures, many, c.self.invariant.rows.count) in
-    let row : c.index.result.now ≡ row_at a.owned.items at = c.index.ensures ∙ sym (get_or_default a.owned.items at sets.empty c.index.result.now within) in
+    let row : c.index-2.result.now ≡ row_at a.owned.items at = c.index-2.ensures ∙ sym (get_or_default a.owned.items at sets.empty c.index-2.result.now within) in
     let place : ((c.in-Student.student ≤ students) × (at ≡ c.in-Student.student)) ⊎ ((students ≤ c.in-Student.student) × (at ≡ students)) =
     elim (cases_lt c.in-Student.student students) [
       | inl below ↦ inl (omega (arith, below), omega (arith, below, c.min.ensures, many, s))

@@ -1,10 +1,10 @@
-use Rattle.std.proofs.Common.{◌∙◌, ap, not, List, ℕ, string_bytes}
+use Rattle.std.proofs.Common.{◌∙◌, ap, List, ℕ, string_bytes}
 use Rattle.std.specs.Prelude.{is_some, bytes_eq}
 use Rattle.std.specs.Map.{lookup}
 use Rattle.mml_lab.proofs.RawLemmas.{some-lookup}
-use Rattle.mml_lab.proofs.checks.is_no_student.Goals as goal
+use Rattle.mml_lab.proofs.checks.is_student.Goals as goal
 
 pub returns : goal.returns
 returns c =
     let has : List ℕ → _ = λ (name : List ℕ). is_some (lookup (λ k. bytes_eq name (string_bytes k)) c.args.students.now.entries) in
-    ap not (c.contains_key.ensures ∙ ap has c.as_str.ensures.value ∙ some-lookup _ c.args.students.now.entries)
+    c.contains_key.ensures ∙ ap has c.as_str.ensures.value ∙ some-lookup _ c.args.students.now.entries
