@@ -21,6 +21,6 @@ comb n = record {
   registers = map (λ i. record { p = first_pointer n i; m = true }) (range_with_len 0 n);
 }
 
--- that network at the beginning
+-- the world of the comb at the beginning
 abbrev pub comb_world : ℕ → World
 comb_world n = opening_of (comb n)

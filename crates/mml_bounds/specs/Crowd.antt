@@ -20,6 +20,6 @@ crowd n = record {
   registers = map (λ i. record { p = Some (first_pointer n i); m = true }) (range_with_len 0 n);
 }
 
--- that network at the beginning
+-- the world of the crowd at the beginning
 abbrev pub crowd_world : ℕ → World
 crowd_world n = opening_of (crowd n)

@@ -19,6 +19,6 @@ halves n = record {
   registers = replicate n (record { p = None; m = true });
 }
 
--- that network at the beginning
+-- the world of the two halves at the beginning
 abbrev pub halves_world : ℕ → World
 halves_world n = opening_of (halves n)

@@ -27,7 +27,7 @@ pub record IsToldAlike (lab other : LabValue) (s : ℕ) (known : Option Who) (r 
   pub first : IsUnhindered r
   pub second : IsUnhindered q
 
--- so it is at each of the lines
+-- each line is hers, or nobody's yet, and is told alike
 abbrev pub AreToldAlike : (lab other : LabValue) → ℕ → (st su : Standing) (lines : List (List ℕ)) (rs qs : List Reply) (end fin : Standing)
     → Run lab st lines rs end → Run other su lines qs fin → Type 0
 AreToldAlike lab other s st su [] rs qs end fin t u = Unit {0}

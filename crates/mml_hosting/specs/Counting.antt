@@ -17,7 +17,7 @@ count_in shows g h p = g p.number + sum_by h (came_to shows p)
 abbrev pub count_free : {H K C R W : Type 0} → (K → ServedSession R W) → (ℕ → ℕ) → (R × W → ℕ) → List (Place H K C) → ℕ
 count_free shows g h free = sum_by (count_in shows g h) free
 
--- the same of a place that one more will have come to
+-- what is counted of a place to which one more will have come
 abbrev pub count_at : {H K C R W U : Type 0} → (K → ServedSession R W) → (ℕ → ℕ) → (R × W → ℕ) → Busy H K C R W U → ℕ
 count_at shows g h b = g b.handle.promise.0.value.number + sum_by h (bound_for shows b)
 

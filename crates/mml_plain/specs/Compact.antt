@@ -75,7 +75,7 @@ pub record PutsMember (text : List ℕ) (rest : List ℕ) (old : Fields) (new : 
   pub member : BeginsMember text key value rest
   pub put : new ≡ with key value old
 
--- the same behind the quotation mark of its key
+-- what follows a quotation mark is a key without escapes and its value, which the fields have now
 pub record PutsKnown (text : List ℕ) (rest : List ℕ) (old : Fields) (new : Fields) : Type 0 where
   pub key : List ℕ
   pub is_bare_key : is_bare key ≡ true

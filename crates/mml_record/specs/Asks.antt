@@ -76,13 +76,13 @@ digit_first rest = do
 unfoldable pub clause_first : List ℕ → Option ℕ
 clause_first members = if is_word (codes "\"clause\"") (cut 58 members).0 then digit_first (cut 58 members).1 else None
 
--- the same of the second member
+-- the number of a clause, where that is the second member here
 unfoldable pub clause_second : List ℕ → Option ℕ
 clause_second members = do
   rest ← (cut 44 members).1
   clause_first rest
 
--- the same of the member behind a current number
+-- the number of a clause, where that is the first member here, or the one behind a current number
 unfoldable pub clause_member : List ℕ → Option ℕ
 clause_member members = if is_word (codes "\"at\"") (cut 58 members).0 then clause_second members else clause_first members
 

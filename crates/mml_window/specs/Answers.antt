@@ -68,7 +68,7 @@ Says lab l places who command (Granted place number done) new =
 abbrev pub Answers : LabValue → WindowValue → Who → Command → Answer → WindowValue → Type 0
 Answers lab old who command answer new = (l : List Event) × IsPrefix old.seen l × (is_legal_in lab l ≡ true) × Says lab l old.places who command answer new
 
--- the same, at a list that leaves this world
+-- the answer is given at a legal list that begins with all that the window had seen, and leaves this world
 abbrev pub AnswersAt : LabValue → World → WindowValue → Who → Command → Answer → WindowValue → Type 0
 AnswersAt lab w old who command answer new =
     (l : List Event) × IsPrefix old.seen l × (is_legal_in lab l ≡ true) × (world_in lab l ≡ w) × Says lab l old.places who command answer new
