@@ -91,6 +91,7 @@ fn has_same_links(a: &Lab, b: &Lab, node: Rank) -> bool
     true
 }
 
+// Whether the same students own a node.
 fn has_same_owners(a: &Roster, b: &Roster, node: Rank) -> bool
     requires { length a.now.students ≡ length b.now.students }
     ensures { IsTrue result ↔ HasSameOwners a.now b.now node }
