@@ -30,7 +30,7 @@ use Rattle.mml_policy.specs.Visible.{is_visible, owns_neighbour}
 use Rattle.mml_policy.specs.Clauses.{node, rule_of}
 use Rattle.mml_policy.specs.Verdicts.{clauses}
 use Rattle.mml_policy.specs.Shown.{near, look_of}
-use Rattle.mml_policy.specs.Rulings.{told, ruled, ruling, after_ruling}
+use Rattle.mml_policy.specs.Rulings.{ruling_on_leave, ruled, ruling, after_ruling}
 use Rattle.mml_policy.specs.declared.ruling.Ruling.{Ruling}
 use Rattle.mml_policy.specs.declared.ruling.Ruling.TheVariants.{Seen, Looked, Full, Journal, Granted}
 use Rattle.mml_policy.specs.Alike.{Alike, IsWorldOf}
@@ -165,7 +165,7 @@ module _ (ids : List ℕ) (r : RosterValue) (limit : ℕ) (is_halted : Bool) (s 
   -- what the leave tells is the same, and the worlds afterwards are alike
   abbrev Keeps : Leave → Type 0
   Keeps l =
-      (told limit is_halted w l ≡ told limit is_halted v l) × Alike r s (after_ruling w (told limit is_halted w l)) (after_ruling v (told limit is_halted v l))
+      (ruling_on_leave limit is_halted w l ≡ ruling_on_leave limit is_halted v l) × Alike r s (after_ruling w (ruling_on_leave limit is_halted w l)) (after_ruling v (ruling_on_leave limit is_halted v l))
 
   -- the event takes place in both worlds or in neither
   entered : (b h : Bool) (g k : Ruling) → g ≡ k → Alike r s (after_ruling w g) (after_ruling v k) →

@@ -16,14 +16,14 @@ use Rattle.mml_policy.specs.Verdicts.{clauses}
 use Rattle.mml_policy.specs.Shown.{see_of, look_of}
 
 -- what comes of a leave: as many events as the limit says are granted, and then no more; and none where the journal is halted
-abbrev pub told : ℕ → Bool → World → Leave → Ruling
-told limit is_halted w (See i) = Seen (see_of w i)
-told limit is_halted w (Look i) = Looked (look_of w i)
-told limit is_halted w Report = Reported
-told limit is_halted w (Grant e) = if nat_le limit w.place then Full else (if is_halted then Journal else Granted e (done_by w e))
+abbrev pub ruling_on_leave : ℕ → Bool → World → Leave → Ruling
+ruling_on_leave limit is_halted w (See i) = Seen (see_of w i)
+ruling_on_leave limit is_halted w (Look i) = Looked (look_of w i)
+ruling_on_leave limit is_halted w Report = Reported
+ruling_on_leave limit is_halted w (Grant e) = if nat_le limit w.place then Full else (if is_halted then Journal else Granted e (done_by w e))
 
 abbrev pub ruled : ℕ → Bool → World → Result Leave Denial → Ruling
-ruled limit is_halted w (Ok l) = told limit is_halted w l
+ruled limit is_halted w (Ok l) = ruling_on_leave limit is_halted w l
 ruled limit is_halted w (Err d) = Denied d
 
 -- the denial of the first clause that doesn't hold, or what is shown, or the event that takes place with what it does

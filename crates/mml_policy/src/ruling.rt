@@ -1,6 +1,6 @@
 ghost use Rattle.std.specs.Prelude.{◌≡◌, ◌<◌, length, OnErr, IfOk, true};
 ghost use Rattle.mml_policy.specs.Courses.{NamesEachNode, ruling_in};
-ghost use Rattle.mml_policy.specs.Rulings.{told, event_of, is_look, IsThere};
+ghost use Rattle.mml_policy.specs.Rulings.{ruling_on_leave, event_of, is_look, IsThere};
 ghost use Rattle.mml_policy.specs.declared.verdict.Leave.TheVariants as leaves;
 
 use crate::command::Command;
@@ -68,12 +68,13 @@ pub fn rule_on(
         (is_look (ruling_in course.now limit is_halted who command.now) ≡ true) }
 {
     match clauses(course, who, command) {
-        Ok(leave) => rule(alloc, course.board, limit, is_halted, leave),
+        Ok(leave) => rule_on_leave(alloc, course.board, limit, is_halted, leave),
         Err(denial) => Ok(Ruling::Denied(denial)),
     }
 }
 
-fn rule(
+/// What comes of a leave.
+fn rule_on_leave(
     alloc: Global,
     board: &Board,
     limit: u64,
@@ -81,8 +82,8 @@ fn rule(
     leave: Leave,
 ) -> Result<Ruling, Memory>
     requires { IsThere (length board.now.network.registers) leave }
-    ensures ruling { IfOk result (λ r. r ≡ told limit is_halted board.now leave) }
-    ensures memory { OnErr result (is_look (told limit is_halted board.now leave) ≡ true) }
+    ensures ruling { IfOk result (λ r. r ≡ ruling_on_leave limit is_halted board.now leave) }
+    ensures memory { OnErr result (is_look (ruling_on_leave limit is_halted board.now leave) ≡ true) }
 {
     match leave {
         Leave::See(node) => Ok(Ruling::Seen(see_of(board, node))),
@@ -92,8 +93,9 @@ fn rule(
     }
 }
 
+/// What comes of the leave for an event.
 fn grant(board: &Board, limit: u64, is_halted: bool, event: Event) -> Ruling
-    ensures { result ≡ told limit is_halted board.now (leaves.Grant event) }
+    ensures { result ≡ ruling_on_leave limit is_halted board.now (leaves.Grant event) }
 {
     if limit <= board.place() {
         return Ruling::Full;
