@@ -18,9 +18,9 @@ pub(crate) fn node(ids: &IdTable, id: u64, denial: Denial) -> Result<Rank, Denia
     ids.rank_of(id).ok_or(denial)
 }
 
-/// Who asks, and for which node.
+/// The node that is asked for, and who asks.
 #[derive(Clone, Copy)]
-pub(crate) struct Asking {
+pub(crate) struct AskedNode {
     /// The node with the identifier, if there is one.
     pub(crate) found: Option<Rank>,
     /// The one who asks; a student who owns nothing where no node was found.
@@ -29,9 +29,9 @@ pub(crate) struct Asking {
     pub(crate) node: Rank,
 }
 
-/// Who asks, and for which node. Where there is no such node others stand in, so that what is asked of
-/// them takes the steps that it takes of a node that isn't shown; what comes of it is thrown away.
-pub(crate) fn asked_for(ids: &IdTable, who: Who, id: u64) -> Asking
+/// The node that is asked for, and who asks. Where there is no such node others stand in, so that what is
+/// asked of them takes the steps that it takes of a node that isn't shown; what comes of it is thrown away.
+pub(crate) fn asked_for(ids: &IdTable, who: Who, id: u64) -> AskedNode
     ensures found { result.found ≡ rank_in ids.now id }
     ensures asked { IfSome result.found (λ i. (result.who ≡ who) × (result.node ≡ i)) }
     ensures there { result.node < length ids.now }
@@ -39,8 +39,8 @@ pub(crate) fn asked_for(ids: &IdTable, who: Who, id: u64) -> Asking
     let found = ids.rank_of(id);
     let other = Rank::at(id % ids.len());
     match found {
-        Some(node) => Asking { found, who, node },
-        None => Asking {
+        Some(node) => AskedNode { found, who, node },
+        None => AskedNode {
             found,
             who: Who::Student(Student::new(u16::MAX)),
             node: other,
