@@ -157,6 +157,14 @@ held_more ns ns' bytes bytes' front rest lines e whole size grown =
 pub held_whole : (ns bytes : List ℕ) (lines : List (List ℕ)) → lines ≡ parted ns bytes → total ns ≡ length bytes → concat lines ≡ bytes
 held_whole ns bytes lines e whole = ap concat e ∙ parts_whole ns bytes whole
 
+-- as many lines are held as lengths
+pub held_counted : (ns bytes : List ℕ) (lines : List (List ℕ)) → lines ≡ parted ns bytes → length lines ≡ length ns
+held_counted ns bytes lines e = ap length e ∙ parts_counted ns bytes
+  where
+    parts_counted : (ns bytes : List ℕ) → length (parted ns bytes) ≡ length ns
+    parts_counted [] bytes = refl
+    parts_counted (n ∷ ns) bytes = ap suc (parts_counted ns (drop n bytes))
+
 -- where some of the held bytes went out and not all, the lines are broken off there
 pub breaks_held : (written out : ℕ) (a b : Option (List ℕ)) (ns bytes : List ℕ) (lines : List (List ℕ)) → lines ≡ parted ns bytes → total ns ≡ length bytes
     → out < length bytes → written ≡ part_in ns out → Appends a b (take out bytes) → BreaksOff (record { written = written }) a b lines

@@ -3,11 +3,13 @@
 
 mod counted;
 pub mod laws;
+mod line_rest;
 mod lines;
 mod outgoing;
 mod whole_reading;
 mod write_fault;
 
+pub use line_rest::{LineRest, REST_ROOM};
 pub use lines::{Lines, MAX_LIMIT, MAX_READS, READ_SIZE, Step};
 pub use outgoing::{OUTGOING_BYTES, OUTGOING_LINES, Outgoing};
 pub use whole_reading::{WholeFault, read_whole};

@@ -1,9 +1,11 @@
 //! Lines that go out together.
 
-ghost use Rattle.std.specs.Prelude.{◌≡◌, ◌<◌, ◌++◌, ◌∷◌, [], length, take, IfOk, IfErr, OnOk, if◌then◌else◌};
+ghost use Rattle.std.specs.Prelude.{◌≡◌, ◌<◌, ◌≤◌, ◌+◌, ◌++◌, ◌∷◌, [], length, take, IfOk, IfErr, OnOk, if◌then◌else◌};
+ghost use Rattle.std.specs.List.{concat};
 ghost use Rattle.std.specs.Io.KnownBytes.{Appends};
 ghost use Rattle.mml_lines.specs.Sending.{BreaksOff, Sends, part_in};
 
+use crate::line_rest::{LineRest, REST_ROOM};
 use crate::write_fault::{WriteFault, put_all, put_both};
 use mml_ids::{Memory, taken, with_bytes};
 use std::alloc::Global;
@@ -43,7 +45,7 @@ impl Outgoing {
         ensures { IfOk result (λ lines. lines ≡ []) }
     {
         Ok(Outgoing {
-            bytes: Vec::with_capacity(alloc, OUTGOING_BYTES)?,
+            bytes: Vec::with_capacity(alloc, OUTGOING_BYTES + REST_ROOM)?,
             lengths: Vec::with_capacity(alloc, OUTGOING_LINES)?,
         })
     }
@@ -104,6 +106,29 @@ impl Outgoing {
                 Err(WriteFault { written })
             }
         }
+    }
+
+    /// Puts a line after those that are held, if its rest is short and there is room for it, and tells
+    /// whether it did.
+    pub fn append<L: LineRest>(&mut self, front: &[u8], rest: &L) -> bool
+        requires { L.may_tell rest.now }
+        ensures lines { self.new ≡ (if result
+            then self.old ++ (front.now ++ L.text rest.now) ∷ [] else self.old) }
+        ensures room { length self.old < OUTGOING_LINES
+            → length (concat self.old) + length front.now + REST_ROOM ≤ OUTGOING_BYTES
+            → result ≡ L.is_short rest.now }
+    {
+        let start = self.bytes.len();
+        if self.lengths.len() == OUTGOING_LINES || OUTGOING_BYTES - start < front.len() {
+            return false;
+        }
+        self.bytes = with_bytes(taken(&mut self.bytes), front);
+        if rest.append_to(&mut self.bytes) && self.bytes.len() <= OUTGOING_BYTES {
+            self.lengths.push_reserved(self.bytes.len() - start);
+            return true;
+        }
+        self.bytes.truncate(start);
+        false
     }
 
     // Whether there is room for a line in two parts, which is then held.

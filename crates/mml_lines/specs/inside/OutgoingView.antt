@@ -2,6 +2,7 @@
 use Rattle.std.specs.Prelude.{◌≡◌, ℕ, ◌≤◌, ◌+◌, List, [], ◌∷◌, length, take, drop, vec_len}
 use Rattle.std.specs.Vec.{vec_capacity}
 use Rattle.mml_lines.specs.declared.outgoing.Outgoing.TheInside.{Inside}
+use Rattle.mml_lines.specs.declared.line_rest.TheConstants.{REST_ROOM}
 use Rattle.mml_lines.specs.declared.outgoing.TheConstants.{OUTGOING_BYTES, OUTGOING_LINES}
 
 -- the bytes in parts of these lengths
@@ -17,10 +18,11 @@ total (n ∷ ns) = n + total ns
 abbrev pub outgoing_view : Inside → List (List ℕ)
 outgoing_view a = parted a.lengths.items a.bytes.items
 
--- the lengths are those of the lines, and there is room for as many bytes and lines as may be held
+-- the lengths are those of the lines, and there is room for as many bytes and lines as may be held, and for the
+-- rest of one line more
 pub record IsOutgoingInside (a : Inside) : Type 0 where
   pub whole : total a.lengths.items ≡ length a.bytes.items
   pub few_bytes : vec_len a.bytes ≤ OUTGOING_BYTES
   pub few_lines : vec_len a.lengths ≤ OUTGOING_LINES
-  pub room_of_bytes : OUTGOING_BYTES ≤ vec_capacity a.bytes
+  pub room_of_bytes : OUTGOING_BYTES + REST_ROOM ≤ vec_capacity a.bytes
   pub room_of_lines : OUTGOING_LINES ≤ vec_capacity a.lengths

@@ -1,0 +1,24 @@
+ghost use Rattle.std.specs.Prelude.{◌≡◌, ◌+◌, ◌≤◌, ◌++◌, Bool, List, ℕ, length, vec_capacity, if◌then◌else◌};
+
+/// The most room that the rest of a line needs where it is short.
+pub const REST_ROOM: usize = 2048;
+
+/// The rest of a line, which is told where the line goes out from, so that it isn't copied there.
+pub trait LineRest {
+    // What may be told at all.
+    ghost may_tell: { Self → Type 0 };
+
+    ghost text: { Self → List ℕ };
+    // What needs no more room than there is.
+    ghost is_short: { Self → Bool };
+
+    /// Puts it behind what the vector holds, where it is short, and tells whether it is.
+    fn append_to(&self, out: &mut Vec<u8>) -> bool
+        requires told { may_tell self.now }
+        requires room { length out.old.items + REST_ROOM ≤ vec_capacity out.old }
+        ensures short { result ≡ is_short self.now }
+        ensures text { out.new.items
+            ≡ (if result then out.old.items ++ text self.now else out.old.items) }
+        ensures grows { length out.new.items ≤ length out.old.items + REST_ROOM }
+        ensures capacity { vec_capacity out.new ≡ vec_capacity out.old };
+}
