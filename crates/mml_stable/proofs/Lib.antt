@@ -4,3 +4,4 @@ pub mod ReportsLemmas
 pub mod NamedLemmas
 pub mod ListedLemmas
 pub mod WitnessNamesLemmas
+pub mod KindsLemmas

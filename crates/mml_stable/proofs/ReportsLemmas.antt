@@ -1,18 +1,21 @@
 -- The lists of a report: the open links of a node from rows of sets, and that no node is privileged.
-use Rattle.std.proofs.Common.{◌≡◌, ℕ, zero, suc, ◌+◌, ◌<◌, ◌≤◌, Bool, true, false, cond, not, ◌&&◌, ◌||◌, eqb, ltb, [], ◌∷◌, ◌++◌, map, sym, refl, ap}
-use Rattle.std.proofs.Common.{◌∙◌, arith, zero-add, add-one}
+use Rattle.std.proofs.Common.{◌≡◌, ℕ, zero, suc, ◌+◌, ◌<◌, ◌≤◌, Bool, true, false, cond, not, ◌&&◌, ◌||◌, eqb, ltb, List, [], ◌∷◌, ◌++◌, length, map, sym, refl, ap}
+use Rattle.std.proofs.Common.{◌∙◌, arith, add-one, Option, None, Some, length-append}
+use Rattle.std.proofs.lemmas.List.{append-nil}
+use Rattle.std.specs.Prelude.{is_some}
 use Rattle.std.proofs.lemmas.Bool.{lt-ltb, ne_eqb, and_parts}
 use Rattle.std.specs.List.{range_with_len}
 use Rattle.std.proofs.lemmas.List.Elements.{filter_agree}
 use Rattle.std.specs.Ordering.{nat_cmp}
 use Rattle.std.specs.FinSet as sets
 use Rattle.std.specs.FinSet.{FinSet}
-use Rattle.mml_ids.specs.Search.{some_below, count_below}
+use Rattle.mml_ids.specs.Search.{some_below}
 use Rattle.mml_ids.specs.Sets.{those_below}
 use Rattle.mml_ids.specs.inside.WordsLemmas.{has-those_below}
 use Rattle.mml_ids.proofs.SetsLemmas.{ranks_in, passing, passing_more}
+use Rattle.mml_rules.specs.declared.rule.Kind.{Kind}
 use Rattle.mml_rules.specs.Configuration.{Configuration, IsLawful}
-use Rattle.mml_stable.specs.Reports.{each_below, listed_if, is_free, is_open, open_link, open_links_at}
+use Rattle.mml_stable.specs.Reports.{each_below, listed_if, privileged_at, is_free, is_open, open_link, open_links_at}
 
 -- what is listed of the numbers below n that pass
 listed_below : {A : Type 0} (t : ℕ → Bool) (f : ℕ → A) (n : ℕ) → passing t f n ≡ each_below n (λ b. listed_if (t b) (f b))
@@ -36,17 +39,21 @@ has_free c free a l e =
     ap (λ s. sets.contains s a) e ∙ has-those_below c.size (is_free c) a ∙ ap (λ t. t && is_free c a) (lt-ltb a c.size l)
 
 -- both ends of an open link are nodes
-pub greater_end : (c : Configuration) (a b : ℕ) → IsLawful c → is_open c a b ≡ true → b < c.size
-greater_end c a b lawful open_b = (lawful.in_range a b (and_parts (c.linked a b) _ open_b).0).1
+pub both_ends : (c : Configuration) (a b : ℕ) → IsLawful c → is_open c a b ≡ true → (a < c.size) × (b < c.size)
+both_ends c a b lawful open_b = lawful.in_range a b (and_parts (c.linked a b) _ open_b).0
 
--- no node is counted where there is none
-pub none_counted : (n : ℕ) (t : ℕ → Bool) → eqb (count_below n t) 0 ≡ not (some_below n t)
-none_counted zero t = refl
-none_counted (suc n) t = go (t n) (none_counted n t)
+-- no node is listed with its rule where there is none
+pub none_listed : (n : ℕ) (kind : ℕ → Option Kind) → eqb (length (each_below n (λ i. privileged_at i (kind i)))) 0 ≡ not (some_below n (λ i. is_some (kind i)))
+none_listed zero kind = refl
+none_listed (suc n) kind = go (kind n) (none_listed n kind)
   where
-    go : (b : Bool) → eqb (count_below n t) 0 ≡ not (some_below n t) → eqb (cond b 1 0 + count_below n t) 0 ≡ not (b || some_below n t)
-    go true below = ne_eqb (1 + count_below n t) 0 (λ e. omega arith)
-    go false below = ap (λ k. eqb k 0) (zero-add (count_below n t)) ∙ below
+    listed : List (ℕ × Kind)
+    listed = each_below n (λ i. privileged_at i (kind i))
+
+    go : (k : Option Kind) → eqb (length listed) 0 ≡ not (some_below n (λ i. is_some (kind i)))
+        → eqb (length (listed ++ privileged_at n k)) 0 ≡ not (is_some k || some_below n (λ i. is_some (kind i)))
+    go None below = ap (λ xs. eqb (length xs) 0) (append-nil listed) ∙ below
+    go (Some k) below = ne_eqb (length (listed ++ (n, k) ∷ [])) 0 (λ e. omega (arith, length-append listed ((n, k) ∷ []), e))
 
 row : (linked free_b above in_size few free_a : Bool) → (linked ≡ true → (in_size ≡ true) × (few ≡ true)) → free_a ≡ true
     → ((linked && (in_size && free_b)) && (above && few)) ≡ (linked && (above && (free_a && free_b)))

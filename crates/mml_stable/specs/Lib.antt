@@ -1,3 +1,4 @@
 pub mod Walk
 pub mod Reports
 pub mod Listed
+pub mod inside

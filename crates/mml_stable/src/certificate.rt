@@ -3,7 +3,9 @@ ghost use Rattle.mml_rules.specs.declared.rule.Rule.{Rule};
 ghost use Rattle.mml_rules.specs.Rules.{is_married, guard, kind_of, enabled_kind};
 ghost use Rattle.mml_board.specs.World.{configuration};
 ghost use Rattle.mml_stable.specs.Walk.{top, walk, certificate};
+ghost use Rattle.mml_stable.specs.inside.Kinds.{AreKinds};
 
+use crate::kinds::{PLACES, find_kinds, kind_at};
 use mml_board::Board;
 use mml_ids::Rank;
 use mml_rules::{Kind, Scene};
@@ -21,29 +23,34 @@ pub fn certify(board: &Board, a: Rank, b: Rank) -> (Rank, Kind)
         × (guard (configuration board.now) result.0 rule ≡ true) }
 {
     let _size = board.size();
-    witness(board, a, b)
+    let mut kinds = [None; PLACES];
+    find_kinds(board, &mut kinds);
+    witness(board, &kinds, a, b)
 }
 
+// The same, with the rules that are enabled at the nodes.
 #[tactic(auto, unfolding(crate::specs::Walk::certificate))]
-fn witness(board: &Board, a: Rank, b: Rank) -> (Rank, Kind)
+pub(crate) fn witness(board: &Board, kinds: &[Option<Kind>], a: Rank, b: Rank) -> (Rank, Kind)
+    requires kinds { AreKinds (configuration board.now) kinds.now }
     requires a { a < length board.now.network.registers }
     requires b { b < length board.now.network.registers }
     ensures { result ≡ certificate (configuration board.now) a b }
 {
-    match walk(board, a) {
+    match walk(board, kinds, a) {
         Some(found) => found,
-        None => match walk(board, b) {
+        None => match walk(board, kinds, b) {
             Some(found) => found,
             None => (a, Kind::Seduction),
         },
     }
 }
 
-fn walk(board: &Board, node: Rank) -> Option<(Rank, Kind)>
-    requires { node < length board.now.network.registers }
+fn walk(board: &Board, kinds: &[Option<Kind>], node: Rank) -> Option<(Rank, Kind)>
+    requires kinds { AreKinds (configuration board.now) kinds.now }
+    requires node { node < length board.now.network.registers }
     ensures { result ≡ walk (configuration board.now) node }
 {
-    let (last, enabled) = top(board, node);
+    let (last, enabled) = top(board, kinds, node);
     match enabled {
         Some(Kind::Update) => Some((last, Kind::Update)),
         Some(Kind::Marriage) => Some((last, Kind::Marriage)),
@@ -55,14 +62,15 @@ fn walk(board: &Board, node: Rank) -> Option<(Rank, Kind)>
 
 /// The first node along the pointers that is privileged or points at no node, and the rule that is
 /// enabled there.
-fn top(board: &Board, node: Rank) -> (Rank, Option<Kind>)
-    requires { node < length board.now.network.registers }
+fn top(board: &Board, kinds: &[Option<Kind>], node: Rank) -> (Rank, Option<Kind>)
+    requires kinds { AreKinds (configuration board.now) kinds.now }
+    requires node { node < length board.now.network.registers }
     ensures top { result.0 ≡ top (configuration board.now) node }
     ensures enabled { result.1 ≡ enabled_kind (configuration board.now) result.0 }
 {
     let mut at = node;
     for step in 0..board.size() {
-        let enabled = board.enabled(at);
+        let enabled = kind_at(board, kinds, at);
         if enabled.is_some() {
             return (at, enabled);
         }
@@ -71,5 +79,5 @@ fn top(board: &Board, node: Rank) -> (Rank, Option<Kind>)
             None => return (at, None),
         }
     }
-    (at, board.enabled(at))
+    (at, kind_at(board, kinds, at))
 }

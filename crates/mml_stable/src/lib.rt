@@ -3,6 +3,7 @@
 #![tactic(auto)]
 
 mod certificate;
+mod kinds;
 pub mod laws;
 mod open_link;
 mod reporting;

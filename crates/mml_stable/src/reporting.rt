@@ -4,8 +4,10 @@ ghost use Rattle.mml_ids.specs.Sets.{those_below};
 ghost use Rattle.mml_board.specs.World.{configuration};
 ghost use Rattle.mml_stable.specs.Reports.{pairs, is_free, free_nodes, privileged_nodes, is_open, open_link, open_links_at, open_links, is_stable};
 ghost use Rattle.mml_stable.specs.Reports.{report_of, NamesNodes};
+ghost use Rattle.mml_stable.specs.inside.Kinds.{AreKinds};
 
-use crate::certificate::certify;
+use crate::certificate::witness;
+use crate::kinds::{PLACES, find_kinds, kind_at};
 use crate::open_link::OpenLink;
 use crate::stability_report::Report;
 use mml_board::Board;
@@ -25,15 +27,19 @@ pub fn report(alloc: Global, board: &Board) -> Result<Report, Memory>
 fn whole(alloc: Global, board: &Board) -> Result<Report, Memory>
     ensures { IfOk result (λ report. report ≡ report_of board.now) }
 {
+    let _size = board.size();
+    let mut kinds = [None; PLACES];
+    find_kinds(board, &mut kinds);
     let pairs = pairs(alloc, board)?;
     let (free, free_set) = free_nodes(alloc, board)?;
+    let (privileged, stable) = privileged_nodes(alloc, board, &kinds)?;
     Ok(Report {
         at: board.number(),
         pairs: Items::of(pairs),
         free: Items::of(free),
-        privileged: Items::of(privileged_nodes(alloc, board)?),
-        open_links: Items::of(open_links(alloc, board, free_set)?),
-        stable: is_stable(board),
+        privileged: Items::of(privileged),
+        open_links: Items::of(open_links(alloc, board, &kinds, free_set)?),
+        stable,
     })
 }
 
@@ -71,17 +77,25 @@ fn free_nodes(alloc: Global, board: &Board) -> Result<(Vec<Rank>, NodeSet), Memo
     Ok((all, set))
 }
 
-fn privileged_nodes(alloc: Global, board: &Board) -> Result<Vec<(Rank, Kind)>, Memory>
-    ensures { IfOk result (λ all. all.items ≡ privileged_nodes (configuration board.now)) }
+/// The privileged nodes, each with the rule that is enabled there, and whether there is none.
+fn privileged_nodes(
+    alloc: Global,
+    board: &Board,
+    kinds: &[Option<Kind>],
+) -> Result<(Vec<(Rank, Kind)>, bool), Memory>
+    requires kinds { AreKinds (configuration board.now) kinds.now }
+    ensures list { IfOk result (λ all. all.0.items ≡ privileged_nodes (configuration board.now)) }
+    ensures stable { IfOk result (λ all. all.1 ≡ is_stable (configuration board.now)) }
 {
-    let mut all = Vec::with_capacity(alloc, board.privileged_count() as usize)?;
+    let mut all = Vec::with_capacity(alloc, board.size() as usize)?;
     for index in 0..board.size() {
         let node = Rank::at(index);
-        if let Some(kind) = board.enabled(node) {
+        if let Some(kind) = kind_at(board, kinds, node) {
             all.push((node, kind))?;
         }
     }
-    Ok(all)
+    let stable = all.is_empty();
+    Ok((all, stable))
 }
 
 /// The greater ends of the open links of a node.
@@ -100,11 +114,13 @@ fn open_ends(board: &Board, free: NodeSet, a: Rank) -> NodeSet
 }
 
 /// An open link with its witness.
-fn open_link(board: &Board, a: Rank, b: Rank) -> OpenLink
-    requires { is_open (configuration board.now) a b ≡ true }
+fn open_link(board: &Board, kinds: &[Option<Kind>], a: Rank, b: Rank) -> OpenLink
+    requires kinds { AreKinds (configuration board.now) kinds.now }
+    requires a { a < length board.now.network.registers }
+    requires b { b < length board.now.network.registers }
     ensures { result ≡ open_link (configuration board.now) a b }
 {
-    let (node, kind) = certify(board, a, b);
+    let (node, kind) = witness(board, kinds, a, b);
     OpenLink { a, b, node, kind }
 }
 
@@ -112,22 +128,30 @@ fn open_link(board: &Board, a: Rank, b: Rank) -> OpenLink
 fn put_open_links(
     all: &mut Vec<OpenLink>,
     board: &Board,
+    kinds: &[Option<Kind>],
     a: Rank,
     ends: NodeSet,
 ) -> Result<(), Memory>
-    requires { (b : ℕ) → set.contains ends b ≡ is_open (configuration board.now) a b }
+    requires kinds { AreKinds (configuration board.now) kinds.now }
+    requires ends { (b : ℕ) → set.contains ends b ≡ is_open (configuration board.now) a b }
     ensures { OnOk result
         (all.new.items ≡ all.old.items ++ open_links_at (configuration board.now) a) }
 {
     let _size = board.size();
     let mut left = ends;
     while let Some(b) = left.take_least() {
-        all.push(open_link(board, a, b))?;
+        all.push(open_link(board, kinds, a, b))?;
     }
     Ok(())
 }
 
-fn open_links(alloc: Global, board: &Board, free: NodeSet) -> Result<Vec<OpenLink>, Memory>
+fn open_links(
+    alloc: Global,
+    board: &Board,
+    kinds: &[Option<Kind>],
+    free: NodeSet,
+) -> Result<Vec<OpenLink>, Memory>
+    requires kinds { AreKinds (configuration board.now) kinds.now }
     requires free { free
         ≡ those_below (length board.now.network.registers) (is_free (configuration board.now)) }
     ensures { IfOk result (λ all. all.items ≡ open_links (configuration board.now)) }
@@ -135,14 +159,7 @@ fn open_links(alloc: Global, board: &Board, free: NodeSet) -> Result<Vec<OpenLin
     let mut all = Vec::new(alloc);
     for index in 0..board.size() {
         let a = Rank::at(index);
-        put_open_links(&mut all, board, a, open_ends(board, free, a))?;
+        put_open_links(&mut all, board, kinds, a, open_ends(board, free, a))?;
     }
     Ok(all)
-}
-
-/// Whether no node is privileged.
-fn is_stable(board: &Board) -> bool
-    ensures { result ≡ is_stable (configuration board.now) }
-{
-    board.privileged_count() == 0
 }

@@ -5,13 +5,13 @@ use Rattle.mml_board.specs.World.{size, configuration}
 use Rattle.mml_board.proofs.KeptLemmas.{in_remove}
 use Rattle.mml_stable.specs.declared.open_link.OpenLink.{OpenLink}
 use Rattle.mml_stable.specs.Reports.{is_open, open_link, open_links_at}
-use Rattle.mml_stable.proofs.ReportsLemmas.{links_of_ends, greater_end}
+use Rattle.mml_stable.proofs.ReportsLemmas.{links_of_ends, both_ends}
 use Rattle.mml_stable.proofs.reporting.put_open_links.Goals as goal
 
 pub loop-b-init : goal.loop-b-init
 loop-b-init c = record {
-  each = λ b h. sym (c.requires b) ∙ h;
-  so_far = ap (λ links. c.args.all.now.items ++ links) (links_of_ends (configuration c.args.board.now) c.args.a c.args.ends c.requires);
+  each = λ b h. sym (c.requires.ends b) ∙ h;
+  so_far = ap (λ links. c.args.all.now.items ++ links) (links_of_ends (configuration c.args.board.now) c.args.a c.args.ends c.requires.ends);
 }
 
 pub loop-b-preserved : goal.loop-b-preserved
@@ -22,7 +22,7 @@ loop-b-preserved c =
     let left = c.loop-b.left in
     let taken = c.in-Some.ensures in
     let open_b : is_open d a b ≡ true = c.loop-b.invariant.each b taken.member in
-    let below : b < size c.args.board.now = greater_end d a b c.size-size.ensures.lawful open_b in
+    let below : b < size c.args.board.now = (both_ends d a b c.size-size.ensures.lawful open_b).1 in
     record {
       each = λ k h. c.loop-b.invariant.each k (in_remove left b k (ap (λ s. sets.contains s k) (sym taken.rest) ∙ h));
       so_far = one_put (open_link d a) (size c.args.board.now) left _ b c.loop-b.all.items _ (c.args.all.now.items ++ open_links_at d a) taken.member
@@ -34,3 +34,13 @@ pub returns : goal.returns
 returns c =
     all_put (open_link (configuration c.args.board.now) c.args.a) (size c.args.board.now) c.loop-b.left c.loop-b.all.items
     (c.args.all.now.items ++ open_links_at (configuration c.args.board.now) c.args.a) c.in_default.ensures.none c.loop-b.invariant.so_far
+
+pub open_link-requires-clause-a : goal.open_link-requires-clause-a
+open_link-requires-clause-a c =
+    let d = configuration c.args.board.now in
+    (both_ends d c.args.a c.in-Some.b c.size-size.ensures.lawful (c.loop-b.invariant.each c.in-Some.b c.in-Some.ensures.member)).0
+
+pub open_link-requires-clause-b : goal.open_link-requires-clause-b
+open_link-requires-clause-b c =
+    let d = configuration c.args.board.now in
+    (both_ends d c.args.a c.in-Some.b c.size-size.ensures.lawful (c.loop-b.invariant.each c.in-Some.b c.in-Some.ensures.member)).1

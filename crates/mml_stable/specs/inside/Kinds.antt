@@ -1,0 +1,14 @@
+-- The rules that are enabled at the nodes, as they were found.
+use Rattle.std.specs.Prelude.{◌≡◌, ℕ, ◌<◌, ◌≤◌, List, Option, None, length, slice_index_or}
+use Rattle.mml_rules.specs.declared.rule.Kind.{Kind}
+use Rattle.mml_rules.specs.Configuration.{Configuration}
+use Rattle.mml_rules.specs.Rules.{enabled_kind}
+
+-- those of the nodes below n
+abbrev pub AreFound : Configuration → ℕ → List (Option Kind) → Type 0
+AreFound c n kinds = (i : ℕ) → i < n → slice_index_or kinds i None ≡ enabled_kind c i
+
+-- those of all nodes
+pub record AreKinds (c : Configuration) (kinds : List (Option Kind)) : Type 0 where
+  pub room : c.size ≤ length kinds
+  pub found : AreFound c c.size kinds

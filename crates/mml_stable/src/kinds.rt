@@ -1,0 +1,33 @@
+//! The rule that is enabled at each node, found once for all that a report tells.
+ghost use Rattle.std.specs.Prelude.{◌≡◌, ◌<◌, ◌≤◌, length};
+ghost use Rattle.mml_rules.specs.Rules.{enabled_kind};
+ghost use Rattle.mml_board.specs.World.{configuration};
+ghost use Rattle.mml_stable.specs.inside.Kinds.{AreKinds};
+
+use mml_board::Board;
+use mml_ids::{MAX_NODES, Rank};
+use mml_rules::{Kind, Scene};
+
+/// How many nodes there may be.
+pub(crate) const PLACES: usize = MAX_NODES as usize;
+
+/// Finds the rule that is enabled at each node, by rank.
+pub(crate) fn find_kinds(board: &Board, kinds: &mut [Option<Kind>])
+    requires room { length board.now.network.registers ≤ length kinds.old }
+    ensures kinds { AreKinds (configuration board.now) kinds.new }
+{
+    for index in 0..board.size() {
+        kinds[index as usize] = board.enabled(Rank::at(index));
+    }
+}
+
+/// The rule that was found at a node.
+#[inline(always)]
+pub(crate) fn kind_at(board: &Board, kinds: &[Option<Kind>], node: Rank) -> Option<Kind>
+    requires node { node < length board.now.network.registers }
+    requires kinds { AreKinds (configuration board.now) kinds.now }
+    ensures { result ≡ enabled_kind (configuration board.now) node }
+{
+    let _size = board.size();
+    kinds[node.index() as usize]
+}
