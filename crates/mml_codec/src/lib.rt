@@ -16,7 +16,7 @@ mod ruling_reply;
 pub use greeting::{Greeting, greet};
 pub use mml_plain::LineScratch;
 pub use reply::{FULL_LINE, JOURNAL_LINE, MALFORMED_LINE, MEMORY_LINE, REPLY_ROOM, Refused, Reply};
-pub use reply_writing::{tell_reply, write_reply};
+pub use reply_writing::{append_reply, tell_reply, write_reply};
 pub use request::{LineFault, Request};
 pub use request_reading::{read_request, read_request_with};
 pub use request_writing::write_request;

@@ -1,4 +1,4 @@
-ghost use Rattle.std.specs.Prelude.{codes, decimal, ◌≡◌, ◌≤◌, ◌<◌, ◌+◌, ◌^◌, ◌++◌, ◌∷◌, [], true, length, map, OnOk, OnErr, IsOk, IfSome, vec_capacity};
+ghost use Rattle.std.specs.Prelude.{codes, decimal, ◌≡◌, ◌≤◌, ◌<◌, ◌+◌, ◌^◌, ◌++◌, ◌∷◌, [], true, length, map, OnOk, OnErr, IsOk, IfSome, vec_capacity, if◌then◌else◌};
 ghost use Rattle.mml_ids.specs.Pieces.{piece_text, piece_room, Puts, Adds};
 ghost use Rattle.mml_ids.specs.declared.piece.Piece.TheVariants.{Number};
 ghost use Rattle.mml_lab.specs.Rosters.{name_of, IsPrincipal};
@@ -94,6 +94,31 @@ pub fn tell_reply(
     }
 }
 
+/// Puts the line of a short reply behind what the vector holds, where that has room for any such, and
+/// tells whether it did. It takes no memory.
+pub fn append_reply(ids: &IdTable, roster: &Roster, reply: &Reply, out: &mut Vec<u8>) -> bool
+    requires { IsAbout ids.now roster.now reply.now }
+    ensures told { length out.old.items + REPLY_ROOM ≤ vec_capacity out.old →
+        result ≡ is_short reply.now }
+    ensures line { out.new.items ≡ (if result
+        then out.old.items ++ reply_line ids.now roster.now reply.now else out.old.items) }
+    ensures grows { length out.new.items ≤ length out.old.items + REPLY_ROOM }
+    ensures capacity { vec_capacity out.new ≡ vec_capacity out.old }
+{
+    if !is_short(reply) || out.capacity() - out.len() < REPLY_ROOM {
+        return false;
+    }
+    put_line(ids, roster, reply, out).unwrap();
+    true
+}
+
+// Whether a reply's line needs no more than a fixed room.
+fn is_short(reply: &Reply) -> bool
+    ensures { result ≡ is_short reply.now }
+{
+    !matches!(reply, Reply::Look(_) | Reply::Report(_))
+}
+
 // Puts the line that tells out of memory, for which there is room.
 fn tell_want_of_memory(alloc: Global, ids: &IdTable, roster: &Roster, out: &mut Vec<u8>) -> Reply
     requires room { REPLY_ROOM ≤ vec_capacity out.old }
@@ -111,6 +136,8 @@ fn put_line(ids: &IdTable, roster: &Roster, reply: &Reply, out: &mut Vec<u8>) ->
     ensures line { OnOk result
         (out.new.items ≡ out.old.items ++ reply_line ids.now roster.now reply.now) }
     ensures capacity { vec_capacity out.old ≤ vec_capacity out.new }
+    ensures grows { is_short reply.now ≡ true →
+        OnOk result (length out.new.items ≤ length out.old.items + REPLY_ROOM) }
     ensures room { is_short reply.now ≡ true →
         OnErr result (vec_capacity out.old < length out.old.items + REPLY_ROOM) }
     ensures kept { is_short reply.now ≡ true →
