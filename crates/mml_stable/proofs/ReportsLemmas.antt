@@ -1,9 +1,9 @@
 -- The lists of a report: the open links of a node from rows of sets, and that no node is privileged.
-use Rattle.std.proofs.Common.{◌≡◌, ℕ, zero, suc, ◌+◌, ◌<◌, ◌≤◌, Bool, true, false, cond, not, ◌&&◌, ◌||◌, eqb, ltb, List, [], ◌∷◌, ◌++◌, length, map, sym, refl, ap}
+use Rattle.std.proofs.Common.{◌≡◌, ◌≢◌, inl, inr, ℕ, zero, suc, ◌+◌, ◌<◌, ◌≤◌, Bool, true, false, cond, not, ◌&&◌, ◌||◌, eqb, ltb, List, [], ◌∷◌, ◌++◌, length, map, sym, refl, ap}
 use Rattle.std.proofs.Common.{◌∙◌, arith, add-one, Option, None, Some, length-append}
 use Rattle.std.proofs.lemmas.List.{append-nil}
 use Rattle.std.specs.Prelude.{is_some}
-use Rattle.std.proofs.lemmas.Bool.{lt-ltb, ne_eqb, and_parts}
+use Rattle.std.proofs.lemmas.Bool.{lt-ltb, le-ltb, eq-eqb, ne_eqb, and_parts, cases_eq, cases_lt}
 use Rattle.std.specs.List.{range_with_len}
 use Rattle.std.proofs.lemmas.List.Elements.{filter_agree}
 use Rattle.std.specs.Ordering.{nat_cmp}
@@ -11,10 +11,11 @@ use Rattle.std.specs.FinSet as sets
 use Rattle.std.specs.FinSet.{FinSet}
 use Rattle.mml_ids.specs.Search.{some_below}
 use Rattle.mml_ids.specs.Sets.{those_below}
-use Rattle.mml_ids.specs.inside.WordsLemmas.{has-those_below}
+use Rattle.mml_ids.specs.inside.WordsLemmas.{has-those_below, has_remove}
 use Rattle.mml_ids.proofs.SetsLemmas.{ranks_in, passing, passing_more}
 use Rattle.mml_rules.specs.declared.rule.Kind.{Kind}
 use Rattle.mml_rules.specs.Configuration.{Configuration, IsLawful}
+use Rattle.mml_stable.specs.inside.Rest.{IsFreeFrom}
 use Rattle.mml_stable.specs.Reports.{each_below, listed_if, privileged_at, is_free, is_open, open_link, open_links_at}
 
 -- what is listed of the numbers below n that pass
@@ -33,11 +34,6 @@ links_of_ends c a ends same =
     ap (map (open_link c a)) (filter_agree (sets.contains ends) (is_open c a) same (range_with_len 0 c.size))
     ∙ listed_below (is_open c a) (open_link c a) c.size
 
--- the set of the free nodes has each node that is free
-pub has_free : (c : Configuration) (free : FinSet nat_cmp) (a : ℕ) → a < c.size → free ≡ those_below c.size (is_free c) → sets.contains free a ≡ is_free c a
-has_free c free a l e =
-    ap (λ s. sets.contains s a) e ∙ has-those_below c.size (is_free c) a ∙ ap (λ t. t && is_free c a) (lt-ltb a c.size l)
-
 -- both ends of an open link are nodes
 pub both_ends : (c : Configuration) (a b : ℕ) → IsLawful c → is_open c a b ≡ true → (a < c.size) × (b < c.size)
 both_ends c a b lawful open_b = lawful.in_range a b (and_parts (c.linked a b) _ open_b).0
@@ -55,22 +51,52 @@ none_listed (suc n) kind = go (kind n) (none_listed n kind)
     go None below = ap (λ xs. eqb (length xs) 0) (append-nil listed) ∙ below
     go (Some k) below = ne_eqb (length (listed ++ (n, k) ∷ [])) 0 (λ e. omega (arith, length-append listed ((n, k) ∷ []), e))
 
-row : (linked free_b above in_size few free_a : Bool) → (linked ≡ true → (in_size ≡ true) × (few ≡ true)) → free_a ≡ true
-    → ((linked && (in_size && free_b)) && (above && few)) ≡ (linked && (above && (free_a && free_b)))
-row false free_b above in_size few free_a within free = refl
-row true free_b above in_size few free_a within free = rw ((within refl).0, (within refl).1, free) (swap free_b above)
-  where
-    swap : (x y : Bool) → (x && (y && true)) ≡ (y && x)
-    swap true true = refl
-    swap true false = refl
-    swap false true = refl
-    swap false false = refl
+-- all free nodes are left before the first
+pub all_left : (c : Configuration) (free : FinSet nat_cmp) → free ≡ those_below c.size (is_free c) → IsFreeFrom c 0 free
+all_left c free e b =
+    ap (λ s. sets.contains s b) e ∙ has-those_below c.size (is_free c) b
+    ∙ ap (λ t. not t && (ltb b c.size && is_free c b)) (sym (le-ltb b 0 (omega arith)))
 
--- of a free node: the free neighbours above it
-pub open_row : (c : Configuration) (a b : ℕ) → IsLawful c → c.size ≤ 256 → is_free c a ≡ true
-    → ((c.linked a b && (ltb b c.size && is_free c b)) && (ltb a b && ltb b 256)) ≡ is_open c a b
-open_row c a b l few free = row (c.linked a b) (is_free c b) (ltb a b) (ltb b c.size) (ltb b 256) (is_free c a)
-    (λ linked. let b_in = (l.in_range a b linked).1 in (lt-ltb b c.size b_in, lt-ltb b 256 (omega arith))) free
+past : (a b : ℕ) (x : Bool) → (not (eqb b a) && (not (ltb b a) && x)) ≡ (not (ltb b (a + 1)) && x)
+past a b x = elim (cases_lt b a) [
+  | inl l ↦ rw (ne_eqb b a (λ e. omega (arith, l, e)), lt-ltb b a l, lt-ltb b (a + 1) (omega (arith, l))) refl
+  | inr h ↦ elim (cases_eq b a) [
+    | inl e ↦ rw (eq-eqb b a e, lt-ltb b (a + 1) (omega (arith, e))) refl
+    | inr ne ↦ rw (ne_eqb b a ne, le-ltb b a h, le-ltb b (a + 1) (omega (arith, h, ne))) refl
+  ]
+]
+
+-- the next node is taken out
+pub one_past : (c : Configuration) (a : ℕ) (rest left : FinSet nat_cmp) → IsFreeFrom c a rest → left ≡ sets.remove rest a → IsFreeFrom c (a + 1) left
+one_past c a rest left from e b =
+    ap (λ s. sets.contains s b) e ∙ has_remove rest a b ∙ ap (λ t. not (eqb b a) && t) (from b) ∙ past a b (ltb b c.size && is_free c b)
+
+-- the rest has the node itself where that is free
+pub has_self : (c : Configuration) (a : ℕ) (rest : FinSet nat_cmp) → a < c.size → IsFreeFrom c a rest → sets.contains rest a ≡ is_free c a
+has_self c a rest l from = from a ∙ (rw (le-ltb a a (omega arith), lt-ltb a c.size l) refl)
+
+row : (linked free_b from above in_size free_a : Bool) → (linked ≡ true → (from ≡ above) × (in_size ≡ true)) → free_a ≡ true
+    → (linked && (from && (in_size && free_b))) ≡ (linked && (above && (free_a && free_b)))
+row false free_b from above in_size free_a within free = refl
+row true free_b from above in_size free_a within free = rw ((within refl).0, (within refl).1, free) refl
+
+apart : (a b : ℕ) → a ≢ b → not (ltb b a) ≡ ltb a b
+apart a b ne = elim (cases_lt a b) [
+  | inl l ↦ rw (lt-ltb a b l, le-ltb b a (omega (arith, l))) refl
+  | inr h ↦ rw (le-ltb a b h, lt-ltb b a (omega (arith, h, ne))) refl
+]
+
+-- of a free node: its neighbours that are left
+pub open_row : (c : Configuration) (a b : ℕ) → IsLawful c → is_free c a ≡ true
+    → (c.linked a b && (not (ltb b a) && (ltb b c.size && is_free c b))) ≡ is_open c a b
+open_row c a b l free = row (c.linked a b) (is_free c b) (not (ltb b a)) (ltb a b) (ltb b c.size) (is_free c a)
+    (λ linked. (
+      apart a b (λ e. absurd (never (sym linked ∙ sym (ap (c.linked a) e) ∙ l.no_loop a))),
+      lt-ltb b c.size (l.in_range a b linked).1,
+    )) free
+  where
+    never : true ≡ false → ⊥
+    never h = cc
 
 -- a node that is not free has none
 pub no_row : (c : Configuration) (a b : ℕ) → is_free c a ≡ false → false ≡ is_open c a b

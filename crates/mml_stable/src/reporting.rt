@@ -5,6 +5,7 @@ ghost use Rattle.mml_board.specs.World.{configuration};
 ghost use Rattle.mml_stable.specs.Reports.{pairs, is_free, free_nodes, privileged_nodes, is_open, open_link, open_links_at, open_links, is_stable};
 ghost use Rattle.mml_stable.specs.Reports.{report_of, NamesNodes};
 ghost use Rattle.mml_stable.specs.inside.Kinds.{AreKinds};
+ghost use Rattle.mml_stable.specs.inside.Rest.{IsFreeFrom};
 
 use crate::certificate::witness;
 use crate::kinds::{PLACES, find_kinds, kind_at};
@@ -98,16 +99,15 @@ fn privileged_nodes(
     Ok((all, stable))
 }
 
-/// The greater ends of the open links of a node.
-fn open_ends(board: &Board, free: NodeSet, a: Rank) -> NodeSet
+/// The greater ends of the open links of a node, where the rest are the free nodes from it on.
+fn open_ends(board: &Board, rest: NodeSet, a: Rank) -> NodeSet
     requires a { a < length board.now.network.registers }
-    requires free { free
-        ≡ those_below (length board.now.network.registers) (is_free (configuration board.now)) }
+    requires rest { IsFreeFrom (configuration board.now) a rest }
     ensures { (b : ℕ) → set.contains result b ≡ is_open (configuration board.now) a b }
 {
     let _size = board.size();
-    if free.has(a) {
-        board.neighbours(a).both(free).both(NodeSet::above(a))
+    if rest.has(a) {
+        board.neighbours(a).both(rest)
     } else {
         NodeSet::empty()
     }
@@ -156,10 +156,13 @@ fn open_links(
         ≡ those_below (length board.now.network.registers) (is_free (configuration board.now)) }
     ensures { IfOk result (λ all. all.items ≡ open_links (configuration board.now)) }
 {
+    let _size = board.size();
     let mut all = Vec::new(alloc);
+    let mut rest = free;
     for index in 0..board.size() {
         let a = Rank::at(index);
-        put_open_links(&mut all, board, kinds, a, open_ends(board, free, a))?;
+        put_open_links(&mut all, board, kinds, a, open_ends(board, rest, a))?;
+        rest = rest.except(a);
     }
     Ok(all)
 }
