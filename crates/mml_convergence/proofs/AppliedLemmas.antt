@@ -1,49 +1,55 @@
 -- Over grants, releases and closes the moves are paid for by the potential.
-use Rattle.std.proofs.Common.{◌≡◌, ◌+◌, ◌*◌, ◌≤◌, true, cond, List, [], ◌∷◌, length, None, is_some, ap, ◌∙◌, arith}
+use Rattle.std.proofs.Common.{◌≡◌, ℕ, ◌+◌, ◌*◌, ◌≤◌, true, cond, List, [], ◌∷◌, length, Option, None, is_some, ap, ◌∙◌, arith}
 use Rattle.std.specs.List.{list_all}
-use Rattle.std.proofs.lemmas.Bool.{false≢true, and_parts}
+use Rattle.std.proofs.lemmas.Bool.{false≢true}
 use Rattle.std.proofs.lemmas.List.{get_or_default}
 use Rattle.std.proofs.lemmas.List.Folds.{Any-from_list_any}
+use Rattle.mml_ids.specs.Search.{count_below}
+use Rattle.mml_rules.specs.declared.rule.Rule.{Rule}
+use Rattle.mml_rules.specs.Configuration.{Configuration, IsLawful}
+use Rattle.mml_rules.specs.Rules.{step, AllHold}
 use Rattle.mml_rules.specs.Network.{Network, configuration_of, IsNetwork}
 use Rattle.mml_lab.specs.Labs.{link_count}
 use Rattle.mml_lab.specs.Rosters.{RosterValue}
 use Rattle.mml_board.specs.declared.event.Event.{Event}
 use Rattle.mml_board.specs.declared.event.Event.TheVariants as event
 use Rattle.mml_board.specs.World.{World, size, configuration, chosen_at, IsWorld}
-use Rattle.mml_board.specs.Events.{is_asked_by_owner, is_possible, is_any_chosen, is_legal, after, chosen_count}
+use Rattle.mml_board.specs.Events.{is_possible, is_any_chosen, after, chosen_count}
 use Rattle.mml_board.specs.Runs.{is_legal_list}
 use Rattle.mml_board.proofs.WorldLemmas.{closed-step, after-world}
 use Rattle.mml_convergence.specs.Runs.{is_of_step}
 use Rattle.mml_convergence.specs.Potential.{whole_potential}
-use Rattle.mml_convergence.specs.Moves.{applied_by, applied_over, is_close, count_closes}
+use Rattle.mml_convergence.specs.Moves.{moves, applied_by, applied_over, is_close, count_closes}
 use Rattle.mml_convergence.proofs.SumsLemmas.{count_some}
 use Rattle.mml_convergence.proofs.WholePotentialLemmas.{whole_fell, whole_most}
 
+-- what falls in each step by the moves at the least
+abbrev pub Falls : (Configuration → ℕ) → Type 0
+Falls P = (c : Configuration) (chosen : ℕ → Option Rule) → IsLawful c → AllHold c chosen → P (step c chosen) + count_below c.size (moves chosen) ≤ P c
+
+-- pays for the moves of a close
+pub close_paid : (P : Configuration → ℕ) → Falls P → (w : World) → IsWorld w → chosen_count w + P (configuration (after w event.Close)) ≤ P (configuration w)
+unfolding chosen_count
+close_paid P falls w k =
+    omega (arith, falls (configuration w) (chosen_at w.chosen) k.network.lawful k.hold, ap P (closed-step w k.choices))
+
+event_pays : (P : Configuration → ℕ) → Falls P → (w : World) (e : Event) → IsWorld w → is_of_step e ≡ true
+    → applied_by w e + P (configuration (after w e)) ≤ P (configuration w)
+event_pays P falls w (event.Grant s i rule) k of_step = omega arith
+event_pays P falls w (event.Release i) k of_step = omega arith
+event_pays P falls w event.Close k of_step = close_paid P falls w k
+event_pays P falls w _ k of_step = absurd (false≢true of_step)
+
+-- and for those of a list
+pub moves_paid : (P : Configuration → ℕ) → Falls P → (r : RosterValue) (w : World) (es : List Event) → IsWorld w → is_legal_list r w es ≡ true
+    → list_all is_of_step es ≡ true → applied_over w es ≤ P (configuration w)
+moves_paid P falls r w [] k legal steps = omega arith
+moves_paid P falls r w (e ∷ es) k legal steps =
+    grind (arith, event_pays P falls w e k, moves_paid P falls r (after w e) es, after-world w e k)
+
 -- a close pays for its moves
 pub close_pays : (w : World) → IsWorld w → chosen_count w + whole_potential (configuration (after w event.Close)) ≤ whole_potential (configuration w)
-unfolding chosen_count
-close_pays w k =
-    let pays = whole_fell (configuration w) (chosen_at w.chosen) k.network.lawful k.hold in
-    let same : whole_potential (configuration (after w event.Close)) ≡ whole_potential _ = ap whole_potential (closed-step w k.choices) in
-    omega (arith, pays, same)
-
-pub event_pays : (w : World) (e : Event) → IsWorld w → is_of_step e ≡ true
-    → applied_by w e + whole_potential (configuration (after w e)) ≤ whole_potential (configuration w)
-event_pays w (event.Grant s i rule) k of_step = omega arith
-event_pays w (event.Release i) k of_step = omega arith
-event_pays w event.Close k of_step = close_pays w k
-event_pays w _ k of_step = absurd (false≢true of_step)
-
-pub moves_paid : (r : RosterValue) (w : World) (es : List Event) → IsWorld w → is_legal_list r w es ≡ true → list_all is_of_step es ≡ true
-    → applied_over w es ≤ whole_potential (configuration w)
-moves_paid r w [] k legal steps = omega arith
-moves_paid r w (e ∷ es) k legal steps =
-    let here = and_parts (is_legal r w e) (is_legal_list r (after w e) es) legal in
-    let possible = and_parts (is_asked_by_owner r e) (is_possible w e) here.0 in
-    let of_steps = and_parts (is_of_step e) (list_all is_of_step es) steps in
-    let first = event_pays w e k of_steps.0 in
-    let rest = moves_paid r (after w e) es (after-world w e k possible.1) here.1 of_steps.1 in
-    omega (arith, first, rest)
+close_pays w k = close_paid whole_potential whole_fell w k
 
 -- all potentials of a network together are 2 for each link and 3 for each node at the most
 pub network_most : (n : Network) → IsNetwork n → whole_potential (configuration_of n) ≤ 2 * link_count n + 3 * length n.registers
@@ -54,9 +60,7 @@ network_most n k = whole_most (configuration_of n) k.lawful
 pub moves_bounded : (r : RosterValue) (w : World) (es : List Event) → IsWorld w → is_legal_list r w es ≡ true → list_all is_of_step es ≡ true
     → applied_over w es ≤ 2 * link_count w.network + 3 * size w
 moves_bounded r w es k legal steps =
-    let paid = moves_paid r w es k legal steps in
-    let most = network_most w.network k.network in
-    omega (arith, paid, most)
+    omega (arith, moves_paid whole_potential whole_fell r w es k legal steps, network_most w.network k.network)
 
 -- ---- each close applies a move
 
@@ -70,12 +74,7 @@ close_moves w k any =
 
 closes_fewer : (r : RosterValue) (w : World) (es : List Event) → IsWorld w → is_legal_list r w es ≡ true → count_closes es ≤ applied_over w es
 closes_fewer r w [] k legal = omega arith
-closes_fewer r w (e ∷ es) k legal =
-    let here = and_parts (is_legal r w e) (is_legal_list r (after w e) es) legal in
-    let possible = and_parts (is_asked_by_owner r e) (is_possible w e) here.0 in
-    let rest = closes_fewer r (after w e) es (after-world w e k possible.1) here.1 in
-    let first = one e possible.1 in
-    omega (arith, first, rest)
+closes_fewer r w (e ∷ es) k legal = grind (arith, one e, closes_fewer r (after w e) es, after-world w e k)
   where
     one : (e : Event) → is_possible w e ≡ true → cond (is_close e) 1 0 ≤ applied_by w e
     one event.Close p = close_moves w k p
@@ -85,6 +84,4 @@ closes_fewer r w (e ∷ es) k legal =
 pub closes_bounded : (r : RosterValue) (w : World) (es : List Event) → IsWorld w → is_legal_list r w es ≡ true → list_all is_of_step es ≡ true
     → count_closes es ≤ 2 * link_count w.network + 3 * size w
 closes_bounded r w es k legal steps =
-    let fewer = closes_fewer r w es k legal in
-    let bounded = moves_bounded r w es k legal steps in
-    omega (arith, fewer, bounded)
+    omega (arith, closes_fewer r w es k legal, moves_bounded r w es k legal steps)

@@ -1,8 +1,8 @@
 -- How many nodes are married: they come in pairs, so a step makes two more or none.
-use Rattle.std.proofs.Common.{◌≡◌, ℕ, zero, suc, ◌+◌, ◌<◌, ◌≤◌, ◌⊎◌, inl, inr, Bool, true, false, cond, not, ◌&&◌, ◌||◌, ◌==◌, Option, Some, refl}
+use Rattle.std.proofs.Common.{◌≡◌, ℕ, zero, suc, ◌+◌, ◌<◌, ◌≤◌, ◌⊎◌, inl, inr, Bool, true, false, not, ◌&&◌, Option, Some, refl}
 use Rattle.std.proofs.Common.{sym, ap, ◌∙◌, subst, arith}
-use Rattle.std.proofs.lemmas.Bool.{and_parts, and_from, or_cases, or_left, or_right, or_from, not-true, eq-eqb, eqb-true, ne_eqb, both_ways}
-use Rattle.std.proofs.lemmas.Bool.{false≢true, false_from_ne_true, cases_order, cases_Bool}
+use Rattle.std.proofs.lemmas.Bool.{and_parts, and_from, not-true, both_ways}
+use Rattle.std.proofs.lemmas.Bool.{false≢true, false_from_ne_true, cases_Bool}
 use Rattle.mml_ids.specs.Search.{some_below, count_below}
 use Rattle.mml_ids.proofs.SearchLemmas.{some_below-find, some_below-none}
 use Rattle.mml_rules.specs.declared.rule.Rule.{Rule}
@@ -14,44 +14,19 @@ use Rattle.mml_convergence.proofs.StepLemmas.{step-keeps, step-married}
 
 -- ---- counts
 
-one_kept : (x y : Bool) → (x ≡ true → y ≡ true) → cond {A = ℕ} x 1 0 ≤ cond {A = ℕ} y 1 0
-one_kept true true f = omega arith
-one_kept true false f = absurd (false≢true (f refl))
-one_kept false y f = omega arith
-
 count_kept : (n : ℕ) (t u : ℕ → Bool) → ((j : ℕ) → t j ≡ true → u j ≡ true) → count_below n t ≤ count_below n u
 count_kept zero t u le = omega arith
-count_kept (suc n) t u le =
-    let rest = count_kept n t u le in
-    let last = one_kept (t n) (u n) (le n) in
-    omega (arith, rest, last)
+count_kept (suc n) t u le = grind (arith, count_kept n t u le, le n)
 
 count_more : (n a : ℕ) (t u : ℕ → Bool) → ((j : ℕ) → t j ≡ true → u j ≡ true) → a < n → t a ≡ false → u a ≡ true → count_below n t + 1 ≤ count_below n u
 count_more zero a t u le lt off on = absurd (omega arith)
-count_more (suc n) a t u le lt off on = elim (cases_order a n) [
-  | inl e ↦
-      let rest = count_kept n t u le in
-      let none : cond {A = ℕ} (t n) 1 0 ≡ 0 = ap (λ b. cond b 1 0) (subst (λ x. t x ≡ false) e off) in
-      let one : cond {A = ℕ} (u n) 1 0 ≡ 1 = ap (λ b. cond b 1 0) (subst (λ x. u x ≡ true) e on) in
-      omega (arith, rest, none, one)
-  | inr o ↦ elim o [
-    | inl below ↦
-        let rest = count_more n a t u le below off on in
-        let last = one_kept (t n) (u n) (le n) in
-        omega (arith, rest, last)
-    | inr above ↦ absurd (omega arith)
-  ]
-]
+count_more (suc n) a t u le lt off on = grind (arith, count_more n a t u le, count_kept n t u le, le n)
 
 count_two : (n a b : ℕ) (t u : ℕ → Bool) → ((j : ℕ) → t j ≡ true → u j ≡ true) → (a ≡ b → ⊥) → a < n → b < n
     → t a ≡ false → t b ≡ false → u a ≡ true → u b ≡ true → count_below n t + 2 ≤ count_below n u
-count_two n a b t u le apart a_in b_in ta tb ua ub =
-    let first = count_more n a t (λ j. t j || (j == a)) (λ j e. or_left (t j) (j == a) e) a_in ta (or_right (t a) (a == a) (eq-eqb a a refl)) in
-    let second = count_more n b (λ j. t j || (j == a)) u (λ j e. elim (or_cases (t j) (j == a) e) [
-      | inl on ↦ le j on
-      | inr same ↦ subst (λ x. u x ≡ true) (sym (eqb-true j a same)) ua
-    ]) b_in (or_from (t b) (b == a) tb (ne_eqb b a (λ e. apart (sym e)))) ub in
-    omega (arith, first, second)
+count_two zero a b t u le apart a_in b_in ta tb ua ub = absurd (omega arith)
+count_two (suc n) a b t u le apart a_in b_in ta tb ua ub =
+    grind (arith, count_two n a b t u le apart, count_more n a t u le, count_more n b t u le, le n)
 
 count_all : (n : ℕ) → count_below n (λ j. true) ≤ n
 count_all zero = omega arith
@@ -87,22 +62,17 @@ pub open_counts : (c : Configuration) (a b : ℕ) → IsLawful c → c.linked a 
 open_counts c a b l linked ea eb =
     let range = l.in_range a b linked in
     let two = count_two c.size a b (is_married c) (λ j. true) (λ j e. refl) (apart c a b l linked) range.0 range.1 ea eb refl refl in
-    let all = count_all c.size in
-    omega (arith, two, all)
+    omega (arith, two, count_all c.size)
 
 -- where some node isn't married, fewer than all nodes are
 pub single_counts : (c : Configuration) (i : ℕ) → i < c.size → is_married c i ≡ false → married_count c + 1 ≤ c.size
 single_counts c i lt e =
-    let one = count_more c.size i (is_married c) (λ j. true) (λ j e. refl) lt e refl in
-    let all = count_all c.size in
-    omega (arith, one, all)
+    omega (arith, count_more c.size i (is_married c) (λ j. true) (λ j e. refl) lt e refl, count_all c.size)
 
 -- no more nodes are married than there are
 pub most : (c : Configuration) → married_count c ≤ c.size
 most c =
-    let kept = count_kept c.size (is_married c) (λ j. true) (λ j e. refl) in
-    let all = count_all c.size in
-    omega (arith, kept, all)
+    omega (arith, count_kept c.size (is_married c) (λ j. true) (λ j e. refl), count_all c.size)
 
 -- ---- a step
 

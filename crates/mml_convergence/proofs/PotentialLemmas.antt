@@ -267,14 +267,11 @@ module _ (c : Configuration) (chosen : ℕ → Option Rule) (l : IsLawful c) (h 
       go : (b : Bool) → some_below c.size (λ k. marries_lower (chosen k) k i) ≡ b → Pays i (cond (pays (chosen i) i) 1 0 + marriages_with i)
       go false e =
           let none = count_none c.size (λ k. marries_lower (chosen k) k i) (λ k lt. some_below-none c.size k (λ k. marries_lower (chosen k) k i) e lt) in
-          let own = move_paid i (chosen i) refl in
-          omega (arith, none, own)
+          omega (arith, none, move_paid i (chosen i) refl)
       go true e =
           let found = some_below-find c.size (λ k. marries_lower (chosen k) k i) e in
           let w = lower_marriage found.0 i found.2 in
-          let one = one_marriage found.0 i w in
-          let both = both_paid found.0 i w (chosen i) refl in
-          omega (arith, one, both)
+          omega (arith, one_marriage found.0 i w, both_paid found.0 i w (chosen i) refl)
 
   -- the potential of i falls by what is charged to it
   pub potential_fell : (i : ℕ) → potential next i + (cond (pays (chosen i) i) 1 0 + count_below c.size (λ k. marries_lower (chosen k) k i)) ≤ potential c i

@@ -357,8 +357,7 @@ rounds_end r w es k run room rounds = elim (cases_lt 0 (size w)) [
       ends r w es k u
       (from_modest r (world_of w u.first) u.rest u.left u.on (round_brings Any Modest any_stays modest_brings r w u.first u.here u.round tt) (λ d e.
       let two : size w ≡ suc (suc d) = omega (arith, same, e) in
-      let all = ap rounds_for two in
-      omega (arith, all, room, is)) u.rounds)
+      omega (arith, ap rounds_for two, room, is)) u.rounds)
 ]
 
 -- that is two rounds for each node at the most
@@ -372,18 +371,14 @@ pub for_even : (k : ℕ) → rounds_for (2 * k) ≡ 4 * k
 for_even zero = refl
 for_even (suc k) =
     let next : 2 * suc k ≡ suc (suc (2 * k)) = omega arith in
-    let rest = for_even k in
-    let all = ap rounds_for next in
-    omega (arith, rest, all)
+    omega (arith, for_even k, ap rounds_for next)
 
 -- for an odd number of nodes it is one round less than two for each
 pub for_odd : (k : ℕ) → rounds_for (2 * k + 1) ≡ 4 * k + 1
 for_odd zero = refl
 for_odd (suc k) =
     let next : 2 * suc k + 1 ≡ suc (suc (2 * k + 1)) = omega arith in
-    let rest = for_odd k in
-    let all = ap rounds_for next in
-    omega (arith, rest, all)
+    omega (arith, for_odd k, ap rounds_for next)
 
 -- after two rounds for each node no node is privileged, and each link has an end in a pair
 pub rounds_bounded : (r : RosterValue) (w : World) (es : List Event) → IsWorld w → is_legal_list r w es ≡ true → list_all is_of_step es ≡ true

@@ -1,14 +1,14 @@
 -- Over grants, releases and closes m changes at most twice at a node.
-use Rattle.std.proofs.Common.{◌≡◌, ℕ, ◌≤◌, ◌+◌, Bool, true, false, List, [], ◌∷◌, sym, subst, arith}
+use Rattle.std.proofs.Common.{◌≡◌, ℕ, ◌≤◌, ◌+◌, Bool, true, List, [], ◌∷◌, sym, subst, arith}
 use Rattle.std.specs.List.{list_all}
-use Rattle.std.proofs.lemmas.Bool.{false≢true, and_parts}
+use Rattle.std.proofs.lemmas.Bool.{false≢true}
 use Rattle.mml_rules.specs.Configuration.{Configuration}
 use Rattle.mml_rules.specs.Rules.{is_married}
 use Rattle.mml_lab.specs.Rosters.{RosterValue}
 use Rattle.mml_board.specs.declared.event.Event.{Event}
 use Rattle.mml_board.specs.declared.event.Event.TheVariants as event
 use Rattle.mml_board.specs.World.{World, configuration, chosen_at, IsWorld}
-use Rattle.mml_board.specs.Events.{is_asked_by_owner, is_possible, is_legal, after}
+use Rattle.mml_board.specs.Events.{after}
 use Rattle.mml_board.specs.Runs.{is_legal_list}
 use Rattle.mml_convergence.specs.Runs.{is_of_step, changes_of_m}
 use Rattle.mml_convergence.proofs.StepLemmas.{weight, change, step-weight, weight_at_most}
@@ -19,8 +19,7 @@ abbrev weight_at : World → ℕ → ℕ
 weight_at w i = weight ((configuration w).m i) (is_married (configuration w) i)
 
 same_m : (b : Bool) (x : ℕ) → change b b + x ≤ x
-same_m true x = omega arith
-same_m false x = omega arith
+same_m b x = grind arith
 
 -- each change of m is paid for
 step_pays : (w : World) (e : Event) (i : ℕ) → IsWorld w → is_of_step e ≡ true
@@ -35,13 +34,7 @@ step_pays w _ i k of_step = absurd (false≢true of_step)
 changes_paid : (r : RosterValue) (i : ℕ) (w : World) (es : List Event) → IsWorld w → is_legal_list r w es ≡ true → list_all is_of_step es ≡ true
     → changes_of_m i w es ≤ weight_at w i
 changes_paid r i w [] k legal steps = omega arith
-changes_paid r i w (e ∷ es) k legal steps =
-    let here = and_parts (is_legal r w e) (is_legal_list r (after w e) es) legal in
-    let possible = and_parts (is_asked_by_owner r e) (is_possible w e) here.0 in
-    let of_steps = and_parts (is_of_step e) (list_all is_of_step es) steps in
-    let first = step_pays w e i k of_steps.0 in
-    let rest = changes_paid r i (after w e) es (after-world w e k possible.1) here.1 of_steps.1 in
-    omega (arith, first, rest)
+changes_paid r i w (e ∷ es) k legal steps = grind (arith, step_pays w e i k, changes_paid r i (after w e) es, after-world w e k)
 
 -- over grants, releases and closes m changes at most twice at a node
 pub twice_at_most : (r : RosterValue) (w : World) (es : List Event) (i : ℕ) → IsWorld w → is_legal_list r w es ≡ true → list_all is_of_step es ≡ true

@@ -3,7 +3,7 @@ use Rattle.std.proofs.Common.{◌≡◌, ℕ, ◌≤◌, ◌+◌, Bool, true, fa
 use Rattle.std.proofs.Common.{refl, ap, ◌∙◌, arith, nat_lt}
 use Rattle.std.specs.Bool.{beq}
 use Rattle.std.specs.Option.{option_map_or}
-use Rattle.std.proofs.lemmas.Bool.{and_parts, not-true, both_ways, false≢true, false_from_ne_true}
+use Rattle.std.proofs.lemmas.Bool.{and_parts, not-true, both_ways, false_from_ne_true}
 use Rattle.mml_rules.specs.declared.rule.Rule.{Rule}
 use Rattle.mml_rules.specs.Configuration.{Configuration, IsLawful, holds}
 use Rattle.mml_rules.specs.Rules.{is_married, has_suitor, greatest_candidate, m_is_right, points_in_vain, guard, effect, moved, step, AllHold}
@@ -14,10 +14,7 @@ use Rattle.mml_rules.proofs.StepLemmas.{step-lawful}
 
 -- tests that are found different are opposites
 pub beq-false : (a b : Bool) → beq a b ≡ false → a ≡ not b
-beq-false true true h = absurd (false≢true (sym h))
-beq-false false false h = absurd (false≢true (sym h))
-beq-false true false h = refl
-beq-false false true h = refl
+beq-false a b h = grind arith
 
 -- a move at a node whose pointer is answered leaves the pointer
 pub answered-keeps : (c : Configuration) (i j : ℕ) (r : Rule) → c.p i ≡ Some j → c.p j ≡ Some i → guard c i r ≡ true → (effect c i r).p ≡ Some j
@@ -55,16 +52,7 @@ abbrev pub change : Bool → Bool → ℕ
 change m n = cond (beq m n) 0 1
 
 weighed : (m n x y : Bool) → (x ≡ true → y ≡ true) → (n ≡ m) ⊎ ((n ≡ x) × (m ≡ not x)) → change m n + weight n y ≤ weight m x
-weighed true true true true h e = omega arith
-weighed true true true false h e = absurd (false≢true (h refl))
-weighed true true false true h e = omega arith
-weighed true true false false h e = omega arith
-weighed false false x y h e = omega arith
-weighed false true true true h e = omega arith
-weighed false true true false h e = absurd (false≢true (h refl))
-weighed false true false y h e = elim e [ inl a ↦ absurd (false≢true (sym a)) | inr a ↦ absurd (false≢true (sym a.0)) ]
-weighed true false false y h e = omega arith
-weighed true false true y h e = elim e [ inl a ↦ absurd (false≢true a) | inr a ↦ absurd (false≢true a.0) ]
+weighed m n x y h e = grind arith
 
 -- a move leaves m as it was, or makes it right where it was wrong
 pub moved-m : (c : Configuration) (i : ℕ) (o : Option Rule) → ((r : Rule) → o ≡ Some r → guard c i r ≡ true)
@@ -96,6 +84,4 @@ step-weight c chosen l h i =
 
 -- a node's weight is 2 at the most
 pub weight_at_most : (m x : Bool) → weight m x ≤ 2
-weight_at_most true true = omega arith
-weight_at_most true false = omega arith
-weight_at_most false x = omega arith
+weight_at_most m x = grind arith

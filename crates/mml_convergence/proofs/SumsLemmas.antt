@@ -1,124 +1,81 @@
 -- Sums and counts below a number.
-use Rattle.std.proofs.Common.{◌≡◌, ℕ, zero, suc, ◌+◌, ◌*◌, ◌<◌, ◌≤◌, Bool, true, false, cond, ◌&&◌, inl, inr, refl, ap, subst, arith}
-use Rattle.std.proofs.lemmas.Bool.{cases_order, false_from_ne_true}
+use Rattle.std.proofs.Common.{◌≡◌, ℕ, zero, suc, ◌+◌, ◌*◌, ◌<◌, ◌≤◌, Bool, true, false, cond, ◌&&◌, inl, inr, refl, subst, arith}
+use Rattle.std.proofs.lemmas.Bool.{cases_order}
 use Rattle.mml_ids.specs.Search.{count_below}
 use Rattle.mml_convergence.specs.Potential.{sum_below}
 
 -- a sum is at most another where each of its terms is
 pub sum_kept : (n : ℕ) (f g : ℕ → ℕ) → ((j : ℕ) → j < n → f j ≤ g j) → sum_below n f ≤ sum_below n g
 sum_kept zero f g le = omega arith
-sum_kept (suc n) f g le =
-    let rest = sum_kept n f g (λ j lt. le j (omega arith)) in
-    let last = le n (omega arith) in
-    omega (arith, rest, last)
+sum_kept (suc n) f g le = omega (arith, sum_kept n f g (λ j lt. le j (omega arith)), le n)
 
 -- one of them falls
 pub sum_fell : (n k : ℕ) (f g : ℕ → ℕ) → ((j : ℕ) → j < n → f j ≤ g j) → k < n → f k + 1 ≤ g k → sum_below n f + 1 ≤ sum_below n g
 sum_fell zero k f g le lt less = absurd (omega arith)
 sum_fell (suc n) k f g le lt less = elim (cases_order k n) [
-  | inl e ↦
-      let rest = sum_kept n f g (λ j below. le j (omega arith)) in
-      let last : f n + 1 ≤ g n = subst (λ z. f z + 1 ≤ g z) e less in
-      omega (arith, rest, last)
-  | inr o ↦ elim o [
-    | inl below ↦
-        let rest = sum_fell n k f g (λ j l. le j (omega arith)) below less in
-        let last = le n (omega arith) in
-        omega (arith, rest, last)
-    | inr above ↦ absurd (omega arith)
-  ]
+  | inl e ↦ omega (arith, sum_kept n f g (λ j below. le j (omega arith)), subst (λ z. f z + 1 ≤ g z) e less)
+  | inr o ↦ omega (arith, sum_fell n k f g (λ j l. le j (omega arith)) (omega arith) less, le n)
 ]
 
 -- each falls by what is charged to it
 pub sum_charged : (n : ℕ) (t f g : ℕ → ℕ) → ((j : ℕ) → f j + t j ≤ g j) → sum_below n f + sum_below n t ≤ sum_below n g
 sum_charged zero t f g le = omega arith
-sum_charged (suc n) t f g le =
-    let rest = sum_charged n t f g le in
-    let last = le n in
-    omega (arith, rest, last)
+sum_charged (suc n) t f g le = omega (arith, sum_charged n t f g le, le n)
 
 -- each is 3 at the most, and 2 for each that is counted
 pub sum_most : (n : ℕ) (f g : ℕ → ℕ) → ((j : ℕ) → f j ≤ 3 + 2 * g j) → sum_below n f ≤ 3 * n + 2 * sum_below n g
 sum_most zero f g le = omega arith
-sum_most (suc n) f g le =
-    let rest = sum_most n f g le in
-    let last = le n in
-    omega (arith, rest, last)
+sum_most (suc n) f g le = omega (arith, sum_most n f g le, le n)
 
 -- a sum of parts, each 2 at the most and 1 more where a second test passes too
 pub sum_parts : (n : ℕ) (t u : ℕ → Bool) (f : ℕ → ℕ) → ((j : ℕ) → f j ≤ 2 + cond (u j) 1 0)
     → sum_below n (λ j. cond (t j) (f j) 0) ≤ 2 * count_below n t + count_below n (λ j. t j && u j)
 sum_parts zero t u f le = omega arith
-sum_parts (suc n) t u f le =
-    let rest = sum_parts n t u f le in
-    let last = one (t n) (u n) (f n) (le n) in
-    omega (arith, rest, last)
-  where
-    one : (t u : Bool) (k : ℕ) → k ≤ 2 + cond u 1 0 → cond t k 0 ≤ 2 * cond t 1 0 + cond (t && u) 1 0
-    one true u k le = omega arith
-    one false u k le = omega arith
+sum_parts (suc n) t u f le = grind (arith, sum_parts n t u f le, le n)
 
 -- where no number below n passes, none is counted
 pub count_none : (n : ℕ) (t : ℕ → Bool) → ((j : ℕ) → j < n → t j ≡ false) → count_below n t ≡ 0
 count_none zero t off = refl
-count_none (suc n) t off =
-    let rest = count_none n t (λ j lt. off j (omega arith)) in
-    let last : cond {A = ℕ} (t n) 1 0 ≡ 0 = ap (λ b. cond b 1 0) (off n (omega arith)) in
-    omega (arith, rest, last)
+count_none (suc n) t off = grind (arith, count_none n t, off)
 
 -- a test that is true of one number at the most
 pub count_one_at_most : (n k : ℕ) (t : ℕ → Bool) → ((j : ℕ) → t j ≡ true → j ≡ k) → count_below n t ≤ 1
 count_one_at_most zero k t only = omega arith
-count_one_at_most (suc n) k t only = go (count_one_at_most n k t only) (t n) refl
-  where
-    go : count_below n t ≤ 1 → (b : Bool) → t n ≡ b → cond b 1 0 + count_below n t ≤ 1
-    go rest false e = omega (arith, rest)
-    go rest true e =
-        let none = count_none n t (λ j lt. false_from_ne_true (t j) (λ h. let here = only j h in let there = only n e in omega arith)) in
-        omega (arith, none)
+count_one_at_most (suc n) k t only = grind (arith, count_one_at_most n k t only, count_none n t, only n)
 
 -- two tests that agree below n count the same
 pub count_same : (n : ℕ) (s t : ℕ → Bool) → ((j : ℕ) → j < n → s j ≡ t j) → count_below n s ≡ count_below n t
 count_same zero s t same = refl
-count_same (suc n) s t same =
-    let rest = count_same n s t (λ j lt. same j (omega arith)) in
-    let last : cond {A = ℕ} (s n) 1 0 ≡ cond (t n) 1 0 = ap (λ b. cond b 1 0) (same n (omega arith)) in
-    omega (arith, rest, last)
+count_same (suc n) s t same = grind (arith, count_same n s t, same)
+
+-- where some number below n passes, one at least is counted
+pub count_some : (n i : ℕ) (t : ℕ → Bool) → i < n → t i ≡ true → 1 ≤ count_below n t
+count_some zero i t lt on = absurd (omega arith)
+count_some (suc n) i t lt on = grind (arith, count_some n i t)
 
 -- ---- pairs of numbers, counted by either
 
 sum_zero : (n : ℕ) → sum_below n (λ i. 0) ≡ 0
 sum_zero zero = refl
-sum_zero (suc n) = let rest = sum_zero n in omega (arith, rest)
+sum_zero (suc n) = omega (arith, sum_zero n)
 
 -- the last column
 pub one_column : (R : ℕ → ℕ → Bool) (r n : ℕ)
     → sum_below r (λ i. count_below (suc n) (R i)) ≡ count_below r (λ i. R i n) + sum_below r (λ i. count_below n (R i))
 one_column R zero n = refl
-one_column R (suc r) n = let rest = one_column R r n in omega (arith, rest)
+one_column R (suc r) n = omega (arith, one_column R r n)
 
 -- pairs are as many, whether counted by their first number or by their second
 pub sum_turned : (R : ℕ → ℕ → Bool) (r n : ℕ) → sum_below r (λ i. count_below n (R i)) ≡ sum_below n (λ k. count_below r (λ i. R i k))
 sum_turned R r zero = sum_zero r
-sum_turned R r (suc n) = let rest = sum_turned R r n in let last = one_column R r n in omega (arith, rest, last)
+sum_turned R r (suc n) = omega (arith, sum_turned R r n, one_column R r n)
 
 -- numbers that are sums of two add up to both sums together
 pub sum_split : (n : ℕ) (f g : ℕ → ℕ) → sum_below n (λ i. f i + g i) ≡ sum_below n f + sum_below n g
 sum_split zero f g = refl
-sum_split (suc n) f g = let rest = sum_split n f g in omega (arith, rest)
+sum_split (suc n) f g = omega (arith, sum_split n f g)
 
 -- 1 for each number that passes, and 0 for the others, sums up to how many pass
 pub sum_of_tests : (n : ℕ) (t : ℕ → Bool) → sum_below n (λ i. cond (t i) 1 0) ≡ count_below n t
 sum_of_tests zero t = refl
-sum_of_tests (suc n) t = let rest = sum_of_tests n t in omega (arith, rest)
-
--- where some number below n passes, one at least is counted
-pub count_some : (n i : ℕ) (t : ℕ → Bool) → i < n → t i ≡ true → 1 ≤ count_below n t
-count_some zero i t lt on = absurd (omega arith)
-count_some (suc n) i t lt on = elim (cases_order i n) [
-  | inl e ↦ let here : cond {A = ℕ} (t n) 1 0 ≡ 1 = ap (λ b. cond b 1 0) (subst (λ x. t x ≡ true) e on) in omega (arith, here)
-  | inr o ↦ elim o [
-    | inl below ↦ let rest = count_some n i t below on in omega (arith, rest)
-    | inr above ↦ absurd (omega arith)
-  ]
-]
+sum_of_tests (suc n) t = omega (arith, sum_of_tests n t)

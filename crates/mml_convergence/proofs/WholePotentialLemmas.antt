@@ -46,8 +46,7 @@ all_charged chosen n =
     let each =
     sum_kept n (λ k. cond (moves chosen k) 1 0) (λ k. cond (pays (chosen k) k) 1 0 + count_below n (marries_lower (chosen k) k))
     (λ k lt. one_charged (chosen k) k n lt) in
-    let counted = sum_of_tests n (moves chosen) in
-    omega (arith, split, turned, joined, each, counted)
+    omega (arith, split, turned, joined, each, sum_of_tests n (moves chosen))
 
 -- in a step all potentials together fall by the number of moves at the least
 pub whole_fell : (c : Configuration) (chosen : ℕ → Option Rule) → IsLawful c → AllHold c chosen
@@ -55,8 +54,7 @@ pub whole_fell : (c : Configuration) (chosen : ℕ → Option Rule) → IsLawful
 unfolding whole_potential
 whole_fell c chosen l h =
     let fell = sum_charged c.size (charge chosen c.size) (potential (step c chosen)) (potential c) (potential_fell c chosen l h) in
-    let charged = all_charged chosen c.size in
-    omega (arith, fell, charged)
+    omega (arith, fell, all_charged chosen c.size)
 
 -- ---- the bound
 
@@ -83,10 +81,8 @@ one_pointer c i n (Some k) = elim (cases_Bool (nat_lt k i)) [
 pub potential_most : (c : Configuration) (i : ℕ) → potential c i ≤ 3 + 2 * count_below c.size (is_above c i)
 unfolding potential
 potential_most c i =
-    let own = own_most (is_married c i) (c.m i) (points_down c i) in
     let links = sum_parts c.size (is_above c i) (holds (c.p i)) (link_part c i) (λ j. link_most (holds (c.p i) j) (holds (c.p j) i) (c.m j) (is_married c j)) in
-    let pointer = one_pointer c i c.size (c.p i) in
-    omega (arith, own, links, pointer)
+    omega (arith, own_most (is_married c i) (c.m i) (points_down c i), links, one_pointer c i c.size (c.p i))
 
 and_on : (x y : Bool) → y ≡ true → (x && y) ≡ x
 and_on true y e = e
@@ -109,5 +105,4 @@ pub whole_most : (c : Configuration) → IsLawful c → whole_potential c ≤ 2 
 unfolding whole_potential
 whole_most c l =
     let most = sum_most c.size (potential c) (λ i. count_below c.size (is_above c i)) (potential_most c) in
-    let counted = counted_above c c.size l in
-    omega (arith, most, counted)
+    omega (arith, most, counted_above c c.size l)
