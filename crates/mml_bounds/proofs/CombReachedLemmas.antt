@@ -2,6 +2,7 @@
 use Rattle.std.proofs.Common.{◌≡◌, ℕ, zero, suc, ◌+◌, ◌*◌, ◌-◌, ◌<◌, ◌≤◌, ◌⊎◌, inl, inr, Bool, true, false, cond, not, ◌==◌, Option, None, Some, length}
 use Rattle.std.proofs.Common.{sym, refl, ap, ◌∙◌, subst, arith}
 use Rattle.std.proofs.lemmas.Bool.{cases_lt, cases_eq, eq-eqb, ne_eqb}
+use Rattle.std.proofs.lemmas.Bool.Decides.{nat_tests}
 use Rattle.mml_ids.specs.declared.TheConstants.{MAX_NODES}
 use Rattle.mml_rules.specs.declared.regs.Regs.{Regs}
 use Rattle.mml_rules.specs.declared.rule.Rule.{Rule}
@@ -13,14 +14,13 @@ use Rattle.mml_lab.specs.declared.who.Who.TheVariants as who
 use Rattle.mml_lab.specs.Rosters.{RosterValue, owns}
 use Rattle.mml_board.specs.World.{World, configuration, IsWorld}
 use Rattle.mml_board.proofs.WorldLemmas.{none_at}
-use Rattle.mml_bounds.specs.Comb.{comb_world}
-use Rattle.mml_bounds.proofs.UniformLemmas.{IsQuiet, IsMoved}
+use Rattle.mml_bounds.specs.Comb.{first_pointer, comb_world}
+use Rattle.mml_bounds.proofs.MoveLemmas.{IsQuiet, IsMoved, stop, Holds, is, stays, turns, Goes, single}
 use Rattle.mml_bounds.proofs.IdleLemmas.{may_update, may_marry, may_abandon, may_seduce, seduces_greatest}
 use Rattle.mml_bounds.proofs.PhaseLemmas.{Couples, class, mate, couples_kept, some_same}
-use Rattle.mml_bounds.proofs.CrowdLemmas.{stop}
 use Rattle.mml_bounds.proofs.MovesReachedLemmas.{Applies}
-use Rattle.mml_bounds.proofs.CombLemmas.{Points, halfway, next_to, Shape, is, Holds, shaped, stays, turns, Goes, single}
-use Rattle.mml_bounds.proofs.CombLemmas.{first_registers, first_shape, comb_is_world, Cleared, cleared_moves, cleared_sum, clear}
+use Rattle.mml_bounds.proofs.CombLemmas.{Points, points, halfway, next_to, Shape, shaped, first_registers, first_shape, comb_is_world}
+use Rattle.mml_bounds.proofs.ClearLemmas.{clear, cleared}
 
 -- before phase r: who isn't married points nowhere
 record Seated (n r : ℕ) (c : Configuration) : Type 0 where
@@ -68,19 +68,19 @@ module _ (n r b : ℕ) (sum : r + b + 1 ≡ n) (room : 2 * r + 2 ≤ n) where
       shape = shaped n r c d rule k.shape e;
       couples = couples_stay r (omega arith) (omega (arith, sum, room)) e;
       groom = to;
-      bride = stays n r c d rule k.shape e b h mh (omega (arith, sum)) (λ same. omega (arith, same, sum, room)) k.bride;
+      bride = stays n r c d rule k.shape.size e b h mh (omega (arith, sum)) (λ same. omega (arith, same, sum, room)) k.bride;
       between = λ i above below.
-          stays n r c d rule k.shape e i (at i) false (omega (arith, below, sum)) (λ same. omega (arith, same, above)) (k.between i above below);
+          stays n r c d rule k.shape.size e i (at i) false (omega (arith, below, sum)) (λ same. omega (arith, same, above)) (k.between i above below);
     }
 
     at_bride : (h2 : Option ℕ) (mh2 : Bool) → IsMoved c d (is b) rule → Holds d b h2 mh2 → Stage g mg h2 mh2 at d
     at_bride h2 mh2 e to = record {
       shape = shaped n b c d rule k.shape e;
       couples = couples_stay b (omega (arith, sum, room)) (omega arith) e;
-      groom = stays n b c d rule k.shape e r g mg (omega (arith, sum)) (λ same. omega (arith, same, sum, room)) k.groom;
+      groom = stays n b c d rule k.shape.size e r g mg (omega (arith, sum)) (λ same. omega (arith, same, sum, room)) k.groom;
       bride = to;
       between = λ i above below.
-          stays n b c d rule k.shape e i (at i) false (omega (arith, below, sum)) (λ same. omega (arith, same, below)) (k.between i above below);
+          stays n b c d rule k.shape.size e i (at i) false (omega (arith, below, sum)) (λ same. omega (arith, same, below)) (k.between i above below);
     }
 
     at_third : (x : ℕ) (at2 : ℕ → Option ℕ) → r < x → x < b → IsMoved c d (is x) rule → Holds d x (at2 x) false
@@ -88,13 +88,13 @@ module _ (n r b : ℕ) (sum : r + b + 1 ≡ n) (room : 2 * r + 2 ≤ n) where
     at_third x at2 above below e to others = record {
       shape = shaped n x c d rule k.shape e;
       couples = couples_stay x (omega (arith, above)) (omega (arith, below)) e;
-      groom = stays n x c d rule k.shape e r g mg (omega (arith, sum)) (λ same. omega (arith, same, above)) k.groom;
-      bride = stays n x c d rule k.shape e b h mh (omega (arith, sum)) (λ same. omega (arith, same, below)) k.bride;
+      groom = stays n x c d rule k.shape.size e r g mg (omega (arith, sum)) (λ same. omega (arith, same, above)) k.groom;
+      bride = stays n x c d rule k.shape.size e b h mh (omega (arith, sum)) (λ same. omega (arith, same, below)) k.bride;
       between = λ i i_above i_below. elim (cases_eq i x) [
         | inl same ↦ subst (λ z. Holds d z (at2 z) false) (sym same) to
         | inr other ↦
             let y = k.between i i_above i_below in
-            stays n x c d rule k.shape e i (at2 i) false (omega (arith, i_below, sum)) other (y.0 ∙ others i other, y.1)
+            stays n x c d rule k.shape.size e i (at2 i) false (omega (arith, i_below, sum)) other (y.0 ∙ others i other, y.1)
       ];
     }
 
@@ -140,7 +140,7 @@ module _ (n r b : ℕ) (sum : r + b + 1 ≡ n) (room : 2 * r + 2 ≤ n) where
   courted : (g : Option ℕ) (c d : Configuration) → Stage g false None false nowhere c → (x : ℕ) → x < b → Points n x b → Holds c x None false
       → IsMoved c d (is x) Rule.Seduction → Holds d x (Some b) false
   courted g c d k x below at here e =
-      let y = turns n x c d Rule.Seduction k.shape e (omega (arith, below, sum)) in
+      let y = turns n x c d Rule.Seduction k.shape.size e (omega (arith, below, sum)) in
       (y.0 ∙ seduces_greatest c k.shape.lawful x b (candidate g c k x below at) greatest, y.1 ∙ here.1)
     where
       greatest : (j : ℕ) → IsCandidate c x j → j ≤ b
@@ -184,7 +184,7 @@ module _ (n r b : ℕ) (sum : r + b + 1 ≡ n) (room : 2 * r + 2 ≤ n) where
         → ((u : World) → IsWorld u → IsQuiet u → Stage (Some b) true (Some r) true at (configuration u) → Goes a o u) → Goes (suc (suc (suc a))) o w
     wed a at w world quiet k next =
         single n o s owned b (suc (suc a)) (Rule.Marriage r) w world quiet k.shape.size (omega (arith, sum)) (marriage at (configuration w) k) (λ u ku qu e.
-        let y = turns n b (configuration w) (configuration u) (Rule.Marriage r) k.shape e (omega (arith, sum)) in
+        let y = turns n b (configuration w) (configuration u) (Rule.Marriage r) k.shape.size e (omega (arith, sum)) in
         let engaged =
         at_bride (Some b) false None false at (configuration w) (configuration u) (Rule.Marriage r) k (Some r) false e (y.0, y.1 ∙ k.bride.1) in
         learn u ku qu engaged)
@@ -192,12 +192,12 @@ module _ (n r b : ℕ) (sum : r + b + 1 ≡ n) (room : 2 * r + 2 ≤ n) where
         learn : (w : World) → IsWorld w → IsQuiet w → Stage (Some b) false (Some r) false at (configuration w) → Goes (suc (suc a)) o w
         learn w world quiet k =
             single n o s owned b (suc a) Rule.Update w world quiet k.shape.size (omega (arith, sum)) (bride_updates at (configuration w) k) (λ u ku qu e.
-            let y = turns n b (configuration w) (configuration u) Rule.Update k.shape e (omega (arith, sum)) in
+            let y = turns n b (configuration w) (configuration u) Rule.Update k.shape.size e (omega (arith, sum)) in
             let married = married-from (configuration w) b r k.shape.lawful k.bride.0 k.groom.0 in
             let k2 =
             at_bride (Some b) false (Some r) false at (configuration w) (configuration u) Rule.Update k (Some r) true e (y.0 ∙ k.bride.0, y.1 ∙ married) in
             single n o s owned r a Rule.Update u ku qu k2.shape.size (omega (arith, sum)) (groom_updates at (configuration u) k2) (λ v kv qv f.
-            let z = turns n r (configuration u) (configuration v) Rule.Update k2.shape f (omega (arith, sum)) in
+            let z = turns n r (configuration u) (configuration v) Rule.Update k2.shape.size f (omega (arith, sum)) in
             let both = married-from (configuration u) r b k2.shape.lawful k2.groom.0 k2.bride.0 in
             next v kv qv
             (at_groom (Some b) false (Some r) true at (configuration u) (configuration v) Rule.Update k2 (Some b) true f (z.0 ∙ k2.groom.0, z.1 ∙ both))))
@@ -255,7 +255,7 @@ module _ (n r b : ℕ) (sum : r + b + 1 ≡ n) (room : 2 * r + 2 ≤ n) where
           leave w world quiet k =
               let below : x < b = omega (arith, before) in
               single n o s owned x a Rule.Abandonment w world quiet k.shape.size (omega (arith, before, sum)) (leaves (configuration w) k) (λ u ku qu e.
-              let y = turns n x (configuration w) (configuration u) Rule.Abandonment k.shape e (omega (arith, before, sum)) in
+              let y = turns n x (configuration w) (configuration u) Rule.Abandonment k.shape.size e (omega (arith, before, sum)) in
               let done =
               at_third (Some b) true (Some r) true last (configuration w) (configuration u) Rule.Abandonment k x nowhere more below e
               (y.0, y.1 ∙ (k.between x more below).1) last_elsewhere in
@@ -278,36 +278,40 @@ module _ (r : RosterValue) (s n : ℕ) (owned : (i : ℕ) → i < n → owns r (
   phases : (q : ℕ) (odd : Bool) (p : ℕ) → 2 * (p + q) + 2 + cond odd 1 0 ≡ n → (w : World) → IsWorld w → IsQuiet w → Seated n p (configuration w)
       → Goes (moves_of q odd) r w
   phases zero false p whole w world quiet at =
-      short n p (n - (p + 1)) (omega (arith, whole)) (omega (arith, whole)) r s owned 0 w (omega (arith, whole)) world quiet at (λ u ku qu done. stop r u)
+      short n p (n - (p + 1)) (omega (arith, whole)) (omega (arith, whole)) r s owned 0 w (omega (arith, whole)) world quiet at (λ u ku qu done. stop _ r u refl)
   phases zero true p whole w world quiet at =
       long n p (n - (p + 1)) (omega (arith, whole)) (omega (arith, whole)) r s owned (n - (p + 2)) (omega (arith, whole)) (omega (arith, whole)) 0 w world quiet at
-      (λ u ku qu done. stop r u)
+      (λ u ku qu done. stop _ r u refl)
   phases (suc q) odd p whole w world quiet at =
       long n p (n - (p + 1)) (omega (arith, whole)) (omega (arith, whole)) r s owned (n - (p + 2)) (omega (arith, whole)) (omega (arith, whole)) (moves_of q odd) w world quiet at
       (λ u ku qu done. phases q odd (suc p) (omega (arith, whole)) u ku qu done)
 
+cleared_sum : (n left i a : ℕ) → i + left + 1 ≡ n → cleared (first_pointer n) (suc left) i a ≡ 2 * left + 1 + a
+cleared_sum n zero i a e = grind (arith, nat_tests)
+cleared_sum n (suc left) i a e = grind (arith, nat_tests, cleared_sum n left (suc i) a)
+
 whole_run : (r : RosterValue) (s n q : ℕ) (odd : Bool) → n ≤ MAX_NODES → ((i : ℕ) → i < n → owns r (who.Student s) i ≡ true)
     → 2 * q + 2 + cond odd 1 0 ≡ n → (a : ℕ) → 2 * (n - 1) + 1 + (6 * q + 4 + 2 * cond odd 1 0) ≡ a → Applies r (comb_world n) a
 whole_run r s n q odd few owned whole a total =
-    let run : Goes (cleared_moves (n - 1) (moves_of q odd)) r (comb_world n) =
-    clear n r s owned (n - 1) 0 (moves_of q odd) (omega (arith, whole)) (comb_world n) (comb_is_world n few)
-    (none_at (length (comb_world n).network.registers)) begun
-    (λ u ku qu cleared. phases r s n owned q odd 0 (omega (arith, whole)) u ku qu (record {
-      shape = cleared.shape;
-      couples = λ i j lt total. absurd (omega (arith, lt));
-      free = λ i from near. cleared.done i (omega (arith, near));
-    })) in
-    let first = cleared_sum (n - 1) (moves_of q odd) in
-    let then = moves_sum q odd in
-    let ends = run.ends in
-    (run.events, run.legal, run.forward, omega (arith, ends, first, then, total))
-  where
-    begun : Cleared n 0 (configuration (comb_world n))
-    begun = record {
+    let left : ℕ = n - 1 in
+    let all : suc left ≡ n = omega (arith, whole) in
+    let run =
+    clear n (first_pointer n) (Shape n) (λ c k. (k.size, k.lawful)) (λ c d x rule k e. shaped n x c d rule k e)
+    (λ i j lt e. let x = points n i j e in (x.1, (λ same. omega (arith, same, x)), x.2)) r s owned (suc left) 0 (moves_of q odd) (omega (arith, all)) (comb_world n)
+    (comb_is_world n few) (none_at (length (comb_world n).network.registers)) (record {
       shape = first_shape n;
       done = λ j lt. absurd (omega (arith, lt));
-      todo = λ j ge lt. (ap (λ (g : Regs). g.p) (first_registers n j lt), ap (λ (g : Regs). g.m) (first_registers n j lt));
-    }
+      here = λ lt. first 0 lt;
+      todo = λ j more lt. first j lt;
+    }) (λ u ku qu k. phases r s n owned q odd 0 (omega (arith, whole)) u ku qu (record {
+      shape = k.shape;
+      couples = λ i j lt total. absurd (omega (arith, lt));
+      free = λ i from near. k.done i (omega (arith, near));
+    })) in
+    (run.events, run.legal, run.forward, omega (arith, run.ends, cleared_sum n left 0 (moves_of q odd) (omega (arith, all)), moves_sum q odd, total))
+  where
+    first : (j : ℕ) → j < n → Holds (configuration (comb_world n)) j (first_pointer n j) true
+    first j lt = (ap (λ (g : Regs). g.p) (first_registers n j lt), ap (λ (g : Regs). g.m) (first_registers n j lt))
 
 pub trees_reached_even : (r : RosterValue) (s k : ℕ) → 2 ≤ k → 2 * k ≤ MAX_NODES → ((i : ℕ) → i < 2 * k → owns r (who.Student s) i ≡ true)
     → Applies r (comb_world (2 * k)) (3 * (2 * k) + 2 * (2 * k - 1) - 1)

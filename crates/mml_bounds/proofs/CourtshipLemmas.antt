@@ -15,17 +15,8 @@ use Rattle.mml_bounds.specs.Courtships.{is_courting, pointer_part, node_part}
 
 -- ---- the parts
 
--- by the pointer alone
-part_at : (d : Configuration) (i : ℕ) (o : Option ℕ) → ℕ
-part_at d i o = cond (option_map_or (λ j. nat_lt i j && (not (d.m j) && not (is_married d j))) o false) 0 (cond (is_some o) 2 1)
-
 pub pointer_most : (d : Configuration) (i : ℕ) → pointer_part d i ≤ 2
-pointer_most d i = most (is_courting d i) (is_some (d.p i))
-  where
-    most : (k p : Bool) → cond k 0 (cond p 2 1) ≤ 2
-    most true p = omega arith
-    most false true = omega arith
-    most false false = omega arith
+pointer_most d i = grind arith
 
 free_part : (d : Configuration) (i : ℕ) → is_married d i ≡ false → node_part d i ≡ cond (d.m i) 1 0 + pointer_part d i
 free_part d i e = ap (λ b. cond b (cond (d.m i) 0 1) (cond (d.m i) 1 0 + pointer_part d i)) e
@@ -121,8 +112,7 @@ module _ (c : Configuration) (chosen : ℕ → Option Rule) (l : IsLawful c) (h 
           let wrong : cond {A = ℕ} (c.m i) 1 0 ≡ 1 = ap (λ b. cond {A = ℕ} b 1 0) (updates c i (h i Rule.Update e) ∙ ap not a) in
           omega (arith, before, after, small, wrong)
       go (Some (Rule.Marriage j)) e =
-          let null = null_part c i (marries c i j (h i (Rule.Marriage j) e)).null in
-          omega (arith, before, after, small, null)
+          omega (arith, before, after, small, null_part c i (marries c i j (h i (Rule.Marriage j) e)).null)
       go (Some Rule.Seduction) e =
           let some = seduced c i (h i Rule.Seduction e) in
           let null = null_part c i (seduces c i some.0 (h i Rule.Seduction e) some.1).null in
@@ -189,19 +179,14 @@ module _ (c : Configuration) (chosen : ℕ → Option Rule) (l : IsLawful c) (h 
       where
         go : (o : Option ℕ) → c.p i ≡ o → pointer_part next i ≤ pointer_part c i
         go None e =
-            let before = null_part c i e in
-            let after = null_part next i (same ∙ e) in
-            omega (arith, before, after)
+            omega (arith, null_part c i e, null_part next i (same ∙ e))
         go (Some j) e = elim (cases_Bool (nat_lt i j && (not (c.m j) && not (is_married c j)))) [
           | inl on ↦
               let x = and_parts (nat_lt i j) (not (c.m j) && not (is_married c j)) on in
               let y = and_parts (not (c.m j)) (not (is_married c j)) x.1 in
-              let after = courts_then i j (same ∙ e) (ltb-true i j x.0) (not-true _ y.1) (not-true _ y.0) in
-              omega (arith, after)
+              omega (arith, courts_then i j (same ∙ e) (ltb-true i j x.0) (not-true _ y.1) (not-true _ y.0))
           | inr off ↦
-              let before = vain_part c i j e off in
-              let after = pointer_most next i in
-              omega (arith, before, after)
+              omega (arith, vain_part c i j e off, pointer_most next i)
         ]
 
     calm_free : (i : ℕ) (o : Option Rule) → chosen i ≡ o → is_married c i ≡ false → node_part next i + cond (is_some o) 1 0 ≤ node_part c i
@@ -216,13 +201,11 @@ module _ (c : Configuration) (chosen : ℕ → Option Rule) (l : IsLawful c) (h 
         go : (o : Option Rule) → chosen i ≡ o → node_part next i + cond (is_some o) 1 0 ≤ node_part c i
         go None e =
             let same : cond {A = ℕ} (next.m i) 1 0 ≡ cond (c.m i) 1 0 = ap (λ b. cond {A = ℕ} b 1 0) (m_after i None e) in
-            let kept = pointer_kept i (p_after i None e) in
-            omega (arith, before, after, same, kept)
+            omega (arith, before, after, same, pointer_kept i (p_after i None e))
         go (Some Rule.Update) e =
             let wrong : cond {A = ℕ} (c.m i) 1 0 ≡ 1 = ap (λ b. cond {A = ℕ} b 1 0) (updates c i (h i Rule.Update e) ∙ ap not a) in
             let right : cond {A = ℕ} (next.m i) 1 0 ≡ 0 = ap (λ b. cond {A = ℕ} b 1 0) (m_after i (Some Rule.Update) e ∙ a) in
-            let kept = pointer_kept i (p_after i (Some Rule.Update) e) in
-            omega (arith, before, after, wrong, right, kept)
+            omega (arith, before, after, wrong, right, pointer_kept i (p_after i (Some Rule.Update) e))
         go (Some (Rule.Marriage j)) e =
             let g = marries c i j (h i (Rule.Marriage j) e) in
             let null = null_part c i g.null in

@@ -2,16 +2,17 @@ pub mod NumbersLemmas
 mod CourtshipLemmas
 pub mod WholeLemmas
 mod FewLemmas
-mod UniformLemmas
+mod MoveLemmas
 mod IdleLemmas
 mod PhaseLemmas
+mod OpeningLemmas
+mod ClearLemmas
 mod RunLemmas
 mod ReachedLemmas
 mod CountLemmas
 mod CrowdLemmas
 mod SinglyLemmas
 mod OneByOneLemmas
-mod SingleRunLemmas
 mod MovesReachedLemmas
 mod CombLemmas
 mod CombReachedLemmas

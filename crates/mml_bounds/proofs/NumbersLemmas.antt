@@ -1,6 +1,5 @@
 -- Sums, counts, and how the most courtships grow with the number of nodes.
-use Rattle.std.proofs.Common.{◌≡◌, ℕ, zero, suc, ◌+◌, ◌*◌, ◌≤◌, ◌-◌, Bool, true, false, cond, not, refl, ap, subst, arith}
-use Rattle.std.proofs.lemmas.Bool.{false≢true}
+use Rattle.std.proofs.Common.{◌≡◌, ℕ, zero, suc, ◌+◌, ◌*◌, ◌≤◌, ◌-◌, Bool, true, cond, not, refl, ap, subst, arith}
 use Rattle.mml_ids.specs.Search.{count_below}
 use Rattle.mml_convergence.specs.Potential.{sum_below}
 use Rattle.mml_bounds.specs.Courtships.{most_courtships}
@@ -9,33 +8,18 @@ use Rattle.mml_bounds.specs.Courtships.{most_courtships}
 pub sum_lent : (n : ℕ) (f t g b : ℕ → ℕ) → ((j : ℕ) → f j + t j ≤ g j + b j) → sum_below n f + sum_below n t ≤ sum_below n g + sum_below n b
 sum_lent zero f t g b le = omega arith
 sum_lent (suc n) f t g b le =
-    let rest = sum_lent n f t g b le in
-    let last = le n in
-    omega (arith, rest, last)
+    omega (arith, sum_lent n f t g b le, le n)
 
 -- numbers pass a test or don't
 pub count_both : (n : ℕ) (t : ℕ → Bool) → count_below n t + count_below n (λ i. not (t i)) ≡ n
 count_both zero t = refl
-count_both (suc n) t = let rest = count_both n t in let last = one (t n) in omega (arith, rest, last)
-  where
-    one : (b : Bool) → cond {A = ℕ} b 1 0 + cond {A = ℕ} (not b) 1 0 ≡ 1
-    one true = refl
-    one false = refl
+count_both (suc n) t = grind (arith, count_both n t)
 
 -- 1 for what passes newly, and 2 for what doesn't pass
 pub count_lent : (n : ℕ) (t u : ℕ → Bool) → ((j : ℕ) → t j ≡ true → u j ≡ true)
     → sum_below n (λ i. cond (u i) (cond (t i) 0 1) 2) + count_below n t ≡ count_below n u + 2 * count_below n (λ i. not (u i))
 count_lent zero t u kept = refl
-count_lent (suc n) t u kept =
-    let rest = count_lent n t u kept in
-    let last = one (t n) (u n) (kept n) in
-    omega (arith, rest, last)
-  where
-    one : (t u : Bool) → (t ≡ true → u ≡ true) → cond u (cond t 0 1) 2 + cond {A = ℕ} t 1 0 ≡ cond {A = ℕ} u 1 0 + 2 * cond {A = ℕ} (not u) 1 0
-    one true true kept = refl
-    one true false kept = absurd (false≢true (kept refl))
-    one false true kept = refl
-    one false false kept = refl
+count_lent (suc n) t u kept = grind (arith, count_lent n t u kept, kept n)
 
 -- ---- the most courtships
 
@@ -53,14 +37,12 @@ courtships_grow (suc n) = let rest = courtships_rise n in omega (arith, rest)
 courtships_between : (n k : ℕ) → most_courtships n ≤ most_courtships (n + k)
 courtships_between n zero =
     let e : n + 0 ≡ n = omega arith in
-    let same = ap most_courtships e in
-    omega (arith, same)
+    omega (arith, ap most_courtships e)
 courtships_between n (suc k) =
     let rest = courtships_between n k in
     let last = courtships_rise (n + k) in
     let e : n + suc k ≡ suc (n + k) = omega arith in
-    let same = ap most_courtships e in
-    omega (arith, rest, last, same)
+    omega (arith, rest, last, ap most_courtships e)
 
 -- no fewer nodes have no fewer
 pub courtships_kept : (n u : ℕ) → n ≤ u → most_courtships n ≤ most_courtships u
@@ -76,14 +58,12 @@ courtships_more (suc n) le = courtships_grow n
 couples_pay : (n k : ℕ) → 2 * most_courtships n + (n + (n + 2 + k)) ≤ 2 * most_courtships (n + 2 + k)
 couples_pay n zero =
     let e : n + 2 + 0 ≡ suc (suc n) = omega arith in
-    let same = ap most_courtships e in
-    omega (arith, same)
+    omega (arith, ap most_courtships e)
 couples_pay n (suc k) =
     let rest = couples_pay n k in
     let last = courtships_more (n + 2 + k) (omega arith) in
     let e : n + 2 + suc k ≡ suc (n + 2 + k) = omega arith in
-    let same = ap most_courtships e in
-    omega (arith, rest, last, same)
+    omega (arith, rest, last, ap most_courtships e)
 
 -- where two nodes at the least are gone, the courtships pay 1 for each that is gone and 2 for each that is left
 pub marriages_pay : (n u : ℕ) → n + 2 ≤ u → 2 * most_courtships n + (n + u) ≤ 2 * most_courtships u

@@ -6,10 +6,10 @@ use Rattle.mml_rules.specs.Configuration.{Configuration, holds}
 use Rattle.mml_rules.specs.Rules.{guard, effect}
 use Rattle.mml_rules.specs.Meaning.{IsCandidate}
 use Rattle.mml_rules.proofs.RulesLemmas.{married-null, married-from}
-use Rattle.mml_bounds.proofs.UniformLemmas.{IsMoved}
+use Rattle.mml_bounds.proofs.MoveLemmas.{IsMoved, kept, turned}
 use Rattle.mml_bounds.proofs.IdleLemmas.{may_update, may_marry, may_abandon, may_seduce, seduces_greatest}
 use Rattle.mml_bounds.proofs.PhaseLemmas.{Seated, Courted, Engaged, Wed, courts, marries_now, learns, leaves, courts-means, leaves-means}
-use Rattle.mml_bounds.proofs.PhaseLemmas.{kept, turned, shaped, owner_in, some_same, seated_free, candidate, greatest, wed_pair, groom}
+use Rattle.mml_bounds.proofs.PhaseLemmas.{shaped, owner_in, some_same, seated_free, candidate, greatest, wed_pair, groom}
 use Rattle.mml_bounds.proofs.SinglyLemmas.{Stands, above, above_in, above_off, above_out}
 
 -- a pointer stays where all that moved have updated
@@ -28,7 +28,7 @@ first_updates_stand c t all d i lt on e =
     (may_update d e.lawful i (same.1 ∙ x.1 ∙ sym (ap not alone)), same.0, alone ∙ sym (married-null c i x.0))
 
 module _ (n : ℕ) (low : ℕ → Bool) (r b : ℕ) (sum : r + b + 1 ≡ n) (room : 2 * r + 2 ≤ n) where
-  pub courts_stand : (c : Configuration) → Seated n low r b sum room c → Stands c (courts n low r b sum room) Rule.Seduction
+  pub courts_stand : (c : Configuration) → Seated n low r c → Stands c (courts n low r b sum room) Rule.Seduction
   courts_stand c k d i lt on e =
       let same = still i lt (above_off t (suc i) i (omega arith)) in
       let to_c = seduces_greatest c k.shape.lawful i b (candidate n low r b sum room c k i x.0 x.1 x.2) (greatest n low r b sum room c k i) in
@@ -76,8 +76,7 @@ module _ (n : ℕ) (low : ℕ → Bool) (r b : ℕ) (sum : r + b + 1 ≡ n) (roo
                 let y = courts-means n low r b sum room j is in
                 let to = (turned c d (above t (suc i)) Rule.Seduction e j (omega (arith, j_in, k.shape.size)) moved).0 in
                 let at = seduces_greatest c k.shape.lawful j b (candidate n low r b sum room c k j y.0 y.1 y.2) (greatest n low r b sum room c k j) in
-                let same = some_same b i (sym (to ∙ at) ∙ points) in
-                omega (arith, same, x.1)
+                omega (arith, some_same b i (sym (to ∙ at) ∙ points), x.1)
             | inr off ↦
                 let s = still j (omega (arith, j_in, k.shape.size)) off in
                 seated_free n low r b sum room c k i j x.0 (omega (arith, x.1, sum)) (sym s.0 ∙ points)
@@ -96,8 +95,7 @@ module _ (n : ℕ) (low : ℕ → Bool) (r b : ℕ) (sum : r + b + 1 ≡ n) (roo
       still : (j : ℕ) → j < c.size → (d.p j ≡ c.p j) × (d.m j ≡ c.m j)
       still j j_in = kept c d (above t (suc i)) (Rule.Marriage r) e j j_in (false_from_ne_true (above t (suc i) j) (λ moved.
           let y = above_in t (suc i) j moved in
-          let same = eqb-true j b y.0 in
-          omega (arith, y.1, same, at)))
+          omega (arith, y.1, eqb-true j b y.0, at)))
 
       at_b : (d.p b ≡ c.p b) × (d.m b ≡ c.m b)
       at_b = still b (omega (arith, sum, k.shape.size))

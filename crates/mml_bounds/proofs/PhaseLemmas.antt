@@ -1,14 +1,14 @@
 -- A phase of four steps: the low nodes seduce the highest free node, it marries the lowest, both update, the others abandon it.
-use Rattle.std.proofs.Common.{◌≡◌, ℕ, suc, ◌+◌, ◌*◌, ◌-◌, ◌<◌, ◌≤◌, ◌⊎◌, inl, inr, Bool, true, false, cond, not, ◌&&◌, ◌||◌, ◌==◌, nat_lt, Option, None, Some}
+use Rattle.std.proofs.Common.{◌≡◌, ℕ, suc, ◌+◌, ◌*◌, ◌-◌, ◌<◌, ◌≤◌, ◌⊎◌, inl, inr, Bool, true, false, not, ◌&&◌, ◌||◌, ◌==◌, nat_lt, Option, None, Some}
 use Rattle.std.proofs.Common.{sym, refl, ap, ◌∙◌, subst, arith}
 use Rattle.std.proofs.lemmas.Bool.{both_ways, false_from_ne_true, and_parts, and_from, or_cases, or_left, or_right, or_from, cases_lt, cases_eq, cases_Bool}
 use Rattle.std.proofs.lemmas.Bool.{ltb-true, lt-ltb, eqb-true, eq-eqb, ne_eqb}
 use Rattle.mml_rules.specs.declared.rule.Rule.{Rule}
 use Rattle.mml_rules.specs.Configuration.{Configuration, IsLawful, holds}
-use Rattle.mml_rules.specs.Rules.{moved, effect, guard, is_privileged}
+use Rattle.mml_rules.specs.Rules.{guard, is_privileged}
 use Rattle.mml_rules.specs.Meaning.{IsCandidate}
 use Rattle.mml_rules.proofs.RulesLemmas.{married-from}
-use Rattle.mml_bounds.proofs.UniformLemmas.{IsMoved}
+use Rattle.mml_bounds.proofs.MoveLemmas.{IsMoved, kept, turned}
 use Rattle.mml_bounds.proofs.IdleLemmas.{settled, waiting, lonely, may_update, may_marry, may_abandon, may_seduce, seduces_greatest}
 
 -- n nodes of which some are low: before phase r each low node that is free is linked to the highest free node, and only low nodes are linked to higher ones
@@ -26,6 +26,12 @@ Couples n r c = (i j : ℕ) → i < r → i + j + 1 ≡ n → (c.p i ≡ Some j)
 -- these nodes from r on and below b hold that
 abbrev pub Between : (r b : ℕ) (low : ℕ → Bool) (is_low : Bool) → Option ℕ → Configuration → Type 0
 Between r b low is_low at c = (i : ℕ) → r ≤ i → i < b → low i ≡ is_low → (c.p i ≡ at) × (c.m i ≡ false)
+
+-- before phase r: who isn't married points nowhere
+pub record Seated (n : ℕ) (low : ℕ → Bool) (r : ℕ) (c : Configuration) : Type 0 where
+  pub shape : Shape n low c
+  pub couples : Couples n r c
+  pub free : (i : ℕ) → r ≤ i → i + r < n → (c.p i ≡ None) × (c.m i ≡ false)
 
 -- each node is one of a couple, or free
 abbrev pub Class : (n r i : ℕ) → Type 0
@@ -48,16 +54,7 @@ mate n r i j c couples e (inr lt) = let x = couples j i lt (omega (arith, e)) in
 pub some_same : (a b : ℕ) → Some a ≡ Some b → a ≡ b
 some_same a b e = cc
 
--- what a step leaves where the rule is applied, and elsewhere
 module _ (c d : Configuration) (t : ℕ → Bool) (rule : Rule) (e : IsMoved c d t rule) where
-  pub kept : (i : ℕ) → i < c.size → t i ≡ false → (d.p i ≡ c.p i) × (d.m i ≡ c.m i)
-  kept i lt off =
-      (e.p i lt ∙ ap (λ b. (moved c i (cond b (Some rule) None)).p) off, e.m i lt ∙ ap (λ b. (moved c i (cond b (Some rule) None)).m) off)
-
-  pub turned : (i : ℕ) → i < c.size → t i ≡ true → (d.p i ≡ (effect c i rule).p) × (d.m i ≡ (effect c i rule).m)
-  turned i lt on =
-      (e.p i lt ∙ ap (λ b. (moved c i (cond b (Some rule) None)).p) on, e.m i lt ∙ ap (λ b. (moved c i (cond b (Some rule) None)).m) on)
-
   pub shaped : (n : ℕ) (low : ℕ → Bool) → Shape n low c → Shape n low d
   shaped n low s = record {
     size = e.size ∙ s.size;
@@ -99,12 +96,6 @@ couple_idle n r low c s couples i j e side = let x = mate n r i j c couples e si
 -- ---- phase r, in which b, the highest free node, is married to r
 
 module _ (n : ℕ) (low : ℕ → Bool) (r b : ℕ) (sum : r + b + 1 ≡ n) (room : 2 * r + 2 ≤ n) where
-  -- before it: who isn't married points nowhere
-  pub record Seated (c : Configuration) : Type 0 where
-    pub shape : Shape n low c
-    pub couples : Couples n r c
-    pub free : (i : ℕ) → r ≤ i → i + r < n → (c.p i ≡ None) × (c.m i ≡ false)
-
   -- the low nodes court b
   pub record Courted (c : Configuration) : Type 0 where
     pub shape : Shape n low c
@@ -166,7 +157,7 @@ module _ (n : ℕ) (low : ℕ → Bool) (r b : ℕ) (sum : r + b + 1 ≡ n) (roo
 
   -- ---- the step from Seated
 
-  pub seated_free : (c : Configuration) → Seated c → (i j : ℕ) → r ≤ i → i + r < n → c.p j ≡ Some i → ⊥
+  pub seated_free : (c : Configuration) → Seated n low r c → (i j : ℕ) → r ≤ i → i + r < n → c.p j ≡ Some i → ⊥
   seated_free c k i j from near e = elim (class n r j (owner_in n low c k.shape j i e)) [
     | inl x ↦
         let to = mate n r j x.0 c k.couples x.1 x.2 in
@@ -175,18 +166,18 @@ module _ (n : ℕ) (low : ℕ → Bool) (r b : ℕ) (sum : r + b + 1 ≡ n) (roo
     | inr x ↦ let to = (k.free j x.0 x.1).0 in cc
   ]
 
-  pub candidate : (c : Configuration) → Seated c → (i : ℕ) → r ≤ i → i < b → low i ≡ true → IsCandidate c i b
+  pub candidate : (c : Configuration) → Seated n low r c → (i : ℕ) → r ≤ i → i < b → low i ≡ true → IsCandidate c i b
   candidate c k i from below is =
       let x = k.free b (omega (arith, sum, room)) (omega (arith, sum)) in
       ((k.shape.joined r b i sum room from below is).0, below, x.0, x.1)
 
-  pub above_b : (c : Configuration) → Seated c → (j : ℕ) → b < j → j < n → c.p j ≡ None → ⊥
+  pub above_b : (c : Configuration) → Seated n low r c → (j : ℕ) → b < j → j < n → c.p j ≡ None → ⊥
   above_b c k j above lt null =
       let e : j + (n - (j + 1)) + 1 ≡ n = omega (arith, lt) in
       let to = (mate n r j (n - (j + 1)) c k.couples e (inr (omega (arith, above, sum, lt)))).0 in
       cc
 
-  pub greatest : (c : Configuration) → Seated c → (i : ℕ) → (j : ℕ) → IsCandidate c i j → j ≤ b
+  pub greatest : (c : Configuration) → Seated n low r c → (i : ℕ) → (j : ℕ) → IsCandidate c i j → j ≤ b
   greatest c k i j x = elim (cases_lt b j) [
     | inr le ↦ le
     | inl above ↦
@@ -194,14 +185,14 @@ module _ (n : ℕ) (low : ℕ → Bool) (r b : ℕ) (sum : r + b + 1 ≡ n) (roo
         absurd (above_b c k j above (omega (arith, range.1, k.shape.size)) x.2)
   ]
 
-  pub courts_hold : (c : Configuration) → Seated c → (i : ℕ) → i < c.size → courts i ≡ true → guard c i Rule.Seduction ≡ true
+  pub courts_hold : (c : Configuration) → Seated n low r c → (i : ℕ) → i < c.size → courts i ≡ true → guard c i Rule.Seduction ≡ true
   courts_hold c k i lt on =
       let x = courts-means i on in
       let near : i + r < n = omega (arith, x.1, sum) in
       let y = k.free i x.0 near in
       may_seduce c k.shape.lawful i b y.0 y.1 (λ j. seated_free c k i j x.0 near) (candidate c k i x.0 x.1 x.2)
 
-  pub seated_others : (c : Configuration) → Seated c → (i : ℕ) → i < c.size → courts i ≡ false → is_privileged c i ≡ false
+  pub seated_others : (c : Configuration) → Seated n low r c → (i : ℕ) → i < c.size → courts i ≡ false → is_privileged c i ≡ false
   seated_others c k i lt off = elim (class n r i (omega (arith, lt, k.shape.size))) [
     | inl x ↦ couple_idle n r low c k.shape k.couples i x.0 x.1 x.2
     | inr x ↦
@@ -214,7 +205,7 @@ module _ (n : ℕ) (low : ℕ → Bool) (r b : ℕ) (sum : r + b + 1 ≡ n) (roo
         ])
   ]
 
-  pub then_courted : (c d : Configuration) → Seated c → IsMoved c d courts Rule.Seduction → Courted d
+  pub then_courted : (c d : Configuration) → Seated n low r c → IsMoved c d courts Rule.Seduction → Courted d
   then_courted c d k e = record {
     shape = shaped c d courts Rule.Seduction e n low k.shape;
     couples = couples_kept n r c d courts Rule.Seduction e k.shape.size (omega (arith, room)) k.couples
@@ -426,17 +417,16 @@ module _ (n : ℕ) (low : ℕ → Bool) (r b : ℕ) (sum : r + b + 1 ≡ n) (roo
   ]
 
   -- what is left is as before the next phase
-  pub then_free : (c d : Configuration) → Wed c → IsMoved c d leaves Rule.Abandonment
-      → Shape n low d × Couples n (suc r) d × ((i : ℕ) → suc r ≤ i → i + suc r < n → (d.p i ≡ None) × (d.m i ≡ false))
-  then_free c d k e = (
-    shaped c d leaves Rule.Abandonment e n low k.shape,
-    couples_kept n (suc r) c d leaves Rule.Abandonment e k.shape.size (omega (arith, room)) k.couples
+  pub then_free : (c d : Configuration) → Wed c → IsMoved c d leaves Rule.Abandonment → Seated n low (suc r) d
+  then_free c d k e = record {
+    shape = shaped c d leaves Rule.Abandonment e n low k.shape;
+    couples = couples_kept n (suc r) c d leaves Rule.Abandonment e k.shape.size (omega (arith, room)) k.couples
         (λ i lt side. false_from_ne_true (leaves i) (λ on. let x = leaves-means i on in elim side [
           | inl a ↦ omega (arith, a, x.0)
           | inr a ↦ omega (arith, a, x.1, sum)
-        ])),
-    (λ i from near. free i from near (cases_Bool (low i))),
-  )
+        ]));
+    free = λ i from near. free i from near (cases_Bool (low i));
+  }
     where
       free : (i : ℕ) → suc r ≤ i → i + suc r < n → (low i ≡ true) ⊎ (low i ≡ false) → (d.p i ≡ None) × (d.m i ≡ false)
       free i from near (inl on) =

@@ -1,36 +1,23 @@
 -- A round of one rule in which each node that passes a test moves in a close of its own, from the highest to the lowest.
-use Rattle.std.proofs.Common.{◌≡◌, ℕ, zero, suc, ◌<◌, ◌≤◌, ◌⊎◌, inl, inr, Bool, true, false, cond, not, ◌&&◌, ◌==◌, nat_le, None, Some, is_some, List, [], ◌∷◌, ◌++◌}
+use Rattle.std.proofs.Common.{◌≡◌, ℕ, zero, suc, ◌+◌, ◌<◌, ◌≤◌, ◌⊎◌, inl, inr, Bool, true, false, cond, not, ◌&&◌, nat_le, None, Some, List, [], ◌∷◌, ◌++◌}
 use Rattle.std.proofs.Common.{sym, refl, ap, ◌∙◌, subst, arith}
 use Rattle.std.specs.List.{list_all}
-use Rattle.std.proofs.lemmas.Bool.{and_from, both_ways, false≢true, false_from_ne_true, or_left, or_right, cases_Bool, cases_lt, cases_eq, le-leb, leb-true, eq-eqb, eqb-true, ne_eqb}
+use Rattle.std.proofs.lemmas.Bool.{and_from, both_ways, false≢true, false_from_ne_true, or_left, or_right, cases_Bool, cases_lt, cases_eq, le-leb, leb-true, eq-eqb, ne_eqb}
+use Rattle.mml_ids.specs.Search.{count_below}
 use Rattle.mml_rules.specs.declared.rule.Rule.{Rule}
 use Rattle.mml_rules.specs.Configuration.{Configuration}
 use Rattle.mml_rules.specs.Rules.{is_privileged, guard, moved, effect}
-use Rattle.mml_rules.specs.Matching.{IsStable}
 use Rattle.mml_lab.specs.declared.who.Who.TheVariants as who
 use Rattle.mml_lab.specs.Rosters.{RosterValue, owns}
 use Rattle.mml_board.specs.declared.event.Event.{Event}
 use Rattle.mml_board.specs.declared.event.Event.TheVariants as event
 use Rattle.mml_board.specs.World.{World, size, configuration, IsWorld}
-use Rattle.mml_board.specs.Events.{is_chosen, is_any_chosen, is_legal, after}
+use Rattle.mml_board.specs.Events.{is_chosen, after}
 use Rattle.mml_board.specs.Runs.{is_legal_list, world_of}
-use Rattle.mml_board.proofs.WorldLemmas.{after-world, none_at}
 use Rattle.mml_convergence.specs.Moves.{is_close, applied_over, count_closes}
 use Rattle.mml_convergence.specs.Rest.{is_grant_or_close}
 use Rattle.mml_convergence.specs.Rounds.{is_served, Rounds}
-use Rattle.mml_convergence.proofs.RestLemmas.{any_chosen}
-use Rattle.mml_bounds.proofs.CountLemmas.{count_one}
-use Rattle.mml_bounds.proofs.UniformLemmas.{IsQuiet, IsMoved, Picking, grant_legal, granted, moved_to, applied}
-use Rattle.mml_bounds.proofs.PhaseLemmas.{kept, turned}
-
--- a way on from a world whose closes apply one move each: k rounds, after which some node is privileged
-pub record Singly (r : RosterValue) (w : World) (k : ℕ) : Type 0 where
-  pub events : List Event
-  pub legal : is_legal_list r w events ≡ true
-  pub forward : list_all is_grant_or_close events ≡ true
-  pub alone : applied_over w events ≡ count_closes events
-  pub rounds : Rounds k w events
-  pub ends : ¬ IsStable (configuration (world_of w events))
+use Rattle.mml_bounds.proofs.MoveLemmas.{GoesOn, IsQuiet, IsMoved, Move, move, after_move, is, kept, turned}
 
 -- who passes, from n on
 abbrev pub above : (ℕ → Bool) → ℕ → ℕ → Bool
@@ -83,7 +70,7 @@ Turned c u t rule i = (u.p i ≡ (moved c i (cond (t i) (Some rule) None)).p) ×
 
 -- one more
 one_more : (c d u : Configuration) (t : ℕ → Bool) (rule : Rule) (n : ℕ) → n < c.size → t n ≡ true → IsMoved c d (above t (suc n)) rule
-    → (effect d n rule).p ≡ (effect c n rule).p → (effect d n rule).m ≡ (effect c n rule).m → IsMoved d u (λ i. i == n) rule → IsMoved c u (above t n) rule
+    → (effect d n rule).p ≡ (effect c n rule).p → (effect d n rule).m ≡ (effect c n rule).m → IsMoved d u (is n) rule → IsMoved c u (above t n) rule
 one_more c d u t rule n n_in on e same_p same_m f = record {
   size = f.size ∙ e.size;
   lawful = f.lawful;
@@ -97,7 +84,7 @@ one_more c d u t rule n n_in on e same_p same_m f = record {
 
     at_n : Turned c u (above t n) rule n
     at_n =
-        let x = turned d u (λ i. i == n) rule f n (omega (arith, n_in, e.size)) (eq-eqb n n refl) in (
+        let x = turned d u (is n) rule f n (omega (arith, n_in, e.size)) (eq-eqb n n refl) in (
           x.0 ∙ same_p ∙ sym (ap (λ b. (moved c n (cond b (Some rule) None)).p) here),
           x.1 ∙ same_m ∙ sym (ap (λ b. (moved c n (cond b (Some rule) None)).m) here),
         )
@@ -106,7 +93,7 @@ one_more c d u t rule n n_in on e same_p same_m f = record {
     at i lt = elim (cases_eq i n) [
       | inl same ↦ subst (λ z. Turned c u (above t n) rule z) (sym same) at_n
       | inr other ↦
-          let x = kept d u (λ i. i == n) rule f i (omega (arith, lt, e.size)) (ne_eqb i n other) in (
+          let x = kept d u (is n) rule f i (omega (arith, lt, e.size)) (ne_eqb i n other) in (
             x.0 ∙ e.p i lt ∙ ap (λ b. (moved c i (cond b (Some rule) None)).p) (above_same t n i other),
             x.1 ∙ e.m i lt ∙ ap (λ b. (moved c i (cond b (Some rule) None)).m) (above_same t n i other),
           )
@@ -125,109 +112,44 @@ served_later i w e es h = or_right _ _ (or_right _ _ h)
 served_now : (i : ℕ) (w : World) (e : Event) (es : List Event) → is_close e ≡ true → is_chosen w i ≡ true → is_served i w (e ∷ es) ≡ true
 served_now i w e es close chosen = or_right _ _ (or_left _ _ (and_from _ _ close chosen))
 
-module _ (r : RosterValue) (s k : ℕ) (c : Configuration) (t : ℕ → Bool) (rule : Rule)
-    (owned : (i : ℕ) → i < c.size → owns r (who.Student s) i ≡ true) (stands : Stands c t rule)
-    (next : (u : World) → IsWorld u → IsQuiet u → IsMoved c (configuration u) t rule → Singly r u k) where
-  -- what is left of the round once all from n on have moved, and what comes after it
-  record Part (n : ℕ) (v : World) : Type 0 where
+module _ (A : World → ℕ → Type 0) (r : RosterValue) (s k n : ℕ) (c : Configuration) (t : ℕ → Bool) (rule : Rule) (sized : c.size ≡ n)
+    (owned : (i : ℕ) → i < n → owns r (who.Student s) i ≡ true) (stands : Stands c t rule)
+    (next : (u : World) → IsWorld u → IsQuiet u → IsMoved c (configuration u) t rule → GoesOn A r u k) where
+  -- what is left of the round once all from m on have moved, and what comes after it
+  record Part (m : ℕ) (v : World) : Type 0 where
     front : List Event
     back : List Event
     legal : is_legal_list r v (front ++ back) ≡ true
     forward : list_all is_grant_or_close (front ++ back) ≡ true
     alone : applied_over v (front ++ back) ≡ count_closes (front ++ back)
+    moves : applied_over v (front ++ back) ≡ count_below m t + applied_over (world_of v front) back
     rounds : Rounds k (world_of v front) back
-    ends : ¬ IsStable (configuration (world_of v (front ++ back)))
-    turns : (i : ℕ) → i < n → t i ≡ true → is_served i v front ≡ true
+    ends : A (world_of v (front ++ back)) (applied_over (world_of v front) back)
+    turns : (i : ℕ) → i < m → t i ≡ true → is_served i v front ≡ true
 
-  -- the move of n by itself
-  module _ (n : ℕ) (v : World) (world : IsWorld v) (quiet : IsQuiet v) (e : IsMoved c (configuration v) (above t (suc n)) rule) (lt : n < c.size) (on : t n ≡ true) where
-    abbrev d : Configuration
-    d = configuration v
+  -- the move of m by itself
+  with_one : (m : ℕ) (v : World) → Move r s v m rule → t m ≡ true → Part m (after_move s v m rule) → Part (suc m) v
+  with_one m v o on rest =
+      let counted : cond {A = ℕ} (t m) 1 0 ≡ 1 = ap (λ b. cond b 1 0) on in
+      record {
+        front = event.Grant s m rule ∷ event.Close ∷ rest.front;
+        back = rest.back;
+        legal = and_from _ _ o.legal (and_from _ _ o.any rest.legal);
+        forward = rest.forward;
+        alone = omega (arith, o.one, rest.alone);
+        moves = omega (arith, o.one, rest.moves, counted);
+        rounds = rest.rounds;
+        ends = rest.ends;
+        turns = λ i i_in is. elim (cases_eq i m) [
+          | inl same ↦ subst (λ z. is_served z v (event.Grant s m rule ∷ event.Close ∷ rest.front) ≡ true) (sym same)
+              (served_later m v (event.Grant s m rule) (event.Close ∷ rest.front)
+              (served_now m (after v (event.Grant s m rule)) event.Close rest.front refl o.chosen))
+          | inr other ↦ served_later i v (event.Grant s m rule) (event.Close ∷ rest.front)
+              (served_later i (after v (event.Grant s m rule)) event.Close rest.front (rest.turns i (omega (arith, i_in, other)) is))
+        ];
+      }
 
-    abbrev is_n : ℕ → Bool
-    is_n i = i == n
-
-    abbrev granted_world : World
-    granted_world = after v (event.Grant s n rule)
-
-    abbrev closed_world : World
-    closed_world = after granted_world event.Close
-
-    n_in : n < d.size
-    n_in = omega (arith, lt, e.size)
-
-    owned_now : (i : ℕ) → i < d.size → owns r (who.Student s) i ≡ true
-    owned_now i i_in = owned i (omega (arith, i_in, e.size))
-
-    holds_now : (i : ℕ) → i < d.size → is_n i ≡ true → guard d i rule ≡ true
-    holds_now i i_in is = subst (λ z. guard d z rule ≡ true) (sym (eqb-true i n is)) (stands d n lt on e).0
-
-    unasked : false ≡ true → (i : ℕ) → i < d.size → is_n i ≡ false → is_privileged d i ≡ false
-    unasked asked = absurd (false≢true asked)
-
-    abbrev Picked : ℕ → World → Type 0
-    Picked = Picking false r s d is_n rule owned_now holds_now unasked
-
-    before : Picked (suc n) v
-    before = record {
-      world = world;
-      same = refl;
-      on = λ i i_in le is. let same = eqb-true i n is in absurd (omega (arith, same, le));
-      below = λ i i_in below. quiet i;
-      off = λ i i_in off. quiet i;
-    }
-
-    legal_now : is_legal r v (event.Grant s n rule) ≡ true
-    legal_now = grant_legal false r s d is_n rule owned_now holds_now unasked n v before n_in (eq-eqb n n refl)
-
-    picked : Picked n granted_world
-    picked = granted false r s d is_n rule owned_now holds_now unasked n v before n_in (eq-eqb n n refl)
-
-    all_picked : Picked 0 granted_world
-    all_picked = record {
-      world = picked.world;
-      same = picked.same;
-      on = λ i i_in le is. let same = eqb-true i n is in picked.on i i_in (omega (arith, same)) is;
-      below = λ i i_in below. absurd (omega (arith, below));
-      off = picked.off;
-    }
-
-    chosen : is_chosen granted_world n ≡ true
-    chosen = ap is_some (all_picked.on n n_in (omega arith) (eq-eqb n n refl))
-
-    any : is_any_chosen granted_world ≡ true
-    any = any_chosen granted_world.chosen n chosen
-
-    one : applied_over v (event.Grant s n rule ∷ event.Close ∷ []) ≡ 1
-    one =
-        let x = applied false r s d is_n rule owned_now holds_now unasked granted_world all_picked in
-        let y = count_one n d.size n_in in
-        omega (arith, x, y)
-
-    closed : IsMoved c (configuration closed_world) (above t n) rule
-    closed =
-        let x = stands d n lt on e in
-        one_more c d (configuration closed_world) t rule n lt on e x.1 x.2
-        (moved_to false r s d is_n rule owned_now holds_now unasked granted_world all_picked any)
-
-    with_one : Part n closed_world → Part (suc n) v
-    with_one rest = record {
-      front = event.Grant s n rule ∷ event.Close ∷ rest.front;
-      back = rest.back;
-      legal = and_from _ _ legal_now (and_from _ _ any rest.legal);
-      forward = rest.forward;
-      alone = let x = rest.alone in let y = one in omega (arith, x, y);
-      rounds = rest.rounds;
-      ends = rest.ends;
-      turns = λ i i_in is. elim (cases_eq i n) [
-        | inl same ↦ subst (λ z. is_served z v (event.Grant s n rule ∷ event.Close ∷ rest.front) ≡ true) (sym same)
-            (served_later n v (event.Grant s n rule) (event.Close ∷ rest.front) (served_now n granted_world event.Close rest.front refl chosen))
-        | inr other ↦ served_later i v (event.Grant s n rule) (event.Close ∷ rest.front)
-            (served_later i granted_world event.Close rest.front (rest.turns i (omega (arith, i_in, other)) is))
-      ];
-    }
-
-  part : (n : ℕ) (v : World) → n ≤ c.size → IsWorld v → IsQuiet v → IsMoved c (configuration v) (above t n) rule → Part n v
+  part : (m : ℕ) (v : World) → m ≤ n → IsWorld v → IsQuiet v → IsMoved c (configuration v) (above t m) rule → Part m v
   part zero v le world quiet e =
       let all : (i : ℕ) → i < c.size → above t 0 i ≡ t i = λ i lt. ap (λ b. t i && b) (le-leb 0 i (omega arith)) ∙ every (t i) in
       let rest = next v world quiet (relabelled c (configuration v) (above t 0) t rule all e) in
@@ -237,6 +159,7 @@ module _ (r : RosterValue) (s k : ℕ) (c : Configuration) (t : ℕ → Bool) (r
         legal = rest.legal;
         forward = rest.forward;
         alone = rest.alone;
+        moves = omega arith;
         rounds = rest.rounds;
         ends = rest.ends;
         turns = λ i lt. absurd (omega (arith, lt));
@@ -245,45 +168,47 @@ module _ (r : RosterValue) (s k : ℕ) (c : Configuration) (t : ℕ → Bool) (r
       every : (b : Bool) → (b && true) ≡ b
       every true = refl
       every false = refl
-  part (suc n) v le world quiet e = elim (cases_Bool (t n)) [
+  part (suc m) v le world quiet e = elim (cases_Bool (t m)) [
     | inl on ↦
-        let lt : n < c.size = omega (arith, le) in
-        let u = closed_world n v world quiet e lt on in
-        let picked = all_picked n v world quiet e lt on in
-        with_one n v world quiet e lt on
-        (part n u (omega (arith, le)) (after-world (granted_world n v world quiet e lt on) event.Close picked.world (any n v world quiet e lt on))
-        (none_at (size (granted_world n v world quiet e lt on))) (closed n v world quiet e lt on))
+        let lt : m < c.size = omega (arith, le, sized) in
+        let x = stands (configuration v) m lt on e in
+        let o = move r s v m rule world quiet (omega (arith, lt, e.size)) (owned m le) x.0 in
+        with_one m v o on (part m (after_move s v m rule) (omega (arith, le)) o.world o.quiet
+        (one_more c (configuration v) (configuration (after_move s v m rule)) t rule m lt on e x.1 x.2 o.moved))
     | inr off ↦
-        let rest = part n v (omega (arith, le)) world quiet (relabelled c (configuration v) (above t (suc n)) (above t n) rule (same off) e) in
+        let rest = part m v (omega (arith, le)) world quiet (relabelled c (configuration v) (above t (suc m)) (above t m) rule (same off) e) in
+        let none : cond {A = ℕ} (t m) 1 0 ≡ 0 = ap (λ b. cond b 1 0) off in
         record {
           front = rest.front;
           back = rest.back;
           legal = rest.legal;
           forward = rest.forward;
           alone = rest.alone;
+          moves = omega (arith, rest.moves, none);
           rounds = rest.rounds;
           ends = rest.ends;
-          turns = λ i lt is. rest.turns i (other i lt is off (cases_eq i n)) is;
+          turns = λ i lt is. rest.turns i (other i lt is off (cases_eq i m)) is;
         }
   ]
     where
-      same : t n ≡ false → (i : ℕ) → i < c.size → above t (suc n) i ≡ above t n i
-      same off i lt = elim (cases_eq i n) [
-        | inl e ↦ above_out t (suc n) i (ap t e ∙ off) ∙ sym (above_out t n i (ap t e ∙ off))
-        | inr other ↦ above_same t n i other
+      same : t m ≡ false → (i : ℕ) → i < c.size → above t (suc m) i ≡ above t m i
+      same off i lt = elim (cases_eq i m) [
+        | inl e ↦ above_out t (suc m) i (ap t e ∙ off) ∙ sym (above_out t m i (ap t e ∙ off))
+        | inr other ↦ above_same t m i other
       ]
 
-      other : (i : ℕ) → i < suc n → t i ≡ true → t n ≡ false → (i ≡ n) ⊎ (i ≡ n → ⊥) → i < n
+      other : (i : ℕ) → i < suc m → t i ≡ true → t m ≡ false → (i ≡ m) ⊎ (i ≡ m → ⊥) → i < m
       other i lt is off (inl e) = absurd (both_ways (t i) (ap t e ∙ off) is)
       other i lt is off (inr ne) = omega (arith, lt, ne)
 
 -- a round of moves by one rule, each in a close of its own, where no other node is privileged
-pub single_round : (r : RosterValue) (s k : ℕ) (t : ℕ → Bool) (rule : Rule) (w : World) → IsWorld w → IsQuiet w
-    → ((i : ℕ) → i < size w → owns r (who.Student s) i ≡ true) → Stands (configuration w) t rule
+pub single_round : (A : World → ℕ → Type 0) (r : RosterValue) (s k n : ℕ) (t : ℕ → Bool) (rule : Rule) (w : World) → IsWorld w → IsQuiet w → size w ≡ n
+    → ((i : ℕ) → i < n → owns r (who.Student s) i ≡ true) → Stands (configuration w) t rule
     → ((i : ℕ) → i < size w → t i ≡ false → is_privileged (configuration w) i ≡ false)
-    → ((u : World) → IsWorld u → IsQuiet u → IsMoved (configuration w) (configuration u) t rule → Singly r u k) → Singly r w (suc k)
-single_round r s k t rule w world quiet owned stands others next =
-    let x = part r s k (configuration w) t rule owned stands next (size w) w (omega arith) world quiet begun in
+    → ((u : World) → IsWorld u → IsQuiet u → IsMoved (configuration w) (configuration u) t rule → GoesOn (λ v x. A v (count_below n t + x)) r u k)
+    → GoesOn A r w (suc k)
+single_round A r s k n t rule w world quiet sized owned stands others next =
+    let x = part (λ v x. A v (count_below n t + x)) r s k n (configuration w) t rule sized owned stands next n w (omega arith) world quiet begun in
     record {
       events = x.front ++ x.back;
       legal = x.legal;
@@ -294,19 +219,22 @@ single_round r s k t rule w world quiet owned stands others next =
         x.back,
         refl,
         (λ i lt. elim (cases_Bool (t i)) [
-          | inl on ↦ x.turns i lt on
+          | inl on ↦ x.turns i (omega (arith, lt, sized)) on
           | inr off ↦ idle_served i w x.front (others i lt off)
         ]),
         x.rounds,
       );
-      ends = x.ends;
+      ends = subst (λ z. A (world_of w (x.front ++ x.back)) z) (sym x.moves) x.ends;
     }
   where
-    begun : IsMoved (configuration w) (configuration w) (above t (size w)) rule
+    off : (i : ℕ) → i < size w → above t n i ≡ false
+    off i lt = above_off t n i (omega (arith, lt, sized))
+
+    begun : IsMoved (configuration w) (configuration w) (above t n) rule
     begun = record {
       size = refl;
       lawful = world.network.lawful;
       linked = λ i j. refl;
-      p = λ i lt. sym (ap (λ b. (moved (configuration w) i (cond b (Some rule) None)).p) (above_off t (size w) i lt));
-      m = λ i lt. sym (ap (λ b. (moved (configuration w) i (cond b (Some rule) None)).m) (above_off t (size w) i lt));
+      p = λ i lt. sym (ap (λ b. (moved (configuration w) i (cond b (Some rule) None)).p) (off i lt));
+      m = λ i lt. sym (ap (λ b. (moved (configuration w) i (cond b (Some rule) None)).m) (off i lt));
     }

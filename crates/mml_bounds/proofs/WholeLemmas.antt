@@ -1,5 +1,5 @@
 -- In a step the courting potential falls by the nodes that move.
-use Rattle.std.proofs.Common.{ℕ, zero, suc, ◌+◌, ◌*◌, ◌≤◌, Bool, true, false, cond, not, inl, inr, Option, arith}
+use Rattle.std.proofs.Common.{ℕ, zero, suc, ◌+◌, ◌*◌, ◌≤◌, cond, not, inl, inr, Option, arith}
 use Rattle.mml_ids.specs.Search.{count_below}
 use Rattle.mml_rules.specs.declared.rule.Rule.{Rule}
 use Rattle.mml_rules.specs.Configuration.{Configuration, IsLawful}
@@ -9,7 +9,7 @@ use Rattle.mml_convergence.specs.Moves.{moves}
 use Rattle.mml_convergence.proofs.StepLemmas.{step-married}
 use Rattle.mml_convergence.proofs.SumsLemmas.{sum_charged, sum_of_tests}
 use Rattle.mml_convergence.proofs.MarriedCountLemmas.{married_kept, grows}
-use Rattle.mml_bounds.specs.Courtships.{pointer_part, node_part, most_courtships, courting_potential}
+use Rattle.mml_bounds.specs.Courtships.{node_part, most_courtships, courting_potential}
 use Rattle.mml_bounds.proofs.NumbersLemmas.{sum_lent, count_both, count_lent, courtships_kept, marriages_pay}
 use Rattle.mml_bounds.proofs.CourtshipLemmas.{pointer_most, calm_pays, lent_pays}
 
@@ -36,18 +36,11 @@ courting_fell c chosen l h =
           let paid = sum_charged c.size (λ i. cond (moves chosen i) 1 0) (node_part (step c chosen)) (node_part c) (calm_pays c chosen l h calm) in
           let kept = married_kept c chosen l h in
           let fewer : free_count (step c chosen) ≤ free_count c = omega (arith, kept, before, after) in
-          let courted = courtships_kept (free_count (step c chosen)) (free_count c) fewer in
-          omega (arith, counted, paid, courted)
+          omega (arith, counted, paid, courtships_kept (free_count (step c chosen)) (free_count c) fewer)
     ]
 
 part_most : (c : Configuration) (i : ℕ) → node_part c i ≤ 3
-part_most c i = let small = pointer_most c i in most (is_married c i) (c.m i) (pointer_part c i) small
-  where
-    most : (x m : Bool) (k : ℕ) → k ≤ 2 → cond x (cond m 0 1) (cond m 1 0 + k) ≤ 3
-    most true true k le = omega arith
-    most true false k le = omega arith
-    most false true k le = omega (arith, le)
-    most false false k le = omega (arith, le)
+part_most c i = grind (arith, pointer_most c i)
 
 parts_most : (n : ℕ) (c : Configuration) → sum_below n (node_part c) ≤ 3 * n
 parts_most zero c = omega arith
@@ -59,5 +52,4 @@ courting_most c =
     let parts = parts_most c.size c in
     let counted = count_both c.size (is_married c) in
     let fewer : free_count c ≤ c.size = omega (arith, counted) in
-    let courted = courtships_kept (free_count c) c.size fewer in
-    omega (arith, parts, courted)
+    omega (arith, parts, courtships_kept (free_count c) c.size fewer)
