@@ -1,8 +1,8 @@
 -- The order of identifiers that are all different.
-use Rattle.std.proofs.Common.{◌≡◌, ◌≢◌, ℕ, zero, suc, ◌+◌, ◌<◌, ◌≤◌, Bool, true, false, not, cond, ◌||◌, eqb, ltb, leb, List, [], ◌∷◌, length, get_or, take}
-use Rattle.std.proofs.Common.{Some, None, refl, sym, ap, ◌∙◌, subst, arith, inl, inr}
-use Rattle.std.specs.Prelude.{position, option_map, IsPermutation, IsSorted, sum_by}
-use Rattle.std.specs.List.{list_any, position_or_len}
+use Rattle.std.proofs.Common.{◌≡◌, ◌≢◌, ℕ, zero, suc, ◌+◌, ◌<◌, ◌≤◌, Bool, false, not, cond, ◌||◌, eqb, List, [], ◌∷◌, length, get_or, take}
+use Rattle.std.proofs.Common.{Some, None, refl, sym, ap, ◌∙◌, arith, inl, inr}
+use Rattle.std.specs.Prelude.{position, IsPermutation, IsSorted, sum_by}
+use Rattle.std.specs.List.{list_any}
 use Rattle.std.specs.Ordering.{nat_cmp}
 use Rattle.std.proofs.lemmas.Bool.{cases_lt, cases_eq, cases_order, eq-eqb, ne_eqb, eqb-true, eqb-false, lt-ltb, ltb-true, ltb-false, leb-true, or_parts}
 use Rattle.std.proofs.lemmas.Bool.{and_parts, false≢true, not-false}
@@ -12,8 +12,6 @@ use Rattle.std.proofs.lemmas.List.Sums.{sum_by-cons, position_or_len_is, fails_b
 use Rattle.std.proofs.lemmas.List.Sorted.{IsNonDecreasingBy-from_sort, sum_by-IsPermutation, list_any-IsPermutation, length_permutation}
 use Rattle.mml_ids.specs.declared.TheConstants.{MAX_NODES, MAX_ID}
 use Rattle.mml_ids.specs.Search.{first_below}
-use Rattle.mml_ids.specs.Gives.{fault_if}
-use Rattle.mml_ids.specs.declared.id_table.IdFault.TheVariants as fault
 use Rattle.mml_ids.proofs.GivesLemmas.{both_none, if_none, map_none}
 use Rattle.mml_ids.proofs.SearchLemmas.{none-is}
 use Rattle.mml_ids.proofs.InOrderLemmas.{AllFrom, Climbs}
@@ -59,18 +57,11 @@ times-is q (n ∷ ns) = sum_by-cons (λ n. cond (eqb n q) 1 0) n ns ∙ ap (λ k
 
 times-absent : (q : ℕ) (ns : List ℕ) → has q ns ≡ false → times q ns ≡ 0
 times-absent q [] h = refl
-times-absent q (n ∷ ns) h =
-    let r = or_parts (eqb n q) (has q ns) h in
-    rw r.0 (let rest = times-absent q ns r.1 in omega arith)
+times-absent q (n ∷ ns) h = grind (arith, or_parts, times-absent q ns)
 
 times-differ : (q : ℕ) (ns : List ℕ) → Differ ns → times q ns ≤ 1
 times-differ q [] d = omega arith
-times-differ q (n ∷ ns) d = elim (cases_eq n q) [
-  | inl same ↦
-      let rest : times q ns ≡ 0 = times-absent q ns (subst (λ x. has x ns ≡ false) same d.0) in
-      rw (eq-eqb n q same) (omega arith)
-  | inr ne ↦ let rest = times-differ q ns d.1 in rw (ne_eqb n q ne) (omega arith)
-]
+times-differ q (n ∷ ns) d = grind (arith, cases_eq, times-absent, eq-eqb, ne_eqb, times-differ q ns)
 
 -- the first is at most each of the others, and so on
 all_from : (x : ℕ) (xs : List ℕ) → ((j : ℕ) → j < length xs → x ≤ get_or xs j 0) → AllFrom x xs
@@ -89,31 +80,15 @@ once n q e = ap (λ b. cond b 1 0) (eq-eqb n q e)
 
 above_from : (x : ℕ) (xs : List ℕ) → times x xs ≡ 0 → AllFrom x xs → AllAbove x xs
 above_from x [] t a = tt
-above_from x (y ∷ ys) t a =
-    let first = a.0 in elim (cases_eq y x) [
-      | inl same ↦ absurd (omega (arith, once y x same))
-      | inr ne ↦ (omega arith, above_from x ys (omega arith) a.1)
-    ]
+above_from x (y ∷ ys) t a = grind (arith, cases_eq, once, above_from x ys)
 
 rises_from : (xs : List ℕ) → ((q : ℕ) → times q xs ≤ 1) → Climbs xs → Rises xs
 rises_from [] t c = tt
-rises_from (x ∷ xs) t c =
-    let whole : cond (eqb x x) 1 0 + times x xs ≤ 1 = t x in
-    (above_from x xs (omega (arith, once x x refl)) c.0, rises_from xs (λ q. let all = t q in omega arith) c.1)
+rises_from (x ∷ xs) t c = grind (arith, above_from, once, rises_from xs)
 
 has-put_in_order : (n q : ℕ) (xs : List ℕ) → has q (put_in_order n xs) ≡ (eqb n q || has q xs)
 has-put_in_order n q [] = refl
-has-put_in_order n q (k ∷ ks) = go (has-put_in_order n q ks) (ltb k n)
-  where
-    swap : (a b c : Bool) → (a || (b || c)) ≡ (b || (a || c))
-    swap true true c = refl
-    swap true false c = refl
-    swap false b c = refl
-
-    go : has q (put_in_order n ks) ≡ (eqb n q || has q ks) → (b : Bool)
-        → has q (cond b (k ∷ put_in_order n ks) (n ∷ k ∷ ks)) ≡ (eqb n q || (eqb k q || has q ks))
-    go further true = ap (λ b. eqb k q || b) further ∙ swap (eqb k q) (eqb n q) (has q ks)
-    go further false = refl
+has-put_in_order n q (k ∷ ks) = grind (arith, has-put_in_order n q ks)
 
 has-in_order : (q : ℕ) (ns : List ℕ) → has q (in_order ns) ≡ has q ns
 unfolding in_order
@@ -122,11 +97,7 @@ has-in_order q (n ∷ ns) = has-put_in_order n q (in_order ns) ∙ ap (λ b. eqb
 
 above-put : (x n : ℕ) (xs : List ℕ) → x < n → AllAbove x xs → AllAbove x (put_in_order n xs)
 above-put x n [] l a = (l, tt)
-above-put x n (k ∷ ks) l a = go (above-put x n ks l a.1) (ltb k n)
-  where
-    go : AllAbove x (put_in_order n ks) → (b : Bool) → AllAbove x (cond b (k ∷ put_in_order n ks) (n ∷ k ∷ ks))
-    go further true = (a.0, further)
-    go further false = (l, a)
+above-put x n (k ∷ ks) l a = grind (arith, above-put x n ks l)
 
 above_more : (x y : ℕ) (ys : List ℕ) → x < y → AllAbove y ys → AllAbove x ys
 above_more x y [] l a = tt
@@ -134,18 +105,7 @@ above_more x y (z ∷ zs) l a = (omega arith, above_more x y zs l a.1)
 
 rises-put : (n : ℕ) (xs : List ℕ) → has n xs ≡ false → Rises xs → Rises (put_in_order n xs)
 rises-put n [] h r = (tt, tt)
-rises-put n (k ∷ ks) h r = go (λ absent. rises-put n ks absent r.1) (ltb k n) refl
-  where
-    parts : (eqb k n ≡ false) × (has n ks ≡ false)
-    parts = or_parts (eqb k n) (has n ks) h
-
-    go : (has n ks ≡ false → Rises (put_in_order n ks)) → (b : Bool) → ltb k n ≡ b → Rises (cond b (k ∷ put_in_order n ks) (n ∷ k ∷ ks))
-    go further true e = (above-put k n ks (ltb-true k n e) r.0, further parts.1)
-    go further false e =
-        let other = eqb-false k n parts.0 in
-        let low = ltb-false k n e in
-        let less : n < k = omega arith in
-        ((less, above_more n k ks less r.0), r)
+rises-put n (k ∷ ks) h r = grind (arith, or_parts, above-put, ltb-true, eqb-false, ltb-false, above_more, rises-put n ks)
 
 rises-in_order : (ns : List ℕ) → Differ ns → Rises (in_order ns)
 unfolding in_order
@@ -176,8 +136,7 @@ same_rising (x ∷ xs) (y ∷ ys) r s h = elim (cases_order x y) [
     rest : x ≡ y → (q : ℕ) → has q xs ≡ has q ys
     rest same q = elim (cases_eq x q) [
       | inl e ↦ absent_above q x xs (omega arith) r.0 ∙ sym (absent_above q y ys (omega arith) s.0)
-      | inr ne ↦
-          sym (ap (λ b. b || has q xs) (ne_eqb x q ne)) ∙ h q ∙ ap (λ b. b || has q ys) (ne_eqb y q (λ e. ne (same ∙ e)))
+      | inr ne ↦ grind (arith, ne_eqb)
     ]
 
 above_at : (x : ℕ) (xs : List ℕ) (j : ℕ) → AllAbove x xs → j < length xs → x < get_or xs j 0
@@ -197,9 +156,7 @@ passes p (x ∷ xs) zero h l = (or_parts (p x) (list_any p xs) h).0
 passes p (x ∷ xs) (suc i) h l = passes p xs i (or_parts (p x) (list_any p xs) h).1 (omega arith)
 
 id_parts : (n : ℕ) → not (is_id n) ≡ false → (0 < n) × (n ≤ MAX_ID)
-id_parts n h =
-    let both = and_parts (ltb 0 n) (leb n MAX_ID) (not-false (is_id n) h) in
-    (ltb-true 0 n both.0, leb-true n MAX_ID both.1)
+id_parts n h = grind (arith, and_parts, not-false, ltb-true, leb-true)
 
 -- what a sort makes of identifiers without an error
 module _ (ns sorted : List ℕ) (moved : IsPermutation ns sorted) (climbs : IsSorted nat_cmp sorted)
@@ -214,8 +171,7 @@ module _ (ns sorted : List ℕ) (moved : IsPermutation ns sorted) (climbs : IsSo
       (climbs_from sorted (λ i j le l. IsNonDecreasingBy-from_sort (λ n. n) sorted climbs i j 0 le l))
 
   pub sorted_is : sorted ≡ in_order ns
-  sorted_is = same_rising sorted (in_order ns) rises (rises-in_order ns different)
-      (λ q. sym (list_any-IsPermutation (λ n. eqb n q) ns sorted moved) ∙ sym (has-in_order q ns))
+  sorted_is = grind (arith, same_rising, rises, rises-in_order, different, list_any-IsPermutation, has-in_order)
 
   pub table_is : 0 < length ns → length ns ≤ MAX_NODES → list_any (λ n. not (is_id n)) ns ≡ false → IsTable sorted
   table_is some few valid =
@@ -230,17 +186,11 @@ module _ (ns sorted : List ℕ) (moved : IsPermutation ns sorted) (climbs : IsSo
       }
 
 position_at : (id : ℕ) (ids : List ℕ) (k : ℕ) → k < length ids → get_or ids k 0 ≡ id → ((i : ℕ) → i < k → get_or ids i 0 ≢ id) → rank_in ids id ≡ Some k
-position_at id ids k l e before =
-    rw (
-      position_or_len_is (λ n. eqb n id) ids k 0 (omega arith) (λ i less. ne_eqb (get_or ids i 0) id (before i less)) (λ _. eq-eqb (get_or ids k 0) id e),
-      lt-ltb k (length ids) l,
-    ) refl
+position_at id ids k l e before = grind (arith, position_or_len_is, ne_eqb, eq-eqb, lt-ltb)
 
 -- an identifier stands at one place
 pub rank_of_id : (ids : List ℕ) (k id : ℕ) → IsTable ids → k < length ids → id ≡ get_or ids k id → rank_in ids id ≡ Some k
-rank_of_id ids k id t l e =
-    let here : get_or ids k 0 ≡ id = get_or_default ids k 0 id l ∙ sym e in
-    position_at id ids k l here (λ i less f. let up = t.rising i k less l in omega arith)
+rank_of_id ids k id t l e = grind (arith, get_or_default, position_at)
 
 -- at the rank of an identifier stands that identifier
 pub id_of_rank : (ids : List ℕ) (id k : ℕ) → rank_in ids id ≡ Some k → get_or ids k 0 ≡ id
@@ -251,13 +201,7 @@ none_passes p [] h = refl
 none_passes p (n ∷ ns) h = rw (h 0 (omega arith)) (none_passes p ns (λ i l. h (suc i) (omega arith)))
 
 position_none : (p : ℕ → Bool) (ns : List ℕ) → position p ns ≡ None → list_any p ns ≡ false
-position_none p ns h = elim (cases_lt (position_or_len p ns) (length ns)) [
-  | inl lt ↦
-      let found : Some (position_or_len p ns) ≡ None =
-      sym (ap (λ b. cond b (Some (position_or_len p ns)) None) (lt-ltb (position_or_len p ns) (length ns) lt)) ∙ h in
-      cc
-  | inr ge ↦ none_passes p ns (λ i l. fails_before_first p ns i 0 (omega arith))
-]
+position_none p ns h = grind (arith, cases_lt, lt-ltb, none_passes, fails_before_first)
 
 -- what a list without an error is
 pub record IsSound (ns : List ℕ) : Type 0 where
@@ -268,15 +212,4 @@ pub record IsSound (ns : List ℕ) : Type 0 where
 
 -- in a list without an error each number is an identifier and no number stands twice
 pub sound : (ns : List ℕ) → id_fault ns ≡ None → IsSound ns
-sound ns h =
-    let a = both_none (fault_if (eqb (length ns) 0) fault.Empty) _ h in
-    let b = both_none (fault_if (ltb MAX_NODES (length ns)) fault.TooMany) _ a.1 in
-    let c = both_none (option_map fault.OutOfRange (position (λ n. not (is_id n)) ns)) _ b.1 in
-    let empty = eqb-false (length ns) 0 (if_none (eqb (length ns) 0) fault.Empty a.0) in
-    let many = ltb-false MAX_NODES (length ns) (if_none (ltb MAX_NODES (length ns)) fault.TooMany b.0) in
-    record {
-      some = omega arith;
-      few = many;
-      valid = position_none (λ n. not (is_id n)) ns (map_none fault.OutOfRange _ c.0);
-      differ = map_none fault.Twice _ c.1;
-    }
+sound ns h = grind (arith, both_none, eqb-false, if_none, ltb-false, position_none, map_none)

@@ -1,5 +1,5 @@
 -- A list put in order has the same numbers, and never falls.
-use Rattle.std.proofs.Common.{ℕ, zero, suc, ◌<◌, ◌≤◌, Bool, true, false, cond, ltb, ◌≡◌, List, [], ◌∷◌, length, get_or, refl, arith}
+use Rattle.std.proofs.Common.{ℕ, zero, suc, ◌<◌, ◌≤◌, Bool, true, false, cond, ltb, List, [], ◌∷◌, length, get_or, arith}
 use Rattle.std.specs.Prelude.{IsPermutation}
 use Rattle.std.specs.List.Sorted.{IsNonDecreasing}
 use Rattle.std.proofs.lemmas.Bool.{ltb-true, ltb-false}
@@ -40,19 +40,11 @@ from_less x y (z ∷ zs) le all = (omega (arith, all.0), from_less x y zs le all
 
 from-put : (x n : ℕ) (ks : List ℕ) → x ≤ n → AllFrom x ks → AllFrom x (put_in_order n ks)
 from-put x n [] le all = (le, tt)
-from-put x n (k ∷ ks) le all = by (ltb k n) (from-put x n ks le all.1)
-  where
-    by : (b : Bool) → AllFrom x (put_in_order n ks) → AllFrom x (cond b (k ∷ put_in_order n ks) (n ∷ k ∷ ks))
-    by true rest = (all.0, rest)
-    by false rest = (le, all)
+from-put x n (k ∷ ks) le all = grind (arith, from-put x n ks le)
 
 climbs-put : (n : ℕ) (ks : List ℕ) → Climbs ks → Climbs (put_in_order n ks)
 climbs-put n [] climbs = (tt, tt)
-climbs-put n (k ∷ ks) climbs = by (ltb k n) refl (climbs-put n ks climbs.1)
-  where
-    by : (b : Bool) → ltb k n ≡ b → Climbs (put_in_order n ks) → Climbs (cond b (k ∷ put_in_order n ks) (n ∷ k ∷ ks))
-    by true e rest = let less : k < n = ltb-true k n e in (from-put k n ks (omega arith) climbs.0, rest)
-    by false e rest = let le : n ≤ k = ltb-false k n e in ((le, from_less n k ks le climbs.0), climbs)
+climbs-put n (k ∷ ks) climbs = grind (arith, ltb-true, from-put, ltb-false, from_less, climbs-put n ks)
 
 -- a list put in order never falls
 pub climbs-in_order : (ns : List ℕ) → Climbs (in_order ns)

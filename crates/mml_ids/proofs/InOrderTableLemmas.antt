@@ -1,5 +1,5 @@
 -- Identifiers without an error, put in order, are a table of the same identifiers.
-use Rattle.std.proofs.Common.{◌≡◌, ℕ, suc, ◌+◌, ◌≤◌, Bool, true, false, cond, List, get_or, None, refl, ap, ◌∙◌, ◌==◌, add-one, Equal, Greater, arith}
+use Rattle.std.proofs.Common.{◌≡◌, ℕ, suc, ◌+◌, ◌≤◌, false, List, get_or, None, ap, ◌∙◌, add-one, arith}
 use Rattle.std.specs.Prelude.{IsSorted}
 use Rattle.std.specs.Ordering.{nat_cmp, is_lt}
 use Rattle.std.proofs.lemmas.Bool.{le-ltb}
@@ -9,11 +9,7 @@ use Rattle.mml_ids.proofs.InOrderLemmas.{in_order-moves, climbs-in_order, climbs
 use Rattle.mml_ids.proofs.IdsLemmas.{sound, table_is}
 
 not_less : (x y : ℕ) → y ≤ x → is_lt (nat_cmp x y) ≡ false
-not_less x y le = rw (le-ltb x y le) (either (x == y))
-  where
-    either : (same : Bool) → is_lt (cond same Equal Greater) ≡ false
-    either true = refl
-    either false = refl
+not_less x y le = grind (arith, le-ltb)
 
 in_order-sorted : (ns : List ℕ) → IsSorted nat_cmp (in_order ns)
 in_order-sorted ns = λ k d low lt.

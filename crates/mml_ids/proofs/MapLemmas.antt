@@ -1,5 +1,5 @@
 -- Searches of a list, and of what its elements stand for.
-use Rattle.std.proofs.Common.{◌≡◌, ℕ, List, [], ◌∷◌, Bool, true, false, cond, ◌||◌, length, map, Some, None, suc, refl, ap, ◌∙◌, inl, inr, arith}
+use Rattle.std.proofs.Common.{◌≡◌, ℕ, List, [], ◌∷◌, Bool, true, false, cond, ◌||◌, length, map, Some, None, suc, refl, ap, arith}
 use Rattle.std.proofs.lemmas.Bool.{cases_lt, lt-ltb, le-ltb}
 use Rattle.std.specs.Prelude.{option_map, nat_lt}
 use Rattle.std.specs.List.{list_any, find, position, position_or_len}
@@ -12,12 +12,7 @@ list_any-map p f (x ∷ xs) = ap (λ b. p (f x) || b) (list_any-map p f xs)
 -- what the first element that passes stands for is the first that passes in the list of what they stand for
 pub find-map : {X Y : Type 0} (p : Y → Bool) (f : X → Y) (xs : List X) → option_map f (find (λ x. p (f x)) xs) ≡ find p (map f xs)
 find-map p f [] = refl
-find-map p f (x ∷ xs) = go (p (f x)) (find-map p f xs)
-  where
-    go : (b : Bool) → option_map f (find (λ x. p (f x)) xs) ≡ find p (map f xs)
-        → option_map f (cond b (Some x) (find (λ x. p (f x)) xs)) ≡ cond b (Some (f x)) (find p (map f xs))
-    go true e = refl
-    go false e = e
+find-map p f (x ∷ xs) = grind (arith, find-map p f xs)
 
 place-map : {X Y : Type 0} (p : Y → Bool) (f : X → Y) (xs : List X) → position_or_len (λ x. p (f x)) xs ≡ position_or_len p (map f xs)
 place-map p f [] = refl
@@ -41,10 +36,7 @@ pub position-first : {X : Type 0} (p : X → Bool) (x : X) (xs : List X) → p x
 position-first p x xs here = rw (here, lt-ltb 0 (suc (length xs)) (omega arith)) refl
 
 shift : (n m : ℕ) → cond (nat_lt (suc n) (suc m)) (Some (suc n)) None ≡ option_map suc (cond (nat_lt n m) (Some n) None)
-shift n m = elim (cases_lt n m) [
-  | inl lt ↦ rw (lt-ltb n m lt, lt-ltb (suc n) (suc m) (omega arith)) refl
-  | inr ge ↦ rw (le-ltb n m ge, le-ltb (suc n) (suc m) (omega arith)) refl
-]
+shift n m = grind (arith, cases_lt, lt-ltb, le-ltb)
 
 -- one past the place in the rest
 place-later : {X : Type 0} (p : X → Bool) (x : X) (xs : List X) → p x ≡ false → position_or_len p (x ∷ xs) ≡ suc (position_or_len p xs)
@@ -52,5 +44,4 @@ place-later p x xs not_here = rw not_here (omega arith)
 
 -- where the first element doesn't pass, the place is one past that in the rest
 pub position-later : {X : Type 0} (p : X → Bool) (x : X) (xs : List X) → p x ≡ false → position p (x ∷ xs) ≡ option_map suc (position p xs)
-position-later p x xs not_here =
-    ap (λ n. cond (nat_lt n (suc (length xs))) (Some n) None) (place-later p x xs not_here) ∙ shift (position_or_len p xs) (length xs)
+position-later p x xs not_here = grind (arith, place-later, shift)

@@ -1,5 +1,5 @@
 -- What the operations on words do to the sets that they keep.
-use Rattle.std.proofs.Common.{◌≡◌, ◌≢◌, ℕ, zero, suc, ◌+◌, ◌-◌, ◌*◌, ◌/◌, ◌%◌, ◌^◌, ◌<◌, ◌≤◌, Bool, true, false, not, cond, ◌&&◌, eqb, ltb, min, List, get_or}
+use Rattle.std.proofs.Common.{◌≡◌, ℕ, zero, suc, ◌+◌, ◌-◌, ◌*◌, ◌/◌, ◌%◌, ◌^◌, ◌<◌, ◌≤◌, Bool, true, false, not, cond, ◌&&◌, eqb, ltb, min, List, get_or}
 use Rattle.std.proofs.Common.{refl, sym, ap, ◌∙◌, subst, arith, inl, inr, w64, bit_and, lit<}
 use Rattle.std.proofs.lemmas.Bool.{cases_lt, cases_eq, cases_order, eq-eqb, eqb-true, eqb-false, lt-ltb, le-ltb, ltb-true, and_parts, and_right}
 use Rattle.std.proofs.lemmas.Nat.{pow_pos, ones_le_self, zero_from_ones}
@@ -19,13 +19,7 @@ use Rattle.mml_ids.specs.inside.Words.{bit_in, set_of}
 use Rattle.mml_ids.specs.inside.WordsLemmas.{has_empty, has-set_of, same_ranks}
 
 two_bits : (P : ℕ → ℕ → Type 0) → P 0 0 → P 0 1 → P 1 0 → P 1 1 → (x y : ℕ) → x < 2 → y < 2 → P x y
-two_bits P none second first both zero zero a b = none
-two_bits P none second first both zero (suc zero) a b = second
-two_bits P none second first both (suc zero) zero a b = first
-two_bits P none second first both (suc zero) (suc zero) a b = both
-two_bits P none second first both zero (suc (suc y)) a b = absurd (omega arith)
-two_bits P none second first both (suc zero) (suc (suc y)) a b = absurd (omega arith)
-two_bits P none second first both (suc (suc x)) y a b = absurd (omega arith)
+two_bits P none second first both x y a b = grind arith
 
 and_bits : (x y : ℕ) → x < 2 → y < 2 → eqb (min x y) 1 ≡ (eqb x 1 && eqb y 1)
 and_bits = two_bits (λ x y. eqb (min x y) 1 ≡ (eqb x 1 && eqb y 1)) refl refl refl refl
@@ -34,20 +28,14 @@ and_not_bits : (x y : ℕ) → x < 2 → y < 2 → eqb (min x (1 - y)) 1 ≡ (eq
 and_not_bits = two_bits (λ x y. eqb (min x (1 - y)) 1 ≡ (eqb x 1 && not (eqb y 1))) refl refl refl refl
 
 and_both : (t x y : Bool) → (t && (x && y)) ≡ ((t && x) && (t && y))
-and_both true x y = refl
-and_both false x y = refl
+and_both t x y = grind arith
 
 and_without : (t x y : Bool) → (t && (x && not y)) ≡ ((t && x) && not (t && y))
-and_without true x y = refl
-and_without false x y = refl
+and_without t x y = grind arith
 
 -- of four words, each
 pub each_of_four : (P : ℕ → Type 0) → P 0 → P 1 → P 2 → P 3 → (w : ℕ) → w < 4 → P w
-each_of_four P a b c d zero l = a
-each_of_four P a b c d (suc zero) l = b
-each_of_four P a b c d (suc (suc zero)) l = c
-each_of_four P a b c d (suc (suc (suc zero))) l = d
-each_of_four P a b c d (suc (suc (suc (suc w)))) l = absurd (omega arith)
+each_of_four P a b c d w l = grind arith
 
 -- words that are the and of two others, word by word, keep the intersection of their sets
 pub set_of-and : (n : ℕ) (a b new : List ℕ) → ((w : ℕ) → 64 * w < n → get_or new w 0 ≡ bit_and (get_or a w 0) (get_or b w 0))
@@ -60,15 +48,7 @@ set_of-and n a b new each = same_ranks _ _ (λ q.
     ∙ (λ i. has-set_of n a q i && has-set_of n b q i)))
   where
     bits : (q : ℕ) → (ltb q n && bit_in new q) ≡ (ltb q n && (bit_in a q && bit_in b q))
-    bits q = elim (cases_lt q n) [
-      | inl lt ↦
-          let x : ℕ = get_or a (q / 64) 0 in
-          let y : ℕ = get_or b (q / 64) 0 in
-          ap (λ word. ltb q n && eqb (bit_at word (q % 64)) 1) (each (q / 64) (omega arith))
-          ∙ ap (λ bit. ltb q n && eqb bit 1) (bit_at_and x y (q % 64))
-          ∙ ap (λ t. ltb q n && t) (and_bits (bit_at x (q % 64)) (bit_at y (q % 64)) (bit_at-lt x (q % 64)) (bit_at-lt y (q % 64)))
-      | inr ge ↦ rw (le-ltb q n ge) refl
-    ]
+    bits q = grind (arith, cases_lt, bit_at_and, and_bits, bit_at-lt, le-ltb)
 
 -- words without the bits of others, word by word, keep the difference of their sets
 pub set_of-and_not : (n : ℕ) (a b new : List ℕ) → ((w : ℕ) → 64 * w < n → get_or b w 0 < 2 ^ 64)
@@ -118,27 +98,12 @@ bit-ones_above r k below lt = elim (cases_order k r) [
 
 -- in one word the order is that of the bits
 pub ltb_within : (r w k : ℕ) → r / 64 ≡ w → ltb (r % 64) k ≡ ltb r (64 * w + k)
-ltb_within r w k e = elim (cases_lt (r % 64) k) [
-  | inl lt ↦ lt-ltb (r % 64) k lt ∙ sym (lt-ltb r (64 * w + k) (omega arith))
-  | inr ge ↦ le-ltb (r % 64) k ge ∙ sym (le-ltb r (64 * w + k) (omega arith))
-]
+ltb_within r w k e = grind (arith, cases_lt, lt-ltb, le-ltb)
 
 -- the ranks above r, word by word
 pub has-above : (n : ℕ) (words : List ℕ) (r q : ℕ) → ((w : ℕ) → 64 * w < n → (k : ℕ) → k < 64 → eqb (bit_at (get_or words w 0) k) 1 ≡ ltb r (64 * w + k))
     → sets.contains (set_of n words) q ≡ (ltb r q && ltb q n)
-has-above n words r q each = has-set_of n words q ∙ elim (cases_lt q n) [
-  | inl lt ↦
-      let place : 64 * (q / 64) + q % 64 ≡ q = omega arith in
-      ap (λ b. ltb q n && b) (each (q / 64) (omega arith) (q % 64) (omega arith) ∙ ap (ltb r) place)
-      ∙ swap (ltb q n) (ltb r q)
-  | inr ge ↦ rw (le-ltb q n ge) (sym (and_right (ltb r q) false refl))
-]
-  where
-    swap : (a b : Bool) → (a && b) ≡ (b && a)
-    swap true true = refl
-    swap true false = refl
-    swap false true = refl
-    swap false false = refl
+has-above n words r q each = grind (arith, has-set_of, cases_lt, le-ltb, and_right)
 
 -- the low digits, one more of them
 low_digits : (b n : ℕ) → b % 2 ^ suc n ≡ bit_at b n * 2 ^ n + b % 2 ^ n
@@ -148,10 +113,7 @@ none_counted : count_ones 0 ≡ 0
 none_counted = let small = ones_le_self 0 in omega arith
 
 one_counted : count_ones 1 ≡ 1
-one_counted =
-    let small = ones_le_self 1 in
-    let some : count_ones 1 ≡ 0 → ⊥ = λ e. let z = zero_from_ones 1 e in omega arith in
-    omega arith
+one_counted = grind (arith, ones_le_self, zero_from_ones)
 
 -- a rank that the set lacks makes it longer by one
 pub len-insert_new : (s : FinSet nat_cmp) (k : ℕ) → sets.contains s k ≡ false → sets.len (sets.insert s k) ≡ sets.len s + 1
@@ -166,17 +128,10 @@ digit words n = bit_at (get_or words (n / 64) 0) (n % 64)
 
 one_more : (n : ℕ) (words : List ℕ) (t : Bool) → bit_in words n ≡ t
     → sets.len (cond t (sets.insert (set_of n words) n) (set_of n words)) ≡ digit words n + sets.len (set_of n words)
-one_more n words true e =
-    let one : digit words n ≡ 1 = eqb-true (digit words n) 1 e in
-    let more = len-insert_new (set_of n words) n (not_yet n words) in omega arith
-one_more n words false e =
-    let other : digit words n ≢ 1 = eqb-false (digit words n) 1 e in
-    let small = bit_at-lt (get_or words (n / 64) 0) (n % 64) in omega arith
+one_more n words t e = grind (arith, eqb-true, len-insert_new, not_yet, eqb-false, bit_at-lt)
 
 count_bit : (x : ℕ) → x < 2 → count_ones x ≡ x
-count_bit zero h = none_counted
-count_bit (suc zero) h = one_counted
-count_bit (suc (suc x)) h = absurd (omega arith)
+count_bit x h = grind (arith, none_counted, one_counted)
 
 len-set_of_step : (n : ℕ) (words : List ℕ) → sets.len (set_of (suc n) words) ≡ digit words n + sets.len (set_of n words)
 unfolding set_of those_below
@@ -189,11 +144,7 @@ len-set_of_none words = sets.len-empty nat_cmp
 
 -- the lowest bits of the word at a place add their ones
 len-part : (words : List ℕ) (w j : ℕ) → j ≤ 64 → sets.len (set_of (64 * w + j) words) ≡ count_ones (get_or words w 0 % 2 ^ j) + sets.len (set_of (64 * w) words)
-len-part words w zero l =
-    let nothing : get_or words w 0 % 2 ^ 0 ≡ 0 = omega arith in
-    let here : 64 * w + 0 ≡ 64 * w = omega arith in
-    let counted : count_ones (get_or words w 0 % 2 ^ 0) ≡ 0 = ap count_ones nothing ∙ none_counted in
-    ap (λ n. sets.len (set_of n words)) here ∙ omega (arith, counted)
+len-part words w zero l = grind (arith, none_counted)
 len-part words w (suc j) l =
     let b : ℕ = get_or words w 0 in
     let next : 64 * w + suc j ≡ suc (64 * w + j) = omega arith in
@@ -217,14 +168,7 @@ len-set_of_word words w fits =
 
 -- a set whose words are all zero
 pub none_of_zeros : (n : ℕ) (words : List ℕ) → ((w : ℕ) → 64 * w < n → get_or words w 0 ≡ 0) → set_of n words ≡ sets.empty
-none_of_zeros n words zeros = same_ranks _ _ (λ q. has-set_of n words q ∙ at q ∙ sym (has_empty q))
-  where
-    at : (q : ℕ) → (ltb q n && bit_in words q) ≡ false
-    at q = elim (cases_lt q n) [
-      | inl lt ↦ ap (λ b. ltb q n && eqb (bit_at b (q % 64)) 1) (zeros (q / 64) (omega arith)) ∙ ap (λ x. ltb q n && eqb x 1) (bit_at-zero (q % 64))
-          ∙ and_right (ltb q n) false refl
-      | inr ge ↦ rw (le-ltb q n ge) refl
-    ]
+none_of_zeros n words zeros = grind (arith, same_ranks, has-set_of, has_empty, cases_lt, bit_at-zero, and_right, le-ltb)
 
 -- the highest one of a word
 pub has-highest : (n : ℕ) (words : List ℕ) (w k : ℕ) → 64 * w + k < n → k < 64 → 2 ^ k ≤ get_or words w 0 → get_or words w 0 < 2 * 2 ^ k
@@ -266,30 +210,9 @@ none_above_highest n words w k q high zeros there =
 -- a one of a word
 pub has-one : (n : ℕ) (words : List ℕ) (w k : ℕ) → 64 * w + k < n → k < 64 → bit_at (get_or words w 0) k ≡ 1
     → sets.contains (set_of n words) (64 * w + k) ≡ true
-has-one n words w k inside below one =
-    let place : (64 * w + k) / 64 ≡ w = omega arith in
-    let bit : (64 * w + k) % 64 ≡ k = omega arith in
-    has-set_of n words (64 * w + k)
-    ∙ ap (λ b. b && bit_in words (64 * w + k)) (lt-ltb (64 * w + k) n inside)
-    ∙ ap (λ x. eqb (bit_at (get_or words x 0) ((64 * w + k) % 64)) 1) place
-    ∙ ap (λ x. eqb (bit_at (get_or words w 0) x) 1) bit
-    ∙ eq-eqb (bit_at (get_or words w 0) k) 1 one
+has-one n words w k inside below one = grind (arith, has-set_of, lt-ltb, eq-eqb)
 
 -- where no earlier word has a one, none is below the lowest of this one
 pub none_below_lowest : (n : ℕ) (words : List ℕ) (w k q : ℕ) → k < 64 → ((i : ℕ) → i < k → bit_at (get_or words w 0) i ≡ 0)
     → ((v : ℕ) → v < w → get_or words v 0 ≡ 0) → sets.contains (set_of n words) q ≡ true → 64 * w + k ≤ q
-none_below_lowest n words w k q below low zeros there =
-    let parts = and_parts (ltb q n) (bit_in words q) (sym (has-set_of n words q) ∙ there) in
-    let one : digit words q ≡ 1 = eqb-true (digit words q) 1 parts.1 in
-    elim (cases_lt q (64 * w + k)) [
-      | inr le ↦ le
-      | inl less ↦ elim (cases_eq (q / 64) w) [
-        | inl same ↦
-            let bit : bit_at (get_or words w 0) (q % 64) ≡ 0 = low (q % 64) (omega arith) in
-            let other : digit words q ≡ bit_at (get_or words w 0) (q % 64) = ap (λ x. bit_at (get_or words x 0) (q % 64)) same in
-            omega arith
-        | inr other ↦
-            let bit : digit words q ≡ 0 = ap (λ b. bit_at b (q % 64)) (zeros (q / 64) (omega arith)) ∙ bit_at-zero (q % 64) in
-            omega arith
-      ]
-    ]
+none_below_lowest n words w k q below low zeros there = grind (arith, and_parts, has-set_of, eqb-true, cases_lt, cases_eq, bit_at-zero)

@@ -1,5 +1,5 @@
 -- Texts in pieces, cut between two pieces.
-use Rattle.std.proofs.Common.{◌≡◌, ℕ, suc, ◌+◌, ◌≤◌, ◌<◌, List, [], ◌∷◌, ◌++◌, length, take, drop, ◌/◌, ◌%◌, decimal, slice_index_or, refl, ap, sym, ◌∙◌}
+use Rattle.std.proofs.Common.{◌≡◌, ℕ, ◌+◌, ◌≤◌, ◌<◌, List, [], ◌∷◌, ◌++◌, length, take, drop, ◌/◌, ◌%◌, decimal, slice_index_or, refl, ap, sym, ◌∙◌}
 use Rattle.std.proofs.Common.{arith, inl, inr}
 use Rattle.std.proofs.lemmas.List.{append_assoc, append-nil, take-append-drop}
 use Rattle.std.proofs.lemmas.Fmt.{decimal_digit, decimal_step}
@@ -7,6 +7,7 @@ use Rattle.std.proofs.Math.Seq.{take-suc, take-add}
 use Rattle.std.proofs.Math.Nat.{eq-or-lt_of_le}
 use Rattle.mml_ids.specs.declared.piece.Piece.{Piece}
 use Rattle.mml_ids.specs.Pieces.{piece_text, piece_room, joined, room_of, Fills}
+use Rattle.std.proofs.lemmas.Grind.{common_steps}
 
 pub joined-append : (ps qs : List Piece) → joined (ps ++ qs) ≡ joined ps ++ joined qs
 joined-append [] qs = refl
@@ -18,15 +19,12 @@ room_of-append (p ∷ ps) qs = omega (arith, room_of-append ps qs)
 
 -- one piece more
 take_next : (ps : List Piece) (n : ℕ) (p : Piece) → p ≡ slice_index_or ps n p → n < length ps → take (n + 1) ps ≡ take n ps ++ p ∷ []
-take_next ps n p is inside = let one : n + 1 ≡ suc n = omega arith in
-    ap (λ k. take k ps) one ∙ take-suc ps n p inside ∙ ap (λ q. take n ps ++ q ∷ []) (sym is)
+take_next ps n p is inside = grind (arith, take-suc)
 
 -- the text so far and the next piece are the text of one piece more
 pub joined-next : (was now next : List ℕ) (ps : List Piece) (n : ℕ) (p : Piece) → p ≡ slice_index_or ps n p → n < length ps → now ≡ was ++ joined (take n ps)
     → next ≡ now ++ piece_text p → next ≡ was ++ joined (take (n + 1) ps)
-joined-next was now next ps n p is inside before after =
-    let more = ap joined (take_next ps n p is inside) ∙ joined-append (take n ps) (p ∷ []) ∙ ap (λ t. joined (take n ps) ++ t) (append-nil (piece_text p)) in
-    after ∙ ap (λ t. t ++ piece_text p) before ∙ append_assoc was (joined (take n ps)) (piece_text p) ∙ ap (λ t. was ++ t) (sym more)
+joined-next was now next ps n p is inside before after = grind (arith, common_steps, take_next, joined-append, append-nil, append_assoc)
 
 -- one piece more needs that piece's room more
 pub room_of-next : (ps : List Piece) (n : ℕ) (p : Piece) → p ≡ slice_index_or ps n p → n < length ps
@@ -36,15 +34,11 @@ room_of-next ps n p is inside = omega (arith, ap room_of (take_next ps n p is in
 -- more pieces after the first
 pub joined-more : (was now kept next : List ℕ) (ps rest : List Piece) (n m : ℕ) → now ≡ was ++ joined (take n ps) → kept ≡ now → rest ≡ drop n ps
     → next ≡ kept ++ joined (take m rest) → next ≡ was ++ joined (take (n + m) ps)
-joined-more was now kept next ps rest n m before same is after =
-    let more = ap joined (take-add n m ps) ∙ joined-append (take n ps) (take m (drop n ps)) in
-    let begun = after ∙ ap (λ t. t ++ joined (take m rest)) (same ∙ before) ∙ ap (λ qs. (was ++ joined (take n ps)) ++ joined (take m qs)) is in
-    begun ∙ append_assoc was (joined (take n ps)) (joined (take m (drop n ps))) ∙ ap (λ t. was ++ t) (sym more)
+joined-more was now kept next ps rest n m before same is after = grind (arith, take-add, joined-append, append_assoc)
 
 -- the room of some pieces and of more after them is the sum of both
 pub room_of-more : (ps rest : List Piece) (n m : ℕ) → rest ≡ drop n ps → room_of (take (n + m) ps) ≡ room_of (take n ps) + room_of (take m rest)
-room_of-more ps rest n m is =
-    ap room_of (take-add n m ps) ∙ room_of-append (take n ps) (take m (drop n ps)) ∙ ap (λ qs. room_of (take n ps) + room_of (take m qs)) (sym is)
+room_of-more ps rest n m is = grind (arith, take-add, room_of-append)
 
 -- the room of the next piece
 pub room_of-one : (ps : List Piece) (n : ℕ) (p : Piece) → p ≡ slice_index_or ps n p → n < length ps → room_of (take 1 (drop n ps)) ≡ piece_room p
@@ -67,6 +61,4 @@ fills_all was now capacity ps n f room = elim (eq-or-lt_of_le f.bound) [
 -- one digit more
 pub digit_more : (was front all : List ℕ) (n : ℕ) → 10 ≤ n → n < 100000 → front ≡ was ++ decimal (n / 10) → all ≡ front ++ decimal (n % 10)
     → all ≡ was ++ decimal n
-digit_more was front all n many few before last =
-    last ∙ ap (λ t. t ++ decimal (n % 10)) before ∙ append_assoc was (decimal (n / 10)) (decimal (n % 10))
-    ∙ ap (λ t. was ++ t) (ap (λ t. decimal (n / 10) ++ t) (decimal_digit (n % 10) (omega arith)) ∙ sym (decimal_step n many (omega (arith, few))))
+digit_more was front all n many few before last = grind (arith, decimal, append_assoc, decimal_digit, decimal_step)

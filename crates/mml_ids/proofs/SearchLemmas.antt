@@ -1,6 +1,6 @@
 -- What searches below a number and in a list find.
-use Rattle.std.proofs.Common.{◌≡◌, ℕ, zero, suc, ◌+◌, ◌-◌, ◌<◌, ◌≤◌, Option, Some, None, Bool, true, false, cond, ◌||◌, ◌⊎◌, inl, inr, List, length, get_or}
-use Rattle.std.proofs.Common.{nat_lt, refl, sym, ap, ◌∙◌, subst, arith}
+use Rattle.std.proofs.Common.{◌≡◌, ℕ, zero, suc, ◌+◌, ◌-◌, ◌<◌, ◌≤◌, Option, Some, None, Bool, true, false, cond, List, length, get_or}
+use Rattle.std.proofs.Common.{nat_lt, refl, sym, ap, ◌∙◌, arith}
 use Rattle.std.specs.List.{position, position_or_len}
 use Rattle.std.proofs.lemmas.List.Sums.{position_or_len_is, fails_before_first}
 use Rattle.std.proofs.lemmas.Bool.{or_cases, or_left, or_right, or_parts, false≢true, cases_order, cases_Bool, lt-ltb, le-ltb, ltb-false, both_ways}
@@ -12,29 +12,15 @@ one_step test s n b e = ap (λ t. cond t (Some s) (first_from test (s + 1) n)) e
 
 none_from : (test : ℕ → Bool) (s n i : ℕ) → first_from test s n ≡ None → s ≤ i → i < s + n → test i ≡ false
 none_from test s zero i none le lt = absurd (omega arith)
-none_from test s (suc n) i none le lt = by (none_from test (s + 1) n i) (test s) refl (cases_order s i)
-  where
-    by : (first_from test (s + 1) n ≡ None → s + 1 ≤ i → i < s + 1 + n → test i ≡ false) → (b : Bool) → test s ≡ b → (s ≡ i) ⊎ ((s < i) ⊎ (i < s))
-        → test i ≡ false
-    by further true e at = let found : Some s ≡ None = sym (one_step test s n true e) ∙ none in absurd cc
-    by further false e (inl same) = ap test (sym same) ∙ e
-    by further false e (inr (inl before)) = further (sym (one_step test s n false e) ∙ none) (omega arith) (omega arith)
-    by further false e (inr (inr after)) = absurd (omega arith)
+none_from test s (suc n) i none le lt = grind (arith, cases_order, one_step, none_from test (s + 1) n i)
 
 from_none : (test : ℕ → Bool) (s n : ℕ) → ((i : ℕ) → s ≤ i → i < s + n → test i ≡ false) → first_from test s n ≡ None
 from_none test s zero nowhere = refl
-from_none test s (suc n) nowhere =
-    one_step test s n false (nowhere s (omega arith) (omega arith)) ∙ from_none test (s + 1) n (λ i le lt. nowhere i (omega arith) (omega arith))
+from_none test s (suc n) nowhere = grind (arith, one_step, from_none test (s + 1) n)
 
 from_first : (test : ℕ → Bool) (s n k : ℕ) → s ≤ k → k < s + n → test k ≡ true → ((i : ℕ) → s ≤ i → i < k → test i ≡ false) → first_from test s n ≡ Some k
 from_first test s zero k le lt here before = absurd (omega arith)
-from_first test s (suc n) k le lt here before =
-    by (λ le' lt'. from_first test (s + 1) n k le' lt' here (λ i from to. before i (omega arith) to)) (cases_order s k)
-  where
-    by : (s + 1 ≤ k → k < s + 1 + n → first_from test (s + 1) n ≡ Some k) → (s ≡ k) ⊎ ((s < k) ⊎ (k < s)) → first_from test s (suc n) ≡ Some k
-    by further (inl same) = one_step test s n true (ap test same ∙ here) ∙ ap Some same
-    by further (inr (inl later)) = one_step test s n false (before s (omega arith) later) ∙ further (omega arith) (omega arith)
-    by further (inr (inr earlier)) = absurd (omega arith)
+from_first test s (suc n) k le lt here before = grind (arith, cases_order, one_step, from_first test (s + 1) n k)
 
 -- the test is true at k, which is below n, and false at all before
 pub record IsFirst (test : ℕ → Bool) (s n k : ℕ) : Type 0 where
@@ -45,23 +31,7 @@ pub record IsFirst (test : ℕ → Bool) (s n k : ℕ) : Type 0 where
 
 first_of : (test : ℕ → Bool) (s n k : ℕ) → first_from test s n ≡ Some k → IsFirst test s n k
 first_of test s zero k found = absurd cc
-first_of test s (suc n) k found = by (first_of test (s + 1) n k) (test s) refl
-  where
-    by : (first_from test (s + 1) n ≡ Some k → IsFirst test (s + 1) n k) → (b : Bool) → test s ≡ b → IsFirst test s (suc n) k
-    by further true e =
-        let here : Some s ≡ Some k = sym (one_step test s n true e) ∙ found in
-        let same : s ≡ k = cc in
-        record { from = omega arith; within = omega arith; here = ap test (sym same) ∙ e; before = λ i le lt. absurd (omega arith) }
-    by further false e =
-        let rest = further (sym (one_step test s n false e) ∙ found) in
-        let after = rest.from in
-        let within = rest.within in
-        record { from = omega arith; within = omega arith; here = rest.here; before = λ i le lt. earlier rest i le lt (cases_order s i) }
-      where
-        earlier : IsFirst test (s + 1) n k → (i : ℕ) → s ≤ i → i < k → (s ≡ i) ⊎ ((s < i) ⊎ (i < s)) → test i ≡ false
-        earlier rest i le lt (inl same) = ap test (sym same) ∙ e
-        earlier rest i le lt (inr (inl after)) = rest.before i (omega arith) lt
-        earlier rest i le lt (inr (inr no_such)) = absurd (omega arith)
+first_of test s (suc n) k found = grind (arith, one_step, cases_order, first_of test (s + 1) n k)
 
 -- the first number that passes is below n, passes, and no number before it does
 pub first-is : (test : ℕ → Bool) (n k : ℕ) → first_below test n ≡ Some k → (k < n) × (test k ≡ true) × ((i : ℕ) → i < k → test i ≡ false)
@@ -104,133 +74,64 @@ position-none p xs d nowhere =
 -- the place of an element that passes, where none before it does
 pub position-at : {X : Type 0} (p : X → Bool) (xs : List X) (i : ℕ) (d : X) → i < length xs → p (get_or xs i d) ≡ true
     → ((k : ℕ) → k < i → p (get_or xs k d) ≡ false) → position p xs ≡ Some i
-position-at p xs i d lt here before =
-    let e : position_or_len p xs ≡ i = position_or_len_is p xs i d (omega arith) before (λ _. here) in
-    rw (e, lt-ltb i (length xs) lt)
+position-at p xs i d lt here before = grind (arith, position_or_len_is, lt-ltb)
 
 -- where no place is named, no element passes
 pub position-None : {X : Type 0} (p : X → Bool) (xs : List X) (d : X) → position p xs ≡ None → (k : ℕ) → k < length xs → p (get_or xs k d) ≡ false
-position-None p xs d none k lt = fails_before_first p xs k d (past (nat_lt (position_or_len p xs) (length xs)) refl none)
-  where
-    past : (b : Bool) → nat_lt (position_or_len p xs) (length xs) ≡ b → cond b (Some (position_or_len p xs)) None ≡ None → k < position_or_len p xs
-    past true is none = absurd cc
-    past false is none = let end : length xs ≤ position_or_len p xs = ltb-false _ _ is in omega arith
+position-None p xs d none k lt = grind (arith, fails_before_first, nat_lt, ltb-false)
 
 -- the one place at which the test is true
 pub position-only : {X : Type 0} (p : X → Bool) (xs : List X) (i : ℕ) (d : X) → i < length xs → p (get_or xs i d) ≡ true
     → ((k : ℕ) → k < length xs → p (get_or xs k d) ≡ true → k ≡ i) → position p xs ≡ Some i
-position-only p xs i d lt here only = position-at p xs i d lt here (λ k before. not_yet k before (cases_Bool (p (get_or xs k d))))
-  where
-    not_yet : (k : ℕ) → k < i → (p (get_or xs k d) ≡ true) ⊎ (p (get_or xs k d) ≡ false) → p (get_or xs k d) ≡ false
-    not_yet k before (inl yet) = let same : k ≡ i = only k (omega arith) yet in absurd (omega arith)
-    not_yet k before (inr not_here) = not_here
+position-only p xs i d lt here only = grind (arith, position-at, cases_Bool)
 
 -- two tests that are each true where the other is are the same
 pub same_bool : (a b : Bool) → (a ≡ true → b ≡ true) → (b ≡ true → a ≡ true) → a ≡ b
-same_bool true b h k = sym (h refl)
-same_bool false true h k = k refl
-same_bool false false h k = refl
+same_bool a b h k = grind arith
 
 -- where the test is true of some number below n, there is one to name
 pub some_below-find : (n : ℕ) (t : ℕ → Bool) → some_below n t ≡ true → (k : ℕ) × (k < n) × (t k ≡ true)
 some_below-find zero t h = absurd (false≢true h)
-some_below-find (suc n) t h = elim (or_cases (t n) (some_below n t) h) [
-  | inl e ↦ (n, omega arith, e)
-  | inr e ↦ let r = some_below-find n t e in (r.0, omega arith, r.2)
-]
+some_below-find (suc n) t h = grind (arith, or_cases, some_below-find n t)
 
 -- where a number below n passes, some does
 pub some_below-at : (n k : ℕ) (t : ℕ → Bool) → k < n → t k ≡ true → some_below n t ≡ true
 some_below-at zero k t l h = absurd (omega arith)
-some_below-at (suc n) k t l h = elim (cases_order k n) [
-  | inl e ↦ or_left (t n) (some_below n t) (subst (λ x. t x ≡ true) e h)
-  | inr s ↦ elim s [
-    | inl lt ↦ or_right (t n) (some_below n t) (some_below-at n k t lt h)
-    | inr gt ↦ absurd (omega arith)
-  ]
-]
+some_below-at (suc n) k t l h = grind (arith, cases_order, or_left, or_right, some_below-at n k t)
 
 -- where the test is true of no number below n, each one fails it
 pub some_below-none : (n k : ℕ) (t : ℕ → Bool) → some_below n t ≡ false → k < n → t k ≡ false
 some_below-none zero k t h l = absurd (omega arith)
-some_below-none (suc n) k t h l = elim (cases_order k n) [
-  | inl e ↦ subst (λ x. t x ≡ false) (sym e) (or_parts (t n) (some_below n t) h).0
-  | inr s ↦ elim s [
-    | inl lt ↦ some_below-none n k t (or_parts (t n) (some_below n t) h).1 lt
-    | inr gt ↦ absurd (omega arith)
-  ]
-]
+some_below-none (suc n) k t h l = grind (arith, cases_order, or_parts, some_below-none n k t)
 
 -- two tests that agree below n are both true of some number there, or neither is
 pub some_below_same : (n : ℕ) (t u : ℕ → Bool) → ((k : ℕ) → k < n → t k ≡ u k) → some_below n t ≡ some_below n u
 some_below_same zero t u h = refl
-some_below_same (suc n) t u h =
-    ap (λ b. b || some_below n t) (h n (omega arith)) ∙ ap (λ b. u n || b) (some_below_same n t u (λ k l. h k (omega arith)))
+some_below_same (suc n) t u h = grind (arith, some_below_same n t u)
 
 -- the greatest number that passes is below n and passes
 pub greatest_below-some : (n j : ℕ) (t : ℕ → Bool) → greatest_below n t ≡ Some j → (j < n) × (t j ≡ true)
 greatest_below-some zero j t h = cc
-greatest_below-some (suc n) j t h = go (greatest_below-some n j t) (t n) refl
-  where
-    go : (greatest_below n t ≡ Some j → (j < n) × (t j ≡ true)) → (b : Bool) → t n ≡ b → (j < suc n) × (t j ≡ true)
-    go _ true e =
-        let same : Some n ≡ Some j = sym (ap (λ b. cond b (Some n) (greatest_below n t)) e) ∙ h in
-        let is : n ≡ j = cc in
-        (omega arith, subst (λ x. t x ≡ true) is e)
-    go lower false e =
-        let below : greatest_below n t ≡ Some j = sym (ap (λ b. cond b (Some n) (greatest_below n t)) e) ∙ h in
-        let r = lower below in
-        (omega arith, r.1)
+greatest_below-some (suc n) j t h = grind (arith, greatest_below-some n j t)
 
 -- where there is no greatest number that passes, none below n passes
 pub greatest_below-none : (n k : ℕ) (t : ℕ → Bool) → greatest_below n t ≡ None → k < n → t k ≡ false
 greatest_below-none zero k t h l = absurd (omega arith)
-greatest_below-none (suc n) k t h l = go (greatest_below-none n k t) (t n) refl
-  where
-    go : (greatest_below n t ≡ None → k < n → t k ≡ false) → (b : Bool) → t n ≡ b → t k ≡ false
-    go _ true e =
-        let same : Some n ≡ None = sym (ap (λ b. cond b (Some n) (greatest_below n t)) e) ∙ h in cc
-    go lower false e =
-        let below : greatest_below n t ≡ None = sym (ap (λ b. cond b (Some n) (greatest_below n t)) e) ∙ h in
-        elim (cases_order k n) [
-          | inl s ↦ subst (λ x. t x ≡ false) (sym s) e
-          | inr s ↦ elim s [
-            | inl lt ↦ lower below lt
-            | inr gt ↦ absurd (omega arith)
-          ]
-        ]
+greatest_below-none (suc n) k t h l = grind (arith, cases_order, greatest_below-none n k t)
 
 pub greatest_below_same : (n : ℕ) (t u : ℕ → Bool) → ((k : ℕ) → k < n → t k ≡ u k) → greatest_below n t ≡ greatest_below n u
 greatest_below_same zero t u h = refl
-greatest_below_same (suc n) t u h =
-    ap (λ b. cond b (Some n) (greatest_below n t)) (h n (omega arith)) ∙ ap (cond (u n) (Some n)) (greatest_below_same n t u (λ k l. h k (omega arith)))
+greatest_below_same (suc n) t u h = grind (arith, greatest_below_same n t u)
 
 -- a number below n that passes, where none above it does, is the greatest
 pub greatest_is : (n j : ℕ) (t : ℕ → Bool) → j < n → t j ≡ true → ((k : ℕ) → j < k → k < n → t k ≡ false) → greatest_below n t ≡ Some j
 greatest_is zero j t l h above = absurd (omega arith)
-greatest_is (suc n) j t l h above = elim (cases_order j n) [
-  | inl e ↦ ap (λ b. cond b (Some n) (greatest_below n t)) (sym (ap t e) ∙ h) ∙ ap Some (sym e)
-  | inr o ↦ elim o [
-    | inl lt ↦ ap (λ b. cond b (Some n) (greatest_below n t)) (above n lt (omega arith)) ∙ greatest_is n j t lt h (λ k p q. above k p (omega arith))
-    | inr gt ↦ absurd (omega arith)
-  ]
-]
+greatest_is (suc n) j t l h above = grind (arith, cases_order, greatest_is n j t)
 
 -- no number above the greatest passes
 pub greatest_above : (n j k : ℕ) (t : ℕ → Bool) → greatest_below n t ≡ Some j → j < k → k < n → t k ≡ false
 greatest_above zero j k t h l q = absurd (omega arith)
-greatest_above (suc n) j k t h l q = go (greatest_above n j k t) (t n) refl
-  where
-    go : (greatest_below n t ≡ Some j → j < k → k < n → t k ≡ false) → (b : Bool) → t n ≡ b → t k ≡ false
-    go lower true e =
-        let same : Some n ≡ Some j = sym (ap (λ b. cond b (Some n) (greatest_below n t)) e) ∙ h in
-        let is : n ≡ j = cc in absurd (omega arith)
-    go lower false e =
-        let below : greatest_below n t ≡ Some j = sym (ap (λ b. cond b (Some n) (greatest_below n t)) e) ∙ h in
-        elim (cases_order k n) [
-          | inl s ↦ subst (λ x. t x ≡ false) (sym s) e
-          | inr o ↦ elim o [ inl lt ↦ lower below l lt | inr gt ↦ absurd (omega arith) ]
-        ]
+greatest_above (suc n) j k t h l q = grind (arith, cases_order, greatest_above n j k t)
 
 -- one search, with two bounds above all that it could find
 pub some_below_alike : (n m : ℕ) (t u : ℕ → Bool) → ((k : ℕ) → t k ≡ u k) → ((k : ℕ) → t k ≡ true → k < n) → ((k : ℕ) → u k ≡ true → k < m)

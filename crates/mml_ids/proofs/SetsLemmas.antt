@@ -1,6 +1,6 @@
 -- Sets of ranks: their ranks in rising order, one after the other, and a set without one of its ranks.
 use Rattle.std.proofs.Common.{◌≡◌, ◌≢◌, ℕ, zero, suc, ◌+◌, ◌<◌, ◌≤◌, Bool, true, false, cond, eqb, not, ◌&&◌, ◌||◌, List, [], ◌∷◌, ◌++◌, map, filter, sym, refl}
-use Rattle.std.proofs.Common.{ap, ◌∙◌, arith, inl, inr, append-nil, append_assoc, zero-add}
+use Rattle.std.proofs.Common.{ap, ◌∙◌, arith, append-nil, append_assoc, zero-add}
 use Rattle.std.proofs.lemmas.Bool.{cases_eq, eq-eqb, ne_eqb, false_from_ne_true}
 use Rattle.std.specs.List.{range_with_len}
 use Rattle.std.proofs.lemmas.List.{map-append}
@@ -18,25 +18,13 @@ ranks_in n s = filter (sets.contains s) (range_with_len 0 n)
 
 same_from : (t u : ℕ → Bool) (k n : ℕ) → ((q : ℕ) → k ≤ q → t q ≡ u q) → filter t (range_with_len k n) ≡ filter u (range_with_len k n)
 same_from t u k zero h = refl
-same_from t u k (suc n) h =
-    ap (λ b. cond b (k ∷ filter t (range_with_len (k + 1) n)) (filter t (range_with_len (k + 1) n))) (h k (omega arith))
-    ∙ ap (λ xs. cond (u k) (k ∷ xs) xs) (same_from t u (k + 1) n (λ q l. h q (omega arith)))
+same_from t u k (suc n) h = grind (arith, same_from t u (k + 1) n)
 
 -- the first that passes comes first, and then what passes without it
 first_passes : (t u : ℕ → Bool) (k n a : ℕ) → k ≤ a → a < k + n → t a ≡ true → u a ≡ false → ((q : ℕ) → q ≢ a → t q ≡ u q) → ((q : ℕ) → q < a → t q ≡ false)
     → filter t (range_with_len k n) ≡ a ∷ filter u (range_with_len k n)
 first_passes t u k zero a from below here gone others before = absurd (omega arith)
-first_passes t u k (suc n) a from below here gone others before = elim (cases_eq k a) [
-  | inl e ↦
-      ap (λ b. cond b (k ∷ filter t (range_with_len (k + 1) n)) (filter t (range_with_len (k + 1) n))) (ap t e ∙ here)
-      ∙ (λ i. e i ∷ same_from t u (k + 1) n (λ q l. others q (λ same. omega arith)) i)
-      ∙ sym (ap (λ b. a ∷ cond b (k ∷ filter u (range_with_len (k + 1) n)) (filter u (range_with_len (k + 1) n))) (ap u e ∙ gone))
-  | inr ne ↦
-      let early : t k ≡ false = before k (omega arith) in
-      ap (λ b. cond b (k ∷ filter t (range_with_len (k + 1) n)) (filter t (range_with_len (k + 1) n))) early
-      ∙ first_passes t u (k + 1) n a (omega arith) (omega arith) here gone others before
-      ∙ sym (ap (λ b. a ∷ cond b (k ∷ filter u (range_with_len (k + 1) n)) (filter u (range_with_len (k + 1) n))) (sym (others k ne) ∙ early))
-]
+first_passes t u k (suc n) a from below here gone others before = grind (arith, cases_eq, same_from, first_passes t u (k + 1) n a)
 
 -- the least rank comes first, and then those of the set without it
 pub least_first : (n : ℕ) (s rest : FinSet nat_cmp) (a : ℕ) → sets.contains s a ≡ true → ((q : ℕ) → sets.contains s q ≡ true → a ≤ q) → a < n
@@ -62,9 +50,7 @@ no_ranks n s e = same_from (sets.contains s) (λ q. false) 0 n (λ q l. ap (λ r
 pub one_put : {X : Type 0} (f : ℕ → X) (n : ℕ) (left rest : FinSet nat_cmp) (a : ℕ) (held pushed whole : List X) → sets.contains left a ≡ true
     → ((q : ℕ) → sets.contains left q ≡ true → a ≤ q) → a < n → rest ≡ sets.remove left a
     → pushed ≡ held ++ f a ∷ [] → held ++ map f (ranks_in n left) ≡ whole → pushed ++ map f (ranks_in n rest) ≡ whole
-one_put f n left rest a held pushed whole there least below removed put so_far =
-    ap (λ xs. xs ++ map f (ranks_in n rest)) put ∙ append_assoc held (f a ∷ []) (map f (ranks_in n rest))
-    ∙ sym (ap (λ xs. held ++ map f xs) (least_first n left rest a there least below removed)) ∙ so_far
+one_put f n left rest a held pushed whole there least below removed put so_far = grind (arith, append_assoc, least_first)
 
 -- once no rank is left, what was put is the whole
 pub all_put : {X : Type 0} (f : ℕ → X) (n : ℕ) (left : FinSet nat_cmp) (held whole : List X) → left ≡ sets.empty
@@ -88,9 +74,7 @@ passing t f n = map f (filter t (range_with_len 0 n))
 
 -- one number more below n adds what is made of n, where n passes, at the end
 pub passing_more : {X : Type 0} (t : ℕ → Bool) (f : ℕ → X) (n : ℕ) → passing t f (n + 1) ≡ passing t f n ++ map f (cond (t n) (n ∷ []) [])
-passing_more t f n =
-    ap (λ xs. map f (filter t xs)) (range_more n) ∙ ap (map f) (filter-append t (range_with_len 0 n) (n ∷ []))
-    ∙ map-append f (filter t (range_with_len 0 n)) (cond (t n) (n ∷ []) [])
+passing_more t f n = grind (arith, range_more, filter-append, map-append)
 
 -- ---- a set without one of its ranks
 
@@ -103,7 +87,4 @@ len-remove_one s a h =
     ∙ ap (λ b. cond b (sets.len (sets.remove s a)) (sets.len (sets.remove s a) + 1)) (has_remove s a a ∙ ap (λ b. not b && sets.contains s a) (eq-eqb a a refl))
   where
     back : (q : ℕ) → (eqb q a || (not (eqb q a) && sets.contains s q)) ≡ sets.contains s q
-    back q = elim (cases_eq q a) [
-      | inl e ↦ rw (e, eq-eqb a a refl) (sym h)
-      | inr ne ↦ rw (ne_eqb q a ne) refl
-    ]
+    back q = grind (arith, cases_eq, eq-eqb, ne_eqb)

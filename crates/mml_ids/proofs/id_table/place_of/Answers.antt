@@ -1,4 +1,4 @@
-use Rattle.std.proofs.Common.{◌≡◌, ◌≤◌, ◌<◌, ◌∙◌, ℕ, List, length, get_or, ◌==◌, Some, None, Ok, Err, sym, ap, inl, inr, arith}
+use Rattle.std.proofs.Common.{◌≡◌, ◌≤◌, ◌<◌, ◌∙◌, ℕ, List, length, get_or, ◌==◌, Some, None, Ok, Err, sym, inl, inr, arith}
 use Rattle.std.specs.Ordering.{nat_cmp}
 use Rattle.std.specs.List.Sorted.{IsBinarySearchResult}
 use Rattle.std.proofs.lemmas.Bool.{cases_eq, cases_lt, ne_eqb}
@@ -10,10 +10,7 @@ use Rattle.mml_ids.proofs.SearchLemmas.{position-none}
 use Rattle.mml_ids.proofs.id_table.place_of.Goals as goal
 
 rises : (ids : List ℕ) → IsTable ids → (i j : ℕ) → i ≤ j → j < length ids → get_or ids i 0 ≤ get_or ids j 0
-rises ids table i j le lt = elim (cases_eq i j) [
-  | inl same ↦ omega (arith, ap (λ k. get_or ids k 0) same)
-  | inr other ↦ let up = table.rising i j (omega arith) lt in omega arith
-]
+rises ids table i j le lt = grind (arith, cases_eq)
 
 here : (ids : List ℕ) (id i : ℕ) → IsTable ids → IsBinarySearchResult (λ y. nat_cmp y id) ids (Ok i) → (i < length ids) × (rank_in ids id ≡ Some i)
 here ids id i table found =

@@ -1,4 +1,4 @@
-use Rattle.std.proofs.Common.{◌+◌, ◌*◌, ◌%◌, ◌-◌, ◌^◌, ◌<◌, ltb, ◌∙◌, sym, ap, arith}
+use Rattle.std.proofs.Common.{◌+◌, ◌*◌, ◌-◌, ◌^◌, ◌<◌, ◌∙◌, sym, arith}
 use Rattle.std.specs.Int.{bit_at}
 use Rattle.std.proofs.lemmas.Bool.{lt-ltb, eq-eqb}
 use Rattle.std.proofs.lemmas.Nat.Bits.{bit_at_ones}
@@ -6,11 +6,7 @@ use Rattle.mml_ids.proofs.NodeSetLemmas.{bit-ones_above, ltb_within}
 use Rattle.mml_ids.proofs.node_set.word_above.Goals as goal
 
 pub returns-then-place-index-2 : goal.returns-then-place-index-2
-returns-then-place-index-2 c = λ k l.
-    let index = c.index-index.result in
-    bit-ones_above (index % 64) k (omega arith) l
-    ∙ ltb_within index c.args.place k (sym c.if-place-index-2.true)
-    ∙ ap (λ r. ltb r (64 * c.args.place + k)) c.index-index.ensures.value
+returns-then-place-index-2 c = grind (arith, bit-ones_above, ltb_within)
 
 pub returns-else-place-index-2 : goal.returns-else-place-index-2
 returns-else-place-index-2 c = λ k l.

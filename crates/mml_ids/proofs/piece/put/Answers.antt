@@ -1,4 +1,4 @@
-use Rattle.std.proofs.Common.{rules, arith, length, ap}
+use Rattle.std.proofs.Common.{arith}
 use Rattle.mml_ids.proofs.PiecesLemmas.{joined-more, room_of-more, fills_all}
 use Rattle.mml_ids.proofs.piece.put.Goals as goal
 
@@ -17,18 +17,4 @@ loop-whole-init c =
     }
 
 pub loop-whole-preserved : goal.loop-whole-preserved
-loop-whole-preserved c =
-    let f = c.put_reserved-whole-in-loop-whole.ensures.pieces in
-    let same = c.in_ok-reserve.ensures.items in
-    let n = c.loop-whole.whole in
-    let m = c.put_reserved-whole-in-loop-whole.result in
-    let room = room_of-more c.args.pieces.now _ n m c.split_at.ensures.back in
-    record {
-      bound = omega (arith, f.bound, c.split_at.ensures.back_len);
-      text =
-          joined-more c.args.out.now.items c.loop-whole.out.items _ c.put_reserved-whole-in-loop-whole.new.out.items c.args.pieces.now _ n m
-          c.loop-whole.invariant.text same c.split_at.ensures.back f.text;
-      grows = omega (arith, f.grows, c.loop-whole.invariant.grows, ap length same);
-      capacity = search rules;
-      kept = λ fits. absurd (omega (arith, (c.loop-whole.invariant.kept fits).0, c.loop-whole-test.true));
-    }
+loop-whole-preserved c = grind (arith, room_of-more, joined-more)

@@ -18,14 +18,4 @@ loop-whole-preserved c =
     }
 
 pub returns-clause-pieces : goal.returns-clause-pieces
-returns-clause-pieces c = record {
-  bound = c.loop-whole.invariant.bound;
-  text = c.loop-whole.invariant.text;
-  grows = c.loop-whole.invariant.grows;
-  next = λ short. elim c.loop-whole-test.branch [
-    | else-loop-whole-test w ↦ search rules
-    | then-loop-whole-test+then-capacity-len w ↦
-        let one = room_of-one c.args.pieces.now c.loop-whole.whole w.index-pieces-whole.result w.index-pieces-whole.is short in
-        search rules
-  ];
-}
+returns-clause-pieces c = grind (arith, else-loop-whole-test, then-loop-whole-test+then-capacity-len, room_of-one)

@@ -1,14 +1,10 @@
-use Rattle.std.proofs.Common.{◌≡◌, ℕ, ◌≤◌, ◌+◌, ◌*◌, true, ◌∙◌, ap, sym, subst, arith}
+use Rattle.std.proofs.Common.{◌≤◌, ◌∙◌, ap, sym, subst, arith}
 use Rattle.std.specs.FinSet as sets
 use Rattle.mml_ids.proofs.NodeSetLemmas.{none_of_zeros, has-one, none_below_lowest}
 use Rattle.mml_ids.proofs.node_set.NodeSet.least.Goals as goal
 
 pub returns-in-Some-clause-member : goal.returns-in-Some-clause-member
-returns-in-Some-clause-member c =
-    let word : ℕ = c.loop-word.word in
-    subst (λ r. sets.contains c.args.self r ≡ true) (sym c.at.ensures)
-    (ap (λ s. sets.contains s (64 * word + c.in-Some.place)) (sym c.self.view_is)
-    ∙ has-one 256 c.self.inside.words word c.in-Some.place (omega (arith, c.in-Some.ensures.within)) c.in-Some.ensures.within c.in-Some.ensures.one)
+returns-in-Some-clause-member c = grind (arith, has-one)
 
 pub returns-in-Some-clause-least : goal.returns-in-Some-clause-least
 returns-in-Some-clause-least c = λ q there.

@@ -1,4 +1,4 @@
-use Rattle.std.proofs.Common.{ℕ, List, ◌*◌, ◌/◌, ◌%◌, ◌^◌, ◌<◌, ◌≤◌, ◌∙◌, ap, w64, bit_and, arith, get_or, set, length}
+use Rattle.std.proofs.Common.{ℕ, List, ◌*◌, ◌/◌, ◌%◌, ◌^◌, ◌<◌, ◌∙◌, ap, w64, bit_and, arith, get_or, set, length}
 use Rattle.std.proofs.lemmas.Nat.{and_le_l}
 use Rattle.std.proofs.lemmas.Nat.Bits.{bit_at_clear_same, bit_at_clear_other}
 use Rattle.std.specs.Int.{bit_not}
@@ -6,14 +6,10 @@ use Rattle.std.specs.FinSet as sets
 use Rattle.mml_ids.specs.inside.Words.{set_of}
 use Rattle.mml_ids.specs.inside.WordsLemmas.{set_of-clear, put_words}
 use Rattle.mml_ids.proofs.node_set.NodeSet.take_out.Goals as goal
+use Rattle.std.proofs.lemmas.Grind.{common_steps}
 
 pub invariant_of-self : goal.invariant_of-self
-invariant_of-self c =
-    let word : ℕ = get_or c.self.inside.words c.word_place-place.result 0 in
-    let mask : ℕ = bit_not w64 (1 * 2 ^ (c.index.result % 64) % 2 ^ 64) in
-    let before : word < 2 ^ 64 = c.self.invariant.each c.word_place-place.result c.word_place-place.ensures.within in
-    let less : bit_and word mask ≤ word = and_le_l word mask in
-    put_words 4 c.self.inside.words c.word_place-place.result _ c.self.invariant c.word_place-place.ensures.within (omega arith)
+invariant_of-self c = grind (arith, common_steps, and_le_l, put_words)
 
 pub returns : goal.returns
 returns c =
