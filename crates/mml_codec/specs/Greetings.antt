@@ -11,6 +11,9 @@ use Rattle.mml_codec.specs.declared.request.Request.TheVariants as requests
 use Rattle.mml_codec.specs.declared.reply.Refused.{Refused}
 use Rattle.mml_codec.specs.declared.reply.Refused.TheVariants as refused
 use Rattle.mml_codec.specs.declared.reply.Reply.TheVariants as replies
+use Rattle.mml_codec.specs.declared.reply.Reply.{Reply}
+use Rattle.mml_codec.specs.declared.greeting.Greeted.{Greeted}
+use Rattle.mml_codec.specs.declared.greeting.Greeted.TheVariants as greeted
 use Rattle.mml_codec.specs.declared.greeting.Greeting.{Greeting}
 use Rattle.mml_codec.specs.declared.greeting.Greeting.TheVariants.{Answered, LeftToJudge}
 use Rattle.mml_codec.specs.Replies.{IsAbout}
@@ -36,6 +39,11 @@ greeting roster (Some who) (requests.Hello name key) = denied denial.Greeted (So
 greeting roster known requests.Bye = Answered replies.Bye None
 greeting roster None (requests.Do c) = denied denial.NotGreeted None
 greeting roster (Some who) (requests.Do c) = LeftToJudge who c
+
+-- the same where the reply stands apart; none is told where a command is left to judge
+abbrev pub greeting_with : Greeted → Reply → Greeting
+greeting_with (greeted.Known known) r = Answered r known
+greeting_with (greeted.LeftToJudge who c) r = LeftToJudge who c
 
 -- who is named, and who is known from then on, takes part in the lab
 abbrev pub TakesPart : RosterValue → Greeting → Type 0

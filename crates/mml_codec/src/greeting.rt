@@ -1,6 +1,6 @@
 ghost use Rattle.std.specs.Prelude.{◌≡◌, IfSome};
 ghost use Rattle.mml_lab.specs.Rosters.{IsPrincipal};
-ghost use Rattle.mml_codec.specs.Greetings.{denied, admitted, greeting, TakesPart};
+ghost use Rattle.mml_codec.specs.Greetings.{denied, admitted, greeting, greeting_with, TakesPart};
 
 use crate::reply::Reply;
 use crate::request::Request;
@@ -12,6 +12,15 @@ use mml_policy::{Command, Denial};
 pub enum Greeting {
     /// A reply, and who the connection is known as from then on.
     Answered { reply: Reply, known: Option<Who> },
+    /// A command of the one that the connection is known as, which is left to judge.
+    LeftToJudge { who: Who, command: Command },
+}
+
+/// What comes of a request on a connection, beside the reply to it.
+#[derive(Clone, Copy, Debug)]
+pub enum Greeted {
+    /// It is answered, and this is who the connection is known as from then on.
+    Known(Option<Who>),
     /// A command of the one that the connection is known as, which is left to judge.
     LeftToJudge { who: Who, command: Command },
 }
@@ -57,4 +66,52 @@ fn denied(denial: Denial, known: Option<Who>) -> Greeting
         reply: Reply::Deny(denial),
         known,
     }
+}
+
+/// As `greet`, of a request that is lent, with the reply put where it stays: both are large to hand on.
+pub fn greet_into(
+    roster: &Roster,
+    known: Option<Who>,
+    request: &Request,
+    reply: &mut Reply,
+) -> Greeted
+    requires { IfSome known (IsPrincipal roster.now) }
+    ensures greeting { greeting_with result reply.new ≡ greeting roster.now known request.now }
+    ensures about { TakesPart roster.now (greeting_with result reply.new) }
+{
+    match (known, request) {
+        (None, Request::Hello { name, key }) => {
+            admit_into(roster.hello(name.as_str(), key.as_str()), reply)
+        }
+        (Some(who), Request::Hello { .. }) => deny_into(Denial::Greeted, Some(who), reply),
+        (_, Request::Bye) => {
+            *reply = Reply::Bye;
+            Greeted::Known(None)
+        }
+        (None, Request::Do(_)) => deny_into(Denial::NotGreeted, None, reply),
+        (Some(who), Request::Do(command)) => Greeted::LeftToJudge {
+            who,
+            command: *command,
+        },
+    }
+}
+
+fn admit_into(found: Option<Who>, reply: &mut Reply) -> Greeted
+    ensures { greeting_with result reply.new ≡ admitted found }
+{
+    match found {
+        Some(who) => {
+            let who = &who;
+            *reply = Reply::Hello(*who);
+            Greeted::Known(Some(*who))
+        }
+        None => deny_into(Denial::Unknown, None, reply),
+    }
+}
+
+fn deny_into(denial: Denial, known: Option<Who>, reply: &mut Reply) -> Greeted
+    ensures { greeting_with result reply.new ≡ denied denial known }
+{
+    *reply = Reply::Deny(denial);
+    Greeted::Known(known)
 }

@@ -13,7 +13,7 @@ mod request_reading;
 mod request_writing;
 mod ruling_reply;
 
-pub use greeting::{Greeting, greet};
+pub use greeting::{Greeted, Greeting, greet, greet_into};
 pub use mml_plain::LineScratch;
 pub use reply::{FULL_LINE, JOURNAL_LINE, MALFORMED_LINE, MEMORY_LINE, REPLY_ROOM, Refused, Reply};
 pub use reply_writing::{append_reply, tell_reply, write_reply};

@@ -1,5 +1,5 @@
 //! Lists of what a reply tells of nodes.
-ghost use Rattle.std.specs.Prelude.{codes, ◌+◌, ◌≡◌, ◌≤◌, ◌<◌, ◌++◌, ℕ, List, All, length, map, OnOk, vec_capacity};
+ghost use Rattle.std.specs.Prelude.{codes, ◌+◌, ◌≡◌, ◌≤◌, ◌<◌, ◌++◌, ℕ, List, All, length, map, OnOk, IfOk, MatchResult, vec_capacity};
 ghost use Rattle.mml_policy.specs.About.{IsNear};
 ghost use Rattle.mml_stable.specs.Reports.{IsPairOf, IsOpenLinkOf};
 ghost use Rattle.mml_ids.specs.Pieces.{truth_text};
@@ -41,14 +41,49 @@ pub(crate) fn put_list<T: Listed>(
         (out.new.items ≡ out.old.items ++ separated (map (T.text ids.now) items.now)) }
     ensures capacity { vec_capacity out.old ≤ vec_capacity out.new }
 {
+    let mut line = taken(out);
     let mut later = false;
     for item in items {
-        make_room(out, ITEM_ROOM)?;
-        let line = with_comma(taken(out), later);
-        *out = item.with_item(line, ids);
+        match with_room(line) {
+            Ok(roomy) => line = item.with_item(with_comma(roomy, later), ids),
+            Err(full) => {
+                *out = full;
+                return Err(Memory);
+            }
+        }
         later = true;
     }
+    *out = line;
     Ok(())
+}
+
+// The line with room for one more, or as it was where there is no memory for that. It comes by value,
+// so that its length can stay in a register.
+#[inline(always)]
+fn with_room(line: Vec<u8>) -> Result<Vec<u8>, Vec<u8>>
+    ensures same { MatchResult result (λ l. l.items ≡ line.items) (λ l. l.items ≡ line.items) }
+    ensures room { IfOk result (λ l. length l.items + ITEM_ROOM ≤ vec_capacity l) }
+    ensures capacity { MatchResult result (λ l. vec_capacity line ≤ vec_capacity l)
+        (λ l. vec_capacity line ≤ vec_capacity l) }
+{
+    if line.capacity() - line.len() < ITEM_ROOM {
+        return grown(line);
+    }
+    Ok(line)
+}
+
+#[inline(never)]
+fn grown(line: Vec<u8>) -> Result<Vec<u8>, Vec<u8>>
+    ensures same { MatchResult result (λ l. l.items ≡ line.items) (λ l. l.items ≡ line.items) }
+    ensures room { IfOk result (λ l. length l.items + ITEM_ROOM ≤ vec_capacity l) }
+    ensures capacity { MatchResult result (λ l. vec_capacity line ≤ vec_capacity l)
+        (λ l. vec_capacity line ≤ vec_capacity l) }
+{
+    let mut line = line;
+    match make_room(&mut line, ITEM_ROOM) {
+        Ok(()) => Ok(line),
+        Err(_) => Err(line),
+    }
 }
 
 // A comma, where one stood before.

@@ -6,11 +6,11 @@ use Rattle.mml_codec.proofs.listed.put_list.Goals as goal
 pub loop-item-preserved : goal.loop-item-preserved
 loop-item-preserved g c = record {
   text =
-      text_more (g.T.Listed.text c.args.ids.now) c.args.items.now c.loop-item.item-index _ c.args.out.now.items c.loop-item.out.items c.with_item.result.items
+      text_more (g.T.Listed.text c.args.ids.now) c.args.items.now c.loop-item.item-index _ c.args.out.now.items c.loop-item.line.items c.with_item-line.result.items
       (comma_if c.loop-item.later)
       c.loop-item-test.true c.loop-item.invariant.comma c.loop-item.invariant.text
-      (c.with_item.ensures.text ∙ ap (λ x. c.with_comma-line.result.items ++ g.T.Listed.text c.args.ids.now x) c.item-item.is
-      ∙ with_comma_put c.loop-item.out.items (comma_if c.loop-item.later) c.with_comma-line.result.items c.taken.result.items _ c.with_comma-line.ensures.text (ap (λ t. t ++ comma_if c.loop-item.later) (c.taken.ensures.text ∙ c.in_ok-make_room.ensures.same)));
+      (c.with_item-line.ensures.text ∙ ap (λ x. c.with_comma.result.items ++ g.T.Listed.text c.args.ids.now x) c.item-item.is
+      ∙ with_comma_put c.loop-item.line.items (comma_if c.loop-item.later) c.with_comma.result.items c.in-Ok.roomy.items _ c.with_comma.ensures.text (ap (λ t. t ++ comma_if c.loop-item.later) c.in-Ok.ensures.same));
   comma = comma_more (g.T.Listed.text c.args.ids.now) c.args.items.now c.loop-item.item-index c.item-item.result c.loop-item-test.true;
   capacity = search rules;
 }

@@ -6,7 +6,7 @@ use Rattle.mml_codec.proofs.listed.put_list.Given as goal
 
 abbrev pub invariant-loop-item : goal.invariant-loop-item
 invariant-loop-item g l = record {
-  text : l.out.items ≡ l.fn.out.items ++ separated (map (g.T.Listed.text l.ids) (take l.item-index l.items));
+  text : l.line.items ≡ l.fn.out.items ++ separated (map (g.T.Listed.text l.ids) (take l.item-index l.items));
   comma : comma_if l.later ≡ comma_after (map (g.T.Listed.text l.ids) (take l.item-index l.items));
-  capacity : vec_capacity l.fn.out ≤ vec_capacity l.out;
+  capacity : vec_capacity l.fn.out ≤ vec_capacity l.line;
 }
