@@ -1,11 +1,12 @@
 -- The bound is reached: on the triangle with a tail a legal list applies 20 moves.
 use Rattle.std.proofs.Common.{◌≡◌, ◌==◌, ℕ, zero, suc, ◌+◌, ◌-◌, ◌*◌, ◌<◌, nat_lt, Bool, true, false, ◌&&◌, ◌||◌, Option, None, Some, is_some}
 use Rattle.std.proofs.Common.{is_none, List, [], ◌∷◌, map, length, set, replicate, sym, refl, ap, ◌∙◌, subst, arith}
-use Rattle.std.specs.Prelude.{nat_le, IsTrue, All}
+use Rattle.std.specs.Prelude.{nat_le, All}
 use Rattle.std.specs.List.{list_any, range_with_len}
 use Rattle.std.specs.Ordering.{nat_cmp}
 use Rattle.std.specs.FinSet as sets
 use Rattle.std.proofs.lemmas.Bool.{and_parts, and_from, both_ways, eqb-true, ltb-true, leb-true, false≢true}
+use Rattle.std.proofs.lemmas.Bool.Decides.{nat_tests}
 use Rattle.mml_ids.specs.Search.{count_below}
 use Rattle.mml_rules.specs.declared.regs.Regs.{Regs}
 use Rattle.mml_rules.specs.declared.rule.Rule.{Rule}
@@ -15,8 +16,7 @@ use Rattle.mml_rules.proofs.NetworkLemmas.{with_link-lawful, linked-with_link}
 use Rattle.mml_rules.specs.Rules.{is_married, has_suitor, greatest_candidate, guard, moved}
 use Rattle.mml_lab.specs.declared.who.Who.TheVariants as who
 use Rattle.mml_lab.specs.Labs.{links_below, link_count}
-use Rattle.mml_lab.specs.declared.who.Who.{Who}
-use Rattle.mml_lab.specs.Rosters.{RosterValue, IsRoster, IsPrincipal, is_account, account_of, name_of, owns}
+use Rattle.mml_lab.specs.Rosters.{RosterValue, IsRoster, owns}
 use Rattle.mml_board.specs.declared.event.Event.{Event}
 use Rattle.mml_board.specs.declared.event.Event.TheVariants as event
 use Rattle.mml_board.specs.World.{World, size, configuration, chosen_at, IsWorld}
@@ -176,32 +176,7 @@ one_owner (suc k) d lt = absurd (omega arith)
 
 -- the roster of the one student is lawful
 pub roster : IsRoster sole_owner
-roster = record {
-  few = omega arith;
-  formed = formed;
-  differ = differ;
-  owned = owned;
-}
-  where
-    formed : (w : Who) → IsPrincipal sole_owner w → IsTrue (is_account (account_of sole_owner w))
-    formed who.Teacher is = refl
-    formed (who.Student zero) is = refl
-    formed (who.Student (suc s)) is = absurd (omega arith)
-
-    differ : (a b : Who) → IsPrincipal sole_owner a → IsPrincipal sole_owner b → name_of sole_owner a ≡ name_of sole_owner b → a ≡ b
-    differ who.Teacher who.Teacher is are e = refl
-    differ who.Teacher (who.Student zero) is are e = absurd (false≢true (ap (list_any (λ b. b == 115)) e))
-    differ (who.Student zero) who.Teacher is are e = absurd (false≢true (ap (list_any (λ b. b == 116)) e))
-    differ (who.Student zero) (who.Student zero) is are e = refl
-    differ a (who.Student (suc s)) is are e = absurd (omega arith)
-    differ (who.Student (suc s)) b is are e = absurd (omega arith)
-
-    owned : All (All (λ s. s < 1)) sole_owner.owners
-    owned zero d lt = one_owner
-    owned (suc zero) d lt = one_owner
-    owned (suc (suc zero)) d lt = one_owner
-    owned (suc (suc (suc zero))) d lt = one_owner
-    owned (suc (suc (suc (suc i)))) d lt = absurd (omega arith)
+roster = grind (arith, nat_tests, one_owner)
 
 owns_all : (i : ℕ) → i < size triangle_world → owns sole_owner (who.Student 0) i ≡ true
 owns_all zero lt = refl

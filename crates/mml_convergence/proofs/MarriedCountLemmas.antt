@@ -1,10 +1,11 @@
 -- How many nodes are married: they come in pairs, so a step makes two more or none.
-use Rattle.std.proofs.Common.{◌≡◌, ℕ, zero, suc, ◌+◌, ◌<◌, ◌≤◌, ◌⊎◌, inl, inr, Bool, true, false, not, ◌&&◌, Option, Some, refl}
-use Rattle.std.proofs.Common.{sym, ap, ◌∙◌, subst, arith}
-use Rattle.std.proofs.lemmas.Bool.{and_parts, and_from, not-true, both_ways}
-use Rattle.std.proofs.lemmas.Bool.{false≢true, false_from_ne_true, cases_Bool}
-use Rattle.mml_ids.specs.Search.{some_below, count_below}
-use Rattle.mml_ids.proofs.SearchLemmas.{some_below-find, some_below-none}
+use Rattle.std.proofs.Common.{◌≡◌, ℕ, zero, suc, ◌+◌, ◌<◌, ◌≤◌, ◌⊎◌, Bool, true, false, Option, Some, refl}
+use Rattle.std.proofs.Common.{sym, ◌∙◌, subst, arith}
+use Rattle.std.proofs.lemmas.Bool.{both_ways}
+use Rattle.std.proofs.lemmas.Bool.{false≢true, false_from_ne_true}
+use Rattle.std.proofs.lemmas.Bool.Decides.{nat_tests}
+use Rattle.mml_ids.specs.Search.{count_below}
+use Rattle.mml_ids.proofs.SearchLemmas.{some_below-find}
 use Rattle.mml_rules.specs.declared.rule.Rule.{Rule}
 use Rattle.mml_rules.specs.Configuration.{Configuration, IsLawful}
 use Rattle.mml_rules.specs.Rules.{is_married, step, AllHold}
@@ -107,17 +108,4 @@ new_pair c chosen l h x new old =
 -- two more nodes are married, or none
 pub grows : (c : Configuration) (chosen : ℕ → Option Rule) → IsLawful c → AllHold c chosen
     → (married_count c + 2 ≤ married_count (step c chosen)) ⊎ Calm c chosen
-grows c chosen l h = go (some_below c.size (λ x. is_married (step c chosen) x && not (is_married c x))) refl
-  where
-    go : (b : Bool) → some_below c.size (λ x. is_married (step c chosen) x && not (is_married c x)) ≡ b
-        → (married_count c + 2 ≤ married_count (step c chosen)) ⊎ Calm c chosen
-    go true e =
-        let found = some_below-find c.size (λ x. is_married (step c chosen) x && not (is_married c x)) e in
-        let both = and_parts (is_married (step c chosen) found.0) (not (is_married c found.0)) found.2 in
-        inl (new_pair c chosen l h found.0 both.0 (not-true _ both.1))
-    go false e = inr (λ i new. elim (cases_Bool (is_married c i)) [
-      | inl on ↦ on
-      | inr off ↦
-          let i_in = married_in (step c chosen) i (step-lawful c chosen l h) new in
-          absurd (both_ways _ (some_below-none c.size i (λ x. is_married (step c chosen) x && not (is_married c x)) e i_in) (and_from _ _ new (ap not off)))
-    ])
+grows c chosen l h = grind (arith, nat_tests, some_below-find, new_pair, married_in, step-lawful)

@@ -1,5 +1,6 @@
 -- What a node's turn brings, while no more nodes are married, or at any time.
 use Rattle.std.proofs.Common.{◌≡◌, ℕ, ◌+◌, ◌<◌, ◌≤◌, ◌⊎◌, inl, inr, false, Option, Some, arith}
+use Rattle.std.proofs.lemmas.Bool.Decides.{nat_tests}
 use Rattle.mml_rules.specs.declared.rule.Rule.{Rule}
 use Rattle.mml_rules.specs.Configuration.{Configuration, IsLawful}
 use Rattle.mml_rules.specs.Rules.{is_privileged, step, AllHold}
@@ -40,39 +41,11 @@ Within k P c = (k + 2 ≤ married_count c) ⊎ ((k ≤ married_count c) × P c)
 
 -- what stays while no more nodes are married, stays until two more are
 pub calm_stays : (k : ℕ) (P : Configuration → Type 0) → CalmStays P → Stays (Within k P)
-calm_stays k P stays c chosen l h p =
-    let kept = married_kept c chosen l h in
-    elim p [
-      | inl more ↦ inl (omega (arith, more, kept))
-      | inr q ↦ let le = q.0 in elim (grows c chosen l h) [
-        | inl two ↦ inl (omega (arith, le, two))
-        | inr calm ↦ inr (omega (arith, le, kept), stays c chosen l h calm q.1)
-      ]
-    ]
+calm_stays k P stays c chosen l h p = grind (arith, nat_tests, married_kept, grows)
 
 -- what a turn brings while no more nodes are married, it brings unless two more are
 pub calm_brings : (k : ℕ) (P Q : Configuration → Type 0) (i : ℕ) → CalmBrings P Q i → Brings (Within k P) (Within k Q) i
-calm_brings k P Q i b = record { stays = stays; idle = idle; moves = moves }
-  where
-    stays : (c : Configuration) (chosen : ℕ → Option Rule) → IsLawful c → AllHold c chosen → Within k P c → Within k Q c → Within k Q (step c chosen)
-    stays c chosen l h (inl more) q = let kept = married_kept c chosen l h in inl (omega (arith, more, kept))
-    stays c chosen l h (inr p) (inl more) = let kept = married_kept c chosen l h in inl (omega (arith, more, kept))
-    stays c chosen l h (inr p) (inr q) = let le = p.0 in let kept = married_kept c chosen l h in elim (grows c chosen l h) [
-      | inl two ↦ inl (omega (arith, le, two))
-      | inr calm ↦ inr (omega (arith, le, kept), b.stays c chosen l h calm p.1 q.1)
-    ]
-
-    idle : (c : Configuration) → IsLawful c → Within k P c → is_privileged c i ≡ false → Within k Q c
-    idle c l (inl more) e = inl more
-    idle c l (inr p) e = inr (p.0, b.idle c l p.1 e)
-
-    moves : (c : Configuration) (chosen : ℕ → Option Rule) (r : Rule) → IsLawful c → AllHold c chosen → Within k P c → chosen i ≡ Some r
-        → Within k Q (step c chosen)
-    moves c chosen r l h (inl more) e = let kept = married_kept c chosen l h in inl (omega (arith, more, kept))
-    moves c chosen r l h (inr p) e = let le = p.0 in let kept = married_kept c chosen l h in elim (grows c chosen l h) [
-      | inl two ↦ inl (omega (arith, le, two))
-      | inr calm ↦ inr (omega (arith, le, kept), b.moves c chosen r l h calm p.1 e)
-    ]
+calm_brings k P Q i b = grind (arith, nat_tests, married_kept, grows)
 
 -- ---- the phases
 

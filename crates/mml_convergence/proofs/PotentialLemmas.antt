@@ -2,6 +2,7 @@
 use Rattle.std.proofs.Common.{◌≡◌, ℕ, ◌+◌, ◌<◌, ◌≤◌, Bool, true, false, cond, not, inl, inr, Option, None, Some, sym, refl, ap, ◌∙◌, subst, arith, nat_lt}
 use Rattle.std.specs.Option.{option_map_or}
 use Rattle.std.proofs.lemmas.Bool.{and_parts, and_from, both_ways, false≢true, ltb-true, lt-ltb, cases_Bool, cases_order}
+use Rattle.std.proofs.lemmas.Bool.Decides.{nat_tests}
 use Rattle.mml_ids.specs.Search.{some_below, count_below}
 use Rattle.mml_ids.proofs.SearchLemmas.{some_below-find, some_below-none}
 use Rattle.mml_rules.specs.declared.rule.Rule.{Rule}
@@ -41,13 +42,7 @@ module _ (c : Configuration) (chosen : ℕ → Option Rule) (l : IsLawful c) (h 
 
   -- who points at a higher node with m false, stays
   pub suitor_kept : (i j : ℕ) → c.p j ≡ Some i → c.m i ≡ false → j < i → holds (next.p j) i ≡ true
-  suitor_kept i j e off lt = elim (cases_Bool (holds (next.p j) i)) [
-    | inl on ↦ on
-    | inr gone ↦ elim (drops c j i (chosen j) (h j) e gone).0.vain [
-      | inl m ↦ absurd (both_ways (c.m i) off m)
-      | inr gt ↦ absurd (omega arith)
-    ]
-  ]
+  suitor_kept i j e off lt = grind (arith, nat_tests, drops)
 
   -- a marriage with a lower node makes a pair
   lower_pair : (i j : ℕ) → c.m i ≡ false → c.p j ≡ Some i → next.p i ≡ Some j → j < i → is_married next i ≡ true
@@ -78,10 +73,7 @@ module _ (c : Configuration) (chosen : ℕ → Option Rule) (l : IsLawful c) (h 
   m_stays j e m = elim (m_moved j) [ inl same ↦ same ∙ m | inr changed ↦ changed.0 ∙ e ]
 
   m_found : (j : ℕ) → next.m j ≡ true → is_married next j ≡ false → (c.m j ≡ true) × (is_married c j ≡ false)
-  m_found j m e = elim (m_moved j) [
-    | inl same ↦ (sym same ∙ m, step-free c chosen l h j e)
-    | inr changed ↦ absurd (both_ways (is_married c j) (step-free c chosen l h j e) (sym changed.0 ∙ m))
-  ]
+  m_found j m e = grind (arith, nat_tests, m_moved, step-free)
 
   m_off : (j : ℕ) → is_married c j ≡ false → c.m j ≡ false → next.m j ≡ false
   m_off j e m = elim (m_moved j) [ inl same ↦ same ∙ m | inr changed ↦ changed.0 ∙ e ]
@@ -102,21 +94,11 @@ module _ (c : Configuration) (chosen : ℕ → Option Rule) (l : IsLawful c) (h 
       ]
 
   pointer_dropped : (i j : ℕ) → i < j → holds (c.p i) j ≡ true → holds (next.p i) j ≡ false → c.m j ≡ true
-  pointer_dropped i j lt on off = elim (drops c i j (chosen i) (h i) (holds-true (c.p i) j on) off).0.vain [
-    | inl m ↦ m
-    | inr gt ↦ absurd (omega arith)
-  ]
+  pointer_dropped i j lt on off = grind (arith, nat_tests, drops, holds-true)
 
   link_step : (i j : ℕ) → i < j
       → IsStep (holds (c.p i) j) (holds (c.p j) i) (c.m j) (is_married c j) (holds (next.p i) j) (holds (next.p j) i) (next.m j) (is_married next j)
-  link_step i j lt = record {
-    keeps = married j;
-    m_keeps = m_stays j;
-    found = m_found j;
-    pair = pair_stays i j;
-    made = pointer_made i j;
-    dropped = pointer_dropped i j lt;
-  }
+  link_step i j lt = grind (arith, nat_tests, married, m_stays, m_found, pair_stays, pointer_made, pointer_dropped)
 
   above_lt : (i j : ℕ) → is_above c i j ≡ true → i < j
   above_lt i j e = ltb-true i j (and_parts (c.linked i j) (nat_lt i j) e).1

@@ -1,8 +1,9 @@
 -- A run that is over has ended where no node is privileged; each run can be led there.
-use Rattle.std.proofs.Common.{◌≡◌, ℕ, zero, suc, ◌<◌, true, false, ◌&&◌, ◌==◌, List, [], ◌∷◌, length, Option, None, Some, is_some, is_none, sym, refl}
+use Rattle.std.proofs.Common.{◌≡◌, ℕ, zero, suc, ◌<◌, true, false, ◌==◌, List, [], ◌∷◌, length, Option, None, Some, is_some, sym, refl}
 use Rattle.std.proofs.Common.{ap, ◌∙◌, arith}
 use Rattle.std.specs.List.{list_any}
-use Rattle.std.proofs.lemmas.Bool.{false≢true, both_ways, and_parts, and_from, or_left, lt-ltb, ltb-true, eq-eqb, false_from_ne_true, and_right}
+use Rattle.std.proofs.lemmas.Bool.{false≢true, both_ways, or_left, eq-eqb, false_from_ne_true, and_right}
+use Rattle.std.proofs.lemmas.Bool.Decides.{nat_tests}
 use Rattle.mml_rules.specs.declared.rule.Rule.{Rule}
 use Rattle.mml_rules.specs.Rules.{guard, is_privileged}
 use Rattle.mml_rules.specs.Matching.{IsStable, IsMaximal}
@@ -13,7 +14,7 @@ use Rattle.mml_lab.specs.Rosters.{RosterValue, owners_of, owns}
 use Rattle.mml_board.specs.declared.event.Event.{Event}
 use Rattle.mml_board.specs.declared.event.Event.TheVariants as event
 use Rattle.mml_board.specs.World.{World, size, configuration, chosen_at, IsWorld}
-use Rattle.mml_board.specs.Events.{is_node, is_asked_by_owner, is_possible, is_legal, after}
+use Rattle.mml_board.specs.Events.{is_asked_by_owner, is_possible, is_legal, after}
 use Rattle.mml_board.specs.Runs.{is_legal_list, world_of}
 use Rattle.mml_board.proofs.WorldLemmas.{size-after, chosen_node}
 use Rattle.mml_board.proofs.RunsLemmas.{list-world}
@@ -42,9 +43,7 @@ any_chosen (None ∷ xs) (suc i) e = any_chosen xs i e
 -- a privileged node for which no move is chosen has a rule that may be granted to each of its owners
 pub may_move : (r : RosterValue) (w : World) (i : ℕ) → IsWorld w → i < size w → is_privileged (configuration w) i ≡ true → chosen_at w.chosen i ≡ None
     → (rule : Rule) × ((s : ℕ) → owns r (who.Student s) i ≡ true → is_legal r w (event.Grant s i rule) ≡ true)
-may_move r w i k lt privileged none =
-    let g = (privileged-means (configuration w) i k.network.lawful).0 privileged in
-    (g.0, λ s owner. and_from _ _ owner (and_from _ _ (lt-ltb i (size w) lt) (and_from _ _ (ap is_none none) g.1)))
+may_move r w i k lt privileged none = grind (arith, nat_tests, privileged-means)
 
 -- ---- where no node is privileged
 
@@ -60,10 +59,7 @@ stable_unchosen w k stable i = go (chosen_at w.chosen i) refl
         absurd (both_ways (guard (configuration w) i rule) (stable_guard w k stable i rule (chosen_node w i k.choices (ap is_some e))) (k.hold i rule e))
 
 stable_impossible : (w : World) (e : Event) → IsWorld w → IsStable (configuration w) → is_of_step e ≡ true → is_possible w e ≡ false
-stable_impossible w (event.Grant s i rule) k stable of_step = false_from_ne_true (is_possible w (event.Grant s i rule)) (λ h.
-    let x = and_parts (is_node w i) (is_none (chosen_at w.chosen i) && guard (configuration w) i rule) h in
-    let y = and_parts (is_none (chosen_at w.chosen i)) (guard (configuration w) i rule) x.1 in
-    both_ways (guard (configuration w) i rule) (stable_guard w k stable i rule (ltb-true i (size w) x.0)) y.1)
+stable_impossible w (event.Grant s i rule) k stable of_step = grind (arith, nat_tests, stable_guard)
 stable_impossible w (event.Release i) k stable of_step = stable_unchosen w k stable i
 stable_impossible w event.Close k stable of_step = none (w.chosen) (stable_unchosen w k stable)
   where

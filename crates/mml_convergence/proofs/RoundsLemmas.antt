@@ -4,6 +4,7 @@ use Rattle.std.proofs.Common.{sym, refl, ap, ◌∙◌, subst, arith}
 use Rattle.std.specs.List.{list_all}
 use Rattle.std.proofs.lemmas.List.{append-nil}
 use Rattle.std.proofs.lemmas.Bool.{or_right, both_ways, false_from_ne_true, cases_Bool, cases_lt, cases_order}
+use Rattle.std.proofs.lemmas.Bool.Decides.{nat_tests}
 use Rattle.mml_ids.specs.Search.{some_below}
 use Rattle.mml_ids.proofs.SearchLemmas.{some_below-find, some_below-none}
 use Rattle.mml_rules.specs.declared.rule.Rule.{Rule}
@@ -369,16 +370,12 @@ most_rounds (suc (suc n)) = let rest = most_rounds n in omega (arith, rest)
 -- for an even number of nodes it is two rounds for each
 pub for_even : (k : ℕ) → rounds_for (2 * k) ≡ 4 * k
 for_even zero = refl
-for_even (suc k) =
-    let next : 2 * suc k ≡ suc (suc (2 * k)) = omega arith in
-    omega (arith, for_even k, ap rounds_for next)
+for_even (suc k) = grind (arith, nat_tests, for_even k)
 
 -- for an odd number of nodes it is one round less than two for each
 pub for_odd : (k : ℕ) → rounds_for (2 * k + 1) ≡ 4 * k + 1
 for_odd zero = refl
-for_odd (suc k) =
-    let next : 2 * suc k + 1 ≡ suc (suc (2 * k + 1)) = omega arith in
-    omega (arith, for_odd k, ap rounds_for next)
+for_odd (suc k) = grind (arith, nat_tests, for_odd k)
 
 -- after two rounds for each node no node is privileged, and each link has an end in a pair
 pub rounds_bounded : (r : RosterValue) (w : World) (es : List Event) → IsWorld w → is_legal_list r w es ≡ true → list_all is_of_step es ≡ true

@@ -2,6 +2,7 @@
 use Rattle.std.proofs.Common.{◌≡◌, ℕ, zero, suc, ◌+◌, ◌<◌, ◌≤◌, ◌⊎◌, inl, inr, Bool, true, false, not, ◌&&◌, Option, None, Some, is_some, is_none}
 use Rattle.std.proofs.Common.{sym, refl, ap, ◌∙◌, arith}
 use Rattle.std.proofs.lemmas.Bool.{and_parts, both_ways, not-true, false≢true, false_from_ne_true, cases_Bool, cases_order}
+use Rattle.std.proofs.lemmas.Bool.Decides.{nat_tests}
 use Rattle.mml_rules.specs.declared.rule.Rule.{Rule}
 use Rattle.mml_rules.specs.Configuration.{Configuration, IsLawful, holds}
 use Rattle.mml_rules.specs.Rules.{is_married, has_suitor, greatest_candidate, m_is_right, is_privileged, guard, effect, moved, step, AllHold}
@@ -213,9 +214,7 @@ module _ (c : Configuration) (chosen : ℕ → Option Rule) (l : IsLawful c) (h 
   -- ---- m false
 
   pub modest_stays : (i : ℕ) → Modest i c → Modest i next
-  modest_stays i modest free =
-      let alone = free_before i free in
-      elim (m_moved i) [ inl same ↦ same ∙ modest alone | inr changed ↦ changed.0 ∙ alone ]
+  modest_stays i modest free = grind (arith, nat_tests, free_before, m_moved)
 
   pub modest_moves : (i : ℕ) (r : Rule) → chosen i ≡ Some r → Modest i next
   modest_moves i r e free = right_after i r e ∙ free_before i free

@@ -1,12 +1,12 @@
 -- What a step does to the pairs and to m.
-use Rattle.std.proofs.Common.{◌≡◌, ℕ, ◌≤◌, ◌+◌, Bool, true, false, cond, not, ◌&&◌, ◌||◌, ◌⊎◌, inl, inr, Option, None, Some, is_some, is_none, sym}
-use Rattle.std.proofs.Common.{refl, ap, ◌∙◌, arith, nat_lt}
+use Rattle.std.proofs.Common.{◌≡◌, ℕ, ◌≤◌, ◌+◌, Bool, true, false, cond, not, ◌⊎◌, inl, inr, Option, None, Some}
+use Rattle.std.proofs.Common.{refl, arith}
 use Rattle.std.specs.Bool.{beq}
-use Rattle.std.specs.Option.{option_map_or}
-use Rattle.std.proofs.lemmas.Bool.{and_parts, not-true, both_ways, false_from_ne_true}
+use Rattle.std.proofs.lemmas.Bool.{not-true, both_ways, false_from_ne_true}
+use Rattle.std.proofs.lemmas.Bool.Decides.{nat_tests}
 use Rattle.mml_rules.specs.declared.rule.Rule.{Rule}
-use Rattle.mml_rules.specs.Configuration.{Configuration, IsLawful, holds}
-use Rattle.mml_rules.specs.Rules.{is_married, has_suitor, greatest_candidate, m_is_right, points_in_vain, guard, effect, moved, step, AllHold}
+use Rattle.mml_rules.specs.Configuration.{Configuration, IsLawful}
+use Rattle.mml_rules.specs.Rules.{is_married, guard, effect, moved, step, AllHold}
 use Rattle.mml_rules.specs.Matching.{IsPair}
 use Rattle.mml_rules.proofs.ConfigurationLemmas.{holds-from}
 use Rattle.mml_rules.proofs.RulesLemmas.{married-partner, married-from, none-null}
@@ -19,18 +19,9 @@ beq-false a b h = grind arith
 -- a move at a node whose pointer is answered leaves the pointer
 pub answered-keeps : (c : Configuration) (i j : ℕ) (r : Rule) → c.p i ≡ Some j → c.p j ≡ Some i → guard c i r ≡ true → (effect c i r).p ≡ Some j
 answered-keeps c i j Rule.Update a b h = a
-answered-keeps c i j (Rule.Marriage k) a b h =
-    let x = and_parts (m_is_right c i) (is_none (c.p i) && (c.linked i k && holds (c.p k) i)) h in
-    let null : c.p i ≡ None = none-null (c.p i) (and_parts (is_none (c.p i)) (c.linked i k && holds (c.p k) i) x.1).0 in cc
-answered-keeps c i j Rule.Seduction a b h =
-    let x = and_parts (m_is_right c i) (is_none (c.p i) && (not (has_suitor c i) && is_some (greatest_candidate c i))) h in
-    let null : c.p i ≡ None = none-null (c.p i) (and_parts (is_none (c.p i)) (not (has_suitor c i) && is_some (greatest_candidate c i)) x.1).0 in cc
-answered-keeps c i j Rule.Abandonment a b h =
-    let x = and_parts (m_is_right c i) (points_in_vain c i) h in
-    let v : (not (holds (c.p j) i) && (c.m j || nat_lt j i)) ≡ true =
-    sym (ap (λ o. option_map_or (λ j. not (holds (c.p j) i) && (c.m j || nat_lt j i)) o false) a) ∙ x.1 in
-    let y = and_parts (not (holds (c.p j) i)) (c.m j || nat_lt j i) v in
-    absurd (both_ways (holds (c.p j) i) (not-true _ y.0) (holds-from (c.p j) i b))
+answered-keeps c i j (Rule.Marriage k) a b h = grind (arith, nat_tests, none-null)
+answered-keeps c i j Rule.Seduction a b h = grind (arith, nat_tests, none-null)
+answered-keeps c i j Rule.Abandonment a b h = grind (arith, nat_tests, holds-from)
 
 moved-keeps : (c : Configuration) (i j : ℕ) (o : Option Rule) → ((r : Rule) → o ≡ Some r → guard c i r ≡ true) → c.p i ≡ Some j → c.p j ≡ Some i
     → (moved c i o).p ≡ Some j

@@ -1,6 +1,6 @@
 -- Sums and counts below a number.
-use Rattle.std.proofs.Common.{◌≡◌, ℕ, zero, suc, ◌+◌, ◌*◌, ◌<◌, ◌≤◌, Bool, true, false, cond, ◌&&◌, inl, inr, refl, subst, arith}
-use Rattle.std.proofs.lemmas.Bool.{cases_order}
+use Rattle.std.proofs.Common.{◌≡◌, ℕ, zero, suc, ◌+◌, ◌*◌, ◌<◌, ◌≤◌, Bool, true, false, cond, ◌&&◌, refl, arith}
+use Rattle.std.proofs.lemmas.Bool.Decides.{nat_tests}
 use Rattle.mml_ids.specs.Search.{count_below}
 use Rattle.mml_convergence.specs.Potential.{sum_below}
 
@@ -12,10 +12,7 @@ sum_kept (suc n) f g le = omega (arith, sum_kept n f g (λ j lt. le j (omega ari
 -- one of them falls
 pub sum_fell : (n k : ℕ) (f g : ℕ → ℕ) → ((j : ℕ) → j < n → f j ≤ g j) → k < n → f k + 1 ≤ g k → sum_below n f + 1 ≤ sum_below n g
 sum_fell zero k f g le lt less = absurd (omega arith)
-sum_fell (suc n) k f g le lt less = elim (cases_order k n) [
-  | inl e ↦ omega (arith, sum_kept n f g (λ j below. le j (omega arith)), subst (λ z. f z + 1 ≤ g z) e less)
-  | inr o ↦ omega (arith, sum_fell n k f g (λ j l. le j (omega arith)) (omega arith) less, le n)
-]
+sum_fell (suc n) k f g le lt less = grind (arith, nat_tests, sum_kept, sum_fell n k f g)
 
 -- each falls by what is charged to it
 pub sum_charged : (n : ℕ) (t f g : ℕ → ℕ) → ((j : ℕ) → f j + t j ≤ g j) → sum_below n f + sum_below n t ≤ sum_below n g

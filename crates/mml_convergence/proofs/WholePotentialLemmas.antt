@@ -3,6 +3,7 @@ use Rattle.std.proofs.Common.{◌≡◌, ◌==◌, ℕ, zero, suc, ◌+◌, ◌*
 use Rattle.std.proofs.Common.{refl, sym, ap, ◌∙◌, arith, nat_lt}
 use Rattle.std.specs.Option.{option_map_or}
 use Rattle.std.proofs.lemmas.Bool.{and_parts, and_from, and_right, ltb-true, lt-ltb, le-ltb, eqb-true, eq-eqb, false_from_ne_true, cases_Bool}
+use Rattle.std.proofs.lemmas.Bool.Decides.{nat_tests}
 use Rattle.mml_ids.specs.Search.{count_below}
 use Rattle.mml_ids.proofs.SearchLemmas.{same_bool}
 use Rattle.mml_rules.specs.declared.rule.Rule.{Rule}
@@ -52,9 +53,7 @@ all_charged chosen n =
 pub whole_fell : (c : Configuration) (chosen : ℕ → Option Rule) → IsLawful c → AllHold c chosen
     → whole_potential (step c chosen) + count_below c.size (moves chosen) ≤ whole_potential c
 unfolding whole_potential
-whole_fell c chosen l h =
-    let fell = sum_charged c.size (charge chosen c.size) (potential (step c chosen)) (potential c) (potential_fell c chosen l h) in
-    omega (arith, fell, all_charged chosen c.size)
+whole_fell c chosen l h = grind (arith, nat_tests, sum_charged, potential_fell, all_charged)
 
 -- ---- the bound
 
