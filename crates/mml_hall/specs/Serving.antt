@@ -1,5 +1,5 @@
 -- What comes of the next line of a script.
-use Rattle.std.specs.Prelude.{Bool, true, false, ◌≡◌, ◌≢◌, ℕ, ◌<◌, List, [], ◌∷◌, ◌++◌, length, Option, Result, Ok, Err, ⊤}
+use Rattle.std.specs.Prelude.{Bool, true, false, ◌≡◌, ◌≢◌, ℕ, ◌<◌, List, [], ◌∷◌, ◌++◌, length, Option, Result, Ok, Err, OnOk, IfErr, ⊤}
 use Rattle.std.specs.Io.KnownBytes.{Consumes, IsAtEnd, prepend_known}
 use Rattle.mml_lab.specs.Labs.{LabValue}
 use Rattle.mml_lines.specs.LinesOf.{IsWithinLimit}
@@ -9,6 +9,7 @@ use Rattle.mml_lines.specs.declared.write_fault.WriteFault.{WriteFault}
 use Rattle.mml_codec.specs.declared.reply.Reply.{Reply}
 use Rattle.mml_codec.specs.declared.reply.Reply.TheVariants as replies
 use Rattle.mml_codec.specs.declared.reply.Refused.TheVariants as refused
+use Rattle.mml_codec.specs.Replies.{reply_line, TellsFor}
 use Rattle.mml_hall.specs.declared.TheConstants.{MAX_SCRIPT_LINE}
 use Rattle.mml_hall.specs.declared.script.Next.{Next}
 use Rattle.mml_hall.specs.declared.script.Next.TheVariants as next
@@ -20,6 +21,13 @@ use Rattle.mml_hall.specs.Scripts.{LineTurn, line_read, line_written}
 abbrev pub told_of : Reply → Bool → Reply
 told_of reply true = reply
 told_of reply false = replies.Refuse refused.Memory
+
+-- the line of a reply, or of out of memory in the place of one that isn't short, comes behind its front after those that aren't
+-- written, of which the first are out
+abbrev pub Tells : Result ⊤ WriteFault → LabValue → Reply → List ℕ → List (List ℕ) → List (List ℕ) → Option (List ℕ) → Option (List ℕ) → Type 0
+Tells r lab reply front unsent unsent' wrote wrote' = (told : Reply) × TellsFor reply told
+    × OnOk r (Sends wrote wrote' (unsent ++ (front ++ reply_line lab.ids lab.roster told) ∷ []) unsent')
+    × IfErr r (λ fault. BreaksOff fault wrote wrote' (unsent ++ (front ++ reply_line lab.ids lab.roster told) ∷ []))
 
 -- the line had its turn; its output line comes after those that aren't written, of which the first are out
 abbrev pub ServesLine : Result ⊤ WriteFault → LabValue → State → State → RequestLine → List (List ℕ) → List (List ℕ) → Option (List ℕ)

@@ -11,17 +11,17 @@ ghost use Rattle.mml_hall.specs.Journals.{TellsJournal, Journals};
 ghost use Rattle.mml_hall.specs.ScriptLines.{IsScriptLine, line_of};
 ghost use Rattle.mml_hall.specs.Scripts.{Finished, Stopped};
 ghost use Rattle.mml_hall.specs.inside.Ending.{EndsScript};
-ghost use Rattle.mml_codec.specs.Replies.{reply_line, IsAbout, TellsFor};
-ghost use Rattle.mml_hall.specs.Serving.{told_of, ServesLine, ServesNext, ServesText};
+ghost use Rattle.mml_codec.specs.Replies.{reply_line, is_short, IsAbout, TellsFor};
+ghost use Rattle.mml_hall.specs.Serving.{told_of, ServesLine, ServesNext, ServesText, Tells};
 
 use crate::MAX_SCRIPT_LINE;
 use crate::hall::Hall;
 use crate::script_line::{ScriptLine, read_script_line};
-use mml_codec::{REPLY_ROOM, Refused, Reply, write_reply};
+use mml_codec::{REPLY_ROOM, Refused, Reply, append_reply, write_reply};
 use mml_ids::Memory;
 use mml_journal::Sink;
 use mml_lab::Lab;
-use mml_lines::{Lines, Outgoing, Step, WriteFault};
+use mml_lines::{LineRest, Lines, Outgoing, Step, WriteFault};
 use std::alloc::{AllocError, Global};
 use std::io::{Read, Write};
 
@@ -314,8 +314,69 @@ fn serve<W: Write, S: Sink>(
 {
     let mut reply = Reply::Bye;
     hall.answer_into(alloc, line.connection, line.request, &mut reply);
-    let _is_whole = put_reply(alloc, hall.lab(), &reply, out);
-    outgoing.put(line.front, out, writer)
+    tell(alloc, hall.lab(), &reply, line.front, out, outgoing, writer)
+}
+
+// A reply, as what its output line has behind the connection.
+#[derive(Clone, Copy)]
+struct Told<'a> {
+    lab: &'a Lab,
+    reply: &'a Reply,
+}
+
+impl LineRest for Told<'_> {
+    ghost may_tell = { λ t. IsAbout t.lab.now.ids t.lab.now.roster t.reply.now };
+
+    ghost text = { λ t. reply_line t.lab.now.ids t.lab.now.roster t.reply.now };
+
+    ghost is_short = { λ t. is_short t.reply.now };
+
+    fn append_to(&self, out: &mut Vec<u8>) -> bool {
+        append_reply(self.lab.ids(), self.lab.roster(), self.reply, out)
+    }
+}
+
+// Lets the line of a reply go out, written where it goes out from, if it is short.
+fn tell<W: Write>(
+    alloc: Global,
+    lab: &Lab,
+    reply: &Reply,
+    front: &[u8],
+    out: &mut Vec<u8>,
+    outgoing: &mut Outgoing,
+    writer: &mut W,
+) -> Result<(), WriteFault>
+    requires room { REPLY_ROOM ≤ vec_capacity out.old }
+    requires about { IsAbout lab.now.ids lab.now.roster reply.now }
+    ensures room { REPLY_ROOM ≤ vec_capacity out.new }
+    ensures tells { Tells result lab.now reply.now front.now outgoing.old outgoing.new
+        (W.contents writer.old) (W.contents writer.new) }
+{
+    if outgoing.append(front, &Told { lab, reply }) {
+        return Ok(());
+    }
+    tell_apart(alloc, lab, reply, front, out, outgoing, writer)
+}
+
+// The same by way of a buffer of its own: a long reply, and one for which those that are held make room.
+#[inline(never)]
+fn tell_apart<W: Write>(
+    alloc: Global,
+    lab: &Lab,
+    reply: &Reply,
+    front: &[u8],
+    out: &mut Vec<u8>,
+    outgoing: &mut Outgoing,
+    writer: &mut W,
+) -> Result<(), WriteFault>
+    requires room { REPLY_ROOM ≤ vec_capacity out.old }
+    requires about { IsAbout lab.now.ids lab.now.roster reply.now }
+    ensures room { REPLY_ROOM ≤ vec_capacity out.new }
+    ensures tells { Tells result lab.now reply.now front.now outgoing.old outgoing.new
+        (W.contents writer.old) (W.contents writer.new) }
+{
+    let _is_whole = put_reply(alloc, lab, reply, out);
+    outgoing.put(front, out, writer)
 }
 
 // Puts the line of a reply, which stays where it is, or one that tells out of memory. Whether it was

@@ -7,7 +7,6 @@ ghost use Rattle.mml_hall.specs.Turns.{RequestLine};
 ghost use Rattle.mml_hall.specs.ScriptLines.{IsScriptLine, line_of, script_line};
 
 use crate::MAX_SCRIPT_LINE;
-use itoa::Buffer;
 use mml_codec::MAX_REQUEST;
 
 /// A request line, and the connection that it came on.
@@ -67,7 +66,8 @@ fn digit_at(line: &[u8], place: usize) -> Option<u8>
 
 // The request of a line that begins with this connection, where it isn't too long.
 fn short_request_on(connection: u8, line: &[u8]) -> Option<&[u8]>
-    requires { IsUnbroken line.now }
+    requires number { connection < 100 }
+    requires line { IsUnbroken line.now }
     ensures spelled { IfSome result
         (λ request. line.now ≡ decimal connection ++ 32 ∷ request.now) }
     ensures short { IfSome result (λ request. IsWithinLimit MAX_REQUEST request.now) }
@@ -84,14 +84,27 @@ fn short_request_on(connection: u8, line: &[u8]) -> Option<&[u8]>
 
 // What follows this connection and one space.
 fn request_on(connection: u8, line: &[u8]) -> Option<&[u8]>
+    requires { connection < 100 }
     ensures { MatchOption result
         ((request : List ℕ) → line.now ≢ decimal connection ++ 32 ∷ request)
         (λ request. line.now ≡ decimal connection ++ 32 ∷ request.now) }
 {
-    let mut digits = Buffer::new();
-    let rest = after(line, digits.format(connection).as_bytes())?;
+    let rest = number_on(connection, line)?;
     let request = after(rest, b" ")?;
     Some(request)
+}
+
+// What follows this number of one or two digits.
+fn number_on(connection: u8, line: &[u8]) -> Option<&[u8]>
+    requires { connection < 100 }
+    ensures { MatchOption result
+        ((rest : List ℕ) → line.now ≢ decimal connection ++ rest)
+        (λ rest. line.now ≡ decimal connection ++ rest.now) }
+{
+    if connection < 10 {
+        return after(line, &[b'0' + connection]);
+    }
+    after(line, &[b'0' + connection / 10, b'0' + connection % 10])
 }
 
 fn after<'a>(line: &'a [u8], word: &[u8]) -> Option<&'a [u8]>

@@ -1,10 +1,8 @@
-use Rattle.std.proofs.Common.{◌≡◌, ◌++◌, decimal}
+use Rattle.std.proofs.Common.{decimal}
 use Rattle.mml_hall.proofs.ScriptLinesLemmas.{word_without_space}
 use Rattle.mml_hall.proofs.script_line.request_on.Goals as goal
 
 pub returns-in_err-request : goal.returns-in_err-request
 returns-in_err-request c =
-    let split : c.args.line.now ≡ decimal c.args.connection ++ c.in_ok-rest.rest.now =
-    rw (c.as_bytes.ensures.value, c.format.ensures.text) at c.in_ok-rest.ensures in
     rw c.from_residual-in_err-request.ensures
-    (word_without_space (decimal c.args.connection) c.in_ok-rest.rest.now c.args.line.now split c.in_err-request.ensures)
+    (word_without_space (decimal c.args.connection) c.in_ok-rest.rest.now c.args.line.now c.in_ok-rest.ensures c.in_err-request.ensures)
