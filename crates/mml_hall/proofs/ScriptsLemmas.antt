@@ -1,9 +1,9 @@
 -- What has been answered so far, and how it ends.
-use Rattle.std.proofs.Common.{◌≡◌, ℕ, ◌+◌, List, [], ◌∷◌, ◌++◌, length, map, flat_map, refl, sym, ◌∙◌, ap, append_assoc, append-nil, Option, subst}
+use Rattle.std.proofs.Common.{◌≡◌, ℕ, ◌+◌, List, [], ◌∷◌, ◌++◌, length, map, flat_map, refl, sym, ◌∙◌, ap, append-nil, Option, subst}
 use Rattle.std.proofs.Common.{inl, inr, Result, Ok, Err, IsErrAnd, ◌<◌, length-append, arith}
 use Rattle.std.specs.Prelude.{⊤}
-use Rattle.std.specs.List.{AllByRecursion}
 use Rattle.std.proofs.lemmas.Grind.{common_steps}
+use Rattle.std.proofs.lemmas.List.{map-append}
 use Rattle.std.proofs.KnownBytes.{Consumes-trans}
 use Rattle.std.specs.Io.KnownBytes.{Consumes, prepend_known}
 use Rattle.mml_lab.specs.Labs.{LabValue}
@@ -12,13 +12,13 @@ use Rattle.mml_lines.specs.Sending.{BreaksOff, Sends}
 use Rattle.mml_lines.specs.declared.lines.TheConstants.{READ_SIZE}
 use Rattle.mml_lines.specs.declared.write_fault.WriteFault.{WriteFault}
 use Rattle.mml_lines.proofs.KnownBytesLemmas.{nothing_held}
+use Rattle.mml_lines.proofs.RunsLemmas.{run_longer, by_steps, each_longer, flat_longer}
 use Rattle.mml_lines.proofs.SendingLemmas.{nothing_sent, sends_on, sends_more, all_out, breaks_on, breaks_more}
-use Rattle.mml_codec.specs.declared.reply.Reply.{Reply}
 use Rattle.mml_hall.specs.declared.script.Next.{Next}
 use Rattle.mml_hall.specs.declared.script.Next.TheVariants as next
 use Rattle.mml_hall.specs.declared.script.ScriptFault.{ScriptFault}
 use Rattle.mml_hall.specs.declared.script.ScriptFault.TheVariants as fault
-use Rattle.mml_hall.specs.Turns.{State, RequestLine, Outcome, Turn, Run, Halts, opening}
+use Rattle.mml_hall.specs.Turns.{State, TurnOf, Halts, opening}
 use Rattle.mml_hall.specs.Halls.{HallValue}
 use Rattle.mml_journal.specs.Taken.{IsFresh}
 use Rattle.mml_hall.specs.Journals.{TellsJournal, Journals}
@@ -28,32 +28,6 @@ use Rattle.mml_hall.specs.Transcripts.{Transcript, output_line, output_lines, by
 use Rattle.mml_hall.specs.Scripts.{LineTurn, AllAnswered, Finished, Stopped, line_read, line_written}
 use Rattle.mml_hall.specs.Serving.{ServesNext}
 use Rattle.mml_hall.specs.inside.Ending.{EndsScript}
-
-longer_run : (lab : LabValue) (st mid : State) (ss : List RequestLine) (rs : List Reply) (s : RequestLine) (out : Outcome)
-    → Run lab st ss rs mid → Turn lab mid s.connection s.request out → Run lab st (ss ++ s ∷ []) (rs ++ out.reply ∷ []) out.state
-longer_run lab st mid [] [] s out run turn = (out.state, subst (λ (x : State). Turn lab x s.connection s.request out) run turn, refl)
-longer_run lab st mid [] (r ∷ rs) s out run turn = absurd run
-longer_run lab st mid (x ∷ ss) [] s out run turn = absurd run
-longer_run lab st mid (x ∷ ss) (r ∷ rs) s out run turn = (run.0, run.1, longer_run lab run.0 mid ss rs s out run.2 turn)
-
-longer_written : (lab : LabValue) (st mid : State) (ss : List RequestLine) (rs : List Reply) (s : RequestLine) (r : Reply)
-    → Run lab st ss rs mid → output_lines lab (ss ++ s ∷ []) (rs ++ r ∷ []) ≡ output_lines lab ss rs ++ output_line lab s.connection r ∷ []
-longer_written lab st mid [] [] s r run = refl
-longer_written lab st mid [] (q ∷ rs) s r run = absurd run
-longer_written lab st mid (x ∷ ss) [] s r run = absurd run
-longer_written lab st mid (x ∷ ss) (q ∷ rs) s r run = ap (λ t. output_line lab x.connection q ∷ t) (longer_written lab run.0 mid ss rs s r run.2)
-
-longer_read : (ss : List RequestLine) (s : RequestLine)
-    → flat_map ended (map script_line (ss ++ s ∷ [])) ≡ flat_map ended (map script_line ss) ++ ended (script_line s)
-longer_read [] s = append-nil (ended (script_line s))
-longer_read (x ∷ ss) s =
-    ap (λ t. ended (script_line x) ++ t) (longer_read ss s)
-    ∙ sym (append_assoc (ended (script_line x)) (flat_map ended (map script_line ss)) (ended (script_line s)))
-
-longer_valid : (n : ℕ) (ss : List RequestLine) (s : RequestLine) → AllByRecursion (IsScriptLine n) ss → IsScriptLine n s
-    → AllByRecursion (IsScriptLine n) (ss ++ s ∷ [])
-longer_valid n [] s all one = (one, tt)
-longer_valid n (x ∷ ss) s all one = (all.0, longer_valid n ss s all.1 one)
 
 -- nothing was read yet
 abbrev empty : (lab : LabValue) → Transcript lab
@@ -65,19 +39,21 @@ longer lab t after s = record {
   lines = t.lines ++ s.line ∷ [];
   replies = t.replies ++ s.reply ∷ [];
   end = after;
-  each = longer_valid lab.sessions t.lines s.line t.each s.valid;
-  run = longer_run lab (opening lab) t.end t.lines t.replies s.line (record { reply = s.reply; state = after }) t.run s.turn;
+  each = each_longer (IsScriptLine lab.sessions) t.lines s.line t.each s.valid;
+  run = run_longer (TurnOf lab) (opening lab) t.end after t.lines t.replies s.line s.reply t.run s.turn;
 }
 
 read_longer : (lab : LabValue) (t : Transcript lab) (after : State) (s : LineTurn lab t.end after)
     → bytes_read (longer lab t after s) ≡ bytes_read t ++ line_read s
 unfolding longer
-read_longer lab t after s = longer_read t.lines s.line
+read_longer lab t after s = ap (flat_map ended) (map-append script_line t.lines (s.line ∷ [])) ∙ flat_longer ended (map script_line t.lines) (script_line s.line)
 
 written_longer : (lab : LabValue) (t : Transcript lab) (after : State) (s : LineTurn lab t.end after)
     → lines_written (longer lab t after s) ≡ lines_written t ++ line_written s ∷ []
 unfolding longer
-written_longer lab t after s = longer_written lab (opening lab) t.end t.lines t.replies s.line s.reply t.run
+written_longer lab t after s =
+    by_steps (TurnOf lab) (λ st ls rs end. output_lines lab (ls ++ s.line ∷ []) (rs ++ s.reply ∷ []) ≡ output_lines lab ls rs ++ line_written s ∷ [])
+    (λ st. refl) (λ st next end l r ls rs turn rest. ap (λ t. output_line lab l.connection r ∷ t) rest) (opening lab) t.end t.lines t.replies t.run
 
 end_longer : (lab : LabValue) (t : Transcript lab) (after : State) (s : LineTurn lab t.end after) → (longer lab t after s).end ≡ after
 unfolding longer

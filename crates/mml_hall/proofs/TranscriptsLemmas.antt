@@ -1,12 +1,10 @@
--- The lines of a transcript, and its replies.
-use Rattle.std.proofs.Common.{◌≡◌, ◌≤◌, ℕ, List, [], ◌∷◌, ◌++◌, length, map, refl, ap, suc, ◌∙◌, append-nil}
+-- The lines of a transcript.
+use Rattle.std.proofs.Common.{◌≡◌, ◌≤◌, ℕ, List, ◌++◌, map, ap, ◌∙◌, append-nil}
 use Rattle.mml_lab.specs.declared.TheConstants.{MAX_SESSIONS}
 use Rattle.mml_lab.specs.Labs.{LabValue}
 use Rattle.mml_ids.specs.Lines.{IsUnbroken}
 use Rattle.mml_lines.specs.LinesOf.{lines_of}
 use Rattle.mml_lines.proofs.LinesOfLemmas.{lines_first, no_line}
-use Rattle.mml_codec.specs.declared.reply.Reply.{Reply}
-use Rattle.mml_hall.specs.Turns.{State, RequestLine, Run}
 use Rattle.mml_hall.specs.ScriptLines.{script_line}
 use Rattle.mml_hall.specs.Transcripts.{Transcript, bytes_read}
 use Rattle.mml_hall.proofs.ScriptLinesLemmas.{scripts_unbroken}
@@ -21,10 +19,3 @@ pub all_lines : (lab : LabValue) (t : Transcript lab) (rest : List ℕ) → lab.
     → lines_of (bytes_read t ++ rest) ≡ map script_line t.lines
 all_lines lab t rest few unbroken =
     first_lines lab t rest few ∙ (ap (λ (ls : List (List ℕ)). map script_line t.lines ++ ls) (no_line rest unbroken) ∙ append-nil (map script_line t.lines))
-
--- a run has as many replies as lines
-pub as_many : (lab : LabValue) (st end : State) (ss : List RequestLine) (rs : List Reply) → Run lab st ss rs end → length rs ≡ length ss
-as_many lab st end [] [] run = refl
-as_many lab st end [] (r ∷ rs) run = absurd run
-as_many lab st end (s ∷ ss) [] run = absurd run
-as_many lab st end (s ∷ ss) (r ∷ rs) run = ap (λ n. suc n) (as_many lab run.0 end ss rs run.2)

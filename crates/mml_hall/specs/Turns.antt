@@ -6,6 +6,7 @@ use Rattle.mml_lab.specs.Labs.{LabValue}
 use Rattle.mml_board.specs.declared.event.Event.{Event}
 use Rattle.mml_board.specs.World.{World, opening_of}
 use Rattle.mml_board.specs.Events.{after}
+use Rattle.mml_lines.specs.Runs.{Runs}
 use Rattle.mml_policy.specs.declared.refusal.Refusal.{Refusal}
 use Rattle.mml_policy.specs.declared.refusal.Refusal.TheVariants as refusal
 use Rattle.mml_policy.specs.declared.ruling.Ruling.{Ruling}
@@ -162,10 +163,10 @@ pub record RequestLine : Type 0 where
   pub connection : ℕ
   pub request : List ℕ
 
+-- the turn of a request line
+abbrev pub TurnOf : LabValue → State → RequestLine → Reply → State → Type 0
+TurnOf lab st line r next = Turn lab st line.connection line.request (record { reply = r; state = next })
+
 -- one turn after another, from a state to the end
 abbrev pub Run : LabValue → State → List RequestLine → List Reply → State → Type 0
-Run lab st [] [] end = end ≡ st
-Run lab st (line ∷ lines) (r ∷ rs) end =
-    (next : State) × Turn lab st line.connection line.request (record { reply = r; state = next }) × Run lab next lines rs end
-Run lab st [] (r ∷ rs) end = ⊥
-Run lab st (line ∷ lines) [] end = ⊥
+Run lab st lines rs end = Runs (TurnOf lab) st lines rs end

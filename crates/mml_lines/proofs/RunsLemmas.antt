@@ -1,0 +1,57 @@
+-- What holds of one step after another.
+use Rattle.std.proofs.Common.{◌≡◌, ◌∙◌, List, [], ◌∷◌, ◌++◌, append-nil, flat_map, length, suc, refl, sym, ap, subst}
+use Rattle.std.specs.List.{AllByRecursion}
+use Rattle.std.proofs.lemmas.List.Concat.{flat_map-append}
+use Rattle.mml_lines.specs.Runs.{Runs, AtEach}
+
+module _ {A L R : Type 0} (Step : A → L → R → A → Type 0) where
+  -- a step more
+  unfoldable pub run_longer : (st mid end : A) (lines : List L) (rs : List R) (line : L) (r : R) → Runs Step st lines rs mid → Step mid line r end
+      → Runs Step st (lines ++ line ∷ []) (rs ++ r ∷ []) end
+  run_longer st mid end [] [] line r run one = (end, subst (λ (a : A). Step a line r end) run one, refl)
+  run_longer st mid end [] (q ∷ rs) line r run one = absurd run
+  run_longer st mid end (l ∷ lines) [] line r run one = absurd run
+  run_longer st mid end (l ∷ lines) (q ∷ rs) line r run one = (run.0, run.1, run_longer run.0 mid end lines rs line r run.2 one)
+
+  -- what holds of no step, and with a step before it of all, holds of each run
+  pub by_steps : (P : A → List L → List R → A → Type 0) → ((st : A) → P st [] [] st)
+      → ((st next end : A) (line : L) (r : R) (lines : List L) (rs : List R) → Step st line r next → P next lines rs end → P st (line ∷ lines) (r ∷ rs) end)
+      → (st end : A) (lines : List L) (rs : List R) → Runs Step st lines rs end → P st lines rs end
+  by_steps P none more st end [] [] run = subst (P st [] []) (sym run) (none st)
+  by_steps P none more st end [] (r ∷ rs) run = absurd run
+  by_steps P none more st end (line ∷ lines) [] run = absurd run
+  by_steps P none more st end (line ∷ lines) (r ∷ rs) run =
+      more st run.0 end line r lines rs run.1 (by_steps P none more run.0 end lines rs run.2)
+
+  -- a run has as many replies as lines
+  pub as_many : (st end : A) (lines : List L) (rs : List R) → Runs Step st lines rs end → length rs ≡ length lines
+  as_many = by_steps (λ st lines rs end. length rs ≡ length lines) (λ st. refl) (λ st next end line r lines rs one rest. ap (λ n. suc n) rest)
+
+  -- a run keeps what each step keeps
+  pub run_keeps : (Keeps : A → A → Type 0) → ((st : A) → Keeps st st) → ((st next end : A) → Keeps st next → Keeps next end → Keeps st end)
+      → ((st next : A) (line : L) (r : R) → Step st line r next → Keeps st next)
+      → (st end : A) (lines : List L) (rs : List R) → Runs Step st lines rs end → Keeps st end
+  run_keeps Keeps none trans each =
+      by_steps (λ st lines rs end. Keeps st end) none (λ st next end line r lines rs one rest. trans st next end (each st next line r one) rest)
+
+  -- what holds at each step that begins where the first holds and leads to where the second holds
+  pub run_at_each : (P : A → L → R → A → Type 0) (Begins Ends : A → Type 0)
+      → ((st next : A) (line : L) (r : R) → Step st line r next → Begins st → Begins next)
+      → ((st next : A) (line : L) (r : R) → Step st line r next → Ends next → Ends st)
+      → ((st next : A) (line : L) (r : R) → Step st line r next → Begins st → Ends next → P st line r next)
+      → (st end : A) (lines : List L) (rs : List R) (run : Runs Step st lines rs end) → Begins st → Ends end → AtEach Step P st lines rs end run
+  run_at_each P Begins Ends on back here st end [] [] run b e = tt
+  run_at_each P Begins Ends on back here st end [] (r ∷ rs) run b e = tt
+  run_at_each P Begins Ends on back here st end (line ∷ lines) [] run b e = tt
+  run_at_each P Begins Ends on back here st end (line ∷ lines) (r ∷ rs) run b e =
+      let ends = run_keeps (λ st end. Ends end → Ends st) (λ st h. h) (λ st next end f g h. f (g h)) back run.0 end lines rs run.2 e in
+      (here st run.0 line r run.1 b ends, run_at_each P Begins Ends on back here run.0 end lines rs run.2 (on st run.0 line r run.1 b) e)
+
+-- ---- one more at the end
+
+pub each_longer : {A : Type 0} (P : A → Type 0) (xs : List A) (x : A) → AllByRecursion P xs → P x → AllByRecursion P (xs ++ x ∷ [])
+each_longer P [] x all one = (one, tt)
+each_longer P (y ∷ xs) x all one = (all.0, each_longer P xs x all.1 one)
+
+pub flat_longer : {A B : Type 0} (f : A → List B) (xs : List A) (x : A) → flat_map f (xs ++ x ∷ []) ≡ flat_map f xs ++ f x
+flat_longer f xs x = flat_map-append f xs (x ∷ []) ∙ ap (λ t. flat_map f xs ++ t) (append-nil (f x))

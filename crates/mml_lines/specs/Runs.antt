@@ -1,0 +1,20 @@
+-- One step after another: what lines lead to, with the reply to each.
+use Rattle.std.specs.Prelude.{◌≡◌, List, [], ◌∷◌}
+
+-- one step after another, from a state to the end, each from where the one before led
+abbrev pub Runs : {A L R : Type 0} → (A → L → R → A → Type 0) → A → List L → List R → A → Type 0
+Runs Step st [] [] end = end ≡ st
+Runs {A} Step st (line ∷ lines) (r ∷ rs) end = (next : A) × Step st line r next × Runs Step next lines rs end
+Runs Step st [] (r ∷ rs) end = ⊥
+Runs Step st (line ∷ lines) [] end = ⊥
+
+-- the same of steps that have no reply
+abbrev pub Chain : {A L : Type 0} → (L → A → A → Type 0) → A → List L → A → Type 0
+Chain Step st lines end = Runs (λ st line r next. Step line st next) st lines lines end
+
+-- so it is at each step of a run: of where it begins, of its line and its reply, and of where it leads
+abbrev pub AtEach : {A L R : Type 0} (Step P : A → L → R → A → Type 0) (st : A) (lines : List L) (rs : List R) (end : A) → Runs Step st lines rs end → Type 0
+AtEach Step P st [] [] end run = Unit {0}
+AtEach Step P st [] (r ∷ rs) end run = Unit {0}
+AtEach Step P st (line ∷ lines) [] end run = Unit {0}
+AtEach Step P st (line ∷ lines) (r ∷ rs) end run = P st line r run.0 × AtEach Step P run.0 lines rs end run.2
