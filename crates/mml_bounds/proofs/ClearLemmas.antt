@@ -2,6 +2,7 @@
 use Rattle.std.proofs.Common.{◌≡◌, ℕ, zero, suc, ◌+◌, ◌<◌, ◌≤◌, ◌⊎◌, inl, inr, Bool, true, false, cond, not, Option, None, Some, is_some}
 use Rattle.std.proofs.Common.{sym, refl, ap, ◌∙◌, subst, arith}
 use Rattle.std.proofs.lemmas.Bool.{cases_lt, cases_eq}
+use Rattle.std.proofs.lemmas.Bool.Decides.{nat_tests}
 use Rattle.mml_rules.specs.declared.rule.Rule.{Rule}
 use Rattle.mml_rules.specs.Configuration.{Configuration, IsLawful, holds}
 use Rattle.mml_rules.specs.Rules.{is_married}
@@ -73,9 +74,7 @@ module _ (n : ℕ) (f : ℕ → Option ℕ) (Shape : Configuration → Type 0) (
   module _ (r : RosterValue) (s : ℕ) (owned : (i : ℕ) → i < n → owns r (who.Student s) i ≡ true) where
     pub clear : (left i a : ℕ) → i + left ≡ n → (w : World) → IsWorld w → IsQuiet w → Cleared i (f i) true (configuration w)
         → ((u : World) → IsWorld u → IsQuiet u → Cleared n (f n) true (configuration u) → Goes a r u) → Goes (cleared f left i a) r w
-    clear zero i a e w world quiet at next =
-        let last : i ≡ n = omega (arith, e) in
-        next w world quiet (subst (λ z. Cleared z (f z) true (configuration w)) last at)
+    clear zero i a e w world quiet at next = grind (arith, nat_tests)
     clear (suc left) i a e w world quiet at next =
         let lt : i < n = omega (arith, e) in
         let c = configuration w in

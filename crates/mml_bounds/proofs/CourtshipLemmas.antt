@@ -1,7 +1,8 @@
 -- In a step each node pays for its move by its part, but where some nodes are newly married: then each of these is lent 1, and each other 2.
 use Rattle.std.proofs.Common.{◌≡◌, ℕ, ◌+◌, ◌<◌, ◌≤◌, Bool, true, false, cond, not, ◌&&◌, inl, inr, Option, None, Some, is_some, refl, ap, ◌∙◌, arith, nat_lt}
 use Rattle.std.specs.Option.{option_map_or}
-use Rattle.std.proofs.lemmas.Bool.{and_parts, and_from, both_ways, ltb-true, lt-ltb, cases_Bool, false_from_ne_true, not-true}
+use Rattle.std.proofs.lemmas.Bool.{and_parts, both_ways, ltb-true, cases_Bool, false_from_ne_true, not-true}
+use Rattle.std.proofs.lemmas.Bool.Decides.{nat_tests}
 use Rattle.mml_rules.specs.declared.rule.Rule.{Rule}
 use Rattle.mml_rules.specs.Configuration.{Configuration, IsLawful, holds}
 use Rattle.mml_rules.specs.Rules.{is_married, moved, step, AllHold}
@@ -11,7 +12,7 @@ use Rattle.mml_rules.proofs.StepLemmas.{step-lawful}
 use Rattle.mml_convergence.proofs.StepLemmas.{step-married, moved-m}
 use Rattle.mml_convergence.proofs.MovesLemmas.{updates, marries, seduces, seduced, abandons, abandoned, drops}
 use Rattle.mml_convergence.proofs.MarriedCountLemmas.{Calm}
-use Rattle.mml_bounds.specs.Courtships.{is_courting, pointer_part, node_part}
+use Rattle.mml_bounds.specs.Courtships.{pointer_part, node_part}
 
 -- ---- the parts
 
@@ -30,17 +31,11 @@ null_part d i e =
 
 -- what courting means
 court : (d : Configuration) (i j : ℕ) → d.p i ≡ Some j → i < j → d.m j ≡ false → is_married d j ≡ false → pointer_part d i ≡ 0
-court d i j e lt off free =
-    let on : is_courting d i ≡ true =
-    ap (λ o. option_map_or (λ j. nat_lt i j && (not (d.m j) && not (is_married d j))) o false) e
-    ∙ and_from (nat_lt i j) (not (d.m j) && not (is_married d j)) (lt-ltb i j lt) (and_from _ _ (ap not off) (ap not free)) in
-    ap (λ b. cond {A = ℕ} b 0 (cond (is_some (d.p i)) 2 1)) on
+court d i j e lt off free = grind (arith, nat_tests)
 
 -- a pointer at a node that is lower, or whose m is true
 pub vain_part : (d : Configuration) (i j : ℕ) → d.p i ≡ Some j → nat_lt i j && (not (d.m j) && not (is_married d j)) ≡ false → pointer_part d i ≡ 2
-vain_part d i j e off =
-    let none : is_courting d i ≡ false = ap (λ o. option_map_or (λ j. nat_lt i j && (not (d.m j) && not (is_married d j))) o false) e ∙ off in
-    ap (λ b. cond {A = ℕ} b 0 (cond (is_some (d.p i)) 2 1)) none ∙ ap (λ o. cond {A = ℕ} (is_some o) 2 1) e
+vain_part d i j e off = grind (arith, nat_tests)
 
 wed_most : (b : Bool) → cond b 0 1 ≤ 1
 wed_most true = omega arith
@@ -175,19 +170,7 @@ module _ (c : Configuration) (chosen : ℕ → Option Rule) (l : IsLawful c) (h 
 
     -- a pointer that stays
     pointer_kept : (i : ℕ) → next.p i ≡ c.p i → pointer_part next i ≤ pointer_part c i
-    pointer_kept i same = go (c.p i) refl
-      where
-        go : (o : Option ℕ) → c.p i ≡ o → pointer_part next i ≤ pointer_part c i
-        go None e =
-            omega (arith, null_part c i e, null_part next i (same ∙ e))
-        go (Some j) e = elim (cases_Bool (nat_lt i j && (not (c.m j) && not (is_married c j)))) [
-          | inl on ↦
-              let x = and_parts (nat_lt i j) (not (c.m j) && not (is_married c j)) on in
-              let y = and_parts (not (c.m j)) (not (is_married c j)) x.1 in
-              omega (arith, courts_then i j (same ∙ e) (ltb-true i j x.0) (not-true _ y.1) (not-true _ y.0))
-          | inr off ↦
-              omega (arith, vain_part c i j e off, pointer_most next i)
-        ]
+    pointer_kept i same = grind (arith, nat_tests, null_part, courts_then, vain_part, pointer_most)
 
     calm_free : (i : ℕ) (o : Option Rule) → chosen i ≡ o → is_married c i ≡ false → node_part next i + cond (is_some o) 1 0 ≤ node_part c i
     calm_free i o e a = go o e
@@ -248,17 +231,4 @@ module _ (c : Configuration) (chosen : ℕ → Option Rule) (l : IsLawful c) (h 
   -- ---- each node pays for its own move, with what it is lent
 
   pub lent_pays : (i : ℕ) → node_part next i + cond (is_some (chosen i)) 1 0 ≤ node_part c i + cond (is_married next i) (cond (is_married c i) 0 1) 2
-  lent_pays i = elim (cases_Bool (is_married c i)) [
-    | inl on ↦ let paid = wed_pays i (chosen i) refl on in omega (arith, paid)
-    | inr off ↦ elim (cases_Bool (is_married next i)) [
-      | inl new ↦
-          let paid = newly_pays i (chosen i) refl off new in
-          let lent : cond {A = ℕ} (is_married next i) (cond (is_married c i) 0 1) 2 ≡ 1 =
-          ap (λ b. cond {A = ℕ} b (cond (is_married c i) 0 1) 2) new ∙ ap (λ b. cond {A = ℕ} b 0 1) off in
-          omega (arith, paid, lent)
-      | inr still ↦
-          let paid = free_pays i (chosen i) refl off still in
-          let lent : cond {A = ℕ} (is_married next i) (cond (is_married c i) 0 1) 2 ≡ 2 = ap (λ b. cond {A = ℕ} b (cond (is_married c i) 0 1) 2) still in
-          omega (arith, paid, lent)
-    ]
-  ]
+  lent_pays i = grind (arith, nat_tests, wed_pays, newly_pays, free_pays)

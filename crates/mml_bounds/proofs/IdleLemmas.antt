@@ -1,7 +1,8 @@
 -- Nodes at which no rule may be applied, and nodes at which a certain one may.
-use Rattle.std.proofs.Common.{◌≡◌, ℕ, ◌<◌, ◌≤◌, ◌⊎◌, inl, inr, Bool, true, false, not, None, Some, sym, refl, ap, ◌∙◌, arith}
+use Rattle.std.proofs.Common.{◌≡◌, ℕ, ◌<◌, ◌≤◌, ◌⊎◌, Bool, true, false, not, None, Some, sym, refl, ap, ◌∙◌, arith}
 use Rattle.std.specs.Bool.{beq}
-use Rattle.std.proofs.lemmas.Bool.{both_ways, false≢true, false_from_ne_true, not-true}
+use Rattle.std.proofs.lemmas.Bool.{both_ways, false≢true, false_from_ne_true}
+use Rattle.std.proofs.lemmas.Bool.Decides.{nat_tests}
 use Rattle.mml_rules.specs.declared.rule.Rule.{Rule}
 use Rattle.mml_rules.specs.Configuration.{Configuration, IsLawful, holds}
 use Rattle.mml_rules.specs.Rules.{is_married, greatest_candidate, guard, is_privileged}
@@ -21,23 +22,11 @@ module _ (c : Configuration) (l : IsLawful c) where
 
   -- a node of a pair whose m is true
   pub settled : (i j : ℕ) → c.p i ≡ Some j → c.p j ≡ Some i → c.m i ≡ true → is_privileged c i ≡ false
-  settled i j a b m = idle i go
-    where
-      go : (rule : Rule) → guard c i rule ≡ true → ⊥
-      go Rule.Update g = both_ways (is_married c i) (not-true _ (sym (updates c i g) ∙ m)) (married-from c i j l a b)
-      go (Rule.Marriage k) g = let null = (marries c i k g).null in cc
-      go Rule.Seduction g = let some = seduced c i g in let null = (seduces c i some.0 g some.1).null in cc
-      go Rule.Abandonment g = both_ways (holds (c.p j) i) (abandons c i j g a).unanswered (holds-from (c.p j) i b)
+  settled i j a b m = grind (arith, nat_tests, idle, updates, married-from, marries, seduced, seduces, abandons, holds-from)
 
   -- a node that points at a higher one, which doesn't point back and has m false
   pub waiting : (i j : ℕ) → c.p i ≡ Some j → holds (c.p j) i ≡ false → c.m i ≡ false → c.m j ≡ false → i < j → is_privileged c i ≡ false
-  waiting i j a off m n lt = idle i go
-    where
-      go : (rule : Rule) → guard c i rule ≡ true → ⊥
-      go Rule.Update g = both_ways (c.m i) m (updates c i g ∙ ap not (married-at c i j l a ∙ off))
-      go (Rule.Marriage k) g = let null = (marries c i k g).null in cc
-      go Rule.Seduction g = let some = seduced c i g in let null = (seduces c i some.0 g some.1).null in cc
-      go Rule.Abandonment g = elim (abandons c i j g a).vain [ inl on ↦ both_ways (c.m j) n on | inr gt ↦ omega (arith, lt, gt) ]
+  waiting i j a off m n lt = grind (arith, nat_tests, idle, updates, married-at, marries, seduced, seduces, abandons)
 
   -- a node that points nowhere, at which nobody points, and of whose higher neighbours each points somewhere
   pub lonely : (i : ℕ) → c.p i ≡ None → c.m i ≡ false → ((j : ℕ) → c.p j ≡ Some i → ⊥) → ((j : ℕ) → c.linked i j ≡ true → i < j → c.p j ≡ None → ⊥)
@@ -66,9 +55,7 @@ module _ (c : Configuration) (l : IsLawful c) where
   may_marry i j a m linked b = (guard-means c i (Rule.Marriage j) l).1 (right i (m ∙ sym (married-null c i a)), a, linked, b)
 
   pub may_abandon : (i j : ℕ) → c.p i ≡ Some j → holds (c.p j) i ≡ false → c.m i ≡ false → (c.m j ≡ true) ⊎ (j < i) → guard c i Rule.Abandonment ≡ true
-  may_abandon i j a off m vain =
-      (guard-means c i Rule.Abandonment l).1
-      (right i (m ∙ sym (married-at c i j l a ∙ off)), (j, a, (λ b. both_ways (holds (c.p j) i) off (holds-from (c.p j) i b)), vain))
+  may_abandon i j a off m vain = grind (arith, nat_tests, guard-means, right, married-at, holds-from)
 
   pub may_seduce : (i j : ℕ) → c.p i ≡ None → c.m i ≡ false → ((k : ℕ) → c.p k ≡ Some i → ⊥) → IsCandidate c i j → guard c i Rule.Seduction ≡ true
   may_seduce i j a m none candidate =

@@ -2,6 +2,7 @@
 use Rattle.std.proofs.Common.{◌≡◌, ℕ, zero, suc, ◌+◌, ◌*◌, ◌-◌, ◌<◌, ◌≤◌, Bool, true, false, cond, ◌==◌, Some, List, length, refl, ap, arith}
 use Rattle.std.specs.List.{list_all}
 use Rattle.std.proofs.lemmas.Bool.{eqb-true, ne_eqb}
+use Rattle.std.proofs.lemmas.Bool.Decides.{nat_tests}
 use Rattle.mml_ids.specs.declared.TheConstants.{MAX_NODES}
 use Rattle.mml_ids.specs.Search.{count_below}
 use Rattle.mml_rules.specs.declared.regs.Regs.{Regs}
@@ -64,9 +65,7 @@ module _ (r : RosterValue) (s n : ℕ) (owned : (i : ℕ) → i < n → owns r (
 moves_sum : (q : ℕ) (odd : Bool) → moves_of q odd + cond odd 1 0 ≡ 2 * q + 2 + cond odd 1 0 + 2 * most_courtships (2 * q + 2 + cond odd 1 0)
 moves_sum zero false = refl
 moves_sum zero true = refl
-moves_sum (suc q) odd =
-    let e : 2 * suc q + 2 + cond odd 1 0 ≡ suc (suc (2 * q + 2 + cond odd 1 0)) = omega arith in
-    omega (arith, moves_sum q odd, ap most_courtships e)
+moves_sum (suc q) odd = grind (arith, nat_tests, moves_sum q odd)
 
 abbrev pub Applies : RosterValue → World → ℕ → Type 0
 Applies r w a = (es : List Event) × (is_legal_list r w es ≡ true) × (list_all is_grant_or_close es ≡ true) × (applied_over w es ≡ a)

@@ -1,5 +1,6 @@
 -- Sums, counts, and how the most courtships grow with the number of nodes.
 use Rattle.std.proofs.Common.{◌≡◌, ℕ, zero, suc, ◌+◌, ◌*◌, ◌≤◌, ◌-◌, Bool, true, cond, not, refl, ap, subst, arith}
+use Rattle.std.proofs.lemmas.Bool.Decides.{nat_tests}
 use Rattle.mml_ids.specs.Search.{count_below}
 use Rattle.mml_convergence.specs.Potential.{sum_below}
 use Rattle.mml_bounds.specs.Courtships.{most_courtships}
@@ -35,9 +36,7 @@ courtships_grow zero = omega arith
 courtships_grow (suc n) = let rest = courtships_rise n in omega (arith, rest)
 
 courtships_between : (n k : ℕ) → most_courtships n ≤ most_courtships (n + k)
-courtships_between n zero =
-    let e : n + 0 ≡ n = omega arith in
-    omega (arith, ap most_courtships e)
+courtships_between n zero = grind (arith, nat_tests)
 courtships_between n (suc k) =
     let rest = courtships_between n k in
     let last = courtships_rise (n + k) in
@@ -56,9 +55,7 @@ courtships_more (suc n) le = courtships_grow n
 
 -- two nodes more, and others, pay 1 for each that is gone and 2 for each that is left
 couples_pay : (n k : ℕ) → 2 * most_courtships n + (n + (n + 2 + k)) ≤ 2 * most_courtships (n + 2 + k)
-couples_pay n zero =
-    let e : n + 2 + 0 ≡ suc (suc n) = omega arith in
-    omega (arith, ap most_courtships e)
+couples_pay n zero = grind (arith, nat_tests)
 couples_pay n (suc k) =
     let rest = couples_pay n k in
     let last = courtships_more (n + 2 + k) (omega arith) in

@@ -1,9 +1,9 @@
 -- The rules of a phase stand while others of its nodes have moved.
 use Rattle.std.proofs.Common.{◌≡◌, ℕ, suc, ◌+◌, ◌*◌, ◌<◌, ◌≤◌, inl, inr, Bool, true, false, not, None, Some, sym, refl, ap, ◌∙◌, subst, arith}
 use Rattle.std.proofs.lemmas.Bool.{cases_Bool, cases_lt, ne_eqb, eqb-true, or_cases, false_from_ne_true}
+use Rattle.std.proofs.lemmas.Bool.Decides.{nat_tests}
 use Rattle.mml_rules.specs.declared.rule.Rule.{Rule}
 use Rattle.mml_rules.specs.Configuration.{Configuration, holds}
-use Rattle.mml_rules.specs.Rules.{guard, effect}
 use Rattle.mml_rules.specs.Meaning.{IsCandidate}
 use Rattle.mml_rules.proofs.RulesLemmas.{married-null, married-from}
 use Rattle.mml_bounds.proofs.MoveLemmas.{IsMoved, kept, turned}
@@ -14,10 +14,7 @@ use Rattle.mml_bounds.proofs.SinglyLemmas.{Stands, above, above_in, above_off, a
 
 -- a pointer stays where all that moved have updated
 update_keeps : (c d : Configuration) (t : ℕ → Bool) → IsMoved c d t Rule.Update → (i : ℕ) → i < c.size → d.p i ≡ c.p i
-update_keeps c d t e i lt = elim (cases_Bool (t i)) [
-  | inl on ↦ (turned c d t Rule.Update e i lt on).0
-  | inr off ↦ (kept c d t Rule.Update e i lt off).0
-]
+update_keeps c d t e i lt = grind (arith, nat_tests, turned, kept)
 
 -- all nodes update that point nowhere, with m true
 pub first_updates_stand : (c : Configuration) (t : ℕ → Bool) → ((i : ℕ) → i < c.size → (c.p i ≡ None) × (c.m i ≡ true)) → Stands c t Rule.Update
@@ -83,31 +80,7 @@ module _ (n : ℕ) (low : ℕ → Bool) (r b : ℕ) (sum : r + b + 1 ≡ n) (roo
           ]
 
   pub marriage_stands : (c : Configuration) → Courted n low r b sum room c → Stands c (marries_now n low r b sum room) (Rule.Marriage r)
-  marriage_stands c k d i lt on e = subst (λ z. (guard d z (Rule.Marriage r) ≡ true) × ((effect d z (Rule.Marriage r)).p ≡ (effect c z (Rule.Marriage r)).p) × ((effect d z (Rule.Marriage r)).m ≡ (effect c z (Rule.Marriage r)).m))
-      (sym at) (may_marry d e.lawful b r (at_b.0 ∙ k.bride.0) (at_b.1 ∙ k.bride.1) linked (at_r.0 ∙ courting.0), refl, at_b.1)
-    where
-      t : ℕ → Bool
-      t = marries_now n low r b sum room
-
-      at : i ≡ b
-      at = eqb-true i b on
-
-      still : (j : ℕ) → j < c.size → (d.p j ≡ c.p j) × (d.m j ≡ c.m j)
-      still j j_in = kept c d (above t (suc i)) (Rule.Marriage r) e j j_in (false_from_ne_true (above t (suc i) j) (λ moved.
-          let y = above_in t (suc i) j moved in
-          omega (arith, y.1, eqb-true j b y.0, at)))
-
-      at_b : (d.p b ≡ c.p b) × (d.m b ≡ c.m b)
-      at_b = still b (omega (arith, sum, k.shape.size))
-
-      at_r : (d.p r ≡ c.p r) × (d.m r ≡ c.m r)
-      at_r = still r (omega (arith, room, k.shape.size))
-
-      courting : (c.p r ≡ Some b) × (c.m r ≡ false)
-      courting = k.courting r (omega arith) (omega (arith, room, sum)) (k.shape.lowest r room)
-
-      linked : d.linked b r ≡ true
-      linked = e.linked b r ∙ (k.shape.joined r b r sum room (omega arith) (omega (arith, room, sum)) (k.shape.lowest r room)).1
+  marriage_stands c k d i lt on e = grind (arith, nat_tests, may_marry, marries_now, kept, above, above_in)
 
   -- who learns points at the other, which points back
   record Paired (c : Configuration) (i : ℕ) : Type 0 where

@@ -1,10 +1,11 @@
 -- A world at the beginning whose links a test gives.
-use Rattle.std.proofs.Common.{◌≡◌, ℕ, ◌<◌, ◌≤◌, Bool, true, false, ◌&&◌, nat_lt, nat_cmp, None, Some, List, length, inl, inr, map, sym, ap, ◌∙◌, arith}
+use Rattle.std.proofs.Common.{◌≡◌, ℕ, ◌<◌, ◌≤◌, Bool, true, false, ◌&&◌, nat_lt, nat_cmp, None, Some, List, length, map, ap, ◌∙◌, arith}
 use Rattle.std.specs.FinSet as sets
 use Rattle.std.specs.List.{range_with_len}
-use Rattle.std.proofs.lemmas.Bool.{both_ways, false_from_ne_true, and_parts, and_from, cases_lt, lt-ltb, ltb-true}
+use Rattle.std.proofs.lemmas.Bool.{and_from, lt-ltb}
 use Rattle.std.proofs.lemmas.List.{get_or_past}
 use Rattle.std.proofs.lemmas.List.FromFn.{get_or-map-range_with_len, length-map-range_with_len}
+use Rattle.std.proofs.lemmas.Bool.Decides.{nat_tests}
 use Rattle.mml_ids.specs.declared.TheConstants.{MAX_NODES}
 use Rattle.mml_ids.specs.Sets.{those_below}
 use Rattle.mml_ids.specs.inside.WordsLemmas.{has_empty, has-those_below}
@@ -34,10 +35,7 @@ module _ (n : ℕ) (test : ℕ → ℕ → Bool) (registers : List Regs) (sized 
       ap (λ (x : sets.FinSet nat_cmp). sets.contains x j) (get_or_past opening.network.neighbours i sets.empty (omega (arith, past, rows))) ∙ has_empty j
 
   pub linked-means : (i j : ℕ) → at_first.linked i j ≡ true → (i < n) × (j < n) × (test i j ≡ true)
-  linked-means i j e = elim (cases_lt i n) [
-    | inl lt ↦ let x = and_parts (nat_lt j n) (test i j) (sym (first_linked i j lt) ∙ e) in (lt, ltb-true j n x.0, x.1)
-    | inr past ↦ absurd (both_ways (at_first.linked i j) (unlinked i j past) e)
-  ]
+  linked-means i j e = grind (arith, nat_tests, first_linked, unlinked)
 
   pub linked-from : (i j : ℕ) → i < n → j < n → test i j ≡ true → at_first.linked i j ≡ true
   linked-from i j a b e = first_linked i j a ∙ and_from _ _ (lt-ltb j n b) e
@@ -48,19 +46,7 @@ module _ (n : ℕ) (test : ℕ → ℕ → Bool) (registers : List Regs) (sized 
 
   pub first_lawful : ((i j : ℕ) → test i j ≡ true → test j i ≡ true) → ((i : ℕ) → test i i ≡ true → ⊥)
       → ((i j : ℕ) → i < n → at_first.p i ≡ Some j → (j < n) × (test i j ≡ true)) → IsLawful at_first
-  first_lawful turns loops points = record {
-    in_range = λ i j e. let x = linked-means i j e in (omega (arith, x.0, sized), omega (arith, x.1, sized));
-    symmetric = λ i j e. let x = linked-means i j e in linked-from j i x.1 x.0 (turns i j x.2);
-    no_loop = λ i. false_from_ne_true (at_first.linked i i) (λ e. loops i (linked-means i i e).2);
-    to_linked = λ i j e. elim (cases_lt i n) [
-      | inl lt ↦ let x = points i j lt e in linked-from i j lt x.0 x.1
-      | inr past ↦ let none = null_past i past in cc
-    ];
-  }
+  first_lawful turns loops points = grind (arith, nat_tests, linked-means, linked-from, null_past)
 
   pub first_world : IsLawful at_first → n ≤ MAX_NODES → IsWorld opening
-  first_world lawful few = record {
-    network = record { rows = rows ∙ sym sized; few = omega (arith, few, sized); lawful = lawful };
-    choices = length-none (length registers) None;
-    hold = hold-none (length registers) at_first;
-  }
+  first_world lawful few = grind (arith, nat_tests, rows, length-none, hold-none)

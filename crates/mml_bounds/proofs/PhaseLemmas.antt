@@ -1,8 +1,9 @@
 -- A phase of four steps: the low nodes seduce the highest free node, it marries the lowest, both update, the others abandon it.
 use Rattle.std.proofs.Common.{◌≡◌, ℕ, suc, ◌+◌, ◌*◌, ◌-◌, ◌<◌, ◌≤◌, ◌⊎◌, inl, inr, Bool, true, false, not, ◌&&◌, ◌||◌, ◌==◌, nat_lt, Option, None, Some}
 use Rattle.std.proofs.Common.{sym, refl, ap, ◌∙◌, subst, arith}
-use Rattle.std.proofs.lemmas.Bool.{both_ways, false_from_ne_true, and_parts, and_from, or_cases, or_left, or_right, or_from, cases_lt, cases_eq, cases_Bool}
-use Rattle.std.proofs.lemmas.Bool.{ltb-true, lt-ltb, eqb-true, eq-eqb, ne_eqb}
+use Rattle.std.proofs.lemmas.Bool.{both_ways, false_from_ne_true, and_from, or_cases, or_left, or_right, or_from, cases_lt, cases_eq, cases_Bool}
+use Rattle.std.proofs.lemmas.Bool.{lt-ltb, eqb-true, eq-eqb, ne_eqb}
+use Rattle.std.proofs.lemmas.Bool.Decides.{nat_tests}
 use Rattle.mml_rules.specs.declared.rule.Rule.{Rule}
 use Rattle.mml_rules.specs.Configuration.{Configuration, IsLawful, holds}
 use Rattle.mml_rules.specs.Rules.{guard, is_privileged}
@@ -75,10 +76,7 @@ couples_kept n r c d t rule e size few couples off i j lt sum =
 
 between_kept : (n r b q : ℕ) (low : ℕ → Bool) (is_low : Bool) (at : Option ℕ) (c d : Configuration) (t : ℕ → Bool) (rule : Rule) → IsMoved c d t rule → c.size ≡ n
     → b < n → r ≤ q → Between r b low is_low at c → ((i : ℕ) → q ≤ i → i < b → low i ≡ is_low → t i ≡ false) → Between q b low is_low at d
-between_kept n r b q low is_low at c d t rule e size b_in le between off i from below is =
-    let x = between i (omega (arith, from, le)) below is in
-    let a = kept c d t rule e i (omega (arith, below, b_in, size)) (off i from below is) in
-    (a.0 ∙ x.0, a.1 ∙ x.1)
+between_kept n r b q low is_low at c d t rule e size b_in le between off i from below is = grind (arith, nat_tests, kept)
 
 -- a pointer's owner is a node
 pub owner_in : (n : ℕ) (low : ℕ → Bool) (c : Configuration) → Shape n low c → (j i : ℕ) → c.p j ≡ Some i → j < n
@@ -134,20 +132,13 @@ module _ (n : ℕ) (low : ℕ → Bool) (r b : ℕ) (sum : r + b + 1 ≡ n) (roo
   leaves i = nat_lt r i && (nat_lt i b && low i)
 
   pub courts-means : (i : ℕ) → courts i ≡ true → (r ≤ i) × (i < b) × (low i ≡ true)
-  courts-means i on =
-      let x = and_parts (nat_lt r (i + 1)) (nat_lt i b && low i) on in
-      let y = and_parts (nat_lt i b) (low i) x.1 in
-      let from = ltb-true r (i + 1) x.0 in
-      (omega (arith, from), ltb-true i b y.0, y.1)
+  courts-means i on = grind (arith, nat_tests)
 
   pub courts-from : (i : ℕ) → r ≤ i → i < b → low i ≡ true → courts i ≡ true
   courts-from i from below is = and_from _ _ (lt-ltb r (i + 1) (omega (arith, from))) (and_from _ _ (lt-ltb i b below) is)
 
   pub leaves-means : (i : ℕ) → leaves i ≡ true → (r < i) × (i < b) × (low i ≡ true)
-  leaves-means i on =
-      let x = and_parts (nat_lt r i) (nat_lt i b && low i) on in
-      let y = and_parts (nat_lt i b) (low i) x.1 in
-      (ltb-true r i x.0, ltb-true i b y.0, y.1)
+  leaves-means i on = grind (arith, nat_tests)
 
   pub leaves-from : (i : ℕ) → r < i → i < b → low i ≡ true → leaves i ≡ true
   leaves-from i from below is = and_from _ _ (lt-ltb r i from) (and_from _ _ (lt-ltb i b below) is)

@@ -2,7 +2,8 @@
 use Rattle.std.proofs.Common.{◌≡◌, ℕ, zero, suc, ◌+◌, ◌<◌, ◌≤◌, ◌⊎◌, inl, inr, Bool, true, false, cond, not, ◌&&◌, nat_le, None, Some, List, [], ◌∷◌, ◌++◌}
 use Rattle.std.proofs.Common.{sym, refl, ap, ◌∙◌, subst, arith}
 use Rattle.std.specs.List.{list_all}
-use Rattle.std.proofs.lemmas.Bool.{and_from, both_ways, false≢true, false_from_ne_true, or_left, or_right, cases_Bool, cases_lt, cases_eq, le-leb, leb-true, eq-eqb, ne_eqb}
+use Rattle.std.proofs.lemmas.Bool.{and_from, both_ways, false≢true, or_left, or_right, cases_Bool, cases_eq, le-leb, leb-true, eq-eqb, ne_eqb}
+use Rattle.std.proofs.lemmas.Bool.Decides.{nat_tests}
 use Rattle.mml_ids.specs.Search.{count_below}
 use Rattle.mml_rules.specs.declared.rule.Rule.{Rule}
 use Rattle.mml_rules.specs.Configuration.{Configuration}
@@ -24,11 +25,7 @@ abbrev pub above : (ℕ → Bool) → ℕ → ℕ → Bool
 above t n i = t i && nat_le n i
 
 pub above_off : (t : ℕ → Bool) (n i : ℕ) → i < n → above t n i ≡ false
-above_off t n i lt = false_from_ne_true (t i && nat_le n i) (λ e. low (t i) e)
-  where
-    low : (b : Bool) → (b && nat_le n i) ≡ true → ⊥
-    low true e = let le = leb-true n i e in omega (arith, le, lt)
-    low false e = false≢true e
+above_off t n i lt = grind (arith, nat_tests)
 
 pub above_out : (t : ℕ → Bool) (n i : ℕ) → t i ≡ false → above t n i ≡ false
 above_out t n i off = ap (λ b. b && nat_le n i) off
@@ -41,23 +38,11 @@ above_in t n i e = go (t i) refl e
     go false off e = absurd (false≢true e)
 
 above_same : (t : ℕ → Bool) (n i : ℕ) → (i ≡ n → ⊥) → above t (suc n) i ≡ above t n i
-above_same t n i other = ap (λ b. t i && b) (go (cases_lt i n))
-  where
-    go : (i < n) ⊎ (n ≤ i) → nat_le (suc n) i ≡ nat_le n i
-    go (inl lt) =
-        false_from_ne_true (nat_le (suc n) i) (λ e. let le = leb-true (suc n) i e in omega (arith, le, lt))
-        ∙ sym (false_from_ne_true (nat_le n i) (λ e. let le = leb-true n i e in omega (arith, le, lt)))
-    go (inr ge) = le-leb (suc n) i (omega (arith, ge, other)) ∙ sym (le-leb n i ge)
+above_same t n i other = grind (arith, nat_tests)
 
 -- by another test with the same answers
 relabelled : (c d : Configuration) (t u : ℕ → Bool) (rule : Rule) → ((i : ℕ) → i < c.size → t i ≡ u i) → IsMoved c d t rule → IsMoved c d u rule
-relabelled c d t u rule same e = record {
-  size = e.size;
-  lawful = e.lawful;
-  linked = e.linked;
-  p = λ i lt. e.p i lt ∙ ap (λ b. (moved c i (cond b (Some rule) None)).p) (same i lt);
-  m = λ i lt. e.m i lt ∙ ap (λ b. (moved c i (cond b (Some rule) None)).m) (same i lt);
-}
+relabelled c d t u rule same e = grind (arith, nat_tests)
 
 -- the rule may be applied at n once it was applied at all that pass and are higher, and does what it would have done before
 abbrev pub Stands : (c : Configuration) (t : ℕ → Bool) (rule : Rule) → Type 0
