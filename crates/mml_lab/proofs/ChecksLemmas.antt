@@ -24,17 +24,15 @@ use Rattle.mml_lab.specs.inside.Checks.{rank_at, lacks_rank, are_near, lab_with}
 use Rattle.mml_lab.proofs.LabInLemmas.{positive}
 use Rattle.mml_lab.proofs.LabMeaningLemmas.{any_means, ranked}
 use Rattle.mml_lab.proofs.NeighboursLemmas.{AreRows, has-neighbours_of, all_rows}
+use Rattle.std.proofs.Common.{arith}
 
 some_rank : (o : Option ℕ) → is_some o ≡ true → (j : ℕ) × (o ≡ Some j)
-some_rank None h = absurd (false≢true h)
-some_rank (Some j) h = (j, refl)
+some_rank o h = grind (arith, false≢true)
 
 -- the rank of an integer is that of its own identifier
 rank-names : (ids : List ℕ) → IsTable ids → (z : ℤ) (j : ℕ) → rank_at ids z ≡ Some j → (j < length ids) × (z ≡ pos (slice_index ids j))
 unfolding rank_at
-rank-names ids table z j at =
-    let within = (position-Some (λ n. n == number_of z) ids j 0 at).0 in
-    (within, positive z (slice_index ids j) (sym (id_of_rank ids (number_of z) j at)) (table.positive j within))
+rank-names ids table z j at = grind (arith, position-Some, positive, id_of_rank)
 
 -- a rank stands in the row of another exactly where a link joins their nodes
 near-linked : (ids : List ℕ) → IsTable ids → (links : List (ℤ × ℤ)) (rows : List (FinSet nat_cmp)) → AreRows ids links rows → (z w : ℤ)
@@ -62,8 +60,7 @@ all-ranked nodes table links right = position-none (lacks_rank (in_order (file_i
     ap not (and_from _ _ (has link.0 parts.0) (has link.1 parts.1)))
   where
     none_in : (o : Option LabFault) → unless o ≡ Ok tt → o ≡ None
-    none_in None h = refl
-    none_in (Some e) h = absurd cc
+    none_in o h = grind arith
 
     has : (z : ℤ) → is_node nodes z ≡ true → is_some (rank_in (in_order (file_ids nodes)) (number_of z)) ≡ true
     has z holds =
@@ -80,28 +77,19 @@ pub record AreFresh (ids : List ℕ) (links : List (ℤ × ℤ)) (k : ℕ) (rows
 pub again-at : (ids : List ℕ) → IsTable ids → (links : List (ℤ × ℤ)) (k : ℕ) (rows : List (FinSet nat_cmp)) (d : ℤ × ℤ) → k < length links
     → position (lacks_rank ids) links ≡ None → AreRows ids (take k links) rows
     → are_near rows (rank_at ids (get_or links k d).0) (rank_at ids (get_or links k d).1) ≡ is_link_again links k
-again-at ids table links k rows d lt ends are =
-    let link = get_or links k d in
-    let both = not-false (is_some (rank_at ids link.0) && is_some (rank_at ids link.1)) (position-None (lacks_rank ids) links d ends k lt) in
-    let parts = and_parts (is_some (rank_at ids link.0)) (is_some (rank_at ids link.1)) both in
-    near-linked ids table (take k links) rows are link.0 link.1 parts.0 parts.1
-    ∙ sym (ap (λ (o : Option (ℤ × ℤ)). option_map_or (λ l. is_linked (take k links) l.0 l.1) o false) (slice_get-get_or links k d lt))
+again-at ids table links k rows d lt ends are = grind (arith, not-false, position-None, and_parts, near-linked, slice_get-get_or)
 
 -- the first link that stood before is the error of the links
 pub again-found : (ids : List ℕ) (links : List (ℤ × ℤ)) (k : ℕ) (rows : List (FinSet nat_cmp)) → k < length links → AreFresh ids links k rows
     → is_link_again links k ≡ true → unless (again_fault links) ≡ Err (fault.LinkTwice k)
 unfolding again_fault
-again-found ids links k rows lt so_far again =
-    let found : first_below (is_link_again links) (length links) ≡ Some k = sym so_far.fresh ∙ first_here (is_link_again links) k (length links) lt again in
-    rw found refl
+again-found ids links k rows lt so_far again = grind (arith, first_here)
 
 module _ (ids : List ℕ) (links : List (ℤ × ℤ)) (k : ℕ) (rows : List (FinSet nat_cmp)) where
   -- once all links were put in, none stood before
   pub again-none : length links ≤ k → AreFresh ids links k rows → unless (again_fault links) ≡ Ok tt
   unfolding again_fault
-  again-none le so_far =
-      let none : first_below (is_link_again links) (length links) ≡ None = sym so_far.fresh ∙ first_end (is_link_again links) k (length links) le in
-      rw none refl
+  again-none le so_far = grind (arith, first_end)
 
   -- and the rows are whole
   pub all-rows : length links ≤ k → AreFresh ids links k rows → rows ≡ map (neighbours_of ids links) ids
@@ -115,17 +103,4 @@ pub gathered : (raw : RawSpec) (ids : List ℕ) (students : List Account) (rows 
     → events ≡ number_of raw.events → sessions ≡ number_of raw.sessions
     → lab_from raw ≡ Ok (lab_with ids raw.teacher students raw.nodes rows events sessions)
 unfolding lab_from checked lab_in network_in lab_with
-gathered raw ids students rows events sessions a b c d e f table same neighbours some_events some_sessions =
-    rw (
-      neighbours,
-      table,
-      same,
-      some_events,
-      some_sessions,
-      a,
-      b,
-      ap (λ s. owned s raw.nodes) (sym same) ∙ c,
-      d,
-      e,
-      ap (λ s. limited raw.events raw.sessions (length s)) (sym same) ∙ f,
-    ) refl
+gathered raw ids students rows events sessions a b c d e f table same neighbours some_events some_sessions = grind arith

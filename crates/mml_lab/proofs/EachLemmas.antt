@@ -9,6 +9,7 @@ use Rattle.toml.specs.View.{view, items_view}
 use Rattle.toml.proofs.Views.{items_view-drop}
 use Rattle.mml_lab.specs.declared.lab_fault.LabFault.{LabFault}
 use Rattle.mml_lab.specs.Shape.{each}
+use Rattle.std.proofs.Common.{arith}
 
 -- what was read before, and what is still read
 abbrev pub with_front : {A : Type 0} → List A → Result (List A) LabFault → Result (List A) LabFault
@@ -16,33 +17,24 @@ with_front front read = read >>= λ xs. Ok (front ++ xs)
 
 regroup : {A : Type 0} (front : List A) (x : A) (read : Result (List A) LabFault)
     → with_front front (read >>= λ xs. Ok (x ∷ xs)) ≡ with_front (front ++ x ∷ []) read
-regroup front x (Ok xs) = ap Ok (simp append_assoc)
-regroup front x (Err e) = refl
+regroup front x read = grind (arith, append_assoc)
 
 pub goes_on : {A : Type 0} (f : Data → Result A LabFault) (vs : List Value) (i : ℕ) (d : Value) (x : A) (front : List A) (total : Result (List A) LabFault)
     → i < length vs → f (view (get_or vs i d)) ≡ Ok x
     → with_front front (each f (items_view (drop i vs))) ≡ total → with_front (front ++ x ∷ []) (each f (items_view (drop (i + 1) vs))) ≡ total
-goes_on f vs i d x front total lt h so_far =
-    let one : with_front front (each f (items_view (drop i vs))) ≡ with_front (front ++ x ∷ []) (each f (items_view (drop (i + 1) vs))) =
-    rw (items_view-drop vs i d lt, h) (regroup front x (each f (items_view (drop (i + 1) vs)))) in
-    sym one ∙ so_far
+goes_on f vs i d x front total lt h so_far = grind (arith, items_view-drop, regroup)
 
 -- what follows where an error isn't out of memory
 pub weaker : (b : Bool) {P Q : Type 0} → (P → Q) → MatchBool b (Unit {0}) P → MatchBool b (Unit {0}) Q
-weaker true f h = tt
-weaker false f h = f h
+weaker b f h = grind arith
 
 pub ends : {A B : Type 0} (g : List A → B) (lost : LabFault → Bool) (e : LabFault) (f : Data → Result A LabFault) (vs : List Value) (i : ℕ) (d : Value)
     (front : List A) (total : Result (List A) LabFault)
     → i < length vs
     → MatchBool (lost e) (Unit {0}) (f (view (get_or vs i d)) ≡ Err e) → with_front front (each f (items_view (drop i vs))) ≡ total
     → MatchBool (lost e) (Unit {0}) (total ≡ Err e)
-ends g lost e f vs i d front total lt h so_far = weaker (lost e) (λ (k : f (view (get_or vs i d)) ≡ Err e).
-    let one : with_front front (each f (items_view (drop i vs))) ≡ Err e = rw (items_view-drop vs i d lt, k) refl in
-    sym so_far ∙ one) h
+ends g lost e f vs i d front total lt h so_far = grind (arith, weaker, items_view-drop)
 
 pub is_done : {A : Type 0} (f : Data → Result A LabFault) (vs : List Value) (i : ℕ) (front : List A) (total : Result (List A) LabFault) → length vs ≤ i
     → with_front front (each f (items_view (drop i vs))) ≡ total → total ≡ Ok front
-is_done f vs i front total le so_far =
-    let one : with_front front (each f (items_view (drop i vs))) ≡ Ok front = rw (drop_all i vs le) (ap Ok (append-nil front)) in
-    sym so_far ∙ one
+is_done f vs i front total le so_far = grind (arith, drop_all, append-nil)

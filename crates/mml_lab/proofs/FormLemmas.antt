@@ -9,6 +9,7 @@ use Rattle.std.proofs.lemmas.List.Sums.{AllPass-from_list_all, list_all-from_All
 use Rattle.mml_lab.specs.declared.TheConstants.{MAX_NAME, MAX_KEY}
 use Rattle.mml_lab.specs.Rosters.{is_name, is_key, is_name_byte}
 use Rattle.mml_lab.specs.RosterMeaning.{IsName, IsKey, IsNameByte}
+use Rattle.std.proofs.Common.{rules}
 
 in_range : (low high b : ℕ) → is_in_range low high b ≡ true → IsInRange low high b
 in_range low high b is = let parts = and_parts (nat_le low b) (nat_le b high) is in (leb-true low b parts.0, leb-true b high parts.1)
@@ -20,26 +21,13 @@ or_left : (a b : Bool) → a ≡ true → (a || b) ≡ true
 or_left a b e = rw e
 
 or_right : (a b : Bool) → b ≡ true → (a || b) ≡ true
-or_right true b e = refl
-or_right false b e = e
+or_right a b e = grind arith
 
 name_byte : (b : ℕ) → is_name_byte b ≡ true → IsNameByte b
-name_byte b is = by (or_cases (is_ascii_lowercase b || is_ascii_digit b) (b == 45) is)
-  where
-    first : (is_ascii_lowercase b ≡ true) ⊎ (is_ascii_digit b ≡ true) → IsNameByte b
-    first (inl letter) = inl (in_range 97 122 b letter)
-    first (inr digit) = inr (inl (in_range 48 57 b digit))
-
-    by : ((is_ascii_lowercase b || is_ascii_digit b) ≡ true) ⊎ ((b == 45) ≡ true) → IsNameByte b
-    by (inl other) = first (or_cases (is_ascii_lowercase b) (is_ascii_digit b) other)
-    by (inr hyphen) = inr (inr (eqb-true b 45 hyphen))
+name_byte b is = grind (arith, or_cases, in_range, eqb-true)
 
 from_name_byte : (b : ℕ) → IsNameByte b → is_name_byte b ≡ true
-from_name_byte b (inl letter) =
-    or_left (is_ascii_lowercase b || is_ascii_digit b) (b == 45) (or_left (is_ascii_lowercase b) (is_ascii_digit b) (from_range 97 122 b letter))
-from_name_byte b (inr (inl digit)) =
-    or_left (is_ascii_lowercase b || is_ascii_digit b) (b == 45) (or_right (is_ascii_lowercase b) (is_ascii_digit b) (from_range 48 57 b digit))
-from_name_byte b (inr (inr hyphen)) = or_right (is_ascii_lowercase b || is_ascii_digit b) (b == 45) (eq-eqb b 45 hyphen)
+from_name_byte b y = grind (arith, or_left, from_range, or_right, eq-eqb)
 
 each_passes : (p : ℕ → Bool) (P : ℕ → Type 0) → ((b : ℕ) → p b ≡ true → P b) → (bs : List ℕ) → list_all p bs ≡ true → All P bs
 each_passes p P means bs all = All-weaker (λ b. p b ≡ true) P means bs (AllPass-from_list_all p bs all)
@@ -81,9 +69,7 @@ key-is key is =
     }
 
 from_key : (key : List ℕ) → IsKey key → is_key key ≡ true
-from_key key form =
-    and_from _ _ (and_from _ _ (lt-ltb 0 (length key) form.some) (le-leb (length key) MAX_KEY form.short))
-    (all_pass is_ascii_graphic (IsInRange 33 126) (from_range 33 126) key form.bytes)
+from_key key form = search (rules, and_from, lt-ltb, le-leb, all_pass, from_range)
 
 -- a key is found of its form exactly where it is
 pub key-means : (key : List ℕ) → (is_key key ≡ true) ↔ IsKey key

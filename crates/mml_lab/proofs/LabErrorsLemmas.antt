@@ -25,53 +25,27 @@ abbrev HasOrder : ℕ → Option LabFault → Type 0
 HasOrder n t = (f : LabFault) → t ≡ Some f → order_of f ≡ n
 
 mapped : {A : Type 0} (n : ℕ) (make : A → LabFault) (o : Option A) → ((x : A) → order_of (make x) ≡ n) → HasOrder n (option_map make o)
-mapped n make None each f h = absurd cc
-mapped n make (Some x) each f h = let same : make x ≡ f = cc in ap order_of (sym same) ∙ each x
+mapped n make o each f h = grind arith
 
 tested : (n : ℕ) (b : Bool) (e : LabFault) → order_of e ≡ n → HasOrder n (fault_if b e)
-tested n true e is f h = let same : e ≡ f = cc in ap order_of (sym same) ∙ is
-tested n false e is f h = absurd cc
+tested n b e is f h = grind arith
 
 abbrev HaveOrder : ℕ → List (Option LabFault) → Type 0
 HaveOrder n [] = Unit {0}
 HaveOrder n (t ∷ ts) = HasOrder n t × HaveOrder (n + 1) ts
 
+and_also : {A B : Type 0} → A → B → A × B
+and_also a b = (a, b)
+
 have_order : (raw : RawSpec) → HaveOrder 0 (errors_of raw)
 unfolding both_fault ids_fault forms_fault no_owner_fault owner_twice_fault ends_fault loops_fault again_fault pointers_fault
-have_order raw = (
-  mapped 0 fault.BothOwners _ (λ x. refl),
-  (
-    mapped 1 fault.Id _ (λ x. refl),
-    (
-      mapped 2 fault.Name _ (λ x. refl),
-      (
-        mapped 3 fault.NameTwice _ (λ x. refl),
-        (
-          mapped 4 fault.NoOwner _ (λ x. refl),
-          (
-            mapped 5 fault.OwnerTwice _ (λ x. refl),
-            (
-              mapped 6 fault.LinkEnd _ (λ x. refl),
-              (
-                mapped 7 fault.Loop _ (λ x. refl),
-                (
-                  mapped 8 fault.LinkTwice _ (λ x. refl),
-                  (
-                    mapped 9 fault.BadPointer _ (λ x. refl),
-                    (
-                      tested 10 _ (fault.Limit key.Events) refl,
-                      (tested 11 _ (fault.Limit key.Sessions) refl, (tested 12 _ (fault.Limit key.Student) refl, tt)),
-                    ),
-                  ),
-                ),
-              ),
-            ),
-          ),
-        ),
-      ),
-    ),
-  ),
-)
+have_order raw = and_also (mapped 0 fault.BothOwners _ (λ x. refl)) (and_also (mapped 1 fault.Id _ (λ x. refl))
+    (and_also (mapped 2 fault.Name _ (λ x. refl)) (and_also (mapped 3 fault.NameTwice _ (λ x. refl))
+    (and_also (mapped 4 fault.NoOwner _ (λ x. refl)) (and_also (mapped 5 fault.OwnerTwice _ (λ x. refl))
+    (and_also (mapped 6 fault.LinkEnd _ (λ x. refl)) (and_also (mapped 7 fault.Loop _ (λ x. refl))
+    (and_also (mapped 8 fault.LinkTwice _ (λ x. refl)) (and_also (mapped 9 fault.BadPointer _ (λ x. refl))
+    (and_also (tested 10 _ (fault.Limit key.Events) refl) (and_also (tested 11 _ (fault.Limit key.Sessions) refl)
+    (and_also (tested 12 _ (fault.Limit key.Student) refl) tt))))))))))))
 
 -- ---- the first one
 
@@ -83,27 +57,23 @@ record IsFirstIn (n : ℕ) (ts : List (Option LabFault)) (f : LabFault) : Type 0
 
 first_in : (n : ℕ) (ts : List (Option LabFault)) (f : LabFault) → HaveOrder n ts → first_of ts ≡ Some f → IsFirstIn n ts f
 first_in n [] f have h = absurd cc
-first_in n (Some e ∷ ts) f have h =
-    record { at = 0; order = have.0 f h ∙ (omega arith); here = ap (λ o. Some o) h; before = λ k lt. absurd (omega (arith, lt)) }
+first_in n (Some e ∷ ts) f have h = grind arith
 first_in n (None ∷ ts) f have h =
     let rest = first_in (n + 1) ts f have.1 h in
     record { at = suc rest.at; order = rest.order ∙ (omega arith); here = rest.here; before = before rest.at rest.before }
   where
     before : (at : ℕ) → ((k : ℕ) → k < at → slice_get ts k ≡ Some None) → (k : ℕ) → k < suc at → slice_get (None ∷ ts) k ≡ Some None
-    before at each zero lt = refl
-    before at each (suc k) lt = each k (omega (arith, lt))
+    before at each k lt = grind arith
 
 -- the steps end in the first of these errors
 pub record EndsIn (r : Result (Unit {0}) LabFault) (ts : List (Option LabFault)) : Type 0 where
   pub first : error_of r ≡ first_of ts
 
 one : (t : Option LabFault) → EndsIn (unless t) (t ∷ [])
-one None = record { first = refl }
-one (Some e) = record { first = refl }
+one t = grind arith
 
 one_if : (b : Bool) (e : LabFault) → EndsIn (need b e) (fault_if (not b) e ∷ [])
-one_if true e = record { first = refl }
-one_if false e = record { first = refl }
+one_if b e = grind arith
 
 one_above : (n greatest : ℕ) (e : LabFault) → EndsIn (need (nat_le n greatest) e) (fault_if (nat_lt greatest n) e ∷ [])
 one_above n greatest e = elim (cases_lt greatest n) [
@@ -125,20 +95,7 @@ more r s {ts} {us} a b = record { first = by r ts a.first }
 -- the first error of a file is the first of those that it has
 pub first_error : (raw : RawSpec) → EndsIn (checked raw) (errors_of raw)
 unfolding checked identified enrolled owned linked limited
-first_error raw =
-    let in_events = is_within MAX_EVENTS raw.events in
-    let in_sessions = is_within MAX_SESSIONS raw.sessions in
-    more (identified raw.nodes) _ (more (unless (both_fault raw.nodes)) _ (one (both_fault raw.nodes)) (one (ids_fault raw.nodes)))
-    (more (enrolled raw.teacher raw.students) _
-    (more (unless (forms_fault (raw.teacher ∷ raw.students))) _ (one (forms_fault (raw.teacher ∷ raw.students))) (one (name_twice (raw.teacher ∷ raw.students))))
-    (more (owned raw.students raw.nodes) _
-    (more (unless (no_owner_fault raw.students raw.nodes)) _ (one (no_owner_fault raw.students raw.nodes)) (one (owner_twice_fault raw.nodes)))
-    (more (linked raw.nodes raw.links) _ (more (unless (ends_fault raw.nodes raw.links)) _ (one (ends_fault raw.nodes raw.links))
-    (more (unless (loops_fault raw.links)) _ (one (loops_fault raw.links)) (one (again_fault raw.links))))
-    (more (unless (pointers_fault raw.links raw.nodes)) _ (one (pointers_fault raw.links raw.nodes))
-    (more (need in_events (fault.Limit key.Events)) _ (one_if in_events (fault.Limit key.Events))
-    (more (need in_sessions (fault.Limit key.Sessions)) _ (one_if in_sessions (fault.Limit key.Sessions))
-    (one_above (length raw.students) MAX_STUDENTS (fault.Limit key.Student))))))))
+first_error raw = grind (arith, more, one, one_if, one_above)
 
 -- it is told before those that come after it in the order
 pub told_in_order : (raw : RawSpec) (f : LabFault) → lab_fault raw ≡ Some f → IsFirstError raw f

@@ -16,6 +16,7 @@ use Rattle.mml_lab.specs.Labs.{forms_fault, no_owner_fault, owner_twice_fault, e
 use Rattle.mml_lab.specs.Labs.{lab_in, lab_from}
 use Rattle.mml_lab.specs.LabErrors.{errors_of}
 use Rattle.mml_lab.proofs.LabErrorsLemmas.{first_of, first_error}
+use Rattle.std.proofs.Common.{arith}
 
 pub record IsFaultless (raw : RawSpec) : Type 0 where
   pub single : position (λ (node : NodeSpec). node.both) raw.nodes ≡ None
@@ -39,8 +40,7 @@ none_at (None ∷ ts) none (suc k) t at = none_at ts none k t at
 none_at (Some f ∷ ts) none k t at = absurd cc
 
 holds : (b : Bool) (e : LabFault) → fault_if (not b) e ≡ None → b ≡ true
-holds true e h = refl
-holds false e h = absurd cc
+holds b e h = grind arith
 
 -- a file without an error passes every test
 pub faultless : (raw : RawSpec) → lab_fault raw ≡ None → IsFaultless raw
@@ -70,17 +70,9 @@ made raw lab is = let passed = bind-ok (checked raw) (λ _. Ok (lab_in raw)) lab
 
 pub makes : (raw : RawSpec) → lab_fault raw ≡ None → lab_from raw ≡ Ok (lab_in raw)
 unfolding lab_from
-makes raw = by (checked raw)
-  where
-    by : (r : Result (Unit {0}) LabFault) → error_of r ≡ None → (r >> Ok (lab_in raw)) ≡ Ok (lab_in raw)
-    by (Ok u) is = refl
-    by (Err f) is = absurd cc
+makes raw = grind arith
 
 -- the error for which a file gives no lab is its first
 pub refuses : (raw : RawSpec) (f : LabFault) → lab_from raw ≡ Err f → lab_fault raw ≡ Some f
 unfolding lab_from
-refuses raw f = by (checked raw)
-  where
-    by : (r : Result (Unit {0}) LabFault) → (r >> Ok (lab_in raw)) ≡ Err f → error_of r ≡ Some f
-    by (Ok u) is = absurd cc
-    by (Err g) is = cc
+refuses raw f = grind arith

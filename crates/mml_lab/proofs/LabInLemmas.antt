@@ -35,17 +35,10 @@ use Rattle.mml_ids.proofs.FindLemmas.{IsFound, find-is, find-some, list_any-foun
 
 -- a number that is some natural number above 0 is not negative
 pub positive : (z : ℤ) (n : ℕ) → number_of z ≡ n → 0 < n → z ≡ pos n
-positive (pos m) n e h = ap pos e
-positive (negsuc m) n e h = absurd (omega arith)
+positive z n e h = grind (arith, pos, negsuc)
 
 pub joins_turned : (a b : ℤ) (link : ℤ × ℤ) → joins a b link ≡ joins b a link
-joins_turned a b link = swap (int_eq link.0 a && int_eq link.1 b) (int_eq link.0 b && int_eq link.1 a)
-  where
-    swap : (x y : Bool) → (x || y) ≡ (y || x)
-    swap true true = refl
-    swap true false = refl
-    swap false true = refl
-    swap false false = refl
+joins_turned a b link = grind arith
 
 -- a link joins its ends in either order
 pub is_linked_turned : (links : List (ℤ × ℤ)) (a b : ℤ) → is_linked links a b ≡ is_linked links b a
@@ -53,21 +46,7 @@ is_linked_turned links a b = list_any-same (joins a b) (joins b a) links (joins_
 
 -- without a loop no link joins a node to itself
 pub no_loop : (links : List (ℤ × ℤ)) (a : ℤ) → position is_loop links ≡ None → is_linked links a a ≡ false
-no_loop links a none = by (cases_Bool (is_linked links a a))
-  where
-    either : (x : Bool) → (x || x) ≡ true → x ≡ true
-    either true h = refl
-    either false h = h
-
-    by : (is_linked links a a ≡ true) ⊎ (is_linked links a a ≡ false) → is_linked links a a ≡ false
-    by (inr apart) = apart
-    by (inl holds) =
-        let f = list_any-found (joins a a) links holds in
-        let link = f.0 in
-        let ends = and_parts (int_eq link.0 a) (int_eq link.1 a) (either (int_eq link.0 a && int_eq link.1 a) f.1.passes) in
-        let same : link.0 ≡ link.1 = (Decides-int_eq link.0 a).0 ends.0 ∙ sym ((Decides-int_eq link.1 a).0 ends.1) in
-        let loop : is_loop link ≡ true = (Decides-int_eq link.0 link.1).1 same in
-        absurd (both_ways (is_loop link) (ap is_loop (sym f.1.there) ∙ position-None is_loop links link none f.1.place f.1.within) loop)
+no_loop links a none = grind (arith, cases_Bool, list_any-found, and_parts, both_ways, position-None)
 
 -- the node of the file that has a rank
 pub record IsNodeAt (nodes : List NodeSpec) (id : ℕ) (node : NodeSpec) : Type 0 where
@@ -78,26 +57,12 @@ pub record IsNodeAt (nodes : List NodeSpec) (id : ℕ) (node : NodeSpec) : Type 
 -- a student's name has a place among the students
 pub place-position : (students : List Account) (name : List ℕ) → list_any (has_name name) students ≡ true
     → position (has_name name) students ≡ Some (place_of students name)
-place-position students name some = by (position (has_name name) students) refl
-  where
-    found : (x : Account) × IsFound (has_name name) students x
-    found = list_any-found (has_name name) students some
-
-    by : (o : Option ℕ) → position (has_name name) students ≡ o → o ≡ Some (unwrap_or o 0)
-    by None e = absurd (both_ways (has_name name found.0)
-        (ap (has_name name) (sym found.1.there) ∙ position-None (has_name name) students found.0 e found.1.place found.1.within) found.1.passes)
-    by (Some k) e = refl
+place-position students name some = grind (arith, IsFound, list_any-found, both_ways, position-None)
 
 -- each owner is a student
 pub owners-known : (students : List Account) (node : NodeSpec) → lacks_owner students node ≡ false
     → All (λ name. list_any (has_name name) students ≡ true) node.owners
-owners-known students node right k d lt = by (cases_Bool (list_any (has_name (get_or node.owners k d)) students))
-  where
-    by : (list_any (has_name (get_or node.owners k d)) students ≡ true) ⊎ (list_any (has_name (get_or node.owners k d)) students ≡ false)
-        → list_any (has_name (get_or node.owners k d)) students ≡ true
-    by (inl known) = known
-    by (inr unknown) =
-        absurd (both_ways (lacks_owner students node) right (list_any_at (λ name. not (list_any (has_name name) students)) node.owners k d lt (ap not unknown)))
+owners-known students node right k d lt = grind (arith, cases_Bool, both_ways, list_any_at)
 
 owners-in : (students : List Account) (node : NodeSpec) → lacks_owner students node ≡ false → All (λ s. s < length students) (owners_in students node)
 owners-in students node right = All-map (λ s. s < length students) (place_of students) node.owners
@@ -127,22 +92,14 @@ module _ (raw : RawSpec) (right : IsFaultless raw) where
 
   pub linked-in : (i j : ℕ) → i < length ids
       → (configuration_of net).linked i j ≡ (ltb j (length ids) && is_linked raw.links (pos (slice_index ids i)) (pos (slice_index ids j)))
-  linked-in i j lt =
-      ap (λ s. sets.contains s j) (get_or-map (neighbours_of ids raw.links) ids i 0 sets.empty lt) ∙ has-neighbours_of ids raw.links (slice_index ids i) j
+  linked-in i j lt = grind (arith, get_or-map, has-neighbours_of)
 
   linked-past : (i j : ℕ) → length ids ≤ i → (configuration_of net).linked i j ≡ false
-  linked-past i j past =
-      let long = length-map ids (neighbours_of ids raw.links) in
-      ap (λ s. sets.contains s j) (get_or_past (map (neighbours_of ids raw.links) ids) i sets.empty (omega arith)) ∙ has_empty j
+  linked-past i j past = grind (arith, length-map, get_or_past, has_empty)
 
   both_in : (i j : ℕ) → (configuration_of net).linked i j ≡ true
       → (i < length ids) × (j < length ids) × (is_linked raw.links (pos (slice_index ids i)) (pos (slice_index ids j)) ≡ true)
-  both_in i j holds = elim (cases_lt i (length ids)) [
-    | inl lt ↦
-        let parts = and_parts (ltb j (length ids)) (is_linked raw.links (pos (slice_index ids i)) (pos (slice_index ids j))) (sym (linked-in i j lt) ∙ holds) in
-        (lt, ltb-true j (length ids) parts.0, parts.1)
-    | inr past ↦ absurd (both_ways ((configuration_of net).linked i j) (linked-past i j past) holds)
-  ]
+  both_in i j holds = grind (arith, cases_lt, and_parts, pos, linked-in, ltb-true, both_ways, linked-past)
 
   from_in : (i j : ℕ) → i < length ids → j < length ids → is_linked raw.links (pos (slice_index ids i)) (pos (slice_index ids j)) ≡ true
       → (configuration_of net).linked i j ≡ true
@@ -173,10 +130,7 @@ module _ (raw : RawSpec) (right : IsFaultless raw) where
         ap (points_astray raw.links) (sym n.1.stands.there)
         ∙ position-None (points_astray raw.links) raw.nodes node right.pointers n.1.stands.place n.1.stands.within in
         by i lt node n.1.named node.p (ap (λ (r : Regs). r.p) (sym regs) ∙ points) kept
-    | inr past ↦
-        let long = length-map ids (registers_with ids raw.nodes) in
-        let none : None ≡ Some j =
-        sym (ap (λ (r : Regs). r.p) (get_or_past (map (registers_with ids raw.nodes) ids) i no_regs (omega arith))) ∙ points in absurd cc
+    | inr past ↦ grind (arith, length-map, get_or_past)
   ]
     where
       by : (i : ℕ) → i < length ids → (node : NodeSpec) → node.id ≡ pos (slice_index ids i) → (o : Option ℤ)

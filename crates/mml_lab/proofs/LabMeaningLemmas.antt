@@ -41,12 +41,10 @@ joins-means a b link = (there, back)
     ]
 
     or_right : (x y : Bool) → y ≡ true → (x || y) ≡ true
-    or_right true y e = refl
-    or_right false y e = e
+    or_right x y e = grind arith
 
     back : Joins a b link → joins a b link ≡ true
-    back (inl e) = ap (λ x. x || (int_eq link.0 b && int_eq link.1 a)) (and_from _ _ ((Decides-int_eq link.0 a).1 e.0) ((Decides-int_eq link.1 b).1 e.1))
-    back (inr e) = or_right (int_eq link.0 a && int_eq link.1 b) _ (and_from _ _ ((Decides-int_eq link.0 b).1 e.0) ((Decides-int_eq link.1 a).1 e.1))
+    back x = grind (arith, and_from, or_right)
 
 pub any_means : {X : Type 0} (p : X → Bool) (P : X → Type 0) → ((x : X) → (p x ≡ true) ↔ P x) → (xs : List X) → (list_any p xs ≡ true) ↔ Any P xs
 any_means p P means xs = (
@@ -81,8 +79,7 @@ join-means raw = (λ none. there none.0 none.1, back)
     }
 
     apart : (link : ℤ × ℤ) → link.0 ≢ link.1 → (is_loop link ≡ true) ⊎ (is_loop link ≡ false) → is_loop link ≡ false
-    apart link differ (inl loop) = absurd (differ ((Decides-int_eq link.0 link.1).0 loop))
-    apart link differ (inr none) = none
+    apart link differ z = grind arith
 
     back : JoinNodes raw → (position (lacks_end raw.nodes) raw.links ≡ None) × (position is_loop raw.links ≡ None)
     back join = (
@@ -171,12 +168,7 @@ module _ (raw : RawSpec) (right : IsFaultless raw) where
 
   pub links-are : (i j : ℕ) → i < length ids → j < length ids
       → ((configuration_of (net raw right)).linked i j ≡ true) ↔ HasLink raw (pos (slice_index ids i)) (pos (slice_index ids j))
-  links-are i j in_i in_j =
-      let is = linked-in raw right i j in_i in
-      let near = linked-means raw (pos (slice_index ids i)) (pos (slice_index ids j)) in (
-        λ holds. near.0 (and_parts (ltb j (length ids)) (is_linked raw.links (pos (slice_index ids i)) (pos (slice_index ids j))) (sym is ∙ holds)).1,
-        λ link. is ∙ and_from _ _ (lt-ltb j (length ids) in_j) (near.1 link),
-      )
+  links-are i j in_i in_j = grind (arith, linked-in, linked-means, pos, and_parts, and_from, lt-ltb)
 
   pub m-is : (i : ℕ) (node : NodeSpec) → i < length ids → Contains raw.nodes node → node.id ≡ pos (slice_index ids i)
       → (configuration_of (net raw right)).m i ≡ node.m

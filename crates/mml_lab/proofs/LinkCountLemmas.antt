@@ -41,15 +41,7 @@ abbrev near : List ℕ → List Link → ℕ → ℕ → Bool
 near ids links i j = is_linked links (end_of ids i) (end_of ids j)
 
 same_rank : (ids : List ℕ) → IsTable ids → (i j : ℕ) → i < length ids → j < length ids → (z : ℤ) → z ≡ end_of ids i → z ≡ end_of ids j → i ≡ j
-same_rank ids rises i j in_i in_j z at_i at_j =
-    let same : slice_index ids i ≡ slice_index ids j = ap number_of (sym at_i ∙ at_j) in
-    elim (cases_order i j) [
-      | inl e ↦ e
-      | inr o ↦ elim o [
-        | inl less ↦ let up = rises.rising i j less in_j in absurd (omega arith)
-        | inr more ↦ let up = rises.rising j i more in_i in absurd (omega arith)
-      ]
-    ]
+same_rank ids rises i j in_i in_j z at_i at_j = grind (arith, cases_order)
 
 -- a link joins no other two ranks
 joins_one : (ids : List ℕ) → IsTable ids → (link : Link) (a b i j : ℕ) → JoinsRanks ids link a b → i < length ids → j < i
@@ -75,12 +67,10 @@ joins_one ids rises link a b i j ranks lt below there = by ranks.joined there
     by (inr p) (inr q) = (same_rank ids rises i a lt in_a link.1 q.1 p.1, same_rank ids rises j b in_j in_b link.0 q.0 p.0)
 
 or_false : (b : Bool) → (b || false) ≡ b
-or_false true = refl
-or_false false = refl
+or_false b = grind arith
 
 or_true : (b : Bool) → (b || true) ≡ true
-or_true true = refl
-or_true false = refl
+or_true b = grind arith
 
 -- one link more joins two ranks more
 one_link : (ids : List ℕ) → IsTable ids → (links : List Link) (k : ℕ) (link : Link) (a b : ℕ) → k < length links → get_or links k link ≡ link
@@ -131,10 +121,7 @@ module _ (raw : RawSpec) (right : IsFaultless raw) where
       let j = rank_of_end link.1 second in
       elim (cases_order i.0 j.0) [
         | inl same ↦ absurd (differ (i.2 ∙ ap (end_of ids) same ∙ sym j.2))
-        | inr o ↦ elim o [
-          | inl less ↦ (j.0, i.0, record { within = j.1; less = less; joined = inr (i.2, j.2) })
-          | inr more ↦ (i.0, j.0, record { within = i.1; less = more; joined = inl (i.2, j.2) })
-        ]
+        | inr o ↦ grind arith
       ]
 
   counted_to : (k : ℕ) → k ≤ length raw.links → pairs_below (near ids (take k raw.links)) (length ids) ≡ k

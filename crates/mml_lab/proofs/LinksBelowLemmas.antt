@@ -20,33 +20,17 @@ tally b c e = ap (λ x. cond x 1 0) e
 
 count_same : (n : ℕ) (s t : ℕ → Bool) → ((j : ℕ) → j < n → s j ≡ t j) → count_below n s ≡ count_below n t
 count_same zero s t same = refl
-count_same (suc n) s t same =
-    let rest = count_same n s t (λ j lt. same j (omega arith)) in
-    let last = tally (s n) (t n) (same n (omega arith)) in
-    omega (arith, rest, last)
+count_same (suc n) s t same = grind (arith, tally, count_same n s t)
 
 -- the second test is true of k and the first is not, and they agree elsewhere
 count_one : (n k : ℕ) (s t : ℕ → Bool) → k < n → s k ≡ false → t k ≡ true → ((j : ℕ) → j < n → j ≢ k → s j ≡ t j) → count_below n t ≡ count_below n s + 1
 count_one zero k s t lt off on same = absurd (omega arith)
-count_one (suc n) k s t lt off on same = elim (cases_eq k n) [
-  | inl here ↦
-      let rest = count_same n s t (λ j below. same j (omega arith) (λ e. omega arith)) in
-      let before = tally (s n) false (ap s (sym here) ∙ off) in
-      let after = tally (t n) true (ap t (sym here) ∙ on) in
-      omega (arith, rest, before, after)
-  | inr ne ↦
-      let rest = count_one n k s t (omega arith) off on (λ j below other. same j (omega arith) other) in
-      let last = tally (s n) (t n) (same n (omega arith) (λ e. ne (sym e))) in
-      omega (arith, rest, last)
-]
+count_one (suc n) k s t lt off on same = grind (arith, cases_eq, count_same, tally, count_one n k s t)
 
 -- two tests that agree on the pairs below n count the same
 pub pairs_same : (n : ℕ) (s t : ℕ → ℕ → Bool) → ((i j : ℕ) → i < n → j < i → s i j ≡ t i j) → pairs_below s n ≡ pairs_below t n
 pairs_same zero s t same = refl
-pairs_same (suc n) s t same =
-    let rest = pairs_same n s t (λ i j lt below. same i j (omega arith) below) in
-    let last = count_same n (s n) (t n) (λ j below. same n j (omega arith) below) in
-    omega (arith, rest, last)
+pairs_same (suc n) s t same = grind (arith, count_same, pairs_same n s t)
 
 -- the second test is true of the pair of a and b and the first is not, and they agree elsewhere
 pub pairs_one : (n a b : ℕ) (s t : ℕ → ℕ → Bool) → a < n → b < a → s a b ≡ false → t a b ≡ true
@@ -58,10 +42,7 @@ pairs_one (suc n) a b s t lt less off on same = elim (cases_eq a n) [
       let last = count_one n b (s n) (t n) (omega arith) (ap (λ i. s i b) (sym here) ∙ off) (ap (λ i. t i b) (sym here) ∙ on)
       (λ j below other. same n j (omega arith) below (λ both. other both.1)) in
       omega (arith, rest, last)
-  | inr ne ↦
-      let rest = pairs_one n a b s t (omega arith) less off on (λ i j in_i below other. same i j (omega arith) below other) in
-      let last = count_same n (s n) (t n) (λ j below. same n j (omega arith) below (λ both. ne (sym both.0))) in
-      omega (arith, rest, last)
+  | inr ne ↦ grind (arith, count_same, pairs_one n a b s t)
 ]
 
 -- a test that no pair passes counts none

@@ -26,24 +26,7 @@ again-means links k = (there (slice_get links k) refl, back)
   where
     there : (o : Option Link) → slice_get links k ≡ o → option_map_or (λ link. is_linked (take k links) link.0 link.1) o false ≡ true → IsLinkAgain links k
     there None second holds = absurd cc
-    there (Some again) second holds =
-        let found = list_any-found (joins again.0 again.1) (take k links) holds in
-        let link = found.0 in
-        let i = found.1.place in
-        let in_front : i < length (take k links) = found.1.within in
-        let long = length-take k links in
-        let before : i < k = omega arith in
-        let within : i < length links = omega arith in
-        let here : get_or links i link ≡ link = sym (get_or-take k links i link before) ∙ found.1.there in
-        record {
-          earlier = i;
-          before = before;
-          link = link;
-          again = again;
-          first = slice_get_read links (length links) i link refl within (sym here);
-          second = second;
-          joins = (joins-means again.0 again.1 link).0 found.1.passes;
-        }
+    there (Some again) second holds = grind (arith, list_any-found, length-take, get_or-take, slice_get_read, joins-means)
 
     back : IsLinkAgain links k → is_link_again links k ≡ true
     back twice =
@@ -57,14 +40,7 @@ again-means links k = (there (slice_get links k) refl, back)
         (ap (joins twice.again.0 twice.again.1) here ∙ (joins-means twice.again.0 twice.again.1 twice.link).1 twice.joins)
 
 not_again : (links : List Link) (k : ℕ) → (is_link_again links k ≡ false) ↔ (¬ IsLinkAgain links k)
-not_again links k = (
-  λ apart twice. both_ways (is_link_again links k) apart ((again-means links k).1 twice),
-  λ never. by never (cases_Bool (is_link_again links k)),
-)
-  where
-    by : ¬ IsLinkAgain links k → (is_link_again links k ≡ true) ⊎ (is_link_again links k ≡ false) → is_link_again links k ≡ false
-    by never (inl holds) = absurd (never ((again-means links k).0 holds))
-    by never (inr apart) = apart
+not_again links k = grind (arith, both_ways, again-means, cases_Bool)
 
 pub first-means : (links : List Link) (k : ℕ) → (first_below (is_link_again links) (length links) ≡ Some k) ↔ IsFirstLinkAgain links k
 first-means links k = (
@@ -85,16 +61,10 @@ abbrev three : Option ℕ → Option ℕ → Option ℕ → Result (Unit {0}) La
 three a b c = unless (option_map fault.LinkEnd a) >> (unless (option_map fault.Loop b) >> unless (option_map fault.LinkTwice c))
 
 third_is : (a b c : Option ℕ) (k : ℕ) → three a b c ≡ Err (fault.LinkTwice k) → (a ≡ None) × (b ≡ None) × (c ≡ Some k)
-third_is None None None k e = absurd cc
-third_is None None (Some j) k e = let same : j ≡ k = cc in (refl, refl, ap Some same)
-third_is None (Some j) c k e = absurd cc
-third_is (Some j) b c k e = absurd cc
+third_is a b c k e = grind arith
 
 all_none : (a b c : Option ℕ) → three a b c ≡ Ok tt → (a ≡ None) × (b ≡ None) × (c ≡ None)
-all_none None None None e = (refl, refl, refl)
-all_none None None (Some j) e = absurd cc
-all_none None (Some j) c e = absurd cc
-all_none (Some j) b c e = absurd cc
+all_none a b c e = grind arith
 
 third : (a b c d : Option ℕ) → a ≡ None → b ≡ None → c ≡ d → three a b c ≡ unless (option_map fault.LinkTwice d)
 third a b c d no_a no_b is = rw (no_a, no_b, is) refl

@@ -14,6 +14,7 @@ use Rattle.mml_lab.specs.Shape.{Account}
 use Rattle.mml_lab.specs.inside.Raw.{account_view, entry_view}
 use Rattle.mml_lab.specs.Rosters.{has_name, no_account, is_name_again, name_twice}
 use Rattle.mml_lab.proofs.StudentNamedLemmas.{Entry}
+use Rattle.std.proofs.Common.{rules}
 
 -- the name is the teacher's or that of an entry
 abbrev pub is_taken : List ℕ → List Entry → List ℕ → Bool
@@ -33,19 +34,12 @@ take_middle (x ∷ xs) ys = ap (λ zs. x ∷ zs) (take_middle xs ys)
 
 lookup_any : (name : List ℕ) (es : List Entry) → is_some (lookup (λ k. bytes_eq name (string_bytes k)) es) ≡ list_any (has_name name) (map entry_view es)
 lookup_any name [] = refl
-lookup_any name (e ∷ es) = at_head (bytes_eq name (string_bytes e.0)) e.1 _ _ (lookup_any name es)
-  where
-    at_head : (b : Bool) (v : String Global) (o : Option (String Global)) (r : Bool) → is_some o ≡ r → is_some (cond b (Some v) o) ≡ (b || r)
-    at_head true v o r e = refl
-    at_head false v o r e = e
+lookup_any name (e ∷ es) = grind (arith, string_bytes, lookup_any name es)
 
 -- the test at the account after those before
 again_at : (teacher : Account) (before : List Account) (a : Account) (after : List Account)
     → is_name_again (teacher ∷ before ++ a ∷ after) (suc (length before)) ≡ (bytes_eq a.name teacher.name || list_any (has_name a.name) before)
-again_at teacher before a after =
-    let here : slice_index_or (teacher ∷ before ++ a ∷ after) (suc (length before)) no_account ≡ a = at_middle before a after no_account in
-    let front : take (suc (length before)) (teacher ∷ before ++ a ∷ after) ≡ teacher ∷ before = ap (λ zs. teacher ∷ zs) (take_middle before (a ∷ after)) in
-    ap (λ (b : Account). list_any (has_name b.name) (take (suc (length before)) (teacher ∷ before ++ a ∷ after))) here ∙ ap (list_any (has_name a.name)) front
+again_at teacher before a after = grind (arith, at_middle, take_middle)
 
 -- the test at a student, by the map of those before
 pub taken_at : (teacher : KeptAccount) (all done rest : List KeptAccount) (x : KeptAccount) (es : List Entry) (t name : List ℕ) (r b : Bool)
@@ -81,25 +75,18 @@ is_within teacher all done rest x parts = let whole = ap length parts in omega (
 pub fault_at : {X : Type 0} (accounts : List Account) (x : X) (k : ℕ) → k < length accounts → is_name_again accounts k ≡ true
     → first_from (is_name_again accounts) k (length accounts - k) ≡ first_below (is_name_again accounts) (length accounts)
     → unless_fault (name_twice accounts) x ≡ Err (fault.NameTwice k)
-fault_at accounts x k lt again so_far =
-    let found : first_below (is_name_again accounts) (length accounts) ≡ Some k =
-    sym so_far ∙ first_here (is_name_again accounts) k (length accounts) lt again in
-    rw found
+fault_at accounts x k lt again so_far = grind (arith, first_here)
 
 pub no_fault : {X : Type 0} (accounts : List Account) (x : X) (k : ℕ) → length accounts ≤ k
     → first_from (is_name_again accounts) k (length accounts - k) ≡ first_below (is_name_again accounts) (length accounts)
     → unless_fault (name_twice accounts) x ≡ Ok x
-no_fault accounts x k le so_far =
-    let none : first_below (is_name_again accounts) (length accounts) ≡ None = sym so_far ∙ first_end (is_name_again accounts) k (length accounts) le in
-    rw none
+no_fault accounts x k le so_far = grind (arith, first_end)
 
 none_from_is_some : {X : Type 0} (o : Option X) → is_some o ≡ false → o ≡ None
-none_from_is_some None h = refl
-none_from_is_some (Some x) h = absurd (true≢false h)
+none_from_is_some o h = grind (arith, true≢false)
 
 second_false : (a b : Bool) → (a || b) ≡ false → b ≡ false
-second_false true b h = absurd (true≢false h)
-second_false false b h = h
+second_false a b h = grind (arith, true≢false)
 
 -- a name that isn't taken has no entry
 pub absent : (teacher : List ℕ) (es : List Entry) (name : List ℕ) (k : String Global) (r : Bool) → string_bytes k ≡ name → r ≡ is_taken teacher es name
@@ -108,8 +95,7 @@ absent teacher es name k r same is at = rw same (none_from_is_some _ (second_fal
 
 pub one_more : (done : List KeptAccount) (x : KeptAccount) (es new : List Entry) (n v : String Global) → map entry_view es ≡ map account_view done
     → new ≡ es ++ (n, v) ∷ [] → entry_view (n, v) ≡ account_view x → map entry_view new ≡ map account_view (done ++ x ∷ [])
-one_more done x es new n v seen more last =
-    ap (map entry_view) more ∙ map-append entry_view es ((n, v) ∷ []) ∙ rw (seen, last) (sym (map-append account_view done (x ∷ [])))
+one_more done x es new n v seen more last = grind (arith, map-append)
 
 pub nothing_left : {X : Type 0} (xs : List X) → length xs ≡ 0 → xs ≡ []
 nothing_left [] h = refl
@@ -124,10 +110,7 @@ pub record IsSoFar (teacher : KeptAccount) (all done : List KeptAccount) (es : L
 
 -- an empty map holds the students so far, before the first
 pub at_start : (teacher : KeptAccount) (all : List KeptAccount) (es : List Entry) → es ≡ [] → IsSoFar teacher all [] es
-at_start teacher all es empty = record {
-  seen = ap (map entry_view) empty;
-  none = teacher_first (account_view teacher ∷ map account_view all) (omega arith);
-}
+at_start teacher all es empty = grind (arith, teacher_first)
 
 module _ (teacher : KeptAccount) (all done rest : List KeptAccount) (x : KeptAccount) (es : List Entry) (t name : List ℕ) (r : Bool) where
   pub at_fault : (n : ℕ) → IsSoFar teacher all done es → done ++ x ∷ rest ≡ all → n ≡ length es → t ≡ string_bytes teacher.name → name ≡ string_bytes x.name
@@ -142,20 +125,9 @@ module _ (teacher : KeptAccount) (all done rest : List KeptAccount) (x : KeptAcc
 
   pub at_next : (new : List Entry) → IsSoFar teacher all done es → done ++ x ∷ rest ≡ all → new ≡ es ++ (x.name, x.key) ∷ [] → t ≡ string_bytes teacher.name
       → name ≡ string_bytes x.name → r ≡ is_taken t es name → r ≡ false → IsSoFar teacher all (done ++ x ∷ []) new
-  at_next new so_far parts more same_teacher same is at =
-      let fresh : is_name_again (account_view teacher ∷ map account_view all) (length done + 1) ≡ false =
-      taken_at teacher all done rest x es t name r false parts so_far.seen same_teacher same is at in
-      record {
-        seen = one_more done x es new x.name x.key so_far.seen more refl;
-        none = next_at (account_view teacher ∷ map account_view all) (length done + 1) (length (done ++ x ∷ []) + 1)
-            (omega (arith, length-append done (x ∷ []))) (is_within (account_view teacher) all done rest x parts) fresh so_far.none;
-      }
+  at_next new so_far parts more same_teacher same is at = search (rules, taken_at, one_more, next_at, length-append, is_within)
 
 -- once no student is left, no name stood twice and the map holds all students
 pub at_end : (teacher : KeptAccount) (all done rest : List KeptAccount) (es : List Entry) → IsSoFar teacher all done es → done ++ rest ≡ all → length rest ≡ 0
     → unless_fault (name_twice (account_view teacher ∷ map account_view all)) (map account_view all) ≡ Ok (map entry_view es)
-at_end teacher all done rest es so_far parts nothing =
-    let whole : done ≡ all = sym (append-nil done) ∙ ap (λ zs. done ++ zs) (sym (nothing_left rest nothing)) ∙ parts in
-    let count : length (account_view teacher ∷ map account_view all) ≤ length done + 1 = omega (arith, ap length whole, length-map all account_view) in
-    no_fault (account_view teacher ∷ map account_view all) (map account_view all) (length done + 1) count so_far.none
-    ∙ ap Ok (sym (so_far.seen ∙ ap (map account_view) whole))
+at_end teacher all done rest es so_far parts nothing = grind (arith, append-nil, nothing_left, length-map, no_fault)

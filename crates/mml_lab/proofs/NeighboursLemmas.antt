@@ -18,6 +18,7 @@ use Rattle.mml_rules.specs.Network.{neighbours_at}
 use Rattle.mml_ids.proofs.SearchLemmas.{same_bool}
 use Rattle.mml_rules.proofs.ConfigurationLemmas.{holds-true, holds-from}
 use Rattle.mml_lab.specs.Labs.{number_of, joins, is_linked, neighbours_of}
+use Rattle.std.proofs.Common.{rules}
 
 abbrev pub Rows : Type 0
 Rows = List (FinSet nat_cmp)
@@ -25,57 +26,18 @@ Rows = List (FinSet nat_cmp)
 -- a row into which b is put has b besides what it had, and all other rows are as before
 pub inserted : (rows : Rows) (a b : ℕ) (old new : FinSet nat_cmp) → a < length rows → old ≡ get_or rows a old → new ≡ sets.insert old b → (i q : ℕ)
     → sets.contains (neighbours_at (set rows a new) i) q ≡ (sets.contains (neighbours_at rows i) q || (eqb a i && eqb b q))
-inserted rows a b old new lt here is i q = elim (cases_eq i a) [
-  | inl same ↦
-      let row : neighbours_at rows a ≡ old = get_or_default rows a sets.empty old lt ∙ sym here in
-      subst (λ j. sets.contains (neighbours_at (set rows a new) j) q ≡ (sets.contains (neighbours_at rows j) q || (eqb a j && eqb b q))) (sym same)
-      (ap (λ s. sets.contains s q) (get_or-set_same rows a new sets.empty lt ∙ is) ∙ has_insert old b q
-      ∙ rw (eq-eqb a a refl, row, eqb_turn b q) (swap_or (eqb q b) (sets.contains old q)))
-  | inr ne ↦ rw (get_or-set_other rows a i new sets.empty ne, ne_eqb a i (λ e. ne (sym e))) (sym (or_false (sets.contains (neighbours_at rows i) q)))
-]
-  where
-    swap_or : (a b : Bool) → (a || b) ≡ (b || a)
-    swap_or true true = refl
-    swap_or true false = refl
-    swap_or false true = refl
-    swap_or false false = refl
-
-    or_false : (a : Bool) → (a || false) ≡ a
-    or_false true = refl
-    or_false false = refl
-
-    eqb_turn : (x y : ℕ) → eqb x y ≡ eqb y x
-    eqb_turn x y = same_bool (eqb x y) (eqb y x) (λ h. eq-eqb y x (sym (eqb-true x y h))) (λ h. eq-eqb x y (sym (eqb-true y x h)))
+inserted rows a b old new lt here is i q =
+    grind (arith, cases_eq, get_or_default, get_or-set_same, has_insert, eq-eqb, get_or-set_other, ne_eqb, same_bool, eqb-true)
 
 -- an end is a node's identifier exactly where it has the node's rank
 pub end_at : (ids : List ℕ) → IsTable ids → (z : ℤ) (i : ℕ) → i < length ids → int_eq z (pos (slice_index ids i)) ≡ holds (rank_in ids (number_of z)) i
-end_at ids table z i lt = same_bool (int_eq z (pos id)) (holds (rank_in ids (number_of z)) i)
-    (λ equal. let same : z ≡ pos id = (Decides-int_eq z (pos id)).0 equal in
-    holds-from (rank_in ids (number_of z)) i (ap (λ n. rank_in ids (number_of n)) same ∙ rank_of_id ids i id table lt (get_or_default ids i 0 id lt)))
-    (λ held. let here : id ≡ number_of z = id_of_rank ids (number_of z) i (holds-true (rank_in ids (number_of z)) i held) in
-    (Decides-int_eq z (pos id)).1 (positive z (subst (λ n. 0 < n) here (table.positive i lt)) ∙ ap pos (sym here)))
-  where
-    id : ℕ
-    id = slice_index ids i
-
-    positive : (z : ℤ) → 0 < number_of z → z ≡ pos (number_of z)
-    positive (pos n) h = refl
-    positive (negsuc n) h = absurd (omega arith)
+end_at ids table z i lt = search (rules, same_bool, pos, holds-from, rank_of_id, get_or_default, id_of_rank, holds-true, negsuc)
 
 pub joins_at : (ids : List ℕ) → IsTable ids → (link : ℤ × ℤ) (i q : ℕ) → i < length ids → q < length ids
     → joins (pos (slice_index ids i)) (pos (slice_index ids q)) link
     ≡ ((holds (rank_in ids (number_of link.0)) i && holds (rank_in ids (number_of link.1)) q)
     || (holds (rank_in ids (number_of link.1)) i && holds (rank_in ids (number_of link.0)) q))
-joins_at ids table link i q in_i in_q =
-    rw (end_at ids table link.0 i in_i, end_at ids table link.1 q in_q, end_at ids table link.0 q in_q, end_at ids table link.1 i in_i)
-    (ap (λ b. (holds (rank_in ids (number_of link.0)) i && holds (rank_in ids (number_of link.1)) q) || b)
-    (swap_and (holds (rank_in ids (number_of link.0)) q) (holds (rank_in ids (number_of link.1)) i)))
-  where
-    swap_and : (a b : Bool) → (a && b) ≡ (b && a)
-    swap_and true true = refl
-    swap_and true false = refl
-    swap_and false true = refl
-    swap_and false false = refl
+joins_at ids table link i q in_i in_q = grind (arith, end_at)
 
 -- which ranks are a node's neighbours
 pub has-neighbours_of : (ids : List ℕ) (links : List (ℤ × ℤ)) (id q : ℕ)
@@ -90,12 +52,7 @@ pub record AreRows (ids : List ℕ) (links : List (ℤ × ℤ)) (rows : Rows) : 
 
 -- empty rows are those of no link
 pub no_rows : (ids : List ℕ) (rows : Rows) → rows ≡ replicate (length ids) (sets.empty {R = nat_cmp}) → AreRows ids [] rows
-no_rows ids rows is = record {
-  size = ap length is ∙ length-replicate (length ids) sets.empty;
-  members = λ i q lt.
-      ap (λ r. sets.contains (neighbours_at r i) q) is ∙ ap (λ s. sets.contains s q) (get_or-replicate (length ids) i sets.empty sets.empty lt) ∙ has_empty q
-      ∙ sym (has-neighbours_of ids [] (slice_index ids i) q ∙ and_right (ltb q (length ids)) false refl);
-}
+no_rows ids rows is = grind (arith, length-replicate, get_or-replicate, has_empty, has-neighbours_of, and_right)
 
 -- with each end of the next link put into the row of the other, the rows are those of one link more
 pub one_more : (ids : List ℕ) → IsTable ids → (links : List (ℤ × ℤ)) (k : ℕ) (link : ℤ × ℤ) (rows new : Rows) → k < length links → link ≡ get_or links k link

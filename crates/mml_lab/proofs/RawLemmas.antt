@@ -14,6 +14,7 @@ use Rattle.mml_lab.specs.Rosters.{has_name}
 use Rattle.mml_lab.specs.Faults.{id_fault_as}
 use Rattle.mml_lab.specs.Labs.{number_of, file_ids, node_with, ids_fault, unless}
 use Rattle.mml_ids.proofs.MapLemmas.{find-map, map-map}
+use Rattle.std.proofs.Common.{arith}
 
 -- the identifiers that were read are those of the file's nodes
 pub file_ids-read : (nodes : List RawNode) → map (λ node. number_of node.id) nodes ≡ file_ids (map node_view nodes)
@@ -27,12 +28,7 @@ node_with-read nodes id = find-map (λ node. number_of node.id == id) node_view 
 pub some-lookup : (name : List ℕ) (entries : List (String Global × String Global))
     → is_some (lookup (λ k. bytes_eq name (string_bytes k)) entries) ≡ list_any (has_name name) (map entry_view entries)
 some-lookup name [] = refl
-some-lookup name (e ∷ es) = go (bytes_eq name (string_bytes e.0)) (some-lookup name es)
-  where
-    go : (b : Bool) → is_some (lookup (λ k. bytes_eq name (string_bytes k)) es) ≡ list_any (has_name name) (map entry_view es)
-        → is_some (cond b (Some e.1) (lookup (λ k. bytes_eq name (string_bytes k)) es)) ≡ (b || list_any (has_name name) (map entry_view es))
-    go true h = refl
-    go false h = h
+some-lookup name (e ∷ es) = grind (arith, string_bytes, some-lookup name es)
 
 -- identifiers without an error are those of a file without one
 pub table_ok : (nodes : List NodeSpec) (ids : List ℕ) → ids ≡ file_ids nodes → id_fault ids ≡ None → unless (ids_fault nodes) ≡ Ok tt
@@ -43,8 +39,4 @@ table_ok nodes ids same sound = rw (← same, sound) refl
 pub table_fault : (nodes : List NodeSpec) (ids : List ℕ) (e : IdFault) → ids ≡ file_ids nodes → Faults is_id_memory e (id_fault ids)
     → MatchBool (is_lab_memory (id_fault_as e)) (Unit {0}) (unless (ids_fault nodes) ≡ Err (id_fault_as e))
 unfolding ids_fault
-table_fault nodes ids id.Empty same found = rw (← same, found) refl
-table_fault nodes ids id.TooMany same found = rw (← same, found) refl
-table_fault nodes ids (id.OutOfRange index) same found = rw (← same, found) refl
-table_fault nodes ids (id.Twice index) same found = rw (← same, found) refl
-table_fault nodes ids id.Memory same found = tt
+table_fault nodes ids e same found = grind arith

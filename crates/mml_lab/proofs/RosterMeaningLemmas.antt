@@ -25,30 +25,13 @@ use Rattle.mml_ids.proofs.SearchLemmas.{first-is, first-at, none-is, none-at}
 -- ---- who greets
 
 has_both : (name key : List ℕ) (a : Account) → has_name_and_key name key a ≡ true → (a.name ≡ name) × (a.key ≡ key)
-has_both name key a both =
-    let parts = and_parts (bytes_eq name a.name) (bytes_eq key a.key) both in
-    (sym ((bytes_eq-Decides name a.name).0 parts.0), sym ((bytes_eq-Decides key a.key).0 parts.1))
+has_both name key a both = grind (arith, and_parts, bytes_eq-Decides)
 
 from_both : (name key : List ℕ) (a : Account) → a.name ≡ name → a.key ≡ key → has_name_and_key name key a ≡ true
 from_both name key a named keyed = and_from _ _ ((bytes_eq-Decides name a.name).1 (sym named)) ((bytes_eq-Decides key a.key).1 (sym keyed))
 
 found_is_known : (r : RosterValue) (name key : List ℕ) (w : Who) → principal r name key ≡ Some w → IsKnownAs r w name key
-found_is_known r name key w found = by (has_name_and_key name key r.teacher) refl w found
-  where
-    student : (o : Option ℕ) → position (has_name_and_key name key) r.students ≡ o → (w : Who) → option_map who.Student o ≡ Some w → IsKnownAs r w name key
-    student None is w found = absurd cc
-    student (Some s) is who.Teacher found = absurd cc
-    student (Some s) is (who.Student t) found =
-        let same : s ≡ t = cc in
-        let at = position-Some (has_name_and_key name key) r.students t no_account (is ∙ ap Some same) in
-        let both = has_both name key (get_or r.students t no_account) at.1 in
-        record { member = at.0; named = both.0; keyed = both.1 }
-
-    by : (b : Bool) → has_name_and_key name key r.teacher ≡ b → (w : Who)
-        → cond b (Some who.Teacher) (option_map who.Student (position (has_name_and_key name key) r.students)) ≡ Some w → IsKnownAs r w name key
-    by true is who.Teacher found = let both = has_both name key r.teacher is in record { member = tt; named = both.0; keyed = both.1 }
-    by true is (who.Student t) found = absurd cc
-    by false is w found = student (position (has_name_and_key name key) r.students) refl w found
+found_is_known r name key w found = grind (arith, position-Some, has_both)
 
 known_is_found : (r : RosterValue) (name key : List ℕ) (w : Who) → IsRoster r → IsKnownAs r w name key → principal r name key ≡ Some w
 known_is_found r name key who.Teacher roster known = rw (from_both name key r.teacher known.named known.keyed)
@@ -134,21 +117,14 @@ again_means accounts k within is =
         (j, before, ap (λ (b : Account). b.name) here ∙ sym ((bytes_eq-Decides (name_at accounts k) a.name).0 named))
 
 is_again : (accounts : List Account) (j k : ℕ) → j < k → k < length accounts → name_at accounts j ≡ name_at accounts k → is_name_again accounts k ≡ true
-is_again accounts j k lt within same =
-    let named : has_name (name_at accounts k) (get_or (take k accounts) j no_account) ≡ true =
-    rw (get_or-take k accounts j no_account lt) ((bytes_eq-Decides (name_at accounts k) (name_at accounts j)).1 (sym same)) in
-    list_any_at (has_name (name_at accounts k)) (take k accounts) j no_account (omega (arith, length-take-le k accounts)) named
+is_again accounts j k lt within same = grind (arith, get_or-take, bytes_eq-Decides, list_any_at, length-take-le)
 
 -- up to n no name stands before, exactly where the first n differ
 fresh-differ : (accounts : List Account) (n : ℕ) → n ≤ length accounts → ((k : ℕ) → k < n → is_name_again accounts k ≡ false) → AreDistinctBelow accounts n
 fresh-differ accounts n le fresh j k lt within same = true≢false (sym (is_again accounts j k lt (omega arith) same) ∙ fresh k within)
 
 differ-fresh : (accounts : List Account) (n : ℕ) → n ≤ length accounts → AreDistinctBelow accounts n → (k : ℕ) → k < n → is_name_again accounts k ≡ false
-differ-fresh accounts n le differ k lt = by (cases_Bool (is_name_again accounts k))
-  where
-    by : (is_name_again accounts k ≡ true) ⊎ (is_name_again accounts k ≡ false) → is_name_again accounts k ≡ false
-    by (inl again) = let earlier = again_means accounts k (omega arith) again in absurd (differ earlier.0 k earlier.1 lt earlier.2)
-    by (inr fresh) = fresh
+differ-fresh accounts n le differ k lt = grind (arith, cases_Bool, again_means)
 
 -- the error is a name twice exactly where it is the first name that stood before
 pub name_twice-fault : (accounts : List Account) (k : ℕ) → (name_twice accounts ≡ Some (fault.NameTwice k)) ↔ IsFirstAgain accounts k
@@ -164,8 +140,7 @@ name_twice-fault accounts k = (
 )
   where
     below : (o : Option ℕ) → option_map fault.NameTwice o ≡ Some (fault.NameTwice k) → o ≡ Some k
-    below None e = absurd cc
-    below (Some j) e = let same : j ≡ k = cc in ap Some same
+    below o e = grind arith
 
 -- no name is found twice exactly where all names differ
 pub name_twice-none : (accounts : List Account) → (name_twice accounts ≡ None) ↔ AreDistinctBelow accounts (length accounts)
@@ -176,19 +151,13 @@ name_twice-none accounts = (
 )
   where
     below : (o : Option ℕ) → option_map fault.NameTwice o ≡ None → o ≡ None
-    below None e = refl
-    below (Some j) e = absurd cc
+    below o e = grind arith
 
 -- ---- a roster of accounts that have their forms and differ
 
 same_place : (accounts : List Account) → AreDistinctBelow accounts (length accounts) → (j k : ℕ) → j < length accounts → k < length accounts
     → name_at accounts j ≡ name_at accounts k → j ≡ k
-same_place accounts differ j k in_j in_k same = by (cases_order j k)
-  where
-    by : (j ≡ k) ⊎ ((j < k) ⊎ (k < j)) → j ≡ k
-    by (inl here) = here
-    by (inr (inl lt)) = absurd (differ j k lt in_k same)
-    by (inr (inr lt)) = absurd (differ k j lt in_j (sym same))
+same_place accounts differ j k in_j in_k same = grind (arith, cases_order)
 
 -- accounts of their forms, each name once, and owners who are students make a lawful roster
 pub is_roster : (teacher : Account) (students : List Account) (owners : List (List ℕ)) → length students ≤ MAX_STUDENTS

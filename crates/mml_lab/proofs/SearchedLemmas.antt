@@ -17,23 +17,15 @@ module _ {X : Type 0} (p : X → Bool) (xs : List X) (d : X) where
 
   -- the next element passes, and none did before
   pub at_first : (n : ℕ) (o : Option ℕ) → IsSoFar p xs d n o → is_some o ≡ false → true ≡ p (get_or xs n d) → IsSoFar p xs d (n + 1) (Some n)
-  at_first n None none _ here = (omega arith, sym here, none)
-  at_first n (Some i) found none here = absurd cc
+  at_first n o none none' here = grind arith
 
   -- one was found before
   pub at_later : (n : ℕ) (o : Option ℕ) → IsSoFar p xs d n o → is_some o ≡ true → IsSoFar p xs d (n + 1) o
-  at_later n None none found = absurd cc
-  at_later n (Some i) (lt, here, before) _ = (omega arith, here, before)
+  at_later n o none found = grind arith
 
   -- the next element doesn't pass
   pub at_other : (n : ℕ) (o : Option ℕ) → IsSoFar p xs d n o → false ≡ p (get_or xs n d) → IsSoFar p xs d (n + 1) o
-  at_other n None none other = λ k lt. by k lt (cases_order k n)
-    where
-      by : (k : ℕ) → k < n + 1 → (k ≡ n) ⊎ ((k < n) ⊎ (n < k)) → p (get_or xs k d) ≡ false
-      by k lt (inl same) = rw same (sym other)
-      by k lt (inr (inl before)) = none k before
-      by k lt (inr (inr after)) = absurd (omega arith)
-  at_other n (Some i) (lt, here, before) other = (omega arith, here, before)
+  at_other n o none other = grind (arith, cases_order)
 
   -- all were gone through
   pub at_end : (n : ℕ) (o : Option ℕ) → n ≡ length xs → IsSoFar p xs d n o → o ≡ position p xs
@@ -41,5 +33,4 @@ module _ {X : Type 0} (p : X → Bool) (xs : List X) (d : X) where
   at_end n (Some i) all (lt, here, before) = sym (position-at p xs i d (omega arith) here before)
 
   pub is_within : (n : ℕ) (o : Option ℕ) → IsSoFar p xs d n o → n ≤ length xs → IfSome o (λ i. i < length xs)
-  is_within n None none within = tt
-  is_within n (Some i) (lt, here, before) within = omega arith
+  is_within n o none within = grind arith

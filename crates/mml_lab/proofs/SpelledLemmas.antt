@@ -21,8 +21,7 @@ unfolding table_in
 table_in-some bytes t u e = rw (is_utf8-from_IsUtf8 bytes u) e
 
 none_at : (b : Bool) (o : Option Members) → (b ≡ true → o ≡ None) → cond b o None ≡ None
-none_at true o h = h refl
-none_at false o h = refl
+none_at b o h = grind arith
 
 -- bytes that aren't UTF-8, or don't parse as TOML, are no table
 pub table_in-none : (bytes : List ℕ) → (IsUtf8 bytes → parse_document bytes ≡ None) → table_in bytes ≡ None

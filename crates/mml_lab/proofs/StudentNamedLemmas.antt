@@ -10,6 +10,7 @@ use Rattle.mml_lab.specs.Shape.{Account}
 use Rattle.mml_lab.specs.inside.Raw.{entry_view}
 use Rattle.mml_lab.specs.declared.who.Who.TheVariants as who
 use Rattle.mml_lab.specs.Rosters.{RosterValue, has_name, no_account, name_of, student_named}
+use Rattle.std.proofs.Common.{arith}
 
 -- a student's name and key, as the map keeps them
 abbrev pub Entry : Type 0
@@ -39,6 +40,4 @@ search_same r name es o same found = found ∙ position_same name es ∙ ap (pos
 
 -- the student of a name is one of the students, and has that name
 pub student_is : (r : RosterValue) (name : List ℕ) (s : ℕ) → student_named r name ≡ Some s → (s < length r.students) × (name_of r (who.Student s) ≡ name)
-student_is r name s found =
-    let at = position-Some (has_name name) r.students s no_account found in
-    (at.0, sym ((bytes_eq-Decides name (account_at r.students s).name).0 at.1))
+student_is r name s found = grind (arith, position-Some, bytes_eq-Decides)

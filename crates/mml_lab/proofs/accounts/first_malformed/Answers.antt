@@ -4,11 +4,10 @@ use Rattle.mml_lab.specs.inside.Raw.{account_view}
 use Rattle.mml_lab.specs.Rosters.{is_account}
 use Rattle.mml_ids.proofs.MapLemmas.{position-map, position-first, position-later}
 use Rattle.mml_lab.proofs.accounts.first_malformed.Goals as goal
+use Rattle.std.proofs.Common.{arith}
 
 pub returns-then-not-is_account : goal.returns-then-not-is_account
-returns-then-not-is_account c =
-    let bad : not (is_account (account_view c.args.teacher.now)) ≡ true = search rules in
-    sym (position-first (λ a. not (is_account a)) (account_view c.args.teacher.now) (map account_view c.args.students.now) bad)
+returns-then-not-is_account c = grind (arith, position-first)
 
 pub returns-in-Some : goal.returns-in-Some
 returns-in-Some c =

@@ -7,10 +7,10 @@ use Rattle.mml_lab.specs.Labs.{place_of, owners_in}
 use Rattle.mml_ids.proofs.MapLemmas.{map-map}
 use Rattle.mml_lab.proofs.RawLemmas.{node_with-read}
 use Rattle.mml_lab.proofs.build.owners_with.Goals as goal
+use Rattle.std.proofs.Common.{arith}
 
 if_ok : {X E : Type 0} {P Q : X → Type 0} (r : Result X E) → IfOk r P → ((x : X) → P x → Q x) → IfOk r Q
-if_ok (Ok x) h weaker = weaker x h
-if_ok (Err e) h weaker = tt
+if_ok r h weaker = grind arith
 
 pub returns-in-Some-clause-ok : goal.returns-in-Some-clause-ok
 returns-in-Some-clause-ok c =

@@ -14,9 +14,7 @@ use Rattle.mml_lab.proofs.ChecksLemmas.{again-at, again-found, again-none, all-r
 use Rattle.mml_lab.proofs.links.rows.Goals as goal
 
 pub loop-index-init : goal.loop-index-init
-loop-index-init c =
-    let empty : c.in_ok-rows.rows.items ≡ replicate (length c.args.ids.now) (sets.empty {R = nat_cmp}) = search rules in
-    record { are = no_rows c.args.ids.now c.in_ok-rows.rows.items empty; fresh = ap (first_from (is_link_again c.args.links.now) 0) (omega arith) }
+loop-index-init c = grind (arith, no_rows)
 
 pub returns-then-are_near : goal.returns-then-are_near
 returns-then-are_near c =
@@ -61,7 +59,4 @@ loop-index-preserved c =
     })
 
 pub returns : goal.returns
-returns c = record {
-  tests = again-none c.args.ids.now c.args.links.now c.loop-index.index c.loop-index.rows.items c.loop-index-test.false c.loop-index.invariant;
-  rows = all-rows c.args.ids.now c.args.links.now c.loop-index.index c.loop-index.rows.items c.loop-index-test.false c.loop-index.invariant;
-}
+returns c = grind (arith, again-none, all-rows)

@@ -9,12 +9,7 @@ use Rattle.mml_lab.proofs.OwnedLemmas.{no_nodes, one_node, all_nodes}
 use Rattle.mml_lab.proofs.owned.owned_by_each.Goals as goal
 
 pub loop-index-init : goal.loop-index-init
-loop-index-init c =
-    let empty : c.in_ok-rows.rows.items ≡ replicate (c.args.students + 1) (sets.empty {R = nat_cmp}) = search rules in
-    record {
-      count = ap length empty ∙ length-replicate (c.args.students + 1) sets.empty;
-      each = no_nodes (map (λ v. v.items) c.args.owners.now) (c.args.students + 1) c.in_ok-rows.rows.items empty;
-    }
+loop-index-init c = grind (arith, length-replicate, no_nodes)
 
 pub give-requires : goal.give-requires
 give-requires c =
@@ -31,24 +26,7 @@ give-requires c =
     λ j d lt. let below = known j d lt in omega arith
 
 pub loop-index-preserved : goal.loop-index-preserved
-loop-index-preserved c =
-    let owners = c.args.owners.now in
-    let k = c.loop-index.index in
-    let all : List (List ℕ) = map (λ v. v.items) owners in
-    let here : c.deref.result.now ≡ get_or all k [] =
-    c.deref.ensures.value ∙ ap (λ v. v.items) c.index-owners-index.is
-    ∙ sym (get_or-map (λ v. v.items) owners k c.index-owners-index.result [] c.loop-index-test.true) in
-    let old : c.deref_mut.result.now ≡ c.loop-index.rows.items = c.deref_mut.ensures.value in
-    let long : length c.give.new.rows ≡ length c.loop-index.rows.items = c.give.auto.rows ∙ ap length old in
-    let whole : take c.loop-index.rows.len (c.give.new.rows ++ drop (length c.give.new.rows) c.loop-index.rows.items) ≡ c.give.new.rows =
-    take_at c.give.new.rows _ c.loop-index.rows.len (long ∙ sym c.loop-index.rows.ok.0) in
-    rw whole (record {
-      count = long ∙ c.loop-index.invariant.count;
-      each = one_node all k c.loop-index.rows.items c.give.new.rows c.deref.result.now here
-          (λ s i. c.give.ensures s i
-          ∙ (λ t. sets.contains (row_at (old t) s) i || (eqb i (c.at.ensures t) && list_any (λ o. eqb o s) c.deref.result.now)))
-          c.loop-index.invariant.each;
-    })
+loop-index-preserved c = grind (arith, get_or-map, take_at, one_node)
 
 pub returns-clause-rows : goal.returns-clause-rows
 returns-clause-rows c =

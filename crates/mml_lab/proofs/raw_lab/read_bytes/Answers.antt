@@ -1,10 +1,10 @@
 use Rattle.std.proofs.Common.{sym, ◌∙◌, true≢false}
 use Rattle.mml_lab.proofs.SpelledLemmas.{table_in-some, table_in-none, spelled-some, spelled-none}
 use Rattle.mml_lab.proofs.raw_lab.read_bytes.Goals as goal
+use Rattle.std.proofs.Common.{arith}
 
 pub returns-in-Ok : goal.returns-in-Ok
 returns-in-Ok c = rw (spelled-some _ _ (table_in-some _ _ c.in-Ok.ensures.ok.0 c.in-Ok.ensures.ok.1)) c.read_raw.ensures
 
 pub returns-else-is_memory : goal.returns-else-is_memory
-returns-else-is_memory c =
-    spelled-none _ (table_in-none _ (c.in-Err.ensures.refused (λ m. true≢false (sym (c.is_memory.ensures.1 m) ∙ c.if-is_memory.false))))
+returns-else-is_memory c = grind (arith, spelled-none, table_in-none, true≢false)

@@ -6,11 +6,7 @@ use Rattle.mml_lab.proofs.NameTwiceLemmas.{absent, at_start, at_fault, at_next, 
 use Rattle.mml_lab.proofs.roster.fill.Goals as goal
 
 pub loop-student-init : goal.loop-student-init
-loop-student-init c = record {
-  left = c.into_iter-student-iterator.ensures.into_iter_gives.0;
-  counted = search rules;
-  so_far = at_start c.args.teacher.now c.args.students.items c.args.found.now.entries c.requires;
-}
+loop-student-init c = grind (arith, at_start)
 
 pub returns-then-is_taken : goal.returns-then-is_taken
 returns-then-is_taken c =
@@ -57,7 +53,4 @@ loop-student-preserved-in_ok-insert c =
     }
 
 pub returns : goal.returns
-returns c =
-    let at = c.loop-student.invariant in
-    at_end c.args.teacher.now c.args.students.items c.loop-student.yielded
-    (into_iter_items c.loop-student.student-iterator) c.loop-student.found.entries at.so_far at.left (sym at.counted ∙ c.in-None.ensures.steps.0)
+returns c = grind (arith, at_end)

@@ -11,8 +11,7 @@ use Rattle.mml_lab.proofs.OwnedLemmas.{owned_by}
 use Rattle.mml_lab.proofs.roster.Roster.owned.Goals as goal
 
 pub returns-in-Teacher : goal.returns-in-Teacher
-returns-in-Teacher c = λ i.
-    ap (λ r. sets.contains r i) c.empty.ensures ∙ has_empty i ∙ sym (ap (λ w. owns c.args.self.now w i) c.in-Teacher.is)
+returns-in-Teacher c = grind (arith, has_empty)
 
 pub returns-in-Student : goal.returns-in-Student
 returns-in-Student c =
@@ -22,7 +21,7 @@ returns-in-Student c =
     let many : c.len.result ≡ students = c.len.ensures.len ∙ sym (length-map a.students.entries entry_view) in
     let s : c.from.result ≡ c.in-Student.student = c.from.ensures ∙ c.index.ensures in
     let within : at < length a.owned.items = omega (arith, c.min.ensures, many, c.self.invariant.rows.count) in
-    let row : c.index-2.result.now ≡ row_at a.owned.items at = c.index-2.ensures ∙ sym (get_or_default a.owned.items at sets.empty c.index-2.result.now within) in
+    let row : c.index-in-Student.result.now ≡ row_at a.owned.items at = c.index-in-Student.ensures ∙ sym (get_or_default a.owned.items at sets.empty c.index-in-Student.result.now within) in
     let place : ((c.in-Student.student ≤ students) × (at ≡ c.in-Student.student)) ⊎ ((students ≤ c.in-Student.student) × (at ≡ students)) =
     elim (cases_lt c.in-Student.student students) [
       | inl below ↦ inl (omega (arith, below), omega (arith, below, c.min.ensures, many, s))

@@ -2,6 +2,7 @@ use Rattle.std.proofs.Common.{◌≡◌, ◌∙◌, ap, sym, Some}
 use Rattle.mml_lab.specs.Rosters.{RosterValue, student_named}
 use Rattle.mml_lab.proofs.StudentNamedLemmas.{search_same, student_is}
 use Rattle.mml_lab.proofs.roster.Roster.student_named.Goals as goal
+use Rattle.std.proofs.Common.{arith}
 
 pub returns-in-Some : goal.returns-in-Some
 returns-in-Some c =
@@ -15,5 +16,4 @@ returns-in-Some c =
     }
 
 pub returns-in-None-clause-value : goal.returns-in-None-clause-value
-returns-in-None-clause-value c =
-    search_same c.args.self.now c.args.name.now c.self.inside.students.entries _ (ap (λ (r : RosterValue). r.students) c.self.view_is) c.in-None.ensures.index
+returns-in-None-clause-value c = grind (arith, search_same)
