@@ -1,12 +1,11 @@
 -- What a register p holds.
-use Rattle.std.proofs.Common.{◌≡◌, ℕ, true, Option, None, Some, ap, ◌∙◌, refl}
+use Rattle.std.proofs.Common.{◌≡◌, ℕ, true, Option, Some, ap, ◌∙◌, refl, arith}
 use Rattle.std.proofs.lemmas.Bool.{eqb-true, eq-eqb, false≢true}
 use Rattle.mml_rules.specs.Configuration.{holds}
 
 -- a register that holds j points at j
 pub holds-true : (o : Option ℕ) (j : ℕ) → holds o j ≡ true → o ≡ Some j
-holds-true None j h = absurd (false≢true h)
-holds-true (Some k) j h = ap Some (eqb-true k j h)
+holds-true o j h = grind (arith, false≢true, eqb-true)
 
 pub holds-some : (j : ℕ) → holds (Some j) j ≡ true
 holds-some j = eq-eqb j j refl

@@ -1,9 +1,9 @@
 -- At most one of the four rules is enabled at a node, and `enabled_kind` names it.
-use Rattle.std.proofs.Common.{◌≡◌, ℕ, Bool, true, false, cond, not, ◌&&◌, Option, None, Some, is_some, is_none, sym, refl, ap, ◌∙◌}
+use Rattle.std.proofs.Common.{◌≡◌, ℕ, Bool, true, false, cond, not, Option, None, Some, is_some, is_none, sym, refl, ap, ◌∙◌, arith}
 use Rattle.std.proofs.lemmas.Bool.{and_parts, and_from, not-true, false_from_ne_true, both_ways}
 use Rattle.mml_rules.specs.declared.rule.Rule.{Rule}
 use Rattle.mml_rules.specs.declared.rule.Kind.{Kind}
-use Rattle.mml_rules.specs.Configuration.{Configuration, IsLawful, holds}
+use Rattle.mml_rules.specs.Configuration.{Configuration, IsLawful}
 use Rattle.mml_rules.specs.Rules.{has_suitor, greatest_candidate, m_is_right, points_in_vain, guard, kind_of, enabled_kind, is_privileged}
 use Rattle.mml_rules.proofs.ConfigurationLemmas.{holds-true, holds-from}
 use Rattle.mml_rules.proofs.RulesLemmas.{suitor-from, suitor-find, vain-some, some-null, null-some}
@@ -37,25 +37,12 @@ chosen_abandonment s p v u b h k l = rw (h, k, l) refl
 
 -- a rule whose guard holds is the enabled one, so at most one of the four holds
 pub guard-kind : (c : Configuration) (i : ℕ) (r : Rule) → IsLawful c → guard c i r ≡ true → enabled_kind c i ≡ Some (kind_of r)
-guard-kind c i Rule.Update l h = kind-choose c i ∙ chosen_update _ _ _ _ _ (not-true _ h)
-guard-kind c i (Rule.Marriage j) l h =
-    let a = and_parts (m_is_right c i) (is_none (c.p i) && (c.linked i j && holds (c.p j) i)) h in
-    let b = and_parts (is_none (c.p i)) (c.linked i j && holds (c.p j) i) a.1 in
-    let d = and_parts (c.linked i j) (holds (c.p j) i) b.1 in
-    kind-choose c i ∙ chosen_marriage _ _ _ _ _ a.0 (null-some (c.p i) b.0) (suitor-from c i j l d.0 (holds-true (c.p j) i d.1))
-guard-kind c i Rule.Seduction l h =
-    let a = and_parts (m_is_right c i) (is_none (c.p i) && (not (has_suitor c i) && is_some (greatest_candidate c i))) h in
-    let b = and_parts (is_none (c.p i)) (not (has_suitor c i) && is_some (greatest_candidate c i)) a.1 in
-    let d = and_parts (not (has_suitor c i)) (is_some (greatest_candidate c i)) b.1 in
-    kind-choose c i ∙ chosen_seduction _ _ _ _ _ a.0 (null-some (c.p i) b.0) (not-true _ d.0) d.1
-guard-kind c i Rule.Abandonment l h =
-    let a = and_parts (m_is_right c i) (points_in_vain c i) h in
-    kind-choose c i ∙ chosen_abandonment _ _ _ _ _ a.0 (vain-some c i a.1) a.1
+guard-kind c i r l h =
+    grind (arith, kind-choose, chosen_update, not-true, and_parts, is_none, chosen_marriage, null-some, suitor-from, holds-true, chosen_seduction, chosen_abandonment, vain-some)
 
 -- at a node that isn't privileged, no rule's guard holds
 pub idle-guard : (c : Configuration) (i : ℕ) (r : Rule) → IsLawful c → is_privileged c i ≡ false → guard c i r ≡ false
-idle-guard c i r l h = false_from_ne_true (guard c i r) (λ g.
-    both_ways (is_privileged c i) h (ap is_some (guard-kind c i r l g)))
+idle-guard c i r l h = grind (arith, false_from_ne_true, both_ways, guard-kind)
 
 -- the enabled rule has a guard that holds
 pub kind-guard : (c : Configuration) (i : ℕ) (k : Kind) → enabled_kind c i ≡ Some k → (r : Rule) × (kind_of r ≡ k) × (guard c i r ≡ true)

@@ -15,43 +15,22 @@ use Rattle.mml_rules.proofs.EnabledKindLemmas.{choose}
 
 module _ (f : ℕ → ℕ) (c d : Configuration) (l : IsLawful c) (r : IsRenamed f c d) where
   pub apart : (i j : ℕ) → i < c.size → j < c.size → f i ≡ f j → i ≡ j
-  apart i j a b e = elim (cases_order i j) [
-    | inl s ↦ s
-    | inr o ↦ elim o [
-      | inl lt ↦ let x = r.rising i j lt b in absurd (omega arith)
-      | inr gt ↦ let x = r.rising j i gt a in absurd (omega arith)
-    ]
-  ]
+  apart i j a b e = grind (arith, cases_order)
 
   eqb_named : (i j : ℕ) → i < c.size → j < c.size → eqb (f i) (f j) ≡ eqb i j
-  eqb_named i j a b = elim (cases_eq i j) [
-    | inl e ↦ eq-eqb (f i) (f j) (ap f e) ∙ sym (eq-eqb i j e)
-    | inr ne ↦ ne_eqb (f i) (f j) (λ e. ne (apart i j a b e)) ∙ sym (ne_eqb i j ne)
-  ]
+  eqb_named i j a b = grind (arith, cases_eq, eq-eqb, ne_eqb, apart)
 
   ltb_named : (i j : ℕ) → i < c.size → j < c.size → ltb (f i) (f j) ≡ ltb i j
-  ltb_named i j a b = elim (cases_order i j) [
-    | inl e ↦ le-ltb (f i) (f j) (let x : f i ≡ f j = ap f e in omega arith) ∙ sym (le-ltb i j (omega arith))
-    | inr o ↦ elim o [
-      | inl lt ↦ lt-ltb (f i) (f j) (r.rising i j lt b) ∙ sym (lt-ltb i j lt)
-      | inr gt ↦ le-ltb (f i) (f j) (let x = r.rising j i gt a in omega arith) ∙ sym (le-ltb i j (omega arith))
-    ]
-  ]
+  ltb_named i j a b = grind (arith, cases_order, le-ltb, lt-ltb)
 
   points_named : (k i : ℕ) → k < c.size → i < c.size → holds (d.p (f k)) (f i) ≡ holds (c.p k) i
-  points_named k i a b = ap (λ o. holds o (f i)) (r.p k a) ∙ go (c.p k) refl
-    where
-      go : (o : Option ℕ) → c.p k ≡ o → holds (renamed f o) (f i) ≡ holds o i
-      go None e = refl
-      go (Some j) e = eqb_named j i (pointee_in c k j l e) b
+  points_named k i a b = grind (arith, eqb_named, pointee_in)
 
   null_named : (o : Option ℕ) → is_none (renamed f o) ≡ is_none o
-  null_named None = refl
-  null_named (Some j) = refl
+  null_named o = grind arith
 
   some_named : (o : Option ℕ) → is_some (renamed f o) ≡ is_some o
-  some_named None = refl
-  some_named (Some j) = refl
+  some_named o = grind arith
 
   free_named : (i : ℕ) → i < c.size → is_none (d.p (f i)) ≡ is_none (c.p i)
   free_named i a = ap is_none (r.p i a) ∙ null_named (c.p i)
@@ -121,23 +100,14 @@ module _ (f : ℕ → ℕ) (c d : Configuration) (l : IsLawful c) (r : IsRenamed
       go : (o : Option ℕ) → c.p i ≡ o →
           option_map_or (λ j. not (holds (d.p j) (f i)) && (d.m j || ltb j (f i))) (renamed f o) false
           ≡ option_map_or (λ j. not (holds (c.p j) i) && (c.m j || ltb j i)) o false
-      go None e = refl
-      go (Some j) e =
-          let b = pointee_in c i j l e in
-          λ z. not (points_named j i b a z) && (r.m j b z || ltb_named j i b a z)
+      go o e = grind (arith, pointee_in, points_named, ltb_named)
 
   pub kind_named : (i : ℕ) → i < c.size → enabled_kind d (f i) ≡ enabled_kind c i
   unfolding enabled_kind
   kind_named i a = λ z. choose (right_named i a z) (pointing_named i a z) (vain_named i a z) (suitor_named i a z) (some_candidate_named i a z)
 
   pub guard_named : (i : ℕ) (q : Rule) → i < c.size → IsWithin c.size q → guard d (f i) (renamed_rule f q) ≡ guard c i q
-  guard_named i Rule.Update a w = λ z. not (right_named i a z)
-  guard_named i (Rule.Marriage j) a w = λ z. right_named i a z && (free_named i a z && (r.links i j a w z && points_named j i w a z))
-  guard_named i Rule.Seduction a w = λ z. right_named i a z && (free_named i a z && (not (suitor_named i a z) && some_candidate_named i a z))
-  guard_named i Rule.Abandonment a w = λ z. right_named i a z && vain_named i a z
+  guard_named i q a w = grind (arith, right_named, free_named, points_named, suitor_named, some_candidate_named, vain_named)
 
   pub effect_named : (i : ℕ) (q : Rule) → i < c.size → effect d (f i) (renamed_rule f q) ≡ renamed_regs f (effect c i q)
-  effect_named i Rule.Update a = λ z. record { p = r.p i a z; m = married_named i a z }
-  effect_named i (Rule.Marriage j) a = λ z. record { p = Some (f j); m = r.m i a z }
-  effect_named i Rule.Seduction a = λ z. record { p = candidate_named i a z; m = r.m i a z }
-  effect_named i Rule.Abandonment a = λ z. record { p = None; m = r.m i a z }
+  effect_named i q a = grind (arith, married_named, candidate_named)

@@ -1,9 +1,6 @@
 -- What the definitions of the rules say, as facts.
-use Rattle.std.proofs.Common.{◌≡◌, ℕ, ◌<◌, ◌≤◌, Bool, true, false, not, ◌&&◌, ◌||◌, nat_lt, Option, None, Some, is_some, is_none, sym, refl, ap, ◌∙◌}
-use Rattle.std.proofs.Common.{subst, arith}
-use Rattle.std.specs.Option.{option_map_or}
+use Rattle.std.proofs.Common.{◌≡◌, ℕ, ◌<◌, ◌≤◌, true, false, ◌&&◌, nat_lt, Option, None, Some, is_some, is_none, sym, ap, ◌∙◌, arith}
 use Rattle.std.proofs.lemmas.Bool.{and_parts, and_from, false_from_ne_true, both_ways, false≢true}
-use Rattle.mml_ids.specs.Search.{some_below}
 use Rattle.mml_rules.specs.Configuration.{Configuration, IsLawful, holds}
 use Rattle.mml_rules.specs.Rules.{is_married, has_suitor, is_candidate, greatest_candidate, points_in_vain}
 use Rattle.mml_ids.proofs.SearchLemmas.{some_below-find, some_below-at, greatest_below-some, greatest_below-none}
@@ -12,11 +9,7 @@ use Rattle.mml_rules.proofs.ConfigurationLemmas.{holds-true, holds-from}
 -- a married node and some other one point at each other
 pub married-partner : (c : Configuration) (i : ℕ) → is_married c i ≡ true → (j : ℕ) × (c.p i ≡ Some j) × (c.p j ≡ Some i)
 unfolding is_married
-married-partner c i h =
-    let r = some_below-find c.size (λ j. c.linked i j && (holds (c.p i) j && holds (c.p j) i)) h in
-    let a = and_parts (c.linked i r.0) (holds (c.p i) r.0 && holds (c.p r.0) i) r.2 in
-    let b = and_parts (holds (c.p i) r.0) (holds (c.p r.0) i) a.1 in
-    (r.0, holds-true (c.p i) r.0 b.0, holds-true (c.p r.0) i b.1)
+married-partner c i h = grind (arith, some_below-find, and_parts, holds-true)
 
 -- of two nodes that point at each other, the first is married
 pub married-from : (c : Configuration) (i j : ℕ) → IsLawful c → c.p i ≡ Some j → c.p j ≡ Some i → is_married c i ≡ true
@@ -32,17 +25,7 @@ married-null c i h = false_from_ne_true (is_married c i) (λ m. let r = married-
 
 -- a node that points at j is married exactly where j points back
 pub married-at : (c : Configuration) (i j : ℕ) → IsLawful c → c.p i ≡ Some j → is_married c i ≡ holds (c.p j) i
-married-at c i j l a = go (holds (c.p j) i) refl
-  where
-    go : (b : Bool) → holds (c.p j) i ≡ b → is_married c i ≡ b
-    go true e = married-from c i j l a (holds-true (c.p j) i e)
-    go false e = false_from_ne_true (is_married c i) (λ m.
-        let r = married-partner c i m in
-        let back : c.p j ≡ Some i = same (c.p i) r.0 j r.1 a r.2 in
-        absurd (both_ways (holds (c.p j) i) e (holds-from (c.p j) i back)))
-      where
-        same : (o : Option ℕ) (x y : ℕ) → o ≡ Some x → o ≡ Some y → c.p x ≡ Some i → c.p y ≡ Some i
-        same o x y u v w = let e : x ≡ y = cc in subst (λ z. c.p z ≡ Some i) e w
+married-at c i j l a = grind (arith, married-from, holds-true, false_from_ne_true, married-partner, both_ways, holds-from)
 
 -- a pointer leads to a node
 pub pointee_in : (c : Configuration) (i j : ℕ) → IsLawful c → c.p i ≡ Some j → j < c.size
@@ -59,14 +42,11 @@ suitor_at c i k o l p h =
 -- where no node points at i, it has no suitor
 pub no_suitor : (c : Configuration) (i n : ℕ) → c.size ≤ n → ((k : ℕ) → k < n → holds (c.p k) i ≡ false) → false ≡ has_suitor c i
 unfolding has_suitor
-no_suitor c i n all h = sym (false_from_ne_true (some_below c.size (λ k. c.linked i k && holds (c.p k) i)) (λ s.
-    let r = some_below-find c.size (λ k. c.linked i k && holds (c.p k) i) s in
-    both_ways (holds (c.p r.0) i) (h r.0 (omega arith)) (and_parts (c.linked i r.0) (holds (c.p r.0) i) r.2).1))
+no_suitor c i n all h = grind (arith, false_from_ne_true, some_below-find, both_ways, and_parts)
 
 -- a register that is found null is null
 pub none-null : (o : Option ℕ) → is_none o ≡ true → o ≡ None
-none-null None h = refl
-none-null (Some x) h = absurd (false≢true h)
+none-null o h = grind (arith, false≢true)
 
 -- a register that is null is found null
 pub null-none : (o : Option ℕ) → o ≡ None → is_none o ≡ true
@@ -74,21 +54,15 @@ null-none o h = ap is_none h
 
 -- a register that isn't found to point is null
 pub some-null : (o : Option ℕ) → is_some o ≡ false → is_none o ≡ true
-some-null None h = refl
-some-null (Some x) h = sym h
+some-null o h = grind arith
 
 -- a null register isn't found to point
 pub null-some : (o : Option ℕ) → is_none o ≡ true → is_some o ≡ false
-null-some None h = refl
-null-some (Some x) h = absurd (false≢true h)
+null-some o h = grind (arith, false≢true)
 
 -- a node that points in vain points at some node
 pub vain-some : (c : Configuration) (i : ℕ) → points_in_vain c i ≡ true → is_some (c.p i) ≡ true
-vain-some c i h = go (c.p i) h
-  where
-    go : (o : Option ℕ) → option_map_or (λ j. not (holds (c.p j) i) && (c.m j || nat_lt j i)) o false ≡ true → is_some o ≡ true
-    go None e = absurd (false≢true e)
-    go (Some j) e = refl
+vain-some c i h = grind (arith, nat_lt, false≢true)
 
 -- a linked node that points at i makes it a node with a suitor
 pub suitor-from : (c : Configuration) (i k : ℕ) → IsLawful c → c.linked i k ≡ true → c.p k ≡ Some i → has_suitor c i ≡ true
@@ -99,10 +73,7 @@ suitor-from c i k l linked h =
 -- a node with a suitor is linked to a node that points at it
 pub suitor-find : (c : Configuration) (i : ℕ) → has_suitor c i ≡ true → (k : ℕ) × (c.linked i k ≡ true) × (c.p k ≡ Some i)
 unfolding has_suitor
-suitor-find c i h =
-    let r = some_below-find c.size (λ k. c.linked i k && holds (c.p k) i) h in
-    let a = and_parts (c.linked i r.0) (holds (c.p r.0) i) r.2 in
-    (r.0, a.0, holds-true (c.p r.0) i a.1)
+suitor-find c i h = grind (arith, some_below-find, and_parts, holds-true)
 
 -- the greatest candidate is a candidate
 pub greatest-is : (c : Configuration) (i j : ℕ) → greatest_candidate c i ≡ Some j → is_candidate c i j ≡ true

@@ -1,9 +1,9 @@
 -- What a step changes, that it stays lawful, and that pairs are a matching.
-use Rattle.std.proofs.Common.{◌≡◌, ℕ, true, not, ◌&&◌, Option, None, Some, is_none, nat_lt, sym, refl, ap, ◌∙◌, subst}
+use Rattle.std.proofs.Common.{◌≡◌, ℕ, true, not, ◌&&◌, Option, None, Some, is_none, nat_lt, sym, refl, ap, ◌∙◌, arith}
 use Rattle.std.proofs.lemmas.Bool.{and_parts}
 use Rattle.mml_rules.specs.declared.rule.Rule.{Rule}
-use Rattle.mml_rules.specs.Configuration.{Configuration, IsLawful, holds}
-use Rattle.mml_rules.specs.Rules.{m_is_right, guard, effect, registers_of, moved, step, AllHold}
+use Rattle.mml_rules.specs.Configuration.{Configuration, IsLawful}
+use Rattle.mml_rules.specs.Rules.{guard, effect, registers_of, moved, step, AllHold}
 use Rattle.mml_rules.specs.Matching.{IsMatching}
 use Rattle.mml_rules.proofs.RulesLemmas.{greatest-is}
 
@@ -22,11 +22,7 @@ step-other c chosen i h = ap (λ o. record { p = (moved c i o).p; m = (moved c i
 -- a rule whose guard holds points at no node but a linked one
 pub effect-linked : (c : Configuration) (i j : ℕ) (r : Rule) → IsLawful c → guard c i r ≡ true → (effect c i r).p ≡ Some j → c.linked i j ≡ true
 effect-linked c i j Rule.Update l h e = l.to_linked i j e
-effect-linked c i j (Rule.Marriage k) l h e =
-    let x = and_parts (m_is_right c i) (is_none (c.p i) && (c.linked i k && holds (c.p k) i)) h in
-    let y = and_parts (is_none (c.p i)) (c.linked i k && holds (c.p k) i) x.1 in
-    let same : k ≡ j = cc in
-    subst (λ z. c.linked i z ≡ true) same (and_parts (c.linked i k) (holds (c.p k) i) y.1).0
+effect-linked c i j (Rule.Marriage k) l h e = grind (arith, and_parts, is_none)
 effect-linked c i j Rule.Seduction l h e = (and_parts (c.linked i j) (nat_lt i j && (is_none (c.p j) && not (c.m j))) (greatest-is c i j e)).0
 effect-linked c i j Rule.Abandonment l h e = cc
 
@@ -37,9 +33,4 @@ moved-linked c i j (Some r) l h e = effect-linked c i j r l (h r refl) e
 
 -- a step whose guards all hold leaves the configuration lawful
 pub step-lawful : (c : Configuration) (chosen : ℕ → Option Rule) → IsLawful c → AllHold c chosen → IsLawful (step c chosen)
-step-lawful c chosen l h = record {
-  in_range = l.in_range;
-  symmetric = l.symmetric;
-  no_loop = l.no_loop;
-  to_linked = λ i j e. moved-linked c i j (chosen i) l (h i) e;
-}
+step-lawful c chosen l h = grind (arith, moved-linked)

@@ -1,12 +1,11 @@
 -- Steps, pairs and where no node is privileged are the same under names that keep the order.
-use Rattle.std.proofs.Common.{◌≡◌, ◌↔◌, ◌⊎◌, ℕ, ◌<◌, Bool, true, false, ◌&&◌, eqb, Option, None, Some, is_some, sym, refl, ap, ◌∙◌, subst, inl, inr}
-use Rattle.std.specs.Bool.{beq}
+use Rattle.std.proofs.Common.{◌≡◌, ◌↔◌, ◌⊎◌, ℕ, ◌<◌, Bool, true, false, eqb, Option, None, Some, is_some, sym, refl, ap, ◌∙◌, subst, inl, inr, arith}
 use Rattle.std.proofs.lemmas.Bool.{eqb-true, eq-eqb, and_parts, both_ways, false_from_ne_true}
 use Rattle.mml_ids.specs.Search.{some_below}
 use Rattle.mml_ids.proofs.SearchLemmas.{some_below-find, some_below-none}
 use Rattle.mml_rules.specs.declared.rule.Rule.{Rule}
-use Rattle.mml_rules.specs.Configuration.{Configuration, IsLawful, holds}
-use Rattle.mml_rules.specs.Rules.{has_suitor, greatest_candidate, points_in_vain, enabled_kind, is_privileged, moved, step}
+use Rattle.mml_rules.specs.Configuration.{Configuration, IsLawful}
+use Rattle.mml_rules.specs.Rules.{has_suitor, greatest_candidate, enabled_kind, is_privileged, moved, step}
 use Rattle.mml_rules.specs.Matching.{IsPair, IsStable}
 use Rattle.mml_rules.specs.Naming.{renamed, IsRenamed}
 use Rattle.mml_rules.specs.UnderNames.{renamed_move, AreRenamedMoves, IsNoName, IsEmptyElsewhere}
@@ -19,11 +18,7 @@ module _ (f : ℕ → ℕ) (c d : Configuration) (l : IsLawful c) (r : IsRenamed
 
   module _ (chosen named : ℕ → Option Rule) (moves : AreRenamedMoves f c.size chosen named) where
     pointer_after : (i : ℕ) → i < c.size → (moved d (f i) (named (f i))).p ≡ renamed f (moved c i (chosen i)).p
-    pointer_after i a = ap (λ o. (moved d (f i) o).p) (moves i a) ∙ go (chosen i)
-      where
-        go : (o : Option Rule) → (moved d (f i) (renamed_move f o)).p ≡ renamed f (moved c i o).p
-        go None = r.p i a
-        go (Some q) = ap (λ x. x.p) (effect_named f c d l r i q a)
+    pointer_after i a = grind (arith, effect_named)
 
     m_after : (i : ℕ) → i < c.size → (moved d (f i) (named (f i))).m ≡ (moved c i (chosen i)).m
     m_after i a = ap (λ o. (moved d (f i) o).m) (moves i a) ∙ go (chosen i)
@@ -38,29 +33,16 @@ module _ (f : ℕ → ℕ) (c d : Configuration) (l : IsLawful c) (r : IsRenamed
   -- ---- pairs
 
   pointer_from : (i y : ℕ) → i < c.size → d.p (f i) ≡ Some y → (j : ℕ) × (j < c.size) × (f j ≡ y) × (c.p i ≡ Some j)
-  pointer_from i y a e = go (c.p i) refl (sym (r.p i a) ∙ e)
-    where
-      go : (o : Option ℕ) → c.p i ≡ o → renamed f o ≡ Some y → (j : ℕ) × (j < c.size) × (f j ≡ y) × (c.p i ≡ Some j)
-      go None at h = cc
-      go (Some j) at h = (j, pointee_in c i j l at, cc, at)
+  pointer_from i y a e = grind (arith, pointee_in)
 
   pointer_named : (i j : ℕ) → i < c.size → j < c.size → (d.p (f i) ≡ Some (f j)) ↔ (c.p i ≡ Some j)
-  pointer_named i j a b = (
-    (λ e. let k = pointer_from i (f j) a e in subst (λ x. c.p i ≡ Some x) (apart f c d l r k.0 j k.1 b k.2) k.3),
-    (λ e. r.p i a ∙ ap (renamed f) e),
-  )
+  pointer_named i j a b = grind (arith, pointer_from, apart)
 
   pub pair_named : (i j : ℕ) → i < c.size → j < c.size → IsPair d (f i) (f j) ↔ IsPair c i j
-  pair_named i j a b = (
-    (λ h. ((pointer_named i j a b).0 h.0, (pointer_named j i b a).0 h.1)),
-    (λ h. ((pointer_named i j a b).1 h.0, (pointer_named j i b a).1 h.1)),
-  )
+  pair_named i j a b = grind (arith, pointer_named)
 
   pub pair_has_names : (i y : ℕ) → i < c.size → IsPair d (f i) y → (j : ℕ) × (j < c.size) × (f j ≡ y) × IsPair c i j
-  pair_has_names i y a h =
-      let k = pointer_from i y a h.0 in
-      let back : d.p (f k.0) ≡ Some (f i) = ap d.p k.2 ∙ h.1 in
-      (k.0, k.1, k.2, (k.3, (pointer_named k.0 i k.1 a).0 back))
+  pair_has_names i y a h = grind (arith, pointer_from, pointer_named)
 
   -- ---- where no node is privileged
 
@@ -77,9 +59,7 @@ module _ (f : ℕ → ℕ) (c d : Configuration) (l : IsLawful c) (r : IsRenamed
   module _ (empty : IsEmptyElsewhere f c d) where
     no_suitor_elsewhere : (x : ℕ) → IsNoName f c.size x → has_suitor d x ≡ false
     unfolding has_suitor
-    no_suitor_elsewhere x none = false_from_ne_true (some_below d.size (λ k. d.linked x k && holds (d.p k) x)) (λ h.
-        let k = some_below-find d.size (λ k. d.linked x k && holds (d.p k) x) h in
-        both_ways (d.linked x k.0) (empty.links x k.0 none) (and_parts (d.linked x k.0) (holds (d.p k.0) x) k.2).0)
+    no_suitor_elsewhere x none = grind (arith, false_from_ne_true, some_below-find, both_ways, and_parts)
 
     no_candidate_elsewhere : (x : ℕ) → IsNoName f c.size x → is_some (greatest_candidate d x) ≡ false
     no_candidate_elsewhere x none = go (greatest_candidate d x) refl
@@ -90,9 +70,7 @@ module _ (f : ℕ → ℕ) (c d : Configuration) (l : IsLawful c) (r : IsRenamed
 
     idle_elsewhere : (x : ℕ) → IsNoName f c.size x → is_privileged d x ≡ false
     unfolding enabled_kind
-    idle_elsewhere x none = λ z. is_some (choose
-        (beq (empty.m x none z) (married-null d x (empty.p x none) z)) (is_some (empty.p x none z)) (points_in_vain d x)
-        (no_suitor_elsewhere x none z) (no_candidate_elsewhere x none z))
+    idle_elsewhere x none = grind (arith, choose, married-null, no_suitor_elsewhere, no_candidate_elsewhere)
 
     pub stable_named : IsStable d ↔ IsStable c
     stable_named = (
