@@ -138,7 +138,7 @@ fn are_told_at_first(alloc: Global, lab: &Lab) -> Result<(bool, bool), Fail> {
     let look = look_at_the_first(alloc, &board)?;
     let line = first_line(alloc, lab, &board)?;
     let is_shown = look.as_str() == "0 None None Some(Marriage) 1 Some(0) false";
-    let is_line = line.as_slice() == b"1 0 grant ana 5 abandonment".as_slice();
+    let is_line = line.as_slice() == b"1 0 grant ana 5 abandonment\n".as_slice();
     Ok((opened == (true, true), is_shown && is_line))
 }
 

@@ -7,7 +7,7 @@ use Rattle.mml_board.specs.Events.{is_legal}
 use Rattle.mml_journal.specs.EventLines.{event_line}
 use Rattle.mml_ids.specs.Lines.{ended}
 use Rattle.mml_journal.specs.JournalText.{next_line}
-use Rattle.mml_journal.specs.Sinks.{with_more}
+use Rattle.mml_journal.specs.Sinks.{with_more, IsLineFor}
 use Rattle.mml_journal.proofs.JournalTextLemmas.{one_more}
 use Rattle.mml_window.specs.Lists.{world_in, text_in}
 use Rattle.mml_journal.specs.Taken.{IsFresh}
@@ -37,13 +37,12 @@ line_taken lab l e (Some bytes) new j more = subst (TellsJournal lab (l ++ e ∷
     ([], ap (λ t. t ++ next_line lab.ids lab.roster (world_in lab l) e) (whole lab l bytes j) ∙ sym (text-one_more lab l e) ∙ sym (append-nil _), refl)
 
 -- a part of its line was taken
-pub line_torn : (lab : LabValue) (l : List Event) (e : Event) → is_legal lab.roster (world_in lab l) e ≡ true → (n : ℕ)
-    → n < length (next_line lab.ids lab.roster (world_in lab l) e)
-    → (old new : Option (List ℕ)) → TellsJournal lab l false old → new ≡ with_more old (take n (next_line lab.ids lab.roster (world_in lab l) e))
-    → TellsJournal lab l true new
-line_torn lab l e legal n part None new j more = subst (TellsJournal lab l true) (sym more) tt
-line_torn lab l e legal n part (Some bytes) new j more = subst (TellsJournal lab l true) (sym more) (
-  take n (next_line lab.ids lab.roster (world_in lab l) e),
-  ap (λ t. t ++ take n (next_line lab.ids lab.roster (world_in lab l) e)) (whole lab l bytes j),
-  (e, n, legal, part, refl),
+pub line_torn : (lab : LabValue) (l : List Event) (e : Event) → is_legal lab.roster (world_in lab l) e ≡ true → (line : List ℕ) (n : ℕ) → n < length line
+    → (old new : Option (List ℕ)) → IsLineFor old (next_line lab.ids lab.roster (world_in lab l) e) line → TellsJournal lab l false old
+    → new ≡ with_more old (take n line) → TellsJournal lab l true new
+line_torn lab l e legal line n part None new its j more = subst (TellsJournal lab l true) (sym more) tt
+line_torn lab l e legal line n part (Some bytes) new its j more = subst (TellsJournal lab l true) (sym more) (
+  take n line,
+  ap (λ t. t ++ take n line) (whole lab l bytes j),
+  (e, n, legal, subst (λ (t : List ℕ). n < length t) its part, ap (λ (t : List ℕ). take n t) its),
 )
