@@ -7,3 +7,4 @@ pub mod HoldingLemmas
 pub mod EndingLemmas
 pub mod ServingLemmas
 pub mod TalkLemmas
+pub mod SeenLemmas

@@ -1,5 +1,5 @@
 -- What a talk leaves in its window, and which lines it answers.
-use Rattle.std.proofs.Common.{◌≡◌, ◌⊎◌, ℕ, suc, List, [], ◌∷◌, ◌++◌, length, flat_map, refl, sym, ◌∙◌, ap, append_assoc, append-nil, subst, inl, inr, Option}
+use Rattle.std.proofs.Common.{◌≡◌, ◌⊎◌, ℕ, List, [], ◌∷◌, ◌++◌, flat_map, sym, ◌∙◌, ap, append_assoc, append-nil, subst, inl, inr, Option}
 use Rattle.std.proofs.Common.{Some, None, Result, Ok, Err, All}
 use Rattle.std.specs.List.{AllByRecursion}
 use Rattle.std.proofs.lemmas.List.Elements.{All-nil, All-cons}
@@ -8,6 +8,7 @@ use Rattle.mml_lab.specs.declared.who.Who.{Who}
 use Rattle.mml_lab.specs.Labs.{LabValue}
 use Rattle.mml_ids.specs.Lines.{IsUnbroken}
 use Rattle.mml_lines.specs.LinesOf.{IsWithinLimit, lines_of}
+use Rattle.mml_lines.proofs.RunsLemmas.{by_steps, run_keeps}
 use Rattle.mml_lines.proofs.LinesOfLemmas.{lines_first, no_line}
 use Rattle.mml_board.specs.declared.event.Event.{Event}
 use Rattle.mml_policy.specs.declared.command.Command.{Command}
@@ -67,30 +68,14 @@ module _ (lab : LabValue) where
   asked_on st next (Err fault) r h = stays st.window next.window r (ap (λ (t : Standing). t.window) h.1) (ap places_in h.0)
   asked_on st next (Ok request) r h = settles_on st next (greeting lab.roster st.known request) r (plain_greeting lab.roster st.known request) h
 
-  turn_on : (st next : Standing) (line : List ℕ) (r : Reply) → Turn lab st line r next → WentOn st.window next.window r
+  pub turn_on : (st next : Standing) (line : List ℕ) (r : Reply) → Turn lab st line r next → WentOn st.window next.window r
   turn_on st next line r (inl h) = asked_on st next (request_in line) r h
   turn_on st next line r (inr h) = stays st.window next.window r (ap (λ (t : Standing). t.window) h.1) (ap places_in h.0)
 
-  run_places : (st end : Standing) (ls : List (List ℕ)) (rs : List Reply) → Run lab st ls rs end → end.window.places ≡ st.window.places ++ flat_map places_in rs
-  run_places st end [] [] run = ap (λ (t : Standing). t.window.places) run ∙ sym (append-nil st.window.places)
-  run_places st end [] (r ∷ rs) run = absurd run
-  run_places st end (l ∷ ls) [] run = absurd run
-  run_places st end (l ∷ ls) (r ∷ rs) run =
-      run_places run.0 end ls rs run.2
-      ∙ (ap (λ ps. ps ++ flat_map places_in rs) (turn_on st run.0 l r run.1).places ∙ append_assoc st.window.places (places_in r) (flat_map places_in rs))
-
-  run_seen : (st end : Standing) (ls : List (List ℕ)) (rs : List Reply) → Run lab st ls rs end → IsPrefix st.window.seen end.window.seen
-  run_seen st end [] [] run = subst (λ (t : Standing). IsPrefix st.window.seen t.window.seen) (sym run) (prefix_self st.window.seen)
-  run_seen st end [] (r ∷ rs) run = absurd run
-  run_seen st end (l ∷ ls) [] run = absurd run
-  run_seen st end (l ∷ ls) (r ∷ rs) run =
-      prefix_trans st.window.seen run.0.window.seen end.window.seen (turn_on st run.0 l r run.1).seen (run_seen run.0 end ls rs run.2)
-
-  run_count : (st end : Standing) (ls : List (List ℕ)) (rs : List Reply) → Run lab st ls rs end → length rs ≡ length ls
-  run_count st end [] [] run = refl
-  run_count st end [] (r ∷ rs) run = absurd run
-  run_count st end (l ∷ ls) [] run = absurd run
-  run_count st end (l ∷ ls) (r ∷ rs) run = ap (λ n. suc n) (run_count run.0 end ls rs run.2)
+  -- so did each later one
+  pub run_seen : (st end : Standing) (ls : List (List ℕ)) (rs : List Reply) → Run lab st ls rs end → IsPrefix st.window.seen end.window.seen
+  run_seen = run_keeps (Turn lab) (λ st end. IsPrefix st.window.seen end.window.seen) (λ st. prefix_self st.window.seen)
+      (λ st next end. prefix_trans st.window.seen next.window.seen end.window.seen) (λ st next line r turn. (turn_on st next line r turn).seen)
 
   pub turn_places : (st after : Standing) (t : LineTurn lab st after) → after.window.places ≡ st.window.places ++ places_in t.reply
   turn_places st after t = (turn_on st after t.line t.reply t.turn).places
@@ -99,13 +84,13 @@ module _ (lab : LabValue) where
   turn_seen st after t = (turn_on st after t.line t.reply t.turn).seen
 
   pub talk_places : (st : Standing) (t : Talk lab st) → t.end.window.places ≡ st.window.places ++ flat_map places_in t.replies
-  talk_places st t = run_places st t.end t.lines t.replies t.run
+  talk_places st t =
+      by_steps (Turn lab) (λ st ls rs end. end.window.places ≡ st.window.places ++ flat_map places_in rs) (λ st. sym (append-nil st.window.places))
+      (λ st next end l r ls rs turn rest. rest ∙ (ap (λ ps. ps ++ flat_map places_in rs) (turn_on st next l r turn).places
+      ∙ append_assoc st.window.places (places_in r) (flat_map places_in rs))) st t.end t.lines t.replies t.run
 
   pub talk_seen : (st : Standing) (t : Talk lab st) → IsPrefix st.window.seen t.end.window.seen
   talk_seen st t = run_seen st t.end t.lines t.replies t.run
-
-  pub talk_count : (st : Standing) (t : Talk lab st) → length t.replies ≡ length t.lines
-  talk_count st t = run_count st t.end t.lines t.replies t.run
 
 all_unbroken : (limit : ℕ) (ls : List (List ℕ)) → AllByRecursion (IsWithinLimit limit) ls → All IsUnbroken ls
 all_unbroken limit [] each = All-nil IsUnbroken

@@ -4,6 +4,7 @@ use mathlib.Core.List.{IsPrefix}
 use Rattle.mml_lab.specs.declared.who.Who.{Who}
 use Rattle.mml_lab.specs.Labs.{LabValue}
 use Rattle.mml_board.specs.declared.event.Event.{Event}
+use Rattle.mml_lines.specs.Runs.{Runs}
 use Rattle.mml_policy.specs.declared.command.Command.{Command}
 use Rattle.mml_policy.specs.declared.refusal.Refusal.{Refusal}
 use Rattle.mml_policy.specs.declared.refusal.Refusal.TheVariants as cause
@@ -87,10 +88,7 @@ Turn lab st line r next = Asked lab st (request_in line) r next ⊎ Unread st r 
 
 -- one turn after another, from a standing to the end
 abbrev pub Run : LabValue → Standing → List (List ℕ) → List Reply → Standing → Type 0
-Run lab st [] [] end = end ≡ st
-Run lab st (line ∷ lines) (r ∷ rs) end = (next : Standing) × Turn lab st line r next × Run lab next lines rs end
-Run lab st [] (r ∷ rs) end = ⊥
-Run lab st (line ∷ lines) [] end = ⊥
+Run lab st lines rs end = Runs (Turn lab) st lines rs end
 
 abbrev pub is_bye : Reply → Bool
 is_bye reply.Bye = true
