@@ -1,6 +1,5 @@
 -- The set of the nodes that have a chosen move, beside the list of the choices.
-use Rattle.std.proofs.Common.{◌≡◌, ℕ, ◌<◌, Bool, true, false, cond, ◌||◌, eqb, Option, None, Some, is_some, List, [], ◌∷◌, length}
-use Rattle.std.proofs.Common.{zero, suc, set, replicate, sym, refl, ap, ◌∙◌}
+use Rattle.std.proofs.Common.{◌≡◌, ℕ, ◌<◌, false, cond, ◌||◌, eqb, Option, None, is_some, List, [], ◌∷◌, length, zero, suc, set, replicate, sym, refl, ap, ◌∙◌}
 use Rattle.std.specs.List.{list_any}
 use Rattle.std.specs.FinSet as sets
 use Rattle.std.specs.FinSet.{FinSet}
@@ -10,20 +9,16 @@ use Rattle.mml_rules.specs.declared.rule.Rule.{Rule}
 use Rattle.mml_board.specs.World.{chosen_at}
 use Rattle.mml_board.specs.inside.Kept.{AreChosen}
 use Rattle.mml_board.proofs.WorldLemmas.{chosen_at-set, length-none, none_at, same_lists}
+use Rattle.std.proofs.Common.{arith}
 
 -- what is not some is none
 pub not_some : {X : Type 0} (o : Option X) → is_some o ≡ false → o ≡ None
-not_some None h = refl
-not_some (Some r) h = cc
+not_some o h = grind arith
 
 -- a choice that is set, and the set with its node or without
 pub are_chosen-set : (xs : List (Option Rule)) (s s' : FinSet nat_cmp) (a : ℕ) (o : Option Rule) → a < length xs → AreChosen xs s
     → ((i : ℕ) → sets.contains s' i ≡ cond (eqb i a) (is_some o) (sets.contains s i)) → AreChosen (set xs a o) s'
-are_chosen-set xs s s' a o l are h i = h i ∙ go (eqb i a) ∙ sym (ap is_some (chosen_at-set xs a i o l))
-  where
-    go : (b : Bool) → cond b (is_some o) (sets.contains s i) ≡ is_some (cond b o (chosen_at xs i))
-    go true = refl
-    go false = are i
+are_chosen-set xs s s' a o l are h i = grind (arith, chosen_at-set)
 
 -- where no move is chosen, the set is empty
 pub are_chosen-none : (n : ℕ) (s : FinSet nat_cmp) → s ≡ sets.empty → AreChosen (replicate n None) s

@@ -1,5 +1,5 @@
 -- Loops that do something once for each rank of a set.
-use Rattle.std.proofs.Common.{◌≡◌, ℕ, Bool, true, false, cond, not, ◌&&◌, eqb, sym, refl, ap, ◌∙◌}
+use Rattle.std.proofs.Common.{◌≡◌, ℕ, Bool, true, cond, not, ◌&&◌, eqb, sym, refl, ap, ◌∙◌, arith}
 use Rattle.std.proofs.lemmas.Bool.{eqb-true}
 use Rattle.std.specs.FinSet as sets
 use Rattle.std.specs.FinSet.{FinSet}
@@ -25,13 +25,9 @@ one_done before f now next nodes left left' a x is here k e done = record {
   where
     go : (i : ℕ) (b : Bool) → eqb i a ≡ b
         → cond b x (now i) ≡ cond (not b && sets.contains left i) (before i) (cond (sets.contains nodes i) (f i) (before i))
-    go i true q =
-        let same : i ≡ a = eqb-true i a q in
-        is ∙ ap f (sym same) ∙ ap (λ b. cond b (f i) (before i)) (sym (ap (sets.contains nodes) same ∙ done.within a here))
-    go i false q = done.values i
+    go i b q = grind (arith, eqb-true)
 
 -- it is done for each rank of the set
 pub all_done : {X : Type 0} (before f now : ℕ → X) (nodes left : FinSet nat_cmp) → left ≡ sets.empty → IsDone before f nodes left now
     → (i : ℕ) → now i ≡ cond (sets.contains nodes i) (f i) (before i)
-all_done before f now nodes left e done i =
-    done.values i ∙ ap (λ b. cond b (before i) (cond (sets.contains nodes i) (f i) (before i))) (ap (λ t. sets.contains t i) e ∙ has_empty i)
+all_done before f now nodes left e done i = grind (arith, has_empty)

@@ -1,6 +1,6 @@
 -- How what a board keeps gives its world, before and after an event.
-use Rattle.std.proofs.Common.{◌≡◌, ℕ, zero, suc, ◌<◌, ◌≤◌, ◌+◌, Bool, true, false, cond, not, ◌&&◌, eqb, ltb, Option, Some, List, length}
-use Rattle.std.proofs.Common.{None, replicate, sym, refl, ap, ◌∙◌, subst, arith}
+use Rattle.std.proofs.Common.{◌≡◌, ℕ, zero, suc, ◌<◌, ◌≤◌, ◌+◌, Bool, true, false, not, ◌&&◌, eqb, Option, Some, List, length}
+use Rattle.std.proofs.Common.{None, replicate, sym, ap, ◌∙◌, subst, arith}
 use Rattle.std.proofs.lemmas.Bool.{lt-ltb, le-ltb, and_right, and_parts}
 use Rattle.std.specs.FinSet as sets
 use Rattle.std.specs.FinSet.{FinSet}
@@ -28,11 +28,7 @@ in_remove s a i h = (and_parts (not (eqb i a)) (sets.contains s i) (sym (has_rem
 
 -- a set less itself is empty
 pub none_left : (s : FinSet nat_cmp) → sets.difference s s ≡ sets.empty
-none_left s = same_ranks _ _ (λ q. sets.contains-difference nat_cmp_total s s q ∙ go (sets.contains s q) ∙ sym (has_empty q))
-  where
-    go : (b : Bool) → (b && not b) ≡ false
-    go true = refl
-    go false = refl
+none_left s = grind (arith, same_ranks, has_empty, sets.contains-difference)
 
 -- neither set has a rank that the other has not
 pub same_sets : (s t : FinSet nat_cmp) → sets.difference s t ≡ sets.empty → sets.difference t s ≡ sets.empty → s ≡ t
@@ -42,32 +38,18 @@ same_sets s t e f = same_ranks _ _ (λ q. go (sets.contains s q) (sets.contains 
     left s t e q = sym (sets.contains-difference nat_cmp_total s t q) ∙ ap (λ u. sets.contains u q) e ∙ has_empty q
 
     go : (x y : Bool) → (x && not y) ≡ false → (y && not x) ≡ false → x ≡ y
-    go true true h k = refl
-    go true false h k = h
-    go false true h k = sym k
-    go false false h k = refl
+    go x y h k = grind arith
 
 -- the set of those that pass is as long as they are many
 pub len-those_below : (n : ℕ) (t : ℕ → Bool) → sets.len (those_below n t) ≡ count_below n t
 unfolding those_below
 len-those_below zero t = sets.len-empty nat_cmp
-len-those_below (suc n) t = go (t n) ∙ ap (λ k. cond (t n) 1 0 + k) (len-those_below n t)
-  where
-    fresh : sets.contains (those_below n t) n ≡ false
-    fresh = has-those_below n t n ∙ ap (λ b. b && t n) (le-ltb n n (omega arith))
-
-    go : (b : Bool) → sets.len (cond b (sets.insert (those_below n t) n) (those_below n t)) ≡ cond b 1 0 + sets.len (those_below n t)
-    go true = let e = len-insert_new (those_below n t) n fresh in omega arith
-    go false = omega arith
+len-those_below (suc n) t = grind (arith, has-those_below, le-ltb, len-insert_new, len-those_below n t)
 
 -- a set of ranks below n is those below n that are in it
 pub those_in : (n : ℕ) (t : ℕ → Bool) (s : FinSet nat_cmp) → ((i : ℕ) → t i ≡ sets.contains s i) → ((i : ℕ) → sets.contains s i ≡ true → i < n)
     → s ≡ those_below n t
-those_in n t s same within = same_ranks _ _ (λ q. sym (has-those_below n t q ∙ ap (λ b. ltb q n && b) (same q) ∙ go q (sets.contains s q) refl))
-  where
-    go : (q : ℕ) (b : Bool) → sets.contains s q ≡ b → (ltb q n && b) ≡ b
-    go q true e = ap (λ b. b && true) (lt-ltb q n (within q e))
-    go q false e = and_right (ltb q n) false refl
+those_in n t s same within = grind (arith, same_ranks, has-those_below, lt-ltb, and_right)
 
 -- ---- the readers
 
@@ -88,12 +70,7 @@ module _ (n : Network) (chosen : List (Option Rule)) (number place : ℕ) (k : I
   module _ (m n' : Network) (chosen' : List (Option Rule)) (z : n' ≡ m) (none : chosen' ≡ replicate (length chosen) None) where
     -- the board's world then
     pub renewed-is : world_in n' chosen' (number + 1) (place + 1) ≡ renewed (world_in n chosen number place) m
-    renewed-is = λ i. record {
-      network = z i;
-      chosen = (none ∙ ap (λ (l : ℕ). replicate {A = Option Rule} l None) k.choices) i;
-      number = number + 1;
-      place = place + 1;
-    }
+    renewed-is = grind (arith, replicate)
 
     -- a board is one still once the network has changed, no move is chosen and the monitor has looked
     pub renewed-board : (effects : List Regs) (privileged : FinSet nat_cmp) → IsNetwork m → length m.registers ≡ length n.registers
@@ -109,10 +86,7 @@ module _ (n : Network) (chosen : List (Option Rule)) (number place : ℕ) (k : I
   -- the network with each node moved is the next one
   pub moved-closed : (n' : Network) → n'.neighbours ≡ n.neighbours → length n'.registers ≡ length n.registers
       → ((i : ℕ) → registers_at n'.registers i ≡ moved (configuration_of n) i (chosen_at chosen i)) → n' ≡ closed (world_in n chosen number place)
-  moved-closed n' neighbours size written = λ i. record {
-    neighbours = neighbours i;
-    registers = (moved_registers-is (world_in n chosen number place) n'.registers size written) i;
-  }
+  moved-closed n' neighbours size written = grind (arith, moved_registers-is)
 
   -- what is asked of the world holds of what the board keeps
   pub node_inside : (w : World) (a : ℕ) → world_in n chosen number place ≡ w → a < length w.network.registers → a < length n.registers

@@ -1,21 +1,18 @@
 -- What the monitor keeps over a change.
-use Rattle.std.proofs.Common.{◌≡◌, ℕ, ◌<◌, Bool, true, false, cond, not, ◌&&◌, ◌||◌, eqb, ltb, None, Some, is_some, List, length, set, sym, refl}
-use Rattle.std.proofs.Common.{ap, ◌∙◌, subst, arith, length-set}
+use Rattle.std.proofs.Common.{◌≡◌, ℕ, ◌<◌, Bool, true, false, cond, ◌&&◌, ◌||◌, eqb, None, Some, List, length, sym, refl, ap, ◌∙◌, subst, arith, length-set}
 use Rattle.std.proofs.lemmas.Bool.{eq-eqb, ne_eqb, lt-ltb, both_ways, or_left, or_right, false_from_ne_true}
 use Rattle.std.specs.FinSet as sets
 use Rattle.std.specs.FinSet.{FinSet}
 use Rattle.std.specs.Ordering.{nat_cmp}
 use Rattle.mml_ids.specs.inside.WordsLemmas.{has_empty, has_insert, has_remove, same_ranks, has-those_below}
 use Rattle.mml_rules.specs.declared.regs.Regs.{Regs}
-use Rattle.mml_rules.specs.Configuration.{Configuration, IsLawful, holds}
-use Rattle.mml_rules.specs.Rules.{enabled_kind, is_privileged, moved}
-use Rattle.mml_rules.specs.Around.{AgreeAround}
+use Rattle.mml_rules.specs.Configuration.{Configuration, IsLawful}
+use Rattle.mml_rules.specs.Rules.{enabled_kind, is_privileged}
 use Rattle.mml_rules.specs.Network.{Network, neighbours_at, registers_at, configuration_of, IsNetwork, unpointed, with_registers, with_link, without_link}
 use Rattle.mml_rules.proofs.AroundLemmas.{same_kind}
 use Rattle.mml_rules.proofs.NetworkLemmas.{registers_at-set, length-unpointed, linked-with_link, linked-without_link, with_registers-lawful, with_link-lawful}
 use Rattle.mml_rules.proofs.NetworkLemmas.{without_link-lawful}
-use Rattle.mml_board.specs.World.{World, configuration, chosen_at, IsWorld, privileged_count}
-use Rattle.mml_board.specs.Events.{moved_registers}
+use Rattle.mml_board.specs.World.{World, configuration, IsWorld, privileged_count}
 use Rattle.mml_board.specs.inside.Kept.{AreChosen}
 use Rattle.mml_board.specs.inside.Monitor.{is_privileged_node, privileged_set, IsUntouched}
 use Rattle.mml_board.proofs.WorldLemmas.{closed, moved_at, length-moved_registers, length-without_link}
@@ -46,19 +43,11 @@ or_none x y h = ap (λ z. z || y) h
 
 -- a rank that is put into a set is in it, and all others are as before
 pub put-in : (s : FinSet nat_cmp) (a j : ℕ) → sets.contains (sets.insert s a) j ≡ cond (eqb j a) true (sets.contains s j)
-put-in s a j = has_insert s a j ∙ go (eqb j a)
-  where
-    go : (b : Bool) → (b || sets.contains s j) ≡ cond b true (sets.contains s j)
-    go true = refl
-    go false = refl
+put-in s a j = grind (arith, has_insert)
 
 -- a rank that is taken out of a set isn't in it, and all others are as before
 pub put-out : (s : FinSet nat_cmp) (a j : ℕ) → sets.contains (sets.remove s a) j ≡ cond (eqb j a) false (sets.contains s j)
-put-out s a j = has_remove s a j ∙ go (eqb j a)
-  where
-    go : (b : Bool) → (not b && sets.contains s j) ≡ cond b false (sets.contains s j)
-    go true = refl
-    go false = refl
+put-out s a j = grind (arith, has_remove)
 
 -- the node and its neighbours are looked at
 pub around_refreshed : (c : Configuration) (now next row left left' : FinSet nat_cmp) (a : ℕ) → IsLawful c → ((k : ℕ) → sets.contains row k ≡ c.linked a k)
@@ -66,21 +55,8 @@ pub around_refreshed : (c : Configuration) (now next row left left' : FinSet nat
     → ((j : ℕ) → sets.contains next j ≡ cond (sets.contains (sets.insert row a) j) (is_privileged_node c j) (sets.contains now j))
     → ((j : ℕ) → IsUntouched c left j → sets.contains now j ≡ is_privileged_node c j)
     → (j : ℕ) → IsUntouched c left' j → sets.contains next j ≡ is_privileged_node c j
-around_refreshed c now next row left left' a lawful rows e h k j u = h j ∙ go (sets.contains (sets.insert row a) j) refl
-  where
-    other : (i : ℕ) → (i ≡ a → ⊥) → sets.contains left' i ≡ false → sets.contains left i ≡ false
-    other i ne q = sym (ap (λ t. sets.contains t i) e ∙ has_remove left a i ∙ ap (λ b. not b && sets.contains left i) (ne_eqb i a ne)) ∙ q
-
-    go : (b : Bool) → sets.contains (sets.insert row a) j ≡ b → cond b (is_privileged_node c j) (sets.contains now j) ≡ is_privileged_node c j
-    go true q = refl
-    go false q = k j (record {
-      here = other j (λ same. both_ways _ q (has_insert row a j ∙ or_left (eqb j a) _ (eq-eqb j a same))) u.here;
-      near = λ i linked. other i (λ same.
-          both_ways _
-          (sym (or_none (eqb j a) (sets.contains row j) (false_from_ne_true (eqb j a) (λ t. both_ways _ q (has_insert row a j ∙ or_left (eqb j a) _ t))))
-          ∙ sym (has_insert row a j) ∙ q)
-          (rows j ∙ lawful.symmetric j a (subst (λ z. c.linked j z ≡ true) same linked))) (u.near i linked);
-    })
+around_refreshed c now next row left left' a lawful rows e h k j u =
+    grind (arith, has_remove, ne_eqb, both_ways, has_insert, or_left, eq-eqb, or_none, false_from_ne_true)
 
 -- where nothing was changed, each node is untouched
 pub none_touched : (c : Configuration) (s : FinSet nat_cmp) (j : ℕ) → s ≡ sets.empty → IsUntouched c s j
@@ -96,78 +72,31 @@ pub record DifferAt (s : FinSet nat_cmp) (c d : Configuration) : Type 0 where
 
 pub still_right : (s privileged : FinSet nat_cmp) (c d : Configuration) → IsLawful c → IsLawful d → DifferAt s c d → privileged ≡ privileged_set c → (j : ℕ)
     → IsUntouched d s j → sets.contains privileged j ≡ is_privileged_node d j
-still_right s privileged c d lc ld differ e j u =
-    ap (λ t. sets.contains t j) e ∙ has-privileged c j
-    ∙ ap (λ n. ltb j n && is_privileged c j) differ.size
-    ∙ ap (λ o. ltb j d.size && is_some o) (same_kind c d j lc ld agree)
-  where
-    agree : AgreeAround c d j
-    agree = record {
-      links = λ k. differ.links j k u.here;
-      p_here = differ.p j u.here;
-      m_here = differ.m j u.here;
-      p_near = λ k n. differ.p k (u.near k (sym (differ.links j k u.here) ∙ n));
-      m_near = λ k n. differ.m k (u.near k (sym (differ.links j k u.here) ∙ n));
-    }
+still_right s privileged c d lc ld differ e j u = grind (arith, has-privileged, same_kind)
 
 unlike : (s : FinSet nat_cmp) (i a : ℕ) → sets.contains s a ≡ true → sets.contains s i ≡ false → eqb i a ≡ false
 unlike s i a h k = ne_eqb i a (λ e. both_ways (sets.contains s i) k (ap (sets.contains s) e ∙ h))
 
 pub fault_differs : (s : FinSet nat_cmp) (n : Network) (a : ℕ) (r : Regs) → a < length n.registers → sets.contains s a ≡ true
     → DifferAt s (configuration_of n) (configuration_of (with_registers n a r))
-fault_differs s n a r l h = record {
-  size = sym (length-set n.registers a r);
-  links = λ i j k. refl;
-  p = λ i k. sym (ap (λ (x : Regs). x.p) (same i k));
-  m = λ i k. sym (ap (λ (x : Regs). x.m) (same i k));
-}
-  where
-    same : (i : ℕ) → sets.contains s i ≡ false → registers_at (set n.registers a r) i ≡ registers_at n.registers i
-    same i k = registers_at-set n.registers a i r l ∙ ap (λ b. cond b r (registers_at n.registers i)) (unlike s i a h k)
+fault_differs s n a r l h = grind (arith, length-set, registers_at-set, unlike)
 
 pub link_differs : (s : FinSet nat_cmp) (n : Network) (a b : ℕ) → IsNetwork n → a < length n.registers → b < length n.registers → sets.contains s a ≡ true
     → sets.contains s b ≡ true → DifferAt s (configuration_of n) (configuration_of (with_link n a b))
-link_differs s n a b w la lb ha hb = record {
-  size = refl;
-  links = λ i j k. sym (linked-with_link n a b i j (omega (arith, w.rows)) (omega (arith, w.rows))
-      ∙ ap (λ x. (x && eqb j a) || ((eqb i a && eqb j b) || (configuration_of n).linked i j)) (unlike s i b hb k)
-      ∙ ap (λ x. (x && eqb j b) || (configuration_of n).linked i j) (unlike s i a ha k));
-  p = λ i k. refl;
-  m = λ i k. refl;
-}
+link_differs s n a b w la lb ha hb = grind (arith, linked-with_link, unlike)
 
 unpoint_same : (s : FinSet nat_cmp) (registers : List Regs) (a b i : ℕ) → a < length registers → sets.contains s a ≡ true → sets.contains s i ≡ false
     → registers_at (unpointed registers a b) i ≡ registers_at registers i
-unpoint_same s registers a b i l h k =
-    unpointed-at registers a b i l ∙ ap (λ x. nulled (x && holds (registers_at registers i).p b) (registers_at registers i)) (unlike s i a h k)
+unpoint_same s registers a b i l h k = grind (arith, unpointed-at, nulled, unlike)
 
 pub cut_differs : (s : FinSet nat_cmp) (n : Network) (a b : ℕ) → IsNetwork n → a < length n.registers → b < length n.registers → sets.contains s a ≡ true
     → sets.contains s b ≡ true → DifferAt s (configuration_of n) (configuration_of (without_link n a b))
-cut_differs s n a b w la lb ha hb = record {
-  size = sym (length-without_link n a b);
-  links = λ i j k. sym (linked-without_link n a b i j (omega (arith, w.rows)) (omega (arith, w.rows))
-      ∙ ap (λ x. not (x && eqb j a) && (not (eqb i a && eqb j b) && (configuration_of n).linked i j)) (unlike s i b hb k)
-      ∙ ap (λ x. not (x && eqb j b) && (configuration_of n).linked i j) (unlike s i a ha k));
-  p = λ i k. sym (ap (λ (x : Regs). x.p) (same i k));
-  m = λ i k. sym (ap (λ (x : Regs). x.m) (same i k));
-}
-  where
-    same : (i : ℕ) → sets.contains s i ≡ false → registers_at (unpointed (unpointed n.registers a b) b a) i ≡ registers_at n.registers i
-    same i k =
-        unpoint_same s (unpointed n.registers a b) b a i (omega (arith, length-unpointed n.registers a b)) hb k ∙ unpoint_same s n.registers a b i la ha k
+cut_differs s n a b w la lb ha hb = grind (arith, length-without_link, linked-without_link, unlike, unpoint_same, length-unpointed)
 
 -- a close changes the configuration at the chosen nodes alone
 pub close_differs : (s : FinSet nat_cmp) (w : World) → IsWorld w → AreChosen w.chosen s
     → DifferAt s (configuration w) (configuration_of (closed w))
-close_differs s w k h = record {
-  size = sym (length-moved_registers w);
-  links = λ i j q. refl;
-  p = λ i q. sym (ap (λ (r : Regs). r.p) (same i q));
-  m = λ i q. sym (ap (λ (r : Regs). r.m) (same i q));
-}
-  where
-    same : (i : ℕ) → sets.contains s i ≡ false → registers_at (moved_registers w) i ≡ registers_at w.network.registers i
-    same i q = moved_at w k.choices i ∙ ap (λ o. moved (configuration w) i o) (not_some (chosen_at w.chosen i) (sym (h i) ∙ q))
+close_differs s w k h = grind (arith, length-moved_registers, moved_at, not_some)
 
 -- after a change at some nodes alone, the privileged set is still right at each untouched node
 pub right_after : (s privileged : FinSet nat_cmp) (n m n' : Network) → IsNetwork n → IsNetwork m → n' ≡ m → DifferAt s (configuration_of n) (configuration_of m)

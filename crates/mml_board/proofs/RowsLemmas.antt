@@ -1,6 +1,6 @@
 -- What the rows of bits beside a network say, and how they follow its changes.
 use Rattle.std.proofs.Common.{◌≡◌, ℕ, ◌<◌, ◌≤◌, ◌+◌, Bool, true, false, cond, not, ◌&&◌, ◌||◌, eqb, ltb, Option, None, Some, is_none, is_some, List, length}
-use Rattle.std.proofs.Common.{set, sym, refl, ap, ◌∙◌, subst, arith, inl, inr, length-set}
+use Rattle.std.proofs.Common.{set, sym, refl, ap, ◌∙◌, arith, length-set}
 use Rattle.std.specs.Prelude.{replicate, IfSome, IfNone}
 use Rattle.std.proofs.lemmas.Bool.{cases_eq, cases_lt, eq-eqb, ne_eqb, eqb-true, eqb-false, lt-ltb, le-ltb, and_right, and_parts, and_from, both_ways}
 use Rattle.std.proofs.lemmas.Bool.{false_from_ne_true}
@@ -26,37 +26,27 @@ use Rattle.mml_board.specs.inside.Rows.{with_suitor, without_suitor, AreRows}
 -- ---- the row of the nodes that point at one
 
 turned : (a b : ℕ) → eqb a b ≡ eqb b a
-turned a b = elim (cases_eq a b) [
-  | inl e ↦ eq-eqb a b e ∙ sym (eq-eqb b a (sym e))
-  | inr ne ↦ ne_eqb a b ne ∙ sym (ne_eqb b a (λ e. ne (sym e)))
-]
+turned a b = grind (arith, cases_eq, eq-eqb, ne_eqb)
 
 -- a suitor more leaves the number of rows
 pub length-with_suitor : (rows : List (FinSet nat_cmp)) (p : Option ℕ) (k : ℕ) → length (with_suitor rows p k) ≡ length rows
-length-with_suitor rows None k = refl
-length-with_suitor rows (Some i) k = length-with_neighbour rows i k
+length-with_suitor rows p k = grind (arith, length-with_neighbour)
 
 -- a suitor less leaves the number of rows
 pub length-without_suitor : (rows : List (FinSet nat_cmp)) (p : Option ℕ) (k : ℕ) → length (without_suitor rows p k) ≡ length rows
-length-without_suitor rows None k = refl
-length-without_suitor rows (Some i) k = length-without_neighbour rows i k
+length-without_suitor rows p k = grind (arith, length-without_neighbour)
 
 pub has-with_suitor : (rows : List (FinSet nat_cmp)) (p : Option ℕ) (k i j : ℕ) → ((x : ℕ) → p ≡ Some x → x < length rows)
     → sets.contains (neighbours_at (with_suitor rows p k) i) j ≡ ((holds p i && eqb j k) || sets.contains (neighbours_at rows i) j)
-has-with_suitor rows None k i j l = refl
-has-with_suitor rows (Some x) k i j l =
-    has-with_neighbour rows x k i j (l x refl) ∙ ap (λ b. (b && eqb j k) || sets.contains (neighbours_at rows i) j) (turned i x)
+has-with_suitor rows p k i j l = grind (arith, has-with_neighbour, turned)
 
 pub has-without_suitor : (rows : List (FinSet nat_cmp)) (p : Option ℕ) (k i j : ℕ) → ((x : ℕ) → p ≡ Some x → x < length rows)
     → sets.contains (neighbours_at (without_suitor rows p k) i) j ≡ (not (holds p i && eqb j k) && sets.contains (neighbours_at rows i) j)
-has-without_suitor rows None k i j l = refl
-has-without_suitor rows (Some x) k i j l =
-    has-without_neighbour rows x k i j (l x refl) ∙ ap (λ b. not (b && eqb j k) && sets.contains (neighbours_at rows i) j) (turned i x)
+has-without_suitor rows p k i j l = grind (arith, has-without_neighbour, turned)
 
 -- a test that is false exactly where a register points is true exactly where it is null
 pub none_told : (o : Option ℕ) (b : Bool) → is_some o ≡ not b → b ≡ is_none o
-none_told o true h = sym (ap not h)
-none_told o false h = sym (ap not h)
+none_told o b h = grind arith
 
 -- no rank is below 0
 pub below_none : (j : ℕ) (b : Bool) → false ≡ (ltb j 0 && b)
@@ -67,37 +57,17 @@ below_none j b = sym (ap (λ x. x && b) (le-ltb j 0 (omega arith)))
 -- empty rows are those of no rank
 pub no_rows : (registers : List Regs) (rows : List (FinSet nat_cmp)) (free believing : FinSet nat_cmp)
     → rows ≡ replicate (length registers) (sets.empty {R = nat_cmp}) → free ≡ sets.empty → believing ≡ sets.empty → AreRows registers 0 rows free believing
-no_rows registers rows free believing is e f = record {
-  count = ap length is ∙ length-replicate (length registers) sets.empty;
-  pointing =
-      λ i j l. ap (λ r. sets.contains (neighbours_at r i) j) is ∙ ap (λ s. sets.contains s j) (get_or-replicate (length registers) i sets.empty sets.empty l)
-      ∙ has_empty j ∙ below_none j (holds (registers_at registers j).p i);
-  null = λ j. ap (λ s. sets.contains s j) e ∙ has_empty j ∙ below_none j (is_none (registers_at registers j).p);
-  true_m = λ j. ap (λ s. sets.contains s j) f ∙ has_empty j ∙ below_none j (registers_at registers j).m;
-}
+no_rows registers rows free believing is e f = grind (arith, length-replicate, get_or-replicate, has_empty, below_none, is_none)
 
 next_other : (j k : ℕ) → eqb j k ≡ false → ltb j (k + 1) ≡ ltb j k
-next_other j k e = elim (cases_lt j k) [
-  | inl l ↦ lt-ltb j (k + 1) (omega arith) ∙ sym (lt-ltb j k l)
-  | inr l ↦ let ne = eqb-false j k e in le-ltb j (k + 1) (above j k l ne) ∙ sym (le-ltb j k l)
-]
-  where
-    above : (j k : ℕ) → k ≤ j → (j ≡ k → ⊥) → k + 1 ≤ j
-    above j k l ne = elim (cases_lt k j) [
-      | inl m ↦ omega arith
-      | inr m ↦ absurd (ne (omega arith))
-    ]
+next_other j k e = grind (arith, cases_lt, lt-ltb, eqb-false, le-ltb)
 
 next_here : (j k : ℕ) → eqb j k ≡ true → (ltb j (k + 1) ≡ true) × (ltb j k ≡ false)
 next_here j k e = let s = eqb-true j k e in (lt-ltb j (k + 1) (omega arith), le-ltb j k (omega arith))
 
 -- what passes among the ranks below k, and k, are those that pass among the ranks below k + 1
 pub below_next : (test : ℕ → Bool) (j k : ℕ) (b : Bool) → b ≡ test k → cond (eqb j k) b (ltb j k && test j) ≡ (ltb j (k + 1) && test j)
-below_next test j k b is = go (eqb j k) refl
-  where
-    go : (e : Bool) → eqb j k ≡ e → cond e b (ltb j k && test j) ≡ (ltb j (k + 1) && test j)
-    go true e = is ∙ ap test (sym (eqb-true j k e)) ∙ sym (ap (λ x. x && test j) (next_here j k e).0)
-    go false e = sym (ap (λ x. x && test j) (next_other j k e))
+below_next test j k b is = grind (arith, eqb-true, next_here, next_other)
 
 -- the rows of one node more
 pub next_rows : (registers : List Regs) (k : ℕ) (p : Option ℕ) (m : Bool) (rows rows' : List (FinSet nat_cmp))
@@ -107,30 +77,8 @@ pub next_rows : (registers : List Regs) (k : ℕ) (p : Option ℕ) (m : Bool) (r
     → rows' ≡ with_suitor rows p k → ((j : ℕ) → sets.contains free' j ≡ cond (eqb j k) (is_none p) (sets.contains free j))
     → ((j : ℕ) → sets.contains believing' j ≡ cond (eqb j k) m (sets.contains believing j))
     → AreRows registers (k + 1) rows' free' believing'
-next_rows registers k p m rows rows' free believing free' believing' are l pk mk is f b = record {
-  count = ap length is ∙ length-with_suitor rows p k ∙ are.count;
-  pointing =
-      λ i j w. ap (λ r. sets.contains (neighbours_at r i) j) is ∙ has-with_suitor rows p k i j (λ x q. subst (λ n. x < n) (sym are.count) (l x q))
-      ∙ ap (λ x. (holds p i && eqb j k) || x) (are.pointing i j w) ∙ go_p i j (eqb j k) refl;
-  null = λ j. f j ∙ ap (cond (eqb j k) (is_none p)) (are.null j) ∙ below_next (λ i. is_none (registers_at registers i).p) j k (is_none p) (ap is_none pk);
-  true_m = λ j. b j ∙ ap (cond (eqb j k) m) (are.true_m j) ∙ below_next (λ i. (registers_at registers i).m) j k m mk;
-}
-  where
-    go_p : (i j : ℕ) (e : Bool) → eqb j k ≡ e
-        → ((holds p i && e) || (ltb j k && holds (registers_at registers j).p i)) ≡ (ltb j (k + 1) && holds (registers_at registers j).p i)
-    go_p i j true e =
-        let n = next_here j k e in
-        ap (λ x. (holds p i && true) || (x && holds (registers_at registers j).p i)) n.1
-        ∙ here (holds p i)
-        ∙ ap (λ (o : Option ℕ). holds o i) (pk ∙ ap (λ x. (registers_at registers x).p) (sym (eqb-true j k e)))
-        ∙ sym (ap (λ x. x && holds (registers_at registers j).p i) n.0)
-      where
-        here : (x : Bool) → ((x && true) || false) ≡ x
-        here true = refl
-        here false = refl
-    go_p i j false e =
-        ap (λ x. x || (ltb j k && holds (registers_at registers j).p i)) (and_right (holds p i) false refl)
-        ∙ sym (ap (λ x. x && holds (registers_at registers j).p i) (next_other j k e))
+next_rows registers k p m rows rows' free believing free' believing' are l pk mk is f b =
+    grind (arith, length-with_suitor, has-with_suitor, is_none, below_next, next_here, eqb-true, and_right, next_other)
 
 -- ---- rows that follow a node's registers
 
@@ -143,59 +91,8 @@ pub rows-set : (registers : List Regs) (a : ℕ) (p : Option ℕ) (x : Regs) (ro
     → ((j : ℕ) → sets.contains free' j ≡ cond (eqb j a) (is_none x.p) (sets.contains free j))
     → ((j : ℕ) → sets.contains believing' j ≡ cond (eqb j a) x.m (sets.contains believing j))
     → AreRows (set registers a x) (length (set registers a x)) rows'' free' believing'
-rows-set registers a p x rows rows' rows'' free believing free' believing' are l pa old new is is' f b = record {
-  count = ap length is' ∙ length-with_suitor rows' x.p a ∙ size' ∙ sym (length-set registers a x);
-  pointing = λ i j w.
-      ap (λ r. sets.contains (neighbours_at r i) j) is' ∙ has-with_suitor rows' x.p a i j (λ y q. subst (λ n. y < n) (sym size') (new y q))
-      ∙ ap (λ y. (holds x.p i && eqb j a) || y) (ap (λ r. sets.contains (neighbours_at r i) j) is
-      ∙ has-without_suitor rows p a i j (λ y q. subst (λ n. y < n) (sym are.count) (old y q))
-      ∙ ap (λ y. not (holds p i && eqb j a) && y) (are.pointing i j (subst (λ n. i < n) (length-set registers a x) w)))
-      ∙ go_p i j (eqb j a) refl
-      ∙ after j (λ (r : Regs). holds r.p i);
-  null = λ j. f j ∙ ap (cond (eqb j a) (is_none x.p)) (are.null j) ∙ go (λ (r : Regs). is_none r.p) j (eqb j a) refl ∙ after j (λ (r : Regs). is_none r.p);
-  true_m = λ j. b j ∙ ap (cond (eqb j a) x.m) (are.true_m j) ∙ go (λ (r : Regs). r.m) j (eqb j a) refl ∙ after j (λ (r : Regs). r.m);
-}
-  where
-    size' : length rows' ≡ length registers
-    size' = ap length is ∙ length-without_suitor rows p a ∙ are.count
-
-    -- the same test, read in the new registers
-    after : (j : ℕ) (test : Regs → Bool) → (ltb j (length registers) && test (cond (eqb j a) x (registers_at registers j)))
-        ≡ (ltb j (length (set registers a x)) && test (registers_at (set registers a x) j))
-    after j test =
-        sym (ap (λ n. ltb j n && test (registers_at (set registers a x) j)) (length-set registers a x)
-        ∙ ap (λ r. ltb j (length registers) && test r) (registers_at-set registers a j x l))
-
-    within : (j : ℕ) → eqb j a ≡ true → ltb j (length registers) ≡ true
-    within j e = let s = eqb-true j a e in lt-ltb j (length registers) (omega arith)
-
-    go : (test : Regs → Bool) (j : ℕ) (e : Bool) → eqb j a ≡ e → cond e (test x) (ltb j (length registers) && test (registers_at registers j))
-        ≡ (ltb j (length registers) && test (cond e x (registers_at registers j)))
-    go test j true e = sym (ap (λ y. y && test x) (within j e))
-    go test j false e = refl
-
-    go_p : (i j : ℕ) (e : Bool) → eqb j a ≡ e
-        → ((holds x.p i && e) || (not (holds p i && e) && (ltb j (length registers) && holds (registers_at registers j).p i)))
-        ≡ (ltb j (length registers) && holds (cond e x (registers_at registers j)).p i)
-    go_p i j true e =
-        ap (λ y. (holds x.p i && true) || (not (holds p i && true) && (y && holds (registers_at registers j).p i))) (within j e)
-        ∙ ap (λ (o : Option ℕ). (holds x.p i && true) || (not (holds p i && true) && holds o i))
-        (ap (λ y. (registers_at registers y).p) (eqb-true j a e) ∙ sym pa)
-        ∙ here (holds x.p i) (holds p i)
-        ∙ sym (ap (λ y. y && holds x.p i) (within j e))
-      where
-        here : (x y : Bool) → ((x && true) || (not (y && true) && y)) ≡ x
-        here true true = refl
-        here true false = refl
-        here false true = refl
-        here false false = refl
-    go_p i j false e = other (holds x.p i) (holds p i) (ltb j (length registers) && holds (registers_at registers j).p i)
-      where
-        other : (x y z : Bool) → ((x && false) || (not (y && false) && z)) ≡ z
-        other true true z = refl
-        other true false z = refl
-        other false true z = refl
-        other false false z = refl
+rows-set registers a p x rows rows' rows'' free believing free' believing' are l pa old new is is' f b =
+    grind (arith, length-with_suitor, length-set, has-with_suitor, has-without_suitor, is_none, length-without_suitor, registers_at-set, eqb-true, lt-ltb)
 
 -- ---- what looks read from the rows
 
@@ -240,21 +137,7 @@ candidates-read n rows free believing courted candidates s t i j lawful few are 
     go : (x : Bool) → sets.contains (neighbours_at n.neighbours i) j ≡ x
         → (((x && sets.contains free j) && not (sets.contains believing j)) && sets.contains t j)
         ≡ (x && (ltb i j && (is_none (registers_at n.registers j).p && not (registers_at n.registers j).m)))
-    go false e = refl
-    go true e =
-        let l : j < length n.registers = (lawful.in_range i j e).1 in
-        let here : ltb j (length n.registers) ≡ true = lt-ltb j (length n.registers) l in
-        ap (λ y. (y && not (sets.contains believing j)) && sets.contains t j) (are.null j ∙ ap (λ y. y && is_none (registers_at n.registers j).p) here)
-        ∙ ap (λ y. (is_none (registers_at n.registers j).p && not y) && sets.contains t j) (are.true_m j ∙ ap (λ y. y && (registers_at n.registers j).m) here)
-        ∙ ap (λ y. (is_none (registers_at n.registers j).p && not (registers_at n.registers j).m) && y) (c j
-        ∙ ap (λ y. ltb i j && y) (lt-ltb j MAX_NODES (omega (arith, few, l))))
-        ∙ shift (is_none (registers_at n.registers j).p && not (registers_at n.registers j).m) (ltb i j)
-      where
-        shift : (x y : Bool) → (x && (y && true)) ≡ (y && x)
-        shift true true = refl
-        shift true false = refl
-        shift false true = refl
-        shift false false = refl
+    go x e = grind (arith, lt-ltb, is_none)
 
 -- the greatest of the candidates
 pub greatest_told : (c : Configuration) (candidates : FinSet nat_cmp) (i : ℕ) (found : Option ℕ) → IsLawful c

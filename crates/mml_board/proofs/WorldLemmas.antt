@@ -1,6 +1,6 @@
 -- What events make of a world, and that lawful worlds stay lawful.
-use Rattle.std.proofs.Common.{◌≡◌, ℕ, ◌<◌, zero, suc, Bool, true, false, cond, not, ◌&&◌, eqb, ltb, Option, None, Some, is_some, is_none, List, length, get_or}
-use Rattle.std.proofs.Common.{set, replicate, sym, refl, ap, ◌∙◌, subst, arith, inl, inr, length-set, get_or-set_same, get_or-set_other}
+use Rattle.std.proofs.Common.{◌≡◌, ℕ, ◌<◌, zero, suc, true, cond, not, ◌&&◌, eqb, ltb, Option, None, Some, is_some, is_none, List, length, get_or}
+use Rattle.std.proofs.Common.{set, replicate, sym, refl, ap, ◌∙◌, subst, arith, length-set, get_or-set_same, get_or-set_other}
 use Rattle.std.proofs.lemmas.Bool.{cases_eq, cases_lt, eq-eqb, ne_eqb, eqb-true, eqb-false, ltb-true, not-true, and_parts, both_ways}
 use Rattle.std.proofs.lemmas.List.{get_or_past}
 use Rattle.std.proofs.lemmas.List.FromFn.{fill_by_all, get_or-map-range_with_len, length-map-range_with_len}
@@ -26,14 +26,7 @@ length-moved_registers w = length-map-range_with_len (λ i. moved (configuration
 pub moved_at : (w : World) → length w.chosen ≡ length w.network.registers → (i : ℕ)
     → registers_at (moved_registers w) i ≡ moved (configuration w) i (chosen_at w.chosen i)
 unfolding moved_registers
-moved_at w e i = elim (cases_lt i (size w)) [
-  | inl lt ↦ get_or-map-range_with_len (λ i. moved (configuration w) i (chosen_at w.chosen i)) 0 (size w) i i no_regs lt (omega arith)
-  | inr ge ↦
-      let past : get_or (moved_registers w) i no_regs ≡ no_regs = get_or_past (moved_registers w) i no_regs (omega (arith, length-moved_registers w)) in
-      let none : chosen_at w.chosen i ≡ None = get_or_past w.chosen i None (omega arith) in
-      let blank : registers_at w.network.registers i ≡ no_regs = get_or_past w.network.registers i no_regs ge in
-      past ∙ sym (ap (λ o. moved (configuration w) i o) none ∙ ap (λ (r : Regs). record { p = r.p; m = r.m }) blank)
-]
+moved_at w e i = grind (arith, cases_lt, get_or-map-range_with_len, get_or_past, length-moved_registers)
 
 -- a list of registers in which each is the moved one
 pub moved_registers-is : (w : World) (registers : List Regs) → length registers ≡ size w
@@ -47,12 +40,7 @@ closed w = record { neighbours = w.network.neighbours; registers = moved_registe
 
 -- a close is the rules' step
 pub closed-step : (w : World) → length w.chosen ≡ length w.network.registers → configuration_of (closed w) ≡ step (configuration w) (chosen_at w.chosen)
-closed-step w e = λ k. record {
-  size = length-moved_registers w k;
-  linked = λ a b. (configuration w).linked a b;
-  p = λ i. (moved_at w e i k).p;
-  m = λ i. (moved_at w e i k).m;
-}
+closed-step w e = grind (arith, length-moved_registers, moved_at)
 
 -- a close leaves the network lawful
 pub closed-network : (w : World) → IsWorld w → IsNetwork (closed w)
@@ -82,49 +70,30 @@ hold-none n c i r h = let e : None ≡ Some r = sym (none_at n i) ∙ h in cc
 
 -- another lawful network of as many nodes makes a lawful world
 pub renewed-world : (w : World) (n : Network) → IsNetwork n → length n.registers ≡ size w → IsWorld (renewed w n)
-renewed-world w n k e = record {
-  network = k;
-  choices = length-none (size w) None ∙ sym e;
-  hold = hold-none (size w) (configuration_of n);
-}
+renewed-world w n k e = grind (arith, length-none, hold-none)
 
 -- a choice that is set stands at its node, and all others are as before
 pub chosen_at-set : (chosen : List (Option Rule)) (a i : ℕ) (o : Option Rule) → a < length chosen
     → chosen_at (set chosen a o) i ≡ cond (eqb i a) o (chosen_at chosen i)
-chosen_at-set chosen a i o l = elim (cases_eq i a) [
-  | inl e ↦ rw (e, get_or-set_same, eq-eqb a a refl) refl
-  | inr ne ↦ rw (get_or-set_other, ne_eqb i a ne) refl
-]
+chosen_at-set chosen a i o l = grind (arith, cases_eq, get_or-set_same, eq-eqb, get_or-set_other, ne_eqb)
 
 hold-set : (c : Configuration) (chosen : List (Option Rule)) (a : ℕ) (o : Option Rule) → a < length chosen → ((r : Rule) → o ≡ Some r → guard c a r ≡ true)
     → AllHold c (chosen_at chosen) → AllHold c (chosen_at (set chosen a o))
-hold-set c chosen a o l h all i r e = go (eqb i a) refl (sym (chosen_at-set chosen a i o l) ∙ e)
-  where
-    go : (x : Bool) → eqb i a ≡ x → cond x o (chosen_at chosen i) ≡ Some r → guard c i r ≡ true
-    go true f k = subst (λ z. guard c z r ≡ true) (sym (eqb-true i a f)) (h r k)
-    go false f k = all i r k
+hold-set c chosen a o l h all i r e = grind (arith, chosen_at-set, eqb-true)
 
 -- a lawful world stays so where a node's choice is a move whose guard holds, or none
 pub choosing-world : (w : World) (a : ℕ) (o : Option Rule) → a < size w → ((r : Rule) → o ≡ Some r → guard (configuration w) a r ≡ true) → IsWorld w
     → IsWorld (choosing w a o)
-choosing-world w a o l h k = record {
-  network = k.network;
-  choices = length-set w.chosen a o ∙ k.choices;
-  hold = hold-set (configuration w) w.chosen a o (omega (arith, k.choices)) h k.hold;
-}
+choosing-world w a o l h k = grind (arith, length-set, hold-set)
 
 -- a node that another may point at is linked to it
 pub may_point-linked : (n : Network) (i j : ℕ) (o : Option ℕ) → may_point (configuration_of n) i o ≡ true → o ≡ Some j
     → sets.contains (neighbours_at n.neighbours i) j ≡ true
-may_point-linked n i j None h e = cc
-may_point-linked n i j (Some k) h e = let same : k ≡ j = cc in subst (λ x. sets.contains (neighbours_at n.neighbours i) x ≡ true) same h
+may_point-linked n i j o h e = grind arith
 
 -- what has a chosen move has a place in the list
 pub chosen_within : (xs : List (Option Rule)) (i : ℕ) → is_some (chosen_at xs i) ≡ true → i < length xs
-chosen_within xs i h = elim (cases_lt i (length xs)) [
-  | inl lt ↦ lt
-  | inr ge ↦ absurd (both_ways _ (ap is_some (get_or_past xs i None ge)) h)
-]
+chosen_within xs i h = grind (arith, cases_lt, both_ways, get_or_past)
 
 -- what has a chosen move is a node
 pub chosen_node : (w : World) (i : ℕ) → length w.chosen ≡ size w → is_some (chosen_at w.chosen i) ≡ true → i < size w
@@ -132,10 +101,7 @@ chosen_node w i e h = let l = chosen_within w.chosen i h in omega (arith, e, l)
 
 -- the partner that a rule names is a node, where its guard holds
 pub partner_within : (c : Configuration) (i : ℕ) (r : Rule) → IsLawful c → guard c i r ≡ true → IsWithin c.size r
-partner_within c i Rule.Update l h = tt
-partner_within c i (Rule.Marriage j) l h = (l.in_range i j (effect-linked c i j (Rule.Marriage j) l h refl)).1
-partner_within c i Rule.Seduction l h = tt
-partner_within c i Rule.Abandonment l h = tt
+partner_within c i r l h = grind (arith, effect-linked)
 
 -- a cut leaves the number of nodes
 pub length-without_link : (n : Network) (a b : ℕ) → length (without_link n a b).registers ≡ length n.registers
@@ -189,9 +155,4 @@ same_worlds v w k l number place size h = λ z. record {
 
 -- an event changes no number of nodes
 pub size-after : (w : World) (e : Event) → size (after w e) ≡ size w
-size-after w (Event.Grant s i rule) = refl
-size-after w (Event.Release i) = refl
-size-after w Event.Close = length-moved_registers w
-size-after w (Event.Fault i registers) = length-set w.network.registers i registers
-size-after w (Event.Link a b) = refl
-size-after w (Event.Cut a b) = length-without_link w.network a b
+size-after w e = grind (arith, length-moved_registers, length-set, length-without_link)

@@ -1,4 +1,4 @@
-use Rattle.std.proofs.Common.{false, None, ap, sym, ◌∙◌, arith, length-set, replicate, cond, eqb}
+use Rattle.std.proofs.Common.{false, None, ap, sym, ◌∙◌, arith, length-set, replicate, cond, eqb, rules}
 use Rattle.std.specs.FinSet as sets
 use Rattle.mml_board.proofs.ChoicesLemmas.{are_chosen-set, all_dropped}
 use Rattle.mml_board.proofs.WorldLemmas.{chosen_within}
@@ -18,6 +18,4 @@ loop-node-preserved c =
     }
 
 pub returns : goal.returns
-returns c =
-    all_dropped c.loop-node.rules c.loop-node.left c.loop-node.invariant.left c.in_default.ensures.none
-    ∙ ap (λ n. replicate n None) c.loop-node.invariant.size
+returns c = grind (arith, all_dropped, replicate)

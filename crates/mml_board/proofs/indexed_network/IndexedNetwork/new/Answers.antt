@@ -1,19 +1,14 @@
-use Rattle.std.proofs.Common.{◌≡◌, ◌<◌, ℕ, cond, eqb, ap, sym, ◌∙◌, subst, arith, rules, length, is_none}
+use Rattle.std.proofs.Common.{◌≡◌, ◌<◌, ℕ, cond, eqb, ap, sym, ◌∙◌, subst, arith, length, is_none}
 use Rattle.std.proofs.lemmas.List.{take_at}
-use Rattle.std.specs.Prelude.{replicate}
 use Rattle.std.specs.FinSet as sets
-use Rattle.std.specs.Ordering.{nat_cmp}
 use Rattle.mml_rules.specs.Network.{Network, registers_at, configuration_of}
 use Rattle.mml_rules.proofs.RulesLemmas.{pointee_in}
-use Rattle.mml_board.specs.inside.Rows.{with_suitor, AreRows}
+use Rattle.mml_board.specs.inside.Rows.{with_suitor}
 use Rattle.mml_board.proofs.RowsLemmas.{no_rows, next_rows, none_told, length-with_suitor}
 use Rattle.mml_board.proofs.indexed_network.IndexedNetwork.new.Goals as goal
 
 pub loop-index-init : goal.loop-index-init
-loop-index-init c =
-    let n : Network = c.in_ok-network.network in
-    let empty : c.in_ok-suitors.suitors.items ≡ replicate (length n.registers) (sets.empty {R = nat_cmp}) = search rules in
-    no_rows n.registers c.in_ok-suitors.suitors.items _ _ empty c.empty-free.ensures c.empty-believing.ensures
+loop-index-init c = grind (arith, no_rows)
 
 pub add_suitor-requires : goal.add_suitor-requires
 add_suitor-requires c = λ i e.
@@ -39,7 +34,4 @@ loop-index-preserved c =
     (λ j. c.put-believing.ensures j ∙ ap (λ x. cond (eqb j x) c.m.result (sets.contains c.loop-index.believing j)) same)
 
 pub invariant_of-result : goal.invariant_of-result
-invariant_of-result c =
-    let n : Network = c.in_ok-network.network in
-    let all : c.loop-index.index ≡ length n.registers = omega (arith, c.size-index-end.ensures.size) in
-    subst (λ k. AreRows n.registers k c.loop-index.suitors.items c.loop-index.free c.loop-index.believing) all c.loop-index.invariant
+invariant_of-result c = grind arith
