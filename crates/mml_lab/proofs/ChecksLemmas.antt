@@ -1,8 +1,7 @@
 -- Links are looked up by rank, and put into the rows of neighbours one after the other.
-use Rattle.std.proofs.Common.{◌≡◌, ℕ, ℤ, pos, ◌-◌, ◌<◌, ◌≤◌, ◌==◌, true, false, not, ◌&&◌, List, length, get_or, take, map, Option, Some, None}
-use Rattle.std.proofs.Common.{Ok, Err, refl, sym, ap, ◌∙◌, subst}
+use Rattle.std.proofs.Common.{◌≡◌, ℕ, ℤ, pos, ◌-◌, ◌<◌, ◌≤◌, true, false, not, ◌&&◌, List, length, get_or, take, map, Option, Some, None}
+use Rattle.std.proofs.Common.{Ok, Err, sym, ap, ◌∙◌, subst, arith}
 use Rattle.std.specs.Prelude.{is_some, slice_index, position}
-use Rattle.std.specs.Option.{option_map_or}
 use Rattle.std.specs.FinSet.{FinSet}
 use Rattle.std.specs.Ordering.{nat_cmp, int_eq}
 use Rattle.std.proofs.lemmas.Bool.{and_parts, and_from, not-false, false≢true, lt-ltb}
@@ -24,7 +23,6 @@ use Rattle.mml_lab.specs.inside.Checks.{rank_at, lacks_rank, are_near, lab_with}
 use Rattle.mml_lab.proofs.LabInLemmas.{positive}
 use Rattle.mml_lab.proofs.LabMeaningLemmas.{any_means, ranked}
 use Rattle.mml_lab.proofs.NeighboursLemmas.{AreRows, has-neighbours_of, all_rows}
-use Rattle.std.proofs.Common.{arith}
 
 some_rank : (o : Option ℕ) → is_some o ≡ true → (j : ℕ) × (o ≡ Some j)
 some_rank o h = grind (arith, false≢true)

@@ -1,15 +1,14 @@
 -- The forms of names and keys.
-use Rattle.std.proofs.Common.{◌≡◌, ◌↔◌, ℕ, List, [], ◌∷◌, length, Bool, true, false, ◌&&◌, ◌||◌, ◌⊎◌, inl, inr, refl, arith, All, nat_lt, nat_le, ◌==◌}
+use Rattle.std.proofs.Common.{◌≡◌, ◌↔◌, ℕ, List, [], ◌∷◌, length, Bool, true, ◌&&◌, ◌||◌, inl, arith, All, nat_lt, nat_le, rules}
 use Rattle.std.specs.List.{list_all}
 use Rattle.std.specs.Int.{is_in_range, IsInRange}
-use Rattle.std.specs.Char.{is_ascii_lowercase, is_ascii_digit, is_ascii_graphic}
+use Rattle.std.specs.Char.{is_ascii_lowercase, is_ascii_graphic}
 use Rattle.std.proofs.lemmas.Bool.{and_from, and_parts, or_cases, eqb-true, eq-eqb, leb-true, le-leb, ltb-true, lt-ltb}
 use Rattle.std.proofs.lemmas.List.Elements.{All-weaker, All-tail, All-cons}
 use Rattle.std.proofs.lemmas.List.Sums.{AllPass-from_list_all, list_all-from_AllPass}
 use Rattle.mml_lab.specs.declared.TheConstants.{MAX_NAME, MAX_KEY}
 use Rattle.mml_lab.specs.Rosters.{is_name, is_key, is_name_byte}
 use Rattle.mml_lab.specs.RosterMeaning.{IsName, IsKey, IsNameByte}
-use Rattle.std.proofs.Common.{rules}
 
 in_range : (low high b : ℕ) → is_in_range low high b ≡ true → IsInRange low high b
 in_range low high b is = let parts = and_parts (nat_le low b) (nat_le b high) is in (leb-true low b parts.0, leb-true b high parts.1)

@@ -1,17 +1,15 @@
 -- The errors of a lab file are told in their order.
-use Rattle.std.proofs.Common.{◌≡◌, ◌<◌, ◌+◌, ℕ, zero, suc, Bool, true, false, List, [], ◌∷◌, ◌++◌, Option, Some, None, Result, Ok, Err, inl, inr, option_map, not, nat_lt, nat_le}
-use Rattle.std.proofs.Common.{length, refl, sym, ap, ◌∙◌, subst, arith}
+use Rattle.std.proofs.Common.{◌≡◌, ◌<◌, ◌+◌, ℕ, suc, Bool, List, [], ◌∷◌, ◌++◌, Option, Some, None, Result, Ok, Err, inl, inr, option_map, not, nat_lt, nat_le}
+use Rattle.std.proofs.Common.{refl, sym, ◌∙◌, subst, arith}
 use Rattle.std.specs.List.{slice_get}
 use Rattle.std.proofs.lemmas.Bool.{cases_lt, lt-ltb, le-ltb, lt-leb, le-leb}
 use Rattle.mml_ids.specs.Gives.{◌>>◌, need, first_fault, fault_if}
-use Rattle.mml_lab.specs.declared.TheConstants.{MAX_EVENTS, MAX_SESSIONS, MAX_STUDENTS}
 use Rattle.mml_lab.specs.declared.lab_fault.LabFault.{LabFault}
 use Rattle.mml_lab.specs.declared.lab_fault.LabFault.TheVariants as fault
 use Rattle.mml_lab.specs.declared.lab_fault.Key.TheVariants as key
 use Rattle.mml_lab.specs.Shape.{RawSpec}
-use Rattle.mml_lab.specs.Rosters.{name_twice}
 use Rattle.mml_lab.specs.Labs.{both_fault, ids_fault, forms_fault, no_owner_fault, owner_twice_fault, ends_fault, loops_fault, again_fault, pointers_fault, unless}
-use Rattle.mml_lab.specs.Labs.{is_within, identified, enrolled, owned, linked, limited, checked, error_of, lab_fault}
+use Rattle.mml_lab.specs.Labs.{identified, enrolled, owned, linked, limited, checked, error_of, lab_fault}
 use Rattle.mml_lab.specs.LabErrors.{order_of, errors_of, IsFirstError}
 
 -- the first of a list of errors

@@ -1,8 +1,8 @@
 -- What a file without an error is.
-use Rattle.std.proofs.Common.{◌≡◌, ◌≤◌, ℕ, zero, suc, Bool, true, false, not, List, [], ◌∷◌, length, Option, Some, None, Result, Ok, Err, refl, sym, ap, ◌∙◌}
+use Rattle.std.proofs.Common.{◌≡◌, ◌≤◌, ℕ, zero, suc, Bool, true, not, List, [], ◌∷◌, length, Option, Some, None, Ok, Err, refl, sym, ap, ◌∙◌, arith}
 use Rattle.std.specs.List.{position, slice_get}
 use Rattle.std.proofs.lemmas.Bool.{ltb-false}
-use Rattle.mml_ids.specs.Gives.{◌>>◌, fault_if}
+use Rattle.mml_ids.specs.Gives.{fault_if}
 use Rattle.mml_ids.specs.Search.{first_below}
 use Rattle.mml_ids.proofs.GivesLemmas.{bind-ok, if_none, map_none}
 use Rattle.mml_ids.specs.Ids.{id_fault}
@@ -16,7 +16,6 @@ use Rattle.mml_lab.specs.Labs.{forms_fault, no_owner_fault, owner_twice_fault, e
 use Rattle.mml_lab.specs.Labs.{lab_in, lab_from}
 use Rattle.mml_lab.specs.LabErrors.{errors_of}
 use Rattle.mml_lab.proofs.LabErrorsLemmas.{first_of, first_error}
-use Rattle.std.proofs.Common.{arith}
 
 pub record IsFaultless (raw : RawSpec) : Type 0 where
   pub single : position (λ (node : NodeSpec). node.both) raw.nodes ≡ None

@@ -1,13 +1,10 @@
 -- The lab of a file without an error is a lab.
-use Rattle.std.proofs.Common.{◌≡◌, ℕ, ℤ, pos, negsuc, ◌<◌, ◌≤◌, ◌==◌, Bool, true, false, not, ◌&&◌, ◌||◌, ltb, List, [], length, get_or, map, Option, Some}
-use Rattle.std.proofs.Common.{Ok, None, ◌⊎◌, inl, inr, refl, sym, ap, ◌∙◌, subst, arith, All}
-use Rattle.std.specs.Prelude.{slice_index, unwrap_or, position}
+use Rattle.std.proofs.Common.{◌≡◌, ℕ, ℤ, pos, negsuc, ◌<◌, ◌≤◌, ◌==◌, true, false, not, ◌&&◌, ltb, List, [], length, get_or, map, Option, Some}
+use Rattle.std.proofs.Common.{Ok, None, inl, inr, refl, sym, ap, ◌∙◌, subst, arith, All}
+use Rattle.std.specs.Prelude.{slice_index, position}
 use Rattle.std.specs.List.{list_any}
 use Rattle.std.specs.Option.{option_and_then, option_map_or}
-use Rattle.std.specs.Ordering.{int_eq}
-use Rattle.std.specs.FinSet as sets
 use Rattle.std.proofs.lemmas.Bool.{cases_lt, cases_Bool, lt-ltb, ltb-true, leb-true, eqb-true, eq-eqb, and_parts, and_from, not-false, both_ways}
-use Rattle.std.proofs.lemmas.Bool.Decides.{Decides-int_eq}
 use Rattle.std.proofs.lemmas.List.{get_or-map, get_or_past, length-map}
 use Rattle.std.proofs.lemmas.List.Elements.{All-map, All-from_get_or}
 use Rattle.std.proofs.lemmas.List.Folds.{list_any_at}
@@ -22,8 +19,7 @@ use Rattle.mml_lab.specs.declared.TheConstants.{MAX_EVENTS, MAX_SESSIONS}
 use Rattle.mml_lab.specs.Shape.{Account, NodeSpec, RawSpec}
 use Rattle.mml_lab.specs.Rosters.{has_name, no_account, with_owners, IsRoster}
 use Rattle.mml_lab.specs.Labs.{IsLab, number_of, file_ids, joins, is_linked, is_loop, is_within, lacks_owner, points_astray, node_with, place_of, owners_in}
-use Rattle.mml_lab.specs.Labs.{owners_with, registers_in, registers_with, neighbours_of, network_in, lab_in, lab_from}
-use Rattle.mml_lab.specs.Labs.{LabValue}
+use Rattle.mml_lab.specs.Labs.{owners_with, registers_in, registers_with, neighbours_of, network_in, lab_in, lab_from, LabValue}
 use Rattle.mml_ids.proofs.MapLemmas.{list_any-map}
 use Rattle.mml_ids.proofs.SearchLemmas.{position-None}
 use Rattle.mml_lab.proofs.RosterMeaningLemmas.{is_roster}

@@ -1,6 +1,6 @@
 -- What the definitions of a lab mean.
-use Rattle.std.proofs.Common.{◌≡◌, ◌≢◌, ◌↔◌, ℕ, ℤ, pos, ◌<◌, ◌==◌, Bool, true, false, not, ◌&&◌, ◌||◌, ltb, List, [], length, get_or, take, map}
-use Rattle.std.proofs.Common.{Option, Some, None, Ok, ◌⊎◌, inl, inr, refl, sym, ap, ◌∙◌, subst, arith, Contains}
+use Rattle.std.proofs.Common.{◌≡◌, ◌≢◌, ◌↔◌, ℕ, ℤ, pos, ◌<◌, ◌==◌, Bool, true, false, not, ◌&&◌, ◌||◌, List, [], length, get_or, take, map}
+use Rattle.std.proofs.Common.{Option, Some, None, Ok, ◌⊎◌, inl, inr, sym, ap, ◌∙◌, subst, arith, Contains}
 use Rattle.std.specs.Prelude.{slice_index, position, unwrap_or}
 use Rattle.std.specs.List.{list_any, Any}
 use Rattle.std.specs.Option.{option_and_then, option_map_or}
@@ -22,8 +22,7 @@ use Rattle.mml_lab.specs.Labs.{LabValue, IsLab, number_of, file_ids, is_node, jo
 use Rattle.mml_lab.specs.Labs.{node_with, registers_in, place_of, owners_in, owners_with, lab_from, lab_of}
 use Rattle.mml_lab.specs.LabMeaning.{Joins, HasLink, HasNode, JoinNodes}
 use Rattle.mml_ids.proofs.MapLemmas.{list_any-map}
-use Rattle.mml_ids.proofs.SearchLemmas.{position-None, position-none}
-use Rattle.mml_ids.proofs.SearchLemmas.{none-is}
+use Rattle.mml_ids.proofs.SearchLemmas.{position-None, position-none, none-is}
 use Rattle.mml_lab.proofs.RosterMeaningLemmas.{student_of_name, name_of_student}
 use Rattle.mml_ids.proofs.InOrderLemmas.{in_order-moves}
 use Rattle.mml_lab.proofs.LabFaultLemmas.{IsFaultless}

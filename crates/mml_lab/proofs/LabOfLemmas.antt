@@ -1,21 +1,19 @@
 -- Which bytes are read as a lab, and what the error of a file tells: never that memory ran out.
-use Rattle.std.proofs.Common.{◌≡◌, ◌≢◌, ◌↔◌, ◌==◌, ℕ, List, length, Bool, true, false, not, Option, Some, None, Ok, ap, sym, ◌∙◌}
-use Rattle.std.specs.Prelude.{option_map, position, nat_lt}
+use Rattle.std.proofs.Common.{◌≡◌, ◌≢◌, ◌↔◌, ℕ, List, length, Bool, Option, Some, None, Ok, arith}
+use Rattle.std.specs.Prelude.{option_map}
 use Rattle.mml_ids.specs.Gives.{first_fault, fault_if}
-use Rattle.mml_ids.specs.declared.TheConstants.{MAX_NODES}
 use Rattle.mml_ids.specs.Search.{first_below}
-use Rattle.mml_ids.specs.Ids.{id_fault, is_id, is_again_at}
+use Rattle.mml_ids.specs.Ids.{id_fault}
 use Rattle.mml_ids.specs.declared.id_table.IdFault.{IdFault}
 use Rattle.mml_ids.specs.declared.id_table.IdFault.TheVariants as id
 use Rattle.mml_ids.proofs.GivesLemmas.{bind-ok, bind-from}
 use Rattle.mml_lab.specs.declared.lab_fault.LabFault.TheVariants as fault
-use Rattle.mml_lab.specs.Shape.{RawSpec, spelled}
-use Rattle.mml_lab.specs.Labs.{LabValue, file_ids, is_link_again, ids_fault, again_fault, lab_fault, lab_from, lab_of}
+use Rattle.mml_lab.specs.Shape.{RawSpec}
+use Rattle.mml_lab.specs.Labs.{LabValue, file_ids, is_link_again, ids_fault, again_fault, lab_fault, lab_of}
 use Rattle.mml_lab.specs.LabMeaning.{IsLabOfFile, IsFirstLinkAgain}
 use Rattle.mml_lab.proofs.LabErrorsLemmas.{told_in_order}
 use Rattle.mml_lab.proofs.LabFaultLemmas.{made, makes}
 use Rattle.mml_lab.proofs.LinksFaultLemmas.{first-means}
-use Rattle.std.proofs.Common.{arith}
 
 -- bytes are read as a lab exactly where they spell a file without an error, whose lab it is
 pub of_file : (bytes : List ℕ) (lab : LabValue) → (lab_of bytes ≡ Ok lab) ↔ ((raw : RawSpec) × IsLabOfFile bytes raw lab)

@@ -1,7 +1,7 @@
 -- The first name that stands before it already, met student after student.
-use Rattle.std.proofs.Common.{◌≡◌, ℕ, suc, ◌+◌, ◌-◌, ◌<◌, ◌≤◌, List, [], ◌∷◌, ◌++◌, length, get_or, take, map, Option, Some, None, Bool, true, false, cond}
-use Rattle.std.proofs.Common.{◌||◌, Ok, Err, refl, sym, ap, ◌∙◌, arith, string_bytes, String, Global, is_some, true≢false, append-nil, length-append}
-use Rattle.std.specs.Prelude.{bytes_eq, slice_index_or}
+use Rattle.std.proofs.Common.{◌≡◌, ℕ, suc, ◌+◌, ◌-◌, ◌<◌, ◌≤◌, List, [], ◌∷◌, ◌++◌, length, get_or, take, map, Option, None, Bool, true, false}
+use Rattle.std.proofs.Common.{◌||◌, Ok, Err, refl, sym, ap, ◌∙◌, arith, string_bytes, String, Global, is_some, true≢false, append-nil, length-append, rules}
+use Rattle.std.specs.Prelude.{bytes_eq}
 use Rattle.std.specs.List.{list_any}
 use Rattle.std.specs.Map.{lookup}
 use Rattle.std.proofs.lemmas.List.{length-map}
@@ -12,9 +12,8 @@ use Rattle.mml_lab.specs.declared.raw_lab.Account.{Account as KeptAccount}
 use Rattle.mml_lab.specs.declared.lab_fault.LabFault.TheVariants as fault
 use Rattle.mml_lab.specs.Shape.{Account}
 use Rattle.mml_lab.specs.inside.Raw.{account_view, entry_view}
-use Rattle.mml_lab.specs.Rosters.{has_name, no_account, is_name_again, name_twice}
+use Rattle.mml_lab.specs.Rosters.{has_name, is_name_again, name_twice}
 use Rattle.mml_lab.proofs.StudentNamedLemmas.{Entry}
-use Rattle.std.proofs.Common.{rules}
 
 -- the name is the teacher's or that of an entry
 abbrev pub is_taken : List ℕ → List Entry → List ℕ → Bool

@@ -1,12 +1,11 @@
 -- The rows of neighbours, as links are put into them one after the other.
-use Rattle.std.proofs.Common.{◌≡◌, ℕ, ℤ, pos, negsuc, ◌+◌, ◌<◌, ◌≤◌, Bool, true, false, ◌&&◌, ◌||◌, eqb, ltb, List, [], length, get_or, set, take, map, Option}
-use Rattle.std.proofs.Common.{Some, None, ◌⊎◌, refl, sym, ap, ◌∙◌, subst, inl, inr, arith}
+use Rattle.std.proofs.Common.{◌≡◌, ℕ, ℤ, pos, negsuc, ◌+◌, ◌<◌, ◌≤◌, Bool, false, ◌&&◌, ◌||◌, eqb, ltb, List, [], length, get_or, set, take, map, Option}
+use Rattle.std.proofs.Common.{Some, None, ◌⊎◌, refl, sym, ap, ◌∙◌, inl, inr, arith, rules}
 use Rattle.std.specs.Prelude.{slice_index, replicate}
 use Rattle.std.specs.Ordering.{nat_cmp, int_eq}
 use Rattle.std.specs.FinSet as sets
 use Rattle.std.specs.FinSet.{FinSet}
 use Rattle.std.proofs.lemmas.Bool.{and_right, cases_lt, cases_eq, eq-eqb, ne_eqb, eqb-true, lt-ltb, le-ltb}
-use Rattle.std.proofs.lemmas.Bool.Decides.{Decides-int_eq}
 use Rattle.std.proofs.lemmas.List.{get_or-set_same, get_or-set_other, get_or_default, get_or-replicate, length-replicate, get_or-map, length-map, same_lists}
 use Rattle.std.proofs.lemmas.List.Folds.{list_any_more}
 use Rattle.std.proofs.lemmas.List.Quantifiers.{position-Some}
@@ -18,7 +17,6 @@ use Rattle.mml_rules.specs.Network.{neighbours_at}
 use Rattle.mml_ids.proofs.SearchLemmas.{same_bool}
 use Rattle.mml_rules.proofs.ConfigurationLemmas.{holds-true, holds-from}
 use Rattle.mml_lab.specs.Labs.{number_of, joins, is_linked, neighbours_of}
-use Rattle.std.proofs.Common.{rules}
 
 abbrev pub Rows : Type 0
 Rows = List (FinSet nat_cmp)

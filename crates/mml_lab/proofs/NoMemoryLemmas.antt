@@ -1,20 +1,18 @@
 -- No bytes spell out of memory: neither a file without its keys nor one with an error.
-use Rattle.std.proofs.Common.{◌≡◌, ◌≢◌, ◌⊎◌, inl, inr, ℕ, List, ◌∷◌, length, Bool, true, false, cond, ◌&&◌, Option, Some, None, Result, Ok, Err, subst}
-use Rattle.std.specs.Prelude.{codes, ok_or, nat_lt, nat_le, IfErr}
-use Rattle.toml.specs.Data.{Data, Items, no_items, item, Members, get_member, as_str, as_integer, as_bool, as_table, as_array}
+use Rattle.std.proofs.Common.{◌≡◌, ◌≢◌, ◌⊎◌, inl, inr, ℕ, List, Bool, cond, Option, Some, Result, Err, subst, arith}
+use Rattle.std.specs.Prelude.{codes, ok_or, IfErr}
+use Rattle.toml.specs.Data.{Data, Items, no_items, item, Members, as_table, as_array}
 use Rattle.mml_ids.specs.Gives.{◌>>=◌}
 use Rattle.mml_ids.specs.declared.id_table.IdFault.TheVariants as id
-use Rattle.mml_lab.specs.declared.TheConstants.{MAX_OWNERS}
 use Rattle.mml_lab.specs.declared.lab_fault.LabFault.{LabFault}
 use Rattle.mml_lab.specs.declared.lab_fault.LabFault.TheVariants as fault
 use Rattle.mml_lab.specs.declared.lab_fault.Key.{Key}
 use Rattle.mml_lab.specs.declared.lab_fault.Key.TheVariants as key
-use Rattle.mml_lab.specs.Shape.{need, of_kind, needed, optional, optional_of, each, account_in, student_of, names_of, owner_names, node_of, two_of, link_of}
+use Rattle.mml_lab.specs.Shape.{of_kind, needed, optional, optional_of, each, account_in, student_of, names_of, node_of, link_of}
 use Rattle.mml_lab.specs.Shape.{RawSpec, links_of, teacher_of, students_of, nodes_of, raw_of, table_in, spelled}
-use Rattle.mml_lab.specs.Labs.{lab_fault, lab_from, lab_of}
+use Rattle.mml_lab.specs.Labs.{lab_fault, lab_of}
 use Rattle.mml_lab.proofs.LabFaultLemmas.{refuses}
 use Rattle.mml_lab.proofs.LabOfLemmas.{no_memory, no_memory_of_ids}
-use Rattle.std.proofs.Common.{arith}
 
 -- the error is not out of memory
 abbrev Tells : LabFault → Type 0

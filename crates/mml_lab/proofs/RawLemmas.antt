@@ -1,5 +1,5 @@
 -- What the values that were read stand for, under the tests of a lab.
-use Rattle.std.proofs.Common.{◌≡◌, ℕ, List, [], ◌∷◌, Bool, true, false, cond, ◌||◌, map, Some, None, Ok, Err, MatchBool, refl, String, Global, string_bytes}
+use Rattle.std.proofs.Common.{◌≡◌, ℕ, List, [], ◌∷◌, map, None, Ok, Err, MatchBool, refl, String, Global, string_bytes, arith}
 use Rattle.std.specs.Prelude.{option_map, is_some, bytes_eq, ◌==◌}
 use Rattle.std.specs.List.{list_any, find}
 use Rattle.std.specs.Map.{lookup}
@@ -14,7 +14,6 @@ use Rattle.mml_lab.specs.Rosters.{has_name}
 use Rattle.mml_lab.specs.Faults.{id_fault_as}
 use Rattle.mml_lab.specs.Labs.{number_of, file_ids, node_with, ids_fault, unless}
 use Rattle.mml_ids.proofs.MapLemmas.{find-map, map-map}
-use Rattle.std.proofs.Common.{arith}
 
 -- the identifiers that were read are those of the file's nodes
 pub file_ids-read : (nodes : List RawNode) → map (λ node. number_of node.id) nodes ≡ file_ids (map node_view nodes)

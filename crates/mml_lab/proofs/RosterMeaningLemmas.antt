@@ -1,7 +1,6 @@
 -- What the roster's definitions mean.
-use Rattle.std.proofs.Common.{◌≡◌, ◌↔◌, ◌==◌, ℕ, suc, ◌<◌, ◌≤◌, List, ◌∷◌, length, get_or, take, Option, Some, None, Bool, true, false, cond, not, ◌⊎◌, inl}
+use Rattle.std.proofs.Common.{◌≡◌, ◌↔◌, ◌==◌, ℕ, suc, ◌<◌, ◌≤◌, List, ◌∷◌, length, get_or, take, Option, Some, None, true, false, not, ◌⊎◌, inl}
 use Rattle.std.proofs.Common.{inr, refl, sym, ap, ◌∙◌, arith, true≢false, All, Contains}
-use Rattle.std.specs.Prelude.{bytes_eq}
 use Rattle.std.specs.List.{position}
 use Rattle.std.specs.Option.{option_map}
 use Rattle.std.proofs.lemmas.Bool.{cases_Bool, cases_order, and_from, and_parts, not-false, eqb-true, eq-eqb}
@@ -18,9 +17,8 @@ use Rattle.mml_lab.specs.Shape.{Account}
 use Rattle.mml_lab.specs.Rosters.{RosterValue, IsRoster, IsPrincipal, principal, owns, owners_of, name_of, account_of, student_named, with_owners, is_account}
 use Rattle.mml_lab.specs.Rosters.{has_name, has_name_and_key, no_account, is_name_again, name_twice}
 use Rattle.mml_lab.specs.RosterMeaning.{IsKnownAs, IsFirstAgain, AreDistinctBelow, name_at}
-use Rattle.mml_ids.proofs.SearchLemmas.{position-only, position-None}
+use Rattle.mml_ids.proofs.SearchLemmas.{position-only, position-None, first-is, first-at, none-is, none-at}
 use Rattle.mml_lab.proofs.StudentNamedLemmas.{student_is}
-use Rattle.mml_ids.proofs.SearchLemmas.{first-is, first-at, none-is, none-at}
 
 -- ---- who greets
 

@@ -1,6 +1,5 @@
 -- Names among accounts, and among the entries of the students' map.
-use Rattle.std.proofs.Common.{◌≡◌, ℕ, ◌<◌, List, [], ◌∷◌, length, get_or, map, Option, Some, refl, sym, ap}
-use Rattle.std.proofs.Common.{◌∙◌, string_bytes, String, Global}
+use Rattle.std.proofs.Common.{◌≡◌, ℕ, ◌<◌, List, [], ◌∷◌, length, get_or, map, Option, Some, refl, ap, ◌∙◌, string_bytes, String, Global, arith}
 use Rattle.std.specs.Prelude.{bytes_eq}
 use Rattle.std.specs.List.{position, position_or_len}
 use Rattle.std.specs.Map.{keys_of}
@@ -10,7 +9,6 @@ use Rattle.mml_lab.specs.Shape.{Account}
 use Rattle.mml_lab.specs.inside.Raw.{entry_view}
 use Rattle.mml_lab.specs.declared.who.Who.TheVariants as who
 use Rattle.mml_lab.specs.Rosters.{RosterValue, has_name, no_account, name_of, student_named}
-use Rattle.std.proofs.Common.{arith}
 
 -- a student's name and key, as the map keeps them
 abbrev pub Entry : Type 0

@@ -1,10 +1,9 @@
-use Rattle.std.proofs.Common.{◌≡◌, ◌∙◌, ap, sym, map, suc, not, true, false, Some, add-one, rules}
+use Rattle.std.proofs.Common.{◌≡◌, ◌∙◌, ap, sym, map, suc, not, false, Some, add-one, rules, arith}
 use Rattle.std.specs.Prelude.{option_map}
 use Rattle.mml_lab.specs.inside.Raw.{account_view}
 use Rattle.mml_lab.specs.Rosters.{is_account}
 use Rattle.mml_ids.proofs.MapLemmas.{position-map, position-first, position-later}
 use Rattle.mml_lab.proofs.accounts.first_malformed.Goals as goal
-use Rattle.std.proofs.Common.{arith}
 
 pub returns-then-not-is_account : goal.returns-then-not-is_account
 returns-then-not-is_account c = grind (arith, position-first)

@@ -1,4 +1,4 @@
-use Rattle.std.proofs.Common.{◌∙◌, ap, map, [], Option, Result, Ok, Err, string_bytes}
+use Rattle.std.proofs.Common.{◌∙◌, ap, map, [], Option, Result, string_bytes, arith}
 use Rattle.std.specs.Prelude.{option_map, IfOk}
 use Rattle.std.specs.Option.{option_map_or}
 use Rattle.mml_lab.specs.Shape.{NodeSpec}
@@ -7,7 +7,6 @@ use Rattle.mml_lab.specs.Labs.{place_of, owners_in}
 use Rattle.mml_ids.proofs.MapLemmas.{map-map}
 use Rattle.mml_lab.proofs.RawLemmas.{node_with-read}
 use Rattle.mml_lab.proofs.build.owners_with.Goals as goal
-use Rattle.std.proofs.Common.{arith}
 
 if_ok : {X E : Type 0} {P Q : X → Type 0} (r : Result X E) → IfOk r P → ((x : X) → P x → Q x) → IfOk r Q
 if_ok r h weaker = grind arith

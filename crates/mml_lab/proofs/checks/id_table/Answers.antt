@@ -1,8 +1,4 @@
-use Rattle.std.proofs.Common.{◌≡◌, ◌∙◌, map, ap}
 use Rattle.std.proofs.lemmas.Result.{err_from_is_err_and}
-use Rattle.mml_ids.specs.Ids.{in_order}
-use Rattle.mml_lab.specs.inside.Raw.{node_view}
-use Rattle.mml_lab.specs.Labs.{file_ids}
 use Rattle.mml_lab.proofs.RawLemmas.{table_ok, table_fault, file_ids-read}
 use Rattle.mml_lab.proofs.checks.id_table.Goals as goal
 use Rattle.std.proofs.Common.{arith}

@@ -1,4 +1,3 @@
-use Rattle.std.proofs.Common.{◌≡◌, get_or, ap, ◌∙◌}
 use Rattle.mml_lab.proofs.NeighboursLemmas.{inserted}
 use Rattle.mml_lab.proofs.links.insert.Goals as goal
 use Rattle.std.proofs.Common.{arith}

@@ -1,9 +1,6 @@
 use Rattle.std.proofs.Common.{◌≡◌, ◌||◌, ◌&&◌, ◌++◌, ◌∙◌, ℤ, pos, true, false, take, drop, length, get_or, sym, ap, w64, to_z, of_z, arith, rules}
-use Rattle.std.specs.Prelude.{replicate}
 use Rattle.std.specs.FinSet as sets
-use Rattle.std.specs.Ordering.{nat_cmp}
 use Rattle.std.proofs.lemmas.List.{take_at, get_or_default}
-use Rattle.mml_ids.specs.Search.{first_from}
 use Rattle.mml_ids.proofs.SearchLemmas.{first_next}
 use Rattle.mml_rules.specs.Configuration.{holds}
 use Rattle.mml_rules.specs.Network.{neighbours_at}

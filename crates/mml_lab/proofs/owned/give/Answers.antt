@@ -1,4 +1,4 @@
-use Rattle.std.proofs.Common.{◌≡◌, ◌∙◌, ◌<◌, refl, arith, length, length-set, get_or}
+use Rattle.std.proofs.Common.{arith, length-set}
 use Rattle.mml_lab.proofs.OwnedLemmas.{one_owner}
 use Rattle.mml_lab.proofs.owned.give.Goals as goal
 

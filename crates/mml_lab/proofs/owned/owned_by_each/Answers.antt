@@ -1,10 +1,5 @@
-use Rattle.std.proofs.Common.{◌≡◌, ◌∙◌, ◌<◌, ◌+◌, ℕ, List, ◌&&◌, ◌||◌, ◌++◌, eqb, map, take, drop, length, get_or, [], ap, sym, subst, arith, rules, All}
-use Rattle.std.specs.Prelude.{replicate}
-use Rattle.std.specs.List.{list_any}
-use Rattle.std.specs.FinSet as sets
-use Rattle.std.specs.Ordering.{nat_cmp}
+use Rattle.std.proofs.Common.{◌≡◌, ◌∙◌, ◌<◌, ℕ, List, map, length, get_or, [], ap, sym, subst, arith, All}
 use Rattle.std.proofs.lemmas.List.{take_at, get_or-map, length-map, length-replicate}
-use Rattle.mml_lab.specs.inside.Owned.{row_at}
 use Rattle.mml_lab.proofs.OwnedLemmas.{no_nodes, one_node, all_nodes}
 use Rattle.mml_lab.proofs.owned.owned_by_each.Goals as goal
 

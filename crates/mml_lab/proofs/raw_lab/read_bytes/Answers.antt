@@ -1,7 +1,6 @@
-use Rattle.std.proofs.Common.{sym, ◌∙◌, true≢false}
+use Rattle.std.proofs.Common.{true≢false, arith}
 use Rattle.mml_lab.proofs.SpelledLemmas.{table_in-some, table_in-none, spelled-some, spelled-none}
 use Rattle.mml_lab.proofs.raw_lab.read_bytes.Goals as goal
-use Rattle.std.proofs.Common.{arith}
 
 pub returns-in-Ok : goal.returns-in-Ok
 returns-in-Ok c = rw (spelled-some _ _ (table_in-some _ _ c.in-Ok.ensures.ok.0 c.in-Ok.ensures.ok.1)) c.read_raw.ensures

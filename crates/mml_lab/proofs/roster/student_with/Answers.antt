@@ -1,5 +1,4 @@
-use Rattle.std.proofs.Common.{◌≡◌, ◌∙◌, ap, not, sym, subst, map, length, Option, arith, ℕ, ◌+◌, ◌<◌}
-use Rattle.std.specs.Prelude.{IfSome}
+use Rattle.std.proofs.Common.{map, arith, ◌+◌}
 use Rattle.std.proofs.lemmas.List.{length-map}
 use Rattle.mml_lab.specs.inside.Raw.{entry_view}
 use Rattle.mml_lab.specs.Rosters.{has_name_and_key, no_account}

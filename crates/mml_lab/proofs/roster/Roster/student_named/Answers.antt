@@ -1,8 +1,7 @@
-use Rattle.std.proofs.Common.{◌≡◌, ◌∙◌, ap, sym, Some}
+use Rattle.std.proofs.Common.{◌≡◌, ◌∙◌, ap, sym, Some, arith}
 use Rattle.mml_lab.specs.Rosters.{RosterValue, student_named}
 use Rattle.mml_lab.proofs.StudentNamedLemmas.{search_same, student_is}
 use Rattle.mml_lab.proofs.roster.Roster.student_named.Goals as goal
-use Rattle.std.proofs.Common.{arith}
 
 pub returns-in-Some : goal.returns-in-Some
 returns-in-Some c =
