@@ -13,7 +13,7 @@ use Rattle.mml_session.specs.declared.session.Said.{Said}
 use Rattle.mml_session.specs.declared.session.Said.TheVariants as says
 use Rattle.mml_session.specs.Turns.{Standing, is_bye}
 use Rattle.mml_session.specs.Records.{Kept}
-use Rattle.mml_session.specs.Serving.{ServesLine, ServesNext, next_after}
+use Rattle.mml_session.specs.Serving.{SendsReply, ServesLine, ServesNext, next_after}
 
 taken_by : (a b : Option (List ℕ)) (line line' : List ℕ) → Consumes a b (ended line) → line' ≡ line → Consumes a b (ended line')
 taken_by a b line line' taken same = subst (λ (t : List ℕ). Consumes a b (ended t)) (sym same) taken
@@ -45,3 +45,14 @@ unread_before limit old new old_reads new_reads taken unread unsent out needed g
     by_reads : (more : ℕ) → new_reads - old_reads ≡ more → taken + new < READ_SIZE
     by_reads zero e = omega (arith, grow, counted, few, e)
     by_reads (suc more) e = let read : old_reads < new_reads = omega (arith, e) in absurd (some (out (needed read)))
+
+-- a reply's line that stands behind what was held is sent with it
+pub sent_behind : (said : Said) (r : Reply) (unsent whole bytes unsent' : List ℕ) (wrote wrote' : Option (List ℕ)) → bytes ≡ unsent ++ whole
+    → SendsReply said r bytes [] unsent' wrote wrote' → SendsReply said r whole unsent unsent' wrote wrote'
+sent_behind said r unsent whole bytes unsent' wrote wrote' e h =
+    behind said (subst (λ (t : List ℕ). SendsReply said r t [] unsent' wrote wrote') e h)
+  where
+    behind : (said : Said) → SendsReply said r (unsent ++ whole) [] unsent' wrote wrote' → SendsReply said r whole unsent unsent' wrote wrote'
+    behind says.Told h = h
+    behind says.Bye h = h
+    behind (says.Unwritten n) h = h

@@ -1,5 +1,6 @@
 -- What the window's answer to a command says of the reply.
-use Rattle.std.proofs.Common.{◌≡◌, ◌⊎◌, ℕ, List, [], ◌++◌, refl, sym, ap, ◌∙◌, subst, inl, inr, append-nil, Option, Result, Ok, Err, IfOk}
+use Rattle.std.proofs.Common.{◌≡◌, ◌⊎◌, ℕ, List, [], ◌++◌, refl, sym, ap, ◌∙◌, subst, inl, inr, append-nil, Option, Result, Ok, Err, OnOk}
+use Rattle.std.specs.Prelude.{⊤}
 use Rattle.mml_lab.specs.declared.who.Who.{Who}
 use Rattle.mml_lab.specs.Labs.{LabValue}
 use Rattle.mml_board.specs.declared.event.Event.{Event}
@@ -101,8 +102,8 @@ refused_told lab old new who c why answers = record {
 }
 
 -- what the window tells settles a command that is left to judge
-pub settled_so : (lab : LabValue) (told : Result Reply Closed) (g : Greeting) (who : Who) (c : Command) (known : Option Who) (old new : WindowValue)
-    → LeftToJudge who c ≡ g
-    → IfOk told (λ r. Told lab old who c r new) → IfOk told (λ r. Settles lab (standing known old) g r (standing known new))
-settled_so lab (Ok r) g who c known old new left h = subst (λ (x : Greeting). Settles lab (standing known old) x r (standing known new)) left (refl, h)
-settled_so lab (Err fault) g who c known old new left h = tt
+pub settled_so : (lab : LabValue) (told : Result ⊤ Closed) (g : Greeting) (who : Who) (c : Command) (known : Option Who) (r : Reply)
+    (old new : WindowValue) → LeftToJudge who c ≡ g
+    → OnOk told (Told lab old who c r new) → OnOk told (Settles lab (standing known old) g r (standing known new))
+settled_so lab (Ok done) g who c known r old new left h = subst (λ (x : Greeting). Settles lab (standing known old) x r (standing known new)) left (refl, h)
+settled_so lab (Err fault) g who c known r old new left h = tt

@@ -1,5 +1,5 @@
 -- What comes of the next line of a session.
-use Rattle.std.specs.Prelude.{◌≡◌, ◌≢◌, ℕ, ◌+◌, ◌<◌, false, true, List, [], ◌++◌, length, take, Option, Result, Ok, Err}
+use Rattle.std.specs.Prelude.{◌≡◌, ◌≢◌, ℕ, ◌<◌, false, true, List, [], ◌++◌, length, take, Option, Result, Ok, Err}
 use Rattle.std.specs.Io.KnownBytes.{Appends, Consumes, IsAtEnd, prepend_known}
 use Rattle.mml_lab.specs.Labs.{LabValue}
 use Rattle.mml_ids.specs.Lines.{ended}
@@ -8,6 +8,7 @@ use Rattle.mml_lines.specs.declared.lines.TheConstants.{READ_SIZE}
 use Rattle.mml_codec.specs.declared.TheConstants.{MAX_REQUEST}
 use Rattle.mml_codec.specs.declared.reply.Reply.{Reply}
 use Rattle.mml_codec.specs.declared.reply.Reply.TheVariants as reply
+use Rattle.mml_codec.specs.Replies.{reply_line, TellsFor}
 use Rattle.mml_window.specs.declared.sight.Closed.{Closed}
 use Rattle.mml_session.specs.declared.session.SessionEnd.TheVariants as end
 use Rattle.mml_session.specs.declared.session.Next.{Next}
@@ -18,7 +19,7 @@ use Rattle.mml_session.specs.Turns.{Standing, is_bye}
 use Rattle.mml_session.specs.Talks.{LineTurn, line_read, line_written}
 use Rattle.mml_session.specs.Ends.{IsView}
 use Rattle.mml_session.specs.Holding.{Holds, BreaksOff}
-use Rattle.mml_session.specs.Records.{Kept, Records, line_entries}
+use Rattle.mml_session.specs.Records.{Kept, Records, entry_for, line_entries}
 
 -- what was held and the line of a reply are held, or out, as they are with a bye's, or a front of them is
 abbrev pub SendsReply : Said → Reply → List ℕ → List ℕ → List ℕ → Option (List ℕ) → Option (List ℕ) → Type 0
@@ -26,6 +27,12 @@ SendsReply said.Told r whole unsent unsent' wrote wrote' = (is_bye r ≡ false) 
 SendsReply said.Bye r whole unsent unsent' wrote wrote' = (is_bye r ≡ true) × (unsent' ≡ []) × Appends wrote wrote' (unsent ++ whole)
 SendsReply (said.Unwritten n) r whole unsent unsent' wrote wrote' =
     (n < length (unsent ++ whole)) × (unsent' ≡ []) × Appends wrote wrote' (take n (unsent ++ whole))
+
+-- the line of a reply, or of out of memory in the place of one that isn't short, was sent and is recorded
+abbrev pub Tells : Said → ℕ → LabValue → ℕ → List ℕ → Reply → List ℕ → List ℕ → Option (List ℕ) → Option (List ℕ) → Option Kept → Option Kept → Type 0
+Tells said number lab seen line r unsent unsent' wrote wrote' given given' =
+    (told : Reply) × TellsFor r told × SendsReply said told (reply_line lab.ids lab.roster told) unsent unsent' wrote wrote'
+    × Records number given given' (entry_for seen line told (reply_line lab.ids lab.roster told))
 
 -- the line had its turn, and its reply was sent, or it has no reply
 abbrev pub ServesLine : Result Said Closed → ℕ → LabValue → Standing → Standing → List ℕ → List ℕ → List ℕ → Option (List ℕ) → Option (List ℕ)

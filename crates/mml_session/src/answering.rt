@@ -1,5 +1,5 @@
 //! What comes of a line: who is known, and the window, go on.
-ghost use Rattle.std.specs.Prelude.{◌≡◌, false, true, IfOk, IfErr, IfSome};
+ghost use Rattle.std.specs.Prelude.{◌≡◌, false, true, IfErr, IfSome, OnOk};
 ghost use Rattle.mml_lab.specs.Rosters.{IsPrincipal};
 ghost use Rattle.mml_policy.specs.declared.command.Command.TheVariants as command;
 ghost use Rattle.mml_policy.specs.Acts.{is_act};
@@ -20,25 +20,30 @@ use mml_window::{Answer, Closed, House, SightFault, Window};
 use std::alloc::Global;
 use std::sync::Wait;
 
-/// Answers a line, unless it asks a window that is closed.
-pub(crate) fn answer<Rt: Wait, S: Sink + Drop, H: House>(
+/// Answers a line, unless it asks a window that is closed. The reply is put where it stays, since it is
+/// large to hand on.
+pub(crate) fn answer_into<Rt: Wait, S: Sink + Drop, H: House>(
     setting: &Setting<'_, Rt, S, H>,
     window: &mut Window<H>,
     known: &mut Option<Who>,
     line: &[u8],
     scratch: &mut LineScratch,
-) -> Result<Reply, Closed>
+    reply: &mut Reply,
+) -> Result<(), Closed>
     requires principal { IfSome known.old (IsPrincipal H.lab.roster) }
     ensures principal { IfSome known.new (IsPrincipal H.lab.roster) }
-    ensures turn { IfOk result (λ reply. Turn H.lab (standing known.old window.old)
-        line.now reply (standing known.new window.new)) }
-    ensures about { IfOk result (IsAbout H.lab.ids H.lab.roster) }
+    ensures turn { OnOk result (Turn H.lab (standing known.old window.old)
+        line.now reply.new (standing known.new window.new)) }
+    ensures about { OnOk result (IsAbout H.lab.ids H.lab.roster reply.new) }
     ensures closed { IfErr result (λ _. (known.new ≡ known.old) × (window.new ≡ window.old)
         × IsView (standing known.old window.old) line.now) }
 {
     match read_request_with(setting.alloc, line, scratch) {
-        Ok(request) => settle(setting, window, known, request),
-        Err(fault) => Ok(Reply::Refuse(fault.refusal())),
+        Ok(request) => settle(setting, window, known, request, reply),
+        Err(fault) => {
+            put_in(reply, Reply::Refuse(fault.refusal()));
+            Ok(())
+        }
     }
 }
 
@@ -48,18 +53,19 @@ fn settle<Rt: Wait, S: Sink + Drop, H: House>(
     window: &mut Window<H>,
     known: &mut Option<Who>,
     request: Request,
-) -> Result<Reply, Closed>
+    reply: &mut Reply,
+) -> Result<(), Closed>
     requires principal { IfSome known.old (IsPrincipal H.lab.roster) }
     ensures principal { IfSome known.new (IsPrincipal H.lab.roster) }
-    ensures settles { IfOk result (λ reply. Settles H.lab (standing known.old window.old)
-        (greeting H.lab.roster known.old request) reply (standing known.new window.new)) }
-    ensures about { IfOk result (IsAbout H.lab.ids H.lab.roster) }
+    ensures settles { OnOk result (Settles H.lab (standing known.old window.old)
+        (greeting H.lab.roster known.old request) reply.new (standing known.new window.new)) }
+    ensures about { OnOk result (IsAbout H.lab.ids H.lab.roster reply.new) }
     ensures closed { IfErr result (λ _. (known.new ≡ known.old) × (window.new ≡ window.old)
         × AsksToSee known.old request) }
 {
     match (*known, &request) {
-        (Some(who), Request::Do(command)) => obey(setting, window, who, command),
-        _ => greet_on(setting, window, known, request),
+        (Some(who), Request::Do(command)) => obey(setting, window, who, command, reply),
+        _ => greet_on(setting, window, known, request, reply),
     }
 }
 
@@ -70,21 +76,26 @@ fn greet_on<Rt: Wait, S: Sink + Drop, H: House>(
     window: &mut Window<H>,
     known: &mut Option<Who>,
     request: Request,
-) -> Result<Reply, Closed>
+    reply: &mut Reply,
+) -> Result<(), Closed>
     requires principal { IfSome known.old (IsPrincipal H.lab.roster) }
     ensures principal { IfSome known.new (IsPrincipal H.lab.roster) }
-    ensures settles { IfOk result (λ reply. Settles H.lab (standing known.old window.old)
-        (greeting H.lab.roster known.old request) reply (standing known.new window.new)) }
-    ensures about { IfOk result (IsAbout H.lab.ids H.lab.roster) }
+    ensures settles { OnOk result (Settles H.lab (standing known.old window.old)
+        (greeting H.lab.roster known.old request) reply.new (standing known.new window.new)) }
+    ensures about { OnOk result (IsAbout H.lab.ids H.lab.roster reply.new) }
     ensures closed { IfErr result (λ _. (known.new ≡ known.old) × (window.new ≡ window.old)
         × AsksToSee known.old request) }
 {
     match greet(window.roster(), *known, request) {
-        Greeting::Answered { reply, known: now } => {
+        Greeting::Answered {
+            reply: answered,
+            known: now,
+        } => {
             *known = now;
-            Ok(reply)
+            put_in(reply, answered);
+            Ok(())
         }
-        Greeting::LeftToJudge { who, command } => obey(setting, window, who, &command),
+        Greeting::LeftToJudge { who, command } => obey(setting, window, who, &command, reply),
     }
 }
 
@@ -94,38 +105,48 @@ fn obey<Rt: Wait, S: Sink + Drop, H: House>(
     window: &mut Window<H>,
     who: Who,
     command: &Command,
-) -> Result<Reply, Closed>
-    ensures told { IfOk result (λ reply.
-        Told H.lab window.old who command.now reply window.new) }
-    ensures about { IfOk result (IsAbout H.lab.ids H.lab.roster) }
+    reply: &mut Reply,
+) -> Result<(), Closed>
+    ensures told { OnOk result
+        (Told H.lab window.old who command.now reply.new window.new) }
+    ensures about { OnOk result (IsAbout H.lab.ids H.lab.roster reply.new) }
     ensures closed { IfErr result (λ _.
         (window.new ≡ window.old) × (is_act command.now ≡ false)) }
 {
     match command {
-        Command::See { node } => see(window, who, *node),
-        Command::Look { node } => look(setting.alloc, window, who, *node),
-        Command::Report => report(setting.alloc, window, who),
+        Command::See { node } => see(window, who, *node, reply),
+        Command::Look { node } => look(setting.alloc, window, who, *node, reply),
+        Command::Report => report(setting.alloc, window, who, reply),
         Command::Move { .. }
         | Command::Close
         | Command::Fault { .. }
         | Command::Link { .. }
         | Command::Cut { .. }
-        | Command::Release { .. } => Ok(ask(setting, window, who, command)),
+        | Command::Release { .. } => {
+            ask(setting, window, who, command, reply);
+            Ok(())
+        }
     }
 }
 
-fn see<H: House>(window: &mut Window<H>, who: Who, node: u64) -> Result<Reply, Closed>
-    ensures told { IfOk result (λ reply.
-        Told H.lab window.old who (command.See node) reply window.new) }
-    ensures about { IfOk result (IsAbout H.lab.ids H.lab.roster) }
+fn see<H: House>(
+    window: &mut Window<H>,
+    who: Who,
+    node: u64,
+    reply: &mut Reply,
+) -> Result<(), Closed>
+    ensures told { OnOk result
+        (Told H.lab window.old who (command.See node) reply.new window.new) }
+    ensures about { OnOk result (IsAbout H.lab.ids H.lab.roster reply.new) }
     ensures closed { IfErr result (λ _. window.new ≡ window.old) }
 {
     match window.see(who, node) {
-        Ok(see) => Ok(Reply::See(see)),
-        Err(SightFault::Denied(denial)) => Ok(Reply::Deny(denial)),
+        Ok(see) => put_in(reply, Reply::See(see)),
+        Err(SightFault::Denied(denial)) => put_in(reply, Reply::Deny(denial)),
         Err(SightFault::Memory) => unreachable!(),
-        Err(SightFault::Closed) => Err(Closed),
+        Err(SightFault::Closed) => return Err(Closed),
     }
+    Ok(())
 }
 
 fn look<H: House>(
@@ -133,32 +154,40 @@ fn look<H: House>(
     window: &mut Window<H>,
     who: Who,
     node: u64,
-) -> Result<Reply, Closed>
-    ensures told { IfOk result (λ reply.
-        Told H.lab window.old who (command.Look node) reply window.new) }
-    ensures about { IfOk result (IsAbout H.lab.ids H.lab.roster) }
+    reply: &mut Reply,
+) -> Result<(), Closed>
+    ensures told { OnOk result
+        (Told H.lab window.old who (command.Look node) reply.new window.new) }
+    ensures about { OnOk result (IsAbout H.lab.ids H.lab.roster reply.new) }
     ensures closed { IfErr result (λ _. window.new ≡ window.old) }
 {
     match window.look(alloc, who, node) {
-        Ok(look) => Ok(Reply::Look(look)),
-        Err(SightFault::Denied(denial)) => Ok(Reply::Deny(denial)),
-        Err(SightFault::Memory) => Ok(Reply::Refuse(Refused::Memory)),
-        Err(SightFault::Closed) => Err(Closed),
+        Ok(look) => put_in(reply, Reply::Look(look)),
+        Err(SightFault::Denied(denial)) => put_in(reply, Reply::Deny(denial)),
+        Err(SightFault::Memory) => put_in(reply, Reply::Refuse(Refused::Memory)),
+        Err(SightFault::Closed) => return Err(Closed),
     }
+    Ok(())
 }
 
-fn report<H: House>(alloc: Global, window: &mut Window<H>, who: Who) -> Result<Reply, Closed>
-    ensures told { IfOk result (λ reply.
-        Told H.lab window.old who command.Report reply window.new) }
-    ensures about { IfOk result (IsAbout H.lab.ids H.lab.roster) }
+fn report<H: House>(
+    alloc: Global,
+    window: &mut Window<H>,
+    who: Who,
+    reply: &mut Reply,
+) -> Result<(), Closed>
+    ensures told { OnOk result
+        (Told H.lab window.old who command.Report reply.new window.new) }
+    ensures about { OnOk result (IsAbout H.lab.ids H.lab.roster reply.new) }
     ensures closed { IfErr result (λ _. window.new ≡ window.old) }
 {
     match window.report(alloc, who) {
-        Ok(report) => Ok(Reply::Report(report)),
-        Err(SightFault::Denied(denial)) => Ok(Reply::Deny(denial)),
-        Err(SightFault::Memory) => Ok(Reply::Refuse(Refused::Memory)),
-        Err(SightFault::Closed) => Err(Closed),
+        Ok(report) => put_in(reply, Reply::Report(report)),
+        Err(SightFault::Denied(denial)) => put_in(reply, Reply::Deny(denial)),
+        Err(SightFault::Memory) => put_in(reply, Reply::Refuse(Refused::Memory)),
+        Err(SightFault::Closed) => return Err(Closed),
     }
+    Ok(())
 }
 
 /// The reply to an act, for which alone the lock is taken.
@@ -167,10 +196,11 @@ fn ask<Rt: Wait, S: Sink + Drop, H: House>(
     window: &mut Window<H>,
     who: Who,
     command: &Command,
-) -> Reply
+    reply: &mut Reply,
+)
     requires { is_act command.now ≡ true }
-    ensures told { Told H.lab window.old who command.now result window.new }
-    ensures about { IsAbout H.lab.ids H.lab.roster result }
+    ensures told { Told H.lab window.old who command.now reply.new window.new }
+    ensures about { IsAbout H.lab.ids H.lab.roster reply.new }
 {
     let desk = setting.desk;
     match desk.ask(setting.rt, setting.alloc, window, who, command) {
@@ -178,8 +208,16 @@ fn ask<Rt: Wait, S: Sink + Drop, H: House>(
             place,
             number,
             done,
-        } => reply_of_done(number, place, done),
-        Answer::Denied(denial) => Reply::Deny(denial),
-        Answer::Refused(refusal) => Reply::Refuse(Refused::from(refusal)),
+        } => put_in(reply, reply_of_done(number, place, done)),
+        Answer::Denied(denial) => put_in(reply, Reply::Deny(denial)),
+        Answer::Refused(refusal) => put_in(reply, Reply::Refuse(Refused::from(refusal))),
     }
+}
+
+// Puts a reply in the place of another.
+#[inline(always)]
+fn put_in(place: &mut Reply, reply: Reply)
+    ensures { place.new ≡ reply }
+{
+    *place = reply;
 }

@@ -3,6 +3,7 @@ ghost use Rattle.std.specs.Prelude.{◌≡◌, ◌<◌, ◌++◌, [], length, ta
 ghost use Rattle.std.specs.Io.KnownBytes.{Appends};
 ghost use Rattle.mml_session.specs.Holding.{Holds};
 
+use mml_codec::REPLY_ROOM;
 use mml_ids::Memory;
 use mml_lines::{WriteFault, put_all, put_both};
 use std::alloc::Global;
@@ -25,7 +26,7 @@ impl Held {
         ensures { IfOk result (λ held. held.bytes.items ≡ []) }
     {
         Ok(Held {
-            bytes: Vec::with_capacity(alloc, HELD_BYTES)?,
+            bytes: Vec::with_capacity(alloc, HELD_BYTES + REPLY_ROOM)?,
             replies: 0,
         })
     }
@@ -50,14 +51,30 @@ impl Held {
         ensures none { IfErr result (λ _. self.new.bytes.items ≡ []) }
     {
         if self.hold(line) {
-            if at_once {
-                return self.let_out(writer);
-            }
-            return Ok(());
+            return self.keep(at_once, writer);
         }
         let came = put_both(&self.bytes, line, writer);
         self.bytes.clear();
         came
+    }
+
+    // Lets all that is held go out where that is asked, or where it is more than is held.
+    pub(crate) fn keep<W: Write>(&mut self, at_once: bool, writer: &mut W) -> Result<(), WriteFault>
+        ensures ok { OnOk result (Holds (W.contents writer.old) (W.contents writer.new)
+            self.old.bytes.items self.new.bytes.items) }
+        ensures out { OnOk result (IsTrue at_once → (self.new.bytes.items ≡ [])
+            × Appends (W.contents writer.old) (W.contents writer.new) self.old.bytes.items) }
+        ensures partial { IfErr result (λ fault.
+            fault.written < length self.old.bytes.items) }
+        ensures err { IfErr result (λ fault.
+            Appends (W.contents writer.old) (W.contents writer.new)
+            (take fault.written self.old.bytes.items)) }
+        ensures none { IfErr result (λ _. self.new.bytes.items ≡ []) }
+    {
+        if at_once || self.bytes.len() > HELD_BYTES {
+            return self.let_out(writer);
+        }
+        Ok(())
     }
 
     // Writes all that is held. Nothing is held then, also where that failed.

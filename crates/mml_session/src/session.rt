@@ -8,14 +8,15 @@ ghost use Rattle.mml_session.specs.Turns.{standing, is_bye, places_in};
 ghost use Rattle.mml_session.specs.Ends.{Ended, EndedKnown};
 ghost use Rattle.mml_session.specs.Records.{EndedRecorded, Records, entry_for, is_shown};
 ghost use Rattle.mml_session.specs.Holding.{LetsOut};
-ghost use Rattle.mml_session.specs.Serving.{SendsReply, ServesLine, ServesNext, next_after};
+ghost use Rattle.mml_session.specs.Serving.{SendsReply, ServesLine, ServesNext, Tells, next_after};
+ghost use Rattle.mml_codec.specs.Replies.{IsAbout};
 
-use crate::answering::answer;
+use crate::answering::answer_into;
 use crate::gate::{Gate, Point};
 use crate::held::Held;
 use crate::recorder::{NoRecorder, Recorder};
 use crate::setting::Setting;
-use mml_codec::{LineScratch, MAX_REQUEST, REPLY_ROOM, Reply, tell_reply};
+use mml_codec::{LineScratch, MAX_REQUEST, REPLY_ROOM, Reply, append_reply, tell_reply};
 use mml_ids::Memory;
 use mml_journal::Sink;
 use mml_lab::Who;
@@ -332,33 +333,74 @@ fn serve_line<Rt: Wait, S: Sink + Drop, H: House, W: Write, K: Recorder>(
         (W.contents writer.old) (W.contents writer.new)
         (K.kept recorder.old) (K.kept recorder.new) }
 {
+    let mut reply = Reply::Bye;
     let line = session.lines.bytes();
-    let reply = answer(
+    answer_into(
         setting,
         window,
         &mut session.known,
         line,
         &mut session.scratch,
+        &mut reply,
     )?;
-    let out = &mut session.reply;
-    let told = tell_reply(setting.alloc, window.ids(), window.roster(), reply, out);
     let judged = Judged {
         number: session.connection,
         seen: window.seen_count(),
         line,
+        is_next_unknown: session.lines.needs_read(),
     };
-    record(recorder, judged, &told, &session.reply);
-    let is_next_unknown = session.lines.needs_read();
-    let held = &mut session.held;
-    Ok(send(&told, &session.reply, held, is_next_unknown, writer))
+    Ok(tell(
+        setting.alloc,
+        window,
+        judged,
+        reply,
+        &mut session.held,
+        &mut session.reply,
+        writer,
+        recorder,
+    ))
 }
 
-// A line that was answered, in which place, and how many events the window had seen then.
+// A line that was answered, in which place, how many events the window had seen then, and whether what
+// comes next isn't known yet.
 #[derive(Clone, Copy)]
 struct Judged<'a> {
     number: u8,
     seen: u64,
     line: &'a [u8],
+    is_next_unknown: bool,
+}
+
+// Lets the reply of a line go out, or holds it, and gives it to the recorder. It is written behind what
+// is held, if it is short.
+fn tell<H: House, W: Write, K: Recorder>(
+    alloc: Global,
+    window: &Window<H>,
+    judged: Judged<'_>,
+    reply: Reply,
+    held: &mut Held,
+    out: &mut Vec<u8>,
+    writer: &mut W,
+    recorder: &mut K,
+) -> Said
+    requires room { REPLY_ROOM ≤ vec_capacity out.old }
+    requires about { IsAbout H.lab.ids H.lab.roster reply }
+    ensures room { REPLY_ROOM ≤ vec_capacity out.new }
+    ensures out { IsTrue judged.entry.is_next_unknown → held.new.bytes.items ≡ [] }
+    ensures tells { Tells result judged.entry.number H.lab judged.entry.seen judged.entry.line.now reply
+        held.old.bytes.items held.new.bytes.items
+        (W.contents writer.old) (W.contents writer.new)
+        (K.kept recorder.old) (K.kept recorder.new) }
+{
+    let place = held.bytes.len();
+    if append_reply(window.ids(), window.roster(), &reply, &mut held.bytes) {
+        let (_, line) = held.bytes.as_slice().split_at(place);
+        record(recorder, judged, &reply, line);
+        return send_held(&reply, held, judged.is_next_unknown, writer);
+    }
+    let told = tell_reply(alloc, window.ids(), window.roster(), reply, out);
+    record(recorder, judged, &told, out);
+    send(&told, out, held, judged.is_next_unknown, writer)
 }
 
 // Gives a recorder a line that was answered, unless its reply shows what it asked for.
@@ -409,6 +451,20 @@ fn send<W: Write>(
 {
     let is_last = is_bye(reply);
     match held.put(line, at_once || is_last, writer) {
+        Ok(()) => { if is_last { Said::Bye } else { Said::Told } }
+        Err(fault) => Said::Unwritten(fault.written),
+    }
+}
+
+// The same of a line that stands behind what is held already.
+fn send_held<W: Write>(reply: &Reply, held: &mut Held, at_once: bool, writer: &mut W) -> Said
+    ensures sends { SendsReply result reply.now held.old.bytes.items
+        [] held.new.bytes.items
+        (W.contents writer.old) (W.contents writer.new) }
+    ensures out { IsTrue at_once → held.new.bytes.items ≡ [] }
+{
+    let is_last = is_bye(reply);
+    match held.keep(at_once || is_last, writer) {
         Ok(()) => { if is_last { Said::Bye } else { Said::Told } }
         Err(fault) => Said::Unwritten(fault.written),
     }

@@ -1,4 +1,4 @@
-use Rattle.std.proofs.Common.{sym, subst}
+use Rattle.std.proofs.Common.{sym, subst, ◌∙◌}
 use Rattle.mml_codec.specs.declared.reply.Refused.{Refused}
 use Rattle.mml_codec.specs.declared.reply.Reply.{Reply}
 use Rattle.mml_codec.specs.declared.reply.Reply.TheVariants as replies
@@ -8,15 +8,17 @@ use Rattle.mml_session.proofs.answering.ask.Goals as goal
 
 pub returns-in-Granted-clause-told : goal.returns-in-Granted-clause-told
 returns-in-Granted-clause-told g c =
-    subst (λ (r : Reply). Told g.H.House.lab c.args.window.now c.args.who c.args.command.now r c.ask.new.window) (sym c.reply_of_done.ensures)
+    subst (λ (r : Reply). Told g.H.House.lab c.args.window.now c.args.who c.args.command.now r c.ask.new.window) (sym (c.put_in.ensures ∙ c.reply_of_done.ensures))
     (granted_told g.H.House.lab c.args.window.now c.ask.new.window c.args.who c.args.command.now c.in-Granted.place c.in-Granted.number c.in-Granted.done
     c.in-Granted.ensures.answers)
 
 pub returns-in-Denied-clause-told : goal.returns-in-Denied-clause-told
 returns-in-Denied-clause-told g c =
-    denied_told g.H.House.lab c.args.window.now c.ask.new.window c.args.who c.args.command.now c.in-Denied.denial c.in-Denied.ensures.answers
+    subst (λ (r : Reply). Told g.H.House.lab c.args.window.now c.args.who c.args.command.now r c.ask.new.window) (sym c.put_in-in-Denied.ensures)
+    (denied_told g.H.House.lab c.args.window.now c.ask.new.window c.args.who c.args.command.now c.in-Denied.denial c.in-Denied.ensures.answers)
 
 pub returns-in-Refused-clause-told : goal.returns-in-Refused-clause-told
 returns-in-Refused-clause-told g c =
-    subst (λ (why : Refused). Told g.H.House.lab c.args.window.now c.args.who c.args.command.now (replies.Refuse why) c.ask.new.window) (sym c.from.ensures)
-    (refused_told g.H.House.lab c.args.window.now c.ask.new.window c.args.who c.args.command.now c.in-Refused.refusal c.in-Refused.ensures.answers)
+    subst (λ (r : Reply). Told g.H.House.lab c.args.window.now c.args.who c.args.command.now r c.ask.new.window) (sym c.put_in-in-Refused.ensures)
+    (subst (λ (why : Refused). Told g.H.House.lab c.args.window.now c.args.who c.args.command.now (replies.Refuse why) c.ask.new.window) (sym c.from.ensures)
+    (refused_told g.H.House.lab c.args.window.now c.ask.new.window c.args.who c.args.command.now c.in-Refused.refusal c.in-Refused.ensures.answers))
