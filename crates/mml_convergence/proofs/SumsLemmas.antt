@@ -52,7 +52,7 @@ count_some (suc n) i t lt on = grind (arith, count_some n i t)
 
 -- ---- pairs of numbers, counted by either
 
-sum_zero : (n : ℕ) → sum_below n (λ i. 0) ≡ 0
+pub sum_zero : (n : ℕ) → sum_below n (λ i. 0) ≡ 0
 sum_zero zero = refl
 sum_zero (suc n) = omega (arith, sum_zero n)
 

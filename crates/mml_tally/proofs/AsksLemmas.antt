@@ -1,22 +1,17 @@
 -- Each line is of one student, or of others; and other names change nothing.
-use Rattle.std.proofs.Common.{◌≡◌, ℕ, ◌+◌, Bool, true, false, cond, ◌&&◌, ◌||◌, eqb, List, [], ◌∷◌, map, Option, None, Some, is_some, is_none, option_map, ◌↔◌}
-use Rattle.std.proofs.Common.{inl, inr, refl, ap, ◌∙◌, sym, arith}
+use Rattle.std.proofs.Common.{◌≡◌, ℕ, ◌+◌, Bool, true, false, cond, ◌&&◌, eqb, List, [], ◌∷◌, map, Option, None, Some, is_some, is_none, option_map, ◌↔◌}
+use Rattle.std.proofs.Common.{inl, inr, refl, ◌∙◌, sym, arith}
 use Rattle.std.specs.Prelude.{count_by}
-use Rattle.std.proofs.lemmas.Bool.{cases_eq, or_cases, ne_eqb, eqb-true}
-use Rattle.std.proofs.lemmas.List.Sums.{sum_by-cons}
+use Rattle.std.proofs.lemmas.Bool.{cases_eq, ne_eqb}
+use Rattle.std.proofs.lemmas.Bool.Decides.{nat_tests}
 use Rattle.mml_convergence.specs.Potential.{sum_below}
-use Rattle.mml_convergence.proofs.SumsLemmas.{sum_split, sum_of_tests}
+use Rattle.mml_convergence.proofs.SumsLemmas.{sum_zero, sum_split, sum_of_tests}
 use Rattle.mml_tally.specs.declared.ask.Ask.{Ask}
 use Rattle.mml_tally.specs.declared.ask.Line.{Line}
 use Rattle.mml_tally.specs.Asks.{is_student, asks_by, is_clause, denials_in, denials_of}
 use Rattle.mml_tally.specs.AskMeaning.{asks_of_others, is_denied, total_denied, is_numbered, IsKnownOf, AreAsksOf, asked_under}
-use Rattle.mml_tally.proofs.CountsLemmas.{one}
+use Rattle.mml_tally.proofs.CountsLemmas.{one, more}
 use Rattle.mml_tally.proofs.AppliedLemmas.{only_one}
-use Rattle.mml_tally.proofs.MarksLemmas.{zero_sum}
-
--- one line more at the front of those that are counted
-more : (p : Ask → Bool) (a : Ask) (asks : List Ask) → count_by p (a ∷ asks) ≡ one (p a) + count_by p asks
-more p a asks = sum_by-cons (λ x. cond (p x) 1 0) a asks
 
 -- a line that is left out, or kept, by a test
 kept : (test : Ask → Bool) (a : Ask) (asks : List Ask) (b : Bool) → count_by test (cond b (a ∷ asks) asks) ≡ one (b && test a) + count_by test asks
@@ -27,42 +22,27 @@ kept test a asks false = omega arith
 
 own : (n : ℕ) (w : Option ℕ) (d : Option ℕ) (b : Bool) → IsKnownOf n w d
     → sum_below n (λ s. one (is_student s w && b)) + one (is_none w && b) ≡ one b
-own n None d b h = let none = zero_sum n in omega (arith, none)
+own n None d b h = omega (arith, sum_zero n)
 own n (Some t) d b h =
     let its : sum_below n (λ s. one (eqb t s && b)) ≡ one b = sum_of_tests n (λ s. eqb t s && b) ∙ only_one n t b h.0 in omega (arith, its)
 
 pub asks_sum : (test : Ask → Bool) (n : ℕ) (asks : List Ask) → AreAsksOf n asks
     → sum_below n (λ s. count_by test (asks_by s asks)) + count_by test (asks_of_others asks) ≡ count_by test asks
-asks_sum test n [] h = let none = zero_sum n in omega (arith, none)
+asks_sum test n [] h = omega (arith, sum_zero n)
 asks_sum test n (a ∷ asks) h =
     let rest = asks_sum test n asks h.1 in
     let each : sum_below n (λ s. count_by test (asks_by s (a ∷ asks))) ≡ sum_below n (λ s. one (is_student s a.who && test a) + count_by test (asks_by s asks)) =
     λ k. sum_below n (λ s. kept test a (asks_by s asks) (is_student s a.who) k) in
     let split = sum_split n (λ s. one (is_student s a.who && test a)) (λ s. count_by test (asks_by s asks)) in
-    let its = own n a.who a.denied (test a) h.0 in
     let others = kept test a (asks_of_others asks) (is_none a.who) in
-    let front = more test a asks in
-    omega (arith, rest, each, split, its, others, front)
+    omega (arith, rest, each, split, own n a.who a.denied (test a) h.0, others, more test a asks)
 
 -- ---- a clause from 1 to 4 denied it
 
 one_clause : (d : Option ℕ) → is_numbered d ≡ true
     → one (is_clause 1 d) + one (is_clause 2 d) + one (is_clause 3 d) + one (is_clause 4 d) ≡ one (is_some d)
 one_clause None h = refl
-one_clause (Some c) h = elim (or_cases (eqb c 1) (eqb c 2 || (eqb c 3 || eqb c 4)) h) [
-  | inl e ↦ is 1 (eqb-true c 1 e) refl
-  | inr f ↦ elim (or_cases (eqb c 2) (eqb c 3 || eqb c 4) f) [
-    | inl e ↦ is 2 (eqb-true c 2 e) refl
-    | inr g ↦ elim (or_cases (eqb c 3) (eqb c 4) g) [
-      | inl e ↦ is 3 (eqb-true c 3 e) refl
-      | inr e ↦ is 4 (eqb-true c 4 e) refl
-    ]
-  ]
-]
-  where
-    is : (k : ℕ) → c ≡ k → one (eqb k 1) + one (eqb k 2) + one (eqb k 3) + one (eqb k 4) ≡ 1
-        → one (eqb c 1) + one (eqb c 2) + one (eqb c 3) + one (eqb c 4) ≡ 1
-    is k e h = ap (λ x. one (eqb x 1) + one (eqb x 2) + one (eqb x 3) + one (eqb x 4)) e ∙ h
+one_clause (Some c) h = grind (arith, nat_tests)
 
 numbered : (s n : ℕ) (w : Option ℕ) (d : Option ℕ) → IsKnownOf n w d → is_student s w ≡ true → is_numbered d ≡ true
 numbered s n None d h b = absurd cc
@@ -71,13 +51,8 @@ numbered s n (Some t) d h b = h.1
 total_more : (a : Ask) (asks : List Ask) → is_numbered a.denied ≡ true → total_denied (denials_in asks) ≡ count_by is_denied asks
     → total_denied (denials_in (a ∷ asks)) ≡ count_by is_denied (a ∷ asks)
 total_more a asks h rest =
-    let first = more (λ x. is_clause 1 x.denied) a asks in
-    let second = more (λ x. is_clause 2 x.denied) a asks in
-    let third = more (λ x. is_clause 3 x.denied) a asks in
-    let fourth = more (λ x. is_clause 4 x.denied) a asks in
-    let all = more is_denied a asks in
-    let its = one_clause a.denied h in
-    omega (arith, rest, first, second, third, fourth, all, its)
+    let clause = λ (n : ℕ). more (λ (x : Ask). is_clause n x.denied) a asks in
+    omega (arith, rest, clause 1, clause 2, clause 3, clause 4, more is_denied a asks, one_clause a.denied h)
 
 pub total_is : (s n : ℕ) (asks : List Ask) → AreAsksOf n asks → total_denied (denials_of asks s) ≡ count_by is_denied (asks_by s asks)
 total_is s n [] h = refl
@@ -93,8 +68,7 @@ pub denied_sum : (n : ℕ) (asks : List Ask) → AreAsksOf n asks
 denied_sum n asks h =
     let each : sum_below n (λ s. total_denied (denials_of asks s)) ≡ sum_below n (λ s. count_by is_denied (asks_by s asks)) =
     λ k. sum_below n (λ s. total_is s n asks h k) in
-    let all = asks_sum is_denied n asks h in
-    omega (arith, each, all)
+    omega (arith, each, asks_sum is_denied n asks h)
 
 -- ---- other names change nothing
 
@@ -109,9 +83,7 @@ module _ (f : ℕ → ℕ) (s : ℕ) (same : (t : ℕ) → (f t ≡ s) ↔ (t �
     | inl is ↦
         let stays : f t ≡ t = (same t).1 is ∙ sym is in
         λ k. cond (eqb (stays k) s) (told (Some (stays k)) l d ∷ e k) (e k)
-    | inr not_s ↦
-        ap (λ b. cond b (told (Some (f t)) l d ∷ xs) xs) (ne_eqb (f t) s (λ is. not_s ((same t).0 is)))
-        ∙ e ∙ sym (ap (λ b. cond b (told (Some t) l d ∷ ys) ys) (ne_eqb t s not_s))
+    | inr not_s ↦ rw (ne_eqb (f t) s (λ is. not_s ((same t).0 is)), ne_eqb t s not_s) e
   ]
 
   pub asks_under : (asks : List Ask) → asks_by s (map (asked_under f) asks) ≡ asks_by s asks

@@ -24,5 +24,4 @@ pub rounds_are : (n : ℕ) → 2 * n - n % 2 ≡ rounds_for n
 rounds_are zero = refl
 rounds_are (suc zero) = refl
 rounds_are (suc (suc n)) =
-    let rest = rounds_are n in
-    omega (arith, rest)
+    omega (arith, rounds_are n)

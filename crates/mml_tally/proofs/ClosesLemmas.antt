@@ -2,7 +2,8 @@
 use Rattle.std.proofs.Common.{◌≡◌, ◌⊎◌, ℕ, zero, suc, ◌+◌, ◌<◌, ◌≤◌, Bool, true, false, cond, ◌&&◌, ◌||◌, eqb, ltb, List, [], ◌∷◌, length}
 use Rattle.std.proofs.Common.{Some, None, unwrap_or, inl, inr, refl, ap, ◌∙◌, sym, arith}
 use Rattle.std.specs.List.{filter, list_any}
-use Rattle.std.proofs.lemmas.Bool.{cases_eq, cases_order, or_cases, eq-eqb, ne_eqb, eqb-true, lt-ltb, le-ltb, false_from_ne_true, and_right}
+use Rattle.std.proofs.lemmas.Bool.{cases_eq, or_cases, eqb-true, lt-ltb, false_from_ne_true, and_right}
+use Rattle.std.proofs.lemmas.Bool.Decides.{nat_tests}
 use Rattle.mml_ids.specs.Search.{count_below}
 use Rattle.mml_board.specs.declared.event.Event.{Event}
 use Rattle.mml_board.specs.declared.event.Event.TheVariants as event
@@ -50,9 +51,7 @@ fate_next last i q (event.Release j ∷ es) = go (eqb j i) (fate_next last i (q 
     go true h = record { which = inl refl }
     go false h = next_earlier last q (event.Release j) es _ refl h
 fate_next last i q (event.Close ∷ es) = record { which = inr (refl, omega arith) }
-fate_next last i q (event.Fault j registers ∷ es) = record { which = inl refl }
-fate_next last i q (event.Link a b ∷ es) = record { which = inl refl }
-fate_next last i q (event.Cut a b ∷ es) = record { which = inl refl }
+fate_next last i q (_ ∷ es) = record { which = inl refl }
 
 -- ---- so they come in order
 
@@ -109,61 +108,38 @@ at_close last q fate.Chosen e = cc
 pub none_before : (n last q : ℕ) (ms : List Move) → Rising n last ms → some_at q ms ≡ true → last ≤ q
 none_before n last q [] h e = cc
 none_before n last q (m ∷ ms) h e = elim (or_cases (is_fate_at q m.fate) (some_at q ms) e) [
-  | inl here ↦ let at = at_close last q m.fate here in omega (arith, at, h.0)
-  | inr later ↦ let rest = none_before n (close_of last m.fate) q ms h.2 later in omega (arith, rest, h.0)
+  | inl here ↦ omega (arith, at_close last q m.fate here, h.0)
+  | inr later ↦ omega (arith, none_before n (close_of last m.fate) q ms h.2 later, h.0)
 ]
 
 -- ---- tests of a place, before and after the close of the first move is taken out
 
-at_it : (after is_it beyond rest : Bool) → after ≡ true → is_it ≡ true → beyond ≡ false → one (after && (is_it || rest)) ≡ one is_it + one (beyond && rest)
-at_it after is_it beyond rest a b c = rw (a, b, c) refl
-
-past_it : (after is_it beyond rest : Bool) → after ≡ true → is_it ≡ false → beyond ≡ true → one (after && (is_it || rest)) ≡ one is_it + one (beyond && rest)
-past_it after is_it beyond rest a b c = rw (a, b, c) (omega arith)
-
-before_it : (after is_it beyond rest : Bool) → is_it ≡ false → rest ≡ false → beyond ≡ false → one (after && (is_it || rest)) ≡ one is_it + one (beyond && rest)
-before_it true is_it beyond rest a b c = rw (a, b, c) refl
-before_it false is_it beyond rest a b c = rw (a, b, c) refl
-
 one_more : (n last p : ℕ) (ms : List Move) → Rising n p ms → last < p → (j : ℕ)
     → one (ltb last j && (eqb p j || some_at j ms)) ≡ one (eqb p j) + one (ltb p j && some_at j ms)
-one_more n last p ms h lt j = elim (cases_order p j) [
-  | inl e ↦ at_it (ltb last j) (eqb p j) (ltb p j) (some_at j ms) (lt-ltb last j (omega arith)) (eq-eqb p j e) (le-ltb p j (omega arith))
-  | inr o ↦ elim o [
-    | inl past ↦ past_it (ltb last j) (eqb p j) (ltb p j) (some_at j ms) (lt-ltb last j (omega arith)) (ne_eqb p j (λ e. omega arith)) (lt-ltb p j past)
-    | inr before ↦ before_it (ltb last j) (eqb p j) (ltb p j) (some_at j ms) (ne_eqb p j (λ e. omega arith))
-        (false_from_ne_true (some_at j ms) (λ s. let le = none_before n p j ms h s in omega arith)) (le-ltb p j (omega arith))
-  ]
-]
+one_more n last p ms h lt j = grind (arith, nat_tests, none_before n p j ms h)
 
 no_more : (p j : ℕ) (rest : Bool) → (ltb p j && rest) ≡ (ltb p j && (eqb p j || rest))
-no_more p j rest = elim (cases_order p j) [
-  | inl e ↦ rw (le-ltb p j (omega arith)) refl
-  | inr o ↦ rw (ne_eqb p j (λ e. elim o [ inl a ↦ omega arith | inr b ↦ omega arith ])) refl
-]
+no_more p j rest = grind (arith, nat_tests)
 
 pub counted : (n last : ℕ) (ms : List Move) → Rising n last ms → count_new last ms ≡ count_below (n + 1) (λ q. ltb last q && some_at q ms)
 counted n last [] h = sym (count_none (n + 1) (λ q. ltb last q && false) (λ j lt. and_right (ltb last j) false refl))
 counted n last (m ∷ ms) h = go m.fate (counted n (close_of last m.fate) ms h.2) h.0 h.1 h.2
   where
     same : (k : ℕ) → k ≡ count_below (n + 1) (λ q. ltb last q && some_at q ms) → cond (eqb last last) 0 1 + k ≡ count_below (n + 1) (λ q. ltb last q && some_at q ms)
-    same k e = let off : cond {A = ℕ} (eqb last last) 0 1 ≡ 0 = ap (λ b. cond b 0 1) (eq-eqb last last refl) in omega (arith, e, off)
+    same k e = grind (arith, nat_tests)
 
     go : (f : Fate) → count_new (close_of last f) ms ≡ count_below (n + 1) (λ q. ltb (close_of last f) q && some_at q ms) → last ≤ close_of last f
         → close_of last f ≤ n → Rising n (close_of last f) ms
         → cond (eqb (close_of last f) last) 0 1 + count_new (close_of last f) ms ≡ count_below (n + 1) (λ q. ltb last q && (is_fate_at q f || some_at q ms))
     go (fate.Applied p) rest le within rising = elim (cases_eq p last) [
       | inl e ↦
-          let off : cond {A = ℕ} (eqb p last) 0 1 ≡ 0 = ap (λ b. cond b 0 1) (eq-eqb p last e) in
           let alike = count_same (n + 1) (λ q. ltb p q && some_at q ms) (λ q. ltb last q && (eqb p q || some_at q ms))
           (λ j lt. no_more p j (some_at j ms) ∙ ap (λ z. ltb z j && (eqb p j || some_at j ms)) e) in
-          omega (arith, rest, off, alike)
+          grind (arith, nat_tests, rest, alike, e)
       | inr ne ↦
-          let on : cond {A = ℕ} (eqb p last) 0 1 ≡ 1 = ap (λ b. cond b 0 1) (ne_eqb p last ne) in
           let split = count_split (n + 1) (λ q. ltb last q && (eqb p q || some_at q ms)) (eqb p) (λ q. ltb p q && some_at q ms)
           (λ j lt. one_more n last p ms rising (omega (arith, ne)) j) in
-          let it = count_one (n + 1) p (omega arith) in
-          omega (arith, rest, on, split, it)
+          grind (arith, nat_tests, rest, split, count_one (n + 1) p (omega arith), ne)
     ]
     go fate.Released rest le within rising = same _ rest
     go fate.Dropped rest le within rising = same _ rest
@@ -190,9 +166,7 @@ none_applied n (m ∷ ms) h none = go m.fate (none_applied n ms) h.0 h.2 none
   where
     go : (f : Fate) → (Rising n 1 ms → count_new 0 ms ≡ 0 → filter is_applied ms ≡ []) → 1 ≤ close_of 1 f → Rising n (close_of 1 f) ms → cond (eqb (close_of 0 f) 0) 0 1 + count_new (close_of 0 f) ms ≡ 0
         → cond (is_fate_applied f) (m ∷ filter is_applied ms) (filter is_applied ms) ≡ []
-    go (fate.Applied p) rest some rising none =
-        let on : cond {A = ℕ} (eqb p 0) 0 1 ≡ 1 = ap (λ b. cond b 0 1) (ne_eqb p 0 (λ e. omega (arith, e, some))) in
-        absurd (omega (arith, on, none))
+    go (fate.Applied p) rest some rising none = absurd (grind (arith, nat_tests))
     go fate.Released rest some rising none = rest rising (omega (arith, none))
     go fate.Dropped rest some rising none = rest rising (omega (arith, none))
     go fate.Chosen rest some rising none = rest rising (omega (arith, none))

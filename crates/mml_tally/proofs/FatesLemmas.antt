@@ -31,9 +31,7 @@ close_found i q p (event.Release j ∷ es) h = go (eqb j i) refl h (close_found 
 close_found i q p (event.Close ∷ es) h =
     let same : q ≡ p = cc in
     record { between = []; later = es; events = refl; leave = refl; place = omega (arith, same) }
-close_found i q p (event.Fault j registers ∷ es) h = cc
-close_found i q p (event.Link a b ∷ es) h = cc
-close_found i q p (event.Cut a b ∷ es) h = cc
+close_found i q p (_ ∷ es) h = cc
 
 applied_past : (i q : ℕ) (between later : List Event) → list_all (leaves i) between ≡ true
     → fate_of i q (between ++ event.Close ∷ later) ≡ fate.Applied (q + length between)
@@ -43,10 +41,7 @@ applied_past i q (event.Release j ∷ between) later h =
     let parts = and_parts (not (eqb j i)) (list_all (leaves i) between) h in
     ap (λ b. unwrap_or (cond b (Some fate.Released) None) (fate_of i (q + 1) (between ++ event.Close ∷ later))) (not-true (eqb j i) parts.0)
     ∙ applied_past i (q + 1) between later parts.1 ∙ ap fate.Applied (omega arith)
-applied_past i q (event.Close ∷ between) later h = absurd (false≢true h)
-applied_past i q (event.Fault j registers ∷ between) later h = absurd (false≢true h)
-applied_past i q (event.Link a b ∷ between) later h = absurd (false≢true h)
-applied_past i q (event.Cut a b ∷ between) later h = absurd (false≢true h)
+applied_past i q (_ ∷ between) later h = absurd (false≢true h)
 
 pub applied_by_close : (i q p : ℕ) (es : List Event) → (fate_of i q es ≡ fate.Applied p) ↔ IsNextClose i q p es
 applied_by_close i q p es = (

@@ -1,8 +1,8 @@
 -- What students' marks add up to, and what they don't depend on.
-use Rattle.std.proofs.Common.{◌≡◌, ◌↔◌, ℕ, zero, suc, ◌+◌, ◌<◌, Bool, true, false, cond, ◌&&◌, eqb, List, [], ◌∷◌, unwrap_or, map}
+use Rattle.std.proofs.Common.{◌≡◌, ◌↔◌, ℕ, suc, ◌+◌, ◌<◌, Bool, true, false, cond, ◌&&◌, eqb, List, [], ◌∷◌, unwrap_or, map}
 use Rattle.std.proofs.Common.{inl, inr, refl, ap, ◌∙◌, sym, arith, length}
 use Rattle.std.specs.Prelude.{count_by}
-use Rattle.std.proofs.lemmas.Bool.{cases_eq, eq-eqb, ne_eqb}
+use Rattle.std.proofs.lemmas.Bool.{cases_eq, ne_eqb}
 use Rattle.std.proofs.lemmas.List.Sums.{length-filter}
 use Rattle.mml_rules.specs.declared.rule.Kind.{Kind}
 use Rattle.mml_rules.specs.declared.rule.Kind.TheVariants as kind
@@ -10,15 +10,15 @@ use Rattle.mml_rules.specs.Rules.{kind_of}
 use Rattle.mml_board.specs.declared.event.Event.{Event}
 use Rattle.mml_board.specs.declared.event.Event.TheVariants as event
 use Rattle.mml_convergence.specs.Potential.{sum_below}
-use Rattle.mml_convergence.proofs.SumsLemmas.{sum_split, sum_of_tests}
+use Rattle.mml_convergence.proofs.SumsLemmas.{sum_zero, sum_split, sum_of_tests}
 use Rattle.mml_tally.specs.declared.fate.Fate.{Fate}
 use Rattle.mml_tally.specs.declared.fate.Fate.TheVariants as fate
 use Rattle.mml_tally.specs.declared.granted_move.Move.{Move}
 use Rattle.mml_tally.specs.Moves.{ended_by, fate_of, moves_from}
 use Rattle.mml_tally.specs.Marks.{is_kind, is_fate_applied, is_applied, applied, by_rule, moves_by}
 use Rattle.mml_tally.specs.Meaning.{total, is_fate_released, is_fate_dropped, is_fate_left, is_released, is_dropped, is_left, asked_as}
-use Rattle.mml_tally.proofs.CountsLemmas.{one}
-use Rattle.mml_tally.proofs.AppliedLemmas.{count-cons, only_one}
+use Rattle.mml_tally.proofs.CountsLemmas.{one, more}
+use Rattle.mml_tally.proofs.AppliedLemmas.{only_one}
 
 -- ---- each move is of one rule
 
@@ -31,13 +31,8 @@ one_kind kind.Abandonment = refl
 pub total_is : (ms : List Move) → total (by_rule ms) ≡ length ms
 total_is [] = refl
 total_is (m ∷ ms) =
-    let rest = total_is ms in
-    let update = count-cons (λ x. is_kind kind.Update x.kind) m ms in
-    let marriage = count-cons (λ x. is_kind kind.Marriage x.kind) m ms in
-    let seduction = count-cons (λ x. is_kind kind.Seduction x.kind) m ms in
-    let abandonment = count-cons (λ x. is_kind kind.Abandonment x.kind) m ms in
-    let kinds = one_kind m.kind in
-    omega (arith, rest, update, marriage, seduction, abandonment, kinds)
+    let of = λ (k : Kind). more (λ (x : Move). is_kind k x.kind) m ms in
+    omega (arith, total_is ms, of kind.Update, of kind.Marriage, of kind.Seduction, of kind.Abandonment, one_kind m.kind)
 
 pub total_applied : (ms : List Move) → total (by_rule (applied ms)) ≡ count_by is_applied ms
 total_applied ms = total_is (applied ms) ∙ length-filter is_applied ms
@@ -53,13 +48,7 @@ one_fate fate.Chosen = refl
 pub all_fates : (ms : List Move) → length ms ≡ count_by is_applied ms + count_by is_released ms + count_by is_dropped ms + count_by is_left ms
 all_fates [] = refl
 all_fates (m ∷ ms) =
-    let rest = all_fates ms in
-    let applied = count-cons is_applied m ms in
-    let released = count-cons is_released m ms in
-    let dropped = count-cons is_dropped m ms in
-    let left = count-cons is_left m ms in
-    let fates = one_fate m.fate in
-    omega (arith, rest, applied, released, dropped, left, fates)
+    omega (arith, all_fates ms, more is_applied m ms, more is_released m ms, more is_dropped m ms, more is_left m ms, one_fate m.fate)
 
 -- ---- and was asked for by one student
 
@@ -68,29 +57,24 @@ abbrev pub AllOf : ℕ → List Move → Type 0
 AllOf n [] = Unit {0}
 AllOf n (m ∷ ms) = (m.who < n) × AllOf n ms
 
-pub zero_sum : (n : ℕ) → sum_below n (λ s. 0) ≡ 0
-zero_sum zero = refl
-zero_sum (suc n) = let rest = zero_sum n in omega (arith, rest)
-
 -- the moves of s, with one more at the front
 one_by : (test : Move → Bool) (m : Move) (ms : List Move) (s : ℕ)
     → count_by test (moves_by s (m ∷ ms)) ≡ one (eqb m.who s && test m) + count_by test (moves_by s ms)
 one_by test m ms s = go (eqb m.who s)
   where
     go : (b : Bool) → count_by test (cond b (m ∷ moves_by s ms) (moves_by s ms)) ≡ one (b && test m) + count_by test (moves_by s ms)
-    go true = count-cons test m (moves_by s ms)
+    go true = more test m (moves_by s ms)
     go false = omega arith
 
 pub students_sum : (test : Move → Bool) (n : ℕ) (ms : List Move) → AllOf n ms → sum_below n (λ s. count_by test (moves_by s ms)) ≡ count_by test ms
-students_sum test n [] h = zero_sum n
+students_sum test n [] h = sum_zero n
 students_sum test n (m ∷ ms) h =
     let rest = students_sum test n ms h.1 in
     let each : sum_below n (λ s. count_by test (moves_by s (m ∷ ms))) ≡ sum_below n (λ s. one (eqb m.who s && test m) + count_by test (moves_by s ms)) =
     λ k. sum_below n (λ s. one_by test m ms s k) in
     let split = sum_split n (λ s. one (eqb m.who s && test m)) (λ s. count_by test (moves_by s ms)) in
     let its : sum_below n (λ s. one (eqb m.who s && test m)) ≡ one (test m) = sum_of_tests n (λ s. eqb m.who s && test m) ∙ only_one n m.who (test m) h.0 in
-    let front = count-cons test m ms in
-    omega (arith, rest, each, split, its, front)
+    omega (arith, rest, each, split, its, more test m ms)
 
 -- ---- other names change nothing
 
@@ -113,31 +97,13 @@ moves_as f s q (event.Grant t i rule ∷ es) own = elim (cases_eq t s) [
   | inl e ↦
       let same : f t ≡ t = (own t).1 e ∙ sym e in
       let rest = moves_as f s (q + 1) es own in
-      at_own (f t) t rest same (ap (λ x. eqb x s) same ∙ eq-eqb t s e) (eq-eqb t s e)
-  | inr ne ↦ at_other (f t) t (moves_as f s (q + 1) es own) (ne_eqb (f t) s (λ e. ne ((own t).0 e))) (ne_eqb t s ne)
+      λ k. cond (eqb (same k) s) (its (same k) (fate_as f i (q + 1) es k) ∷ rest k) (rest k)
+  | inr ne ↦ rw (ne_eqb (f t) s (λ e. ne ((own t).0 e)), ne_eqb t s ne) (moves_as f s (q + 1) es own)
 ]
   where
     its : ℕ → Fate → Move
     its x g = record { place = q; who = x; node = i; kind = kind_of rule; fate = g }
-
-    at_own : (x t : ℕ) → moves_by s (moves_from (q + 1) (map (asked_as f) es)) ≡ moves_by s (moves_from (q + 1) es) → x ≡ t → eqb x s ≡ true → eqb t s ≡ true
-        → moves_by s (its x (fate_of i (q + 1) (map (asked_as f) es)) ∷ moves_from (q + 1) (map (asked_as f) es))
-        ≡ moves_by s (its t (fate_of i (q + 1) es) ∷ moves_from (q + 1) es)
-    at_own x t rest same a b = λ k. cond ((a ∙ sym b) k) (its (same k) (fate_as f i (q + 1) es k) ∷ rest k) (rest k)
-
-    at_other : (x t : ℕ) → moves_by s (moves_from (q + 1) (map (asked_as f) es)) ≡ moves_by s (moves_from (q + 1) es) → eqb x s ≡ false → eqb t s ≡ false
-        → moves_by s (its x (fate_of i (q + 1) (map (asked_as f) es)) ∷ moves_from (q + 1) (map (asked_as f) es))
-        ≡ moves_by s (its t (fate_of i (q + 1) es) ∷ moves_from (q + 1) es)
-    at_other x t rest a b =
-        ap (λ b. cond b (its x (fate_of i (q + 1) (map (asked_as f) es)) ∷ moves_by s (moves_from (q + 1) (map (asked_as f) es)))
-        (moves_by s (moves_from (q + 1) (map (asked_as f) es)))) a
-        ∙ rest
-        ∙ sym (ap (λ b. cond b (its t (fate_of i (q + 1) es) ∷ moves_by s (moves_from (q + 1) es)) (moves_by s (moves_from (q + 1) es))) b)
-moves_as f s q (event.Release i ∷ es) own = moves_as f s (q + 1) es own
-moves_as f s q (event.Close ∷ es) own = moves_as f s (q + 1) es own
-moves_as f s q (event.Fault i registers ∷ es) own = moves_as f s (q + 1) es own
-moves_as f s q (event.Link a b ∷ es) own = moves_as f s (q + 1) es own
-moves_as f s q (event.Cut a b ∷ es) own = moves_as f s (q + 1) es own
+moves_as f s q (_ ∷ es) own = moves_as f s (q + 1) es own
 
 pub length_as : (f : ℕ → ℕ) (es : List Event) → length (map (asked_as f) es) ≡ length es
 length_as f [] = refl

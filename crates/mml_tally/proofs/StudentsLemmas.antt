@@ -43,11 +43,7 @@ askers_there r w q (event.Grant s i rule ∷ es) known legal =
     let here = and_parts (is_legal r w e) (is_legal_list r (after w e) es) legal in
     let asked = and_parts (owns r (who.Student s) i) (is_possible w e) here.0 in
     (owner_there r s i known asked.0, askers_there r (after w e) (q + 1) es known here.1)
-askers_there r w q (event.Release i ∷ es) known legal = askers_there r _ (q + 1) es known (and_parts (is_legal r w (event.Release i)) _ legal).1
-askers_there r w q (event.Close ∷ es) known legal = askers_there r _ (q + 1) es known (and_parts (is_legal r w event.Close) _ legal).1
-askers_there r w q (event.Fault i registers ∷ es) known legal = askers_there r _ (q + 1) es known (and_parts (is_legal r w (event.Fault i registers)) _ legal).1
-askers_there r w q (event.Link a b ∷ es) known legal = askers_there r _ (q + 1) es known (and_parts (is_legal r w (event.Link a b)) _ legal).1
-askers_there r w q (event.Cut a b ∷ es) known legal = askers_there r _ (q + 1) es known (and_parts (is_legal r w (event.Cut a b)) _ legal).1
+askers_there r w q (_ ∷ es) known legal = askers_there r _ (q + 1) es known (and_parts _ _ legal).1
 
 opening-world : (lab : LabValue) → IsLab lab → IsWorld (opening_of lab.network)
 opening-world lab known = record {
@@ -60,9 +56,8 @@ pub run_applies : (lab : LabValue) (es : List Event) → IsLab lab → is_legal_
     → (run_of es).moves ≡ applied_over (opening_of lab.network) es
 run_applies lab es known legal =
     let w = opening_of lab.network in
-    let all = applied_is lab.roster w 1 es (opening-world lab known) legal in
     let none = nothing_pending w (size w) 1 es (unchosen (length lab.network.registers)) in
-    omega (arith, all, none)
+    omega (arith, applied_is lab.roster w 1 es (opening-world lab known) legal, none)
 
 pub students_apply : (lab : LabValue) (es : List Event) → IsLab lab → is_legal_list lab.roster (opening_of lab.network) es ≡ true
     → sum_below (length lab.roster.students) (λ s. total (marks_of lab.roster es s).applied) ≡ applied_over (opening_of lab.network) es

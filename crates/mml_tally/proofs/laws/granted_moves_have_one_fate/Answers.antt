@@ -7,7 +7,4 @@ use Rattle.mml_tally.proofs.laws.granted_moves_have_one_fate.Goals as goal
 pub returns : goal.returns
 returns c = λ r es s.
     let own = moves_by s (moves es) in
-    let all = total_is own in
-    let some = total_applied own in
-    let fates = all_fates own in
-    omega (arith, all, some, fates)
+    omega (arith, total_is own, total_applied own, all_fates own)
