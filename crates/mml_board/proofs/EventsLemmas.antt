@@ -54,9 +54,6 @@ module _ (w : World) (a b i : ℕ) (la : a < size w) (lb : b < size w) where
   pub null-cut : (configuration w).p i ≡ None → (configuration_of (without_link w.network a b)).p i ≡ None
   null-cut h = p_is ∙ null_twice (eqb i a && holds ((configuration w).p i) b) (eqb i b) a ((configuration w).p i) h
 
-  abbrev cut_some : ℕ → Bool → Bool → Option ℕ
-  cut_some j x y = cond (y && holds (cond x None (Some j)) a) None (cond x None (Some j))
-
   pub others-cut : (j : ℕ) → (configuration w).p i ≡ Some j → (AreEnds a b i j → ⊥) → (configuration_of (without_link w.network a b)).p i ≡ Some j
   others-cut j h apart = grind (arith, p_is, both_are)
 
