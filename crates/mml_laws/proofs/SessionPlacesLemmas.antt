@@ -8,8 +8,6 @@ use Rattle.mml_board.specs.Events.{after}
 use Rattle.mml_policy.specs.declared.command.Command.{Command}
 use Rattle.mml_policy.specs.declared.ruling.Ruling.{Ruling}
 use Rattle.mml_policy.specs.Rulings.{event_of, after_ruling}
-use Rattle.mml_codec.specs.declared.greeting.Greeting.{Greeting}
-use Rattle.mml_codec.specs.declared.greeting.Greeting.TheVariants.{Answered, LeftToJudge}
 use Rattle.mml_codec.specs.declared.request.LineFault.{LineFault}
 use Rattle.mml_codec.specs.declared.request.Request.{Request}
 use Rattle.mml_codec.specs.declared.request.Request.TheVariants as requests
@@ -19,54 +17,18 @@ use Rattle.mml_codec.specs.Lines.{request_in}
 use Rattle.mml_codec.specs.Replies.{place_in}
 use Rattle.mml_codec.specs.Rulings.{reply_of, reply_of_done}
 use Rattle.mml_lab.specs.Rosters.{principal}
-use Rattle.mml_window.specs.Windows.{WindowValue}
+use Rattle.mml_lines.proofs.RunsLemmas.{run_at_each}
 use Rattle.mml_window.specs.Lists.{is_legal_in, world_in, ruling_at}
 use Rattle.mml_window.proofs.ListLemmas as lists
-use Rattle.mml_window.proofs.PrefixLemmas.{prefix_self, prefix_trans, prefix_more}
+use Rattle.mml_window.proofs.PrefixLemmas.{prefix_trans}
 use Rattle.mml_session.specs.Talks.{Talk, LineTurn}
-use Rattle.mml_session.specs.Turns.{Standing, entered, Told, Plainly, Refuses, Settles, Asked, Turn, Run}
+use Rattle.mml_session.specs.Turns.{Standing, entered, Told, Plainly, Refuses, Settles, Asked, Turn}
+use Rattle.mml_session.proofs.TalkLemmas.{turn_on}
 use Rattle.mml_laws.specs.Told.{IsToldAt, NamesItsEventIn, EachNamesItsEventIn}
 use Rattle.mml_laws.proofs.ToldAtLemmas.{names_grant, told_at, longer}
 
 none_named : (r : Reply) (p : ℕ) → place_in r ≡ None → place_in r ≡ Some p → ⊥
 none_named r p none some = cc
-
--- ---- what was seen goes on
-
-same_seen : (st next : Standing) → next.window ≡ st.window → IsPrefix st.window.seen next.window.seen
-same_seen st next same = subst (λ (w : WindowValue). IsPrefix st.window.seen w.seen) (sym same) (prefix_self st.window.seen)
-
-entered_seen : (seen l : List Event) (e : Option Event) → IsPrefix seen l → IsPrefix seen (entered l e)
-entered_seen seen l None p = p
-entered_seen seen l (Some e) p = prefix_more seen l (e ∷ []) p
-
-module _ (lab : LabValue) where
-  told_seen : (old new : WindowValue) (x : Who) (c : Command) (r : Reply) → Told lab old x c r new → IsPrefix old.seen new.seen
-  told_seen old new x c r t = by t.says
-    where
-      by : Plainly lab t.list old.places (ruling_at lab (world_in lab t.list) x c) r new
-          ⊎ Refuses t.list old.places (ruling_at lab (world_in lab t.list) x c) r new → IsPrefix old.seen new.seen
-      by (inl p) = subst (IsPrefix old.seen) (sym p.1.0) (entered_seen old.seen t.list (event_of (ruling_at lab (world_in lab t.list) x c)) t.later)
-      by (inr q) = subst (IsPrefix old.seen) (sym q.3.0) t.later
-
-  settles_seen : (st next : Standing) (g : Greeting) (r : Reply) → Settles lab st g r next → IsPrefix st.window.seen next.window.seen
-  settles_seen st next (Answered q x) r h = same_seen st next (ap (λ (t : Standing). t.window) h.1)
-  settles_seen st next (LeftToJudge x c) r h = told_seen st.window next.window x c r h.1
-
-  asked_seen : (st next : Standing) (asked : Result Request LineFault) (r : Reply) → Asked lab st asked r next → IsPrefix st.window.seen next.window.seen
-  asked_seen st next (Err fault) r h = same_seen st next (ap (λ (t : Standing). t.window) h.1)
-  asked_seen st next (Ok q) r h = settles_seen st next (greeting lab.roster st.known q) r h
-
-  turn_seen : (st next : Standing) (line : List ℕ) (r : Reply) → Turn lab st line r next → IsPrefix st.window.seen next.window.seen
-  turn_seen st next line r (inl h) = asked_seen st next (request_in line) r h
-  turn_seen st next line r (inr h) = same_seen st next (ap (λ (t : Standing). t.window) h.1)
-
-  run_seen : (st end : Standing) (lines : List (List ℕ)) (rs : List Reply) → Run lab st lines rs end → IsPrefix st.window.seen end.window.seen
-  run_seen st end [] [] run = same_seen st end (ap (λ (t : Standing). t.window) run)
-  run_seen st end [] (r ∷ rs) run = absurd run
-  run_seen st end (line ∷ lines) [] run = absurd run
-  run_seen st end (line ∷ lines) (r ∷ rs) run =
-      prefix_trans st.window.seen run.0.window.seen end.window.seen (turn_seen st run.0 line r run.1) (run_seen run.0 end lines rs run.2)
 
 -- ---- the events that the replies name
 
@@ -117,19 +79,12 @@ module _ (lab : LabValue) (is : IsLab lab) (l : List Event) (legal : is_legal_in
   turn_names st next line r (inl h) begins p named = asked_names st next (request_in line) r p h begins named
   turn_names st next line r (inr h) begins p named = absurd (none_named r p (ap place_in h.0) named)
 
-  run_names : (st end : Standing) (lines : List (List ℕ)) (rs : List Reply) (run : Run lab st lines rs end) → IsPrefix end.window.seen l
-      → EachNamesItsEventIn lab l st lines rs end run
-  run_names st end [] [] run begins = tt
-  run_names st end [] (r ∷ rs) run begins = tt
-  run_names st end (line ∷ lines) [] run begins = tt
-  run_names st end (line ∷ lines) (r ∷ rs) run begins = (
-    turn_names st run.0 line r run.1 (prefix_trans run.0.window.seen end.window.seen l (run_seen lab run.0 end lines rs run.2) begins),
-    run_names run.0 end lines rs run.2 begins,
-  )
-
 pub talk_names : (lab : LabValue) (st : Standing) (t : Talk lab st) (l : List Event) → IsLab lab → is_legal_in lab l ≡ true → length l ≤ lab.events
     → IsPrefix t.end.window.seen l → EachNamesItsEventIn lab l st t.lines t.replies t.end t.run
-talk_names lab st t l is legal few begins = run_names lab is l legal few st t.end t.lines t.replies t.run begins
+talk_names lab st t l is legal few begins =
+    run_at_each (Turn lab) (λ st line r next. NamesItsEventIn lab l st line r) (λ st. Unit {0}) (λ st. IsPrefix st.window.seen l)
+    (λ st next line r turn so. so) (λ st next line r turn. prefix_trans st.window.seen next.window.seen l (turn_on lab st next line r turn).seen)
+    (λ st next line r turn so. turn_names lab is l legal few st next line r turn) st t.end t.lines t.replies t.run tt begins
 
 pub line_names : (lab : LabValue) (st after : Standing) (t : LineTurn lab st after) (l : List Event) → IsLab lab → is_legal_in lab l ≡ true
     → length l ≤ lab.events → IsPrefix after.window.seen l → NamesItsEventIn lab l st t.line t.reply

@@ -2,6 +2,7 @@
 use Rattle.std.specs.Prelude.{◌≡◌, ℕ, List, [], ◌∷◌, ◌++◌, flat_map, Option}
 use Rattle.mml_lab.specs.Labs.{LabValue}
 use Rattle.mml_board.specs.declared.event.Event.{Event}
+use Rattle.mml_lines.specs.Runs.{Chain}
 use Rattle.mml_codec.specs.declared.reply.Reply.{Reply}
 use Rattle.mml_window.specs.Windows.{WindowValue, window}
 use Rattle.mml_session.specs.declared.session.SessionEnd.{SessionEnd}
@@ -32,8 +33,7 @@ pub record IsSession (lab : LabValue) (old new : WindowValue) (replies : List Re
 
 -- sessions with these replies, one after another, led it there
 abbrev pub AreSessions : LabValue → WindowValue → List (List Reply) → WindowValue → Type 0
-AreSessions lab old [] new = new ≡ old
-AreSessions lab old (replies ∷ later) new = (next : WindowValue) × IsSession lab old next replies × AreSessions lab next later new
+AreSessions lab old sessions new = Chain (λ replies old new. IsSession lab old new replies) old sessions new
 
 -- each window of a house was led so, from having seen what came before the house
 abbrev pub AreServed : LabValue → List Event → List (List (List Reply)) → List WindowValue → Type 0

@@ -1,7 +1,8 @@
 -- The event that a reply names.
-use Rattle.std.specs.Prelude.{◌≡◌, ℕ, ◌+◌, List, [], ◌∷◌, ◌++◌, length, Some, Ok}
+use Rattle.std.specs.Prelude.{◌≡◌, ℕ, ◌+◌, List, [], ◌∷◌, ◌++◌, length, Option, Some, Ok}
 use Rattle.std.specs.List.{slice_get}
 use Rattle.mml_lines.specs.LinesOf.{lines_of}
+use Rattle.mml_lines.specs.Runs.{AtEach}
 use Rattle.mml_lab.specs.declared.who.Who.{Who}
 use Rattle.mml_lab.specs.Labs.{LabValue}
 use Rattle.mml_board.specs.declared.done.Done.{Done}
@@ -14,7 +15,7 @@ use Rattle.mml_codec.specs.declared.request.Request.TheVariants.{Do}
 use Rattle.mml_codec.specs.Lines.{request_in}
 use Rattle.mml_codec.specs.Replies.{place_in}
 use Rattle.mml_codec.specs.Rulings.{reply_of_done}
-use Rattle.mml_hall.specs.Turns.{State, RequestLine, Run, known_on}
+use Rattle.mml_hall.specs.Turns.{State, RequestLine, TurnOf, Run, known_on}
 use Rattle.mml_session.specs.Turns as session
 use Rattle.mml_window.specs.Lists.{world_in, ruling_at, text_in}
 
@@ -31,32 +32,24 @@ pub record IsToldAt (lab : LabValue) (l : List Event) (p : ℕ) (x : Who) (comma
   pub line : slice_get (lines_of (text_in lab l)) (length before) ≡ Some (event_line lab.ids lab.roster p (world_in lab before).number event)
   pub reply : r ≡ reply_of_done (world_in lab (before ++ event ∷ [])).number p done
 
--- where the reply on a connection of a hall names a place of the list, the event there is the one that the line asked for
-abbrev pub NamesItsEvent : LabValue → List Event → State → RequestLine → Reply → Type 0
-NamesItsEvent lab l st line r =
+-- where the reply to one who is known, or to nobody, names a place of the list, the event there is the one that the line asked for
+abbrev pub NamesItsEvent : LabValue → List Event → Option Who → List ℕ → Reply → Type 0
+NamesItsEvent lab l known line r =
     (p : ℕ) → place_in r ≡ Some p
-    → (x : Who) × (command : Command) × (known_on st line.connection ≡ Some x) × (request_in line.request ≡ Ok (Do command)) × IsToldAt lab l p x command r
+    → (x : Who) × (command : Command) × (known ≡ Some x) × (request_in line ≡ Ok (Do command)) × IsToldAt lab l p x command r
 
--- so it is at each turn of a run
+-- so it is at each turn of a run of a hall
 abbrev pub EachNamesItsEvent : (lab : LabValue) (l : List Event) (st : State) (lines : List RequestLine) (rs : List Reply) (end : State)
     → Run lab st lines rs end → Type 0
-EachNamesItsEvent lab l st [] [] end run = Unit {0}
-EachNamesItsEvent lab l st [] (r ∷ rs) end run = Unit {0}
-EachNamesItsEvent lab l st (line ∷ lines) [] end run = Unit {0}
-EachNamesItsEvent lab l st (line ∷ lines) (r ∷ rs) end run =
-    NamesItsEvent lab l st line r × EachNamesItsEvent lab l run.0 lines rs end run.2
+EachNamesItsEvent lab l st lines rs end run =
+    AtEach (TurnOf lab) (λ st line r next. NamesItsEvent lab l (known_on st line.connection) line.request r) st lines rs end run
 
--- where the reply in a session names a place of the list, the event there is the one that the line asked for
+-- so it is at a turn of a session
 abbrev pub NamesItsEventIn : LabValue → List Event → session.Standing → List ℕ → Reply → Type 0
-NamesItsEventIn lab l st line r =
-    (p : ℕ) → place_in r ≡ Some p
-    → (x : Who) × (command : Command) × (st.known ≡ Some x) × (request_in line ≡ Ok (Do command)) × IsToldAt lab l p x command r
+NamesItsEventIn lab l st line r = NamesItsEvent lab l st.known line r
 
--- so it is at each turn of a session
+-- and at each
 abbrev pub EachNamesItsEventIn : (lab : LabValue) (l : List Event) (st : session.Standing) (lines : List (List ℕ)) (rs : List Reply)
     (end : session.Standing) → session.Run lab st lines rs end → Type 0
-EachNamesItsEventIn lab l st [] [] end run = Unit {0}
-EachNamesItsEventIn lab l st [] (r ∷ rs) end run = Unit {0}
-EachNamesItsEventIn lab l st (line ∷ lines) [] end run = Unit {0}
-EachNamesItsEventIn lab l st (line ∷ lines) (r ∷ rs) end run =
-    NamesItsEventIn lab l st line r × EachNamesItsEventIn lab l run.0 lines rs end run.2
+EachNamesItsEventIn lab l st lines rs end run =
+    AtEach (session.Turn lab) (λ st line r next. NamesItsEventIn lab l st line r) st lines rs end run
