@@ -10,7 +10,7 @@ use Rattle.mml_rules.proofs.ConfigurationLemmas.{holds-true}
 use Rattle.mml_rules.proofs.RulesLemmas.{married-null, married-at, married-from}
 use Rattle.mml_rules.proofs.StepLemmas.{step-lawful}
 use Rattle.mml_convergence.proofs.StepLemmas.{step-married, moved-m}
-use Rattle.mml_convergence.proofs.MovesLemmas.{updates, marries, seduces, seduced, abandons, abandoned, drops}
+use Rattle.mml_convergence.proofs.MovesLemmas.{updates, marries, Seduces, seduces, seduced, abandons, abandoned, drops}
 use Rattle.mml_convergence.proofs.MarriedCountLemmas.{Calm}
 use Rattle.mml_bounds.specs.Courtships.{pointer_part, node_part}
 
@@ -57,6 +57,9 @@ module _ (c : Configuration) (chosen : ℕ → Option Rule) (l : IsLawful c) (h 
 
   -- ---- a node that was married
 
+  seducing : (i : ℕ) → (e : chosen i ≡ Some Rule.Seduction) → Seduces c i (seduced c i (h i Rule.Seduction e)).0
+  seducing i e = let some = seduced c i (h i Rule.Seduction e) in seduces c i some.0 (h i Rule.Seduction e) some.1
+
   pub wed_pays : (i : ℕ) (o : Option Rule) → chosen i ≡ o → is_married c i ≡ true → node_part next i + cond (is_some o) 1 0 ≤ node_part c i
   wed_pays i o e a = go o e
     where
@@ -67,20 +70,10 @@ module _ (c : Configuration) (chosen : ℕ → Option Rule) (l : IsLawful c) (h 
       after = wed_part next i (step-married c chosen l h i a)
 
       go : (o : Option Rule) → chosen i ≡ o → node_part next i + cond (is_some o) 1 0 ≤ node_part c i
-      go None e =
-          let same : cond {A = ℕ} (next.m i) 0 1 ≡ cond (c.m i) 0 1 = ap (λ b. cond {A = ℕ} b 0 1) (m_after i None e) in
-          omega (arith, before, after, same)
-      go (Some Rule.Update) e =
-          let wrong : cond {A = ℕ} (c.m i) 0 1 ≡ 1 = ap (λ b. cond {A = ℕ} b 0 1) (updates c i (h i Rule.Update e) ∙ ap not a) in
-          let right : cond {A = ℕ} (next.m i) 0 1 ≡ 0 = ap (λ b. cond {A = ℕ} b 0 1) (m_after i (Some Rule.Update) e ∙ a) in
-          omega (arith, before, after, wrong, right)
-      go (Some (Rule.Marriage j)) e =
-          let g = marries c i j (h i (Rule.Marriage j) e) in
-          absurd (both_ways (is_married c i) (married-null c i g.null) a)
-      go (Some Rule.Seduction) e =
-          let some = seduced c i (h i Rule.Seduction e) in
-          let g = seduces c i some.0 (h i Rule.Seduction e) some.1 in
-          absurd (both_ways (is_married c i) (married-null c i g.null) a)
+      go None e = grind (arith, before, after, m_after i None e)
+      go (Some Rule.Update) e = grind (arith, before, after, a, updates c i (h i Rule.Update e), m_after i (Some Rule.Update) e)
+      go (Some (Rule.Marriage j)) e = absurd (both_ways (is_married c i) (married-null c i (marries c i j (h i (Rule.Marriage j) e)).null) a)
+      go (Some Rule.Seduction) e = absurd (both_ways (is_married c i) (married-null c i (seducing i e).null) a)
       go (Some Rule.Abandonment) e =
           let some = abandoned c i (h i Rule.Abandonment e) in
           let g = abandons c i some.0 (h i Rule.Abandonment e) some.1 in
@@ -98,26 +91,14 @@ module _ (c : Configuration) (chosen : ℕ → Option Rule) (l : IsLawful c) (h 
       after : node_part next i ≡ cond (next.m i) 0 1
       after = wed_part next i b
 
-      small : cond (next.m i) 0 1 ≤ 1
-      small = wed_most (next.m i)
-
       go : (o : Option Rule) → chosen i ≡ o → node_part next i + cond (is_some o) 1 0 ≤ node_part c i + 1
-      go None e = omega (arith, before, after, small)
-      go (Some Rule.Update) e =
-          let wrong : cond {A = ℕ} (c.m i) 1 0 ≡ 1 = ap (λ b. cond {A = ℕ} b 1 0) (updates c i (h i Rule.Update e) ∙ ap not a) in
-          omega (arith, before, after, small, wrong)
-      go (Some (Rule.Marriage j)) e =
-          omega (arith, before, after, small, null_part c i (marries c i j (h i (Rule.Marriage j) e)).null)
-      go (Some Rule.Seduction) e =
-          let some = seduced c i (h i Rule.Seduction e) in
-          let null = null_part c i (seduces c i some.0 (h i Rule.Seduction e) some.1).null in
-          omega (arith, before, after, small, null)
+      go None e = grind (arith, before, after)
+      go (Some Rule.Update) e = grind (arith, before, after, a, updates c i (h i Rule.Update e))
+      go (Some (Rule.Marriage j)) e = grind (arith, before, after, null_part c i (marries c i j (h i (Rule.Marriage j) e)).null)
+      go (Some Rule.Seduction) e = grind (arith, before, after, null_part c i (seducing i e).null)
       go (Some Rule.Abandonment) e = absurd (both_ways (is_married next i) (married-null next i (p_after i (Some Rule.Abandonment) e)) b)
 
   -- ---- a node that isn't married after the step
-
-  m_right : (i : ℕ) → is_married c i ≡ false → c.m i ≡ is_married c i → c.m i ≡ false
-  m_right i a e = e ∙ a
 
   pub free_pays : (i : ℕ) (o : Option Rule) → chosen i ≡ o → is_married c i ≡ false → is_married next i ≡ false
       → node_part next i + cond (is_some o) 1 0 ≤ node_part c i + 2
@@ -133,27 +114,13 @@ module _ (c : Configuration) (chosen : ℕ → Option Rule) (l : IsLawful c) (h 
       small = pointer_most next i
 
       go : (o : Option Rule) → chosen i ≡ o → node_part next i + cond (is_some o) 1 0 ≤ node_part c i + 2
-      go None e =
-          let same : cond {A = ℕ} (next.m i) 1 0 ≡ cond (c.m i) 1 0 = ap (λ b. cond {A = ℕ} b 1 0) (m_after i None e) in
-          omega (arith, before, after, small, same)
-      go (Some Rule.Update) e =
-          let wrong : cond {A = ℕ} (c.m i) 1 0 ≡ 1 = ap (λ b. cond {A = ℕ} b 1 0) (updates c i (h i Rule.Update e) ∙ ap not a) in
-          let right : cond {A = ℕ} (next.m i) 1 0 ≡ 0 = ap (λ b. cond {A = ℕ} b 1 0) (m_after i (Some Rule.Update) e ∙ a) in
-          omega (arith, before, after, small, wrong, right)
+      go None e = grind (arith, before, after, small, m_after i None e)
+      go (Some Rule.Update) e = grind (arith, before, after, small, a, updates c i (h i Rule.Update e), m_after i (Some Rule.Update) e)
       go (Some (Rule.Marriage j)) e =
-          let g = marries c i j (h i (Rule.Marriage j) e) in
-          let null = null_part c i g.null in
-          let same : cond {A = ℕ} (next.m i) 1 0 ≡ cond (c.m i) 1 0 = ap (λ b. cond {A = ℕ} b 1 0) (m_after i (Some (Rule.Marriage j)) e) in
-          omega (arith, before, after, small, null, same)
-      go (Some Rule.Seduction) e =
-          let some = seduced c i (h i Rule.Seduction e) in
-          let null = null_part c i (seduces c i some.0 (h i Rule.Seduction e) some.1).null in
-          let same : cond {A = ℕ} (next.m i) 1 0 ≡ cond (c.m i) 1 0 = ap (λ b. cond {A = ℕ} b 1 0) (m_after i (Some Rule.Seduction) e) in
-          omega (arith, before, after, small, null, same)
+          grind (arith, before, after, small, null_part c i (marries c i j (h i (Rule.Marriage j) e)).null, m_after i (Some (Rule.Marriage j)) e)
+      go (Some Rule.Seduction) e = grind (arith, before, after, small, null_part c i (seducing i e).null, m_after i (Some Rule.Seduction) e)
       go (Some Rule.Abandonment) e =
-          let null = null_part next i (p_after i (Some Rule.Abandonment) e) in
-          let same : cond {A = ℕ} (next.m i) 1 0 ≡ cond (c.m i) 1 0 = ap (λ b. cond {A = ℕ} b 1 0) (m_after i (Some Rule.Abandonment) e) in
-          omega (arith, before, after, null, same)
+          grind (arith, before, after, null_part next i (p_after i (Some Rule.Abandonment) e), m_after i (Some Rule.Abandonment) e)
 
   -- ---- where no node is newly married
 
@@ -182,13 +149,10 @@ module _ (c : Configuration) (chosen : ℕ → Option Rule) (l : IsLawful c) (h 
         after = free_part next i (stays_free i a)
 
         go : (o : Option Rule) → chosen i ≡ o → node_part next i + cond (is_some o) 1 0 ≤ node_part c i
-        go None e =
-            let same : cond {A = ℕ} (next.m i) 1 0 ≡ cond (c.m i) 1 0 = ap (λ b. cond {A = ℕ} b 1 0) (m_after i None e) in
-            omega (arith, before, after, same, pointer_kept i (p_after i None e))
+        go None e = grind (arith, before, after, m_after i None e, pointer_kept i (p_after i None e))
         go (Some Rule.Update) e =
-            let wrong : cond {A = ℕ} (c.m i) 1 0 ≡ 1 = ap (λ b. cond {A = ℕ} b 1 0) (updates c i (h i Rule.Update e) ∙ ap not a) in
-            let right : cond {A = ℕ} (next.m i) 1 0 ≡ 0 = ap (λ b. cond {A = ℕ} b 1 0) (m_after i (Some Rule.Update) e ∙ a) in
-            omega (arith, before, after, wrong, right, pointer_kept i (p_after i (Some Rule.Update) e))
+            let kept = pointer_kept i (p_after i (Some Rule.Update) e) in
+            grind (arith, before, after, a, updates c i (h i Rule.Update e), m_after i (Some Rule.Update) e, kept)
         go (Some (Rule.Marriage j)) e =
             let g = marries c i j (h i (Rule.Marriage j) e) in
             let null = null_part c i g.null in
@@ -199,16 +163,11 @@ module _ (c : Configuration) (chosen : ℕ → Option Rule) (l : IsLawful c) (h 
             let alone : is_married c j ≡ false = married-at c j i l g.suitor ∙ ap (λ o. holds o j) g.null in
             let lt : i < j = elim left.0.vain [ inl m ↦ absurd (both_ways (c.m i) (g.right ∙ a) m) | inr lt ↦ lt ] in
             let court = courts_then i j to lt alone (left.0.right ∙ alone) in
-            let off : cond {A = ℕ} (next.m i) 1 0 ≡ 0 = ap (λ b. cond {A = ℕ} b 1 0) (m_after i (Some (Rule.Marriage j)) e ∙ g.right ∙ a) in
-            omega (arith, before, after, null, court, off)
+            grind (arith, before, after, null, court, m_after i (Some (Rule.Marriage j)) e ∙ g.right ∙ a)
         go (Some Rule.Seduction) e =
-            let some = seduced c i (h i Rule.Seduction e) in
-            let j = some.0 in
-            let g = seduces c i j (h i Rule.Seduction e) some.1 in
-            let null = null_part c i g.null in
-            let court = courts_then i j (p_after i (Some Rule.Seduction) e ∙ some.1) g.higher (married-null c j g.free) g.m in
-            let off : cond {A = ℕ} (next.m i) 1 0 ≡ 0 = ap (λ b. cond {A = ℕ} b 1 0) (m_after i (Some Rule.Seduction) e ∙ g.right ∙ a) in
-            omega (arith, before, after, null, court, off)
+            let g = seducing i e in
+            let to = p_after i (Some Rule.Seduction) e ∙ (seduced c i (h i Rule.Seduction e)).1 in
+            grind (arith, before, after, null_part c i g.null, courts_then i _ to g.higher (married-null c _ g.free) g.m, m_after i (Some Rule.Seduction) e ∙ g.right ∙ a)
         go (Some Rule.Abandonment) e =
             let some = abandoned c i (h i Rule.Abandonment e) in
             let j = some.0 in
@@ -221,8 +180,7 @@ module _ (c : Configuration) (chosen : ℕ → Option Rule) (l : IsLawful c) (h 
             ]) in
             let two = vain_part c i j some.1 vain in
             let null = null_part next i (p_after i (Some Rule.Abandonment) e) in
-            let same : cond {A = ℕ} (next.m i) 1 0 ≡ cond (c.m i) 1 0 = ap (λ b. cond {A = ℕ} b 1 0) (m_after i (Some Rule.Abandonment) e) in
-            omega (arith, before, after, two, null, same)
+            grind (arith, before, after, two, null, m_after i (Some Rule.Abandonment) e)
 
     -- each node pays for its own move
     pub calm_pays : (i : ℕ) → node_part next i + cond (is_some (chosen i)) 1 0 ≤ node_part c i

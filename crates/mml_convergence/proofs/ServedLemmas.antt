@@ -1,7 +1,8 @@
 -- Over grants, releases and closes: what stays, and what a round brings.
 use Rattle.std.proofs.Common.{◌≡◌, ℕ, ◌+◌, ◌<◌, inl, inr, true, ◌&&◌, List, [], ◌∷◌, ◌++◌, Option, None, Some, is_some, sym, refl, subst, arith}
 use Rattle.std.specs.List.{list_all}
-use Rattle.std.proofs.lemmas.Bool.{and_parts, and_from, or_cases, not-true, false≢true, both_ways, cases_lt}
+use Rattle.std.proofs.lemmas.Bool.{and_parts, or_cases, not-true, false≢true, both_ways, cases_lt}
+use Rattle.std.proofs.lemmas.Bool.Decides.{nat_tests}
 use Rattle.mml_rules.specs.declared.rule.Rule.{Rule}
 use Rattle.mml_rules.specs.Configuration.{Configuration}
 use Rattle.mml_rules.specs.Matching.{IsStable}
@@ -43,17 +44,7 @@ run_on r w e es k = record {
 -- a run is two, one after the other
 pub run_parts : (r : RosterValue) (w : World) (es fs : List Event) → IsRun r w (es ++ fs) → IsRun r w es × IsRun r (world_of w es) fs
 run_parts r w [] fs k = (record { world = k.world; legal = refl; of_step = refl }, k)
-run_parts r w (e ∷ es) fs k =
-    let rest = run_parts r (after w e) es fs (run_on r w e (es ++ fs) k) in
-    let first = rest.0 in (
-      record {
-        world = k.world;
-        legal = and_from _ _ (first_legal r w e (es ++ fs) k) first.legal;
-        of_step =
-            and_from _ _ (first_of_step r w e (es ++ fs) k) first.of_step;
-      },
-      rest.1,
-    )
+run_parts r w (e ∷ es) fs k = grind (arith, nat_tests, run_parts r (after w e) es fs (run_on r w e (es ++ fs) k))
 
 -- a run ends in a lawful world
 pub run_end : (r : RosterValue) (w : World) (es : List Event) → IsRun r w es → IsWorld (world_of w es)
