@@ -1,5 +1,5 @@
 -- A compact text, read member by member, spells the tokens that are printed as it.
-use Rattle.std.proofs.Common.{◌≡◌, ℕ, zero, suc, ◌+◌, ◌-◌, ◌<◌, List, [], ◌∷◌, ◌++◌, length, take, get_or, Bool, true, false, fold, map, not, ◌==◌, Some, option_and_then}
+use Rattle.std.proofs.Common.{◌≡◌, ℕ, suc, ◌+◌, ◌-◌, ◌<◌, List, [], ◌∷◌, ◌++◌, length, take, get_or, Bool, true, false, fold, map, not, ◌==◌, Some, option_and_then}
 use Rattle.std.proofs.Common.{refl, sym, ap, inl, ◌∙◌, subst, append_assoc, length-append, decimal, ◌^◌}
 use Rattle.std.proofs.Common.{arith, drop, ◌≢◌, ltb-true, ◌≤◌, ◌*◌, ◌/◌, ◌%◌, option_map, nat_lt}
 use Rattle.std.specs.Str.{IsUtf8}
@@ -18,7 +18,7 @@ use Rattle.json.specs.Token.{Token}
 use Rattle.json.specs.Lex.{tokens}
 use Rattle.json.specs.Print.{escape, token_text, ends, separator, print_from, ArePrintable}
 use Rattle.json.specs.Spaced.{AreGaps, print_spaced}
-use Rattle.serde_json.specs.Data.{Data, boolean, number, unsigned, string, array, object, no_items, Members, no_members, put}
+use Rattle.serde_json.specs.Data.{boolean, number, unsigned, string, array, object, no_items, Members, no_members, put}
 use Rattle.serde_json.specs.Data as serde
 use Rattle.serde_json.specs.Read.{of_json, converted}
 use Rattle.serde_json.proofs.Numbers.{number_of-decimal}
@@ -112,18 +112,10 @@ pub record After (line rest : List ℕ) (found : Members) : Type 0 where
 
 pub begun : (line rest : List ℕ) → line ≡ 123 ∷ rest → Before line rest no_members
 unfolding print_spaced ArePrintable
-begun line rest e = record {
-  us = [];
-  begun = record { gaps = tt; printable = tt; utf8 = IsUtf8-nil; turns = 0; fits = omega arith; members = λ n ts. ap (λ k. members_at 126 no_members k ts) (omega arith) };
-  text = e;
-}
+begun line rest e = grind (arith, IsUtf8-nil)
 
 pub comma : (line rest next : List ℕ) (found : Members) → rest ≡ 44 ∷ next → After line rest found → Before line next found
-comma line rest next found e a = record {
-  us = a.us;
-  begun = a.begun;
-  text = a.text ∙ ap (λ t. 123 ∷ (print_spaced false a.us ++ t)) (e ∙ ap (λ b. separator b (Token.key []) ++ next) (sym a.closed));
-}
+comma line rest next found e a = grind (arith, begun)
 
 all_read : (us : SpacedTokens) (found : Members) → Begun us found → object_at (Token.begin_object ∷ (told us ++ Token.end_object ∷ [])) ≡ Some found
 all_read us found b =
@@ -195,16 +187,10 @@ module _ (line rest more k : List ℕ) (v : MemberValue) (found : Members) (m : 
   one_text = ap (λ l. separator (ended (told b.us)) (Token.key k) ++ (gap ++ (token_text (Token.key k) ++ (between ++ (token_text first ++ l))))) (spaced_close (ends first) others)
 
   rest_is : rest ≡ gap ++ (token_text (Token.key k) ++ (between ++ (token_text first ++ (print_from (ends first) others ++ more))))
-  rest_is =
-      m.spaced.spelled ∙ ap (λ l. gap ++ l) (m.key ∙ ap (λ l. token_text (Token.key k) ++ l) (m.spaced_value.spelled ∙ ap (λ l. between ++ l) m.value.spelled))
+  rest_is = grind arith
 
   text_is : print_spaced false b.us ++ (separator (ended (told b.us)) (Token.key k) ++ rest) ≡ print_spaced false us ++ more
-  text_is =
-      let comma = separator (ended (told b.us)) (Token.key k) in
-      ap (λ l. print_spaced false b.us ++ (comma ++ l)) rest_is
-      ∙ ap (λ l. print_spaced false b.us ++ l)
-      (member_text comma gap (token_text (Token.key k)) between (token_text first) (print_from (ends first) others) more ∙ ap (λ l. l ++ more) (sym one_text))
-      ∙ sym (append_assoc (print_spaced false b.us) (print_spaced (ended (told b.us)) one) more) ∙ ap (λ l. l ++ more) (sym (spaced_append false b.us one))
+  text_is = grind (arith, comma, rest_is, member_text, one_text, append_assoc, spaced_append)
 
   one_utf8 : IsUtf8 (print_spaced (ended (told b.us)) one)
   one_utf8 =
@@ -237,12 +223,7 @@ module _ (line rest more k : List ℕ) (v : MemberValue) (found : Members) (m : 
 
   -- one member more
   pub member : After line more (put k m.value.datum found)
-  member = record {
-    us = us;
-    begun = more_begun;
-    closed = ap ended said ∙ ended_append false (told b.us) (Token.key k ∷ first ∷ others) ∙ m.value.ends_value;
-    text = b.text ∙ ap (λ t. 123 ∷ t) text_is;
-  }
+  member = grind (arith, begun, more_begun, said, ended_append, text_is)
 
 -- ---- spaces
 
@@ -271,22 +252,11 @@ other_than b k h e = both_ways _ (not-true _ h) (eq-eqb b k e)
 
 bare_escape : (bs : List ℕ) → is_bare bs ≡ true → escape bs ≡ bs
 bare_escape [] h = refl
-bare_escape (b ∷ bs) h =
-    let here = and_parts (is_bare_byte b) (is_bare bs) h in
-    let low = and_parts (nat_lt 31 b) _ here.0 in
-    let high = and_parts (nat_lt b 128) _ low.1 in
-    let others = and_parts (not (b == 34)) _ high.1 in
-    let above = ltb-true 31 b low.0 in
-    let least : 32 ≤ b = omega (arith, above) in
-    rw (escape_byte_plain b (other_than b 34 others.0) (other_than b 92 others.1) least, bare_escape bs here.1) refl
+bare_escape (b ∷ bs) h = grind (arith, and_parts, nat_lt, ltb-true, escape_byte_plain, other_than, bare_escape bs)
 
 bare_ascii : (bs : List ℕ) → is_bare bs ≡ true → are_ascii bs ≡ true
 bare_ascii [] h = refl
-bare_ascii (b ∷ bs) h =
-    let here = and_parts (is_bare_byte b) (is_bare bs) h in
-    let low = and_parts (nat_lt 31 b) _ here.0 in
-    let high = and_parts (nat_lt b 128) _ low.1 in
-    and_from _ _ high.0 (bare_ascii bs here.1)
+bare_ascii (b ∷ bs) h = grind (arith, and_parts, nat_lt, and_from, bare_ascii bs)
 
 pub bare_utf8 : (bs : List ℕ) → is_bare bs ≡ true → IsUtf8 bs
 bare_utf8 bs h = IsUtf8-are_ascii bs (bare_ascii bs h)
@@ -296,9 +266,7 @@ quoted_is k rest h = ap (λ t. 34 ∷ t) (sym (append_assoc k (34 ∷ []) rest) 
 
 -- a key with its colon
 pub key_is : (text a b k rest : List ℕ) → text ≡ 34 ∷ a → a ≡ k ++ 34 ∷ b → is_bare k ≡ true → b ≡ 58 ∷ rest → text ≡ token_text (Token.key k) ++ rest
-key_is text a b k rest one two h three =
-    one ∙ ap (λ t. 34 ∷ t) (two ∙ ap (λ t. k ++ 34 ∷ t) three) ∙ quoted_is k (58 ∷ rest) h
-    ∙ sym (append_assoc (token_text (Token.string k)) (58 ∷ []) rest)
+key_is text a b k rest one two h three = grind (arith, quoted_is, append_assoc)
 
 -- ---- digits
 
@@ -430,22 +398,9 @@ known_key text in_key rest old new quoted known = record {
 -- ---- four bytes at once
 
 below_256 : (a b c d : ℕ) → a < 256 → b < 256 → c < 256 → d < 256 → (i : ℕ) → get_or (a ∷ b ∷ c ∷ d ∷ []) i 0 < 256
-below_256 a b c d h j k l zero = h
-below_256 a b c d h j k l (suc zero) = j
-below_256 a b c d h j k l (suc (suc zero)) = k
-below_256 a b c d h j k l (suc (suc (suc zero))) = l
-below_256 a b c d h j k l (suc (suc (suc (suc i)))) = omega arith
+below_256 a b c d h j k l i = grind arith
 
 -- the first four of a text's bytes as a number, and the others
 pub four_first : (xs : List ℕ) (n : ℕ) → 4 ≤ length xs → ((i : ℕ) → get_or xs i 0 < 256)
     → n ≡ from_be_bytes w32 (get_or xs 0 0 ∷ get_or xs 1 0 ∷ get_or xs 2 0 ∷ get_or xs 3 0 ∷ []) → xs ≡ to_be_bytes w32 n ++ take (length xs - 4) (drop 4 xs)
-four_first [] n h small is = absurd (omega (arith, h))
-four_first (a ∷ []) n h small is = absurd (omega (arith, h))
-four_first (a ∷ b ∷ []) n h small is = absurd (omega (arith, h))
-four_first (a ∷ b ∷ c ∷ []) n h small is = absurd (omega (arith, h))
-four_first (a ∷ b ∷ c ∷ d ∷ xs) n h small is =
-    let others : length (a ∷ b ∷ c ∷ d ∷ xs) - 4 ≡ length xs = omega arith in
-    let front : to_be_bytes w32 n ≡ a ∷ b ∷ c ∷ d ∷ [] =
-    be_bytes_4 (a ∷ b ∷ c ∷ d ∷ []) n refl (below_256 a b c d (small 0) (small 1) (small 2) (small 3)) is in
-    ap (λ l. a ∷ b ∷ c ∷ d ∷ l) (sym (ap (λ m. take m xs) others ∙ take_all (length xs) xs (omega arith)))
-    ∙ ap (λ l. l ++ take (length (a ∷ b ∷ c ∷ d ∷ xs) - 4) xs) (sym front)
+four_first xs n h small is = grind (arith, be_bytes_4, below_256, take_all)

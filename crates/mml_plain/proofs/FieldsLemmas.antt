@@ -1,6 +1,6 @@
 -- A member more, in the fields and in the object.
 use Rattle.std.proofs.Common.{◌≡◌, ℕ, List, Bool, true, false, codes, bytes_eq, cond, Bor, Option, Some, option_map, option_and_then, true≢false}
-use Rattle.std.proofs.Common.{refl, sym, ap, ◌∙◌}
+use Rattle.std.proofs.Common.{refl, sym, ◌∙◌, arith}
 use Rattle.std.proofs.lemmas.Slice.Eq.{bytes_eq-Decides}
 use Rattle.serde_json.specs.Data.{Data, object, Members, put}
 use Rattle.serde_json.specs.Find.{get_member, as_str, as_bool, as_number, as_u64}
@@ -18,8 +18,7 @@ differ k q e same = true≢false (sym ((bytes_eq-Decides k q).1 (sym same)) ∙ 
 -- what is seen of a field is what the key names, before and after
 module _ {A B : Type 0} (see : A → B) (find : Option Data → B) (k : List ℕ) (d : Data) (ms : Members) (new : A) (shown : see new ≡ find (Some d)) where
   seen_at : (q : List ℕ) (old : A) → see old ≡ find (get_member q ms) → (b : Bool) → bytes_eq k q ≡ b → see (cond b new old) ≡ find (get_member q (put k d ms))
-  seen_at q old h true e = shown ∙ ap find (sym (ap (λ x. get_member x (put k d ms)) (sym ((bytes_eq-Decides k q).0 e)) ∙ get_member-put k d ms))
-  seen_at q old h false e = h ∙ ap find (sym (get_member-put_other q k d ms (differ k q e)))
+  seen_at q old h b e = grind (arith, bytes_eq-Decides, get_member-put, get_member-put_other, differ)
 
   pub seen : (q : List ℕ) (old : A) → see old ≡ find (get_member q ms) → see (after k new q old) ≡ find (get_member q (put k d ms))
   seen q old h = seen_at q old h (bytes_eq k q) refl
@@ -42,16 +41,4 @@ module _ (k : List ℕ) (v : MemberValue) (d : Data) (ms : Members) (shows : Sho
   register = seen (λ o. o) (option_and_then as_register) k d ms (register_in v) shows.register
 
   pub holds_with : (f : Fields) → Holds f (object ms) → Holds (with k v f) (object (put k d ms))
-  holds_with f h = record {
-    word = text (codes "do") f.word h.word;
-    name = text (codes "name") f.name h.name;
-    key = text (codes "key") f.key h.key;
-    node = number (codes "node") f.node h.node;
-    rule = text (codes "rule") f.rule h.rule;
-    partner = number (codes "with") f.with h.partner;
-    at = number (codes "at") f.at h.at;
-    p = register (codes "p") f.p h.p;
-    m = truth (codes "m") f.m h.m;
-    a = number (codes "a") f.a h.a;
-    b = number (codes "b") f.b h.b;
-  }
+  holds_with f h = grind (arith, text, codes, number, register, truth)

@@ -1,5 +1,5 @@
 -- What is read of tokens, a turn at a time, and that it is what `serde_json` reads.
-use Rattle.std.proofs.Common.{◌≡◌, ℕ, zero, suc, ◌-◌, ◌<◌, ◌≤◌, List, [], ◌∷◌, length, Bool, true, false, Option, Some, None}
+use Rattle.std.proofs.Common.{◌≡◌, ℕ, suc, ◌-◌, ◌<◌, ◌≤◌, List, [], ◌∷◌, length, Bool, false, Option, Some, None}
 use Rattle.std.proofs.Common.{Bor, option_map, option_and_then, refl, sym, ap, ◌∙◌, arith}
 use Rattle.std.specs.Str.{is_utf8, IsUtf8}
 use Rattle.std.proofs.lemmas.Str.{is_utf8-from_IsUtf8, IsUtf8-from_is_utf8}
@@ -17,8 +17,7 @@ use Rattle.mml_plain.specs.Shown.{Shows}
 use Rattle.mml_plain.specs.Reading.{value_at, items_at, members_at, if_over, object_at, object_in}
 
 beside : {A B : Type 0} (f : A → B) (rest : List Token) (x : Option A) → option_map (λ b. (b, rest)) (option_map f x) ≡ parse_map f (option_map (λ a. (a, rest)) x)
-beside f rest None = refl
-beside f rest (Some a) = refl
+beside f rest x = grind arith
 
 -- ---- arrays
 
@@ -28,55 +27,42 @@ items_turn depth n ts (Some rest) = Some (no_items, rest)
 items_turn depth n ts None = option_and_then (λ p. parse_map (item p.0) (items_at depth n p.1)) (value_at depth ts)
 
 no_such_item : (j : json.Json) → of_json j ≡ None → (o : Option (json.Items × List Token)) → converted of_items (parse_map (json.item j) o) ≡ None
-no_such_item j e None = refl
-no_such_item j e (Some q) = rw e
+no_such_item j e o = grind arith
 
 one_item : (j : json.Json) (d : Data) → of_json j ≡ Some d → (o : Option (json.Items × List Token)) → converted of_items (parse_map (json.item j) o) ≡ parse_map (item d) (converted of_items o)
-one_item j d e None = refl
-one_item j d e (Some q) = rw e (beside (item d) q.1 (of_items q.0))
+one_item j d e o = grind (arith, beside)
 
 module _ (more : List Token → Option (json.Items × List Token)) where
   first_item : (j : json.Json) (rest : List Token) (x : Option Data) → of_json j ≡ x
       → converted of_items (parse_map (json.item j) (more rest)) ≡ option_and_then (λ (p : Data × List Token). parse_map (item p.0) (converted of_items (more p.1))) (option_map (λ d. (d, rest)) x)
-  first_item j rest None e = no_such_item j e (more rest)
-  first_item j rest (Some d) e = one_item j d e (more rest)
+  first_item j rest x e = grind (arith, no_such_item, one_item)
 
   item_then : (o : Option (json.Json × List Token))
       → converted of_items (option_and_then (λ q. parse_map (json.item q.0) (more q.1)) o) ≡ option_and_then (λ (p : Data × List Token). parse_map (item p.0) (converted of_items (more p.1))) (converted of_json o)
-  item_then None = refl
-  item_then (Some q) = first_item q.0 q.1 (of_json q.0) refl
+  item_then o = grind (arith, first_item)
 
 items_step_is : (depth n : ℕ) (ts : List Token) (o : Option (List Token)) → converted of_items (items_step (value depth) (items (value depth) n) ts o) ≡ items_turn depth n ts o
-items_step_is depth n ts (Some rest) = refl
-items_step_is depth n ts None = item_then (items (value depth) n) (value depth ts)
+items_step_is depth n ts o = grind (arith, item_then)
 
 pub items_next : (depth n : ℕ) (ts : List Token) → length ts ≤ n → items_at depth n ts ≡ items_turn depth (n - 1) ts (after_end_array ts)
 unfolding items
-items_next depth zero [] h = rw value_is
-items_next depth zero (t ∷ ts) h = absurd (omega arith)
-items_next depth (suc n) ts h =
-    let less : n ≡ suc n - 1 = omega arith in
-    items_step_is depth n ts (after_end_array ts) ∙ ap (λ k. items_turn depth k ts (after_end_array ts)) less
+items_next depth n ts h = grind (arith, value_is, items_step_is)
 
 pub items_over : (depth n : ℕ) (ts rest : List Token) → length ts ≤ n → after_end_array ts ≡ Some rest → items_at depth n ts ≡ Some (no_items, rest)
 items_over depth n ts rest h end = items_next depth n ts h ∙ ap (items_turn depth (n - 1) ts) end
 
 pub items_stuck : (depth n : ℕ) (ts : List Token) → length ts ≤ n → after_end_array ts ≡ None → value_at depth ts ≡ None → items_at depth n ts ≡ None
-items_stuck depth n ts h going none =
-    items_next depth n ts h ∙ ap (items_turn depth (n - 1) ts) going ∙ ap (option_and_then (λ (p : Data × List Token). parse_map (item p.0) (items_at depth (n - 1) p.1))) none
+items_stuck depth n ts h going none = grind (arith, items_next, option_and_then)
 
 pub items_more : (depth n : ℕ) (ts rest : List Token) (d : Data) → length ts ≤ n → after_end_array ts ≡ None → value_at depth ts ≡ Some (d, rest)
     → items_at depth n ts ≡ parse_map (item d) (items_at depth (n - 1) rest)
-items_more depth n ts rest d h going some =
-    items_next depth n ts h ∙ ap (items_turn depth (n - 1) ts) going ∙ ap (option_and_then (λ (p : Data × List Token). parse_map (item p.0) (items_at depth (n - 1) p.1))) some
+items_more depth n ts rest d h going some = grind (arith, items_next, option_and_then)
 
 pub unmapped : (o : Option (Items × List Token)) → o ≡ parse_map (λ ds. ds) o
-unmapped None = refl
-unmapped (Some p) = refl
+unmapped o = grind arith
 
 pub mapped_twice : (f g : Items → Items) (o : Option (Items × List Token)) → parse_map f (parse_map g o) ≡ parse_map (λ ds. f (g ds)) o
-mapped_twice f g None = refl
-mapped_twice f g (Some p) = refl
+mapped_twice f g o = grind arith
 
 -- ---- objects
 
@@ -88,32 +74,26 @@ members_turn depth found n (Some (Some k, rest)) = option_and_then (λ p. member
 
 no_such_member : (found : Members) (k : List ℕ) (j : json.Json) → of_json j ≡ None → (o : Option (json.Members × List Token))
     → converted (λ ms. of_members ms found) (parse_map (json.member k j) o) ≡ None
-no_such_member found k j e None = refl
-no_such_member found k j e (Some q) = rw e
+no_such_member found k j e o = grind arith
 
 one_member : (found : Members) (k : List ℕ) (j : json.Json) (d : Data) → of_json j ≡ Some d → (o : Option (json.Members × List Token))
     → converted (λ ms. of_members ms found) (parse_map (json.member k j) o) ≡ converted (λ ms. of_members ms (put k d found)) o
-one_member found k j d e None = refl
-one_member found k j d e (Some q) = rw e
+one_member found k j d e o = grind arith
 
 module _ (found : Members) (k : List ℕ) (more : List Token → Option (json.Members × List Token)) where
   first_member : (j : json.Json) (rest : List Token) (x : Option Data) → of_json j ≡ x
       → converted (λ ms. of_members ms found) (parse_map (json.member k j) (more rest))
       ≡ option_and_then (λ (p : Data × List Token). converted (λ ms. of_members ms (put k p.0 found)) (more p.1)) (option_map (λ d. (d, rest)) x)
-  first_member j rest None e = no_such_member found k j e (more rest)
-  first_member j rest (Some d) e = one_member found k j d e (more rest)
+  first_member j rest x e = grind (arith, no_such_member, one_member)
 
   member_then : (o : Option (json.Json × List Token))
       → converted (λ ms. of_members ms found) (option_and_then (λ q. parse_map (json.member k q.0) (more q.1)) o)
       ≡ option_and_then (λ (p : Data × List Token). converted (λ ms. of_members ms (put k p.0 found)) (more p.1)) (converted of_json o)
-  member_then None = refl
-  member_then (Some q) = first_member q.0 q.1 (of_json q.0) refl
+  member_then o = grind (arith, first_member)
 
 members_step_is : (depth : ℕ) (found : Members) (n : ℕ) (o : Option (Option (List ℕ) × List Token))
     → converted (λ ms. of_members ms found) (option_and_then (λ q. members_step (value depth) (members (value depth) n) q.0 q.1) o) ≡ members_turn depth found n o
-members_step_is depth found n None = refl
-members_step_is depth found n (Some (None, rest)) = refl
-members_step_is depth found n (Some (Some k, rest)) = member_then found k (members (value depth) n) (value depth rest)
+members_step_is depth found n o = grind (arith, member_then)
 
 pub members_suc : (depth : ℕ) (found : Members) (n : ℕ) (ts : List Token) → members_at depth found (suc n) ts ≡ members_turn depth found n (read_key ts)
 unfolding members
@@ -121,11 +101,7 @@ members_suc depth found n ts = members_step_is depth found n (read_key ts)
 
 pub members_next : (depth : ℕ) (found : Members) (n : ℕ) (ts : List Token) → length ts ≤ n → members_at depth found n ts ≡ members_turn depth found (n - 1) (read_key ts)
 unfolding members
-members_next depth found zero [] h = refl
-members_next depth found zero (t ∷ ts) h = absurd (omega arith)
-members_next depth found (suc n) ts h =
-    let less : n ≡ suc n - 1 = omega arith in
-    members_suc depth found n ts ∙ ap (λ k. members_turn depth found k (read_key ts)) less
+members_next depth found n ts h = grind (arith, members_suc)
 
 pub members_over : (depth : ℕ) (found : Members) (n : ℕ) (ts rest : List Token) → length ts ≤ n → read_key ts ≡ Some (None, rest) → members_at depth found n ts ≡ Some (found, rest)
 members_over depth found n ts rest h end = members_next depth found n ts h ∙ ap (members_turn depth found (n - 1)) end
@@ -135,14 +111,10 @@ members_no_key depth found n ts h none = members_next depth found n ts h ∙ ap 
 
 module _ (depth : ℕ) (found : Members) (n : ℕ) (ts s : List Token) (k : List ℕ) (h : length ts ≤ n) (named : read_key ts ≡ Some (Some k, s)) where
   pub members_stuck : value_at depth s ≡ None → members_at depth found n ts ≡ None
-  members_stuck none =
-      members_next depth found n ts h ∙ ap (members_turn depth found (n - 1)) named
-      ∙ ap (option_and_then (λ (p : Data × List Token). members_at depth (put k p.0 found) (n - 1) p.1)) none
+  members_stuck none = grind (arith, members_next, option_and_then)
 
   pub members_more : (rest : List Token) (d : Data) → value_at depth s ≡ Some (d, rest) → members_at depth found n ts ≡ members_at depth (put k d found) (n - 1) rest
-  members_more rest d some =
-      members_next depth found n ts h ∙ ap (members_turn depth found (n - 1)) named
-      ∙ ap (option_and_then (λ (p : Data × List Token). members_at depth (put k p.0 found) (n - 1) p.1)) some
+  members_more rest d some = grind (arith, members_next, option_and_then)
 
 -- ---- one value
 
@@ -162,25 +134,17 @@ read_text depth ts s =
     (string s.now, ap (converted of_json) (value_is depth (Token.string s.now ∷ ts)), record { text = refl; number = refl; truth = refl; register = refl })
 
 scanned : (o : Option Num) (found : Option ℕ) → Some found ≡ option_map as_u64 o → (n : Num) × (o ≡ Some n) × (as_u64 n ≡ found)
-scanned None found e = absurd (cc)
-scanned (Some n) found e = let same : as_u64 n ≡ found = cc in (n, refl, same)
+scanned o found e = grind arith
 
 not_scanned : (o : Option Num) → None ≡ option_map as_u64 o → o ≡ None
-not_scanned None e = refl
-not_scanned (Some n) e = absurd (cc)
+not_scanned o e = grind arith
 
 pub read_number : (depth : ℕ) (ts : List Token) (s : List ℕ) (v : MemberValue) (found : Option ℕ) → Some found ≡ option_map as_u64 (number_of s)
     → ((n : Num) → as_u64 n ≡ found → Shows v (number n)) → ReadAs depth (Token.number s ∷ ts) v ts
-read_number depth ts s v found e shows =
-    let n = scanned (number_of s) found e in (
-      number n.0,
-      ap (converted of_json) (value_is depth (Token.number s ∷ ts)) ∙ ap (λ o. option_map (λ d. (d, ts)) (option_map number o)) n.1,
-      shows n.0 n.2,
-    )
+read_number depth ts s v found e shows = grind (arith, scanned, value_is, option_map)
 
 pub no_number_read : (depth : ℕ) (ts : List Token) (s : List ℕ) → None ≡ option_map as_u64 (number_of s) → value_at depth (Token.number s ∷ ts) ≡ None
-no_number_read depth ts s e =
-    ap (converted of_json) (value_is depth (Token.number s ∷ ts)) ∙ ap (λ o. option_map (λ d. (d, ts)) (option_map number o)) (not_scanned (number_of s) e)
+no_number_read depth ts s e = grind (arith, value_is, option_map, not_scanned)
 
 pub shows_number : (n : Num) (m : ℕ) → as_u64 n ≡ Some m → Shows (Number m) (number n)
 shows_number n m e = record { text = refl; number = sym e; truth = refl; register = ap (option_map Some) (sym e) }
@@ -189,12 +153,10 @@ pub shows_other_number : (n : Num) → as_u64 n ≡ None → Shows Other (number
 shows_other_number n e = record { text = refl; number = sym e; truth = refl; register = ap (option_map Some) (sym e) }
 
 array_is : (o : Option (json.Items × List Token)) → converted of_json (parse_map json.array o) ≡ parse_map array (converted of_items o)
-array_is None = refl
-array_is (Some q) = beside array q.1 (of_items q.0)
+array_is o = grind (arith, beside)
 
 object_is : (o : Option (json.Members × List Token)) → converted of_json (parse_map json.object o) ≡ parse_map object (converted (λ ms. of_members ms no_members) o)
-object_is None = refl
-object_is (Some q) = beside object q.1 (of_members q.0 no_members)
+object_is o = grind (arith, beside)
 
 pub value_array : (depth : ℕ) (ts : List Token) → 0 < depth → value_at depth (Token.begin_array ∷ ts) ≡ parse_map array (items_at (depth - 1) (length ts) ts)
 value_array depth ts h = ap (converted of_json) (value-begin_array depth ts h) ∙ array_is (items (value (depth - 1)) (length ts) ts)
@@ -223,51 +185,31 @@ abbrev whole : Option (json.Json × List Token) → Option Members
 whole o = option_and_then as_object (option_and_then of_json (option_and_then (λ p. if_last p.0 p.1) o))
 
 last_is : (x : Option Members) → if_over (option_map (λ b. (b, [])) x) ≡ option_and_then as_object (option_map object x)
-last_is None = refl
-last_is (Some ms) = refl
+last_is x = grind arith
 
 not_last : (t : Token) (ts : List Token) (x : Option Members) → if_over (option_map (λ b. (b, t ∷ ts)) x) ≡ None
-not_last t ts None = refl
-not_last t ts (Some ms) = refl
+not_last t ts x = grind arith
 
 object_whole : (o : Option (json.Members × List Token)) → if_over (converted (λ ms. of_members ms no_members) o) ≡ whole (parse_map json.object o)
-object_whole None = refl
-object_whole (Some (js, [])) = last_is (of_members js no_members)
-object_whole (Some (js, t ∷ ts)) = not_last t ts (of_members js no_members)
+object_whole o = grind (arith, last_is, not_last)
 
 no_array : (x : Option Items) → None ≡ option_and_then as_object (option_map array x)
-no_array None = refl
-no_array (Some ds) = refl
+no_array x = grind arith
 
 array_whole : (o : Option (json.Items × List Token)) → None ≡ whole (parse_map json.array o)
-array_whole None = refl
-array_whole (Some (js, [])) = no_array (of_items js)
-array_whole (Some (js, t ∷ ts)) = refl
+array_whole o = grind (arith, no_array)
 
 no_number : (x : Option Num) → None ≡ option_and_then as_object (option_map number x)
-no_number None = refl
-no_number (Some n) = refl
+no_number x = grind arith
 
 leaf_whole : (j : json.Json) → None ≡ option_and_then as_object (of_json j) → (ts : List Token) → None ≡ whole (Some (j, ts))
-leaf_whole j e [] = e
-leaf_whole j e (t ∷ ts) = refl
+leaf_whole j e ts = grind arith
 
 object_at_is : (ts : List Token) → object_at ts ≡ whole (value 127 ts)
-object_at_is [] = rw value_is
-object_at_is (Token.begin_object ∷ ts) = object_whole (members (value 126) (length ts) ts) ∙ ap whole (sym (value-begin_object 127 ts (omega arith)))
-object_at_is (Token.end_object ∷ ts) = rw value_is
-object_at_is (Token.begin_array ∷ ts) = array_whole (items (value 126) (length ts) ts) ∙ ap whole (sym (value-begin_array 127 ts (omega arith)))
-object_at_is (Token.end_array ∷ ts) = rw value_is
-object_at_is (Token.key k ∷ ts) = rw value_is
-object_at_is (Token.string s ∷ ts) = rw value_is (leaf_whole (json.string s) refl ts)
-object_at_is (Token.number s ∷ ts) = rw value_is (leaf_whole (json.number s) (no_number (number_of s)) ts)
-object_at_is (Token.boolean b ∷ ts) = rw value_is (leaf_whole (json.boolean b) refl ts)
-object_at_is (Token.null ∷ ts) = rw value_is (leaf_whole json.null refl ts)
-object_at_is (Token.bad ∷ ts) = rw value_is
+object_at_is ts = grind (arith, value_is, object_whole, value-begin_object, array_whole, value-begin_array, leaf_whole, no_number)
 
 utf8_is : (line : List ℕ) (b : Bool) → is_utf8 line ≡ b → (IsUtf8 line → ⊥) → b ≡ false
-utf8_is line false e h = refl
-utf8_is line true e h = absurd (h (IsUtf8-from_is_utf8 line e))
+utf8_is line b e h = grind (arith, IsUtf8-from_is_utf8)
 
 -- a line that isn't UTF-8 is no object
 pub no_text : (line : List ℕ) → (IsUtf8 line → ⊥) → object_in line ≡ None

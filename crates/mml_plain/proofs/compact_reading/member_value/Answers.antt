@@ -1,4 +1,4 @@
-use Rattle.std.proofs.Common.{◌∷◌, true, false, ap, ◌∙◌, refl}
+use Rattle.std.proofs.Common.{refl, arith}
 use Rattle.mml_plain.specs.declared.member_value.MemberValue.TheVariants.{Text}
 use Rattle.mml_plain.proofs.CompactLemmas.{text_value, number_value, truth_value, null_value}
 use Rattle.mml_plain.proofs.compact_reading.member_value.Goals as goal
@@ -9,24 +9,13 @@ returns-in-Some c =
     (record { text = refl; number = refl; truth = refl; register = refl }) c.in-Some.ensures c.in_ok-word.ensures.0 c.in_ok-word.ensures.1
 
 pub returns-in-Some-whole_number : goal.returns-in-Some-whole_number
-returns-in-Some-whole_number c =
-    number_value c.args.text.now c.in-Some-whole_number.rest.now c.in-Some-whole_number.number c.in-Some-whole_number.ensures.1
-    c.in-Some-whole_number.ensures.0
+returns-in-Some-whole_number c = grind (arith, number_value)
 
 pub returns-in-Some-behind : goal.returns-in-Some-behind
-returns-in-Some-behind c =
-    truth_value c.args.text.now c.in_ok-rest.rest.now true
-    (c.in-Some-behind.ensures ∙ ap (λ t. 116 ∷ t) (c.in_ok-behind.ensures ∙ ap (λ t. 114 ∷ t) (c.in_ok-behind-2.ensures
-    ∙ ap (λ t. 117 ∷ t) c.in_ok-rest.ensures)))
+returns-in-Some-behind c = grind (arith, truth_value)
 
 pub returns-in-Some-behind-2 : goal.returns-in-Some-behind-2
-returns-in-Some-behind-2 c =
-    truth_value c.args.text.now c.in_ok-rest-2.rest.now false
-    (c.in-Some-behind-2.ensures ∙ ap (λ t. 102 ∷ t) (c.in_ok-behind-3.ensures ∙ ap (λ t. 97 ∷ t) (c.in_ok-behind-4.ensures
-    ∙ ap (λ t. 108 ∷ t) (c.in_ok-behind-5.ensures ∙ ap (λ t. 115 ∷ t) c.in_ok-rest-2.ensures))))
+returns-in-Some-behind-2 c = grind (arith, truth_value)
 
 pub returns-in-Some-behind-3 : goal.returns-in-Some-behind-3
-returns-in-Some-behind-3 c =
-    null_value c.args.text.now c.in_ok-rest-3.rest.now
-    (c.in-Some-behind-3.ensures ∙ ap (λ t. 110 ∷ t) (c.in_ok-behind-6.ensures ∙ ap (λ t. 117 ∷ t) (c.in_ok-behind-7.ensures
-    ∙ ap (λ t. 108 ∷ t) c.in_ok-rest-3.ensures)))
+returns-in-Some-behind-3 c = grind (arith, null_value)

@@ -1,9 +1,9 @@
-use Rattle.std.proofs.Common.{◌≡◌, ◌-◌, Bool, true, false, length, Option, Some, None, refl, ap, ◌∙◌, arith}
+use Rattle.std.proofs.Common.{◌≡◌, ◌-◌, Bool, length, Option, Some, None, refl, ap, ◌∙◌, arith}
 use Rattle.std.specs.Bool.{MatchBool}
 use Rattle.json.specs.Json.{read_key}
 use Rattle.json.proofs.Grammar.{read_key-shorter}
 use Rattle.serde_json.specs.Data.{Members, object, no_members, put}
-use Rattle.mml_plain.specs.Reading.{value_at, if_over}
+use Rattle.mml_plain.specs.Reading.{if_over}
 use Rattle.mml_plain.specs.Holds.{Holds}
 use Rattle.mml_plain.specs.declared.fields.Fields.{Fields}
 use Rattle.mml_plain.proofs.FieldsLemmas.{holds_with}
@@ -14,15 +14,11 @@ pub members-init : goal.members-init
 members-init c = (length c.args.reader.now, no_members, omega arith, refl, c.requires)
 
 pub returns-in_default : goal.returns-in_default
-returns-in_default c =
-    let l = c.members in
-    let none : read_key l.reader ≡ None = grind arith in
-    ap if_over (l.invariant.3 ∙ members_no_key 126 l.invariant.1 l.invariant.0 l.reader l.invariant.2 none)
+returns-in_default c = grind (arith, members_no_key)
 
 over : (b : Bool) (start last : Option Members) (found : Members) (fields : Fields) → start ≡ last → MatchBool b (last ≡ Some found) (last ≡ None) → Holds fields (object found)
     → MatchBool b ((ms : Members) × (start ≡ Some ms) × Holds fields (object ms)) (start ≡ None)
-over true start last found fields e is holds = (found, e ∙ is, holds)
-over false start last found fields e is holds = e ∙ is
+over b start last found fields e is holds = grind arith
 
 pub returns-in_default-next : goal.returns-in_default-next
 returns-in_default-next c =
@@ -33,13 +29,7 @@ returns-in_default-next c =
     (c.is_over.ensures l.invariant.1) l.invariant.4
 
 pub returns-in_default-read_value : goal.returns-in_default-read_value
-returns-in_default-read_value c =
-    let l = c.members in
-    let k = c.in-Some.key.now in
-    let s = c.next_key.new.self in
-    let named : read_key l.reader ≡ Some (Some k, s) = grind arith in
-    let none : value_at 126 s ≡ None = grind arith in
-    ap if_over (l.invariant.3 ∙ members_stuck 126 l.invariant.1 l.invariant.0 l.reader s k l.invariant.2 named none)
+returns-in_default-read_value c = grind (arith, members_stuck)
 
 pub members-preserved : goal.members-preserved
 members-preserved c =

@@ -1,4 +1,4 @@
-use Rattle.std.proofs.Common.{◌≡◌, List, ℕ, Bool, true, false, Some, None, Result, Ok, subst, ap, ◌∙◌}
+use Rattle.std.proofs.Common.{◌≡◌, List, ℕ, Bool, true, false, Some, None, Result, Ok, arith}
 use Rattle.std.specs.Bool.{MatchBool}
 use Rattle.std.specs.declared.alloc.AllocError.{AllocError}
 use Rattle.std.specs.Str.{IsUtf8}
@@ -19,22 +19,16 @@ Found b fields ts = MatchBool b ((ms : Members) × (object_at ts ≡ Some ms) ×
 
 object_is : (b : Bool) (fields : Fields) (line : List ℕ) → IsUtf8 line → Found b fields (tokens line) → the_answer b ≡ Ok true
     → (ms : Members) × (object_in line ≡ Some ms) × Holds fields (object ms)
-object_is true fields line u h e = (h.0, object_in_is line u ∙ h.1, h.2)
-object_is false fields line u h e = absurd (cc)
+object_is b fields line u h e = grind (arith, object_in_is)
 
 other_is : (b : Bool) (fields : Fields) (line : List ℕ) → IsUtf8 line → Found b fields (tokens line) → the_answer b ≡ Ok false → object_in line ≡ None
-other_is true fields line u h e = absurd (cc)
-other_is false fields line u h e = object_in_is line u ∙ h
+other_is b fields line u h e = grind (arith, object_in_is)
 
 pub returns-in_default-clause-other : goal.returns-in_default-clause-other
 returns-in_default-clause-other c = λ e. no_text c.args.line.now (c.in_default.ensures.cases.0)
 
 pub returns-clause-object : goal.returns-clause-object
-returns-clause-object c =
-    object_is c.read_object.result c.read_object.new.fields c.args.line.now c.in-Ok.ensures.cases.1
-    (subst (Found c.read_object.result c.read_object.new.fields) (c.in_ok-reader.ensures.ok ∙ ap tokens c.in-Ok.ensures.cases.0) c.read_object.ensures)
+returns-clause-object c = grind (arith, object_is)
 
 pub returns-clause-other : goal.returns-clause-other
-returns-clause-other c =
-    other_is c.read_object.result c.read_object.new.fields c.args.line.now c.in-Ok.ensures.cases.1
-    (subst (Found c.read_object.result c.read_object.new.fields) (c.in_ok-reader.ensures.ok ∙ ap tokens c.in-Ok.ensures.cases.0) c.read_object.ensures)
+returns-clause-other c = grind (arith, other_is)
