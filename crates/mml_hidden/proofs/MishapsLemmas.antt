@@ -15,6 +15,7 @@ use Rattle.mml_codec.specs.Greetings.{greeting}
 use Rattle.mml_codec.specs.Lines.{request_in}
 use Rattle.mml_hall.specs.Turns.{State, Outcome, Run, RequestLine, Mishap, nothing, while_read, later, sink_failed, turn, plain_turn, known_on, settled}
 use Rattle.mml_hall.specs.Turns.{answer_to, takes_memory, is_grant, without_memory, halting, opening}
+use Rattle.mml_hall.proofs.TurnsLemmas.{whatever_befell}
 use Rattle.mml_hall.specs.Transcripts.{Transcript, output_line}
 use Rattle.mml_hidden.specs.Twins.{AreTwins, StatesAlike, is_hers}
 use Rattle.mml_hidden.specs.Mishaps.{BefallenLine, turn_with, lines_in, replies_with, end_with, StayAlikeWith, written_on_any, AreHersThroughout, Befalls}
@@ -24,18 +25,9 @@ use Rattle.mml_hidden.proofs.ScriptedLemmas.{if_same, openings_alike}
 
 -- ---- worlds stay worlds of the lab's nodes, whatever befell the turn
 
-either_of : (ids : List ℕ) (b : Bool) (p q : Outcome) → IsWorldOf ids p.state.world → IsWorldOf ids q.state.world → IsWorldOf ids (cond b p q).state.world
-either_of ids true p q x y = x
-either_of ids false p q x y = y
-
 turn_world : (lab : LabValue) (st : State) → IsWorldOf lab.ids st.world → (m : Mishap) (k : ℕ) (line : List ℕ)
     → IsWorldOf lab.ids (turn m lab st k line).state.world
-turn_world lab st is nothing k line = plain_of lab st is k line
-turn_world lab st is while_read k line = is
-turn_world lab st is later k line =
-    either_of lab.ids (takes_memory (plain_turn lab st k line).reply) (without_memory st) (plain_turn lab st k line) is (plain_of lab st is k line)
-turn_world lab st is sink_failed k line =
-    either_of lab.ids (is_grant (plain_turn lab st k line).reply) (halting st) (plain_turn lab st k line) is (plain_of lab st is k line)
+turn_world lab st is m k line = whatever_befell lab st k line (λ out. IsWorldOf lab.ids out.state.world) (plain_of lab st is k line) is is m
 
 -- ---- the same are known after a turn of another's, whatever befell both
 

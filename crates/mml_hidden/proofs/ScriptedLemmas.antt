@@ -23,8 +23,9 @@ use Rattle.mml_codec.specs.declared.reply.Refused.TheVariants as refused
 use Rattle.mml_codec.specs.Greetings.{greeting, admitted}
 use Rattle.mml_codec.specs.Lines.{request_in}
 use Rattle.mml_codec.specs.Replies.{reply_line}
-use Rattle.mml_hall.specs.Turns.{State, Outcome, Turn, Run, RequestLine, Mishap, nothing, while_read, later, sink_failed, turn, plain_turn, known_on}
-use Rattle.mml_hall.specs.Turns.{with_known, settled, answer_to, told, opening, takes_memory, is_grant, without_memory, halting}
+use Rattle.mml_hall.specs.Turns.{State, Outcome, Turn, Run, RequestLine, nothing, plain_turn, known_on}
+use Rattle.mml_hall.specs.Turns.{with_known, settled, answer_to, told, opening}
+use Rattle.mml_hall.proofs.TurnsLemmas.{by_turn}
 use Rattle.mml_hall.specs.Transcripts.{Transcript, output_line, output_lines, bytes_written}
 use Rattle.mml_audit.proofs.AuditMeaningLemmas.{reached_first}
 use Rattle.mml_hidden.specs.Twins.{AreTwins, StatesAlike, is_hers}
@@ -177,28 +178,12 @@ opening_hers lab s = All-replicate (λ (known : Option Who). is_hers s known ≡
 
 -- ---- runs that no mishap hinders are plain
 
-unless_memory : (st : State) (plain : Outcome) (b : Bool) → (cond b (without_memory st) plain).reply ≢ Refuse refused.Memory
-    → cond b (without_memory st) plain ≡ plain
-unless_memory st plain true h = absurd (h refl)
-unless_memory st plain false h = refl
-
-unless_journal : (st : State) (plain : Outcome) (b : Bool) → (cond b (halting st) plain).reply ≢ Refuse refused.Journal → cond b (halting st) plain ≡ plain
-unless_journal st plain true h = absurd (h refl)
-unless_journal st plain false h = refl
-
-plain_mishap : (lab : LabValue) (st : State) (k : ℕ) (line : List ℕ) (m : Mishap) → (turn m lab st k line).reply ≢ Refuse refused.Memory
-    → (turn m lab st k line).reply ≢ Refuse refused.Journal
-    → turn m lab st k line ≡ plain_turn lab st k line
-plain_mishap lab st k line nothing memory journal = refl
-plain_mishap lab st k line while_read memory journal = absurd (memory refl)
-plain_mishap lab st k line later memory journal = unless_memory st (plain_turn lab st k line) (takes_memory (plain_turn lab st k line).reply) memory
-plain_mishap lab st k line sink_failed memory journal = unless_journal st (plain_turn lab st k line) (is_grant (plain_turn lab st k line).reply) journal
-
 plain_there : (lab : LabValue) (st : State) (k : ℕ) (line : List ℕ) (out : Outcome) → Turn lab st k line out → out.reply ≢ Refuse refused.Memory
     → out.reply ≢ Refuse refused.Journal
     → out ≡ plain_turn lab st k line
-plain_there lab st k line out (m, e) memory journal =
-    e ∙ plain_mishap lab st k line m (λ h. memory (ap (λ (o : Outcome). o.reply) e ∙ h)) (λ h. journal (ap (λ (o : Outcome). o.reply) e ∙ h))
+plain_there lab st k line =
+    by_turn lab st k line (λ out. out.reply ≢ Refuse refused.Memory → out.reply ≢ Refuse refused.Journal → out ≡ plain_turn lab st k line)
+    (λ memory journal. refl) (λ memory journal. absurd (memory refl)) (λ memory journal. absurd (journal refl))
 
 -- a run that nothing hindered has the replies and the end of its plain turns
 pub plain_run : (lab : LabValue) (st : State) (lines : List RequestLine) (rs : List Reply) (end : State) → Run lab st lines rs end → AreUnhindered rs
