@@ -58,11 +58,8 @@ module _ (n : ℕ) (f : ℕ → Option ℕ) (Shape : Configuration → Type 0) (
       let x = points i j lt e in
       elim (cases_lt j i) [
         | inl less ↦ (ap (λ o. holds o i) (k.done j less).0, inr less)
-        | inr ge ↦ let y = k.todo j (later ge x.1) x.0 in (ap (λ o. holds o i) y.0 ∙ x.2, inl y.1)
+        | inr ge ↦ let y = k.todo j (omega (arith, ge, x.1)) x.0 in (ap (λ o. holds o i) y.0 ∙ x.2, inl y.1)
       ]
-    where
-      later : i ≤ j → (i ≡ j → ⊥) → i < j
-      later ge ne = omega (arith, ge, ne)
 
   free_at_first : (i : ℕ) (c : Configuration) → i < n → Cleared i (f i) true c → is_married c i ≡ false
   free_at_first i c lt k = go (f i) refl

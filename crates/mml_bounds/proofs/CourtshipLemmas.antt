@@ -37,10 +37,6 @@ court d i j e lt off free = grind (arith, nat_tests)
 pub vain_part : (d : Configuration) (i j : ℕ) → d.p i ≡ Some j → nat_lt i j && (not (d.m j) && not (is_married d j)) ≡ false → pointer_part d i ≡ 2
 vain_part d i j e off = grind (arith, nat_tests)
 
-wed_most : (b : Bool) → cond b 0 1 ≤ 1
-wed_most true = omega arith
-wed_most false = omega arith
-
 module _ (c : Configuration) (chosen : ℕ → Option Rule) (l : IsLawful c) (h : AllHold c chosen) where
   -- the configuration after the step
   abbrev next : Configuration

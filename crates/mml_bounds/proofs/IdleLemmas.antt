@@ -40,10 +40,7 @@ module _ (c : Configuration) (l : IsLawful c) where
       go Rule.Abandonment g = let some = abandoned c i g in let e = some.1 in cc
 
   differ : (a b : Bool) → a ≡ not b → not (beq a b) ≡ true
-  differ true true e = absurd (false≢true (sym e))
-  differ true false e = refl
-  differ false true e = refl
-  differ false false e = absurd (false≢true e)
+  differ a b e = grind arith
 
   pub may_update : (i : ℕ) → c.m i ≡ not (is_married c i) → guard c i Rule.Update ≡ true
   may_update i e = differ (c.m i) (is_married c i) e

@@ -8,8 +8,7 @@ use Rattle.mml_bounds.specs.Courtships.{most_courtships}
 -- each falls by what is charged to it, less what it is lent
 pub sum_lent : (n : ℕ) (f t g b : ℕ → ℕ) → ((j : ℕ) → f j + t j ≤ g j + b j) → sum_below n f + sum_below n t ≤ sum_below n g + sum_below n b
 sum_lent zero f t g b le = omega arith
-sum_lent (suc n) f t g b le =
-    omega (arith, sum_lent n f t g b le, le n)
+sum_lent (suc n) f t g b le = omega (arith, sum_lent n f t g b le, le n)
 
 -- numbers pass a test or don't
 pub count_both : (n : ℕ) (t : ℕ → Bool) → count_below n t + count_below n (λ i. not (t i)) ≡ n

@@ -157,9 +157,7 @@ parted (suc (suc zero)) le = record { couples = 0; odd = false; whole = refl; ro
 parted (suc (suc (suc zero))) le = record { couples = 0; odd = true; whole = refl; rounds = refl }
 parted (suc (suc (suc (suc n)))) le =
     let x = parted (suc (suc n)) (omega arith) in
-    let whole = x.whole in
-    let rounds = x.rounds in
-    record { couples = suc x.couples; odd = x.odd; whole = omega (arith, whole); rounds = omega (arith, rounds) }
+    record { couples = suc x.couples; odd = x.odd; whole = omega (arith, x.whole); rounds = omega (arith, x.rounds) }
 
 -- ---- the whole run
 

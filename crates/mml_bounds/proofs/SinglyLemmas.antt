@@ -31,11 +31,7 @@ pub above_out : (t : ℕ → Bool) (n i : ℕ) → t i ≡ false → above t n i
 above_out t n i off = ap (λ b. b && nat_le n i) off
 
 pub above_in : (t : ℕ → Bool) (n i : ℕ) → above t n i ≡ true → (t i ≡ true) × (n ≤ i)
-above_in t n i e = go (t i) refl e
-  where
-    go : (b : Bool) → t i ≡ b → (b && nat_le n i) ≡ true → (t i ≡ true) × (n ≤ i)
-    go true on e = (on, leb-true n i e)
-    go false off e = absurd (false≢true e)
+above_in t n i e = grind (arith, nat_tests)
 
 above_same : (t : ℕ → Bool) (n i : ℕ) → (i ≡ n → ⊥) → above t (suc n) i ≡ above t n i
 above_same t n i other = grind (arith, nat_tests)
@@ -136,7 +132,7 @@ module _ (A : World → ℕ → Type 0) (r : RosterValue) (s k n : ℕ) (c : Con
 
   part : (m : ℕ) (v : World) → m ≤ n → IsWorld v → IsQuiet v → IsMoved c (configuration v) (above t m) rule → Part m v
   part zero v le world quiet e =
-      let all : (i : ℕ) → i < c.size → above t 0 i ≡ t i = λ i lt. ap (λ b. t i && b) (le-leb 0 i (omega arith)) ∙ every (t i) in
+      let all : (i : ℕ) → i < c.size → above t 0 i ≡ t i = λ i lt. every i in
       let rest = next v world quiet (relabelled c (configuration v) (above t 0) t rule all e) in
       record {
         front = [];
@@ -150,9 +146,8 @@ module _ (A : World → ℕ → Type 0) (r : RosterValue) (s k n : ℕ) (c : Con
         turns = λ i lt. absurd (omega (arith, lt));
       }
     where
-      every : (b : Bool) → (b && true) ≡ b
-      every true = refl
-      every false = refl
+      every : (i : ℕ) → above t 0 i ≡ t i
+      every i = grind (arith, nat_tests)
   part (suc m) v le world quiet e = elim (cases_Bool (t m)) [
     | inl on ↦
         let lt : m < c.size = omega (arith, le, sized) in
@@ -172,19 +167,15 @@ module _ (A : World → ℕ → Type 0) (r : RosterValue) (s k n : ℕ) (c : Con
           moves = omega (arith, rest.moves, none);
           rounds = rest.rounds;
           ends = rest.ends;
-          turns = λ i lt is. rest.turns i (other i lt is off (cases_eq i m)) is;
+          turns = λ i lt is. rest.turns i (other i lt is off) is;
         }
   ]
     where
       same : t m ≡ false → (i : ℕ) → i < c.size → above t (suc m) i ≡ above t m i
-      same off i lt = elim (cases_eq i m) [
-        | inl e ↦ above_out t (suc m) i (ap t e ∙ off) ∙ sym (above_out t m i (ap t e ∙ off))
-        | inr other ↦ above_same t m i other
-      ]
+      same off i lt = grind (arith, nat_tests, above_same t m i, off)
 
-      other : (i : ℕ) → i < suc m → t i ≡ true → t m ≡ false → (i ≡ m) ⊎ (i ≡ m → ⊥) → i < m
-      other i lt is off (inl e) = absurd (both_ways (t i) (ap t e ∙ off) is)
-      other i lt is off (inr ne) = omega (arith, lt, ne)
+      other : (i : ℕ) → i < suc m → t i ≡ true → t m ≡ false → i < m
+      other i lt is off = grind (arith, nat_tests)
 
 -- a round of moves by one rule, each in a close of its own, where no other node is privileged
 pub single_round : (A : World → ℕ → Type 0) (r : RosterValue) (s k n : ℕ) (t : ℕ → Bool) (rule : Rule) (w : World) → IsWorld w → IsQuiet w → size w ≡ n

@@ -30,8 +30,7 @@ courting_fell c chosen l h =
           (λ i. cond (is_married (step c chosen) i) (cond (is_married c i) 0 1) 2) (lent_pays c chosen l h) in
           let lent = count_lent c.size (is_married c) (is_married (step c chosen)) (step-married c chosen l h) in
           let less : free_count (step c chosen) + 2 ≤ free_count c = omega (arith, two, before, after) in
-          let courted = marriages_pay (free_count (step c chosen)) (free_count c) less in
-          omega (arith, counted, before, after, paid, lent, courted)
+          omega (arith, counted, before, after, paid, lent, marriages_pay (free_count (step c chosen)) (free_count c) less)
       | inr calm ↦
           let paid = sum_charged c.size (λ i. cond (moves chosen i) 1 0) (node_part (step c chosen)) (node_part c) (calm_pays c chosen l h calm) in
           let kept = married_kept c chosen l h in

@@ -83,5 +83,4 @@ closes_fewer r w (e ∷ es) k legal = grind (arith, one e, closes_fewer r (after
 -- over grants, releases and closes, there are 2 closes for each link and 3 for each node at the most
 pub closes_bounded : (r : RosterValue) (w : World) (es : List Event) → IsWorld w → is_legal_list r w es ≡ true → list_all is_of_step es ≡ true
     → count_closes es ≤ 2 * link_count w.network + 3 * size w
-closes_bounded r w es k legal steps =
-    omega (arith, closes_fewer r w es k legal, moves_bounded r w es k legal steps)
+closes_bounded r w es k legal steps = omega (arith, closes_fewer r w es k legal, moves_bounded r w es k legal steps)

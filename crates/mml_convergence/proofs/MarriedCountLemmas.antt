@@ -72,8 +72,7 @@ single_counts c i lt e =
 
 -- no more nodes are married than there are
 pub most : (c : Configuration) → married_count c ≤ c.size
-most c =
-    omega (arith, count_kept c.size (is_married c) (λ j. true) (λ j e. refl), count_all c.size)
+most c = omega (arith, count_kept c.size (is_married c) (λ j. true) (λ j e. refl), count_all c.size)
 
 -- ---- a step
 

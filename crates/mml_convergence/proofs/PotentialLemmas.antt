@@ -19,12 +19,10 @@ use Rattle.mml_convergence.proofs.MovesLemmas.{pays, marries_lower, marries_lowe
 use Rattle.mml_convergence.proofs.MovesLemmas.{makes, drops}
 
 cond_kept : (b : Bool) (x y : ℕ) → (b ≡ true → x ≤ y) → cond b x 0 ≤ cond b y 0
-cond_kept true x y le = le refl
-cond_kept false x y le = omega arith
+cond_kept b x y le = grind arith
 
 cond_fell : (b : Bool) (x y : ℕ) → b ≡ true → x + 1 ≤ y → cond b x 0 + 1 ≤ cond b y 0
-cond_fell true x y e le = le
-cond_fell false x y e le = absurd (false≢true e)
+cond_fell b x y e le = grind arith
 
 module _ (c : Configuration) (chosen : ℕ → Option Rule) (l : IsLawful c) (h : AllHold c chosen) where
   -- the configuration after the step

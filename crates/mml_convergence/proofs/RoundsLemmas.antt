@@ -48,10 +48,7 @@ stable_or_open : (c : Configuration) → IsLawful c → IsHopeful c → IsStable
 stable_or_open c l k = go (some_below c.size (is_privileged c)) refl
   where
     right : (i : ℕ) → i < c.size → c.m i ≡ is_married c i
-    right i lt = elim (cases_Bool (is_married c i)) [
-      | inl on ↦ k.aware i lt on ∙ sym on
-      | inr off ↦ k.settled.modest i lt off ∙ sym off
-    ]
+    right i lt = grind (arith, k.aware i lt, k.settled.modest i lt)
 
     by_rule : (i : ℕ) → i < c.size → (r : Rule) → guard c i r ≡ true → (a : ℕ) × (b : ℕ) × IsOpen a b c
     by_rule i lt Rule.Update g = absurd (self (is_married c i) (sym (right i lt) ∙ updates c i g))
@@ -271,8 +268,7 @@ stable_or_dawn c l modest lone = go (some_below c.size (is_privileged c)) refl
           high = s.0;
           up = m.higher;
           within = (l.in_range i s.0 m.linked).1;
-          either =
-              inr (record { linked = m.linked; up = m.higher; null = m.null; either = inl m.free });
+          either = inr (record { linked = m.linked; up = m.higher; null = m.null; either = inl m.free });
         }
     by_rule i lt Rule.Abandonment g = let s = abandoned c i g in descend (suc i) i s.0 c l (omega arith) s.1
 

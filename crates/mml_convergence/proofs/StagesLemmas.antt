@@ -268,8 +268,7 @@ module _ (c : Configuration) (chosen : ℕ → Option Rule) (l : IsLawful c) (h 
           who = top.0;
           whom = top.1;
           free = free_after top.0 (courted_free c top.0 top.1 l top.2);
-          points =
-              courted_stays modest upward top.0 top.1 top.2;
+          points = courted_stays modest upward top.0 top.1 top.2;
         }
 
     pub courting_moves : Each Modest c → Each Upward c → Each Hopeful c → (a b : ℕ) → IsOpen a b c → (r : Rule) → chosen a ≡ Some r → IsCourting next
@@ -305,11 +304,7 @@ module _ (c : Configuration) (chosen : ℕ → Option Rule) (l : IsLawful c) (h 
             let alone = courted_free c j t l (record { suitor = m.suitor; null = k.null }) in
             let up = upward j range.0 alone t m.suitor in
             both_ways (is_married next t) (free_after t free) (married-from next t j (step-lawful c chosen l h) to (suitor_stays t j m.suitor off up))
-        by_rule Rule.Seduction g to =
-            let x = and_parts (m_is_right c t) (is_none (c.p t) && (not (has_suitor c t) && is_some (greatest_candidate c t))) g in
-            let y = and_parts (is_none (c.p t)) (not (has_suitor c t) && is_some (greatest_candidate c t)) x.1 in
-            let z = and_parts (not (has_suitor c t)) (is_some (greatest_candidate c t)) y.1 in
-            both_ways (has_suitor c t) (not-true _ z.0) (suitor-from c t s l (l.symmetric s t (l.to_linked s t k.suitor)) k.suitor)
+        by_rule Rule.Seduction g to = grind (arith, suitor-from c t s l (l.symmetric s t (l.to_linked s t k.suitor)) k.suitor)
         by_rule Rule.Abandonment g to = let a = abandoned c t g in let some = a.1 in let null = k.null in cc
 
     pub courted_kept : Each Modest c → Each Upward c → (s t : ℕ) → IsCourted s t c → IsCourted s t next

@@ -23,5 +23,4 @@ halves_court n = at_half n (n / 2) (halved n)
 pub rounds_are : (n : ℕ) → 2 * n - n % 2 ≡ rounds_for n
 rounds_are zero = refl
 rounds_are (suc zero) = refl
-rounds_are (suc (suc n)) =
-    omega (arith, rounds_are n)
+rounds_are (suc (suc n)) = omega (arith, rounds_are n)

@@ -17,8 +17,7 @@ more p x xs = sum_by-cons (λ x. cond (p x) 1 0) x xs
 pub count_split : (n : ℕ) (t u v : ℕ → Bool) → ((j : ℕ) → j < n → one (t j) ≡ one (u j) + one (v j))
     → count_below n t ≡ count_below n u + count_below n v
 count_split zero t u v apart = refl
-count_split (suc n) t u v apart =
-    omega (arith, count_split n t u v (λ j lt. apart j (omega arith)), apart n (omega arith))
+count_split (suc n) t u v apart = omega (arith, count_split n t u v (λ j lt. apart j (omega arith)), apart n (omega arith))
 
 -- one number below n is k
 pub count_one : (n k : ℕ) → k < n → count_below n (eqb k) ≡ 1

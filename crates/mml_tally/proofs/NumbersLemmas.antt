@@ -16,8 +16,7 @@ changes es = count_by is_close es + count_by is_fault es + count_by is_link es +
 
 -- by whether the first event is one of them
 one_more : (e : Event) (es : List Event) → changes (e ∷ es) ≡ one (is_close e) + one (is_fault e) + one (is_link e) + one (is_cut e) + changes es
-one_more e es =
-    omega (arith, more is_close e es, more is_fault e es, more is_link e es, more is_cut e es)
+one_more e es = omega (arith, more is_close e es, more is_fault e es, more is_link e es, more is_cut e es)
 
 pub numbers_are : (w : World) (es : List Event) → (world_of w es).number ≡ w.number + changes es
 numbers_are w [] = omega arith
@@ -28,7 +27,5 @@ numbers_are w (event.Release i ∷ es) =
 numbers_are w (event.Close ∷ es) = let rest = numbers_are (after w event.Close) es in let here = one_more event.Close es in omega (arith, rest, here)
 numbers_are w (event.Fault i registers ∷ es) =
     omega (arith, numbers_are (after w (event.Fault i registers)) es, one_more (event.Fault i registers) es)
-numbers_are w (event.Link a b ∷ es) =
-    omega (arith, numbers_are (after w (event.Link a b)) es, one_more (event.Link a b) es)
-numbers_are w (event.Cut a b ∷ es) =
-    omega (arith, numbers_are (after w (event.Cut a b)) es, one_more (event.Cut a b) es)
+numbers_are w (event.Link a b ∷ es) = omega (arith, numbers_are (after w (event.Link a b)) es, one_more (event.Link a b) es)
+numbers_are w (event.Cut a b ∷ es) = omega (arith, numbers_are (after w (event.Cut a b)) es, one_more (event.Cut a b) es)
