@@ -1,5 +1,5 @@
 -- No act is shown, and no view is granted.
-use Rattle.std.proofs.Common.{◌≡◌, ◌≢◌, ℕ, true, false, List, Result, Ok, Err}
+use Rattle.std.proofs.Common.{◌≡◌, ◌≢◌, ℕ, true, false, List, Result, arith}
 use Rattle.std.specs.Result.{IfOk}
 use Rattle.mml_lab.specs.declared.who.Who.{Who}
 use Rattle.mml_lab.specs.Rosters.{RosterValue}
@@ -10,19 +10,14 @@ use Rattle.mml_policy.specs.declared.command.Command.{Command}
 use Rattle.mml_policy.specs.declared.denial.Denial.{Denial}
 use Rattle.mml_policy.specs.declared.verdict.Verdict.TheVariants as verdicts
 use Rattle.mml_policy.specs.declared.verdict.Leave.{Leave}
-use Rattle.mml_policy.specs.declared.verdict.Leave.TheVariants as leave
 use Rattle.mml_policy.specs.Verdicts.{clauses, settled, verdict}
 use Rattle.mml_policy.proofs.VerdictLemmas.{IsEvent, of_kind}
 
 not_shown : (s : Result Leave Denial) → IfOk s (IsEvent true) → settled s ≢ verdicts.Show
-not_shown (Ok (leave.Grant event)) h e = absurd cc
-not_shown (Ok _) h e = absurd cc
-not_shown (Err d) h e = absurd cc
+not_shown s h e = grind arith
 
 not_granted : (s : Result Leave Denial) (event : Event) → IfOk s (IsEvent false) → settled s ≢ verdicts.Grant event
-not_granted (Ok (leave.Grant other)) event h e = absurd cc
-not_granted (Ok _) event h e = absurd cc
-not_granted (Err d) event h e = absurd cc
+not_granted s event h e = grind arith
 
 module _ (ids : List ℕ) (r : RosterValue) (w : World) (x : Who) where
   pub act_not_shown : (c : Command) → is_act c ≡ true → verdict ids r w x c ≢ verdicts.Show

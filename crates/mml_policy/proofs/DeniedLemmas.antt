@@ -1,6 +1,5 @@
 -- Why each of the teacher's commands is denied.
-use Rattle.std.proofs.Common.{◌≡◌, ◌≢◌, ◌↔◌, ℕ, ◌==◌, Bool, true, false, not, List, Option, None, Some, is_some, Result, Ok, Err, refl, sym, ap, ◌∙◌, subst}
-use Rattle.std.proofs.Common.{inl, inr, arith}
+use Rattle.std.proofs.Common.{◌≡◌, ◌≢◌, ◌↔◌, ℕ, Bool, false, List, Option, None, Some, is_some, Result, Ok, Err, sym, ap, ◌∙◌, arith}
 use Rattle.std.specs.List.{list_any}
 use Rattle.std.specs.Option.{ok_or}
 use Rattle.std.specs.Result.{IfErr}
@@ -15,16 +14,16 @@ use Rattle.mml_lab.specs.declared.who.Who.TheVariants as who
 use Rattle.mml_lab.specs.Rosters.{RosterValue}
 use Rattle.mml_board.specs.declared.event.Event.TheVariants as event
 use Rattle.mml_board.specs.World.{World, configuration, chosen_at}
-use Rattle.mml_board.specs.Events.{is_any_chosen, may_point}
+use Rattle.mml_board.specs.Events.{may_point}
 use Rattle.mml_policy.specs.declared.command.Command.TheVariants as command
 use Rattle.mml_policy.specs.declared.denial.Denial.{Denial}
-use Rattle.mml_policy.specs.declared.denial.Denial.TheVariants.{NotTeacher, Empty, NoNode, BadRegister, Loop, Linked, NotLinked, NotChosen}
+use Rattle.mml_policy.specs.declared.denial.Denial.TheVariants.{NotTeacher, NoNode, BadRegister, Loop}
 use Rattle.mml_policy.specs.declared.verdict.Verdict.TheVariants as verdicts
 use Rattle.mml_policy.specs.declared.verdict.Leave.{Leave}
 use Rattle.mml_policy.specs.declared.verdict.Leave.TheVariants.{Grant}
 use Rattle.mml_policy.specs.Visible.{is_teacher}
 use Rattle.mml_policy.specs.Clauses.{node, pointer}
-use Rattle.mml_policy.specs.Verdicts.{clauses, settled, verdict}
+use Rattle.mml_policy.specs.Verdicts.{verdict}
 use Rattle.mml_policy.specs.Meaning.{IsNamed, IsRegister}
 use Rattle.mml_policy.specs.Denied.{IsAskedOf, IsAskedOfBoth, DeniesClose, DeniesFault, LacksAnEnd, DeniesLink, DeniesCut, DeniesRelease, DeniesReport}
 use Rattle.mml_policy.proofs.ClausesLemmas.{node-ok, node-err}
@@ -50,28 +49,16 @@ from_no_teacher : (x : Who) → x ≢ who.Teacher → is_teacher x ≡ false
 from_no_teacher x h = false_from_ne_true (is_teacher x) (λ t. h (teacher_is x t))
 
 none_chosen : (chosen : List (Option Rule)) → list_any is_some chosen ≡ false → (i : ℕ) → chosen_at chosen i ≡ None
-none_chosen chosen h i = go (chosen_at chosen i) refl
-  where
-    go : (o : Option Rule) → chosen_at chosen i ≡ o → o ≡ None
-    go None e = refl
-    go (Some q) e = absurd (both_ways (list_any is_some chosen) h (some-chosen chosen i q e))
+none_chosen chosen h i = grind (arith, both_ways, some-chosen)
 
 from_none_chosen : (chosen : List (Option Rule)) → ((i : ℕ) → chosen_at chosen i ≡ None) → list_any is_some chosen ≡ false
-from_none_chosen chosen h =
-    false_from_ne_true (list_any is_some chosen) (λ t. let found = chosen-some chosen t in let none = h found.0 in let there = found.2 in absurd cc)
+from_none_chosen chosen h = grind (arith, false_from_ne_true, chosen-some)
 
 no_choice : (o : Option Rule) → is_some o ≡ false → o ≡ None
-no_choice None h = refl
-no_choice (Some q) h = absurd (both_ways true h refl)
+no_choice o h = grind (arith, both_ways)
 
 no_pointer : (ids : List ℕ) (p : Option ℕ) (d : Denial) → pointer ids p BadRegister ≡ Err d → (d ≡ BadRegister) × ((q : Option ℕ) → ¬ IsNamed ids p q)
-no_pointer ids None d h = absurd (grind arith)
-no_pointer ids (Some id) d h = go (rank_in ids id) refl h
-  where
-    go : (o : Option ℕ) → rank_in ids id ≡ o → (ok_or o BadRegister >>= (λ j. let s : Result (Option ℕ) Denial = Ok (Some j) in s)) ≡ Err d
-        → (d ≡ BadRegister) × ((q : Option ℕ) → ¬ IsNamed ids (Some id) q)
-    go None e h = ((grind arith), (λ q k. let there = k.1 in absurd cc))
-    go (Some j) e h = absurd (grind arith)
+no_pointer ids p d h = grind arith
 
 same_pointer : (p q : Option ℕ) → (let s : Result (Option ℕ) Denial = Ok p in s ≡ Ok q) → p ≡ q
 same_pointer p q e = grind arith
@@ -88,22 +75,15 @@ module _ (ids : List ℕ) (r : RosterValue) (w : World) (x : Who) where
 
     -- where it is there, what comes next
     at_node : (i : ℕ) (v : Result Leave Denial) → IsAskedOf ids x id i → rest i ≡ v → (need (is_teacher x) NotTeacher >> (node ids id NoNode >>= rest)) ≡ v
-    at_node i v asked e =
-        need-from (is_teacher x) _ _ _ (ap is_teacher asked.teacher) (bind-from (node ids id NoNode) _ _ i (ap (λ o. ok_or o NoNode) asked.node) e)
+    at_node i v asked e = grind (arith, need-from, bind-from)
 
   -- ---- a close
 
   close_to : (d : Denial) → verdict ids r w x command.Close ≡ verdicts.Deny d → DeniesClose w x d
-  close_to d h = IfErr-at_err (DeniesClose w x) (settled-deny (clauses ids r w x command.Close) d h)
-      (need-deny (DeniesClose w x) (is_teacher x) _ _ (no_teacher x) (λ t.
-      need-deny (DeniesClose w x) (is_any_chosen w) _ _ (λ none. (teacher_is x t, none_chosen w.chosen none)) (λ _. tt)))
+  close_to d h = grind (arith, IfErr-at_err, settled-deny, need-deny, no_teacher, teacher_is, none_chosen)
 
   close_from : (d : Denial) → DeniesClose w x d → verdict ids r w x command.Close ≡ verdicts.Deny d
-  close_from NotTeacher h = ap settled (not_teachers _ h)
-  close_from Empty h = ap settled (
-      need-from (is_teacher x) _ _ _ (ap is_teacher h.0) (
-      need-fails (is_any_chosen w) _ _ (from_none_chosen w.chosen h.1)))
-  close_from d h = absurd h
+  close_from d h = grind (arith, not_teachers, need-from, need-fails, from_none_chosen)
 
   pub close_denied : (d : Denial) → (verdict ids r w x command.Close ≡ verdicts.Deny d) ↔ DeniesClose w x d
   close_denied d = (close_to d, close_from d)
@@ -116,9 +96,7 @@ module _ (ids : List ℕ) (r : RosterValue) (w : World) (x : Who) where
 
     unfit : (i : ℕ) (q : Option ℕ) → pointer ids p BadRegister ≡ Ok q → may_point (configuration w) i q ≡ false → (q : Option ℕ) → IsNamed ids p q
         → ¬ IsRegister w i q
-    unfit i q found fails other named fits =
-        let same : q ≡ other = same_pointer q other (sym found ∙ named-from ids p other named) in
-        both_ways (may_point (configuration w) i q) fails (ap (may_point (configuration w) i) same ∙ register-from w i other fits)
+    unfit i q found fails other named fits = grind (arith, same_pointer, named-from, both_ways, register-from)
 
     -- the clause of the register, and the event
     abbrev with_register : ℕ → Option ℕ → Result Leave Denial
@@ -131,20 +109,10 @@ module _ (ids : List ℕ) (r : RosterValue) (w : World) (x : Who) where
     no_register i none (Err d) e = bind-fails (pointer ids p BadRegister) (with_register i) BadRegister (e ∙ ap Err (no_pointer ids p d e).0)
 
     fault_to : (d : Denial) → verdict ids r w x (command.Fault id p m) ≡ verdicts.Deny d → why_no_fault d
-    fault_to d h = IfErr-at_err why_no_fault (settled-deny (clauses ids r w x (command.Fault id p m)) d h)
-        (need-deny why_no_fault (is_teacher x) _ _ (no_teacher x) (λ t.
-        bind-deny why_no_fault (node ids id NoNode) _ (λ d h. let e = node-err ids id NoNode d h in
-        subst why_no_fault (sym e.1) (teacher_is x t, e.0)) (λ i there.
-        let asked : IsAskedOf ids x id i = record { teacher = teacher_is x t; node = node-ok ids id NoNode i there } in
-        bind-deny why_no_fault (pointer ids p BadRegister) _ (λ d h. let e = no_pointer ids p d h in
-        subst why_no_fault (sym e.0) (i, asked, λ q named fits. e.1 q named)) (λ q found.
-        need-deny why_no_fault (may_point (configuration w) i q) _ _ (λ fails. (i, asked, unfit i q found fails)) (λ _. tt)))))
+    fault_to d h = grind (arith, IfErr-at_err, settled-deny, need-deny, no_teacher, bind-deny, node-err, teacher_is, node-ok, no_pointer, unfit)
 
     fault_from : (d : Denial) → why_no_fault d → verdict ids r w x (command.Fault id p m) ≡ verdicts.Deny d
-    fault_from NotTeacher h = ap settled (not_teachers _ h)
-    fault_from NoNode h = ap settled (no_node id _ h)
-    fault_from BadRegister h = ap settled (at_node id _ h.0 _ h.1 (no_register h.0 h.2 (pointer ids p BadRegister) refl))
-    fault_from d h = absurd h
+    fault_from d h = grind (arith, not_teachers, no_node, at_node, no_register)
 
     pub fault_denied : (d : Denial) → (verdict ids r w x (command.Fault id p m) ≡ verdicts.Deny d) ↔ DeniesFault ids w x id p d
     fault_denied d = (fault_to d, fault_from d)
@@ -155,27 +123,12 @@ module _ (ids : List ℕ) (r : RosterValue) (w : World) (x : Who) where
     -- what holds of each error that what is asked of two nodes may end in
     both_deny : (why : Denial → Type 0) (rest : ℕ → ℕ → Result Leave Denial) → (x ≢ who.Teacher → why NotTeacher) → (LacksAnEnd ids x first second → why NoNode)
         → ((a b : ℕ) → IsAskedOfBoth ids x first second a b → IfErr (rest a b) why) → IfErr (asked_of_both ids x first second rest) why
-    both_deny why rest alone lacks found =
-        need-deny why (is_teacher x) _ _ (λ student. alone (no_teacher x student)) (λ t.
-        bind-deny why (node ids first NoNode) _ (λ d h. let e = node-err ids first NoNode d h in
-        subst why (sym e.1) (lacks (teacher_is x t, inl e.0))) (λ a one.
-        bind-deny why (node ids second NoNode) _ (λ d h. let e = node-err ids second NoNode d h in
-        subst why (sym e.1) (lacks (teacher_is x t, inr e.0))) (λ b two.
-        found a b (record { teacher = teacher_is x t; node_a = node-ok ids first NoNode a one; node_b = node-ok ids second NoNode b two }))))
+    both_deny why rest alone lacks found = grind (arith, need-deny, no_teacher, bind-deny, node-err, teacher_is, node-ok)
 
     -- where an end isn't there, whatever comes next
     no_end : (rest : ℕ → ℕ → Result Leave Denial) → LacksAnEnd ids x first second
         → asked_of_both ids x first second rest ≡ Err NoNode
-    no_end rest h = need-from (is_teacher x) _ _ _ (ap is_teacher h.0) (elim h.1 [
-      | inl none ↦ bind-fails (node ids first NoNode) _ _ (ap (λ o. ok_or o NoNode) none)
-      | inr none ↦ at (rank_in ids first) refl none
-    ])
-      where
-        at : (o : Option ℕ) → rank_in ids first ≡ o → rank_in ids second ≡ None
-            → (node ids first NoNode >>= (λ a. node ids second NoNode >>= rest a)) ≡ Err NoNode
-        at None e none = bind-fails (node ids first NoNode) _ _ (ap (λ o. ok_or o NoNode) e)
-        at (Some a) e none =
-            bind-from (node ids first NoNode) _ _ a (ap (λ o. ok_or o NoNode) e) (bind-fails (node ids second NoNode) _ _ (ap (λ o. ok_or o NoNode) none))
+    no_end rest h = grind (arith, need-from, bind-fails, bind-from)
 
     abbrev why_no_link : Denial → Type 0
     why_no_link = DeniesLink ids w x first second
@@ -184,24 +137,10 @@ module _ (ids : List ℕ) (r : RosterValue) (w : World) (x : Who) where
     looped a b e asked = (a, record { teacher = asked.teacher; node_a = asked.node_a; node_b = asked.node_b ∙ ap Some (sym e) })
 
     link_to : (d : Denial) → verdict ids r w x (command.Link first second) ≡ verdicts.Deny d → why_no_link d
-    link_to d h = IfErr-at_err why_no_link (settled-deny (clauses ids r w x (command.Link first second)) d h)
-        (both_deny why_no_link (link_at w) (λ alone. alone) (λ lacks. lacks) (λ a b asked.
-        need-deny why_no_link (not (a == b)) _ _ (λ same. looped a b (eqb-true a b (not-false _ same)) asked) (λ apart.
-        need-deny why_no_link (not ((configuration w).linked a b)) _ _
-        (λ linked. (a, b, asked, eqb-false a b (not-true _ apart), not-false _ linked)) (λ _. tt))))
+    link_to d h = grind (arith, IfErr-at_err, settled-deny, both_deny, link_at, need-deny, looped, eqb-true, not-false, eqb-false, not-true)
 
     link_from : (d : Denial) → why_no_link d → verdict ids r w x (command.Link first second) ≡ verdicts.Deny d
-    link_from NotTeacher h = ap settled (not_teachers _ h)
-    link_from NoNode h = ap settled (no_end (link_at w) h)
-    link_from Loop h =
-        ap settled
-        (both_ends ids x first second (link_at w) h.0 h.0 _ h.1 (need-fails (not (h.0 == h.0)) _ _ (not_from_true _ (eq-eqb h.0 h.0 refl))))
-    link_from Linked h =
-        ap settled
-        (both_ends ids x first second (link_at w) h.0 h.1 _ h.2
-        (need-from (not (h.0 == h.1)) _ _ _ (not_from_false _ (ne_eqb h.0 h.1 h.3))
-        (need-fails (not ((configuration w).linked h.0 h.1)) _ _ (not_from_true _ h.4))))
-    link_from d h = absurd h
+    link_from d h = grind (arith, not_teachers, no_end, link_at, both_ends, need-fails, not_from_true, eq-eqb, need-from, not_from_false, ne_eqb)
 
     pub link_denied : (d : Denial) → (verdict ids r w x (command.Link first second) ≡ verdicts.Deny d) ↔ DeniesLink ids w x first second d
     link_denied d = (link_to d, link_from d)
@@ -210,16 +149,10 @@ module _ (ids : List ℕ) (r : RosterValue) (w : World) (x : Who) where
     why_no_cut = DeniesCut ids w x first second
 
     cut_to : (d : Denial) → verdict ids r w x (command.Cut first second) ≡ verdicts.Deny d → why_no_cut d
-    cut_to d h = IfErr-at_err why_no_cut (settled-deny (clauses ids r w x (command.Cut first second)) d h)
-        (both_deny why_no_cut (cut_at w) (λ alone. alone) (λ lacks. lacks) (λ a b asked.
-        need-deny why_no_cut ((configuration w).linked a b) _ _ (λ free. (a, b, asked, free)) (λ _. tt)))
+    cut_to d h = grind (arith, IfErr-at_err, settled-deny, both_deny, cut_at, need-deny)
 
     cut_from : (d : Denial) → why_no_cut d → verdict ids r w x (command.Cut first second) ≡ verdicts.Deny d
-    cut_from NotTeacher h = ap settled (not_teachers _ h)
-    cut_from NoNode h = ap settled (no_end (cut_at w) h)
-    cut_from NotLinked h =
-        ap settled (both_ends ids x first second (cut_at w) h.0 h.1 _ h.2 (need-fails ((configuration w).linked h.0 h.1) _ _ h.3))
-    cut_from d h = absurd h
+    cut_from d h = grind (arith, not_teachers, no_end, cut_at, both_ends, need-fails)
 
     pub cut_denied : (d : Denial) → (verdict ids r w x (command.Cut first second) ≡ verdicts.Deny d) ↔ DeniesCut ids w x first second d
     cut_denied d = (cut_to d, cut_from d)
@@ -231,29 +164,19 @@ module _ (ids : List ℕ) (r : RosterValue) (w : World) (x : Who) where
     why_no_release = DeniesRelease ids w x id
 
     release_to : (d : Denial) → verdict ids r w x (command.Release id) ≡ verdicts.Deny d → why_no_release d
-    release_to d h = IfErr-at_err why_no_release (settled-deny (clauses ids r w x (command.Release id)) d h)
-        (need-deny why_no_release (is_teacher x) _ _ (no_teacher x) (λ t.
-        bind-deny why_no_release (node ids id NoNode) _ (λ d h. let e = node-err ids id NoNode d h in
-        subst why_no_release (sym e.1) (teacher_is x t, e.0)) (λ i there.
-        need-deny why_no_release (is_some (chosen_at w.chosen i)) _ _
-        (λ none. (i, record { teacher = teacher_is x t; node = node-ok ids id NoNode i there }, no_choice (chosen_at w.chosen i) none)) (λ _. tt))))
+    release_to d h = grind (arith, IfErr-at_err, settled-deny, need-deny, no_teacher, bind-deny, node-err, teacher_is, node-ok, no_choice)
 
     release_from : (d : Denial) → why_no_release d → verdict ids r w x (command.Release id) ≡ verdicts.Deny d
-    release_from NotTeacher h = ap settled (not_teachers _ h)
-    release_from NoNode h = ap settled (no_node id _ h)
-    release_from NotChosen h = ap settled (at_node id _ h.0 _ h.1 (need-fails (is_some (chosen_at w.chosen h.0)) _ _ (ap is_some h.2)))
-    release_from d h = absurd h
+    release_from d h = grind (arith, not_teachers, no_node, at_node, need-fails)
 
     pub release_denied : (d : Denial) → (verdict ids r w x (command.Release id) ≡ verdicts.Deny d) ↔ DeniesRelease ids w x id d
     release_denied d = (release_to d, release_from d)
 
   report_to : (d : Denial) → verdict ids r w x command.Report ≡ verdicts.Deny d → DeniesReport x d
-  report_to d h = IfErr-at_err (DeniesReport x) (settled-deny (clauses ids r w x command.Report) d h)
-      (need-deny (DeniesReport x) (is_teacher x) _ _ (no_teacher x) (λ _. tt))
+  report_to d h = grind (arith, IfErr-at_err, settled-deny, need-deny, no_teacher)
 
   report_from : (d : Denial) → DeniesReport x d → verdict ids r w x command.Report ≡ verdicts.Deny d
-  report_from NotTeacher h = ap settled (not_teachers _ h)
-  report_from d h = absurd h
+  report_from d h = grind (arith, not_teachers)
 
   pub report_denied : (d : Denial) → (verdict ids r w x command.Report ≡ verdicts.Deny d) ↔ DeniesReport x d
   report_denied d = (report_to d, report_from d)

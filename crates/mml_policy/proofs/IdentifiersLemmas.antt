@@ -36,8 +36,4 @@ module _ (ids : List ℕ) (c : Configuration) (table : IsTable ids) (nodes : c.s
       go (Some j) e = absurd (none j (let there = (position-Some (λ n. n == x) ids j 0 e).0 in omega (arith, there, nodes)) (id_of_rank ids x j e))
 
   pub empty_elsewhere : IsEmptyElsewhere (slice_index ids) c (with_identifiers ids c)
-  empty_elsewhere = record {
-    links = λ x y none. rw (no_rank x none) refl;
-    p = λ x none. rw (no_rank x none) refl;
-    m = λ x none. rw (no_rank x none) refl;
-  }
+  empty_elsewhere = grind (arith, no_rank)

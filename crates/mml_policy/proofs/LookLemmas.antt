@@ -1,5 +1,5 @@
 -- What a look shows is visible to the one who may look.
-use Rattle.std.proofs.Common.{◌≡◌, ℕ, zero, suc, ◌+◌, Bool, true, false, ◌⊎◌, inl, inr, [], refl, sym, subst, add-one}
+use Rattle.std.proofs.Common.{◌≡◌, ℕ, zero, suc, ◌+◌, Bool, true, false, ◌⊎◌, [], refl, sym, subst, add-one, arith}
 use Rattle.std.specs.List.{All}
 use Rattle.std.proofs.lemmas.List.Elements.{All-nil, All-cons, All-append}
 use Rattle.mml_rules.specs.declared.regs.Regs.{Regs}
@@ -37,13 +37,11 @@ near_hold P w i each = near_all_hold P w i (size w) each
 
 visible_near : (r : RosterValue) (w : World) (x : Who) (i : ℕ) → IsLawful (configuration w) → (x ≡ who.Teacher) ⊎ (owns r x i ≡ true)
     → (j : ℕ) → (configuration w).linked i j ≡ true → is_visible r (configuration w) x j ≡ true
-visible_near r w x i lawful (inl teacher) j l = from_fact r (configuration w) x j lawful (inl teacher)
-visible_near r w x i lawful (inr own) j l = from_fact r (configuration w) x j lawful (inr (inr (i, lawful.symmetric i j l, own)))
+visible_near r w x i lawful w' j l = grind (arith, from_fact)
 
 visible_here : (r : RosterValue) (w : World) (x : Who) (i : ℕ) → IsLawful (configuration w) → (x ≡ who.Teacher) ⊎ (owns r x i ≡ true)
     → is_visible r (configuration w) x i ≡ true
-visible_here r w x i lawful (inl teacher) = from_fact r (configuration w) x i lawful (inl teacher)
-visible_here r w x i lawful (inr own) = from_fact r (configuration w) x i lawful (inr (inl own))
+visible_here r w x i lawful w' = grind (arith, from_fact)
 
 -- a look by the teacher or by the node's owner shows only what is visible to them
 pub shows_visible : (r : RosterValue) (w : World) (x : Who) (i : ℕ) → IsLawful (configuration w) → (x ≡ who.Teacher) ⊎ (owns r x i ≡ true)

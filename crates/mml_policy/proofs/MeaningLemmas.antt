@@ -6,9 +6,7 @@ use Rattle.std.proofs.lemmas.Bool.{eqb-true, eqb-false, eq-eqb}
 use Rattle.std.proofs.lemmas.Result.{IfErr-at_err}
 use Rattle.std.specs.Result.{IfErr}
 use Rattle.mml_ids.specs.Ids.{rank_in}
-use Rattle.mml_ids.specs.Gives.{◌>>=◌}
 use Rattle.mml_rules.specs.declared.rule.Rule.{Rule}
-use Rattle.mml_rules.specs.declared.rule.Rule.TheVariants as rules
 use Rattle.mml_rules.specs.Configuration.{IsLawful}
 use Rattle.mml_rules.specs.Rules.{guard}
 use Rattle.mml_rules.proofs.MeaningLemmas.{guard-means}
@@ -33,8 +31,7 @@ use Rattle.mml_policy.proofs.ClausesLemmas.{node-ok, node-err, student-ok, stude
 use Rattle.mml_policy.proofs.VerdictLemmas.{settled-grant, settled-deny, owner_is}
 
 none-is : {A : Type 0} (o : Option A) → is_none o ≡ true → o ≡ None
-none-is None h = refl
-none-is (Some x) h = absurd (grind arith)
+none-is o h = grind arith
 
 none_some : (i : ℕ) → None ≡ Some i → ⊥
 none_some i e = absurd (grind arith)
@@ -43,23 +40,14 @@ student_teacher : (x : Who) (s : ℕ) → x ≡ who.Teacher → x ≡ who.Studen
 student_teacher x s e h = absurd (grind arith)
 
 some-is : {A : Type 0} (o : Option A) → is_none o ≡ false → (x : A) × (o ≡ Some x)
-some-is None h = absurd (grind arith)
-some-is (Some x) h = (x, refl)
+some-is o h = grind arith
 
 -- the rule that a step found is the one that is asked for
 pub asked_is : (ids : List ℕ) (a : Asked) (d : Denial) (q : Rule) → rule_of ids a d ≡ Ok q → IsAsked ids a q
-asked_is ids asked.Update d q h = grind arith
-asked_is ids (asked.Marriage id) d q h =
-    let b = bind-ok (node ids id d) _ q h in
-    (b.0, node-ok ids id d b.0 b.1, let e : Ok (rules.Marriage b.0) ≡ Ok q = b.2 in grind arith)
-asked_is ids asked.Seduction d q h = grind arith
-asked_is ids asked.Abandonment d q h = grind arith
+asked_is ids a d q h = grind (arith, bind-ok, node-ok)
 
 asked_from : (ids : List ℕ) (a : Asked) (d : Denial) (q : Rule) → IsAsked ids a q → rule_of ids a d ≡ Ok q
-asked_from ids asked.Update d q h = ap Ok (sym h)
-asked_from ids (asked.Marriage id) d q h = bind-from (node ids id d) _ (Ok q) h.0 (ap (λ o. ok_or o d) h.1) (ap Ok (sym h.2))
-asked_from ids asked.Seduction d q h = ap Ok (sym h)
-asked_from ids asked.Abandonment d q h = ap Ok (sym h)
+asked_from ids a d q h = grind (arith, bind-from)
 
 ok-same : (p q : Rule) → (let s : Result Rule Denial = Ok p in s ≡ Ok q) → p ≡ q
 ok-same p q e = grind arith
@@ -69,15 +57,7 @@ asked_once ids a p q h k = ok-same p q (sym h ∙ asked_from ids a Guard q k)
 
 -- where no rule was found the denial is that of the guard, and no rule is asked for
 pub no_rule : (ids : List ℕ) (a : Asked) (d : Denial) → rule_of ids a Guard ≡ Err d → (d ≡ Guard) × ((q : Rule) → ¬ IsAsked ids a q)
-no_rule ids asked.Update d h = absurd (grind arith)
-no_rule ids (asked.Marriage id) d h = go (rank_in ids id) refl h
-  where
-    go : (o : Option ℕ) → rank_in ids id ≡ o → (ok_or o Guard >>= (λ j. let r : Result Rule Denial = Ok (rules.Marriage j) in r)) ≡ Err d
-        → (d ≡ Guard) × ((q : Rule) → ¬ IsAsked ids (asked.Marriage id) q)
-    go None e h = ((grind arith), (λ q k. none_some k.0 (sym e ∙ k.1)))
-    go (Some j) e h = absurd (grind arith)
-no_rule ids asked.Seduction d h = absurd (grind arith)
-no_rule ids asked.Abandonment d h = absurd (grind arith)
+no_rule ids a d h = grind (arith, none_some)
 
 module _ (ids : List ℕ) (r : RosterValue) (w : World) (x : Who) (id : ℕ) (a : Asked) (at : ℕ) (l : IsLawful (configuration w)) where
   abbrev IsMove : Event → Type 0
@@ -132,14 +112,10 @@ module _ (ids : List ℕ) (r : RosterValue) (w : World) (x : Who) (id : ℕ) (a 
   no_node d h = let e = node-err ids id NotOwner d h in subst why (sym e.1) (λ s i own. none_some i (sym e.0 ∙ own.node))
 
   no_owner : (i : ℕ) → rank_in ids id ≡ Some i → owns r x i ≡ false → why NotOwner
-  no_owner i there h s j own =
-      let e : Some i ≡ Some j = sym there ∙ own.node in
-      let same : i ≡ j = grind arith in
-      true≢false (sym (ap (owns r x) same ∙ ap (λ y. owns r y j) own.student ∙ own.owner) ∙ h)
+  no_owner i there h s j own = grind (arith, true≢false)
 
   no_guard : (i : ℕ) (q : Rule) → rule_of ids a Guard ≡ Ok q → guard (configuration w) i q ≡ false → (p : Rule) → ¬ IsGuarded ids w i a p
-  no_guard i q asked fails p k =
-      true≢false (sym (ap (guard (configuration w) i) (asked_once ids a q p asked k.0) ∙ (guard-means (configuration w) i p l).1 k.1) ∙ fails)
+  no_guard i q asked fails p k = grind (arith, true≢false, asked_once, guard-means)
 
   reasons : IfErr (clauses ids r w x (command.Move id a at)) why
   reasons =

@@ -1,8 +1,6 @@
 -- Why a move is denied, both ways.
-use Rattle.std.proofs.Common.{◌≡◌, ◌↔◌, ℕ, ◌==◌, List, Option, None, Some, is_none, Result, Ok, Err, refl, sym, ap, ◌∙◌}
-use Rattle.std.specs.Option.{ok_or}
+use Rattle.std.proofs.Common.{◌≡◌, ◌↔◌, ℕ, ◌==◌, List, is_none, Result, Ok, Err, refl, sym, ap, ◌∙◌, arith}
 use Rattle.std.proofs.lemmas.Bool.{false_from_ne_true, eq-eqb, ne_eqb}
-use Rattle.mml_ids.specs.Ids.{rank_in}
 use Rattle.mml_ids.specs.Gives.{◌>>=◌, ◌>>◌, need}
 use Rattle.mml_ids.proofs.GivesLemmas.{bind-from, need-from}
 use Rattle.mml_rules.specs.declared.rule.Rule.{Rule}
@@ -10,8 +8,7 @@ use Rattle.mml_rules.specs.Configuration.{IsLawful}
 use Rattle.mml_rules.specs.Rules.{guard}
 use Rattle.mml_rules.proofs.MeaningLemmas.{guard-means}
 use Rattle.mml_lab.specs.declared.who.Who.{Who}
-use Rattle.mml_lab.specs.declared.who.Who.TheVariants as who
-use Rattle.mml_lab.specs.Rosters.{RosterValue, owns}
+use Rattle.mml_lab.specs.Rosters.{RosterValue}
 use Rattle.mml_board.specs.declared.event.Event.TheVariants as event
 use Rattle.mml_board.specs.World.{World, configuration, chosen_at}
 use Rattle.mml_policy.specs.declared.command.Asked.{Asked}
@@ -21,7 +18,7 @@ use Rattle.mml_policy.specs.declared.denial.Denial.TheVariants.{NotOwner, Stale,
 use Rattle.mml_policy.specs.declared.verdict.Verdict.TheVariants as verdicts
 use Rattle.mml_policy.specs.declared.verdict.Leave.{Leave}
 use Rattle.mml_policy.specs.declared.verdict.Leave.TheVariants.{Grant}
-use Rattle.mml_policy.specs.Clauses.{node, student, rule_of}
+use Rattle.mml_policy.specs.Clauses.{rule_of}
 use Rattle.mml_policy.specs.Verdicts.{clauses, settled, verdict}
 use Rattle.mml_policy.specs.Meaning.{IsOwner, IsGuarded, DeniesMove}
 use Rattle.mml_policy.proofs.DeniedLemmas.{need-fails, bind-fails}
@@ -40,22 +37,10 @@ module _ (ids : List ℕ) (r : RosterValue) (w : World) (x : Who) (id : ℕ) (a 
   owned s i = need (at == w.number) (Stale w.number) >> (need (is_none (chosen_at w.chosen i)) Chosen >> (rule_of ids a Guard >>= with_rule s i))
 
   past_owner : (s i : ℕ) (v : Result Leave Denial) → IsOwner ids r x id s i → owned s i ≡ v → clauses ids r w x (command.Move id a at) ≡ v
-  past_owner s i v own e =
-      bind-from (student x NotOwner) _ _ s (ap (λ y. student y NotOwner) own.student) (
-      bind-from (node ids id NotOwner) _ _ i (ap (λ o. ok_or o NotOwner) own.node) (
-      need-from (owns r x i) _ _ _ (ap (λ y. owns r y i) own.student ∙ own.owner) e))
+  past_owner s i v own e = grind (arith, bind-from, need-from)
 
   no_owner : ((s i : ℕ) → ¬ IsOwner ids r x id s i) → clauses ids r w x (command.Move id a at) ≡ Err NotOwner
-  no_owner h = go x refl
-    where
-      go : (y : Who) → x ≡ y → clauses ids r w x (command.Move id a at) ≡ Err NotOwner
-      go who.Teacher e = bind-fails (student x NotOwner) _ _ (ap (λ y. student y NotOwner) e)
-      go (who.Student s) e = bind-from (student x NotOwner) _ _ s (ap (λ y. student y NotOwner) e) (on (rank_in ids id) refl)
-        where
-          on : (o : Option ℕ) → rank_in ids id ≡ o → (node ids id NotOwner >>= (λ i. need (owns r x i) NotOwner >> owned s i)) ≡ Err NotOwner
-          on None n = bind-fails (node ids id NotOwner) _ _ (ap (λ o. ok_or o NotOwner) n)
-          on (Some i) n = bind-from (node ids id NotOwner) _ _ i (ap (λ o. ok_or o NotOwner) n) (need-fails (owns r x i) _ _
-              (false_from_ne_true (owns r x i) (λ own. h s i (record { student = e; node = n; owner = owner_is r x s i e own }))))
+  no_owner h = grind (arith, bind-fails, bind-from, need-fails, false_from_ne_true, owner_is)
 
   no_guard : (s i : ℕ) → ((q : Rule) → ¬ IsGuarded ids w i a q) → (rule_of ids a Guard >>= with_rule s i) ≡ Err Guard
   no_guard s i none = go (rule_of ids a Guard) refl

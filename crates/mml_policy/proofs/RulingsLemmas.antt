@@ -1,5 +1,5 @@
 -- The event that takes place by a ruling.
-use Rattle.std.proofs.Common.{◌≡◌, ℕ, ◌<◌, Bool, true, false, cond, nat_le, List, length, Some, Result, Ok, Err, refl, subst, arith}
+use Rattle.std.proofs.Common.{◌≡◌, ℕ, ◌<◌, Bool, true, false, cond, nat_le, List, length, Some, Result, arith}
 use Rattle.std.specs.Result.{IfOk}
 use Rattle.std.proofs.lemmas.Bool.{leb-false}
 use Rattle.mml_lab.specs.declared.who.Who.{Who}
@@ -11,7 +11,6 @@ use Rattle.mml_policy.specs.declared.command.Command.{Command}
 use Rattle.mml_policy.specs.declared.denial.Denial.{Denial}
 use Rattle.mml_policy.specs.declared.ruling.Ruling.TheVariants.{Full, Journal, Granted}
 use Rattle.mml_policy.specs.declared.verdict.Leave.{Leave}
-use Rattle.mml_policy.specs.declared.verdict.Leave.TheVariants.{See, Look, Report, Grant}
 use Rattle.mml_policy.specs.Verdicts.{clauses}
 use Rattle.mml_policy.specs.Rulings.{ruled, ruling, event_of}
 use Rattle.mml_policy.proofs.VerdictLemmas.{IsFine, fine}
@@ -19,20 +18,12 @@ use Rattle.mml_policy.proofs.VerdictLemmas.{IsFine, fine}
 unless_full : (b h : Bool) (limit place : ℕ) (e f : Event) (w : World) → nat_le limit place ≡ b
     → event_of (cond b Full (cond h Journal (Granted e (done_by w e)))) ≡ Some f
     → (e ≡ f) × (place < limit) × (h ≡ false)
-unless_full true h limit place e f w n k = absurd (grind arith)
-unless_full false true limit place e f w n k = absurd (grind arith)
-unless_full false false limit place e f w n k = ((grind arith), leb-false limit place n, refl)
+unless_full b h limit place e f w n k = grind (arith, leb-false)
 
 taken : (ids : List ℕ) (r : RosterValue) (limit : ℕ) (is_halted : Bool) (w : World) (s : Result Leave Denial) (e : Event) → IfOk s (IsFine ids r w)
     → event_of (ruled limit is_halted w s) ≡ Some e
     → (is_legal r w e ≡ true) × (w.place < limit) × (is_halted ≡ false)
-taken ids r limit is_halted w (Ok (See i)) e h k = absurd (grind arith)
-taken ids r limit is_halted w (Ok (Look i)) e h k = absurd (grind arith)
-taken ids r limit is_halted w (Ok Report) e h k = absurd (grind arith)
-taken ids r limit is_halted w (Ok (Grant f)) e h k =
-    let found = unless_full (nat_le limit w.place) is_halted limit w.place f e w refl k in
-    (subst (λ x. is_legal r w x ≡ true) found.0 h, found.1, found.2)
-taken ids r limit is_halted w (Err d) e h k = absurd (grind arith)
+taken ids r limit is_halted w s e h k = grind (arith, unless_full, nat_le)
 
 -- an event that takes place is legal, within the limit, and not after the journal halted
 pub legal_event : (ids : List ℕ) (r : RosterValue) (limit : ℕ) (is_halted : Bool) (w : World) (x : Who) (c : Command) (e : Event) → length ids ≡ size w

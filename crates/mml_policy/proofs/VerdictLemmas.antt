@@ -1,6 +1,5 @@
 -- What a verdict grants is legal, and what it shows is there; acts alone are granted.
 use Rattle.std.proofs.Common.{◌≡◌, ℕ, ◌<◌, ◌==◌, Bool, true, false, not, ◌||◌, List, length, is_some, is_none, Result, Ok, Err, refl, sym, ap, ◌∙◌, arith}
-use Rattle.std.proofs.Common.{subst}
 use Rattle.std.specs.Result.{IfOk}
 use Rattle.std.proofs.lemmas.Bool.{and_from, lt-ltb}
 use Rattle.std.proofs.lemmas.Result.{IfOk-at_ok}
@@ -27,19 +26,11 @@ use Rattle.mml_policy.proofs.ClausesLemmas.{node_there, student-ok}
 
 -- a verdict that grants an event comes of leave for that event
 pub settled-grant : (s : Result Leave Denial) (e : Event) → settled s ≡ verdicts.Grant e → s ≡ Ok (Grant e)
-settled-grant (Ok (See i)) e h = absurd (grind arith)
-settled-grant (Ok (Look i)) e h = absurd (grind arith)
-settled-grant (Ok Report) e h = absurd (grind arith)
-settled-grant (Ok (Grant f)) e h = grind arith
-settled-grant (Err d) e h = absurd (grind arith)
+settled-grant s e h = grind arith
 
 -- a verdict that denies comes of clauses that end in that denial
 pub settled-deny : (s : Result Leave Denial) (d : Denial) → settled s ≡ verdicts.Deny d → s ≡ Err d
-settled-deny (Ok (See i)) d h = absurd (grind arith)
-settled-deny (Ok (Look i)) d h = absurd (grind arith)
-settled-deny (Ok Report) d h = absurd (grind arith)
-settled-deny (Ok (Grant e)) d h = absurd (grind arith)
-settled-deny (Err f) d h = grind arith
+settled-deny s d h = grind arith
 
 -- what may be shown is a node, and what may happen is legal
 abbrev pub IsFine : List ℕ → RosterValue → World → Leave → Type 0
@@ -72,8 +63,7 @@ abbrev Good : List ℕ → RosterValue → World → Bool → Leave → Type 0
 Good ids r w b l = IsEvent b l × (length ids ≡ size w → IsFine ids r w l)
 
 both_of : {A E : Type 0} (P Q : A → Type 0) (s : Result A E) → ((a : A) → P a → Q a) → IfOk s P → IfOk s Q
-both_of P Q (Ok a) f h = f a h
-both_of P Q (Err e) f h = tt
+both_of P Q s f h = grind arith
 
 module _ (ids : List ℕ) (r : RosterValue) (w : World) (x : Who) where
   abbrev act : Leave → Type 0
@@ -133,8 +123,7 @@ module _ (ids : List ℕ) (r : RosterValue) (w : World) (x : Who) where
 
   -- acts alone are given leave to an event
   pub of_kind : (c : Command) (b : Bool) → is_act c ≡ b → IfOk (clauses ids r w x c) (IsEvent b)
-  of_kind c b h =
-      subst (λ b. IfOk (clauses ids r w x c) (IsEvent b)) h (both_of (Good ids r w (is_act c)) (IsEvent (is_act c)) (clauses ids r w x c) (λ l k. k.0) (good c))
+  of_kind c b h = grind (arith, both_of, good)
 
   module _ (same : length ids ≡ size w) where
     pub fine : (c : Command) → IfOk (clauses ids r w x c) (IsFine ids r w)

@@ -1,5 +1,5 @@
 -- To whom a node is shown, as tests and as facts.
-use Rattle.std.proofs.Common.{◌≡◌, ℕ, ◌<◌, Bool, true, false, ◌&&◌, ◌||◌, eqb, inl, inr, refl, sym, ap, ◌∙◌}
+use Rattle.std.proofs.Common.{◌≡◌, ℕ, ◌<◌, Bool, true, false, ◌&&◌, ◌||◌, eqb, inl, inr, ap, ◌∙◌, arith}
 use Rattle.std.specs.Prelude.{◌↔◌}
 use Rattle.std.proofs.lemmas.Bool.{eq-eqb, eqb-true, and_parts, and_from, or_cases, or_left, or_right, both_ways, false_from_ne_true, false≢true}
 use Rattle.std.specs.Ordering.{nat_cmp}
@@ -7,7 +7,6 @@ use Rattle.std.specs.Cmp.{nat_cmp_total}
 use Rattle.std.specs.FinSet as sets
 use Rattle.std.specs.FinSet.{FinSet}
 use Rattle.mml_ids.specs.inside.WordsLemmas.{has_insert}
-use Rattle.mml_ids.specs.Search.{some_below}
 use Rattle.mml_rules.specs.Configuration.{Configuration, IsLawful}
 use Rattle.mml_ids.proofs.SearchLemmas.{some_below-find, some_below-at}
 use Rattle.mml_lab.specs.declared.who.Who.{Who}
@@ -22,21 +21,11 @@ owner_found r c x i j within e = some_below-at c.size j (λ j. c.linked i j && o
 
 -- whoever is found to be the teacher is
 pub teacher_is : (x : Who) → is_teacher x ≡ true → x ≡ who.Teacher
-teacher_is who.Teacher h = refl
-teacher_is (who.Student s) h = absurd (false≢true h)
+teacher_is x h = grind (arith, false≢true)
 
 to_fact : (r : RosterValue) (c : Configuration) (x : Who) (i : ℕ) → is_visible r c x i ≡ true → IsVisible r c x i
 unfolding owns_neighbour
-to_fact r c x i h = elim (or_cases (is_teacher x || owns r x i) (owns_neighbour r c x i) h) [
-  | inl e ↦ elim (or_cases (is_teacher x) (owns r x i) e) [
-    | inl t ↦ inl (teacher_is x t)
-    | inr o ↦ inr (inl o)
-  ]
-  | inr e ↦
-      let found = some_below-find c.size (λ j. c.linked i j && owns r x j) e in
-      let both = and_parts (c.linked i found.0) (owns r x found.0) found.2 in
-      inr (inr (found.0, both.0, both.1))
-]
+to_fact r c x i h = grind (arith, or_cases, teacher_is, some_below-find, and_parts)
 
 -- a node that is visible is found visible
 pub from_fact : (r : RosterValue) (c : Configuration) (x : Who) (i : ℕ) → IsLawful c → IsVisible r c x i → is_visible r c x i ≡ true
@@ -56,10 +45,7 @@ visible_means r c x i l = (to_fact r c x i, from_fact r c x i l)
 -- one who owns no node linked to i is found to own no neighbour of it
 pub no_owner : (r : RosterValue) (c : Configuration) (x : Who) (i : ℕ) → ((j : ℕ) → c.linked i j ≡ true → owns r x j ≡ false) → false ≡ owns_neighbour r c x i
 unfolding owns_neighbour
-no_owner r c x i none = sym (false_from_ne_true (some_below c.size (λ j. c.linked i j && owns r x j)) (λ h.
-    let found = some_below-find c.size (λ j. c.linked i j && owns r x j) h in
-    let both = and_parts (c.linked i found.0) (owns r x found.0) found.2 in
-    both_ways (owns r x found.0) (none found.0 both.0) both.1))
+no_owner r c x i none = grind (arith, false_from_ne_true, some_below-find, and_parts, both_ways)
 
 -- the rank is i or linked to it, and x owns it
 abbrev pub owned_around : RosterValue → Configuration → Who → ℕ → ℕ → Bool
@@ -76,22 +62,9 @@ has_around r c x i near around owned both linked is_around mine is_both j =
 -- one who owns a node around i owns i or a neighbour of it
 pub around_found : (r : RosterValue) (c : Configuration) (x : Who) (i j : ℕ) → IsLawful c → owned_around r c x i j ≡ true
     → true ≡ (owns r x i || owns_neighbour r c x i)
-around_found r c x i j lawful is =
-    let parts = and_parts (eqb j i || c.linked i j) (owns r x j) is in
-    elim (or_cases (eqb j i) (c.linked i j) parts.0) [
-      | inl same ↦ sym (or_left (owns r x i) (owns_neighbour r c x i) (ap (owns r x) (sym (eqb-true j i same)) ∙ parts.1))
-      | inr near ↦ sym (or_right (owns r x i) (owns_neighbour r c x i)
-          (owner_found r c x i j (lawful.in_range i j near).1 (and_from (c.linked i j) (owns r x j) near parts.1)))
-    ]
+around_found r c x i j lawful is = grind (arith, and_parts, or_cases, or_left, eqb-true, or_right, owner_found, and_from)
 
 -- one who owns no node around i owns neither i nor a neighbour of it
 pub none_around : (r : RosterValue) (c : Configuration) (x : Who) (i : ℕ) → ((j : ℕ) → owned_around r c x i j ≡ false)
     → false ≡ (owns r x i || owns_neighbour r c x i)
-none_around r c x i none =
-    no_owner r c x i (λ j linked. gone (eqb j i || c.linked i j) (owns r x j) (none j) (or_right (eqb j i) (c.linked i j) linked))
-    ∙ sym (ap (λ b. b || owns_neighbour r c x i)
-    (gone (eqb i i || c.linked i i) (owns r x i) (none i) (or_left (eqb i i) (c.linked i i) (eq-eqb i i refl))))
-  where
-    gone : (a b : Bool) → (a && b) ≡ false → a ≡ true → b ≡ false
-    gone true b h e = h
-    gone false b h e = absurd (false≢true e)
+none_around r c x i none = grind (arith, no_owner, or_right, or_left, eq-eqb, false≢true)

@@ -1,20 +1,17 @@
 -- To whom a node is shown is the same under names that keep the order.
-use Rattle.std.proofs.Common.{◌≡◌, ℕ, ◌<◌, ◌==◌, ◌&&◌, ◌||◌, refl, sym, ap, ◌∙◌}
-use Rattle.std.specs.List.{list_any}
+use Rattle.std.proofs.Common.{◌≡◌, ℕ, ◌<◌, ◌&&◌, ◌||◌, sym, ap, ◌∙◌, arith}
 use Rattle.std.proofs.lemmas.Bool.{and_parts, and_from}
 use Rattle.mml_ids.proofs.SearchLemmas.{same_bool, some_below-find, some_below-at}
 use Rattle.mml_rules.specs.Configuration.{Configuration}
 use Rattle.mml_rules.specs.Naming.{IsRenamed}
 use Rattle.mml_lab.specs.declared.who.Who.{Who}
-use Rattle.mml_lab.specs.declared.who.Who.TheVariants as who
 use Rattle.mml_lab.specs.Rosters.{RosterValue, owns, owners_of}
 use Rattle.mml_policy.specs.Visible.{is_teacher, owns_neighbour, is_visible}
 
 module _ (f : ℕ → ℕ) (c d : Configuration) (r s : RosterValue) (names : IsRenamed f c d)
     (owners : (j : ℕ) → j < c.size → owners_of s (f j) ≡ owners_of r j) where
   owner_named : (x : Who) (j : ℕ) → j < c.size → owns s x (f j) ≡ owns r x j
-  owner_named who.Teacher j j_in = refl
-  owner_named (who.Student t) j j_in = ap (list_any (λ o. o == t)) (owners j j_in)
+  owner_named x j j_in = grind arith
 
   neighbour_named : (x : Who) (i : ℕ) → i < c.size → owns_neighbour s d x (f i) ≡ owns_neighbour r c x i
   unfolding owns_neighbour

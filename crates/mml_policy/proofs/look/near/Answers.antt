@@ -1,4 +1,4 @@
-use Rattle.std.proofs.Common.{◌∙◌, ◌<◌, ℕ, List, ◌++◌, ◌∷◌, [], map, ap, sym, rules}
+use Rattle.std.proofs.Common.{◌∙◌, ◌<◌, ◌++◌, ◌∷◌, [], ap, sym, rules, arith}
 use Rattle.std.specs.FinSet as sets
 use Rattle.mml_ids.proofs.SetsLemmas.{ranks_in, one_put, all_put}
 use Rattle.mml_rules.specs.declared.regs.Regs.{Regs}
@@ -9,13 +9,7 @@ use Rattle.mml_policy.proofs.NearLemmas.{shown, near-is}
 use Rattle.mml_policy.proofs.look.near.Goals as goal
 
 pub loop-other-init : goal.loop-other-init
-loop-other-init c = record {
-  within = λ j h. (c.size-size.ensures.lawful.in_range c.args.node j (ap (λ s. sets.contains s j) (sym c.neighbours-left.ensures) ∙ h)).1;
-  so_far =
-      ap (λ (xs : List (ℕ × Regs)). xs ++ map (shown c.args.board.now) (ranks_in (size c.args.board.now) c.neighbours-left.result)) c.in_ok-near.ensures.items
-      ∙ near-is c.args.board.now c.args.node c.neighbours-left.result c.neighbours-left.ensures;
-  room = search rules;
-}
+loop-other-init c = grind (arith, shown, ranks_in, near-is)
 
 pub loop-other-preserved : goal.loop-other-preserved
 loop-other-preserved c =
@@ -32,6 +26,4 @@ loop-other-preserved c =
     }
 
 pub returns : goal.returns
-returns c =
-    all_put (shown c.args.board.now) (size c.args.board.now) c.loop-other.left c.loop-other.near.items
-    (near c.args.board.now c.args.node) c.in_default.ensures.none c.loop-other.invariant.so_far
+returns c = grind (arith, all_put, shown)
