@@ -17,6 +17,6 @@ pub use parting::Partings;
 pub use port::{EndBell, Port};
 pub use shared_socket::SharedSocket;
 pub use socket_reader::{GREETING, Incoming, SocketReader};
-pub use socket_writer::{Kept, Outgoing, SocketCutOff, SocketWriter, WRITE_LIMIT};
+pub use socket_writer::{ReplyWriter, SocketCutOff, SocketSession, SocketWriter, WRITE_LIMIT};
 pub use state::HostState;
 pub use two_ports::{ListenFault, NEXT_LINE, Ports, bell_of, listen_at, open_ports};

@@ -3,7 +3,7 @@ use crate::crowd::Crowd;
 use crate::last_word::LastWord;
 use crate::shared_socket::SharedSocket;
 use crate::socket_reader::{Incoming, SocketReader};
-use crate::socket_writer::{Outgoing, SocketCutOff, WRITE_LIMIT};
+use crate::socket_writer::{ReplyWriter, SocketCutOff, WRITE_LIMIT};
 use crate::state::HostState;
 use mml_hosting::{Arrivals, Bell, Next};
 use mml_serving::HangUp;
@@ -31,7 +31,7 @@ const CALL: u64 = 100;
 #[derive(Drop)]
 struct Newcomer<'a, Rt> {
     reader: Incoming<'a, Rt>,
-    writer: Outgoing<'a, Rt>,
+    writer: ReplyWriter<'a, Rt>,
     cut_off: SocketCutOff<'a, Rt>,
     socket: Arc<SharedSocket, Global>,
     since: Instant,
@@ -62,7 +62,7 @@ pub struct Port<'a, Rt> {
     count: u64,
 }
 
-type Accepted<'a, Rt> = Next<Incoming<'a, Rt>, Outgoing<'a, Rt>, SocketCutOff<'a, Rt>>;
+type Accepted<'a, Rt> = Next<Incoming<'a, Rt>, ReplyWriter<'a, Rt>, SocketCutOff<'a, Rt>>;
 
 impl<'a, Rt: Clock + Wait + Eprint> Port<'a, Rt> {
     /// A port to which nobody has come yet.
@@ -105,7 +105,7 @@ impl<'a, Rt: Clock + Wait + Eprint> Port<'a, Rt> {
         let (rt, state) = (self.rt, self.state);
         let its = Arc::try_clone(&socket)?;
         let is_desk = self.patience.is_none();
-        let writer = Outgoing::new(rt, self.alloc, state, self.crowd, is_desk, its);
+        let writer = ReplyWriter::new(rt, self.alloc, state, self.crowd, is_desk, its);
         let cut_off = SocketCutOff::new(rt, state, Arc::try_clone(&socket)?);
         let reader = SocketReader::new(rt, state, Arc::try_clone(&socket)?, self.patience)?;
         let since = Instant::now(rt)?;
@@ -214,10 +214,10 @@ impl<'a, Rt: Clock + Wait + Eprint> Port<'a, Rt> {
 
 impl<'a, Rt: Clock + Wait + Eprint> Arrivals<
     Incoming<'a, Rt>,
-    Outgoing<'a, Rt>,
+    ReplyWriter<'a, Rt>,
     SocketCutOff<'a, Rt>,
 > for Port<'a, Rt> {
-    fn accept_next(&mut self) -> Next<Incoming<'a, Rt>, Outgoing<'a, Rt>, SocketCutOff<'a, Rt>> {
+    fn accept_next(&mut self) -> Next<Incoming<'a, Rt>, ReplyWriter<'a, Rt>, SocketCutOff<'a, Rt>> {
         let ended = self.state.ended(self.rt);
         if self.state.is_over(self.rt) {
             return self.close();

@@ -181,11 +181,11 @@ impl<'a, Rt: Clock + Wait + Eprint> Write for SocketWriter<'a, Rt> {
 
 /// A writer that a signal doesn't end, and by which the other side is told that nothing more comes.
 #[derive(Drop)]
-pub struct Outgoing<'a, Rt> {
+pub struct ReplyWriter<'a, Rt> {
     end: Retrying<SocketWriter<'a, Rt>>,
 }
 
-impl<'a, Rt: Clock + Wait + Eprint> Outgoing<'a, Rt> {
+impl<'a, Rt: Clock + Wait + Eprint> ReplyWriter<'a, Rt> {
     /// Writes to the socket.
     pub fn new(
         rt: &'a Rt,
@@ -194,8 +194,8 @@ impl<'a, Rt: Clock + Wait + Eprint> Outgoing<'a, Rt> {
         crowd: &'a Crowd,
         is_desk: bool,
         socket: Arc<SharedSocket, Global>,
-    ) -> Outgoing<'a, Rt> {
-        Outgoing {
+    ) -> ReplyWriter<'a, Rt> {
+        ReplyWriter {
             end: Retrying::new(SocketWriter {
                 rt,
                 alloc,
@@ -212,7 +212,7 @@ impl<'a, Rt: Clock + Wait + Eprint> Outgoing<'a, Rt> {
     }
 }
 
-impl<'a, Rt: Clock + Wait + Eprint> Write for Outgoing<'a, Rt> {
+impl<'a, Rt: Clock + Wait + Eprint> Write for ReplyWriter<'a, Rt> {
     fn write(&mut self, buf: &[u8]) -> io::Result<usize> {
         self.end.write(buf)
     }
@@ -222,7 +222,7 @@ impl<'a, Rt: Clock + Wait + Eprint> Write for Outgoing<'a, Rt> {
     }
 }
 
-impl<'a, Rt: Clock + Wait + Eprint> HangUp for Outgoing<'a, Rt> {
+impl<'a, Rt: Clock + Wait + Eprint> HangUp for ReplyWriter<'a, Rt> {
     // One who was turned away is waited for by the thread that accepts, and so not for long.
     fn hang_up(&mut self) {
         let writer = &self.end.inner;
@@ -335,12 +335,13 @@ impl<'a, Rt: Wait> CutOff for SocketCutOff<'a, Rt> {
 /// Of a session over a socket nothing is kept but what a contract says of it, and that it was without
 /// memory.
 #[derive(Drop)]
-pub struct Kept<'a, Rt>(Snapshot<ServedSession<Incoming<'a, Rt>, Outgoing<'a, Rt>>>);
+pub struct SocketSession<'a, Rt>(Snapshot<ServedSession<Incoming<'a, Rt>, ReplyWriter<'a, Rt>>>);
 
-impl<'a, Rt: Clock + Wait + Eprint> Keep<Incoming<'a, Rt>, Outgoing<'a, Rt>> for Kept<'a, Rt> {
+impl<'a, Rt: Clock + Wait + Eprint> Keep<Incoming<'a, Rt>, ReplyWriter<'a, Rt>>
+    for SocketSession<'a, Rt> {
     ghost shows = { λ kept. kept.0.value };
 
-    fn keep(session: ServedSession<Incoming<'a, Rt>, Outgoing<'a, Rt>>) -> Kept<'a, Rt>
+    fn keep(session: ServedSession<Incoming<'a, Rt>, ReplyWriter<'a, Rt>>) -> SocketSession<'a, Rt>
         ensures { result.0.value ≡ session.entry }
     {
         let was_short = matches!(session.ending.end, SessionEnd::Memory);
@@ -350,6 +351,6 @@ impl<'a, Rt: Clock + Wait + Eprint> Keep<Incoming<'a, Rt>, Outgoing<'a, Rt>> for
         if was_short || reader.lacked_memory || session.writer.end.lacked_memory {
             reader.inner.state.note_memory(reader.inner.rt);
         }
-        Kept(Snapshot::of(&session))
+        SocketSession(Snapshot::of(&session))
     }
 }
