@@ -63,7 +63,7 @@ impl Guest {
 pub struct Crowd {
     guests: Mutex<Vec<Guest>>,
     places: usize,
-    is_wanted: AtomicBool,
+    pub(crate) is_wanted: AtomicBool,
     pub(crate) partings: Partings,
 }
 

@@ -11,8 +11,8 @@ use std::time::{Clock, Duration, Instant};
 pub(crate) const UNKNOWN: &[u8] =
     b"{\"clause\":2,\"deny\":\"unknown\",\"text\":\"name and key do not match\"}\n";
 
-// How many milliseconds the other side has to take what it was told.
-const PARTING: u64 = 20;
+/// How many milliseconds the other side has to take what it was told.
+pub(crate) const PARTING: u64 = 20;
 
 // The most bytes that are taken of it then.
 const PARTING_SIZE: usize = 4096;
@@ -57,8 +57,8 @@ fn tell(stream: &TcpStream, line: &[u8]) {
     let _ = stream.write(line);
 }
 
-// Takes what has come: a socket that is closed over bytes which nobody took throws away what it has still to send.
-fn take_unwanted(stream: &TcpStream) {
+/// Takes what has come: a socket that is closed over bytes which nobody took throws away what it has still to send.
+pub(crate) fn take_unwanted(stream: &TcpStream) {
     let mut stream = stream;
     let mut unwanted = [0; PARTING_SIZE];
     let _ = stream.read(&mut unwanted);

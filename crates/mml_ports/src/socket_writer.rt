@@ -4,16 +4,16 @@ ghost use Rattle.std.specs.Io.{WritesAtMost};
 
 use crate::crowd::Crowd;
 use crate::last_word::LastWord;
-use crate::parting::UNKNOWN;
+use crate::parting::{PARTING, UNKNOWN, take_unwanted};
 use crate::shared_socket::SharedSocket;
 use crate::socket_reader::Incoming;
 use crate::state::HostState;
 use mml_ends::Retrying;
 use mml_hosting::{CutOff, Keep, ServedSession};
-use mml_serving::HangUp;
+use mml_serving::{HangUp, linger};
 use mml_session::SessionEnd;
 use std::alloc::Global;
-use std::io::{Error, ErrorKind, Read, Write};
+use std::io::{Error, ErrorKind, Write};
 use std::net::{Shutdown, TcpStream};
 use std::snapshot::Snapshot;
 use std::sync::atomic::Ordering;
@@ -23,20 +23,6 @@ use std::{io, thread};
 
 /// How many seconds a write may wait until the other side takes a byte.
 pub const WRITE_LIMIT: u64 = 10;
-
-// How many milliseconds one who is turned away is waited for, and a last word may take.
-const PARTING: u64 = 20;
-
-// The most bytes that are taken of one who is turned away.
-const PARTING_SIZE: usize = 4096;
-
-// How often one who was served is waited for at its end, for how many milliseconds, and how much is taken
-// each time: a second and 64 kB at most.
-const TURNS: u32 = 64;
-
-const TURN: u64 = 15;
-
-const TURN_SIZE: usize = 1024;
 
 // Of a denial whose turn comes within so many milliseconds the place may be left before that.
 const NEAR: u64 = 500;
@@ -239,7 +225,8 @@ impl<'a, Rt: Clock + Wait + Eprint> HangUp for ReplyWriter<'a, Rt> {
                     say(&stream, word);
                 }
                 if is_served && !socket.is_turned_away(rt) {
-                    linger(stream, writer.crowd);
+                    // Where a newcomer waits for the place, not for long.
+                    linger(stream, &writer.crowd.is_wanted);
                 } else {
                     part_from(stream);
                 }
@@ -264,41 +251,12 @@ fn say(stream: &TcpStream, word: LastWord) {
     }
 }
 
-// Takes what the other side has sent, since a socket that is closed over bytes which nobody took throws
-// away what it has still to send.
+// Takes what the other side has sent, for the reason for which others are lingered on.
 fn part_from(stream: TcpStream) {
-    let mut stream = stream;
     let parting = Some(Duration::from_millis(PARTING));
     // Both are refused where the other side is gone.
-    if stream.shutdown(Shutdown::Write).is_err() || stream.set_read_timeout(parting).is_err() {
-        return;
-    }
-    let mut unwanted = [0; PARTING_SIZE];
-    let _ = stream.read(&mut unwanted);
-}
-
-// Takes for a while what the other side still sends, for the same reason. Where a newcomer waits for the
-// place it is one turn.
-fn linger(stream: TcpStream, crowd: &Crowd) {
-    let mut stream = stream;
-    let turn = Some(Duration::from_millis(TURN));
-    if stream.shutdown(Shutdown::Write).is_err() || stream.set_read_timeout(turn).is_err() {
-        return;
-    }
-    let mut unwanted = [0; TURN_SIZE];
-    for _ in 0..TURNS {
-        match stream.read(&mut unwanted) {
-            Ok(0) => return,
-            Ok(_) => {}
-            Err(error) => {
-                if !matches!(error.kind(), ErrorKind::WouldBlock | ErrorKind::Interrupted) {
-                    return;
-                }
-            }
-        }
-        if crowd.is_wanted() {
-            return;
-        }
+    if stream.shutdown(Shutdown::Write).is_ok() && stream.set_read_timeout(parting).is_ok() {
+        take_unwanted(&stream);
     }
 }
 

@@ -15,4 +15,4 @@ pub use arrivals::{Arrivals, HangUp, LetGo};
 pub use connection::{Connection, EndedSession};
 pub use number_words::{read_connections, read_port};
 pub use serving::{ServeFault, ServedHouse, end_for, serve_arrivals, serve_on};
-pub use socket::Socket;
+pub use socket::{Socket, linger};

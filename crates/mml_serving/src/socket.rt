@@ -4,6 +4,7 @@ use mml_ends::Retrying;
 use std::io;
 use std::io::{Error, ErrorKind, Read, Write};
 use std::net::{Shutdown, TcpStream};
+use std::sync::atomic::{AtomicBool, Ordering};
 use std::time::Duration;
 
 // What still comes is waited for, and taken, so many times.
@@ -54,16 +55,18 @@ impl LetGo for Socket {
 
 impl HangUp for Socket {
     // The handle is given back when the other side has ended too, or has sent more, or taken longer, than
-    // it is waited for: a socket that is closed over bytes which nobody took throws away what it has
-    // still to send.
+    // it is waited for.
     fn hang_up(&mut self) {
         if let Some(stream) = self.end.inner.0.take() {
-            drain(stream);
+            linger(stream, &AtomicBool::new(false));
         }
     }
 }
 
-fn drain(stream: TcpStream) {
+/// Says that nothing more comes, and takes for a while what the other side still sends, since a socket that is
+/// closed over bytes which nobody took throws away what it has still to send. Once it is hurried, this is one
+/// turn.
+pub fn linger(stream: TcpStream, is_hurried: &AtomicBool) {
     let mut stream = stream;
     let turn = Some(Duration::from_millis(TURN));
     // Both are refused where the other side is gone.
@@ -80,6 +83,9 @@ fn drain(stream: TcpStream) {
                     return;
                 }
             }
+        }
+        if is_hurried.load(Ordering::SeqCst) {
+            return;
         }
     }
 }
