@@ -58,101 +58,80 @@ struct Busy<
     handle: PromisedHandle<Place<H, K, C>, Pledge<H, K, C, R, W>>,
 }
 
-// The first whose thread has come to its end.
-fn first_done<
+impl<
     H: Begun,
     K: Keep<R, W> + Drop,
     C: Recorder + Drop,
     R: Read + Drop,
     W: Write + Drop,
     U: Drop,
->(busy: &Vec<Busy<H, K, C, R, W, U>>, marks: &[AtomicU64]) -> Option<usize>
-    ensures { IfSome result (λ index. index < vec_len busy.now) }
-{
-    for index in 0..busy.len() {
-        let mark = marks.get(usize::from(busy[index].number));
-        if mark.is_some_and(|mark| mark.load(Ordering::SeqCst) == 1) {
-            return Some(index);
+> Busy<H, K, C, R, W, U> {
+    // The first whose thread has come to its end.
+    fn first_done(busy: &Vec<Self>, marks: &[AtomicU64]) -> Option<usize>
+        ensures { IfSome result (λ index. index < vec_len busy.now) }
+    {
+        for index in 0..busy.len() {
+            let mark = marks.get(usize::from(busy[index].number));
+            if mark.is_some_and(|mark| mark.load(Ordering::SeqCst) == 1) {
+                return Some(index);
+            }
+        }
+        None
+    }
+
+    // Waits for one, and gives back its place.
+    fn join_one<Rt: Threads>(rt: &Rt, busy: &mut Vec<Self>, index: usize) -> Place<H, K, C>
+        requires { index < vec_len busy.old }
+        ensures place { IsPlace H.lab H.begun H.given R.remaining W.contents C.kept K.shows result }
+        ensures count { (g : ℕ → ℕ) (h : R × W → ℕ) →
+            count_busy K.shows g h busy.new.items + count_in K.shows g h result ≡ count_busy K.shows g h busy.old.items }
+        ensures len { vec_len busy.new + 1 ≡ vec_len busy.old }
+        ensures capacity { vec_capacity busy.new ≡ vec_capacity busy.old }
+    {
+        let Busy {
+            number: _,
+            line,
+            handle,
+        } = busy.swap_remove(index);
+        drop(line);
+        let place = handle.join(rt);
+        place
+    }
+
+    // The one to wait for next: by the marks the first whose thread has come to its end, and without marks any.
+    fn next_to_join(busy: &Vec<Self>, marks: Option<&[AtomicU64]>) -> Option<usize>
+        ensures some { IfSome result (λ index. index < vec_len busy.now) }
+        ensures none { IfNone result (IfNone marks.entry (busy.now.items ≡ [])) }
+    {
+        match marks {
+            Some(marks) => Self::first_done(busy, marks),
+            None if busy.is_empty() => None,
+            None => Some(0),
         }
     }
-    None
-}
 
-// Waits for one, and gives back its place.
-fn join_one<
-    Rt: Threads,
-    H: Begun,
-    K: Keep<R, W> + Drop,
-    C: Recorder + Drop,
-    R: Read + Drop,
-    W: Write + Drop,
-    U: Drop,
->(rt: &Rt, busy: &mut Vec<Busy<H, K, C, R, W, U>>, index: usize) -> Place<H, K, C>
-    requires { index < vec_len busy.old }
-    ensures place { IsPlace H.lab H.begun H.given R.remaining W.contents C.kept K.shows result }
-    ensures count { (g : ℕ → ℕ) (h : R × W → ℕ) →
-        count_busy K.shows g h busy.new.items + count_in K.shows g h result ≡ count_busy K.shows g h busy.old.items }
-    ensures len { vec_len busy.new + 1 ≡ vec_len busy.old }
-    ensures capacity { vec_capacity busy.new ≡ vec_capacity busy.old }
-{
-    let Busy {
-        number: _,
-        line,
-        handle,
-    } = busy.swap_remove(index);
-    drop(line);
-    let place = handle.join(rt);
-    place
-}
-
-// The one to wait for next: by the marks the first whose thread has come to its end, and without marks any.
-fn next_to_join<
-    H: Begun,
-    K: Keep<R, W> + Drop,
-    C: Recorder + Drop,
-    R: Read + Drop,
-    W: Write + Drop,
-    U: Drop,
->(busy: &Vec<Busy<H, K, C, R, W, U>>, marks: Option<&[AtomicU64]>) -> Option<usize>
-    ensures some { IfSome result (λ index. index < vec_len busy.now) }
-    ensures none { IfNone result (IfNone marks.entry (busy.now.items ≡ [])) }
-{
-    match marks {
-        Some(marks) => first_done(busy, marks),
-        None if busy.is_empty() => None,
-        None => Some(0),
-    }
-}
-
-// Takes back the places whose threads have come to their end by the marks. Without marks it waits for all
-// threads, and takes back all places.
-fn gather<
-    Rt: Threads,
-    H: Begun,
-    K: Keep<R, W> + Drop,
-    C: Recorder + Drop,
-    R: Read + Drop,
-    W: Write + Drop,
-    U: Drop,
->(
-    rt: &Rt,
-    free: &mut Vec<Place<H, K, C>>,
-    busy: &mut Vec<Busy<H, K, C, R, W, U>>,
-    marks: Option<&[AtomicU64]>,
-)
-    requires places { All (IsPlace H.lab H.begun H.given R.remaining W.contents C.kept K.shows) free.old.items }
-    requires room { vec_len free.old + vec_len busy.old ≤ vec_capacity free.old }
-    ensures places { All (IsPlace H.lab H.begun H.given R.remaining W.contents C.kept K.shows) free.new.items }
-    ensures count { (g : ℕ → ℕ) (h : R × W → ℕ) →
-        count_free K.shows g h free.new.items + count_busy K.shows g h busy.new.items
-        ≡ count_free K.shows g h free.old.items + count_busy K.shows g h busy.old.items }
-    ensures len { vec_len free.new + vec_len busy.new ≡ vec_len free.old + vec_len busy.old }
-    ensures capacity { vec_capacity free.new ≡ vec_capacity free.old }
-    ensures busy_capacity { vec_capacity busy.new ≡ vec_capacity busy.old }
-    ensures all { IfNone marks.entry (busy.new.items ≡ []) }
-{
-    while let Some(index) = next_to_join(busy, marks) {
-        free.push_reserved(join_one(rt, busy, index));
+    // Takes back the places whose threads have come to their end by the marks. Without marks it waits for all
+    // threads, and takes back all places.
+    fn gather<Rt: Threads>(
+        rt: &Rt,
+        free: &mut Vec<Place<H, K, C>>,
+        busy: &mut Vec<Self>,
+        marks: Option<&[AtomicU64]>,
+    )
+        requires places { All (IsPlace H.lab H.begun H.given R.remaining W.contents C.kept K.shows) free.old.items }
+        requires room { vec_len free.old + vec_len busy.old ≤ vec_capacity free.old }
+        ensures places { All (IsPlace H.lab H.begun H.given R.remaining W.contents C.kept K.shows) free.new.items }
+        ensures count { (g : ℕ → ℕ) (h : R × W → ℕ) →
+            count_free K.shows g h free.new.items + count_busy K.shows g h busy.new.items
+            ≡ count_free K.shows g h free.old.items + count_busy K.shows g h busy.old.items }
+        ensures len { vec_len free.new + vec_len busy.new ≡ vec_len free.old + vec_len busy.old }
+        ensures capacity { vec_capacity free.new ≡ vec_capacity free.old }
+        ensures busy_capacity { vec_capacity busy.new ≡ vec_capacity busy.old }
+        ensures all { IfNone marks.entry (busy.new.items ≡ []) }
+    {
+        while let Some(index) = Self::next_to_join(busy, marks) {
+            free.push_reserved(Self::join_one(rt, busy, index));
+        }
     }
 }
 
@@ -337,7 +316,7 @@ impl<
         ensures capacity { vec_capacity free.new ≡ vec_capacity free.old }
         ensures busy_capacity { vec_capacity busy.new ≡ vec_capacity busy.old }
     {
-        gather(self.rt, free, busy, Some(self.marks));
+        Busy::gather(self.rt, free, busy, Some(self.marks));
         let Some(place) = next_free(free) else {
             turn_away(ends);
             return;
@@ -380,14 +359,14 @@ impl<
         for _ in self.rt.forever() {
             match arrivals.accept_next() {
                 Next::Came(ends, line) => self.take_in(scope, &mut free, &mut busy, ends, line),
-                Next::Nobody => gather(self.rt, &mut free, &mut busy, Some(self.marks)),
+                Next::Nobody => Busy::gather(self.rt, &mut free, &mut busy, Some(self.marks)),
                 Next::Over => break,
             }
         }
         // Who waits at the port is let go of before the sessions are waited for.
         drop(arrivals);
         cut_off_all(&busy);
-        gather(self.rt, &mut free, &mut busy, None);
+        Busy::gather(self.rt, &mut free, &mut busy, None);
         Ok(free)
     }
 }

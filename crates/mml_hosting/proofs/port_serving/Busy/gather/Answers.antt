@@ -2,7 +2,7 @@ use Rattle.std.proofs.Common.{arith}
 use Rattle.mml_hosting.specs.Places.{IsPlace}
 use Rattle.mml_hosting.specs.Counting.{count_in}
 use Rattle.mml_hosting.proofs.PlaceLemmas.{all_more, sum_more}
-use Rattle.mml_hosting.proofs.port_serving.gather.Goals as goal
+use Rattle.mml_hosting.proofs.port_serving.Busy.gather.Goals as goal
 
 pub loop-index-preserved : goal.loop-index-preserved
 loop-index-preserved g c =

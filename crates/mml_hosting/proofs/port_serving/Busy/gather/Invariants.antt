@@ -1,7 +1,7 @@
 use Rattle.std.proofs.Common.{◌≡◌, ◌+◌, ℕ, All, vec_len, vec_capacity}
 use Rattle.mml_hosting.specs.Places.{IsPlace}
 use Rattle.mml_hosting.specs.Counting.{count_free, count_busy}
-use Rattle.mml_hosting.proofs.port_serving.gather.Given as goal
+use Rattle.mml_hosting.proofs.port_serving.Busy.gather.Given as goal
 
 abbrev pub invariant-loop-index : goal.invariant-loop-index
 invariant-loop-index g l = record {
