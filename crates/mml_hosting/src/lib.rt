@@ -2,13 +2,13 @@
 //! bye at the desk.
 #![tactic(auto)]
 
-mod arrivals;
+mod accepting;
 mod begun;
 mod hosted;
 mod place;
 mod port_serving;
 
-pub use arrivals::{Arrivals, Bell, CutOff, Next};
+pub use accepting::{Accept, Accepted, Bell, CutOff};
 pub use begun::Begun;
 pub use hosted::{HostFault, Hosted, Record, Recorders, no_recorders, resume_host, serve_host};
 pub use place::{Keep, Place, ServedSession, serve_in};

@@ -5,7 +5,7 @@ ghost use Rattle.mml_hosting.specs.Places.{IsPlace, came_to};
 ghost use Rattle.mml_hosting.specs.Ports.{ServesPort};
 ghost use Rattle.mml_hosting.specs.Counting.{count_free, count_busy, count_in, TakesIn};
 
-use crate::arrivals::{Arrivals, Bell, CutOff, Next};
+use crate::accepting::{Accept, Accepted, Bell, CutOff};
 use crate::begun::Begun;
 use crate::place::{Keep, Place, serve_in, set_mark};
 use mml_ids::Memory;
@@ -340,7 +340,7 @@ impl<
         R: Read + Send + Drop + 's,
         W: Write + HangUp + Send + Drop + 's,
         U: CutOff + Drop,
-        A: Arrivals<R, W, U> + Drop,
+        A: Accept<R, W, U> + Drop,
     >(
         &self,
         scope: &Scope<'s, E>,
@@ -358,9 +358,9 @@ impl<
         free.reserve(0)?;
         for _ in self.rt.forever() {
             match arrivals.accept_next() {
-                Next::Came(ends, line) => self.take_in(scope, &mut free, &mut busy, ends, line),
-                Next::Nobody => Busy::gather(self.rt, &mut free, &mut busy, Some(self.marks)),
-                Next::Over => break,
+                Accepted::Came(ends, line) => self.take_in(scope, &mut free, &mut busy, ends, line),
+                Accepted::Nobody => Busy::gather(self.rt, &mut free, &mut busy, Some(self.marks)),
+                Accepted::Over => break,
             }
         }
         // Who waits at the port is let go of before the sessions are waited for.
@@ -384,7 +384,7 @@ pub fn serve_port<
     R: Read + Send + Drop,
     W: Write + HangUp + Send + Drop,
     U: CutOff + Drop,
-    A: Arrivals<R, W, U> + Drop,
+    A: Accept<R, W, U> + Drop,
     G: Gate + Sync,
     B: Bell + Sync,
 >(

@@ -5,7 +5,7 @@ use crate::shared_socket::SharedSocket;
 use crate::socket_reader::{Incoming, SocketReader};
 use crate::socket_writer::{ReplyWriter, SocketCutOff, WRITE_LIMIT};
 use crate::state::HostState;
-use mml_hosting::{Arrivals, Bell, Next};
+use mml_hosting::{Accept, Accepted, Bell};
 use mml_serving::HangUp;
 use std::alloc::Global;
 use std::collections::VecDeque;
@@ -62,7 +62,7 @@ pub struct Port<'a, Rt> {
     count: u64,
 }
 
-type Accepted<'a, Rt> = Next<Incoming<'a, Rt>, ReplyWriter<'a, Rt>, SocketCutOff<'a, Rt>>;
+type Brought<'a, Rt> = Accepted<Incoming<'a, Rt>, ReplyWriter<'a, Rt>, SocketCutOff<'a, Rt>>;
 
 impl<'a, Rt: Clock + Wait + Eprint> Port<'a, Rt> {
     /// A port to which nobody has come yet.
@@ -132,7 +132,7 @@ impl<'a, Rt: Clock + Wait + Eprint> Port<'a, Rt> {
     }
 
     // The first of those who wait, if there is a place. Who has waited too long is turned away.
-    fn let_in(&mut self) -> Option<Accepted<'a, Rt>> {
+    fn let_in(&mut self) -> Option<Brought<'a, Rt>> {
         let Some(first) = self.waiting.front() else {
             self.crowd.note_wanted(false);
             return None;
@@ -164,7 +164,7 @@ impl<'a, Rt: Clock + Wait + Eprint> Port<'a, Rt> {
         0
     }
 
-    fn bring(&mut self, now: Instant) -> Option<Accepted<'a, Rt>> {
+    fn bring(&mut self, now: Instant) -> Option<Brought<'a, Rt>> {
         let index = if self.waiting.len() > 1 {
             self.first_to_speak()
         } else {
@@ -181,18 +181,18 @@ impl<'a, Rt: Clock + Wait + Eprint> Port<'a, Rt> {
         if self.crowd.enter(self.rt, socket, now).is_err() {
             self.state.note_memory(self.rt);
         }
-        Some(Next::Came((reader, writer), cut_off))
+        Some(Accepted::Came((reader, writer), cut_off))
     }
 
     // Nobody is let in any more.
-    fn close(&mut self) -> Accepted<'a, Rt> {
+    fn close(&mut self) -> Brought<'a, Rt> {
         for _ in 0..self.waiting.len() {
             if let Some(first) = self.waiting.pop_front() {
                 first.turn_away(self.rt, LastWord::Over);
             }
         }
         self.crowd.partings.close(self.rt);
-        Next::Over
+        Accepted::Over
     }
 
     // Waits for what may let the next accept succeed: a session ends, and gives back what it holds.
@@ -212,12 +212,12 @@ impl<'a, Rt: Clock + Wait + Eprint> Port<'a, Rt> {
     }
 }
 
-impl<'a, Rt: Clock + Wait + Eprint> Arrivals<
+impl<'a, Rt: Clock + Wait + Eprint> Accept<
     Incoming<'a, Rt>,
     ReplyWriter<'a, Rt>,
     SocketCutOff<'a, Rt>,
 > for Port<'a, Rt> {
-    fn accept_next(&mut self) -> Next<Incoming<'a, Rt>, ReplyWriter<'a, Rt>, SocketCutOff<'a, Rt>> {
+    fn accept_next(&mut self) -> Brought<'a, Rt> {
         let ended = self.state.ended(self.rt);
         if self.state.is_over(self.rt) {
             return self.close();
@@ -235,12 +235,12 @@ impl<'a, Rt: Clock + Wait + Eprint> Arrivals<
                 self.queue(newcomer);
                 match self.let_in() {
                     Some(next) => next,
-                    None => Next::Nobody,
+                    None => Accepted::Nobody,
                 }
             }
             Err(error) => {
                 self.put_off(error.kind(), ended);
-                Next::Nobody
+                Accepted::Nobody
             }
         }
     }

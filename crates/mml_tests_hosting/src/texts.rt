@@ -5,7 +5,7 @@ ghost use Rattle.mml_hosting.specs.Bringing.{Brings};
 
 use mml_fakes::cycles::cycle;
 use mml_fakes::meeting::wait_for;
-use mml_hosting::{Arrivals, Bell, CutOff, Hosted, Next, ServedSession};
+use mml_hosting::{Accept, Accepted, Bell, CutOff, Hosted, ServedSession};
 use mml_journal::MemorySink;
 use mml_lab::{Lab, read_lab};
 use mml_serving::HangUp;
@@ -116,10 +116,10 @@ fn ends_of(alloc: Global, timed: &Timed<'_>) -> Result<TextEnds, AllocError> {
     Ok((bytes, kept))
 }
 
-impl<'a> Arrivals<VecDeque<u8>, Kept, Nothing> for Texts<'a> {
+impl<'a> Accept<VecDeque<u8>, Kept, Nothing> for Texts<'a> {
     ghost to_come = { λ t. Some (into_iter_items t.coming) };
 
-    fn accept_next(&mut self) -> Next<VecDeque<u8>, Kept, Nothing>
+    fn accept_next(&mut self) -> Accepted<VecDeque<u8>, Kept, Nothing>
         ensures { Brings (Some (into_iter_items self.old.coming))
             (Some (into_iter_items self.new.coming)) result }
     {
@@ -127,8 +127,8 @@ impl<'a> Arrivals<VecDeque<u8>, Kept, Nothing> for Texts<'a> {
             wait_for(&self.count.0, after);
         }
         match self.coming.next() {
-            Some(ends) => Next::Came(ends, Nothing),
-            None => Next::Over,
+            Some(ends) => Accepted::Came(ends, Nothing),
+            None => Accepted::Over,
         }
     }
 }

@@ -11,7 +11,7 @@ loop-init g c = record {
   places =
       subst (λ (ps : List (Place _ _ _)). All (IsPlace g.H.House.lab g.H.Begun.begun g.H.Begun.given g.R.Read.remaining g.W.Write.contents g.C.Recorder.kept g.K.Keep.shows) ps)
       (sym c.reserve.ensures.items) c.requires.places;
-  history = nothing_yet g.K.Keep.shows (g.A.Arrivals.to_come c.args.arrivals) c.reserve.new.self.items c.in_ok-busy.busy.items c.in_ok-busy.ensures.items;
+  history = nothing_yet g.K.Keep.shows (g.A.Accept.to_come c.args.arrivals) c.reserve.new.self.items c.in_ok-busy.busy.items c.in_ok-busy.ensures.items;
   len = search rules;
   free_room = search rules;
   busy_room = search rules;

@@ -6,7 +6,7 @@ use std::io::{Read, Write};
 
 /// What an accept brought.
 #[derive(Drop)]
-pub enum Next<R: Drop, W: Drop, U: Drop> {
+pub enum Accepted<R: Drop, W: Drop, U: Drop> {
     /// A connection: its two ends, and what ends it from elsewhere.
     Came((R, W), U),
     /// Nobody. Those that have ended are to be let go of before the next accept.
@@ -16,12 +16,12 @@ pub enum Next<R: Drop, W: Drop, U: Drop> {
 }
 
 /// What gives connections as they come.
-pub trait Arrivals<R: Read + Drop, W: Write + Drop, U: CutOff + Drop> {
+pub trait Accept<R: Read + Drop, W: Write + Drop, U: CutOff + Drop> {
     // The connections that are still to come, where they are known.
     ghost to_come: { Self → Option (List (R × W)) } = { λ _. None };
 
     /// The next connection, for which it may wait.
-    fn accept_next(&mut self) -> Next<R, W, U>
+    fn accept_next(&mut self) -> Accepted<R, W, U>
         ensures { Brings (to_come self.old) (to_come self.new) result };
 }
 
