@@ -1,7 +1,7 @@
-//! Files of a run that its programs share: a journal's file, in which nothing that stood there is lost.
+//! Files of a run: a journal's, in which nothing that stood there is lost, and what a record's want too.
 #![tactic(auto)]
 
-mod journal_file_fault;
+mod file_fault;
 mod lab_copy;
 mod limits;
 mod old_journal;
@@ -9,7 +9,8 @@ mod open_journal;
 mod paths;
 mod pipe;
 
-pub use journal_file_fault::JournalFileFault;
+pub use file_fault::FileFault;
 pub use limits::{file_size_limit, has_small_stacks};
 pub use old_journal::OldJournal;
 pub use open_journal::{BegunJournal, LabFile, OpenJournal};
+pub use paths::{is_there, sync_folder};

@@ -1,5 +1,5 @@
 //! A pipe that has a name, opened to be written to without waiting for one who reads it.
-use crate::journal_file_fault::JournalFileFault;
+use crate::file_fault::FileFault;
 use crate::paths::appending;
 use libc::net::{POLLERR, poll};
 use libc::types::pollfd;
@@ -15,7 +15,7 @@ const PAUSE: i32 = 20;
 
 /// Opens the pipe, and refuses one that nobody reads within a second. An open to write alone would wait
 /// for a reader; where the pipe is open to be read too, here itself, it doesn't.
-pub fn open_pipe<R: Files<File = File>>(rt: &R, path: &str) -> Result<File, JournalFileFault> {
+pub fn open_pipe<R: Files<File = File>>(rt: &R, path: &str) -> Result<File, FileFault> {
     let both = appending().read(true).open(rt, path)?;
     let file = appending().open(rt, path)?;
     drop(both);
@@ -25,7 +25,7 @@ pub fn open_pipe<R: Files<File = File>>(rt: &R, path: &str) -> Result<File, Jour
         }
         let _ = poll(&mut [], PAUSE);
     }
-    Err(JournalFileFault::Refused)
+    Err(FileFault::Refused)
 }
 
 // Whether somebody reads the pipe.

@@ -1,12 +1,12 @@
 -- The errors of the host that those of the crates below are.
 use Rattle.std.specs.Prelude.{◌≡◌}
+use Rattle.mml_files.specs.declared.file_fault.FileFault.{FileFault}
+use Rattle.mml_files.specs.declared.file_fault.FileFault.TheVariants as file
 use Rattle.mml_hosting.specs.declared.hosted.HostFault.{HostFault}
 use Rattle.mml_hosting.specs.declared.hosted.HostFault.TheVariants as hosting
 use Rattle.mml_resuming.specs.declared.resuming.ResumeFault.{ResumeFault}
 use Rattle.mml_resuming.specs.declared.resuming.ResumeFault.TheVariants as resuming
 use Rattle.mml_program.specs.declared.fault.Fault.TheVariants as program
-use Rattle.mml_recording.specs.declared.record_fault.RecordFault.{RecordFault}
-use Rattle.mml_recording.specs.declared.record_fault.RecordFault.TheVariants as recording
 use Rattle.mml_host_program.specs.declared.fault.Fault.{Fault}
 use Rattle.mml_host_program.specs.declared.fault.Fault.TheVariants as fault
 
@@ -19,9 +19,9 @@ of_hosting hosting.Astray = fault.Astray
 of_hosting hosting.Halted = fault.Common program.Journal
 of_hosting hosting.Write = fault.Common program.Write
 
-abbrev pub of_record : RecordFault → Fault
-of_record recording.Refused = fault.Unrecorded
-of_record recording.Memory = fault.Common program.Memory
+abbrev pub of_record : FileFault → Fault
+of_record file.Refused = fault.Unrecorded
+of_record file.Memory = fault.Common program.Memory
 
 -- a file that can't be cut is told as one that can't be made; which words the audit has is tested
 abbrev pub IsToldAs : ResumeFault → Fault → Type 0

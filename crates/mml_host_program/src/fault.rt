@@ -1,12 +1,13 @@
 //! What ends the host early: one line on standard error and a status.
 ghost use Rattle.std.specs.Prelude.{◌≡◌, true, false};
+ghost use Rattle.mml_program.specs.Faults.{of_journal_file};
+ghost use Rattle.mml_host_program.specs.Faults.{of_record};
 
-use mml_files::JournalFileFault;
+use mml_files::FileFault;
 use mml_hosting::HostFault;
 use mml_ids::Memory;
 use mml_ports::ListenFault;
 use mml_program::Fault as ProgramFault;
-use mml_recording::RecordFault;
 use mml_resuming::ResumeFault;
 use thiserror::Error;
 
@@ -76,12 +77,6 @@ impl From<ProgramFault> for Fault {
     }
 }
 
-impl From<JournalFileFault> for Fault {
-    fn from(fault: JournalFileFault) -> Fault {
-        Fault::Common(ProgramFault::from(fault))
-    }
-}
-
 impl From<ListenFault> for Fault {
     fn from(fault: ListenFault) -> Fault {
         match fault {
@@ -91,16 +86,20 @@ impl From<ListenFault> for Fault {
     }
 }
 
-impl From<RecordFault> for Fault {
-    ghost use Rattle.mml_host_program.specs.Faults.{of_record};
+/// What is told where the journal's file can't be had.
+pub(crate) fn of_journal(fault: FileFault) -> Fault
+    ensures { result ≡ Fault.Common (of_journal_file fault) }
+{
+    Fault::Common(ProgramFault::from(fault))
+}
 
-    ghost from_gives = { λ fault e. e ≡ of_record fault };
-
-    fn from(fault: RecordFault) -> Fault {
-        match fault {
-            RecordFault::Refused => Fault::Unrecorded,
-            RecordFault::Memory => Fault::Common(ProgramFault::Memory),
-        }
+/// What is told where the record's folder can't be had.
+pub(crate) fn of_record(fault: FileFault) -> Fault
+    ensures { result ≡ of_record fault }
+{
+    match fault {
+        FileFault::Refused => Fault::Unrecorded,
+        FileFault::Memory => Fault::Common(ProgramFault::Memory),
     }
 }
 

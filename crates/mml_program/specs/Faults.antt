@@ -3,8 +3,8 @@ use Rattle.mml_hall.specs.declared.script.ScriptFault.{ScriptFault}
 use Rattle.mml_hall.specs.declared.script.ScriptFault.TheVariants as script
 use Rattle.mml_serving.specs.declared.serving.ServeFault.{ServeFault}
 use Rattle.mml_serving.specs.declared.serving.ServeFault.TheVariants as serving
-use Rattle.mml_files.specs.declared.journal_file_fault.JournalFileFault.{JournalFileFault}
-use Rattle.mml_files.specs.declared.journal_file_fault.JournalFileFault.TheVariants as file
+use Rattle.mml_files.specs.declared.file_fault.FileFault.{FileFault}
+use Rattle.mml_files.specs.declared.file_fault.FileFault.TheVariants as file
 use Rattle.mml_program.specs.declared.fault.Fault.{Fault}
 use Rattle.mml_program.specs.declared.fault.Fault.TheVariants as fault
 
@@ -24,6 +24,6 @@ of_serving serving.Astray = fault.Astray
 of_serving serving.Halted = fault.Journal
 of_serving serving.Write = fault.Write
 
-abbrev pub of_journal_file : JournalFileFault → Fault
+abbrev pub of_journal_file : FileFault → Fault
 of_journal_file file.Refused = fault.Journal
 of_journal_file file.Memory = fault.Memory

@@ -5,7 +5,7 @@ ghost use Rattle.mml_program.specs.declared.fault.Fault.TheVariants.{Memory};
 
 use crate::lab_refusal::{AuditRefusal, LabRefusal};
 use mml_audit::AuditFault;
-use mml_files::JournalFileFault;
+use mml_files::FileFault;
 use mml_hall::ScriptFault;
 use mml_lab::LabFault;
 use mml_serving::ServeFault;
@@ -116,15 +116,15 @@ impl From<AllocError> for Fault {
     }
 }
 
-impl From<JournalFileFault> for Fault {
+impl From<FileFault> for Fault {
     ghost use Rattle.mml_program.specs.Faults.{of_journal_file};
 
     ghost from_gives = { λ fault e. e ≡ of_journal_file fault };
 
-    fn from(fault: JournalFileFault) -> Fault {
+    fn from(fault: FileFault) -> Fault {
         match fault {
-            JournalFileFault::Refused => Fault::Journal,
-            JournalFileFault::Memory => Fault::Memory,
+            FileFault::Refused => Fault::Journal,
+            FileFault::Memory => Fault::Memory,
         }
     }
 }

@@ -1,5 +1,5 @@
 //! How much is recorded of each account.
-use crate::record_fault::RecordFault;
+use mml_files::FileFault;
 use mml_lab::{Lab, Student, Who};
 use mml_record::Budget;
 use std::alloc::Global;
@@ -32,7 +32,7 @@ pub struct Budgets {
 
 impl Budgets {
     /// Nothing was put yet of any account of the lab.
-    pub fn new(alloc: Global, lab: &Lab) -> Result<Budgets, RecordFault> {
+    pub fn new(alloc: Global, lab: &Lab) -> Result<Budgets, FileFault> {
         let roster = lab.roster();
         let mut accounts = Vec::new(alloc);
         accounts.push(new_account(alloc, roster.name_of(Who::Teacher))?)?;
@@ -66,7 +66,7 @@ impl Budgets {
     }
 }
 
-fn new_account(alloc: Global, name: &str) -> Result<Account, RecordFault> {
+fn new_account(alloc: Global, name: &str) -> Result<Account, FileFault> {
     Ok(Account {
         name: String::from_str(alloc, name)?,
         spent: AtomicU64::new(0),

@@ -4,7 +4,6 @@
 mod budgets;
 mod folder;
 mod paths;
-mod record_fault;
 mod record_sink;
 mod record_state;
 mod seats;
@@ -12,7 +11,6 @@ mod tail;
 
 pub use budgets::{BUDGET, Budgets, SeatBudget};
 pub use folder::RecordFolder;
-pub use record_fault::RecordFault;
 pub use record_sink::RecordSink;
 pub use record_state::{RecordState, end_syncing, sync_until_done};
 pub use seats::{MOST, Seats};
