@@ -1,5 +1,5 @@
 //! What ends the host early: one line on standard error and a status.
-ghost use Rattle.std.specs.Prelude.{◌≡◌, true, false};
+ghost use Rattle.std.specs.Prelude.{◌≡◌};
 ghost use Rattle.mml_program.specs.Faults.{of_journal_file};
 ghost use Rattle.mml_host_program.specs.Faults.{of_record};
 
@@ -51,18 +51,6 @@ impl Fault {
             Fault::AnotherLab => 2,
             Fault::Listen | Fault::Accept | Fault::Astray | Fault::Unrecorded => 4,
             Fault::Place | Fault::FewFiles | Fault::FewThreads => 5,
-        }
-    }
-
-    /// Out of memory where a writer met it, whatever the error was told as.
-    pub fn or_memory(self, lacked: bool) -> Fault
-        ensures memory { lacked ≡ true → result ≡ Fault.Common ProgramFault.Memory }
-        ensures other { lacked ≡ false → result ≡ self }
-    {
-        if lacked {
-            Fault::Common(ProgramFault::Memory)
-        } else {
-            self
         }
     }
 }

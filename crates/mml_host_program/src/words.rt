@@ -2,8 +2,8 @@
 ghost use Rattle.std.specs.Prelude.{MatchOption};
 ghost use Rattle.mml_host_program.specs.Words.{Names, NamesNone};
 
-use clap::{Arg, ArgAction, ArgMatches, Command};
-use mml_program::{Fault as ProgramFault, command_of, match_words, with_journal};
+use clap::{ArgMatches, Command};
+use mml_program::{Fault as ProgramFault, command_of, match_words, with_optional};
 use mml_serving::read_port as read_some_port;
 use std::alloc::{AllocError, Global};
 
@@ -62,17 +62,13 @@ fn whole<'a>(alloc: Global) -> Result<Command<'a>, AllocError> {
 
 fn host_words<'a>(alloc: Global) -> Result<Command<'a>, AllocError> {
     let command = command_of(alloc, "host", &["lab", "port", "desk"])?;
-    with_record(alloc, with_journal(alloc, command)?)
+    let command = with_optional(alloc, command, "journal")?;
+    with_optional(alloc, command, "record")
 }
 
 fn resume_words<'a>(alloc: Global) -> Result<Command<'a>, AllocError> {
     let places = ["lab", "port", "desk", "journal"];
-    with_record(alloc, command_of(alloc, "resume", &places)?)
-}
-
-// One value more, which may be left out.
-fn with_record<'a>(alloc: Global, command: Command<'a>) -> Result<Command<'a>, AllocError> {
-    command.arg(Arg::new(alloc, "record").action(ArgAction::Set))
+    with_optional(alloc, command_of(alloc, "resume", &places)?, "record")
 }
 
 fn task_of<'a>(name: &str, values: &ArgMatches<'a>) -> Option<Task<'a>> {

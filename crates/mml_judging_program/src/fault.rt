@@ -1,5 +1,5 @@
 //! What ends a word early: one line on standard error and a status.
-ghost use Rattle.std.specs.Prelude.{◌≡◌, true, false};
+ghost use Rattle.std.specs.Prelude.{◌≡◌};
 
 use crate::record_refusal::RecordRefusal;
 use mml_ids::Memory;
@@ -27,18 +27,6 @@ impl Fault {
             Fault::Common(fault) => fault.status(),
             Fault::Record(_) => 3,
             Fault::ReadRecord => 4,
-        }
-    }
-
-    /// Out of memory where a writer met it, whatever the error was told as.
-    pub fn or_memory(self, lacked: bool) -> Fault
-        ensures memory { lacked ≡ true → result ≡ Fault.Common ProgramFault.Memory }
-        ensures other { lacked ≡ false → result ≡ self }
-    {
-        if lacked {
-            Fault::Common(ProgramFault::Memory)
-        } else {
-            self
         }
     }
 }

@@ -15,7 +15,9 @@ use mml_ends::Retrying;
 use mml_ids::Piece;
 use mml_lab::Lab;
 use mml_lines::{WholeFault, read_whole};
-use mml_program::{Fault as ProgramFault, lab_of, memory_or, read_journal, write_pieces};
+use mml_program::{
+    Fault as ProgramFault, lab_of, memory_or, or_memory, read_journal, write_pieces,
+};
 use mml_record::{Findings, PieceFault, Verdict, read_record_from};
 use std::alloc::Global;
 use std::fs::File;
@@ -41,7 +43,7 @@ pub fn verify<R: Files<File = File> + Print + AllocGlobal>(
     let mut writer = Retrying::new(io::writer(rt));
     match write_verified(rt.alloc(), found, events.len() as u64, &mut writer) {
         Ok(()) => Ok(()),
-        Err(fault) => Err(Fault::from(fault).or_memory(writer.lacked_memory)),
+        Err(fault) => Err(or_memory(Fault::from(fault), writer.lacked_memory)),
     }
 }
 

@@ -1,6 +1,6 @@
 //! The words of the command line.
-use clap::{Arg, ArgAction, ArgMatches, Command};
-use mml_program::{Fault as ProgramFault, command_of, match_words};
+use clap::{ArgMatches, Command};
+use mml_program::{Fault as ProgramFault, command_of, match_words, with_optional};
 use std::alloc::{AllocError, Global};
 
 /// What the words ask for.
@@ -44,12 +44,11 @@ fn whole<'a>(alloc: Global) -> Result<Command<'a>, AllocError> {
     command_of(alloc, "mml_host", &[])?
         .subcommand(command_of(alloc, "answer", &["lab"])?)?
         .subcommand(command_of(alloc, "verify", &["lab", "journal", "record"])?)?
-        .subcommand(with_record(alloc, command_of(alloc, "tally", &["lab", "journal"])?)?)
-}
-
-// One value more, which may be left out.
-fn with_record<'a>(alloc: Global, command: Command<'a>) -> Result<Command<'a>, AllocError> {
-    command.arg(Arg::new(alloc, "record").action(ArgAction::Set))
+        .subcommand(with_optional(
+            alloc,
+            command_of(alloc, "tally", &["lab", "journal"])?,
+            "record",
+        )?)
 }
 
 fn task_of<'a>(name: &str, values: &ArgMatches<'a>) -> Option<Task<'a>> {

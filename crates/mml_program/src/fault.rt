@@ -85,13 +85,15 @@ impl Fault {
     }
 }
 
-impl Fault {
-    /// Out of memory where a reader or a writer met it, whatever the error was told as.
-    pub fn or_memory(self, lacked: bool) -> Fault
-        ensures memory { lacked ≡ true → result ≡ Fault.Memory }
-        ensures other { lacked ≡ false → result ≡ self }
-    {
-        if lacked { Fault::Memory } else { self }
+/// Out of memory where a reader or a writer met it, whatever the error was told as.
+pub fn or_memory<F: From<Fault> + Drop>(fault: F, lacked: bool) -> F
+    ensures memory { lacked ≡ true → F.from_gives Memory result }
+    ensures other { lacked ≡ false → result ≡ fault }
+{
+    if lacked {
+        F::from(Fault::Memory)
+    } else {
+        fault
     }
 }
 

@@ -10,11 +10,11 @@ mod task;
 mod words;
 
 pub use built_in::BUILT_IN;
-pub use fault::{Fault, memory_or};
+pub use fault::{Fault, memory_or, or_memory};
 pub use files::{
     MAX_FILE, MAX_JOURNAL, begin_journal, begin_journal_with, read_file, read_journal,
 };
 pub use lab_refusal::{AuditRefusal, LabRefusal};
 pub use script_answering::{answer_script, write_audit, write_pieces, write_size};
-pub use task::{lab_of, run, words_of};
-pub use words::{ScriptTask, ServeTask, Task, command_of, match_words, read_words, with_journal};
+pub use task::{lab_in, lab_of, run, words_of};
+pub use words::{ScriptTask, ServeTask, Task, command_of, match_words, read_words, with_optional};

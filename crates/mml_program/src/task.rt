@@ -3,7 +3,7 @@ ghost use Rattle.std.specs.Prelude.{◌<◌, ◌≤◌, ◌-◌, ◌^◌};
 ghost use Rattle.mml_journal.specs.Taken.{IsFresh};
 
 use crate::built_in::BUILT_IN;
-use crate::fault::{Fault, memory_or};
+use crate::fault::{Fault, memory_or, or_memory};
 use crate::files::{begin_journal_with, read_file, read_journal};
 use crate::script_answering::{answer_script, write_audit, write_size};
 use crate::words::{ScriptTask, ServeTask, Task, read_words};
@@ -80,7 +80,7 @@ fn answer_input<R: Input + Print + AllocGlobal>(rt: &R) -> Result<(), Fault> {
     let mut writer = Retrying::new(io::writer(rt));
     match answer_script(alloc, lab, &mut reader, &mut writer, NullSink::new()) {
         Ok(_) => Ok(()),
-        Err(fault) => Err(fault.or_memory(reader.lacked_memory || writer.lacked_memory)),
+        Err(fault) => Err(or_memory(fault, reader.lacked_memory || writer.lacked_memory)),
     }
 }
 
@@ -118,7 +118,7 @@ fn answer_lines<R: Print + AllocGlobal, S: Sink + Drop>(
     let mut writer = Retrying::new(io::writer(rt));
     match answer_script(rt.alloc(), lab, &mut script, &mut writer, sink) {
         Ok(hall) => ended(&hall),
-        Err(fault) => Err(fault.or_memory(writer.lacked_memory)),
+        Err(fault) => Err(or_memory(fault, writer.lacked_memory)),
     }
 }
 
@@ -205,7 +205,7 @@ fn serve_listener<
     let mut writer = Retrying::new(io::writer(rt));
     match serve_lines(rt, lab, service, sink, &mut writer) {
         Ok(()) => Ok(()),
-        Err(fault) => Err(Fault::from(fault).or_memory(writer.lacked_memory)),
+        Err(fault) => Err(or_memory(Fault::from(fault), writer.lacked_memory)),
     }
 }
 
@@ -255,7 +255,7 @@ pub fn lab_of<R: Files + AllocGlobal>(rt: &R, path: &str) -> Result<Lab, Fault> 
     lab_in(rt.alloc(), bytes.as_slice())
 }
 
-// The lab that the bytes spell.
-fn lab_in(alloc: Global, bytes: &[u8]) -> Result<Lab, Fault> {
+/// The lab that the bytes spell.
+pub fn lab_in(alloc: Global, bytes: &[u8]) -> Result<Lab, Fault> {
     Ok(read_lab(alloc, bytes)?)
 }

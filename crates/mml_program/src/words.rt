@@ -87,11 +87,16 @@ fn task_of<'a>(name: &str, values: &ArgMatches<'a>) -> Option<Task<'a>> {
 fn whole<'a>(alloc: Global) -> Result<Command<'a>, AllocError> {
     plain(alloc, "mml_server")
         .subcommand(command_of(alloc, "check", &["lab"])?)?
-        .subcommand(with_journal(alloc, command_of(alloc, "script", &["lab", "script"])?)?)?
+        .subcommand(with_optional(
+            alloc,
+            command_of(alloc, "script", &["lab", "script"])?,
+            "journal",
+        )?)?
         .subcommand(command_of(alloc, "audit", &["lab", "journal"])?)?
-        .subcommand(with_journal(
+        .subcommand(with_optional(
             alloc,
             command_of(alloc, "serve", &["lab", "port", "connections"])?,
+            "journal",
         )?)
 }
 
@@ -109,8 +114,12 @@ pub fn command_of<'a>(
 }
 
 /// One value more, which may be left out.
-pub fn with_journal<'a>(alloc: Global, command: Command<'a>) -> Result<Command<'a>, AllocError> {
-    command.arg(Arg::new(alloc, "journal").action(ArgAction::Set))
+pub fn with_optional<'a>(
+    alloc: Global,
+    command: Command<'a>,
+    value: &'a str,
+) -> Result<Command<'a>, AllocError> {
+    command.arg(Arg::new(alloc, value).action(ArgAction::Set))
 }
 
 // A command without help and version.
