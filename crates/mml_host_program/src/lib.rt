@@ -1,16 +1,22 @@
 //! The body of the host: the words that serve a class, its error lines and statuses.
 #![tactic(auto)]
 
+mod beginning;
+mod class;
 mod fault;
 mod going_on;
 mod limited_sink;
 mod limits;
 mod old_file;
+mod resumed;
+mod system;
 mod task;
 mod words;
 
+pub use beginning::write_listening;
 pub use fault::Fault;
 pub use limited_sink::LimitedSink;
 pub use old_file::OldFile;
-pub use task::{run, write_listening};
+pub use system::System;
+pub use task::run;
 pub use words::{HostTask, ResumeTask, Task, is_of_class, read_port, read_words};

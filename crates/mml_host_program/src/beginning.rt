@@ -1,0 +1,126 @@
+//! A class from its beginning to its last line.
+ghost use Rattle.std.specs.Prelude.{◌≡◌, ◌<◌, ◌+◌, ◌-◌, ◌^◌, IsOk, OnOk, length};
+ghost use Rattle.std.specs.Io.KnownBytes.{Appends};
+ghost use Rattle.mml_journal.specs.Taken.{IsFresh};
+ghost use Rattle.mml_serving.specs.Closings.{Closes};
+ghost use Rattle.mml_host_program.specs.Telling.{ports_line, TellsClass};
+
+use crate::class::Ready;
+use crate::fault::Fault;
+use crate::system::System;
+use mml_hosting::{HostFault, Hosted, serve_host};
+use mml_ids::Piece;
+use mml_journal::Sink;
+use mml_ports::{HostState, SocketSession, bell_of, open_ports};
+use mml_program::{Fault as ProgramFault, write_pieces};
+use mml_session::{NoGate, Recorder};
+use std::alloc::Global;
+use std::io::Write;
+use std::net::{Net, TcpListener, TcpStream};
+use std::sync::Wait;
+
+impl<C: Recorder + Send + Drop> Ready<C> {
+    /// From its beginning: the first line, the connections, and the last line.
+    pub(crate) fn begin<
+        R: System + Net<Listener = TcpListener, Stream = TcpStream> + Sync,
+        S: Sink + Send + Drop,
+        W: Write,
+    >(self, rt: &R, sink: S, writer: &mut W) -> Result<(), Fault>
+        requires fresh { IsFresh (S.contents sink) }
+        requires countable { S.failures sink < 2 ^ 64 - 1 }
+        requires as_many { length self.recorders.others.items + 1 ≡ self.lab.sessions }
+        ensures { OnOk result (TellsClass self.lab self.ports.port self.ports.desk
+            (W.contents writer.old) (W.contents writer.new)) }
+    {
+        write_listening(rt.alloc(), self.ports.port, self.ports.desk, writer)?;
+        self.serve_with_state(rt, sink, writer)
+    }
+
+    // The connections, and the last line.
+    fn serve_with_state<
+        R: System + Net<Listener = TcpListener, Stream = TcpStream> + Sync,
+        S: Sink + Send + Drop,
+        W: Write,
+    >(self, rt: &R, sink: S, writer: &mut W) -> Result<(), Fault>
+        requires fresh { IsFresh (S.contents sink) }
+        requires countable { S.failures sink < 2 ^ 64 - 1 }
+        requires as_many { length self.recorders.others.items + 1 ≡ self.lab.sessions }
+        ensures { OnOk result (Closes self.lab (W.contents writer.old) (W.contents writer.new)) }
+    {
+        let state = HostState::new(rt.alloc(), &self.lab)?;
+        self.serve_to_the_end(rt, sink, &state, writer)?;
+        told_memory(rt, &state)
+    }
+
+    // The same, but for want of memory in a session.
+    fn serve_to_the_end<
+        R: System + Net<Listener = TcpListener, Stream = TcpStream> + Sync,
+        S: Sink + Send + Drop,
+        W: Write,
+    >(self, rt: &R, sink: S, state: &HostState, writer: &mut W) -> Result<(), Fault>
+        requires fresh { IsFresh (S.contents sink) }
+        requires countable { S.failures sink < 2 ^ 64 - 1 }
+        requires as_many { length self.recorders.others.items + 1 ≡ self.lab.sessions }
+        ensures { OnOk result (Closes self.lab (W.contents writer.old) (W.contents writer.new)) }
+    {
+        let alloc = rt.alloc();
+        let bell = bell_of(rt, state, &self.ports)?;
+        let Ready {
+            lab,
+            ports,
+            recorders,
+        } = self;
+        let (at_desk, at_port) = open_ports(rt, alloc, state, ports);
+        let served = serve_host::<_, _, SocketSession<'_, R>, _, _, _, _, _, _, _, _, _>(
+            rt, alloc, lab, sink, recorders, at_desk, at_port, &bell, &NoGate, writer,
+        );
+        told(served)
+    }
+}
+
+// What the end of a class is told as.
+fn told<S: Drop, K: Drop, C: Drop>(served: Result<Hosted<S, K, C>, HostFault>) -> Result<(), Fault>
+    ensures { OnOk result (IsOk served) }
+{
+    match served {
+        Ok(house) => {
+            let_go(house);
+            Ok(())
+        }
+        Err(fault) => Err(Fault::from(fault)),
+    }
+}
+
+/// Whether a session was without memory.
+pub(crate) fn told_memory<R: Wait>(rt: &R, state: &HostState) -> Result<(), Fault> {
+    if state.lacked_memory(rt) {
+        Err(Fault::Common(ProgramFault::Memory))
+    } else {
+        Ok(())
+    }
+}
+
+/// Lets go of what is left of a house.
+pub(crate) fn let_go<S: Drop, K: Drop, C: Drop>(house: Hosted<S, K, C>) {
+    drop(house);
+}
+
+/// Writes the first line, which names the ports.
+pub fn write_listening<W: Write>(
+    alloc: Global,
+    port: u16,
+    desk: u16,
+    writer: &mut W,
+) -> Result<(), ProgramFault>
+    ensures { OnOk result
+        (Appends (W.contents writer.old) (W.contents writer.new) (ports_line port desk)) }
+{
+    let pieces = [
+        Piece::Text("listening on port "),
+        Piece::Number(port as u64),
+        Piece::Text(", desk on port "),
+        Piece::Number(desk as u64),
+        Piece::Text("\n"),
+    ];
+    write_pieces(alloc, &pieces, writer)
+}

@@ -1,0 +1,172 @@
+//! A class that is ready, with its journal and its record.
+ghost use Rattle.std.specs.Prelude.{◌≡◌, ◌+◌, length};
+ghost use Rattle.std.specs.Thread.{IsSync, IsSend};
+
+use crate::fault::{Fault, of_record};
+use crate::limited_sink::LimitedSink;
+use crate::system::System;
+use mml_ends::Retrying;
+use mml_files::{BegunJournal, OldJournal};
+use mml_hosting::{Recorders, no_recorders};
+use mml_journal::{FileSink, NullSink};
+use mml_lab::Lab;
+use mml_ports::Ports;
+use mml_program::or_memory;
+use mml_recording::{RecordFolder, RecordState, Seats, end_syncing, sync_until_done};
+use mml_session::Recorder;
+use std::fs::File;
+use std::io::Write;
+use std::net::{Net, TcpListener, TcpStream};
+use std::rt::Files;
+use std::{io, thread};
+
+/// A journal that was opened, with what was read in it.
+#[derive(Drop)]
+pub(crate) struct Past<'a> {
+    pub journal: OldJournal<'a>,
+    pub bytes: &'a [u8],
+}
+
+/// What takes the lines of the events that are granted.
+#[derive(Drop)]
+pub(crate) enum Journal<'a> {
+    /// None, or one that was begun. What isn't a plain file can't be synced.
+    New(Option<BegunJournal>),
+    /// One in which the class goes on.
+    Old(Past<'a>),
+}
+
+/// A class that is ready to be served.
+#[derive(Drop)]
+pub(crate) struct Class<'a> {
+    pub lab: Lab,
+    pub ports: Ports,
+    pub journal: Journal<'a>,
+}
+
+/// What its ports are served with, whatever its journal is.
+#[derive(Drop)]
+pub(crate) struct Ready<C: Drop> {
+    pub lab: Lab,
+    pub ports: Ports,
+    pub recorders: Recorders<C>,
+}
+
+/// Serves a class, and records it where there is a folder for that.
+pub(crate) fn serve_class<
+    R: System + Files<File = File> + Net<Listener = TcpListener, Stream = TcpStream> + Sync,
+>(rt: &R, class: Class<'_>, folder: Option<RecordFolder>) -> Result<(), Fault> {
+    match folder {
+        Some(folder) => serve_recorded(rt, class, folder),
+        None => serve_unrecorded(rt, class),
+    }
+}
+
+// Serves a class, and records nothing.
+fn serve_unrecorded<
+    R: System + Files<File = File> + Net<Listener = TcpListener, Stream = TcpStream> + Sync,
+>(rt: &R, class: Class<'_>) -> Result<(), Fault> {
+    let recorders = no_recorders(rt.alloc(), &class.lab)?;
+    serve_ports(rt, class, recorders)
+}
+
+// Serves a class, and records it in a folder.
+fn serve_recorded<
+    R: System + Files<File = File> + Net<Listener = TcpListener, Stream = TcpStream> + Sync,
+>(rt: &R, class: Class<'_>, folder: RecordFolder) -> Result<(), Fault> {
+    let state = RecordState::new(rt.alloc(), &class.lab).map_err(of_record)?;
+    serve_seats(rt, class, folder, &state)?;
+    told_whole(&state)
+}
+
+// Serves a class, and records each seat.
+fn serve_seats<
+    R: System + Files<File = File> + Net<Listener = TcpListener, Stream = TcpStream> + Sync,
+>(rt: &R, class: Class<'_>, folder: RecordFolder, state: &RecordState) -> Result<(), Fault> {
+    let seats = folder.open_seats(rt, &class.lab, state);
+    let Seats { recorders, files } = seats.map_err(of_record)?;
+    serve_synced(rt, class, recorders, files.as_slice(), state)
+}
+
+// Serves a class, while its record is synced by a thread of its own.
+fn serve_synced<
+    R: System + Files<File = File> + Net<Listener = TcpListener, Stream = TcpStream> + Sync,
+    C: Recorder + Send + Drop,
+>(
+    rt: &R,
+    class: Class<'_>,
+    recorders: Recorders<C>,
+    files: &[File],
+    state: &RecordState,
+) -> Result<(), Fault>
+    requires as_many { length recorders.others.items + 1 ≡ class.lab.sessions }
+{
+    thread::scope(
+        thread::scope_env(),
+        rt,
+        |scope| -> Result<(), Fault>
+            requires { IsSync R.row × IsSend C.row
+                × (length recorders.others.items + 1 ≡ class.lab.sessions) }
+        {
+            let is_synced = scope
+                .spawn(move || sync_until_done(rt, state, files))
+                .is_ok();
+            let served = serve_ports(rt, class, recorders);
+            end_syncing(rt, state, files, is_synced);
+            served
+        },
+    )
+}
+
+// Whether all that was put in a record has reached the device.
+fn told_whole(state: &RecordState) -> Result<(), Fault> {
+    if state.has_failed() {
+        Err(Fault::Unrecorded)
+    } else {
+        Ok(())
+    }
+}
+
+// Serves a class at its ports.
+fn serve_ports<
+    R: System + Files<File = File> + Net<Listener = TcpListener, Stream = TcpStream> + Sync,
+    C: Recorder + Send + Drop,
+>(rt: &R, class: Class<'_>, recorders: Recorders<C>) -> Result<(), Fault>
+    requires as_many { length recorders.others.items + 1 ≡ class.lab.sessions }
+{
+    let mut writer = Retrying::new(io::writer(rt));
+    match serve_journaled(rt, class, recorders, &mut writer) {
+        Ok(()) => Ok(()),
+        Err(fault) => Err(or_memory(fault, writer.lacked_memory)),
+    }
+}
+
+// The same, with the journal that it has.
+fn serve_journaled<
+    R: System + Files<File = File> + Net<Listener = TcpListener, Stream = TcpStream> + Sync,
+    C: Recorder + Send + Drop,
+    W: Write,
+>(rt: &R, class: Class<'_>, recorders: Recorders<C>, writer: &mut W) -> Result<(), Fault>
+    requires as_many { length recorders.others.items + 1 ≡ class.lab.sessions }
+{
+    let Class {
+        lab,
+        ports,
+        journal,
+    } = class;
+    let ready = Ready {
+        lab,
+        ports,
+        recorders,
+    };
+    match journal {
+        Journal::New(None) => ready.begin(rt, NullSink::new(), writer),
+        Journal::New(Some(BegunJournal::Plain(file))) => {
+            ready.begin(rt, LimitedSink::new(file, 0), writer)
+        }
+        Journal::New(Some(BegunJournal::Other(file))) => {
+            ready.begin(rt, FileSink::new(file), writer)
+        }
+        Journal::Old(past) => ready.go_on(rt, past, writer),
+    }
+}
