@@ -43,21 +43,7 @@ pub fn run<
         return Err(Fault::Memory);
     }
     let words = words_of(rt)?;
-    do_task(rt, read_words(rt.alloc(), words.as_slice())?)
-}
-
-// Does what the words asked for.
-fn do_task<
-    R: Files<File = File>
-        + Net<Listener = TcpListener, Stream = TcpStream>
-        + Threads
-        + Wait
-        + Sync
-        + Input
-        + Print
-        + AllocGlobal,
->(rt: &R, task: Task<'_>) -> Result<(), Fault> {
-    match task {
+    match read_words(rt.alloc(), words.as_slice())? {
         Task::BuiltIn => answer_input(rt),
         Task::Check { lab } => check_file(rt, lab),
         Task::Script(task) => script_file(rt, task),
