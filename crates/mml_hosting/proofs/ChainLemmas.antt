@@ -1,21 +1,18 @@
 -- Sessions one after another.
-use Rattle.std.proofs.Common.{rules, ◌≡◌, ◌∙◌, ap, ℕ, Bool, true, false, ◌&&◌, List, [], ◌∷◌, ◌++◌, map, sym, subst, refl, Option}
+use Rattle.std.proofs.Common.{rules, ◌≡◌, ◌∙◌, ap, ℕ, Bool, true, false, ◌&&◌, List, [], ◌∷◌, ◌++◌, map, sym, refl, Option}
 use Rattle.std.proofs.lemmas.List.{map-append}
 use Rattle.std.proofs.lemmas.List.Elements.{All-push}
 use Rattle.mml_lab.specs.Labs.{LabValue}
-use Rattle.mml_session.specs.Records.{EndedRecorded}
+use Rattle.mml_lines.specs.Runs.{Chain}
+use Rattle.mml_lines.proofs.RunsLemmas.{run_longer}
+use Rattle.mml_session.specs.Records.{Stand, EndedRecorded}
 use Rattle.mml_hosting.specs.declared.place.ServedSession.{ServedSession}
-use Rattle.mml_hosting.specs.Places.{Chain, IsServed, IsDismissed, AreGoingOn, Stand, is_teachers_bye}
-
--- one more at the end
-chain_more : {S A : Type 0} (P : S → A → A → Type 0) (a mid last : A) (ss : List S) (s : S) → Chain P a ss mid → P s mid last → Chain P a (ss ++ s ∷ []) last
-chain_more {S} {A} P a mid last [] s so_far one = (last, subst (λ (x : A). P s x last) so_far one, refl)
-chain_more P a mid last (t ∷ ss) s so_far one = (so_far.0, so_far.1, chain_more P so_far.0 mid last ss s so_far.2 one)
+use Rattle.mml_hosting.specs.Places.{IsServed, IsDismissed, AreGoingOn, is_teachers_bye}
 
 -- a session that begins where the ones before it led makes the chain one longer
 pub chain_so : {S A X : Type 0} (P : S → A → A → Type 0) (f : X → S) (a mid last : A) (xs xs' : List X) (x : X) → xs' ≡ xs ++ x ∷ []
     → Chain P a (map f xs) mid → P (f x) mid last → Chain P a (map f xs') last
-chain_so P f a mid last xs xs' x one so_far it = rw (one, map-append f xs (x ∷ [])) (chain_more P a mid last (map f xs) (f x) so_far it)
+chain_so P f a mid last xs xs' x one so_far it = rw (one, map-append f xs (x ∷ [])) (run_longer (λ st s r next. P s st next) a mid last (map f xs) (map f xs) (f x) (f x) so_far it)
 
 both : (a b : Bool) → (a && b) ≡ true → (a ≡ true) × (b ≡ true)
 both true true e = (refl, refl)

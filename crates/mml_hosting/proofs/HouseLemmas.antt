@@ -12,8 +12,8 @@ use Rattle.mml_hosting.specs.declared.place.ServedSession.{ServedSession}
 use Rattle.mml_hosting.specs.declared.place.Place.{Place}
 use Rattle.mml_hosting.specs.declared.hosted.Record.{Record}
 use Rattle.mml_hosting.specs.declared.hosted.Hosted.{Hosted}
-use Rattle.mml_session.specs.Records.{Kept}
-use Rattle.mml_hosting.specs.Places.{AreGiven, IsPlace, IsDismissed, AreGoingOn, is_teachers_bye, came_to, kept_from, sessions_of, stand}
+use Rattle.mml_session.specs.Records.{Kept, stand}
+use Rattle.mml_hosting.specs.Places.{AreGiven, IsPlace, IsDismissed, AreGoingOn, is_teachers_bye, came_to, kept_from, sessions_of}
 use mathlib.Core.List.{IsPrefix}
 use Rattle.mml_board.specs.declared.event.Event.{Event}
 use Rattle.mml_window.specs.Logs.{IsLogFrom}

@@ -2,6 +2,7 @@
 use Rattle.std.specs.Prelude.{◌≡◌, ℕ, false, List, [], ◌++◌, map, flat_map, length, All, Option}
 use Rattle.std.specs.List.{AllZip, range_with_len}
 use Rattle.mml_lab.specs.Labs.{LabValue}
+use Rattle.mml_lines.specs.Runs.{Chain}
 use Rattle.mml_window.specs.Windows.{WindowValue, window}
 use Rattle.mml_window.specs.Logs.{IsLogFrom}
 use mathlib.Core.List.{IsPrefix}
@@ -10,8 +11,8 @@ use Rattle.mml_hosting.specs.declared.place.ServedSession.{ServedSession}
 use Rattle.mml_hosting.specs.declared.place.Place.{Place}
 use Rattle.mml_hosting.specs.declared.hosted.Record.{Record}
 use Rattle.mml_hosting.specs.declared.hosted.Hosted.{Hosted}
-use Rattle.mml_session.specs.Records.{Kept}
-use Rattle.mml_hosting.specs.Places.{Chain, IsServed, IsDismissed, stand}
+use Rattle.mml_session.specs.Records.{Kept, stand}
+use Rattle.mml_hosting.specs.Places.{IsServed, IsDismissed}
 use Rattle.mml_hosting.specs.Ports.{Attends, HaveSame}
 
 -- nobody was served in the place so far, and its recorder is as it was given

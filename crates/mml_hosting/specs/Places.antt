@@ -2,28 +2,16 @@
 use Rattle.std.specs.Prelude.{◌≡◌, ℕ, ◌+◌, ◌==◌, if◌then◌else◌, Bool, true, false, List, [], ◌∷◌, ◌++◌, map, All, ⊤, Option, None, Some}
 use Rattle.mml_lab.specs.Labs.{LabValue}
 use Rattle.mml_board.specs.declared.event.Event.{Event}
-use Rattle.mml_window.specs.Windows.{WindowValue, window}
+use Rattle.mml_lines.specs.Runs.{Chain}
+use Rattle.mml_window.specs.Windows.{window}
 use Rattle.mml_lab.specs.declared.who.Who.{Who}
 use Rattle.mml_lab.specs.declared.who.Who.TheVariants as who
 use Rattle.mml_session.specs.declared.session.Ending.{Ending}
 use Rattle.mml_session.specs.declared.session.SessionEnd.{SessionEnd}
 use Rattle.mml_session.specs.declared.session.SessionEnd.TheVariants as end
-use Rattle.mml_session.specs.Records.{Kept, EndedRecorded}
+use Rattle.mml_session.specs.Records.{Kept, Stand, stand, EndedRecorded}
 use Rattle.mml_hosting.specs.declared.place.ServedSession.{ServedSession}
 use Rattle.mml_hosting.specs.declared.place.Place.{Place}
-
--- one step after another, each from where the one before led
-abbrev pub Chain : {S A : Type 0} → (S → A → A → Type 0) → A → List S → A → Type 0
-Chain P a [] last = last ≡ a
-Chain {S} {A} P a (s ∷ ss) last = (next : A) × P s a next × Chain P next ss last
-
--- where a place stands: its window, and what its recorder has kept
-pub record Stand : Type 0 where
-  pub window : WindowValue
-  pub kept : Option Kept
-
-abbrev pub stand : WindowValue → Option Kept → Stand
-stand window kept = record { window = window; kept = kept }
 
 -- the connection was served to such an end, through a window that it led from the one value to the other, and what was recorded of it,
 -- under this number, led the recorder

@@ -1,6 +1,7 @@
 use Rattle.std.proofs.Common.{◌≡◌, ◌&&◌, []}
 use Rattle.mml_window.specs.Windows.{window}
-use Rattle.mml_hosting.specs.Places.{IsServed, is_teachers_bye, stand}
+use Rattle.mml_session.specs.Records.{stand}
+use Rattle.mml_hosting.specs.Places.{IsServed, is_teachers_bye}
 use Rattle.mml_hosting.proofs.ChainLemmas.{chain_so, dismissed_so, going_on_so, served_so}
 use Rattle.mml_hosting.proofs.place.serve_in.Goals as goal
 
