@@ -1,5 +1,5 @@
 -- In a step each node pays for its move by its part, but where some nodes are newly married: then each of these is lent 1, and each other 2.
-use Rattle.std.proofs.Common.{◌≡◌, ℕ, ◌+◌, ◌<◌, ◌≤◌, Bool, true, false, cond, not, ◌&&◌, inl, inr, Option, None, Some, is_some, refl, ap, ◌∙◌, arith, nat_lt}
+use Rattle.std.proofs.Common.{◌≡◌, ℕ, ◌+◌, ◌<◌, ◌≤◌, true, false, cond, not, ◌&&◌, inl, inr, Option, None, Some, is_some, refl, ap, ◌∙◌, arith, nat_lt}
 use Rattle.std.specs.Option.{option_map_or}
 use Rattle.std.proofs.lemmas.Bool.{and_parts, both_ways, ltb-true, cases_Bool, false_from_ne_true, not-true}
 use Rattle.std.proofs.lemmas.Bool.Decides.{nat_tests}

@@ -3,7 +3,7 @@ use Rattle.std.proofs.Common.{◌≡◌, ℕ, zero, suc, ◌+◌, ◌*◌, ◌-�
 use Rattle.std.proofs.Common.{sym, refl, ap, ◌∙◌, subst, arith}
 use Rattle.std.specs.List.{list_all}
 use Rattle.std.proofs.lemmas.List.{append-nil}
-use Rattle.std.proofs.lemmas.Bool.{or_right, both_ways, false_from_ne_true, cases_Bool, cases_lt, cases_order}
+use Rattle.std.proofs.lemmas.Bool.{or_right, both_ways, false_from_ne_true, cases_lt, cases_order}
 use Rattle.std.proofs.lemmas.Bool.Decides.{nat_tests}
 use Rattle.mml_ids.specs.Search.{some_below}
 use Rattle.mml_ids.proofs.SearchLemmas.{some_below-find, some_below-none}

@@ -1,11 +1,11 @@
 -- What one step does to a free node, and to a married one.
-use Rattle.std.proofs.Common.{◌≡◌, ℕ, zero, suc, ◌+◌, ◌<◌, ◌≤◌, ◌⊎◌, inl, inr, Bool, true, false, not, ◌&&◌, Option, None, Some, is_some, is_none}
+use Rattle.std.proofs.Common.{◌≡◌, ℕ, zero, suc, ◌+◌, ◌<◌, ◌≤◌, ◌⊎◌, inl, inr, Bool, true, false, not, Option, None, Some}
 use Rattle.std.proofs.Common.{sym, refl, ap, ◌∙◌, arith}
-use Rattle.std.proofs.lemmas.Bool.{and_parts, both_ways, not-true, false≢true, false_from_ne_true, cases_Bool, cases_order}
+use Rattle.std.proofs.lemmas.Bool.{both_ways, false≢true, false_from_ne_true, cases_Bool, cases_order}
 use Rattle.std.proofs.lemmas.Bool.Decides.{nat_tests}
 use Rattle.mml_rules.specs.declared.rule.Rule.{Rule}
 use Rattle.mml_rules.specs.Configuration.{Configuration, IsLawful, holds}
-use Rattle.mml_rules.specs.Rules.{is_married, has_suitor, greatest_candidate, m_is_right, is_privileged, guard, effect, moved, step, AllHold}
+use Rattle.mml_rules.specs.Rules.{is_married, is_privileged, guard, effect, moved, step, AllHold}
 use Rattle.mml_rules.proofs.ConfigurationLemmas.{holds-true}
 use Rattle.mml_rules.proofs.RulesLemmas.{married-null, married-at, married-from, suitor-from, pointee_in}
 use Rattle.mml_rules.proofs.StepLemmas.{step-lawful}

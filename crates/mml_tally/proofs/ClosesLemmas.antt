@@ -155,8 +155,7 @@ closes_counted test (e ∷ es) =
     ∙ count_same (n + 1) (λ q. ltb 0 q && some_at q own) (λ q. some_at q own) (λ j lt. from_one n j own rising)
   where
     from_one : (n j : ℕ) (own : List Move) → Rising n 1 own → (ltb 0 j && some_at j own) ≡ some_at j own
-    from_one n zero own rising = sym (false_from_ne_true (some_at 0 own) (λ s. let le = none_before n 1 0 own rising s in omega arith))
-    from_one n (suc j) own rising = rw (lt-ltb 0 (suc j) (omega arith)) refl
+    from_one n j own rising = grind (arith, nat_tests, none_before n 1 j own rising)
 
 -- ---- and a student of whom a close applied a move has one
 

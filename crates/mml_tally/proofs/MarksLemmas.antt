@@ -23,10 +23,7 @@ use Rattle.mml_tally.proofs.AppliedLemmas.{only_one}
 -- ---- each move is of one rule
 
 one_kind : (k : Kind) → one (is_kind kind.Update k) + one (is_kind kind.Marriage k) + one (is_kind kind.Seduction k) + one (is_kind kind.Abandonment k) ≡ 1
-one_kind kind.Update = refl
-one_kind kind.Marriage = refl
-one_kind kind.Seduction = refl
-one_kind kind.Abandonment = refl
+one_kind k = grind arith
 
 pub total_is : (ms : List Move) → total (by_rule ms) ≡ length ms
 total_is [] = refl
@@ -40,10 +37,7 @@ total_applied ms = total_is (applied ms) ∙ length-filter is_applied ms
 -- ---- and has one fate
 
 one_fate : (f : Fate) → one (is_fate_applied f) + one (is_fate_released f) + one (is_fate_dropped f) + one (is_fate_left f) ≡ 1
-one_fate (fate.Applied p) = refl
-one_fate fate.Released = refl
-one_fate fate.Dropped = refl
-one_fate fate.Chosen = refl
+one_fate f = grind arith
 
 pub all_fates : (ms : List Move) → length ms ≡ count_by is_applied ms + count_by is_released ms + count_by is_dropped ms + count_by is_left ms
 all_fates [] = refl
