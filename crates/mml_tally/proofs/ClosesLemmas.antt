@@ -1,8 +1,8 @@
 -- The closes that applied moves come in order, so one pass counts each once.
-use Rattle.std.proofs.Common.{◌≡◌, ◌⊎◌, ℕ, zero, suc, ◌+◌, ◌<◌, ◌≤◌, Bool, true, false, cond, ◌&&◌, ◌||◌, eqb, ltb, List, [], ◌∷◌, length}
+use Rattle.std.proofs.Common.{◌≡◌, ◌⊎◌, ℕ, ◌+◌, ◌<◌, ◌≤◌, Bool, true, false, cond, ◌&&◌, ◌||◌, eqb, ltb, List, [], ◌∷◌, length}
 use Rattle.std.proofs.Common.{Some, None, unwrap_or, inl, inr, refl, ap, ◌∙◌, sym, arith}
 use Rattle.std.specs.List.{filter, list_any}
-use Rattle.std.proofs.lemmas.Bool.{cases_eq, or_cases, eqb-true, lt-ltb, false_from_ne_true, and_right}
+use Rattle.std.proofs.lemmas.Bool.{cases_eq, or_cases, eqb-true, and_right}
 use Rattle.std.proofs.lemmas.Bool.Decides.{nat_tests}
 use Rattle.mml_ids.specs.Search.{count_below}
 use Rattle.mml_board.specs.declared.event.Event.{Event}

@@ -12,7 +12,6 @@ use Rattle.mml_board.specs.declared.event.Event.TheVariants as event
 use Rattle.mml_convergence.specs.Potential.{sum_below}
 use Rattle.mml_convergence.proofs.SumsLemmas.{sum_zero, sum_split, sum_of_tests}
 use Rattle.mml_tally.specs.declared.fate.Fate.{Fate}
-use Rattle.mml_tally.specs.declared.fate.Fate.TheVariants as fate
 use Rattle.mml_tally.specs.declared.granted_move.Move.{Move}
 use Rattle.mml_tally.specs.Moves.{ended_by, fate_of, moves_from}
 use Rattle.mml_tally.specs.Marks.{is_kind, is_fate_applied, is_applied, applied, by_rule, moves_by}
