@@ -53,6 +53,8 @@ impl Ruling {
 /// Judges a command, and shows what it asks; the value of a report is left to who answers. No event
 /// is granted where the limit of events is reached, nor where the journal is halted. Only a look
 /// takes memory.
+// Within its caller a hidden node took other steps than one that isn't there.
+#[inline(never)]
 pub fn rule_on(
     alloc: Global,
     course: &Course<'_>,
