@@ -93,8 +93,8 @@ node = [
 const SHOWN: &str =
     "100 4 4 3 3 \n1 false ben .---\n4 false bencyd -...\n7 false ben -...\n65535 true ana >...";
 
-// A name, and the place of the student with that name.
-const PLACES: [(&str, Option<u16>); 7] = [
+// A name, and the index of the student with that name.
+const INDEXES: [(&str, Option<u16>); 7] = [
     ("ana", Some(0)),
     ("ben", Some(1)),
     ("cyd", Some(2)),
@@ -104,10 +104,10 @@ const PLACES: [(&str, Option<u16>); 7] = [
     ("", None),
 ];
 
-/// The first name of these whose student stands elsewhere.
-fn first_other_place(roster: &Roster) -> Option<&'static str> {
-    for (name, place) in PLACES {
-        if roster.student_named(name).map(Student::place) != place {
+/// The first name of these whose student has another index.
+fn first_other_index(roster: &Roster) -> Option<&'static str> {
+    for (name, index) in INDEXES {
+        if roster.student_named(name).map(Student::index) != index {
             return Some(name);
         }
     }
@@ -141,7 +141,7 @@ fn told(alloc: Global, lab: &Lab) -> Result<(String, bool, Option<&'static str>)
     Ok((
         text,
         is_copied(alloc, lab.network())?,
-        first_other_place(lab.roster()),
+        first_other_index(lab.roster()),
     ))
 }
 
