@@ -103,7 +103,7 @@ def event_of(lab: Lab, line: bytes) -> str:
     if asked.do == "move":
         student = [name for name in lab.keys if name != lab.teacher].index(who)
         rule = asked.move.rule.capitalize() + (f"({rank(asked.move.partner)})" if asked.move.partner else "")
-        event = f"Grant {{ who: Student {{ place: {student} }}, node: {rank(asked.node)}, rule: {rule} }}"
+        event = f"Grant {{ who: Student {{ index: {student} }}, node: {rank(asked.node)}, rule: {rule} }}"
     return f"{place} {before} {event}"
 
 
