@@ -25,7 +25,8 @@ impl<C: Recorder + Send + Drop> Ready<C> {
         W: Write,
     >(self, rt: &R, past: Past<'_>, writer: &mut W) -> Result<(), Fault>
         requires as_many { length self.recorders.others.items + 1 ≡ self.lab.sessions }
-        ensures { OnOk result (TellsResumed self.lab past.bytes.now self.ports.port self.ports.desk
+        ensures { OnOk result (TellsResumed self.lab past.entry.bytes.now self.ports.port
+            self.ports.desk
             (W.contents writer.old) (W.contents writer.new)) }
     {
         let state = HostState::new(rt.alloc(), &self.lab)?;
