@@ -16,7 +16,7 @@ use Rattle.mml_rules.specs.Rules.{moved}
 use Rattle.mml_rules.specs.Network.{Network, neighbours_at, registers_at, configuration_of, IsNetwork}
 use Rattle.mml_board.specs.World.{World, size, configuration, chosen_at, IsWorld}
 use Rattle.mml_board.specs.Events.{is_chosen, chosen_nodes, chosen_count, renewed, may_point}
-use Rattle.mml_board.specs.inside.Kept.{AreChosen, world_in}
+use Rattle.mml_board.specs.inside.Kept.{AreChosen, kept_world}
 use Rattle.mml_board.specs.inside.Monitor.{privileged_set, IsBoard}
 use Rattle.mml_board.proofs.WorldLemmas.{closed, chosen_node, renewed-world, moved_registers-is, may_point-linked}
 
@@ -65,19 +65,19 @@ len-chosen_nodes w = len-those_below (size w) (is_chosen w)
 
 -- ---- the events
 
-module _ (n : Network) (chosen : List (Option Rule)) (number place : ℕ) (k : IsWorld (world_in n chosen number place)) where
+module _ (n : Network) (chosen : List (Option Rule)) (number place : ℕ) (k : IsWorld (kept_world n chosen number place)) where
   -- another network, with as many nodes
   module _ (m n' : Network) (chosen' : List (Option Rule)) (z : n' ≡ m) (none : chosen' ≡ replicate (length chosen) None) where
     -- the board's world then
-    pub renewed-is : world_in n' chosen' (number + 1) (place + 1) ≡ renewed (world_in n chosen number place) m
+    pub renewed-is : kept_world n' chosen' (number + 1) (place + 1) ≡ renewed (kept_world n chosen number place) m
     renewed-is = grind (arith, replicate)
 
     -- a board is one still once the network has changed, no move is chosen and the monitor has looked
     pub renewed-board : (effects : List Regs) (privileged : FinSet nat_cmp) → IsNetwork m → length m.registers ≡ length n.registers
         → length effects ≡ length n.registers → number ≤ place → privileged ≡ privileged_set (configuration_of n')
-        → IsBoard (world_in n' chosen' (number + 1) (place + 1)) effects privileged
+        → IsBoard (kept_world n' chosen' (number + 1) (place + 1)) effects privileged
     renewed-board effects privileged lawful size room few right = record {
-      world = subst (λ w. IsWorld w) (sym renewed-is) (renewed-world (world_in n chosen number place) m lawful size);
+      world = subst (λ w. IsWorld w) (sym renewed-is) (renewed-world (kept_world n chosen number place) m lawful size);
       room = room ∙ sym (ap (λ (x : Network). length x.registers) z ∙ size);
       number = omega (arith, few);
       monitor = right;
@@ -85,17 +85,17 @@ module _ (n : Network) (chosen : List (Option Rule)) (number place : ℕ) (k : I
 
   -- the network with each node moved is the next one
   pub moved-closed : (n' : Network) → n'.neighbours ≡ n.neighbours → length n'.registers ≡ length n.registers
-      → ((i : ℕ) → registers_at n'.registers i ≡ moved (configuration_of n) i (chosen_at chosen i)) → n' ≡ closed (world_in n chosen number place)
+      → ((i : ℕ) → registers_at n'.registers i ≡ moved (configuration_of n) i (chosen_at chosen i)) → n' ≡ closed (kept_world n chosen number place)
   moved-closed n' neighbours size written = grind (arith, moved_registers-is)
 
   -- what is asked of the world holds of what the board keeps
-  pub node_inside : (w : World) (a : ℕ) → world_in n chosen number place ≡ w → a < length w.network.registers → a < length n.registers
+  pub node_inside : (w : World) (a : ℕ) → kept_world n chosen number place ≡ w → a < length w.network.registers → a < length n.registers
   node_inside w a seen l = subst (λ (x : World). a < length x.network.registers) (sym seen) l
 
-  pub ends_inside : (w : World) (a b : ℕ) → world_in n chosen number place ≡ w → (configuration w).linked a b ≡ true
+  pub ends_inside : (w : World) (a b : ℕ) → kept_world n chosen number place ≡ w → (configuration w).linked a b ≡ true
       → (a < length n.registers) × (b < length n.registers)
   ends_inside w a b seen linked = k.network.lawful.in_range a b (subst (λ (x : World). (configuration x).linked a b ≡ true) (sym seen) linked)
 
-  pub pointer_inside : (w : World) (a j : ℕ) (p : Option ℕ) → world_in n chosen number place ≡ w → may_point (configuration w) a p ≡ true → p ≡ Some j
+  pub pointer_inside : (w : World) (a j : ℕ) (p : Option ℕ) → kept_world n chosen number place ≡ w → may_point (configuration w) a p ≡ true → p ≡ Some j
       → sets.contains (neighbours_at n.neighbours a) j ≡ true
   pointer_inside w a j p seen linked e = may_point-linked n a j p (subst (λ (x : World). may_point (configuration x) a p ≡ true) (sym seen) linked) e

@@ -12,7 +12,7 @@ use Rattle.mml_lab.specs.Rosters.{RosterValue}
 use Rattle.mml_board.specs.declared.event.Event.{Event}
 use Rattle.mml_board.specs.declared.event.Event.TheVariants as event
 use Rattle.mml_board.specs.World.{World, size, configuration, chosen_at, IsWorld}
-use Rattle.mml_board.specs.Events.{is_asked_by_owner, is_possible, is_any_chosen, is_legal, after}
+use Rattle.mml_board.specs.Events.{has_right_asker, is_possible, is_any_chosen, is_legal, after}
 use Rattle.mml_board.proofs.WorldLemmas.{after-world, size-after, none_at}
 use Rattle.mml_convergence.specs.Potential.{whole_potential}
 use Rattle.mml_convergence.specs.Rest.{is_grant_or_close, EachHasOwner, LeadsToRest}
@@ -29,7 +29,7 @@ record IsReady (r : RosterValue) (w : World) : Type 0 where
 
 ready_after : (r : RosterValue) (w : World) (e : Event) → IsReady r w → is_legal r w e ≡ true → IsReady r (after w e)
 ready_after r w e k legal = record {
-  world = after-world w e k.world (and_parts (is_asked_by_owner r e) (is_possible w e) legal).1;
+  world = after-world w e k.world (and_parts (has_right_asker r e) (is_possible w e) legal).1;
   owned = λ i lt. k.owned i (omega (arith, size-after w e));
 }
 

@@ -14,7 +14,7 @@ use Rattle.mml_lab.specs.Rosters.{RosterValue, owners_of, owns}
 use Rattle.mml_board.specs.declared.event.Event.{Event}
 use Rattle.mml_board.specs.declared.event.Event.TheVariants as event
 use Rattle.mml_board.specs.World.{World, size, configuration, chosen_at, IsWorld}
-use Rattle.mml_board.specs.Events.{is_asked_by_owner, is_possible, is_legal, after}
+use Rattle.mml_board.specs.Events.{has_right_asker, is_possible, is_legal, after}
 use Rattle.mml_board.specs.Runs.{is_legal_list, world_of}
 use Rattle.mml_board.proofs.WorldLemmas.{size-after, chosen_node}
 use Rattle.mml_board.proofs.RunsLemmas.{list-world}
@@ -73,7 +73,7 @@ stable_impossible w (event.Cut a b) k stable of_step = absurd (false≢true of_s
 
 -- where no node is privileged, no grant, release or close is legal
 pub stable_final : (r : RosterValue) (w : World) (e : Event) → IsWorld w → IsStable (configuration w) → is_of_step e ≡ true → is_legal r w e ≡ false
-stable_final r w e k stable of_step = and_right (is_asked_by_owner r e) (is_possible w e) (stable_impossible w e k stable of_step)
+stable_final r w e k stable of_step = and_right (has_right_asker r e) (is_possible w e) (stable_impossible w e k stable of_step)
 
 -- ---- a run that is over
 

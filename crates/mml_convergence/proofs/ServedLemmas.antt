@@ -10,7 +10,7 @@ use Rattle.mml_lab.specs.Rosters.{RosterValue}
 use Rattle.mml_board.specs.declared.event.Event.{Event}
 use Rattle.mml_board.specs.declared.event.Event.TheVariants as event
 use Rattle.mml_board.specs.World.{World, size, configuration, chosen_at, IsWorld}
-use Rattle.mml_board.specs.Events.{is_asked_by_owner, is_possible, is_legal, is_chosen, after}
+use Rattle.mml_board.specs.Events.{has_right_asker, is_possible, is_legal, is_chosen, after}
 use Rattle.mml_board.specs.Runs.{is_legal_list, world_of}
 use Rattle.mml_board.proofs.WorldLemmas.{closed-step, after-world}
 use Rattle.mml_convergence.specs.Runs.{is_of_step}
@@ -36,7 +36,7 @@ first_of_step r w e es k = (and_parts (is_of_step e) (list_all is_of_step es) k.
 
 run_on : (r : RosterValue) (w : World) (e : Event) (es : List Event) → IsRun r w (e ∷ es) → IsRun r (after w e) es
 run_on r w e es k = record {
-  world = after-world w e k.world (and_parts (is_asked_by_owner r e) (is_possible w e) (first_legal r w e es k)).1;
+  world = after-world w e k.world (and_parts (has_right_asker r e) (is_possible w e) (first_legal r w e es k)).1;
   legal = (and_parts (is_legal r w e) (is_legal_list r (after w e) es) k.legal).1;
   of_step = (and_parts (is_of_step e) (list_all is_of_step es) k.of_step).1;
 }

@@ -27,7 +27,7 @@ use Rattle.mml_policy.proofs.AlikeLemmas.{same_ruling, alike_afterwards}
 use Rattle.mml_codec.specs.declared.reply.Reply.{Reply}
 use Rattle.mml_codec.specs.Replies.{reply_line}
 use Rattle.mml_codec.specs.Rulings.{reply_of, reply_of_done}
-use Rattle.mml_hidden.specs.CommandReplies.{world_after, reply_to, line_to}
+use Rattle.mml_hidden.specs.CommandReplies.{world_left, reply_to, line_to}
 
 -- ---- a student is told no report
 
@@ -96,11 +96,11 @@ pub same_reply_to : (ids : List ℕ) (r : RosterValue) (limit : ℕ) (h : Bool) 
     → IsWorldOf ids v → Alike r s w v
     → reply_to ids r limit h w (who.Student s) k ≡ reply_to ids r limit h v (who.Student s) k
 same_reply_to ids r limit h w v s k in_w in_v a =
-    let after : Alike r s (world_after ids r limit h w (who.Student s) k) (world_after ids r limit h v (who.Student s) k) =
+    let after : Alike r s (world_left ids r limit h w (who.Student s) k) (world_left ids r limit h v (who.Student s) k) =
     alike_afterwards ids r limit h w v s k in_w in_v a in
-    same_reply_of (world_after ids r limit h w (who.Student s) k) (world_after ids r limit h v (who.Student s) k) (ruling ids r limit h w (who.Student s) k)
+    same_reply_of (world_left ids r limit h w (who.Student s) k) (world_left ids r limit h v (who.Student s) k) (ruling ids r limit h w (who.Student s) k)
     (student_unreported ids r limit h w s k) after.number after.place
-    ∙ ap (λ (g : Ruling). reply_of (world_after ids r limit h v (who.Student s) k) g) (same_ruling ids r limit h w v s k in_w in_v a)
+    ∙ ap (λ (g : Ruling). reply_of (world_left ids r limit h v (who.Student s) k) g) (same_ruling ids r limit h w v s k in_w in_v a)
 
 -- and the same line in answer
 pub same_line_to : (ids : List ℕ) (r : RosterValue) (limit : ℕ) (h : Bool) (w v : World) (s : ℕ) (k : Command) → IsWorldOf ids w

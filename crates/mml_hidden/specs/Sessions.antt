@@ -7,7 +7,7 @@ use Rattle.mml_policy.specs.Alike.{Alike}
 use Rattle.mml_codec.specs.declared.reply.Refused.TheVariants as refused
 use Rattle.mml_codec.specs.declared.reply.Reply.{Reply}
 use Rattle.mml_codec.specs.declared.reply.Reply.TheVariants.{Refuse}
-use Rattle.mml_window.specs.Lists.{world_in}
+use Rattle.mml_board.specs.Lists.{world_in}
 use Rattle.mml_window.specs.Windows.{WindowValue}
 use Rattle.mml_session.specs.Turns.{Standing, places_in, Run}
 use Rattle.mml_hidden.specs.Twins.{is_hers}

@@ -20,7 +20,7 @@ ghost use Rattle.mml_hall.specs.Turns.{State, Outcome, Mishap, RequestLine, Run,
 ghost use Rattle.mml_hall.specs.Transcripts.{Transcript, output_lines, bytes_written};
 ghost use Rattle.mml_hidden.specs.Scripted.{replies_to, end_of, written_to, written_on, StayAlike, IsHersThroughout, OnlySheGreets, OnlySheIsKnown};
 ghost use Rattle.mml_hidden.specs.Scripted.{AreUnhindered};
-ghost use Rattle.mml_hidden.specs.CommandReplies.{world_after, reply_to, line_to};
+ghost use Rattle.mml_hidden.specs.CommandReplies.{world_left, reply_to, line_to};
 ghost use Rattle.mml_hidden.specs.Mishaps.{BefallenLine, Befalls, Befell, lines_in, replies_with, end_with, StayAlikeWith, written_on_any, AreHersThroughout};
 ghost use Rattle.mml_session.specs.Turns.{Standing, Run as SessionRun};
 ghost use Rattle.mml_hidden.specs.Sessions.{AreToldAlike};
@@ -40,8 +40,8 @@ pub fn hidden_values_change_no_reply_line()
         ≡ line_to ids r limit is_halted v (who.Student s) c }
     ensures afterwards { (ids : List ℕ) (r : RosterValue) (limit : ℕ) (is_halted : Bool)
         (w v : World) (s : ℕ) (c : Command) → IsWorldOf ids w → IsWorldOf ids v →
-        Alike r s w v → Alike r s (world_after ids r limit is_halted w (who.Student s) c)
-        (world_after ids r limit is_halted v (who.Student s) c) }
+        Alike r s w v → Alike r s (world_left ids r limit is_halted w (who.Student s) c)
+        (world_left ids r limit is_halted v (who.Student s) c) }
 {}
 
 /// The turn of a line on a connection that is known as the student, or as nobody yet, has the same

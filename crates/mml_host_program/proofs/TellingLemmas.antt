@@ -2,7 +2,7 @@
 use Rattle.std.proofs.Common.{◌≡◌, ℕ, List, ◌++◌, Option, subst}
 use Rattle.std.specs.Io.KnownBytes.{Appends}
 use Rattle.mml_lab.specs.Labs.{LabValue}
-use Rattle.mml_window.specs.Lists.{world_in}
+use Rattle.mml_board.specs.Lists.{world_in}
 use Rattle.mml_session.specs.Records.{Kept}
 use Rattle.mml_hosting.specs.declared.place.ServedSession.{ServedSession}
 use Rattle.mml_hosting.specs.declared.hosted.Hosted.{Hosted}

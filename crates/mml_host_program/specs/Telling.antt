@@ -5,7 +5,7 @@ use Rattle.std.specs.Io.KnownBytes.{Appends}
 use mathlib.Core.List.{IsPrefix}
 use Rattle.mml_lab.specs.Labs.{LabValue}
 use Rattle.mml_board.specs.declared.event.Event.{Event}
-use Rattle.mml_window.specs.Lists.{is_legal_in, world_in}
+use Rattle.mml_board.specs.Lists.{is_legal_in, world_in}
 use Rattle.mml_audit.specs.AuditMeaning.{IsJournalOf}
 use Rattle.mml_serving.specs.Closings.{Closes, done_line}
 use Rattle.mml_resuming.specs.Resuming.{whole_of, resumed_line}

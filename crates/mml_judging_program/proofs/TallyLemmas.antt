@@ -5,13 +5,14 @@ use Rattle.std.specs.Io.KnownBytes.{Appends}
 use Rattle.mml_lab.specs.Labs.{LabValue}
 use Rattle.mml_board.specs.declared.event.Event.{Event}
 use Rattle.mml_board.specs.World.{World}
-use Rattle.mml_audit.specs.AuditMeaning.{IsJournalOf, world_after}
+use Rattle.mml_board.specs.Lists.{world_in}
+use Rattle.mml_audit.specs.AuditMeaning.{IsJournalOf}
 use Rattle.mml_tally.specs.Texts.{tally_text}
 use Rattle.mml_judging_program.specs.Tallies.{IsTally, TellsTally}
 
 -- the text of the events that an audit gave, and of the world to which they led
 pub tally_of : (lab : LabValue) (es slice : List Event) (bytes first text : List ℕ) (w : World) → IsJournalOf lab es bytes
-    → text ≡ first ++ tally_text lab w slice → first ≡ [] → slice ≡ es → w ≡ world_after lab es → IsTally lab bytes text
+    → text ≡ first ++ tally_text lab w slice → first ≡ [] → slice ≡ es → w ≡ world_in lab es → IsTally lab bytes text
 tally_of lab es slice bytes first text w journal told empty same leads = record {
   events = es;
   journal = journal;

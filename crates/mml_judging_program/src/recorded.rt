@@ -1,7 +1,7 @@
 //! What a journal tells of its run, and a record of what its lines asked.
 ghost use Rattle.std.specs.Prelude.{◌≡◌, true, IfOk, OnOk};
 ghost use Rattle.std.specs.Io.KnownBytes.{Appends};
-ghost use Rattle.mml_window.specs.Lists.{is_legal_in};
+ghost use Rattle.mml_board.specs.Lists.{is_legal_in};
 ghost use Rattle.mml_tally.specs.RecordTexts.{recorded_text};
 
 use crate::fault::Fault;

@@ -2,7 +2,7 @@
 ghost use Rattle.std.specs.Prelude.{◌≡◌, ◌≤◌, ◌∷◌, [], true, codes, decimal, OnOk, IfOk, vec_len};
 ghost use Rattle.std.specs.List.{concat};
 ghost use Rattle.std.specs.Io.KnownBytes.{Appends};
-ghost use Rattle.mml_window.specs.Lists.{is_legal_in};
+ghost use Rattle.mml_board.specs.Lists.{is_legal_in};
 ghost use Rattle.mml_judging_program.specs.Verifying.{verified_line};
 
 use crate::fault::Fault;

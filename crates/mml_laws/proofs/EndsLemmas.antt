@@ -16,7 +16,8 @@ use Rattle.mml_policy.specs.Alike.{IsWorldOf}
 use Rattle.mml_policy.specs.Asking.{asker, command_of, id_of, asked_of}
 use Rattle.mml_policy.specs.Rulings.{event_of}
 use Rattle.mml_policy.proofs.AskingLemmas.{granted_iff}
-use Rattle.mml_audit.specs.AuditMeaning.{IsJournalOf, world_after}
+use Rattle.mml_board.specs.Lists.{world_in}
+use Rattle.mml_audit.specs.AuditMeaning.{IsJournalOf}
 use Rattle.mml_stable.specs.Listed.{IsMaximalMatching}
 use Rattle.mml_convergence.specs.Moves.{applied_over, count_closes}
 use Rattle.mml_stable.specs.Reports.{report_of}
@@ -26,7 +27,8 @@ use Rattle.mml_convergence.proofs.AppliedLemmas.{moves_bounded, closes_bounded}
 use Rattle.mml_stable.proofs.ListedLemmas.{listed_matching}
 use Rattle.mml_stable.proofs.MatchingLemmas.{stable-means}
 use Rattle.mml_convergence.proofs.RestLemmas.{ended}
-use Rattle.mml_window.specs.Lists.{world_in, ruling_while}
+use Rattle.mml_board.specs.Lists.{world_in}
+use Rattle.mml_window.specs.Rulings.{ruling_while}
 use Rattle.mml_laws.specs.Ends.{GrantsNoStep}
 use Rattle.mml_laws.proofs.ChoicesLemmas.{opening}
 use Rattle.mml_laws.proofs.RestWithinLemmas.{size-world_of}
@@ -92,19 +94,19 @@ over_is_stable bytes lab es w halted spelled legal here room running none =
 -- ---- the moves that follow
 
 module _ (lab : LabValue) (es fs : List Event) (bytes : List ℕ) (is : IsLab lab) (journal : IsJournalOf lab (es ++ fs) bytes) (steps : list_all is_of_step fs ≡ true) where
-  both_legal : (is_legal_list lab.roster (opening_of lab.network) es ≡ true) × (is_legal_list lab.roster (world_after lab es) fs ≡ true)
+  both_legal : (is_legal_list lab.roster (opening_of lab.network) es ≡ true) × (is_legal_list lab.roster (world_in lab es) fs ≡ true)
   both_legal =
-      and_parts (is_legal_list lab.roster (opening_of lab.network) es) (is_legal_list lab.roster (world_after lab es) fs)
+      and_parts (is_legal_list lab.roster (opening_of lab.network) es) (is_legal_list lab.roster (world_in lab es) fs)
       (sym (legal-append lab.roster (opening_of lab.network) es fs) ∙ journal.legal)
 
-  pub few_moves : applied_over (world_after lab es) fs ≤ 2 * link_count (world_after lab es).network + 3 * length lab.ids
+  pub few_moves : applied_over (world_in lab es) fs ≤ 2 * link_count (world_in lab es).network + 3 * length lab.ids
   few_moves =
-      let few = moves_bounded lab.roster (world_after lab es) fs (world_there lab is es both_legal.0) both_legal.1 steps in
+      let few = moves_bounded lab.roster (world_in lab es) fs (world_there lab is es both_legal.0) both_legal.1 steps in
       let nodes = nodes_there lab is es both_legal.0 in
       omega (arith, few, nodes)
 
-  pub few_closes : count_closes fs ≤ 2 * link_count (world_after lab es).network + 3 * length lab.ids
+  pub few_closes : count_closes fs ≤ 2 * link_count (world_in lab es).network + 3 * length lab.ids
   few_closes =
-      let few = closes_bounded lab.roster (world_after lab es) fs (world_there lab is es both_legal.0) both_legal.1 steps in
+      let few = closes_bounded lab.roster (world_in lab es) fs (world_there lab is es both_legal.0) both_legal.1 steps in
       let nodes = nodes_there lab is es both_legal.0 in
       omega (arith, few, nodes)

@@ -22,7 +22,7 @@ use Rattle.mml_hall.specs.Halls.{IsHall}
 use Rattle.mml_hall.proofs.TurnsLemmas.{IsQuiet, IsGranting, turn_does}
 use Rattle.mml_hall.specs.Turns.{State, Outcome, Turn, TurnOf, RequestLine, Run, known_on}
 use Rattle.mml_session.specs.Turns.{places_in}
-use Rattle.mml_window.specs.Lists.{is_legal_in, world_in}
+use Rattle.mml_board.specs.Lists.{is_legal_in, world_in}
 use Rattle.mml_window.proofs.ListLemmas as lists
 use Rattle.mml_window.proofs.PrefixLemmas.{prefix_self, prefix_trans}
 use Rattle.mml_laws.specs.Told.{IsToldAt, NamesItsEvent, EachNamesItsEvent}

@@ -18,7 +18,8 @@ use Rattle.mml_codec.specs.Replies.{place_in}
 use Rattle.mml_codec.specs.Rulings.{reply_of, reply_of_done}
 use Rattle.mml_lab.specs.Rosters.{principal}
 use Rattle.mml_lines.proofs.RunsLemmas.{run_at_each}
-use Rattle.mml_window.specs.Lists.{is_legal_in, world_in, ruling_at}
+use Rattle.mml_board.specs.Lists.{is_legal_in, world_in}
+use Rattle.mml_window.specs.Rulings.{ruling_at}
 use Rattle.mml_window.proofs.ListLemmas as lists
 use Rattle.mml_window.proofs.PrefixLemmas.{prefix_trans}
 use Rattle.mml_session.specs.Talks.{Talk, LineTurn}

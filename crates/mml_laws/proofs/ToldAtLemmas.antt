@@ -21,7 +21,8 @@ use Rattle.mml_codec.specs.declared.reply.Reply.{Reply}
 use Rattle.mml_codec.specs.Replies.{place_in}
 use Rattle.mml_codec.specs.Rulings.{reply_of, reply_of_done}
 use Rattle.mml_codec.proofs.RulingsLemmas.{place_of_done}
-use Rattle.mml_window.specs.Lists.{is_legal_in, world_in, ruling_while}
+use Rattle.mml_board.specs.Lists.{is_legal_in, world_in}
+use Rattle.mml_window.specs.Rulings.{ruling_while}
 use Rattle.mml_window.proofs.ListLemmas as lists
 use Rattle.mml_laws.specs.Told.{IsToldAt}
 use Rattle.mml_laws.proofs.JournalsLemmas.{lines, lines_next, line}

@@ -6,7 +6,7 @@ use Rattle.mml_board.specs.World.{World}
 use Rattle.mml_policy.specs.declared.command.Asked.{Asked}
 use Rattle.mml_policy.specs.declared.command.Command.TheVariants as command
 use Rattle.mml_policy.specs.Rulings.{event_of}
-use Rattle.mml_window.specs.Lists.{ruling_while}
+use Rattle.mml_window.specs.Rulings.{ruling_while}
 
 -- no move that a student asks for is granted in the world, and no close that the teacher asks for
 pub record GrantsNoStep (lab : LabValue) (is_halted : Bool) (w : World) : Type 0 where

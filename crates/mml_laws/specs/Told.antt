@@ -17,7 +17,9 @@ use Rattle.mml_codec.specs.Replies.{place_in}
 use Rattle.mml_codec.specs.Rulings.{reply_of_done}
 use Rattle.mml_hall.specs.Turns.{State, RequestLine, TurnOf, Run, known_on}
 use Rattle.mml_session.specs.Turns as session
-use Rattle.mml_window.specs.Lists.{world_in, ruling_at, text_in}
+use Rattle.mml_board.specs.Lists.{world_in}
+use Rattle.mml_journal.specs.JournalText.{text_in}
+use Rattle.mml_window.specs.Rulings.{ruling_at}
 
 -- event p of the list is the one that x is granted for the command after the events before it, line p of the list's journal is its
 -- line, and the reply tells what it did, with its place and the number of the configuration after it

@@ -37,7 +37,8 @@ use Rattle.mml_codec.specs.declared.reply.Reply.{Reply}
 use Rattle.mml_codec.specs.Greetings.{greeting, admitted}
 use Rattle.mml_codec.specs.Lines.{request_in}
 use Rattle.mml_codec.specs.Rulings.{reply_of, reply_of_done}
-use Rattle.mml_window.specs.Lists.{world_in, ruling_at}
+use Rattle.mml_board.specs.Lists.{world_in}
+use Rattle.mml_window.specs.Rulings.{ruling_at}
 use Rattle.mml_tally.specs.declared.ask.Ask.{Ask}
 use Rattle.mml_tally.specs.AskMeaning.{is_numbered, IsKnownOf, AreAsksOf}
 use Rattle.mml_record.specs.declared.entries.Entry.{Entry}

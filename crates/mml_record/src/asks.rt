@@ -3,7 +3,7 @@ ghost use Rattle.std.specs.Prelude.{◌≡◌, ◌++◌, List, ℕ, true, bytes_
 ghost use Rattle.mml_ids.specs.Lines.{ended};
 ghost use Rattle.mml_lab.specs.Rosters.{IsPrincipal};
 ghost use Rattle.mml_codec.specs.Lines.{request_in};
-ghost use Rattle.mml_window.specs.Lists.{is_legal_in};
+ghost use Rattle.mml_board.specs.Lists.{is_legal_in};
 ghost use Rattle.mml_record.specs.declared.entries.Entry.{Entry};
 ghost use Rattle.mml_record.specs.Certified.{IsRecordOf};
 ghost use Rattle.mml_record.specs.Entries.{record_text};

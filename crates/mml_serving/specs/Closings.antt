@@ -4,7 +4,7 @@ use Rattle.std.specs.List.{concat}
 use Rattle.std.specs.Io.KnownBytes.{Appends}
 use Rattle.mml_lab.specs.Labs.{LabValue}
 use Rattle.mml_board.specs.declared.event.Event.{Event}
-use Rattle.mml_window.specs.Lists.{is_legal_in, world_in}
+use Rattle.mml_board.specs.Lists.{is_legal_in, world_in}
 use Rattle.mml_serving.specs.declared.serving.ServeFault.{ServeFault}
 use Rattle.mml_serving.specs.declared.serving.ServeFault.TheVariants as fault
 

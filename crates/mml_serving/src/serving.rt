@@ -3,7 +3,7 @@ ghost use Rattle.std.specs.Prelude.{◌≡◌, ◌<◌, ◌≤◌, ◌+◌, ◌-
 ghost use Rattle.std.specs.Io.KnownBytes.{Appends};
 ghost use Rattle.mml_journal.specs.Taken.{IsFresh};
 ghost use Rattle.mml_window.specs.Houses.{house_of};
-ghost use Rattle.mml_window.specs.Lists.{world_in};
+ghost use Rattle.mml_board.specs.Lists.{world_in};
 ghost use Rattle.mml_window.specs.Logs.{IsLog};
 ghost use Rattle.mml_serving.specs.Closings.{Closes, done_line};
 ghost use Rattle.mml_serving.specs.Endings.{EndsBadly, EndsEarly, EndsWithout};

@@ -20,7 +20,8 @@ use Rattle.mml_codec.specs.Lines.{request_in}
 use Rattle.mml_codec.specs.Replies.{is_short, TellsFor}
 use Rattle.mml_codec.specs.Rulings.{reply_of, reply_of_done}
 use Rattle.mml_codec.proofs.RulingsLemmas.{short_done}
-use Rattle.mml_window.specs.Lists.{world_in, ruling_at}
+use Rattle.mml_board.specs.Lists.{world_in}
+use Rattle.mml_window.specs.Rulings.{ruling_at}
 use Rattle.mml_window.specs.Windows.{WindowValue, HasSeen}
 use Rattle.mml_session.specs.Turns.{Standing, entered, places_in, MayRefuse, Plainly, Refuses, Told, Settles, Asked, Turn}
 use Rattle.mml_session.proofs.GreetingLemmas.{IsPlain, plain_greeting}

@@ -21,7 +21,8 @@ use Rattle.mml_codec.specs.declared.greeting.Greeting.TheVariants.{Answered, Lef
 use Rattle.mml_codec.specs.declared.reply.Reply.{Reply}
 use Rattle.mml_codec.specs.Greetings.{greeting}
 use Rattle.mml_codec.specs.Lines.{request_in}
-use Rattle.mml_window.specs.Lists.{world_in, ruling_at}
+use Rattle.mml_board.specs.Lists.{world_in}
+use Rattle.mml_window.specs.Rulings.{ruling_at}
 use Rattle.mml_window.specs.Windows.{WindowValue}
 use Rattle.mml_window.proofs.PrefixLemmas.{prefix_self, prefix_trans, prefix_more}
 use Rattle.mml_session.specs.Turns.{Standing, places_in, entered, Plainly, Refuses, Told, Settles, Asked, Turn, Run}

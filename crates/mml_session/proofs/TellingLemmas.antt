@@ -23,7 +23,8 @@ use Rattle.mml_codec.proofs.RulingsLemmas.{place_of_done}
 use Rattle.mml_window.specs.declared.answer.Answer.TheVariants.{Denied, Granted, Refused}
 use Rattle.mml_window.specs.declared.sight.Closed.{Closed}
 use Rattle.mml_window.specs.Answers.{Answers, Says}
-use Rattle.mml_window.specs.Lists.{world_in, ruling_at}
+use Rattle.mml_board.specs.Lists.{world_in}
+use Rattle.mml_window.specs.Rulings.{ruling_at}
 use Rattle.mml_window.specs.Windows.{WindowValue, HasSeen, window_with}
 use Rattle.mml_window.proofs.ListLemmas.{world-one_more}
 use Rattle.mml_session.specs.Turns.{Told, Plainly, Refuses, Settles, standing}

@@ -23,7 +23,8 @@ use Rattle.mml_codec.specs.Greetings.{greeting, refusal_of}
 use Rattle.mml_codec.specs.Lines.{request_in}
 use Rattle.mml_codec.specs.Replies.{as_list, place_in}
 use Rattle.mml_codec.specs.Rulings.{reply_of}
-use Rattle.mml_window.specs.Lists.{is_legal_in, world_in, ruling_at}
+use Rattle.mml_board.specs.Lists.{is_legal_in, world_in}
+use Rattle.mml_window.specs.Rulings.{ruling_at}
 use Rattle.mml_window.specs.Windows.{WindowValue, HasSeen}
 
 -- where a session stands: who is known on its connection, if anyone is, and what its window has seen and was granted

@@ -20,7 +20,8 @@ use Rattle.mml_stable.proofs.NamedLemmas.{report_names}
 use Rattle.mml_window.specs.declared.answer.Answer.{Answer}
 use Rattle.mml_window.specs.declared.answer.Answer.TheVariants.{Granted, Denied, Refused}
 use Rattle.mml_window.specs.declared.sight.SightFault.{SightFault}
-use Rattle.mml_window.specs.Lists.{is_legal_in, world_in, ruling_at}
+use Rattle.mml_board.specs.Lists.{is_legal_in, world_in}
+use Rattle.mml_window.specs.Rulings.{ruling_at}
 use Rattle.mml_window.specs.Windows.{WindowValue}
 use Rattle.mml_window.specs.Views.{Tells}
 use Rattle.mml_window.specs.Books.{BookValue}

@@ -9,7 +9,8 @@ use Rattle.mml_ids.specs.Lines.{ended}
 use Rattle.mml_journal.specs.JournalText.{next_line}
 use Rattle.mml_journal.specs.Sinks.{with_more, IsLineFor}
 use Rattle.mml_journal.proofs.JournalTextLemmas.{one_more}
-use Rattle.mml_window.specs.Lists.{world_in, text_in}
+use Rattle.mml_board.specs.Lists.{world_in}
+use Rattle.mml_journal.specs.JournalText.{text_in}
 use Rattle.mml_journal.specs.Taken.{IsFresh}
 use Rattle.mml_window.specs.Journals.{IsJournal, TellsJournal}
 use Rattle.mml_window.proofs.ListLemmas.{place_in}

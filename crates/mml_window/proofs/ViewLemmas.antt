@@ -12,7 +12,8 @@ use Rattle.mml_window.specs.declared.sight.SightFault.TheVariants as fault
 use Rattle.mml_window.specs.declared.sight.Closed.{Closed}
 use Rattle.mml_window.specs.declared.seeing.View.{View}
 use Rattle.mml_window.specs.declared.published.Published.{Published}
-use Rattle.mml_window.specs.Lists.{is_legal_in, ruling_at, world_in}
+use Rattle.mml_board.specs.Lists.{is_legal_in, world_in}
+use Rattle.mml_window.specs.Rulings.{ruling_at}
 use Rattle.mml_window.specs.Rule.{Saw}
 use Rattle.mml_policy.specs.declared.refusal.Refusal.{Refusal}
 use Rattle.mml_window.specs.Windows.{WindowValue, window, window_with, SeesOn}

@@ -1,4 +1,4 @@
-pub mod Lists
+pub mod Rulings
 pub mod Journals
 pub mod Absorbs
 pub mod Rule

@@ -8,7 +8,8 @@ use Rattle.mml_policy.specs.declared.ruling.Ruling.TheVariants.{Denied}
 use Rattle.mml_window.specs.declared.sight.SightFault.{SightFault}
 use Rattle.mml_window.specs.declared.sight.SightFault.TheVariants as fault
 use Rattle.mml_window.specs.declared.sight.Closed.{Closed}
-use Rattle.mml_window.specs.Lists.{ruling_at, world_in}
+use Rattle.mml_board.specs.Lists.{world_in}
+use Rattle.mml_window.specs.Rulings.{ruling_at}
 use Rattle.mml_window.specs.Windows.{WindowValue, SeesOn}
 
 -- the number of the world of the list that the window has then seen

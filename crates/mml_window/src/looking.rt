@@ -2,7 +2,7 @@
 ghost use Rattle.std.specs.Prelude.{◌≡◌, ◌+◌, ◌≤◌, ◌++◌, ◌∷◌, [], true, length, IfOk, IfErr};
 ghost use mathlib.Core.List.{IsPrefix};
 ghost use Rattle.left_right.specs.Sides.{view};
-ghost use Rattle.mml_window.specs.Lists.{is_legal_in, world_in};
+ghost use Rattle.mml_board.specs.Lists.{is_legal_in, world_in};
 ghost use Rattle.mml_window.specs.Rule.{viewer, Saw};
 
 use crate::house::{Entered, House, Place};

@@ -4,7 +4,7 @@ ghost use Rattle.mml_policy.specs.declared.command.Command.TheVariants as comman
 ghost use Rattle.mml_policy.specs.declared.ruling.Ruling.TheVariants as rulings;
 ghost use Rattle.mml_stable.specs.Reports.{report_of};
 ghost use Rattle.mml_window.specs.declared.sight.SightFault.TheVariants as faults;
-ghost use Rattle.mml_window.specs.Lists.{ruling_at};
+ghost use Rattle.mml_window.specs.Rulings.{ruling_at};
 ghost use Rattle.mml_window.specs.Views.{Shows};
 
 use crate::sight::SightFault;

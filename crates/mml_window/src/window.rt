@@ -9,7 +9,7 @@ ghost use Rattle.mml_policy.specs.declared.ruling.Ruling.TheVariants as rulings;
 ghost use Rattle.mml_policy.specs.About.{IsSeen, IsLookedAt};
 ghost use Rattle.mml_stable.specs.Reports.{report_of, NamesNodes};
 ghost use Rattle.mml_window.specs.declared.sight.SightFault.TheVariants as faults;
-ghost use Rattle.mml_window.specs.Lists.{world_in};
+ghost use Rattle.mml_board.specs.Lists.{world_in};
 ghost use Rattle.mml_window.specs.Rule.{viewer};
 ghost use Rattle.mml_window.specs.Windows.{window, window_with, IsWindow, SeesOn};
 ghost use Rattle.mml_window.specs.Views.{Tells, TellsNumber};

@@ -5,7 +5,8 @@ ghost use Rattle.mml_rules.specs.Matching.{IsStable};
 ghost use Rattle.mml_lab.specs.Labs.{LabValue, IsLab, lab_of, link_count};
 ghost use Rattle.mml_board.specs.declared.event.Event.{Event};
 ghost use Rattle.mml_board.specs.World.{configuration};
-ghost use Rattle.mml_audit.specs.AuditMeaning.{IsJournalOf, world_after};
+ghost use Rattle.mml_board.specs.Lists.{world_in};
+ghost use Rattle.mml_audit.specs.AuditMeaning.{IsJournalOf};
 ghost use Rattle.mml_stable.specs.Listed.{IsMaximalMatching};
 ghost use Rattle.mml_convergence.specs.Moves.{applied_over, count_closes};
 ghost use Rattle.mml_stable.specs.Reports.{report_of};
@@ -34,9 +35,9 @@ pub fn a_house_that_is_over_is_stable<S>()
 pub fn few_moves_follow_the_last_fault()
     ensures moves { (lab : LabValue) (es fs : List Event) (bytes : List ℕ) → IsLab lab →
         IsJournalOf lab (es ++ fs) bytes → list_all is_of_step fs ≡ true →
-        applied_over (world_after lab es) fs
-        ≤ 2 * link_count (world_after lab es).network + 3 * length lab.ids }
+        applied_over (world_in lab es) fs
+        ≤ 2 * link_count (world_in lab es).network + 3 * length lab.ids }
     ensures closes { (lab : LabValue) (es fs : List Event) (bytes : List ℕ) → IsLab lab →
         IsJournalOf lab (es ++ fs) bytes → list_all is_of_step fs ≡ true →
-        count_closes fs ≤ 2 * link_count (world_after lab es).network + 3 * length lab.ids }
+        count_closes fs ≤ 2 * link_count (world_in lab es).network + 3 * length lab.ids }
 {}

@@ -10,7 +10,7 @@ ghost use Rattle.mml_hall.specs.Turns as hall;
 ghost use Rattle.mml_session.specs.Talks.{Talk, LineTurn};
 ghost use Rattle.mml_session.specs.Turns as session;
 ghost use Rattle.mml_session.specs.Turns.{places_in};
-ghost use Rattle.mml_window.specs.Lists.{is_legal_in};
+ghost use Rattle.mml_board.specs.Lists.{is_legal_in};
 ghost use Rattle.mml_window.specs.Tallies.{told_of, IsEachOnceFrom};
 ghost use Rattle.mml_window.specs.Windows.{WindowValue};
 ghost use Rattle.mml_laws.specs.Served.{AreServed, named_by};

@@ -5,7 +5,7 @@ use Rattle.mml_board.specs.World.{opening_of}
 use Rattle.mml_window.specs.declared.published.Published.{Published}
 use Rattle.mml_board.specs.declared.event.Event.{Event}
 use Rattle.mml_journal.specs.Taken.{IsFresh}
-use Rattle.mml_window.specs.Lists.{is_legal_in, world_in}
+use Rattle.mml_board.specs.Lists.{is_legal_in, world_in}
 use Rattle.mml_window.specs.Journals.{TellsJournal}
 
 -- a copy of what is to be published, with no events

@@ -1,7 +1,7 @@
 use Rattle.std.proofs.Common.{rules, ◌≡◌, ◌∷◌, length, ap, subst, ◌∙◌, ℕ}
 use Rattle.std.specs.Io.KnownBytes.{Appends}
 use Rattle.mml_board.specs.World.{World}
-use Rattle.mml_window.specs.Lists.{world_in}
+use Rattle.mml_board.specs.Lists.{world_in}
 use Rattle.mml_serving.specs.Closings.{done_line}
 use Rattle.mml_hosting.proofs.HouseLemmas.{are_given}
 use Rattle.mml_hosting.proofs.hosted.resume_host.Goals as goal

@@ -2,7 +2,7 @@ use Rattle.std.proofs.Common.{◌≡◌, ◌≤◌, List, length, ap, ◌∙◌,
 use mathlib.Core.List.{IsPrefix}
 use Rattle.left_right.specs.Sides.{view}
 use Rattle.mml_board.specs.declared.event.Event.{Event}
-use Rattle.mml_window.specs.Lists.{is_legal_in}
+use Rattle.mml_board.specs.Lists.{is_legal_in}
 use Rattle.mml_window.specs.Rule.{viewer}
 use Rattle.mml_window.proofs.PrefixLemmas.{prefix_trans}
 use Rattle.mml_window.proofs.looking.look_for_all.Goals as goal

@@ -1,7 +1,7 @@
 use Rattle.std.proofs.Common.{◌≡◌, ◌≤◌, List, [], ◌∷◌, ◌++◌, length, ap, ◌∙◌, sym, subst, true}
 use Rattle.left_right.specs.Sides.{view}
 use Rattle.mml_board.specs.declared.event.Event.{Event}
-use Rattle.mml_window.specs.Lists.{is_legal_in}
+use Rattle.mml_board.specs.Lists.{is_legal_in}
 use Rattle.mml_window.specs.Rule.{viewer}
 use Rattle.mml_window.proofs.PrefixLemmas.{prefix_trans, one_more}
 use Rattle.mml_window.proofs.looking.look_for_event.Goals as goal

@@ -1,0 +1,16 @@
+-- What is ruled in a world of a lab.
+use Rattle.std.specs.Prelude.{Bool, false}
+use Rattle.mml_lab.specs.declared.who.Who.{Who}
+use Rattle.mml_lab.specs.Labs.{LabValue}
+use Rattle.mml_board.specs.World.{World}
+use Rattle.mml_policy.specs.declared.command.Command.{Command}
+use Rattle.mml_policy.specs.declared.ruling.Ruling.{Ruling}
+use Rattle.mml_policy.specs.Rulings.{ruling}
+
+-- what comes of a command in a world of the lab, by whether the journal is halted
+abbrev pub ruling_while : LabValue → Bool → World → Who → Command → Ruling
+ruling_while lab is_halted w who command = ruling lab.ids lab.roster lab.events is_halted w who command
+
+-- while it isn't
+abbrev pub ruling_at : LabValue → World → Who → Command → Ruling
+ruling_at lab w who command = ruling_while lab false w who command
