@@ -53,6 +53,12 @@ class Live(InRoom):
         """Clicks on a node."""
         self.driver.find_element("css selector", f'#drawing .node[data-node="{node}"] .identifier').click()
 
+    def fill_seconds(self, text: str) -> None:
+        """Types how many seconds pass between closings."""
+        seconds = self.driver.find_element("id", "seconds")
+        seconds.clear()
+        seconds.send_keys(text)
+
     def sees(self, event: str) -> Shown:
         """Waits until the page's newest event is this one, after its place."""
         until(self.driver, lambda driver: shown(driver)[2].partition(": ")[2] == event)
@@ -135,9 +141,7 @@ class Live(InRoom):
 
     def test_every_so_many_seconds_and_frozen(self) -> None:
         self.begin()
-        seconds = self.driver.find_element("id", "seconds")
-        seconds.clear()
-        seconds.send_keys("0.2")
+        self.fill_seconds("0.2")
         self.find("every")
         until(self.driver, lambda driver: driver.find_element("id", "closing").text == "every:0.2")
         gus = self.student("gus")
@@ -311,9 +315,7 @@ class Live(InRoom):
     def test_back_to_when_idle(self) -> None:
         self.begin()
         self.find("by-hand")
-        seconds = self.driver.find_element("id", "seconds")
-        seconds.clear()
-        seconds.send_keys("0.3")
+        self.fill_seconds("0.3")
         self.find("when-idle")
         until(self.driver, lambda driver: driver.find_element("id", "closing").text == "when-idle:0.3")
         gus = self.student("gus")

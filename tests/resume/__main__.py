@@ -11,7 +11,7 @@ import time
 from collections.abc import Sequence
 from pathlib import Path
 
-from tests.common.hosting import Host, audit, called, hello, lab_of, let_in
+from tests.common.hosting import Caller, Host, audit, called, hello, lab_of, let_in
 from tests.common.preload import Ended, Preloaded, fail
 from tests.common.side_by_side import Test, try_all
 from tests.resume.players import CLOSE, Players
@@ -19,6 +19,7 @@ from tests.resume.players import CLOSE, Players
 NO_COPY = b"resume: no copy of the lab beside the journal, the audit alone vouches for it\n"
 OTHER = Ended(2, b"", b"resume: another lab\n")
 FAULT = Ended(4, b"", b"journal fault\n")
+BREAK = b'{"do":"fault","m":false,"node":1,"p":null}\n'
 SEDUCES = b'{"at":0,"do":"move","node":1,"rule":"seduction"}\n'
 # Two whole lines of the lab that is built into the program, and the longest that may come third.
 FIRST = b"1 0 grant ana 1 seduction\n2 0 close\n"
@@ -152,30 +153,39 @@ def failed_sync(room: Path) -> None:
     goes_on(lab, journal, b"resumed at place 1, configuration 0, 1 chosen\n", b"", "after a sync that failed")
 
 
+def told_until_halted(ana: Caller, tess: Caller) -> int:
+    """How many events they are told of until the journal halts: a move, its step and a fault again and again."""
+    told = 0
+    for turn in range(200):
+        move = b'{"at":%d,"do":"move","node":1,"rule":"seduction"}\n' % (2 * turn)
+        replies = [ana.ask(move), tess.ask(CLOSE), tess.ask(BREAK)]
+        told += sum(b'"place":' in reply for reply in replies)
+        if replies[2] == b'{"refuse":"journal"}\n':
+            break
+    return told
+
+
+def one_more(lab: Path, journal: Path) -> tuple[int, bytes, Ended]:
+    """Goes on with a class for one event: the place it goes on at, the reply, and how it ends."""
+    with Host(lab, 0, 0, journal, word="resume") as host:
+        place = place_of(resumed(host))
+        tess = let_in(host.desk, hello("tess"))[0]
+        return place, tess.ask(BREAK), host.dismissed(tess)
+
+
 def full_disk(room: Path) -> None:
     """Where a file may not take a whole line more the class halts, and goes on when there is room."""
     lab, journal = lab_of(room, 4), room / "journal"
     limited = ["bash", "-c", 'trap "" XFSZ && ulimit -f 1 && exec "$@"', "bash"]
     with Host(lab, 0, 0, journal, before=limited) as host:
         ana, tess = let_in(host.port, hello("ana"))[0], let_in(host.desk, hello("tess"))[0]
-        at = told = 0
-        for turn in range(200):
-            lines = (b'{"at":%d,"do":"move","node":1,"rule":"seduction"}\n' % at, CLOSE, b'{"do":"fault","m":false,"node":1,"p":null}\n')
-            replies = [ana.ask(lines[0]), tess.ask(lines[1]), tess.ask(lines[2])]
-            told += sum(b'"place":' in reply for reply in replies)
-            at += 2
-            if replies[2] == b'{"refuse":"journal"}\n':
-                break
+        told = told_until_halted(ana, tess)
         ended = host.dismissed(tess)
     content = journal.read_bytes()
     is_full = len(content) <= 1024 < len(content) + LONGEST
     if ended != FAULT or not is_full or not content.endswith(b"\n") or content.count(b"\n") != told:
         fail(f"resume: on a full disk it ends with {ended}, {len(content)} bytes, {told} events told")
-    with Host(lab, 0, 0, journal, word="resume") as host:
-        place = place_of(resumed(host))
-        tess = let_in(host.desk, hello("tess"))[0]
-        reply = tess.ask(b'{"do":"fault","m":false,"node":1,"p":null}\n')
-        ended = host.dismissed(tess)
+    place, reply, ended = one_more(lab, journal)
     if place != told or b'"place":%d' % (told + 1) not in reply or ended.status != 0:
         fail(f"resume: after a full disk it goes on at {place}, not {told}: {reply!r}, {ended}")
     if ended.error or not journal.read_bytes().startswith(content) or sorted(kept(journal)) != ["journal", "journal.lab"]:
@@ -193,14 +203,7 @@ def in_mid_line(room: Path) -> None:
     mounts = ["unshare", "--mount", "bash", "-c", 'mount -t tmpfs -o size=8k none "$0" && exec "$@"', str(disk)]
     with Host(lab, 0, 0, disk / "journal", before=mounts) as host:
         ana, tess = let_in(host.port, hello("ana"))[0], let_in(host.desk, hello("tess"))[0]
-        told = at = 0
-        for _ in range(200):
-            move = ana.ask(b'{"at":%d,"do":"move","node":1,"rule":"seduction"}\n' % at)
-            replies = [move, tess.ask(CLOSE), tess.ask(b'{"do":"fault","m":false,"node":1,"p":null}\n')]
-            told += sum(b'"place":' in reply for reply in replies)
-            at += 2
-            if replies[2] == b'{"refuse":"journal"}\n':
-                break
+        told = told_until_halted(ana, tess)
         for file in Path(f"/proc/{host.process.pid}/root{disk}").iterdir():
             shutil.copy(file, room / file.name)
         ended = host.dismissed(tess)
@@ -208,11 +211,7 @@ def in_mid_line(room: Path) -> None:
     whole, found, torn = content.rpartition(b"\n")
     if ended != FAULT or len(content) != 4096 or not torn or content.count(b"\n") != told:
         fail(f"resume: on a full disk it ends with {ended}, {len(content)} bytes, {told} events told")
-    with Host(lab, 0, 0, journal, word="resume") as host:
-        place = place_of(resumed(host))
-        tess = let_in(host.desk, hello("tess"))[0]
-        reply = tess.ask(b'{"do":"fault","m":false,"node":1,"p":null}\n')
-        ended = host.dismissed(tess)
+    place, reply, ended = one_more(lab, journal)
     if place != told or b'"place":%d' % (told + 1) not in reply or not journal.read_bytes().startswith(whole + found):
         fail(f"resume: after a line that broke off it goes on at {place}, not {told}: {reply!r}")
     if ended.status != 0 or ended.error != b"resume: a torn line of %d bytes is taken off\n" % len(torn):
