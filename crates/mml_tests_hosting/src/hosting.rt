@@ -1,5 +1,5 @@
 //! A house whose connections come and go, one after another.
-use crate::texts::{Count, Kept, Texts, Timed, lab_of, sent_to};
+use crate::texts::{Count, NumberedWriter, Texts, Timed, lab_of, sent_to};
 use mml_hosting::{HostFault, Hosted, ServedSession, no_recorders, serve_host};
 use mml_journal::MemorySink;
 use mml_lab::Lab;
@@ -10,7 +10,7 @@ use std::sync::Wait;
 use std::test::Fail;
 use std::thread::Threads;
 
-type Left = Hosted<MemorySink, ServedSession<VecDeque<u8>, Kept>, NoRecorder>;
+type Left = Hosted<MemorySink, ServedSession<VecDeque<u8>, NumberedWriter>, NoRecorder>;
 
 /// Who says what where, at the desk or at the port, and what that is answered.
 type Talk = (bool, &'static str, &'static str);
@@ -131,11 +131,12 @@ fn host<R: Threads + Wait + Sync>(
     let at_desk = texts_of(alloc, talks, true, &count)?;
     let at_port = texts_of(alloc, talks, false, &count)?;
     let lab = lab_of(alloc, 100)?;
-    Ok(host_in(rt, alloc, lab, at_desk, at_port, &count, out))
+    Ok(host_in_memory(rt, alloc, lab, at_desk, at_port, &count, out))
 }
 
-/// Hosts what comes in this lab.
-fn host_in<R: Threads + Wait + Sync>(
+/// Hosts the connections that come to the desk and to the port, over this lab, with a sink in memory; nothing is
+/// recorded.
+fn host_in_memory<R: Threads + Wait + Sync>(
     rt: &R,
     alloc: Global,
     lab: Lab,

@@ -1,6 +1,6 @@
 ghost use Rattle.std.specs.Prelude.{◌≡◌, ◌<◌, ◌-◌, ◌^◌, IfSome};
 
-use crate::texts::{Count, Kept, Texts, Timed, lab_of, sent_to};
+use crate::texts::{Count, NumberedWriter, Texts, Timed, lab_of, sent_to};
 use mml_audit::AuditFault;
 use mml_hosting::{Hosted, ServedSession, no_recorders};
 use mml_journal::{MemorySink, Sink};
@@ -76,7 +76,7 @@ impl Store<MemorySink> for Shelf {
     }
 }
 
-type Left = Hosted<MemorySink, ServedSession<VecDeque<u8>, Kept>, NoRecorder>;
+type Left = Hosted<MemorySink, ServedSession<VecDeque<u8>, NumberedWriter>, NoRecorder>;
 
 fn resume<R: Threads + Wait + Sync>(
     rt: &R,

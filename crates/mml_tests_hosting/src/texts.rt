@@ -34,14 +34,14 @@ impl Bell for Count {
     }
 }
 
-/// What a connection was sent, with a number of its own.
+/// A writer in memory, with the number of its connection.
 #[derive(Drop)]
-pub struct Kept {
+pub struct NumberedWriter {
     pub number: u64,
     pub bytes: Vec<u8>,
 }
 
-impl Write for Kept {
+impl Write for NumberedWriter {
     ghost contents = { λ k. Some k.bytes.items };
 
     fn write(&mut self, bytes: &[u8]) -> io::Result<usize> {
@@ -53,7 +53,7 @@ impl Write for Kept {
     }
 }
 
-impl HangUp for Kept {
+impl HangUp for NumberedWriter {
     fn hang_up(&mut self) {}
 }
 
@@ -66,7 +66,7 @@ impl CutOff for Nothing {
 }
 
 /// What a connection sends, and what it is sent.
-pub type TextEnds = (VecDeque<u8>, Kept);
+pub type TextEnds = (VecDeque<u8>, NumberedWriter);
 
 /// A text that is sent once so many sessions have ended.
 #[derive(Drop)]
@@ -109,17 +109,17 @@ fn ends_of(alloc: Global, timed: &Timed<'_>) -> Result<TextEnds, AllocError> {
     for byte in timed.text.as_bytes() {
         bytes.push_back(*byte)?;
     }
-    let kept = Kept {
+    let kept = NumberedWriter {
         number: timed.number,
         bytes: Vec::new(alloc),
     };
     Ok((bytes, kept))
 }
 
-impl<'a> Accept<VecDeque<u8>, Kept, Nothing> for Texts<'a> {
+impl<'a> Accept<VecDeque<u8>, NumberedWriter, Nothing> for Texts<'a> {
     ghost to_come = { λ t. Some (into_iter_items t.coming) };
 
-    fn accept_next(&mut self) -> Accepted<VecDeque<u8>, Kept, Nothing>
+    fn accept_next(&mut self) -> Accepted<VecDeque<u8>, NumberedWriter, Nothing>
         ensures { Brings (Some (into_iter_items self.old.coming))
             (Some (into_iter_items self.new.coming)) result }
     {
@@ -141,7 +141,7 @@ pub fn lab_of(alloc: Global, events: u64) -> Result<Lab, Fail> {
 
 /// What the connection with the number was sent, if it was served.
 pub fn sent_to(
-    left: &Hosted<MemorySink, ServedSession<VecDeque<u8>, Kept>, NoRecorder>,
+    left: &Hosted<MemorySink, ServedSession<VecDeque<u8>, NumberedWriter>, NoRecorder>,
     number: u64,
 ) -> Option<&[u8]> {
     for record in left.desk.iter().chain(left.others.iter()) {

@@ -59,7 +59,7 @@ fn push_links(text: &mut String, board: &Board, node: Rank) -> Result<(), AllocE
 
 /// The number of the step, the place in the run, how many nodes are privileged and how many moves
 /// are chosen, and then each node, with its links where these are wanted.
-fn told(alloc: Global, board: &Board, with_links: bool) -> Result<String, AllocError> {
+fn board_text(alloc: Global, board: &Board, with_links: bool) -> Result<String, AllocError> {
     let (number, place) = (board.number(), board.place());
     let (privileged, chosen) = (board.privileged_count(), board.chosen_set().len());
     let mut text = format!(in alloc; "{number} {place} {privileged} {chosen}")?;
@@ -77,7 +77,7 @@ const OPENING: &str =
     "0 0 2 0; None false Some(Marriage) true .-; Some(0) false Some(Abandonment) true -.";
 
 fn is_opening(alloc: Global, board: &Board) -> Result<bool, Fail> {
-    let told = told(alloc, board, true)?;
+    let told = board_text(alloc, board, true)?;
     Ok(told.as_str() == OPENING)
 }
 
@@ -228,7 +228,7 @@ fn follows(alloc: Global, board: &mut Board, story: &[Part]) -> Result<bool, All
         if let Some(event) = event {
             board.absorb_event(event);
         }
-        let told = told(alloc, board, false)?;
+        let told = board_text(alloc, board, false)?;
         if told.as_str() != *expected {
             follows = false;
         }

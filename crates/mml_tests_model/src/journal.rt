@@ -127,20 +127,23 @@ fn are_read_and_written(alloc: Global, lab: &Lab) -> Result<bool, Fail> {
 }
 
 /// Whether the shapes have their error, the unknowns theirs, and the events are read and written.
-fn are_told(alloc: Global, lab: &Lab) -> Result<(bool, bool, bool), Fail> {
+fn are_rows_read(alloc: Global, lab: &Lab) -> Result<(bool, bool, bool), Fail> {
     let shapes = have_fault(lab, SHAPES, JournalFault::Shape);
     let unknowns = have_fault(lab, UNKNOWNS, JournalFault::Unknown);
     Ok((shapes, unknowns, are_read_and_written(alloc, lab)?))
 }
 
-/// Whether shapes, unknowns and events are told as they should be, and lines with a byte replaced.
-fn told(alloc: Global) -> Result<((bool, bool, bool), bool), Fail> {
+/// Whether each row of lines, and each line with a byte replaced, is read as it should be.
+fn are_lines_read(alloc: Global) -> Result<((bool, bool, bool), bool), Fail> {
     let lab = boxed_lab(alloc, PATH_OF_THREE)?;
-    Ok((are_told(alloc, &lab)?, replaced::are_read_so(alloc, &lab)?))
+    Ok((
+        are_rows_read(alloc, &lab)?,
+        replaced::are_read_as_marked(alloc, &lab)?,
+    ))
 }
 
 #[test]
 fn lines_are_read_and_written(rt: HostRuntime) -> Result<(), Fail> {
-    assert_eq!(rt; told(rt.alloc())?, ((true, true, true), true));
+    assert_eq!(rt; are_lines_read(rt.alloc())?, ((true, true, true), true));
     Ok(())
 }

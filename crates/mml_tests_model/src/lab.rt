@@ -135,8 +135,8 @@ fn is_copied(alloc: Global, network: &Network) -> Result<bool, Memory> {
     Ok(copy.size() == network.size())
 }
 
-/// What a lab shows, whether its network is copied, and the first name with another place.
-fn told(alloc: Global, lab: &Lab) -> Result<(String, bool, Option<&'static str>), Fail> {
+/// What a lab shows, whether its network is copied, and the first name with another index.
+fn shown_of_lab(alloc: Global, lab: &Lab) -> Result<(String, bool, Option<&'static str>), Fail> {
     let text = shown(alloc, lab)?;
     Ok((
         text,
@@ -145,19 +145,23 @@ fn told(alloc: Global, lab: &Lab) -> Result<(String, bool, Option<&'static str>)
     ))
 }
 
-/// Whether a document's lab shows that, whether its network is copied, and the first name with another place.
-fn told_of(
+/// Whether a document's lab shows what is wanted, whether its network is copied, and the first name with
+/// another index.
+fn is_document_shown(
     alloc: Global,
     document: &str,
     wanted: &str,
 ) -> Result<(bool, bool, Option<&'static str>), Fail> {
     let lab = boxed_lab(alloc, document)?;
-    let (text, is_copied, other) = told(alloc, &lab)?;
+    let (text, is_copied, other) = shown_of_lab(alloc, &lab)?;
     Ok((text.as_str() == wanted, is_copied, other))
 }
 
 #[test]
 fn a_document_is_read(rt: HostRuntime) -> Result<(), Fail> {
-    assert_eq!(rt; told_of(rt.alloc(), DOCUMENT, SHOWN)?, (true, true, None));
+    assert_eq!(rt;
+        is_document_shown(rt.alloc(), DOCUMENT, SHOWN)?,
+        (true, true, None)
+    );
     Ok(())
 }

@@ -8,7 +8,7 @@ use std::alloc::{AllocError, Global};
 use std::test::Fail;
 
 /// The lists of a report, by ranks.
-fn told(alloc: Global, report: &Report) -> Result<String, Fail> {
+fn report_text(alloc: Global, report: &Report) -> Result<String, Fail> {
     let mut text = format!(in alloc; "{} {};", report.at, report.stable)?;
     push_lists(&mut text, report)?;
     Ok(text)
@@ -71,7 +71,7 @@ const TOLD: &str = "0 false; 0=1 2=3; 4 5; 3 Update 5 Marriage; 4-5 5 Marriage";
 
 fn told_of_board(alloc: Global, board: &Board) -> Result<String, Fail> {
     let report = report(alloc, board)?;
-    told(alloc, &report)
+    report_text(alloc, &report)
 }
 
 fn told_of(alloc: Global, document: &str) -> Result<String, Fail> {

@@ -119,8 +119,10 @@ fn takes_each_number_of_bytes(alloc: Global, lab: &Lab) -> Result<bool, Fail> {
     Ok(true)
 }
 
-/// The lines and the bytes of the path of three that are taken.
-fn told(alloc: Global) -> Result<((usize, bool, bool), bool), Fail> {
+/// Over the path of three: how many lines come through before a failed put takes others with it, whether none
+/// comes where the first put fails and all where none does, and whether a sink that fails after any number of
+/// bytes has just these.
+fn lines_and_bytes_taken(alloc: Global) -> Result<((usize, bool, bool), bool), Fail> {
     let lab = boxed_lab(alloc, PATH_OF_THREE)?;
     let lines = lines_taken(alloc, &lab)?;
     Ok((lines, takes_each_number_of_bytes(alloc, &lab)?))
@@ -128,6 +130,9 @@ fn told(alloc: Global) -> Result<((usize, bool, bool), bool), Fail> {
 
 #[test]
 fn sinks_fail_at_each_put_and_at_each_byte(rt: HostRuntime) -> Result<(), Fail> {
-    assert_eq!(rt; told(rt.alloc())?, ((11, true, true), true));
+    assert_eq!(rt;
+        lines_and_bytes_taken(rt.alloc())?,
+        ((11, true, true), true)
+    );
     Ok(())
 }

@@ -104,8 +104,8 @@ const BYES: &[Row] = &[
     (0, "\n{\"do\":\"bye\"}\n", SessionEnd::Bye, BYE, 13, 13),
 ];
 
-/// Whether a session over such a line ends so.
-fn is_told<R: Wait>(rt: &R, alloc: Global, row: &Row) -> Result<bool, Fail> {
+/// Whether a session over the line of a row ends, writes and reads as the row says.
+fn ends_as_in<R: Wait>(rt: &R, alloc: Global, row: &Row) -> Result<bool, Fail> {
     let (spaces, after, end, written, reads, rest) = row;
     let line = bye(alloc, *spaces, after)?;
     let reader = FakeReader::failing_after(usize::MAX, line.as_slice());
@@ -121,7 +121,7 @@ fn is_told<R: Wait>(rt: &R, alloc: Global, row: &Row) -> Result<bool, Fail> {
 /// The first row of these that ends otherwise.
 fn first_row_told_otherwise<R: Wait>(rt: &R, alloc: Global) -> Result<Option<usize>, Fail> {
     for (number, row) in BYES.iter().enumerate() {
-        if !is_told(rt, alloc, row)? {
+        if !ends_as_in(rt, alloc, row)? {
             return Ok(Some(number));
         }
     }

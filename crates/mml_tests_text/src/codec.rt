@@ -8,7 +8,7 @@ use std::alloc::{AllocError, Global};
 use std::test::Fail;
 
 /// The canonical text of what was read, or why it is no request.
-fn told(alloc: Global, read: Result<Request, LineFault>) -> Result<String, Fail> {
+fn text_or_fault(alloc: Global, read: Result<Request, LineFault>) -> Result<String, Fail> {
     match read {
         Ok(request) => written(alloc, &request),
         Err(fault) => Ok(format!(in alloc; "{fault:?}")?),
@@ -74,14 +74,14 @@ const LINES: &[(&[u8], &str)] = &[
 ];
 
 /// Whether a line is read as that, with memory of its own or kept memory.
-fn is_told(
+fn is_read_as(
     alloc: Global,
     scratch: &mut LineScratch,
     line: &[u8],
     wanted: &str,
 ) -> Result<bool, Fail> {
-    let own = told(alloc, read_request(alloc, line))?;
-    let kept = told(alloc, read_request_with(alloc, line, scratch))?;
+    let own = text_or_fault(alloc, read_request(alloc, line))?;
+    let kept = text_or_fault(alloc, read_request_with(alloc, line, scratch))?;
     Ok(own.as_str() == wanted && kept.as_str() == wanted)
 }
 
@@ -91,7 +91,7 @@ fn first_line_read_otherwise(
     scratch: &mut LineScratch,
 ) -> Result<Option<usize>, Fail> {
     for (row, (line, wanted)) in LINES.iter().enumerate() {
-        if !is_told(alloc, scratch, line, wanted)? {
+        if !is_read_as(alloc, scratch, line, wanted)? {
             return Ok(Some(row));
         }
     }
@@ -129,7 +129,7 @@ fn is_hello(
 ) -> Result<bool, Fail> {
     let (name, key) = (Word::of(name), Word::of(key));
     let written = written(alloc, &Request::Hello { name, key })?;
-    Ok(written.as_str() == text && is_told(alloc, scratch, text.as_bytes(), text)?)
+    Ok(written.as_str() == text && is_read_as(alloc, scratch, text.as_bytes(), text)?)
 }
 
 /// The text of a greeting by a row of these.

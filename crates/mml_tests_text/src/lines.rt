@@ -14,7 +14,11 @@ const TOLD: &str = "Line ab\nLine \nLine cd\nEnd \n";
 
 /// The answers over a reader up to the one that ends them, each with its bytes; more than ten lines are
 /// not read.
-fn told<R: Read>(lines: &mut Lines, alloc: Global, reader: &mut R) -> Result<String, AllocError> {
+fn steps_text<R: Read>(
+    lines: &mut Lines,
+    alloc: Global,
+    reader: &mut R,
+) -> Result<String, AllocError> {
     let mut text = String::new(alloc);
     for _ in 0..10 {
         let step = lines.next(reader);
@@ -28,9 +32,9 @@ fn told<R: Read>(lines: &mut Lines, alloc: Global, reader: &mut R) -> Result<Str
 
 /// What each call tells up to the end, where each later one repeats it and reads nothing from another reader;
 /// else a text that says so.
-fn told_to_the_end<R: Read>(alloc: Global, limit: usize, reader: &mut R) -> Result<String, Fail> {
+fn steps_to_the_end<R: Read>(alloc: Global, limit: usize, reader: &mut R) -> Result<String, Fail> {
     let mut lines = Lines::new(alloc, limit.min(MAX_LIMIT))?;
-    let mut text = told(&mut lines, alloc, reader)?;
+    let mut text = steps_text(&mut lines, alloc, reader)?;
     if !is_repeated(&mut lines, alloc, text.as_str())? {
         text.push_str("and another end")?;
     }
@@ -40,8 +44,8 @@ fn told_to_the_end<R: Read>(alloc: Global, limit: usize, reader: &mut R) -> Resu
 /// Whether two more calls repeat the end of what was told, and read nothing.
 fn is_repeated(lines: &mut Lines, alloc: Global, text: &str) -> Result<bool, AllocError> {
     let mut late = b"late\n".as_slice();
-    let again = told(lines, alloc, &mut late)?;
-    let once_more = told(lines, alloc, &mut late)?;
+    let again = steps_text(lines, alloc, &mut late)?;
+    let once_more = steps_text(lines, alloc, &mut late)?;
     Ok(text.ends_with(again.as_str()) && again == once_more && late.len() == 5)
 }
 
@@ -68,10 +72,16 @@ fn digits(alloc: Global, len: usize) -> Result<String, AllocError> {
     Ok(text)
 }
 
-/// Whether that is told of so many digits.
-fn is_told(alloc: Global, limit: usize, line: &str, end: &str, wanted: &str) -> Result<bool, Fail> {
+/// Whether a line, and what ends it, gives the steps that are wanted.
+fn are_steps(
+    alloc: Global,
+    limit: usize,
+    line: &str,
+    end: &str,
+    wanted: &str,
+) -> Result<bool, Fail> {
     let text = format!(in alloc; "{line}{end}")?;
-    Ok(told_to_the_end(alloc, limit, &mut text.as_bytes())?.as_str() == wanted)
+    Ok(steps_to_the_end(alloc, limit, &mut text.as_bytes())?.as_str() == wanted)
 }
 
 /// What is to be told of a line that comes, or doesn't, before the end.
@@ -88,7 +98,7 @@ fn is_length_told(alloc: Global, row: &Length) -> Result<bool, Fail> {
     let (limit, len, end, is_line, last) = row;
     let line = digits(alloc, *len)?;
     let wanted = wanted(alloc, line.as_str(), *is_line, last)?;
-    is_told(alloc, *limit, line.as_str(), end, wanted.as_str())
+    are_steps(alloc, *limit, line.as_str(), end, wanted.as_str())
 }
 
 /// The first row of these of which something else is told.
@@ -115,7 +125,7 @@ fn is_told_in_parts(alloc: Global, cut: usize, step: usize) -> Result<bool, Fail
         second,
         step,
     };
-    Ok(told_to_the_end(alloc, 2, &mut reader)?.as_str() == TOLD)
+    Ok(steps_to_the_end(alloc, 2, &mut reader)?.as_str() == TOLD)
 }
 
 /// The first cut that changes what is told.
@@ -151,7 +161,7 @@ fn are_reads_told(alloc: Global, row: &Reads) -> Result<bool, Fail> {
     let (step, good, wanted, reads) = row;
     let mut reader = FakeReader::failing_after(*good, TEXT);
     reader.step = *step;
-    let told = told_to_the_end(alloc, 2, &mut reader)?;
+    let told = steps_to_the_end(alloc, 2, &mut reader)?;
     Ok(told.as_str() == *wanted && reader.reads == *reads)
 }
 

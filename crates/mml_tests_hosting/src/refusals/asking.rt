@@ -10,8 +10,9 @@ use std::alloc::Global;
 use std::sync::Wait;
 use std::test::Fail;
 
-/// Whether an answer is a grant at this place, or out of memory where that was met.
-fn is_told(answer: &Answer, place: u64, was_none: bool) -> Option<bool> {
+/// Whether an answer grants an act, with this place: false where it is out of memory and a request for memory was
+/// refused; none where it is anything else.
+fn granted_or_refused(answer: &Answer, place: u64, was_none: bool) -> Option<bool> {
     match answer {
         Answer::Granted { place: granted, .. } => (*granted == place).then_some(true),
         Answer::Refused(Refusal::Memory) => (!was_none).then_some(false),
@@ -30,7 +31,7 @@ fn asked<H: House, R: Wait>(
     refuse(seat.alloc, nth);
     let answer = seat.ask(asker(place), &act(place));
     let was_none = was_none_refused(seat.alloc, is_there);
-    let is_granted = is_told(&answer, place, was_none)?;
+    let is_granted = granted_or_refused(&answer, place, was_none)?;
     let is_kept = is_granted || seat.window.number() == Ok(number_before(place));
     is_kept.then_some(is_granted)
 }
@@ -96,7 +97,7 @@ impl Visit<NullSink> for Instead {
         let was_granted = asked(seat, 1, self.nth, self.is_there)?;
         let second = seat.ask(asker(2), &act(2));
         let next = if was_granted { 2 } else { 1 };
-        (is_told(&second, next, true) == Some(true)).then_some(was_granted)
+        (granted_or_refused(&second, next, true) == Some(true)).then_some(was_granted)
     }
 }
 

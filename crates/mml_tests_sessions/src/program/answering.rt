@@ -9,8 +9,8 @@ use mml_serving::write_listening;
 use std::alloc::Global;
 use std::test::Fail;
 
-/// Whether a call that ended so has told it, and what it wrote is that.
-fn is_told(
+/// Whether a call ended with the error that is wanted, and has written these bytes.
+fn has_written(
     ended: Result<(), Fault>,
     writer: &FakeWriter,
     wanted: Option<Fault>,
@@ -39,9 +39,9 @@ fn are_lines_told(alloc: Global, lab: &Lab) -> bool {
     let is_audit = write_audit(alloc, lab, TEN_LINES.as_bytes(), &mut audit);
     let mut failing = FakeWriter::failing_after(0, alloc);
     let is_failed = write_size(alloc, lab, &mut failing);
-    is_told(is_size, &size, None, SIZE)
-        && is_told(is_audit, &audit, None, AUDITED)
-        && is_told(is_failed, &failing, Some(Fault::Write), b"")
+    has_written(is_size, &size, None, SIZE)
+        && has_written(is_audit, &audit, None, AUDITED)
+        && has_written(is_failed, &failing, Some(Fault::Write), b"")
 }
 
 fn told_of_lines(alloc: Global) -> Result<bool, Fail> {

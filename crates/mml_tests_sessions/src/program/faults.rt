@@ -5,7 +5,8 @@ use mml_program::Fault;
 use std::alloc::{AllocError, Global};
 use std::test::Fail;
 
-fn is_told(alloc: Global, fault: &Fault, wanted: &str) -> Result<bool, AllocError> {
+/// Whether an error has this status and line.
+fn has_line(alloc: Global, fault: &Fault, wanted: &str) -> Result<bool, AllocError> {
     let status = fault.status();
     let told = format!(in alloc; "{status} {fault}")?;
     Ok(told.as_str() == wanted)
@@ -13,12 +14,12 @@ fn is_told(alloc: Global, fault: &Fault, wanted: &str) -> Result<bool, AllocErro
 
 #[test]
 fn faults_that_are_not_met_have_lines(rt: HostRuntime) -> Result<(), Fail> {
-    let astray = is_told(
+    let astray = has_line(
         rt.alloc(),
         &Fault::Astray,
         "4 serve: the tally does not fit",
     )?;
-    let place = is_told(rt.alloc(), &Fault::Place, "5 serve: no place for a window")?;
+    let place = has_line(rt.alloc(), &Fault::Place, "5 serve: no place for a window")?;
     let lab = Fault::from(LabFault::Memory) == Fault::Memory;
     let id = Fault::from(LabFault::Id(IdFault::Memory)) == Fault::Memory;
     assert_eq!(rt; [astray, place, lab, id], [true; 4]);

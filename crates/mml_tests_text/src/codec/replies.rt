@@ -70,21 +70,21 @@ fn rooms(alloc: Global, lab: &Lab) -> Result<[usize; 3], Fail> {
 }
 
 /// What is shown, the report, and whether a vector stays in its room.
-fn told_of(alloc: Global, lab: &Lab) -> Result<(String, String, bool), Fail> {
+fn replies_of_lab(alloc: Global, lab: &Lab) -> Result<(String, String, bool), Fail> {
     let rooms = rooms(alloc, lab)?;
     let stays = rooms[1] == rooms[0] && rooms[2] == rooms[0];
     Ok((sight(alloc, lab)?, report_line(alloc, lab)?, stays))
 }
 
 /// What is shown of two nodes far apart, the report, and whether a vector stays in its room.
-fn told(alloc: Global) -> Result<(String, String, bool), Fail> {
+fn replies_far_apart(alloc: Global) -> Result<(String, String, bool), Fail> {
     let lab = boxed_lab(alloc, FAR_APART)?;
-    told_of(alloc, &lab)
+    replies_of_lab(alloc, &lab)
 }
 
 #[test]
 fn replies_are_written(rt: HostRuntime) -> Result<(), Fail> {
-    let (sight, report, stays) = told(rt.alloc())?;
+    let (sight, report, stays) = replies_far_apart(rt.alloc())?;
     let wanted = (
         "{\"at\":18446744073709551615,\"m\":true,\"node\":65535,\"ok\":\"see\",\"p\":7}\n",
         "{\"at\":0,\"free\":[7,65535],\"ok\":\"report\",\"open\":[],\"pairs\":[],\"privileged\":[],\"stable\":true}\n",

@@ -27,7 +27,7 @@ fn answer(alloc: Global, hall: &mut Hall<NullSink>, line: &str) -> Result<Vec<u8
     Ok(out)
 }
 
-/// Whether a look is answered so, and changes nothing.
+/// Whether a hello and a look are answered as `WELCOME` and `LOOK` say, and leave the board as it began.
 fn is_answered(alloc: Global, hall: &mut Hall<NullSink>) -> Result<bool, Fail> {
     let hello = answer(alloc, hall, HELLO)?;
     let look = answer(alloc, hall, r#"{"do":"look","node":9}"#)?;
@@ -42,8 +42,9 @@ fn hall_of(alloc: Global, document: &str) -> Result<Box<Hall<NullSink>>, Fail> {
     Ok(Box::new(alloc, hall)?)
 }
 
-/// Whether a look is answered so in a hall over a lab of three nodes, and changes nothing.
-fn told(alloc: Global) -> Result<bool, Fail> {
+/// Whether a hello and a look are answered as `WELCOME` and `LOOK` say in a hall over `PAIR`, and leave the board
+/// as it began.
+fn is_look_answered(alloc: Global) -> Result<bool, Fail> {
     let mut hall = hall_of(alloc, PAIR)?;
     is_answered(alloc, &mut hall)
 }
@@ -73,12 +74,13 @@ fn is_one_beginning(alloc: Global) -> Result<bool, Fail> {
     are_one(alloc, document.as_str(), &lab)
 }
 
-fn told_of_halls(alloc: Global) -> Result<(bool, bool), Fail> {
-    Ok((told(alloc)?, is_one_beginning(alloc)?))
+/// Whether a look is answered as it should be, and boards begin alike.
+fn are_looks_and_beginnings_right(alloc: Global) -> Result<(bool, bool), Fail> {
+    Ok((is_look_answered(alloc)?, is_one_beginning(alloc)?))
 }
 
 #[test]
 fn requests_are_answered(rt: HostRuntime) -> Result<(), Fail> {
-    assert_eq!(rt; told_of_halls(rt.alloc())?, (true, true));
+    assert_eq!(rt; are_looks_and_beginnings_right(rt.alloc())?, (true, true));
     Ok(())
 }

@@ -20,15 +20,15 @@ fn has_dripped(hall: &Hall<Drip>, puts: usize) -> bool {
         && hall.board().place() == lines as u64
 }
 
-/// Whether a journal passes an audit up to a hall's board.
-fn is_passed(alloc: Global, hall: &Hall<Drip>, journal: &[u8]) -> bool {
+/// Whether an audit passes the journal, and the board after it is the hall's.
+fn leads_to_board(alloc: Global, hall: &Hall<Drip>, journal: &[u8]) -> bool {
     match audit(alloc, hall.lab(), journal) {
         Ok(board) => board.is_same(hall.board()),
         Err(_) => false,
     }
 }
 
-/// Whether a journal passes the audit that tells the events, up to a hall's board, and they are the hall's.
+/// Whether the audit that tells the events passes the journal, and board and events are the hall's.
 fn is_listed(alloc: Global, hall: &Hall<Drip>, journal: &[u8]) -> bool {
     match audit_events(alloc, hall.lab(), journal) {
         Ok(audited) => {
@@ -38,15 +38,14 @@ fn is_listed(alloc: Global, hall: &Hall<Drip>, journal: &[u8]) -> bool {
     }
 }
 
-/// Whether the journal of a hall passes both audits, up to the hall's board and with its events, unless its
-/// last line is torn.
+/// Whether both audits pass the journal of a hall, with the hall's board and events, unless its last line is torn.
 fn is_audited(alloc: Global, hall: &Hall<Drip>) -> bool {
     let journal = hall.sink().bytes.as_slice();
     let is_whole = match journal.last() {
         Some(byte) => *byte == b'\n',
         None => true,
     };
-    is_passed(alloc, hall, journal) == is_whole && is_listed(alloc, hall, journal) == is_whole
+    leads_to_board(alloc, hall, journal) == is_whole && is_listed(alloc, hall, journal) == is_whole
 }
 
 /// The hall of a script over a sink that takes one byte a put and fails after so many.

@@ -14,7 +14,7 @@ const FAILED: Option<ScriptFault> = Some(ScriptFault::Read);
 
 /// Whether a script that comes in reads of so many bytes has exactly these replies and that end, and is
 /// read no more often: the good reads, and the one that fails.
-fn is_told(
+fn is_script_answered(
     alloc: Global,
     script: &str,
     replies: &str,
@@ -36,8 +36,8 @@ fn is_told(
 /// finds the end.
 fn is_read_once(alloc: Global, script: &str, replies: &str) -> Result<bool, Fail> {
     let by_bytes = (script.len().saturating_add(1), None, 0);
-    let is_read_by_bytes = is_told(alloc, script, replies, 1, by_bytes)?;
-    let is_read_at_once = is_told(alloc, script, replies, 4096, (2, None, 0))?;
+    let is_read_by_bytes = is_script_answered(alloc, script, replies, 1, by_bytes)?;
+    let is_read_at_once = is_script_answered(alloc, script, replies, 4096, (2, None, 0))?;
     Ok(is_read_by_bytes && is_read_at_once)
 }
 
@@ -52,7 +52,7 @@ fn first_untold_read(alloc: Global) -> Result<Option<usize>, Fail> {
     for good in 0..=script.len() {
         let (given, rest) = script.split_at(good.min(script.len()));
         let replies = first_lines(GREETING_REPLIES, line_ends(given) as u64);
-        if !is_told(alloc, GREETING, replies, 1, (good, FAILED, rest.len()))? {
+        if !is_script_answered(alloc, GREETING, replies, 1, (good, FAILED, rest.len()))? {
             return Ok(Some(good));
         }
     }
@@ -73,7 +73,7 @@ fn first_other_buffer(alloc: Global) -> Result<Option<usize>, Fail> {
     let script = "2 {\"do\":\"bye\"}\n".repeat(alloc, 600)?;
     for (row, (answered, end)) in BUFFERS.iter().enumerate() {
         let replies = "2 {\"ok\":\"bye\"}\n".repeat(alloc, *answered)?;
-        if !is_told(alloc, script.as_str(), replies.as_str(), usize::MAX, *end)? {
+        if !is_script_answered(alloc, script.as_str(), replies.as_str(), usize::MAX, *end)? {
             return Ok(Some(row));
         }
     }
@@ -92,7 +92,7 @@ const UNKNOWN: &str =
 /// Whether such a greeting is answered by one read, and one that finds the end.
 fn is_long_greeting_answered(alloc: Global) -> Result<bool, Fail> {
     let script = long_greeting(alloc)?;
-    let is_told = is_told(alloc, script.as_str(), UNKNOWN, usize::MAX, (2, None, 0))?;
+    let is_told = is_script_answered(alloc, script.as_str(), UNKNOWN, usize::MAX, (2, None, 0))?;
     Ok(is_told && script.len() == 4036)
 }
 
@@ -100,7 +100,7 @@ fn is_long_greeting_answered(alloc: Global) -> Result<bool, Fail> {
 fn is_bad_line_told(alloc: Global) -> Result<bool, Fail> {
     let script = "2 {\"do\":\"bye\"}\n\n2 {\"do\":\"bye\"}\n";
     let end = (16, Some(ScriptFault::BadLine(2)), 15);
-    is_told(alloc, script, "2 {\"ok\":\"bye\"}\n", 1, end)
+    is_script_answered(alloc, script, "2 {\"ok\":\"bye\"}\n", 1, end)
 }
 
 /// Whether two scripts, a long greeting and a bad line are each read once.
@@ -112,7 +112,7 @@ fn are_read_once(alloc: Global) -> Result<[bool; 4], Fail> {
 }
 
 /// Whether scripts are each read once, the first read that isn't told, and the first other row of buffers.
-fn told(alloc: Global) -> Result<([bool; 4], [Option<usize>; 2]), Fail> {
+fn reads_made(alloc: Global) -> Result<([bool; 4], [Option<usize>; 2]), Fail> {
     let are_read_once = are_read_once(alloc)?;
     let firsts = [first_untold_read(alloc)?, first_other_buffer(alloc)?];
     Ok((are_read_once, firsts))
@@ -120,6 +120,6 @@ fn told(alloc: Global) -> Result<([bool; 4], [Option<usize>; 2]), Fail> {
 
 #[test]
 fn each_read_is_made_once(rt: HostRuntime) -> Result<(), Fail> {
-    assert_eq!(rt; told(rt.alloc())?, ([true; 4], [None; 2]));
+    assert_eq!(rt; reads_made(rt.alloc())?, ([true; 4], [None; 2]));
     Ok(())
 }

@@ -119,10 +119,10 @@ fn first_cut_that_changes(alloc: Global) -> Result<Option<usize>, Fail> {
     Ok(None)
 }
 
-/// What is told of looks and of greetings, and the first cut that changes something.
-type Told = ((bool, usize), (bool, usize), Option<usize>);
+/// Whether looks, and greetings, are answered, after how many writes, and the first cut that changes something.
+type Writes = ((bool, usize), (bool, usize), Option<usize>);
 
-fn told(alloc: Global) -> Result<Told, Fail> {
+fn writes_before_reads(alloc: Global) -> Result<Writes, Fail> {
     let looks = asked(alloc, FIRST_LOOK, FIRST_LOOK_REPLIES)?;
     let greets = asked(alloc, GREETING, GREETING_REPLIES)?;
     Ok((looks, greets, first_cut_that_changes(alloc)?))
@@ -131,6 +131,9 @@ fn told(alloc: Global) -> Result<Told, Fail> {
 #[test]
 fn replies_go_out_before_the_next_read(rt: HostRuntime) -> Result<(), Fail> {
     // A read for each line, and one that finds the end.
-    assert_eq!(rt; told(rt.alloc())?, ((true, 5), (true, 8), None));
+    assert_eq!(rt;
+        writes_before_reads(rt.alloc())?,
+        ((true, 5), (true, 8), None)
+    );
     Ok(())
 }

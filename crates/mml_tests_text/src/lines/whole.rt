@@ -7,7 +7,12 @@ use std::test::Fail;
 
 /// The bytes, or the error, of a reader that gives one byte a read and fails after so many reads, where
 /// six bytes may come.
-fn told(alloc: Global, input: &[u8], good: usize, kind: ErrorKind) -> Result<String, Fail> {
+fn bytes_or_fault(
+    alloc: Global,
+    input: &[u8],
+    good: usize,
+    kind: ErrorKind,
+) -> Result<String, Fail> {
     let mut reader = FakeReader::failing_after(good, input);
     reader.kind = kind;
     match read_whole(alloc, reader, 6) {
@@ -32,7 +37,7 @@ const INPUTS: &[(&str, usize, ErrorKind, &str)] = &[
 /// The first row of these of which something else is told.
 fn first_told_otherwise(alloc: Global) -> Result<Option<usize>, Fail> {
     for (row, (input, good, kind, wanted)) in INPUTS.iter().enumerate() {
-        if told(alloc, input.as_bytes(), *good, *kind)?.as_str() != *wanted {
+        if bytes_or_fault(alloc, input.as_bytes(), *good, *kind)?.as_str() != *wanted {
             return Ok(Some(row));
         }
     }
