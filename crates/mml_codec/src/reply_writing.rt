@@ -213,27 +213,20 @@ fn put_text(ids: &IdTable, roster: &Roster, reply: &Reply, out: &mut Vec<u8>) ->
     }
 }
 
+#[tactic(auto, unfolding(crate::specs::Facts::object_text))]
 fn put_hello(ids: &IdTable, roster: &Roster, who: Who, out: &mut Vec<u8>) -> Result<(), Memory>
     requires { IsPrincipal roster.now who }
     ensures { Puts (object_text ids.now
         (hello_fields (name_of roster.now who))) TEXT_ROOM out.old out.new result }
 {
-    make_room(out, TEXT_ROOM)?;
-    *out = with_hello(taken(out), ids, roster, who);
-    Ok(())
-}
-
-#[inline(always)]
-#[tactic(auto, unfolding(crate::specs::Facts::object_text))]
-fn with_hello(text: Vec<u8>, ids: &IdTable, roster: &Roster, who: Who) -> Vec<u8>
-    requires about { IsPrincipal roster.now who }
-    requires room { length text.items + TEXT_ROOM ≤ vec_capacity text }
-    ensures adds { Adds (object_text ids.now
-        (hello_fields (name_of roster.now who))) TEXT_ROOM text result }
-{
-    let text = with_text(text, "{\"ok\":\"hello\",\"who\":\"");
-    let text = with_text(text, roster.name_of(who));
-    with_text(text, "\"}")
+    put(
+        out,
+        &[
+            Piece::Text("{\"ok\":\"hello\",\"who\":\""),
+            Piece::Text(roster.name_of(who)),
+            Piece::Text("\"}"),
+        ],
+    )
 }
 
 fn put_see(ids: &IdTable, see: &See, out: &mut Vec<u8>) -> Result<(), Memory>
@@ -609,40 +602,25 @@ fn put_number_first(denial: Denial, out: &mut Vec<u8>) -> Result<(), Memory>
     }
 }
 
+#[tactic(auto, unfolding(crate::specs::Facts::object_text))]
 fn put_bye(ids: &IdTable, out: &mut Vec<u8>) -> Result<(), Memory>
     ensures { Puts (object_text ids.now bye_fields) TEXT_ROOM out.old out.new result }
 {
-    make_room(out, TEXT_ROOM)?;
-    *out = with_bye(taken(out), ids);
-    Ok(())
+    put(out, &[Piece::Text("{\"ok\":\"bye\"}")])
 }
 
-#[inline(always)]
 #[tactic(auto, unfolding(crate::specs::Facts::object_text))]
-fn with_bye(text: Vec<u8>, ids: &IdTable) -> Vec<u8>
-    requires room { length text.items + TEXT_ROOM ≤ vec_capacity text }
-    ensures adds { Adds (object_text ids.now bye_fields) TEXT_ROOM text result }
-{
-    with_text(text, "{\"ok\":\"bye\"}")
-}
-
 fn put_refusal(ids: &IdTable, refused: Refused, out: &mut Vec<u8>) -> Result<(), Memory>
     ensures { Puts (object_text ids.now (refuse_fields refused)) TEXT_ROOM out.old out.new result }
 {
-    make_room(out, TEXT_ROOM)?;
-    *out = with_refusal(taken(out), ids, refused);
-    Ok(())
-}
-
-#[inline(always)]
-#[tactic(auto, unfolding(crate::specs::Facts::object_text))]
-fn with_refusal(text: Vec<u8>, ids: &IdTable, refused: Refused) -> Vec<u8>
-    requires room { length text.items + TEXT_ROOM ≤ vec_capacity text }
-    ensures adds { Adds (object_text ids.now (refuse_fields refused)) TEXT_ROOM text result }
-{
-    let text = with_text(text, "{\"refuse\":\"");
-    let text = with_text(text, refusal_name(refused));
-    with_text(text, "\"}")
+    put(
+        out,
+        &[
+            Piece::Text("{\"refuse\":\""),
+            Piece::Text(refusal_name(refused)),
+            Piece::Text("\"}"),
+        ],
+    )
 }
 
 fn refusal_name(refused: Refused) -> &'static str

@@ -10,7 +10,7 @@ use crate::reply_writing::with_count;
 use mml_ids::{IdTable, Memory, make_room, taken, with_text};
 use mml_stable::Report;
 
-// Enough for what a report says before its lists, or after them.
+// Enough for what a report says before its lists.
 const REPORT_ROOM: usize = 64;
 
 #[tactic(auto, unfolding(crate::specs::Facts::object_text))]
@@ -41,24 +41,13 @@ fn put_head(at: u64, out: &mut Vec<u8>) -> Result<(), Memory>
     ensures count { at < 2 ^ 64 }
 {
     make_room(out, REPORT_ROOM)?;
-    *out = with_head(taken(out), at);
+    let text = with_text(taken(out), "{\"at\":");
+    let text = with_count(text, at);
+    *out = with_text(text, ",\"free\":[");
     Ok(())
 }
 
-#[inline(always)]
-fn with_head(text: Vec<u8>, at: u64) -> Vec<u8>
-    requires { length text.items + REPORT_ROOM ≤ vec_capacity text }
-    ensures text { result.items ≡
-        text.items ++ (codes "{\"at\":" ++ (decimal at ++ codes ",\"free\":[")) }
-    ensures capacity { vec_capacity result ≡ vec_capacity text }
-    ensures count { at < 2 ^ 64 }
-{
-    let text = with_text(text, "{\"at\":");
-    let text = with_count(text, at);
-    with_text(text, ",\"free\":[")
-}
-
-// A literal between two lists.
+// A literal.
 #[inline(always)]
 fn put_part(part: &str, out: &mut Vec<u8>) -> Result<(), Memory>
     ensures text { OnOk result (out.new.items ≡ out.old.items ++ part.now) }
@@ -76,21 +65,9 @@ fn put_end(stable: bool, out: &mut Vec<u8>) -> Result<(), Memory>
         out.old.items ++ (codes "],\"stable\":" ++ (truth_text stable ++ codes "}"))) }
     ensures capacity { vec_capacity out.old ≤ vec_capacity out.new }
 {
-    make_room(out, REPORT_ROOM)?;
-    *out = with_end(taken(out), stable);
-    Ok(())
-}
-
-#[inline(always)]
-fn with_end(text: Vec<u8>, stable: bool) -> Vec<u8>
-    requires { length text.items + REPORT_ROOM ≤ vec_capacity text }
-    ensures text { result.items ≡
-        text.items ++ (codes "],\"stable\":" ++ (truth_text stable ++ codes "}")) }
-    ensures capacity { vec_capacity result ≡ vec_capacity text }
-{
     if stable {
-        with_text(text, "],\"stable\":true}")
+        put_part("],\"stable\":true}", out)
     } else {
-        with_text(text, "],\"stable\":false}")
+        put_part("],\"stable\":false}", out)
     }
 }
