@@ -38,14 +38,12 @@ abbrev mutual
 
 mutual
   numbers : (d : Data) → HasText d → tree.HasNumbers (outline d)
-  numbers null h = tt
-  numbers (boolean b) h = tt
   numbers (number (unsigned n)) h = IsNumber-decimal n h
   numbers (number (negative z)) h = absurd h
   numbers (number (float x)) h = absurd h
-  numbers (string s) h = tt
   numbers (array ds) h = items_numbers ds h
   numbers (object ms) h = members_numbers ms h
+  numbers _ h = tt
 
   items_numbers : (ds : Items) → ItemsHaveText ds → tree.ItemsHaveNumbers (items_outline ds)
   items_numbers no_items h = tt

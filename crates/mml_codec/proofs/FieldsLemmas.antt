@@ -15,11 +15,8 @@ use Rattle.mml_codec.proofs.ReadBackLemmas.{read_value}
 
 -- the words that the protocol fixes are ASCII
 abbrev has_ascii_word : Field → Bool
-has_ascii_word (number n) = true
 has_ascii_word (word w) = are_ascii w
-has_ascii_word (text s) = true
-has_ascii_word (truth b) = true
-has_ascii_word null = true
+has_ascii_word _ = true
 
 abbrev pub have_ascii_words : List (List ℕ × Field) → Bool
 have_ascii_words [] = true

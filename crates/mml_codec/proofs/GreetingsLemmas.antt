@@ -1,5 +1,6 @@
 -- Who a connection is known as after an answer.
-use Rattle.std.proofs.Common.{◌≡◌, ◌↔◌, ℕ, List, Option, None, Some, refl, sym, ap, ◌∙◌}
+use Rattle.std.proofs.lemmas.Bool.Decides.{nat_tests}
+use Rattle.std.proofs.Common.{◌≡◌, ◌↔◌, ℕ, List, Option, None, Some, sym, ap, ◌∙◌, arith, arith, arith, arith, arith}
 use Rattle.mml_lab.specs.declared.who.Who.{Who}
 use Rattle.mml_lab.specs.Rosters.{RosterValue, IsRoster, principal}
 use Rattle.mml_lab.specs.RosterMeaning.{IsKnownAs}
@@ -18,10 +19,7 @@ granted (Some w) who known e = let same : w ≡ who = cc in let after : Some w �
 -- where nobody is known yet, a hello is granted exactly to one who takes part under that name and key
 pub hello_is_granted : (r : RosterValue) (name key : List ℕ) (who : Who) (known : Option Who) → IsRoster r
     → (greeting r None (requests.Hello name key) ≡ Answered (replies.Hello who) known) ↔ (IsKnownAs r who name key × (known ≡ Some who))
-hello_is_granted r name key who known roster = (
-  λ e. let both = granted (principal r name key) who known e in ((principal-one r name key who roster).0 both.0, both.1),
-  λ h. rw ((principal-one r name key who roster).1 h.0, h.1) refl,
-)
+hello_is_granted r name key who known roster = grind (arith, nat_tests, granted, principal-one)
 
 denied_before : (found : Option Who) (d : Denial) (known : Option Who) → admitted found ≡ Answered (replies.Deny d) known → known ≡ None
 denied_before None d known e = cc

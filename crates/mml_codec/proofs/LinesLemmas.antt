@@ -1,7 +1,7 @@
 use Rattle.std.proofs.Common.{◌≡◌, ℕ, List, Bool, true, false, cond, Option, Some, None, Err, ok_or, option_and_then, refl, ap}
 use Rattle.std.specs.Str.{is_utf8, IsUtf8}
 use Rattle.std.proofs.lemmas.Str.{is_utf8-from_IsUtf8}
-use Rattle.serde_json.specs.Data.{Data, null, boolean, number, string, array, object, Members}
+use Rattle.serde_json.specs.Data.{Data, object, Members}
 use Rattle.serde_json.specs.Find.{as_object}
 use Rattle.serde_json.specs.Read.{read}
 use Rattle.mml_plain.specs.Reading.{object_in}
@@ -20,12 +20,8 @@ unfolding request_in
 request_in-some bytes d e = rw e
 
 an_object : (d : Data) (ms : Members) → as_object d ≡ Some ms → d ≡ object ms
-an_object null ms e = absurd (cc)
-an_object (boolean b) ms e = absurd (cc)
-an_object (number n) ms e = absurd (cc)
-an_object (string s) ms e = absurd (cc)
-an_object (array ds) ms e = absurd (cc)
 an_object (object os) ms e = let same : os ≡ ms = cc in ap object same
+an_object _ ms e = absurd (cc)
 
 object_asks : (b : Bool) (o : Option Data) (ms : Members) → cond b (option_and_then as_object o) None ≡ Some ms → cond b o None ≡ Some (object ms)
 object_asks true None ms e = absurd (cc)
@@ -34,12 +30,8 @@ object_asks false o ms e = absurd (cc)
 
 no_object : (d : Data) → as_object d ≡ None → request d ≡ None
 unfolding request
-no_object null e = refl
-no_object (boolean b) e = refl
-no_object (number n) e = refl
-no_object (string s) e = refl
-no_object (array ds) e = refl
 no_object (object ms) e = absurd (cc)
+no_object _ e = refl
 
 nothing_asked : (b : Bool) (o : Option Data) → cond b (option_and_then as_object o) None ≡ None → option_and_then request (cond b o None) ≡ None
 nothing_asked true None e = refl

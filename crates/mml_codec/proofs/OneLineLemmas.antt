@@ -1,4 +1,5 @@
 -- In the text of a value no byte is a newline.
+use Rattle.std.proofs.lemmas.Bool.Decides.{nat_tests}
 use Rattle.std.proofs.Common.{◌≡◌, ◌≢◌, ℕ, zero, suc, ◌+◌, ◌%◌, ◌^◌, ◌<◌, ◌==◌, ◌&&◌, not, List, [], ◌∷◌, ◌++◌, Bool, true, false, decimal, inl, inr, refl}
 use Rattle.std.proofs.Common.{subst, arith}
 use Rattle.std.specs.List.{All}
@@ -51,10 +52,7 @@ unfolding escape_byte
 low_escapes = refl
 
 escaped_byte : (x : ℕ) → IsOneLine (escape_byte x)
-escaped_byte x = elim (cases_lt x 128) [
-  | inl low ↦ tested _ (escape_below 128 low_escapes x low)
-  | inr high ↦ rw (escape_byte_plain x (λ e. omega arith) (λ e. omega arith) (omega arith)) (then x [] (λ e. omega arith) none)
-]
+escaped_byte x = grind (arith, nat_tests, cases_lt, tested, escape_below, low_escapes, escape_byte_plain, then)
 
 escaped : (s : List ℕ) → IsOneLine (escape s)
 escaped [] = none

@@ -1,13 +1,13 @@
 -- What is read of the text of a value: integers, words, lists and objects.
-use Rattle.std.proofs.Common.{◌≡◌, ℕ, suc, ◌<◌, ◌≤◌, ◌^◌, List, [], ◌∷◌, Bool, true, ◌&&◌, Some, All, IsUtf8, map, refl, ap, ◌∙◌, arith}
+use Rattle.std.proofs.lemmas.Bool.Decides.{nat_tests}
+use Rattle.std.proofs.Common.{◌≡◌, ℕ, suc, ◌<◌, ◌≤◌, ◌^◌, List, [], ◌∷◌, Bool, true, ◌&&◌, Some, All, IsUtf8, map, refl, arith}
 use Rattle.std.specs.List.{AllByRecursion}
-use Rattle.std.specs.Option.{option_map}
 use Rattle.std.proofs.Math.Nat.{max-le}
 use Rattle.std.proofs.lemmas.Bool.{and_parts, and_from}
 use Rattle.std.proofs.lemmas.List.Elements.{All-head, All-tail}
 use Rattle.json.specs.Tree as tree
 use Rattle.json.proofs.Printed.Utf8.{are_ascii, IsUtf8-are_ascii}
-use Rattle.serde_json.specs.Data.{Data, null, boolean, number, unsigned, string, array, object, Members, no_members, put}
+use Rattle.serde_json.specs.Data.{Data, null, boolean, number, unsigned, string, array, Members, no_members, put}
 use Rattle.serde_json.specs.Read.{of_json, of_items, of_members, read, max_depth}
 use Rattle.serde_json.specs.Written.{outline, items_outline, members_outline, compact_text}
 use Rattle.serde_json.proofs.Numbers.{number_of-decimal}
@@ -57,11 +57,7 @@ items_shallow n (d ∷ ds) h = max-le h.0.shallow (items_shallow n ds h.1)
 
 -- an array of values that are read back is read back, nested one deeper
 pub items_read : (n : ℕ) (ds : List Data) → AllByRecursion (IsReadable n) ds → IsReadable (suc n) (array (items_with ds))
-items_read n ds h = record {
-  text = items_text n ds h;
-  back = ap (option_map array) (items_back n ds h);
-  shallow = let within = items_shallow n ds h in omega (arith, within);
-}
+items_read n ds h = grind (arith, nat_tests, items_text, items_back, items_shallow)
 
 each_read : {A : Type 0} (n : ℕ) (P : A → Type 0) (f : A → Data) → ((x : A) → P x → IsReadable n (f x)) → (xs : List A) → All P xs
     → AllByRecursion (IsReadable n) (map f xs)
@@ -108,11 +104,7 @@ pub record IsKeyed (ms : List (List ℕ × Data)) : Type 0 where
 
 -- an object with rising keys and values that are read back is read back, nested one deeper
 pub object_read : (n : ℕ) (ms : List (List ℕ × Data)) → IsKeyed ms → AreReadable n ms → IsReadable (suc n) (object_with ms)
-object_read n ms keyed h = record {
-  text = members_text n ms keyed.ascii h;
-  back = ap (option_map object) (members_back n ms no_members h ∙ ap Some keyed.rising);
-  shallow = let within = members_shallow n ms h in omega (arith, within);
-}
+object_read n ms keyed h = grind (arith, nat_tests, members_text, members_back, members_shallow)
 
 -- the text is read as the value
 pub read_value : (n : ℕ) (d : Data) → n ≤ max_depth → IsReadable n d → read (compact_text d) ≡ Some d

@@ -1,6 +1,7 @@
 -- The text of a reply is that of its JSON value: of each fact, and so of all fields.
-use Rattle.std.proofs.Common.{◌≡◌, ◌≢◌, ℕ, ◌≤◌, List, [], ◌∷◌, ◌++◌, Bool, true, false, not, ◌&&◌, eqb, ltb, Option, None, Some, All, map, length, codes, inl}
-use Rattle.std.proofs.Common.{inr, refl, sym, ap, ◌∙◌, arith, append_assoc, lt-ltb, ltb-true}
+use Rattle.std.proofs.lemmas.Bool.Decides.{nat_tests}
+use Rattle.std.proofs.Common.{◌≡◌, ◌≢◌, ℕ, ◌≤◌, List, [], ◌∷◌, ◌++◌, Bool, true, false, not, ◌&&◌, eqb, ltb, Option, None, Some, All, map, length, codes}
+use Rattle.std.proofs.Common.{refl, sym, ap, ◌∙◌, arith, append_assoc, lt-ltb, ltb-true}
 use Rattle.std.specs.Prelude.{flat_map}
 use Rattle.std.specs.List.{AllByRecursion}
 use Rattle.std.proofs.lemmas.Bool.{and_parts, and_from, eq-eqb, ne_eqb, both_ways, not-true}
@@ -53,19 +54,12 @@ not_false : (b k : ℕ) → b ≢ k → not (eqb b k) ≡ true
 not_false b k h = ap not (ne_eqb b k h)
 
 plain_byte : (b : ℕ) → 32 ≤ b → b ≤ 122 → b ≢ 34 → b ≢ 92 → (ltb 31 b && (ltb b 128 && (not (eqb b 34) && not (eqb b 92)))) ≡ true
-plain_byte b low high quote slash =
-    and_from _ _ (lt-ltb 31 b (omega arith)) (and_from _ _ (lt-ltb b 128 (omega arith)) (and_from _ _ (not_false b 34 quote) (not_false b 92 slash)))
+plain_byte b low high quote slash = grind (arith, nat_tests, and_from, lt-ltb, not_false)
 
 -- a word of the bytes that names are made of is plain
 pub name_plain : (bs : List ℕ) → All IsNameByte bs → is_plain bs ≡ true
 name_plain [] all = refl
-name_plain (b ∷ bs) all =
-    let here : (ltb 31 b && (ltb b 128 && (not (eqb b 34) && not (eqb b 92)))) ≡ true = elim (All-head IsNameByte b bs all) [
-      | inl letter ↦ plain_byte b (omega arith) (omega arith) (λ e. omega arith) (λ e. omega arith)
-      | inr (inl digit) ↦ plain_byte b (omega arith) (omega arith) (λ e. omega arith) (λ e. omega arith)
-      | inr (inr hyphen) ↦ plain_byte b (omega arith) (omega arith) (λ e. omega arith) (λ e. omega arith)
-    ] in
-    and_from _ _ here (name_plain bs (All-tail IsNameByte b bs all))
+name_plain (b ∷ bs) all = grind (arith, nat_tests, All-head, plain_byte, and_from, All-tail, name_plain bs (All-tail IsNameByte b bs all))
 
 -- ---- the texts of one item
 
@@ -80,9 +74,7 @@ pointer_is ids (Some i) = refl
 kind_is : (k : Kind) → kind_text k ≡ compact_text (kind_value k)
 unfolding escape_byte
 kind_is kind.Update = refl
-kind_is kind.Marriage = refl
-kind_is kind.Seduction = refl
-kind_is kind.Abandonment = refl
+kind_is _ = refl
 
 kind_or_null_is : (k : Option Kind) → kind_or_null k ≡ compact_text (kind_or_null_value k)
 kind_or_null_is None = refl
@@ -102,25 +94,19 @@ privileged_is ids n = ap (λ t. codes "[" ++ (node_text ids n.0 ++ (codes "," ++
 
 open_link_is : (ids : List ℕ) (l : OpenLink) → open_link_text ids l ≡ compact_text (open_link_value ids l)
 unfolding open_link_text
-open_link_is ids l =
-    ap (λ t. codes "[" ++ (node_text ids l.a ++ (codes "," ++ (node_text ids l.b ++ (codes "," ++ (node_text ids l.node ++ (codes "," ++ (t ++ codes "]"))))))))
-    (kind_is l.kind)
+open_link_is ids l = grind (arith, nat_tests, kind_is)
 
 -- ---- lists, and what follows them
 
 later_items_are : {A : Type 0} (g : A → List ℕ) (f : A → Data) → ((x : A) → g x ≡ compact_text (f x)) → (xs : List A)
     → flat_map (λ t. 44 ∷ t) (map g xs) ++ 93 ∷ [] ≡ items_text true (items_with (map f xs))
 later_items_are g f same [] = refl
-later_items_are g f same (x ∷ xs) =
-    ap (λ t. 44 ∷ t) (append_assoc (g x) (flat_map (λ t. 44 ∷ t) (map g xs)) (93 ∷ []) ∙ ap (λ t. g x ++ t) (later_items_are g f same xs)
-    ∙ ap (λ t. t ++ items_text true (items_with (map f xs))) (same x))
+later_items_are g f same (x ∷ xs) = grind (arith, nat_tests, append_assoc, later_items_are g f same xs)
 
 items_are : {A : Type 0} (g : A → List ℕ) (f : A → Data) → ((x : A) → g x ≡ compact_text (f x)) → (xs : List A)
     → separated (map g xs) ++ 93 ∷ [] ≡ items_text false (items_with (map f xs))
 items_are g f same [] = refl
-items_are g f same (x ∷ xs) =
-    append_assoc (g x) (flat_map (λ t. 44 ∷ t) (map g xs)) (93 ∷ []) ∙ ap (λ t. g x ++ t) (later_items_are g f same xs)
-    ∙ ap (λ t. t ++ items_text true (items_with (map f xs))) (same x)
+items_are g f same (x ∷ xs) = grind (arith, nat_tests, append_assoc, later_items_are)
 
 items_then : {A : Type 0} (g : A → List ℕ) (f : A → Data) → ((x : A) → g x ≡ compact_text (f x)) → (xs : List A) (rest more : List ℕ) → rest ≡ more
     → separated (map g xs) ++ 93 ∷ rest ≡ items_text false (items_with (map f xs)) ++ more
@@ -147,11 +133,8 @@ quoted_is : (w rest : List ℕ) → is_plain w ≡ true → codes "\"" ++ (w ++ 
 quoted_is w rest h = ap (λ t. 34 ∷ t) (sym (append_assoc w (34 ∷ []) rest) ∙ ap (λ t. (t ++ 34 ∷ []) ++ rest) (sym (plain_escape w h)))
 
 fact_is : (ids : List ℕ) (f : Fact) (rest : List ℕ) → IsPlainFact f → fact_then ids f rest ≡ compact_text (fact_value ids f) ++ rest
-fact_is ids (fact.count n) rest h = refl
-fact_is ids (fact.clause n) rest h = refl
 fact_is ids (fact.word w) rest h = quoted_is w rest h
 fact_is ids (fact.truth b) rest h = ap (λ t. t ++ rest) (truth_is b)
-fact_is ids (fact.node i) rest h = refl
 fact_is ids (fact.pointer p) rest h = ap (λ t. t ++ rest) (pointer_is ids p)
 fact_is ids (fact.rule k) rest h = ap (λ t. t ++ rest) (kind_is k)
 fact_is ids (fact.rule_or_null k) rest h = ap (λ t. t ++ rest) (kind_or_null_is k)
@@ -161,6 +144,7 @@ fact_is ids (fact.near ns) rest h = list_is (near_text ids) (near_value ids) (ne
 fact_is ids (fact.pairs ps) rest h = list_is (pair_text ids) (pair_value ids) (pair_is ids) ps rest
 fact_is ids (fact.privileged ns) rest h = list_is (privileged_text ids) (privileged_value ids) (privileged_is ids) ns rest
 fact_is ids (fact.open_links ls) rest h = list_is (open_link_text ids) (open_link_value ids) (open_link_is ids) ls rest
+fact_is ids _ rest h = refl
 
 -- the text of plain fields is that of their members in JSON
 pub fields_are : (ids : List ℕ) (later : Bool) (fs : Fields) → ArePlain fs

@@ -1,6 +1,7 @@
 -- The text of a reply is read as the value that it spells, and is one line.
-use Rattle.std.proofs.Common.{◌≡◌, ◌≢◌, ℕ, ◌<◌, List, [], ◌∷◌, Bool, true, false, ◌&&◌, Option, None, Some, IfSome, All, codes, length, nat_lt, refl, sym, ap}
-use Rattle.std.proofs.Common.{◌∙◌, arith, ltb-true, lit≤, subst, slice_index, zero-add}
+use Rattle.std.proofs.lemmas.Bool.Decides.{nat_tests}
+use Rattle.std.proofs.Common.{◌≡◌, ◌≢◌, ℕ, ◌<◌, List, [], ◌∷◌, Bool, true, false, ◌&&◌, Option, None, Some, IfSome, All, codes, length, nat_lt, refl, ap}
+use Rattle.std.proofs.Common.{◌∙◌, arith, ltb-true, lit≤, slice_index, zero-add}
 use Rattle.std.specs.List.{AllByRecursion, range_with_len}
 use Rattle.std.specs.Ordering.{nat_cmp, is_lt}
 use Rattle.std.specs.Cmp.Lexicographic.{slice_cmp}
@@ -16,7 +17,7 @@ use Rattle.mml_rules.specs.declared.regs.Regs.{Regs}
 use Rattle.mml_rules.specs.declared.rule.Kind.{Kind}
 use Rattle.mml_rules.specs.declared.rule.Kind.TheVariants as kind
 use Rattle.mml_lab.specs.declared.who.Who.{Who}
-use Rattle.mml_lab.specs.Rosters.{RosterValue, IsRoster, IsPrincipal, is_name, is_key, name_of, key_of}
+use Rattle.mml_lab.specs.Rosters.{RosterValue, IsRoster, IsPrincipal, name_of}
 use Rattle.mml_lab.proofs.FormLemmas.{name-means}
 use Rattle.mml_policy.specs.About.{IsNear}
 use Rattle.mml_policy.specs.declared.denial.Denial.{Denial}
@@ -54,48 +55,30 @@ kind_or_null_read n (Some k) = kind_read n k
 
 -- the ranks of a set's nodes
 below : (n : ℕ) → All (λ i. i < n) (range_with_len 0 n)
-below n = All-from_get_or (λ i. i < n) (range_with_len 0 n) 0 (λ i l.
-    let within : i < n = subst (λ (m : ℕ). i < m) (length-range_with_len 0 n) l in
-    subst (λ (m : ℕ). m < n) (sym (get_or-range_with_len 0 n i 0 within ∙ zero-add i)) within)
+below n = grind (arith, nat_tests, All-from_get_or, length-range_with_len, get_or-range_with_len, zero-add)
 
 members_below : (n : ℕ) (s : FinSet nat_cmp) → All (λ i. i < n) (members n s)
 members_below n s = All-filter (set.contains s) (λ i. i < n) (range_with_len 0 n) (below n)
 
 -- it is about nodes of the lab
 abbrev IsFactOf : List ℕ → Fact → Type 0
-IsFactOf ids (fact.count n) = Unit {0}
 IsFactOf ids (fact.clause n) = nat_lt n 128 ≡ true
 IsFactOf ids (fact.word w) = is_plain w ≡ true
-IsFactOf ids (fact.truth b) = Unit {0}
 IsFactOf ids (fact.node i) = i < length ids
 IsFactOf ids (fact.pointer p) = IfSome p (λ j. j < length ids)
-IsFactOf ids (fact.rule k) = Unit {0}
-IsFactOf ids (fact.rule_or_null k) = Unit {0}
-IsFactOf ids (fact.moved s) = Unit {0}
 IsFactOf ids (fact.nodes is) = All (λ i. i < length ids) is
 IsFactOf ids (fact.near ns) = All (IsNear ids) ns
 IsFactOf ids (fact.pairs ps) = All (IsPairOf (length ids)) ps
 IsFactOf ids (fact.privileged ns) = All (λ n. n.0 < length ids) ns
 IsFactOf ids (fact.open_links ls) = All (IsOpenLinkOf (length ids)) ls
+IsFactOf ids _ = Unit {0}
 
 abbrev AreFactsOf : List ℕ → Fields → Type 0
 AreFactsOf ids fs = AllByRecursion (λ f. IsFactOf ids f.1) fs
 
 plain_fact : (ids : List ℕ) (f : Fact) → IsFactOf ids f → IsPlainFact f
 plain_fact ids (fact.word w) h = h
-plain_fact ids (fact.count n) h = tt
-plain_fact ids (fact.clause n) h = tt
-plain_fact ids (fact.truth b) h = tt
-plain_fact ids (fact.node i) h = tt
-plain_fact ids (fact.pointer p) h = tt
-plain_fact ids (fact.rule k) h = tt
-plain_fact ids (fact.rule_or_null k) h = tt
-plain_fact ids (fact.moved s) h = tt
-plain_fact ids (fact.nodes is) h = tt
-plain_fact ids (fact.near ns) h = tt
-plain_fact ids (fact.pairs ps) h = tt
-plain_fact ids (fact.privileged ns) h = tt
-plain_fact ids (fact.open_links ls) h = tt
+plain_fact ids _ h = tt
 
 module _ (ids : List ℕ) (table : IsTable ids) where
   node_read : (n i : ℕ) → i < length ids → IsReadable n (node_value ids i)
@@ -177,13 +160,7 @@ near_rises : (ids : List ℕ) (n : ℕ × Regs) → has_rising_keys (near_value 
 near_rises ids n = rw (pointer_rises ids n.1.p) refl
 
 fact_rises : (ids : List ℕ) (f : Fact) → has_rising_keys (fact_value ids f) ≡ true
-fact_rises ids (fact.count n) = refl
-fact_rises ids (fact.clause n) = refl
-fact_rises ids (fact.word w) = refl
-fact_rises ids (fact.truth b) = refl
-fact_rises ids (fact.node i) = refl
 fact_rises ids (fact.pointer p) = pointer_rises ids p
-fact_rises ids (fact.rule k) = refl
 fact_rises ids (fact.rule_or_null k) = kind_or_null_rises k
 fact_rises ids (fact.moved s) = items_rise (node_value ids) (λ i. refl) (members (length ids) s)
 fact_rises ids (fact.nodes is) = items_rise (node_value ids) (λ i. refl) is
@@ -191,6 +168,7 @@ fact_rises ids (fact.near ns) = items_rise (near_value ids) (near_rises ids) ns
 fact_rises ids (fact.pairs ps) = items_rise (pair_value ids) (λ p. refl) ps
 fact_rises ids (fact.privileged ns) = items_rise (privileged_value ids) (λ n. refl) ns
 fact_rises ids (fact.open_links ls) = items_rise (open_link_value ids) (λ l. refl) ls
+fact_rises ids _ = refl
 
 same_first : (ids : List ℕ) (k : List ℕ) (fs : Fields) → comes_before k fs ≡ true → comes_first k (members_with (keys_of ids fs)) ≡ true
 same_first ids k [] h = refl
@@ -218,31 +196,14 @@ has_plain_words d = nat_lt (clause_of d) 128 && (is_plain (denials.denial_name d
 
 plain_words : (d : Denial) → has_plain_words d ≡ true
 plain_words denial.NotGreeted = refl
-plain_words denial.Greeted = refl
-plain_words denial.Unknown = refl
-plain_words denial.Hidden = refl
-plain_words denial.NotOwner = refl
-plain_words (denial.Stale at) = refl
-plain_words denial.Chosen = refl
-plain_words denial.Guard = refl
-plain_words denial.NotTeacher = refl
-plain_words denial.Empty = refl
-plain_words denial.NoNode = refl
-plain_words denial.BadRegister = refl
-plain_words denial.Loop = refl
-plain_words denial.Linked = refl
-plain_words denial.NotLinked = refl
-plain_words denial.NotChosen = refl
+plain_words _ = refl
 
 plain_refusal : (q : Refused) → is_plain (refusal_name q) ≡ true
 plain_refusal refused.Malformed = refl
-plain_refusal refused.Full = refl
-plain_refusal refused.Journal = refl
-plain_refusal refused.Memory = refl
+plain_refusal _ = refl
 
 plain_name : (r : RosterValue) (who : Who) → IsRoster r → IsPrincipal r who → is_plain (name_of r who) ≡ true
-plain_name r who roster is =
-    name_plain (name_of r who) ((name-means (name_of r who)).0 (and_parts (is_name (name_of r who)) (is_key (key_of r who)) (roster.formed who is)).0).bytes
+plain_name r who roster is = grind (arith, nat_tests, name_plain, name-means, and_parts)
 
 module _ (ids : List ℕ) (r : RosterValue) (roster : IsRoster r) where
   number_facts : (o : Option ℕ) (fs : Fields) → AreFactsOf ids fs → AreFactsOf ids (number_first o fs)
@@ -250,10 +211,7 @@ module _ (ids : List ℕ) (r : RosterValue) (roster : IsRoster r) where
   number_facts (Some at) fs h = (tt, h)
 
   deny_facts : (d : Denial) → AreFactsOf ids (fields_of r (replies.Deny d))
-  deny_facts d =
-      let plain = and_parts (nat_lt (clause_of d) 128) (is_plain (denials.denial_name d) && is_plain (text_of d)) (plain_words d) in
-      let words = and_parts (is_plain (denials.denial_name d)) (is_plain (text_of d)) plain.1 in
-      number_facts (current_number d) (told_fields (clause_of d) (denials.denial_name d) (text_of d)) (plain.0, (words.0, (words.1, tt)))
+  deny_facts d = grind (arith, nat_tests, and_parts, is_plain, plain_words, number_facts)
 
   facts_of : (q : Reply) → IsAbout ids r q → AreFactsOf ids (fields_of r q)
   facts_of (replies.Hello who) about = (refl, (plain_name r who roster about, tt))

@@ -1,10 +1,10 @@
 -- What is asked: a word of no row asks nothing, and a value asks a request exactly where it has its fields.
-use Rattle.std.proofs.Common.{◌≡◌, ℕ, List, [], ◌∷◌, Bool, true, false, cond, codes, bytes_eq, Option, None, Some, option_map, refl, ap, ◌∙◌, sym, subst}
+use Rattle.std.proofs.lemmas.Bool.Decides.{nat_tests}
+use Rattle.std.proofs.Common.{◌≡◌, ℕ, List, [], ◌∷◌, Bool, true, false, cond, codes, bytes_eq, Option, None, Some, option_map, refl, ap, ◌∙◌, subst, arith, arith, arith, arith, arith}
 use Rattle.std.proofs.lemmas.Option.{same_Some, option_and_then_some}
 use Rattle.std.proofs.lemmas.Slice.Eq.{bytes_eq-Decides}
-use Rattle.serde_json.specs.Data.{Data, null, boolean, number, string, array, object}
+use Rattle.serde_json.specs.Data.{Data, number}
 use Rattle.serde_json.specs.Find.{get, as_number, as_u64}
-use Rattle.mml_rules.specs.declared.rule.Kind.TheVariants as kind
 use Rattle.mml_board.specs.Vocabulary as verb
 use Rattle.mml_board.specs.Vocabulary.{rule_name}
 use Rattle.mml_plain.specs.LookUps.{◌>>=◌, text_at, number_at, truth_at, register_at, as_register}
@@ -32,19 +32,7 @@ pub no_word : (w : List ℕ) (d : Data) → (w ≡ verb.hello → ⊥) → (w �
     → (w ≡ verb.move.asked → ⊥) → (w ≡ verb.close.asked → ⊥) → (w ≡ verb.fault.asked → ⊥) → (w ≡ verb.link.asked → ⊥)
     → (w ≡ verb.cut.asked → ⊥) → (w ≡ verb.release.asked → ⊥) → (w ≡ verb.report → ⊥) → by_word w d ≡ None
 unfolding by_word
-no_word w d hello bye see look move close fault link cut release report = rw (
-  differ w verb.hello hello,
-  differ w verb.bye bye,
-  differ w verb.see see,
-  differ w verb.look look,
-  differ w verb.move.asked move,
-  differ w verb.close.asked close,
-  differ w verb.fault.asked fault,
-  differ w verb.link.asked link,
-  differ w verb.cut.asked cut,
-  differ w verb.release.asked release,
-  differ w verb.report report,
-)
+no_word w d hello bye see look move close fault link cut release report = grind (arith, nat_tests, differ)
 
 -- ---- registers
 
@@ -53,22 +41,12 @@ held None n h = absurd cc
 held (Some m) n h = same_Some (Some m) (Some n) h
 
 number_held : (o : Option Data) (n : ℕ) → (o >>= as_register) ≡ Some (Some n) → (o >>= λ v. as_number v >>= as_u64) ≡ Some n
-number_held None n h = absurd cc
 number_held (Some (number k)) n h = held (as_u64 k) n h
-number_held (Some null) n h = absurd cc
-number_held (Some (boolean b)) n h = absurd cc
-number_held (Some (string s)) n h = absurd cc
-number_held (Some (array ds)) n h = absurd cc
-number_held (Some (object ms)) n h = absurd cc
+number_held _ n h = absurd cc
 
 register_held : (o : Option Data) (n : ℕ) → (o >>= λ v. as_number v >>= as_u64) ≡ Some n → (o >>= as_register) ≡ Some (Some n)
-register_held None n h = absurd cc
 register_held (Some (number k)) n h = ap (option_map Some) h
-register_held (Some null) n h = absurd cc
-register_held (Some (boolean b)) n h = absurd cc
-register_held (Some (string s)) n h = absurd cc
-register_held (Some (array ds)) n h = absurd cc
-register_held (Some (object ms)) n h = absurd cc
+register_held _ n h = absurd cc
 
 -- ---- what asks a request has its fields
 
@@ -87,18 +65,7 @@ HasRule d rule = (text_at (codes "rule") d ≡ Some (rule_word rule)) × HasEach
 
 rule_there : (d : Data) (rule : Asked) → asked_at d ≡ Some rule → HasRule d rule
 unfolding asked_at
-rule_there d rule h = option_and_then_some _ (text_at (codes "rule") d) rule h (λ w at by.
-    let word : (v : List ℕ) → bytes_eq w v ≡ true → text_at (codes "rule") d ≡ Some v = λ v is. at ∙ ap Some ((bytes_eq-Decides w v).0 is) in
-    which (bytes_eq w (rule_name kind.Update)) _ _ _ by (λ is q. subst (HasRule d) (same_Some asked.Update rule q) (word _ is, tt)) (λ by.
-    which (bytes_eq w (rule_name kind.Marriage)) _ _ _ by (λ is q. with_partner (number_at (codes "with") d) refl (word _ is) q) (λ by.
-    which (bytes_eq w (rule_name kind.Seduction)) _ _ _ by (λ is q. subst (HasRule d) (same_Some asked.Seduction rule q) (word _ is, tt)) (λ by.
-    which (bytes_eq w (rule_name kind.Abandonment)) _ _ _ by (λ is q. subst (HasRule d) (same_Some asked.Abandonment rule q) (word _ is, tt)) (λ by.
-    absurd cc)))))
-  where
-    with_partner : (o : Option ℕ) → number_at (codes "with") d ≡ o → text_at (codes "rule") d ≡ Some (rule_name kind.Marriage)
-        → option_map asked.Marriage o ≡ Some rule → HasRule d rule
-    with_partner None at word q = absurd cc
-    with_partner (Some j) at word q = subst (HasRule d) (same_Some (asked.Marriage j) rule q) (word, (at, tt))
+rule_there d rule h = grind (arith, nat_tests, option_and_then_some, bytes_eq-Decides, which, same_Some)
 
 register_there : (d : Data) (p : Option ℕ) → register_at (codes "p") d ≡ Some p → Has d (codes "p", register p)
 register_there d None h = h
@@ -106,27 +73,20 @@ register_there d (Some n) h = number_held (get (codes "p") d) n h
 
 hello_there : (d : Data) (r : Request) → Has d (asks verb.hello) → hello_of d ≡ Some r → Asks d r
 unfolding hello_of
-hello_there d r word h = option_and_then_some _ (text_at (codes "name") d) r h (λ name named more.
-    option_and_then_some _ (text_at (codes "key") d) r more (λ key keyed last. only d (requests.Hello name key) r last (word, (keyed, (named, tt)))))
+hello_there d r word h = grind (arith, nat_tests, option_and_then_some, only)
 
 node_there : (d : Data) (v : List ℕ) (c : ℕ → Command) (r : Request) → ((n : ℕ) → fields_of (requests.Do (c n)) ≡ asks v ∷ (codes "node", field.number n) ∷ [])
     → Has d (asks v) → node_of c d ≡ Some r → Asks d r
-node_there d v c r spelt word h = option_and_then_some _ (number_at (codes "node") d) r h (λ n at last.
-    only d (requests.Do (c n)) r last (subst (HasEach d) (sym (spelt n)) (word, (at, tt))))
+node_there d v c r spelt word h = grind (arith, nat_tests, option_and_then_some, only)
 
 ends_there : (d : Data) (v : List ℕ) (c : ℕ → ℕ → Command) (r : Request)
     → ((a b : ℕ) → fields_of (requests.Do (c a b)) ≡ (codes "a", field.number a) ∷ (codes "b", field.number b) ∷ asks v ∷ [])
     → Has d (asks v) → ends_of c d ≡ Some r → Asks d r
-ends_there d v c r spelt word h = option_and_then_some _ (number_at (codes "a") d) r h (λ a at more.
-    option_and_then_some _ (number_at (codes "b") d) r more (λ b bt last.
-    only d (requests.Do (c a b)) r last (subst (HasEach d) (sym (spelt a b)) (at, (bt, (word, tt))))))
+ends_there d v c r spelt word h = grind (arith, nat_tests, option_and_then_some, only)
 
 move_there : (d : Data) (r : Request) → Has d (asks verb.move.asked) → move_of d ≡ Some r → Asks d r
 unfolding move_of
-move_there d r word h = option_and_then_some _ (number_at (codes "node") d) r h (λ n is more.
-    option_and_then_some _ (number_at (codes "at") d) r more (λ at now more'. option_and_then_some _ (asked_at d) r more' (λ rule ruled last.
-    let there = rule_there d rule ruled in
-    only d (requests.Do (command.Move n rule at)) r last (now, (word, (is, (there.0, there.1)))))))
+move_there d r word h = grind (arith, nat_tests, option_and_then_some, rule_there, only)
 
 fault_there : (d : Data) (r : Request) → Has d (asks verb.fault.asked) → fault_of d ≡ Some r → Asks d r
 unfolding fault_of
@@ -155,10 +115,8 @@ asked_there d r h = option_and_then_some _ (text_at (codes "do") d) r h (λ w at
 
 rule_asked : (d : Data) (rule : Asked) → HasRule d rule → asked_at d ≡ Some rule
 unfolding asked_at
-rule_asked d asked.Update h = rw (h.0)
 rule_asked d (asked.Marriage j) h = rw (h.0, h.1.0)
-rule_asked d asked.Seduction h = rw (h.0)
-rule_asked d asked.Abandonment h = rw (h.0)
+rule_asked d _ h = rw (h.0)
 
 register_named : (d : Data) (p : Option ℕ) → Has d (codes "p", register p) → register_at (codes "p") d ≡ Some p
 register_named d None h = h
@@ -167,13 +125,11 @@ register_named d (Some n) h = register_held (get (codes "p") d) n h
 pub there_asked : (d : Data) (r : Request) → HasEach d (fields_of r) → request d ≡ Some r
 unfolding request by_word hello_of move_of fault_of
 there_asked d (requests.Hello name key) h = rw (h.0, h.1.1.0, h.1.0)
-there_asked d requests.Bye h = rw (h.0)
 there_asked d (requests.Do (command.See n)) h = rw (h.0, h.1.0)
 there_asked d (requests.Do (command.Look n)) h = rw (h.0, h.1.0)
 there_asked d (requests.Do (command.Move n rule at)) h = rw (h.1.0, h.1.1.0, h.0, rule_asked d rule (h.1.1.1.0, h.1.1.1.1))
-there_asked d (requests.Do command.Close) h = rw (h.0)
 there_asked d (requests.Do (command.Fault n p m)) h = rw (h.0, h.1.1.0, register_named d p h.1.1.1.0, h.1.0)
 there_asked d (requests.Do (command.Link a b)) h = rw (h.1.1.0, h.0, h.1.0)
 there_asked d (requests.Do (command.Cut a b)) h = rw (h.1.1.0, h.0, h.1.0)
 there_asked d (requests.Do (command.Release n)) h = rw (h.0, h.1.0)
-there_asked d (requests.Do command.Report) h = rw (h.0)
+there_asked d _ h = rw (h.0)

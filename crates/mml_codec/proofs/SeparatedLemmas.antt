@@ -1,7 +1,8 @@
 -- Texts with commas between them, made one by one.
-use Rattle.std.proofs.Common.{◌≡◌, ℕ, ◌+◌, ◌<◌, List, [], ◌∷◌, ◌++◌, length, map, take, get_or, true, false, sym, ap, ◌∙◌, refl, append-nil}
+use Rattle.std.proofs.lemmas.Bool.Decides.{nat_tests}
+use Rattle.std.proofs.lemmas.Grind.{common_steps}
+use Rattle.std.proofs.Common.{◌≡◌, ℕ, ◌+◌, ◌<◌, List, [], ◌∷◌, ◌++◌, length, map, take, get_or, true, false, sym, ap, ◌∙◌, refl, append-nil, arith, arith, arith}
 use Rattle.std.proofs.Common.{append_assoc}
-use Rattle.std.specs.Prelude.{flat_map}
 use Rattle.std.specs.Ordering.{nat_cmp}
 use Rattle.std.specs.FinSet as set
 use Rattle.std.specs.FinSet.{FinSet}
@@ -21,9 +22,7 @@ comma_after-more (y ∷ ys) x = refl
 
 separated-more : (xs : List (List ℕ)) (x : List ℕ) → separated (xs ++ x ∷ []) ≡ separated xs ++ (comma_after xs ++ x)
 separated-more [] x = append-nil x
-separated-more (y ∷ ys) x =
-    ap (λ t. y ++ t) (flat_map-append (λ t. 44 ∷ t) ys (x ∷ []) ∙ ap (λ t. flat_map (λ t. 44 ∷ t) ys ++ t) (append-nil (44 ∷ x)))
-    ∙ sym (append_assoc y (flat_map (λ t. 44 ∷ t) ys) (44 ∷ x))
+separated-more (y ∷ ys) x = grind (arith, nat_tests, flat_map-append, append-nil, append_assoc)
 
 -- the identifiers of the set's ranks below n, as texts
 abbrev pub texts : List ℕ → FinSet nat_cmp → ℕ → List (List ℕ)
@@ -31,9 +30,7 @@ texts ids s n = map (node_text ids) (members n s)
 
 -- a rank in the set has a comma come before the next text
 pub comma_with : (ids : List ℕ) (s : FinSet nat_cmp) (n i : ℕ) → i ≡ n → set.contains s i ≡ true → 44 ∷ [] ≡ comma_after (texts ids s (n + 1))
-comma_with ids s n i e h =
-    sym (ap comma_after (passing_with (set.contains s) (node_text ids) n (ap (set.contains s) (sym e) ∙ h))
-    ∙ comma_after-more (texts ids s n) (node_text ids n))
+comma_with ids s n i e h = grind (arith, nat_tests, passing_with, comma_after-more)
 
 -- a rank that isn't in the set leaves the comma before the next text as it is
 pub comma_without : (ids : List ℕ) (s : FinSet nat_cmp) (n i : ℕ) (comma : List ℕ) → i ≡ n → set.contains s i ≡ false → comma ≡ comma_after (texts ids s n)
@@ -44,35 +41,22 @@ comma_without ids s n i comma e h so_far = so_far ∙ sym (ap comma_after (passi
 pub text_with : (ids : List ℕ) (s : FinSet nat_cmp) (n i : ℕ) (start held put comma : List ℕ) → i ≡ n → set.contains s i ≡ true
     → comma ≡ comma_after (texts ids s n) → held ≡ start ++ separated (texts ids s n) → put ≡ held ++ (comma ++ node_text ids i)
     → put ≡ start ++ separated (texts ids s (n + 1))
-text_with ids s n i start held put comma e h comma_is so_far more =
-    let one : comma ++ node_text ids i ≡ comma_after (texts ids s n) ++ node_text ids n =
-    ap (λ k. comma ++ node_text ids k) e ∙ ap (λ t. t ++ node_text ids n) comma_is in
-    more ∙ ap (λ t. held ++ t) one ∙ ap (λ t. t ++ (comma_after (texts ids s n) ++ node_text ids n)) so_far
-    ∙ append_assoc start (separated (texts ids s n)) (comma_after (texts ids s n) ++ node_text ids n)
-    ∙ ap (λ t. start ++ t) (sym (ap separated (passing_with (set.contains s) (node_text ids) n (ap (set.contains s) (sym e) ∙ h))
-    ∙ separated-more (texts ids s n) (node_text ids n)))
+text_with ids s n i start held put comma e h comma_is so_far more = grind (arith, nat_tests, append_assoc, passing_with, separated-more)
 
 -- a rank that isn't in the set leaves the text as it is
 pub text_without : (ids : List ℕ) (s : FinSet nat_cmp) (n i : ℕ) (start held : List ℕ) → i ≡ n → set.contains s i ≡ false
     → held ≡ start ++ separated (texts ids s n) → held ≡ start ++ separated (texts ids s (n + 1))
-text_without ids s n i start held e h so_far =
-    so_far ∙ ap (λ t. start ++ t) (sym (ap separated (passing_without (set.contains s) (node_text ids) n (ap (set.contains s) (sym e) ∙ h))))
+text_without ids s n i start held e h so_far = grind (arith, nat_tests, passing_without)
 
 -- one more of a list
 pub comma_more : {X : Type 0} (f : X → List ℕ) (xs : List X) (i : ℕ) (d : X) → i < length xs → 44 ∷ [] ≡ comma_after (map f (take (i + 1) xs))
-comma_more f xs i d h =
-    sym (ap (λ ys. comma_after (map f ys)) (take_more xs i d h) ∙ ap comma_after (map-append f (take i xs) (get_or xs i d ∷ []))
-    ∙ comma_after-more (map f (take i xs)) (f (get_or xs i d)))
+comma_more f xs i d h = grind (arith, nat_tests, take_more, map-append, comma_after-more)
 
 -- a comma, where one is due, and the text of the next element go behind the texts so far
 pub text_more : {X : Type 0} (f : X → List ℕ) (xs : List X) (i : ℕ) (d : X) (start held put comma : List ℕ) → i < length xs
     → comma ≡ comma_after (map f (take i xs)) → held ≡ start ++ separated (map f (take i xs)) → put ≡ held ++ (comma ++ f (get_or xs i d))
     → put ≡ start ++ separated (map f (take (i + 1) xs))
-text_more f xs i d start held put comma h comma_is so_far more =
-    more ∙ ap (λ t. held ++ (t ++ f (get_or xs i d))) comma_is ∙ ap (λ t. t ++ (comma_after (map f (take i xs)) ++ f (get_or xs i d))) so_far
-    ∙ append_assoc start (separated (map f (take i xs))) (comma_after (map f (take i xs)) ++ f (get_or xs i d))
-    ∙ ap (λ t. start ++ t) (sym (ap (λ ys. separated (map f ys)) (take_more xs i d h) ∙ ap separated (map-append f (take i xs) (get_or xs i d ∷ []))
-    ∙ separated-more (map f (take i xs)) (f (get_or xs i d))))
+text_more f xs i d start held put comma h comma_is so_far more = grind (arith, common_steps, nat_tests, append_assoc, take_more, map-append, separated-more)
 
 -- a comma, where one is due, and then a text
 pub with_comma_put : (held comma now taken text : List ℕ) → now ≡ taken ++ comma → taken ++ comma ≡ held ++ comma → now ++ text ≡ held ++ (comma ++ text)

@@ -1,4 +1,6 @@
 -- A compact text, read member by member, spells the tokens that are printed as it.
+use Rattle.std.proofs.lemmas.Bool.Decides.{nat_tests}
+use Rattle.std.proofs.lemmas.Grind.{common_steps}
 use Rattle.std.proofs.Common.{◌≡◌, ℕ, suc, ◌+◌, ◌-◌, ◌<◌, List, [], ◌∷◌, ◌++◌, length, take, get_or, Bool, true, false, fold, map, not, ◌==◌, Some, option_and_then}
 use Rattle.std.proofs.Common.{refl, sym, ap, inl, ◌∙◌, subst, append_assoc, length-append, decimal, ◌^◌}
 use Rattle.std.proofs.Common.{arith, drop, ◌≢◌, ltb-true, ◌≤◌, ◌*◌, ◌/◌, ◌%◌, option_map, nat_lt}
@@ -76,10 +78,7 @@ grouped a b c rest = simp append_assoc
 spaced_append : (c : Bool) (ps qs : SpacedTokens) → print_spaced c (ps ++ qs) ≡ print_spaced c ps ++ print_spaced (fold (λ _ t. ends t) c (told ps)) qs
 unfolding print_spaced
 spaced_append c [] qs = refl
-spaced_append c (p ∷ ps) qs =
-    ap (λ l. separator c p.1 ++ (p.0 ++ (token_text p.1 ++ l))) (spaced_append (ends p.1) ps qs)
-    ∙ ap (λ l. separator c p.1 ++ l) (grouped p.0 (token_text p.1) (print_spaced (ends p.1) ps) _)
-    ∙ sym (append_assoc (separator c p.1) _ _)
+spaced_append c (p ∷ ps) qs = grind (arith, grouped, append_assoc, spaced_append (ends p.1) ps qs)
 
 spaced_close : (c : Bool) (ts : List Token) → print_spaced c (close [] ts) ≡ print_from c ts
 unfolding print_spaced print_from
@@ -202,11 +201,7 @@ module _ (line rest more k : List ℕ) (v : MemberValue) (found : Members) (m : 
   goes_on : (n : ℕ) (ts : List Token) → members_at 126 no_members ((b.begun.turns + 1) + n) (told us ++ ts) ≡ members_at 126 (put k m.value.datum found) n ts
   goes_on n ts =
       let counted : (b.begun.turns + 1) + n ≡ b.begun.turns + suc n = omega arith in
-      let parted : told us ++ ts ≡ told b.us ++ (Token.key k ∷ first ∷ (others ++ ts)) =
-      ap (λ l. l ++ ts) said ∙ append_assoc (told b.us) (Token.key k ∷ first ∷ others) ts in
-      ap (λ c. members_at 126 no_members c (told us ++ ts)) counted ∙ ap (members_at 126 no_members (b.begun.turns + suc n)) parted
-      ∙ b.begun.members (suc n) (Token.key k ∷ first ∷ (others ++ ts)) ∙ members_suc 126 found n (Token.key k ∷ first ∷ (others ++ ts))
-      ∙ ap (option_and_then (λ p. members_at 126 (put k p.0 found) n p.1)) (m.value.value ts)
+      grind (arith, nat_tests, said, append_assoc, members_suc)
 
   more_begun : Begun us (put k m.value.datum found)
   unfolding ArePrintable
@@ -272,12 +267,7 @@ key_is text a b k rest one two h three = grind (arith, quoted_is, append_assoc)
 
 pub digit_next : (xs : List ℕ) (i d n digit : ℕ) → i < length xs → take i xs ≡ decimal n → get_or xs i d ≡ 48 + digit → digit < 10 → 1 ≤ n → n < 1000000000000000000
     → take (i + 1) xs ≡ decimal (n * 10 + digit)
-digit_next xs i d n digit h was here one some few =
-    let front : (n * 10 + digit) / 10 ≡ n = omega arith in
-    let last : (n * 10 + digit) % 10 ≡ digit = omega arith in
-    take_more xs i d h ∙ ap (λ t. t ++ get_or xs i d ∷ []) was ∙ ap (λ b. decimal n ++ b ∷ []) here
-    ∙ sym (decimal_step (n * 10 + digit) (omega arith) (omega arith) ∙ ap (λ m. decimal m ++ (48 + (n * 10 + digit) % 10) ∷ []) front
-    ∙ ap (λ m. decimal n ++ (48 + m) ∷ []) last)
+digit_next xs i d n digit h was here one some few = grind (arith, common_steps, nat_tests, take_more, decimal_step)
 
 pub digit_first : (xs : List ℕ) (d digit : ℕ) → 0 < length xs → get_or xs 0 d ≡ 48 + digit → digit < 10 → take 1 xs ≡ decimal digit
 digit_first xs d digit h here one = take_more xs 0 d h ∙ ap (λ b. b ∷ []) here ∙ sym (decimal_digit digit one)
@@ -379,21 +369,7 @@ no_members_value text rest e = record {
 
 -- a member with such a key
 pub known_key : (text in_key rest : List ℕ) (old new : Fields) → BeginsQuoted text in_key → PutsKnown in_key rest old new → PutsMember text rest old new
-known_key text in_key rest old new quoted known = record {
-  key = known.key;
-  value = known.value;
-  member = record {
-    at_key = quoted.at_quote;
-    spaced = quoted.spaced;
-    key_utf8 = bare_utf8 known.key known.is_bare_key;
-    after_key = known.after_key;
-    key = key_is quoted.at_quote in_key (58 ∷ known.after_key) known.key known.after_key quoted.quote known.key_first known.is_bare_key refl;
-    at_value = known.named.at_value;
-    spaced_value = known.named.spaced_value;
-    value = known.named.value;
-  };
-  put = known.put;
-}
+known_key text in_key rest old new quoted known = search (arith, bare_utf8, key_is)
 
 -- ---- four bytes at once
 
