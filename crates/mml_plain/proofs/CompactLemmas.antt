@@ -1,9 +1,9 @@
 -- A compact text, read member by member, spells the tokens that are printed as it.
 use Rattle.std.proofs.lemmas.Bool.Decides.{nat_tests}
 use Rattle.std.proofs.lemmas.Grind.{common_steps}
-use Rattle.std.proofs.Common.{◌≡◌, ℕ, suc, ◌+◌, ◌-◌, ◌<◌, List, [], ◌∷◌, ◌++◌, length, take, get_or, Bool, true, false, fold, map, not, ◌==◌, Some, option_and_then}
+use Rattle.std.proofs.Common.{◌≡◌, ℕ, suc, ◌+◌, ◌-◌, ◌<◌, List, [], ◌∷◌, ◌++◌, length, take, get_or, Bool, true, false, fold, map, not, ◌==◌, Some}
 use Rattle.std.proofs.Common.{refl, sym, ap, inl, ◌∙◌, subst, append_assoc, length-append, decimal, ◌^◌}
-use Rattle.std.proofs.Common.{arith, drop, ◌≢◌, ltb-true, ◌≤◌, ◌*◌, ◌/◌, ◌%◌, option_map, nat_lt}
+use Rattle.std.proofs.Common.{arith, drop, ◌≢◌, ltb-true, ◌≤◌, ◌*◌, option_map, nat_lt}
 use Rattle.std.specs.Str.{IsUtf8}
 use Rattle.std.proofs.lemmas.Bool.{and_parts, and_from, eq-eqb, both_ways, not-true}
 use Rattle.std.proofs.lemmas.List.{take_more, take_all}
@@ -20,16 +20,17 @@ use Rattle.json.specs.Token.{Token}
 use Rattle.json.specs.Lex.{tokens}
 use Rattle.json.specs.Print.{escape, token_text, ends, separator, print_from, ArePrintable}
 use Rattle.json.specs.Spaced.{AreGaps, print_spaced}
-use Rattle.serde_json.specs.Data.{boolean, number, unsigned, string, array, object, no_items, Members, no_members, put}
+use Rattle.serde_json.specs.Data.{Data, boolean, number, unsigned, string, array, object, no_items, Members, no_members, put}
 use Rattle.serde_json.specs.Data as serde
 use Rattle.serde_json.specs.Read.{of_json, converted}
 use Rattle.serde_json.proofs.Numbers.{number_of-decimal}
 use Rattle.mml_plain.specs.declared.member_value.MemberValue.{MemberValue}
 use Rattle.mml_plain.specs.declared.member_value.MemberValue.TheVariants.{Null, Truth, Number, Other}
-use Rattle.mml_plain.specs.Reading.{members_at, if_over, object_at}
+use Rattle.mml_plain.specs.Reading.{members_at, value_at, if_over, object_at}
 use Rattle.mml_plain.specs.Shown.{Shows}
-use Rattle.mml_plain.specs.Compact.{is_bare_byte, is_bare, ended, Spaced, BeginsValue, BeginsMember, BeginsQuoted, PutsKnown, PutsMember}
+use Rattle.mml_plain.specs.Compact.{is_bare_byte, is_bare, ended, Spaced, BeginsValue, BeginsMember, BeginsQuoted, BeginsAfter, PutsKnown, PutsMember}
 use Rattle.mml_plain.specs.declared.fields.Fields.{Fields}
+use Rattle.mml_plain.specs.Fields.{with}
 use Rattle.mml_plain.proofs.ReadingLemmas.{items_next, members_suc, members_next, value_array, value_object}
 
 abbrev SpacedTokens : Type 0
@@ -245,11 +246,12 @@ bare_more xs i d h was one = ap is_bare (take_more xs i d h) ∙ bare-append (ta
 other_than : (b k : ℕ) → not (b == k) ≡ true → b ≢ k
 other_than b k h e = both_ways _ (not-true _ h) (eq-eqb b k e)
 
-bare_escape : (bs : List ℕ) → is_bare bs ≡ true → escape bs ≡ bs
+-- no byte of it is escaped
+pub bare_escape : (bs : List ℕ) → is_bare bs ≡ true → escape bs ≡ bs
 bare_escape [] h = refl
 bare_escape (b ∷ bs) h = grind (arith, and_parts, nat_lt, ltb-true, escape_byte_plain, other_than, bare_escape bs)
 
-bare_ascii : (bs : List ℕ) → is_bare bs ≡ true → are_ascii bs ≡ true
+pub bare_ascii : (bs : List ℕ) → is_bare bs ≡ true → are_ascii bs ≡ true
 bare_ascii [] h = refl
 bare_ascii (b ∷ bs) h = grind (arith, and_parts, nat_lt, and_from, bare_ascii bs)
 
@@ -274,98 +276,79 @@ digit_first xs d digit h here one = take_more xs 0 d h ∙ ap (λ b. b ∷ []) h
 
 -- ---- values
 
+-- a text that begins with tokens of which a value is read begins with that value
+of_tokens : (text rest : List ℕ) (v : MemberValue) (d : Data) (t : Token) (ts : List Token) → ArePrintable (t ∷ ts)
+    → IsUtf8 (token_text t ++ print_from (ends t) ts) → ended (t ∷ ts) ≡ true → ((us : List Token) → value_at 126 (t ∷ (ts ++ us)) ≡ Some (d, us)) → Shows v d
+    → text ≡ token_text t ++ (print_from (ends t) ts ++ rest) → BeginsValue text v rest
+of_tokens text rest v d t ts printable utf8 ends_value value shows spelled = record {
+  first = t;
+  others = ts;
+  printable = printable;
+  utf8 = utf8;
+  ends_value = ends_value;
+  datum = d;
+  value = value;
+  shows = shows;
+  spelled = spelled;
+}
+
 pub text_value : (text a rest : List ℕ) (v : MemberValue) (k : List ℕ) → Shows v (string k) → text ≡ 34 ∷ a → a ≡ k ++ 34 ∷ rest → is_bare k ≡ true
     → BeginsValue text v rest
 unfolding print_from ArePrintable
-text_value text a rest v k shows one two h = record {
-  first = Token.string k;
-  others = [];
-  printable = (tt, tt);
-  utf8 = IsUtf8-append (token_text (Token.string k)) [] (IsUtf8-quoted k (bare_utf8 k h)) IsUtf8-nil;
-  ends_value = refl;
-  datum = string k;
-  value = λ ts. ap (converted of_json) (value_is 126 (Token.string k ∷ ts));
-  shows = shows;
-  spelled = one ∙ ap (λ t. 34 ∷ t) two ∙ quoted_is k rest h;
-}
+text_value text a rest v k shows one two h =
+    of_tokens text rest v (string k) (Token.string k) [] (tt, tt) (IsUtf8-append (token_text (Token.string k)) [] (IsUtf8-quoted k (bare_utf8 k h)) IsUtf8-nil)
+    refl (λ ts. ap (converted of_json) (value_is 126 (Token.string k ∷ ts))) shows (one ∙ ap (λ t. 34 ∷ t) two ∙ quoted_is k rest h)
 
 pub number_value : (text rest : List ℕ) (n : ℕ) → n < 2 ^ 64 → text ≡ decimal n ++ rest → BeginsValue text (Number n) rest
 unfolding print_from ArePrintable
-number_value text rest n h e = record {
-  first = Token.number (decimal n);
-  others = [];
-  printable = (IsNumber-decimal n h, tt);
-  utf8 = IsUtf8-append (decimal n) [] (IsUtf8-from_ascii (decimal n) (IsAscii-decimal n h)) IsUtf8-nil;
-  ends_value = refl;
-  datum = number (unsigned n);
-  value = λ ts. ap (converted of_json) (value_is 126 (Token.number (decimal n) ∷ ts)) ∙ ap (λ o. option_map (λ d. (d, ts)) (option_map number o)) (number_of-decimal n h);
-  shows = record { text = refl; number = refl; truth = refl; register = refl };
-  spelled = e;
-}
+number_value text rest n h e =
+    of_tokens text rest (Number n) (number (unsigned n)) (Token.number (decimal n)) [] (IsNumber-decimal n h, tt)
+    (IsUtf8-append (decimal n) [] (IsUtf8-from_ascii (decimal n) (IsAscii-decimal n h)) IsUtf8-nil) refl
+    (λ ts. ap (converted of_json) (value_is 126 (Token.number (decimal n) ∷ ts)) ∙ ap (λ o. option_map (λ d. (d, ts)) (option_map number o)) (number_of-decimal n h))
+    record { text = refl; number = refl; truth = refl; register = refl } e
 
 pub truth_value : (text rest : List ℕ) (b : Bool) → text ≡ token_text (Token.boolean b) ++ rest → BeginsValue text (Truth b) rest
 unfolding print_from ArePrintable
-truth_value text rest b e = record {
-  first = Token.boolean b;
-  others = [];
-  printable = (tt, tt);
-  utf8 = IsUtf8-append (token_text (Token.boolean b)) [] (IsUtf8-boolean b) IsUtf8-nil;
-  ends_value = refl;
-  datum = boolean b;
-  value = λ ts. ap (converted of_json) (value_is 126 (Token.boolean b ∷ ts));
-  shows = record { text = refl; number = refl; truth = refl; register = refl };
-  spelled = e;
-}
+truth_value text rest b e =
+    of_tokens text rest (Truth b) (boolean b) (Token.boolean b) [] (tt, tt) (IsUtf8-append (token_text (Token.boolean b)) [] (IsUtf8-boolean b) IsUtf8-nil)
+    refl (λ ts. ap (converted of_json) (value_is 126 (Token.boolean b ∷ ts))) record { text = refl; number = refl; truth = refl; register = refl } e
 
 pub null_value : (text rest : List ℕ) → text ≡ 110 ∷ 117 ∷ 108 ∷ 108 ∷ rest → BeginsValue text Null rest
 unfolding print_from ArePrintable
-null_value text rest e = record {
-  first = Token.null;
-  others = [];
-  printable = (tt, tt);
-  utf8 = IsUtf8-are_ascii _ refl;
-  ends_value = refl;
-  datum = serde.null;
-  value = λ ts. ap (converted of_json) (value_is 126 (Token.null ∷ ts));
-  shows = record { text = refl; number = refl; truth = refl; register = refl };
-  spelled = e;
-}
+null_value text rest e =
+    of_tokens text rest Null serde.null Token.null [] (tt, tt) (IsUtf8-are_ascii _ refl) refl
+    (λ ts. ap (converted of_json) (value_is 126 (Token.null ∷ ts))) record { text = refl; number = refl; truth = refl; register = refl } e
 
 pub no_items_value : (text rest : List ℕ) → text ≡ 91 ∷ 93 ∷ rest → BeginsValue text Other rest
 unfolding print_from ArePrintable
-no_items_value text rest e = record {
-  first = Token.begin_array;
-  others = Token.end_array ∷ [];
-  printable = (tt, (tt, tt));
-  utf8 = IsUtf8-are_ascii _ refl;
-  ends_value = refl;
-  datum = array no_items;
-  value = λ ts. (
-      value_array 126 (Token.end_array ∷ ts) (omega arith)
-      ∙ ap (option_map (λ p. (array p.0, p.1))) (items_next 125 (length (Token.end_array ∷ ts)) (Token.end_array ∷ ts) (omega arith))
-      );
-  shows = record { text = refl; number = refl; truth = refl; register = refl };
-  spelled = e;
-}
+no_items_value text rest e =
+    of_tokens text rest Other (array no_items) Token.begin_array (Token.end_array ∷ []) (tt, (tt, tt)) (IsUtf8-are_ascii _ refl) refl
+    (λ ts. value_array 126 (Token.end_array ∷ ts) (omega arith)
+    ∙ ap (option_map (λ p. (array p.0, p.1))) (items_next 125 (length (Token.end_array ∷ ts)) (Token.end_array ∷ ts) (omega arith)))
+    record { text = refl; number = refl; truth = refl; register = refl } e
 
 pub no_members_value : (text rest : List ℕ) → text ≡ 123 ∷ 125 ∷ rest → BeginsValue text Other rest
 unfolding print_from ArePrintable
-no_members_value text rest e = record {
-  first = Token.begin_object;
-  others = Token.end_object ∷ [];
-  printable = (tt, (tt, tt));
-  utf8 = IsUtf8-are_ascii _ refl;
-  ends_value = refl;
-  datum = object no_members;
-  value = λ ts. (
-      value_object 126 (Token.end_object ∷ ts) (omega arith)
-      ∙ ap (option_map (λ p. (object p.0, p.1))) (members_next 125 no_members (length (Token.end_object ∷ ts)) (Token.end_object ∷ ts) (omega arith))
-      );
-  shows = record { text = refl; number = refl; truth = refl; register = refl };
-  spelled = e;
-}
+no_members_value text rest e =
+    of_tokens text rest Other (object no_members) Token.begin_object (Token.end_object ∷ []) (tt, (tt, tt)) (IsUtf8-are_ascii _ refl) refl
+    (λ ts. value_object 126 (Token.end_object ∷ ts) (omega arith)
+    ∙ ap (option_map (λ p. (object p.0, p.1))) (members_next 125 no_members (length (Token.end_object ∷ ts)) (Token.end_object ∷ ts) (omega arith)))
+    record { text = refl; number = refl; truth = refl; register = refl } e
 
 -- ---- keys that are known
+
+-- four bytes at the front, and then a text, spell a key and its value
+pub puts_known : {front n : ℕ} {after rest : List ℕ} {old new : Fields} (key text : List ℕ) (v : MemberValue) → is_bare key ≡ true → front ≡ n
+    → to_be_bytes w32 n ++ text ≡ key ++ 34 ∷ 58 ∷ after → BeginsAfter after v rest → new ≡ with key v old → PutsKnown (to_be_bytes w32 front ++ text) rest old new
+puts_known {front} {n} {after} {rest} {old} {new} key text v bare same first named put = record {
+  key = key;
+  is_bare_key = bare;
+  value = v;
+  after_key = after;
+  key_first = ap (λ n. to_be_bytes w32 n ++ text) same ∙ first;
+  named = named;
+  put = put;
+}
 
 -- a member with such a key
 pub known_key : (text in_key rest : List ℕ) (old new : Fields) → BeginsQuoted text in_key → PutsKnown in_key rest old new → PutsMember text rest old new

@@ -1,5 +1,5 @@
 -- A member more, in the fields and in the object.
-use Rattle.std.proofs.Common.{◌≡◌, ℕ, List, Bool, true, false, codes, bytes_eq, cond, Bor, Option, Some, option_map, option_and_then, true≢false}
+use Rattle.std.proofs.Common.{◌≡◌, ℕ, List, Bool, false, codes, bytes_eq, cond, Bor, Option, Some, option_map, option_and_then, true≢false}
 use Rattle.std.proofs.Common.{refl, sym, ◌∙◌, arith}
 use Rattle.std.proofs.lemmas.Slice.Eq.{bytes_eq-Decides}
 use Rattle.serde_json.specs.Data.{Data, object, Members, put}

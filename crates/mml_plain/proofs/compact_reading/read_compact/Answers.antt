@@ -1,38 +1,30 @@
-use Rattle.std.proofs.Common.{[]}
-use Rattle.serde_json.specs.Data.{no_members, put}
+use Rattle.std.proofs.Common.{ℕ, List, []}
+use Rattle.serde_json.specs.Data.{Members, object, no_members, put}
+use Rattle.mml_plain.specs.declared.fields.Fields.{Fields}
+use Rattle.mml_plain.specs.Compact.{PutsMember}
+use Rattle.mml_plain.specs.Holds.{Holds}
 use Rattle.mml_plain.proofs.FieldsLemmas.{holds_with}
-use Rattle.mml_plain.proofs.CompactLemmas.{begun, comma, over, over_utf8, member}
+use Rattle.mml_plain.proofs.CompactLemmas.{Before, After, begun, comma, over, over_utf8, member}
 use Rattle.mml_plain.proofs.compact_reading.read_compact.Goals as goal
 
 pub members-init : goal.members-init
 members-init c = (no_members, begun c.args.line.now c.in-Some.rest.now c.in-Some.ensures, c.requires)
 
+one_more : (line rest more : List ℕ) (found : Members) (old new : Fields) → Before line rest found → Holds old (object found) → PutsMember rest more old new
+    → (next : Members) × After line more next × Holds new (object next)
+one_more line rest more found old new before holds p =
+    let v = p.member.value in
+    (put p.key v.datum found, member line rest more p.key p.value found p.member before, rw p.put (holds_with p.key p.value v.datum found v.shows old holds))
+
 pub returns-in_default-behind : goal.returns-in_default-behind
 returns-in_default-behind c = λ e.
     let l = c.members in
-    let p = c.next_member-more.ensures 125 [] (c.is_end.ensures e) in
-    let k = p.key in
-    let v = p.value in
-    let m = p.member in
-    let found = l.invariant.0 in
-    let more = c.next_member-more.result.now in (
-      put k m.value.datum found,
-      over_utf8 c.args.line.now more (put k m.value.datum found) (c.is_end.ensures e) (member c.args.line.now l.rest.now more k v found m l.invariant.1),
-      over c.args.line.now more (put k m.value.datum found) (c.is_end.ensures e) (member c.args.line.now l.rest.now more k v found m l.invariant.1),
-      rw p.put (holds_with k v m.value.datum found m.value.shows l.fields l.invariant.2),
-    )
+    let s = one_more c.args.line.now l.rest.now _ l.invariant.0 l.fields _ l.invariant.1 l.invariant.2 (c.next_member-more.ensures 125 [] (c.is_end.ensures e)) in
+    (s.0, over_utf8 _ _ s.0 (c.is_end.ensures e) s.1, over _ _ s.0 (c.is_end.ensures e) s.1, s.2)
 
 pub members-preserved : goal.members-preserved
 members-preserved c =
     let l = c.members in
-    let p = c.next_member-more.ensures 44 c.in-Some-behind.next.now c.in-Some-behind.ensures in
-    let k = p.key in
-    let v = p.value in
-    let m = p.member in
-    let found = l.invariant.0 in
-    let more = c.next_member-more.result.now in (
-      put k m.value.datum found,
-      comma c.args.line.now more c.in-Some-behind.next.now (put k m.value.datum found) c.in-Some-behind.ensures
-          (member c.args.line.now l.rest.now more k v found m l.invariant.1),
-      rw p.put (holds_with k v m.value.datum found m.value.shows l.fields l.invariant.2),
-    )
+    let s = one_more c.args.line.now l.rest.now _ l.invariant.0 l.fields _ l.invariant.1 l.invariant.2
+    (c.next_member-more.ensures 44 c.in-Some-behind.next.now c.in-Some-behind.ensures) in
+    (s.0, comma _ _ _ s.0 c.in-Some-behind.ensures s.1, s.2)
