@@ -1,6 +1,6 @@
 -- Who a connection is known as after an answer.
 use Rattle.std.proofs.lemmas.Bool.Decides.{nat_tests}
-use Rattle.std.proofs.Common.{◌≡◌, ◌↔◌, ℕ, List, Option, None, Some, sym, ap, ◌∙◌, arith, arith, arith, arith, arith}
+use Rattle.std.proofs.Common.{◌≡◌, ◌↔◌, ℕ, List, Option, None, Some, sym, ap, ◌∙◌, arith}
 use Rattle.mml_lab.specs.declared.who.Who.{Who}
 use Rattle.mml_lab.specs.Rosters.{RosterValue, IsRoster, principal}
 use Rattle.mml_lab.specs.RosterMeaning.{IsKnownAs}

@@ -87,15 +87,9 @@ mutual
 
   items_line : (later : Bool) (ds : Items) → ItemsHaveText ds → IsOneLine (items_text later ds)
   items_line later no_items h = tested (93 ∷ []) refl
-  items_line later (item d ds) h =
-      let rest = join (compact_text d) (items_text true ds) (compact_text_line d h.0) (items_line true ds h.1) in
-      join (comma_if later) (compact_text d ++ items_text true ds) (comma later) rest
+  items_line later (item d ds) h = join _ _ (comma later) (join _ _ (compact_text_line d h.0) (items_line true ds h.1))
 
   members_line : (later : Bool) (ms : Members) → MembersHaveText ms → IsOneLine (members_text later ms)
   members_line later no_members h = tested (125 ∷ []) refl
   members_line later (member k d ms) h =
-      let rest = join (compact_text d) (members_text true ms) (compact_text_line d h.1.0) (members_line true ms h.1.1) in
-      let whole =
-      join (quoted k) (58 ∷ (compact_text d ++ members_text true ms)) (quoted_line k)
-      (then 58 (compact_text d ++ members_text true ms) (not_ten 58 refl) rest) in
-      join (comma_if later) (quoted k ++ 58 ∷ (compact_text d ++ members_text true ms)) (comma later) whole
+      join _ _ (comma later) (join (quoted k) (58 ∷ (compact_text d ++ members_text true ms)) (quoted_line k) (then 58 _ (not_ten 58 refl) (join _ _ (compact_text_line d h.1.0) (members_line true ms h.1.1))))

@@ -11,6 +11,8 @@ use Rattle.json.proofs.Printed.Strings.{escape_byte_plain}
 use Rattle.json.proofs.Printed.Utf8.{are_ascii}
 use Rattle.serde_json.specs.Data.{Data, boolean}
 use Rattle.serde_json.specs.Written.{compact_text, items_text, members_text, comma_if}
+use Rattle.mml_plain.specs.Compact.{is_bare_byte, is_bare}
+use Rattle.mml_plain.proofs.CompactLemmas.{bare_escape}
 use Rattle.mml_rules.specs.declared.regs.Regs.{Regs}
 use Rattle.mml_rules.specs.declared.rule.Kind.{Kind}
 use Rattle.mml_rules.specs.declared.rule.Kind.TheVariants as kind
@@ -25,41 +27,13 @@ use Rattle.mml_codec.specs.Facts.{kind_or_null_value, near_value, pair_value, pr
 
 -- ---- words of which no byte is escaped
 
--- each byte is from 32 to 127, and none is a quotation mark or a backslash
-abbrev pub is_plain : List ℕ → Bool
-is_plain [] = true
-is_plain (b ∷ bs) = (ltb 31 b && (ltb b 128 && (not (eqb b 34) && not (eqb b 92)))) && is_plain bs
+bare_byte : (b : ℕ) → 32 ≤ b → b ≤ 122 → b ≢ 34 → b ≢ 92 → is_bare_byte b ≡ true
+bare_byte b low high quote slash = grind (arith, nat_tests)
 
-other_than : (b k : ℕ) → not (eqb b k) ≡ true → b ≢ k
-other_than b k h e = both_ways _ (not-true _ h) (eq-eqb b k e)
-
-pub plain_escape : (bs : List ℕ) → is_plain bs ≡ true → escape bs ≡ bs
-plain_escape [] h = refl
-plain_escape (b ∷ bs) h =
-    let here = and_parts _ _ h in
-    let low = and_parts (ltb 31 b) _ here.0 in
-    let high = and_parts (ltb b 128) _ low.1 in
-    let others = and_parts (not (eqb b 34)) _ high.1 in
-    let more = ltb-true 31 b low.0 in
-    rw (escape_byte_plain b (other_than b 34 others.0) (other_than b 92 others.1) (omega arith), plain_escape bs here.1) refl
-
--- a plain word is ASCII
-pub plain_ascii : (bs : List ℕ) → is_plain bs ≡ true → are_ascii bs ≡ true
-plain_ascii [] h = refl
-plain_ascii (b ∷ bs) h =
-    let here = and_parts _ _ h in
-    and_from _ _ (and_parts (ltb b 128) _ (and_parts (ltb 31 b) _ here.0).1).0 (plain_ascii bs here.1)
-
-not_false : (b k : ℕ) → b ≢ k → not (eqb b k) ≡ true
-not_false b k h = ap not (ne_eqb b k h)
-
-plain_byte : (b : ℕ) → 32 ≤ b → b ≤ 122 → b ≢ 34 → b ≢ 92 → (ltb 31 b && (ltb b 128 && (not (eqb b 34) && not (eqb b 92)))) ≡ true
-plain_byte b low high quote slash = grind (arith, nat_tests, and_from, lt-ltb, not_false)
-
--- a word of the bytes that names are made of is plain
-pub name_plain : (bs : List ℕ) → All IsNameByte bs → is_plain bs ≡ true
-name_plain [] all = refl
-name_plain (b ∷ bs) all = grind (arith, nat_tests, All-head, plain_byte, and_from, All-tail, name_plain bs (All-tail IsNameByte b bs all))
+-- no byte of a name is escaped
+pub name_bare : (bs : List ℕ) → All IsNameByte bs → is_bare bs ≡ true
+name_bare [] all = refl
+name_bare (b ∷ bs) all = grind (arith, nat_tests, All-head, bare_byte, and_from, All-tail, name_bare bs (All-tail IsNameByte b bs all))
 
 -- ---- the texts of one item
 
@@ -122,15 +96,15 @@ list_is g f same xs rest = ap (λ t. 91 ∷ t) (items_then g f same xs rest rest
 
 -- what is told by a word has no byte that is escaped
 abbrev pub IsPlainFact : Fact → Type 0
-IsPlainFact (fact.word w) = is_plain w ≡ true
+IsPlainFact (fact.word w) = is_bare w ≡ true
 IsPlainFact _ = Unit {0}
 
 -- the keys, too
 abbrev pub ArePlain : Fields → Type 0
-ArePlain fs = AllByRecursion (λ f. (is_plain f.0 ≡ true) × IsPlainFact f.1) fs
+ArePlain fs = AllByRecursion (λ f. (is_bare f.0 ≡ true) × IsPlainFact f.1) fs
 
-quoted_is : (w rest : List ℕ) → is_plain w ≡ true → codes "\"" ++ (w ++ (codes "\"" ++ rest)) ≡ 34 ∷ ((escape w ++ 34 ∷ []) ++ rest)
-quoted_is w rest h = ap (λ t. 34 ∷ t) (sym (append_assoc w (34 ∷ []) rest) ∙ ap (λ t. (t ++ 34 ∷ []) ++ rest) (sym (plain_escape w h)))
+quoted_is : (w rest : List ℕ) → is_bare w ≡ true → codes "\"" ++ (w ++ (codes "\"" ++ rest)) ≡ 34 ∷ ((escape w ++ 34 ∷ []) ++ rest)
+quoted_is w rest h = ap (λ t. 34 ∷ t) (sym (append_assoc w (34 ∷ []) rest) ∙ ap (λ t. (t ++ 34 ∷ []) ++ rest) (sym (bare_escape w h)))
 
 fact_is : (ids : List ℕ) (f : Fact) (rest : List ℕ) → IsPlainFact f → fact_then ids f rest ≡ compact_text (fact_value ids f) ++ rest
 fact_is ids (fact.word w) rest h = quoted_is w rest h

@@ -12,6 +12,8 @@ use Rattle.std.proofs.lemmas.List.Elements.{All-filter, All-from_get_or}
 use Rattle.std.proofs.lemmas.List.FromFn.{length-range_with_len, get_or-range_with_len}
 use Rattle.serde_json.specs.Read.{read}
 use Rattle.serde_json.specs.Written.{compact_text}
+use Rattle.mml_plain.specs.Compact.{is_bare}
+use Rattle.mml_plain.proofs.CompactLemmas.{bare_ascii}
 use Rattle.mml_ids.specs.Ids.{IsTable}
 use Rattle.mml_rules.specs.declared.regs.Regs.{Regs}
 use Rattle.mml_rules.specs.declared.rule.Kind.{Kind}
@@ -37,7 +39,7 @@ use Rattle.mml_codec.specs.Facts.{pair_value, privileged_value, open_link_value,
 use Rattle.mml_codec.specs.Replies.{current_number, number_first, told_fields, refusal_name, fields_of, text, IsAbout}
 use Rattle.mml_codec.specs.ReplyValues.{reply_value, AreWritableCounts, has_rising_keys, members_rise, comes_first}
 use Rattle.mml_codec.proofs.OneLineLemmas.{compact_text_line}
-use Rattle.mml_codec.proofs.ReplyTextLemmas.{is_plain, plain_ascii, name_plain, IsPlainFact, ArePlain, fields_are}
+use Rattle.mml_codec.proofs.ReplyTextLemmas.{name_bare, IsPlainFact, ArePlain, fields_are}
 use Rattle.mml_codec.proofs.ReadBackLemmas.{IsReadable, AreReadable, IsKeyed, null_read, truth_read, count_read, word_read, items_read, array_read, object_read}
 use Rattle.mml_codec.proofs.ReadBackLemmas.{read_value, items_rise}
 
@@ -63,7 +65,7 @@ members_below n s = All-filter (set.contains s) (λ i. i < n) (range_with_len 0 
 -- it is about nodes of the lab
 abbrev IsFactOf : List ℕ → Fact → Type 0
 IsFactOf ids (fact.clause n) = nat_lt n 128 ≡ true
-IsFactOf ids (fact.word w) = is_plain w ≡ true
+IsFactOf ids (fact.word w) = is_bare w ≡ true
 IsFactOf ids (fact.node i) = i < length ids
 IsFactOf ids (fact.pointer p) = IfSome p (λ j. j < length ids)
 IsFactOf ids (fact.nodes is) = All (λ i. i < length ids) is
@@ -107,7 +109,7 @@ module _ (ids : List ℕ) (table : IsTable ids) where
   fact_read : (f : Fact) → IsFactOf ids f → FitsCount f → IsReadable 2 (fact_value ids f)
   fact_read (fact.count n) h fits = count_read 2 n fits
   fact_read (fact.clause n) h fits = let small = ltb-true n 128 h in count_read 2 n (omega (arith, small))
-  fact_read (fact.word w) h fits = word_read 2 w (plain_ascii w h)
+  fact_read (fact.word w) h fits = word_read 2 w (bare_ascii w h)
   fact_read (fact.truth b) h fits = truth_read 2 b
   fact_read (fact.node i) h fits = node_read 2 i h
   fact_read (fact.pointer p) h fits = pointer_read 2 p h
@@ -128,7 +130,7 @@ module _ (ids : List ℕ) (table : IsTable ids) where
 
 abbrev has_plain_keys : Fields → Bool
 has_plain_keys [] = true
-has_plain_keys (f ∷ fs) = is_plain f.0 && has_plain_keys fs
+has_plain_keys (f ∷ fs) = is_bare f.0 && has_plain_keys fs
 
 abbrev comes_before : List ℕ → Fields → Bool
 comes_before k [] = true
@@ -192,18 +194,18 @@ has_keys ids r _ = record { keyed = record { rising = refl; ascii = refl }; plai
 
 -- the clause, the name and the text of a denial
 abbrev has_plain_words : Denial → Bool
-has_plain_words d = nat_lt (clause_of d) 128 && (is_plain (denials.denial_name d) && is_plain (text_of d))
+has_plain_words d = nat_lt (clause_of d) 128 && (is_bare (denials.denial_name d) && is_bare (text_of d))
 
 plain_words : (d : Denial) → has_plain_words d ≡ true
 plain_words denial.NotGreeted = refl
 plain_words _ = refl
 
-plain_refusal : (q : Refused) → is_plain (refusal_name q) ≡ true
+plain_refusal : (q : Refused) → is_bare (refusal_name q) ≡ true
 plain_refusal refused.Malformed = refl
 plain_refusal _ = refl
 
-plain_name : (r : RosterValue) (who : Who) → IsRoster r → IsPrincipal r who → is_plain (name_of r who) ≡ true
-plain_name r who roster is = grind (arith, nat_tests, name_plain, name-means, and_parts)
+plain_name : (r : RosterValue) (who : Who) → IsRoster r → IsPrincipal r who → is_bare (name_of r who) ≡ true
+plain_name r who roster is = grind (arith, nat_tests, name_bare, name-means, and_parts)
 
 module _ (ids : List ℕ) (r : RosterValue) (roster : IsRoster r) where
   number_facts : (o : Option ℕ) (fs : Fields) → AreFactsOf ids fs → AreFactsOf ids (number_first o fs)
@@ -211,7 +213,7 @@ module _ (ids : List ℕ) (r : RosterValue) (roster : IsRoster r) where
   number_facts (Some at) fs h = (tt, h)
 
   deny_facts : (d : Denial) → AreFactsOf ids (fields_of r (replies.Deny d))
-  deny_facts d = grind (arith, nat_tests, and_parts, is_plain, plain_words, number_facts)
+  deny_facts d = grind (arith, nat_tests, and_parts, is_bare, plain_words, number_facts)
 
   facts_of : (q : Reply) → IsAbout ids r q → AreFactsOf ids (fields_of r q)
   facts_of (replies.Hello who) about = (refl, (plain_name r who roster about, tt))
