@@ -1,15 +1,13 @@
 -- The rules that are enabled at the nodes are found one after another.
-use Rattle.std.proofs.Common.{◌≡◌, ◌≢◌, ◌⊎◌, ◌∙◌, ◌+◌, ◌<◌, ℕ, List, Option, None, length, set, ap, sym, arith, inl, inr, get_or-set_same, get_or-set_other, get_or}
+use Rattle.std.proofs.Common.{◌≡◌, ◌+◌, ◌<◌, ℕ, List, Option, length, set, arith, get_or-set_same, get_or-set_other}
 use Rattle.std.proofs.lemmas.Bool.{cases_eq}
 use Rattle.mml_rules.specs.declared.rule.Kind.{Kind}
 use Rattle.mml_rules.specs.Configuration.{Configuration}
 use Rattle.mml_rules.specs.Rules.{enabled_kind}
 use Rattle.mml_stable.specs.inside.Kinds.{AreFound}
+use Rattle.std.proofs.lemmas.Bool.Decides.{nat_tests}
 
 -- that of the next node is put in its place
 pub one_found : (c : Configuration) (n : ℕ) (kinds : List (Option Kind)) (o : Option Kind) → n < length kinds → AreFound c n kinds → o ≡ enabled_kind c n
     → AreFound c (n + 1) (set kinds n o)
-one_found c n kinds o room found is i h = elim (cases_eq i n) [
-  | inl e ↦ ap (λ k. get_or (set kinds n o) k None) e ∙ get_or-set_same kinds n o None room ∙ is ∙ ap (enabled_kind c) (sym e)
-  | inr ne ↦ get_or-set_other kinds n i o None ne ∙ found i (omega (arith, h, ne))
-]
+one_found c n kinds o room found is i h = grind (arith, nat_tests, cases_eq, get_or-set_same, get_or-set_other)

@@ -1,10 +1,10 @@
 -- What stands in the lists of a report, and in which order.
-use Rattle.std.proofs.Common.{◌≡◌, ◌↔◌, ℕ, zero, suc, ◌<◌, Bool, true, false, ◌&&◌, ltb, List, [], ◌∷◌, ◌++◌, Option, None, Some, inl, inr, arith}
-use Rattle.std.proofs.Common.{refl, sym, ap, ◌∙◌, subst}
+use Rattle.std.proofs.Common.{◌≡◌, ◌↔◌, ℕ, zero, suc, ◌<◌, Bool, true, ◌&&◌, ltb, List, [], ◌∷◌, ◌++◌, Option, None, Some, inl, inr, arith}
+use Rattle.std.proofs.Common.{refl, sym, ap, ◌∙◌, subst, rules}
 use Rattle.std.specs.List.{All, Contains}
 use Rattle.std.proofs.lemmas.Bool.{and_parts, and_from, ltb-true, lt-ltb, not-true, not_from_false, false_from_ne_true, both_ways, cases_eq, cases_order}
 use Rattle.std.proofs.lemmas.List.Elements.{All-nil, All-cons, All-append, All-head, All-tail, All-weaker, All-contains, Contains-append_left}
-use Rattle.std.proofs.lemmas.List.Elements.{Contains-append_right, Contains-append_cases, Contains-push}
+use Rattle.std.proofs.lemmas.List.Elements.{Contains-append_right, Contains-append_cases}
 use Rattle.mml_rules.specs.declared.rule.Kind.{Kind}
 use Rattle.mml_rules.specs.Configuration.{Configuration, IsLawful, holds}
 use Rattle.mml_rules.specs.Rules.{is_married, enabled_kind}
@@ -21,6 +21,7 @@ use Rattle.mml_stable.specs.Reports.{open_links_at, open_links, is_stable}
 use Rattle.mml_stable.specs.Listed.{IsPairInOrder, IsFreeNode, IsPrivilegedBy, IsOpenLink, Rises, IsLinkBefore, HasEnd, IsMatched, IsMaximalMatching}
 use Rattle.mml_stable.proofs.MatchingLemmas.{maximal, stable-means}
 use Rattle.mml_stable.proofs.NamedLemmas.{all_listed, all_below}
+use Rattle.std.proofs.lemmas.Bool.Decides.{nat_tests}
 
 -- ---- what a list has
 
@@ -31,12 +32,10 @@ in_one : {X : Type 0} (x y : X) → Contains (x ∷ []) y → x ≡ y
 in_one x y h = All-contains (λ z. x ≡ z) (x ∷ []) y (All-cons (λ z. x ≡ z) x [] refl (All-nil (λ z. x ≡ z))) h
 
 if_listed : {X : Type 0} (b : Bool) (x y : X) → Contains (listed_if b x) y → (b ≡ true) × (x ≡ y)
-if_listed true x y h = (refl, in_one x y h)
-if_listed false x y h = absurd (in_nothing y h)
+if_listed b x y h = grind (arith, nat_tests, in_one, in_nothing)
 
 listed : {X : Type 0} (b : Bool) (x : X) → b ≡ true → Contains (listed_if b x) x
-listed true x e = Contains-push [] x
-listed false x e = cc
+listed b x e = grind (arith, nat_tests)
 
 below : {X : Type 0} (n : ℕ) (f : ℕ → List X) (x : X) → Contains (each_below n f) x → (i : ℕ) × (i < n) × Contains (f i) x
 below zero f x h = absurd (in_nothing x h)
@@ -60,8 +59,7 @@ rises_append R (x ∷ xs) ys hx hy between =
     (All-append (R x) xs ys hx.0 (All-head (λ x. All (R x) ys) x xs between), rises_append R xs ys hx.1 hy (All-tail (λ x. All (R x) ys) x xs between))
 
 rises_one : {X : Type 0} (R : X → X → Type 0) (b : Bool) (x : X) → Rises R (listed_if b x)
-rises_one R true x = (All-nil (R x), tt)
-rises_one R false x = tt
+rises_one R b x = grind (arith, nat_tests)
 
 -- where what is listed for a number has it as its key, and a lower key comes first
 module _ {X : Type 0} (R : X → X → Type 0) (key : X → ℕ) (f : ℕ → List X) (keyed : (i : ℕ) → All (λ x. key x ≡ i) (f i))
@@ -77,18 +75,10 @@ module _ {X : Type 0} (R : X → X → Type 0) (key : X → ℕ) (f : ℕ → Li
 
 module _ (c : Configuration) (l : IsLawful c) where
   pair_from : (i : ℕ) (o : Option ℕ) (p : ℕ × ℕ) → c.p i ≡ o → Contains (pair_at c i o) p → IsPairInOrder c p
-  pair_from i None p e h = absurd (in_nothing p h)
-  pair_from i (Some j) p e h =
-      let r = if_listed (ltb i j && holds (c.p j) i) (i, j) p h in
-      let t = and_parts (ltb i j) (holds (c.p j) i) r.0 in
-      subst (IsPairInOrder c) r.1 (ltb-true i j t.0, (e, holds-true (c.p j) i t.1))
+  pair_from i o p e h = grind (arith, nat_tests, in_nothing, if_listed, and_parts, ltb-true, holds-true)
 
   pair_listed : (i j : ℕ) (o : Option ℕ) → o ≡ Some j → i < j → c.p j ≡ Some i → Contains (pair_at c i o) (i, j)
-  pair_listed i j None e lt back = cc
-  pair_listed i j (Some k) e lt back =
-      let same : k ≡ j = cc in
-      subst (λ k. Contains (pair_at c i (Some k)) (i, j)) (sym same)
-      (listed (ltb i j && holds (c.p j) i) (i, j) (and_from _ _ (lt-ltb i j lt) (holds-from (c.p j) i back)))
+  pair_listed i j o e lt back = grind (arith, nat_tests, listed, and_from, lt-ltb, holds-from)
 
   pub pairs_listed : (p : ℕ × ℕ) → Contains (pairs c) p ↔ IsPairInOrder c p
   pairs_listed p = (
@@ -116,8 +106,7 @@ module _ (c : Configuration) (l : IsLawful c) where
       subst (IsPrivilegedBy c) (in_one (i, k) p h) (lt, (r.0, r.1, (guard-means c i r.0 l).0 r.2))
 
   privileged_here : (i : ℕ) (k : Kind) (o : Option Kind) → o ≡ Some k → Contains (privileged_at i o) (i, k)
-  privileged_here i k None e = cc
-  privileged_here i k (Some j) e = let same : j ≡ k = cc in subst (λ j. Contains (privileged_at i (Some j)) (i, k)) (sym same) (Contains-push [] (i, k))
+  privileged_here i k o e = grind (arith, nat_tests)
 
   pub privileged_listed : (p : ℕ × Kind) → Contains (privileged_nodes c) p ↔ IsPrivilegedBy c p
   privileged_listed p = (
@@ -133,11 +122,7 @@ module _ (c : Configuration) (l : IsLawful c) where
   free_from i h = not_from_false (is_married c i) (false_from_ne_true (is_married c i) (λ m. h ((married-means c i l).0 m)))
 
   open_from : (a b : ℕ) → is_open c a b ≡ true → IsOpenLink c (open_link c a b)
-  open_from a b h =
-      let linked = and_parts (c.linked a b) (ltb a b && (is_free c a && is_free c b)) h in
-      let lower = and_parts (ltb a b) (is_free c a && is_free c b) linked.1 in
-      let free = and_parts (is_free c a) (is_free c b) lower.1 in
-      record { linked = linked.0; lower = ltb-true a b lower.0; free_a = free_means a free.0; free_b = free_means b free.1; witness = refl }
+  open_from a b h = grind (arith, nat_tests, and_parts, ltb-true, free_means)
 
   is_open_at : (k : OpenLink) → IsOpenLink c k → is_open c k.a k.b ≡ true
   is_open_at k o = and_from _ _ o.linked (and_from _ _ (lt-ltb k.a k.b o.lower) (and_from _ _ (free_from k.a o.free_a) (free_from k.b o.free_b)))
@@ -238,9 +223,7 @@ module _ (c : Configuration) where
 
   -- the links of a
   links_have_a : (a : ℕ) → All (λ k. k.a ≡ a) (open_links_at c a)
-  links_have_a a =
-      all_below (λ k. k.a ≡ a) c.size (λ b. listed_if (is_open c a b) (open_link c a b))
-      (λ b l. all_listed (λ k. k.a ≡ a) (is_open c a b) (open_link c a b) (λ _. refl))
+  links_have_a a = search (rules, all_below, all_listed)
 
   strengthen : (a : ℕ) (ks : List OpenLink) → All (λ k. k.a ≡ a) ks → Rises (λ k l. k.b < l.b) ks → Rises IsLinkBefore ks
   strengthen a [] h r = tt

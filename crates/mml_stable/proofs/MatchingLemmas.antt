@@ -16,6 +16,7 @@ use Rattle.mml_rules.proofs.RulesLemmas.{married-partner, married-at, null-none,
 use Rattle.mml_rules.proofs.EnabledKindLemmas.{idle-guard}
 use Rattle.mml_rules.proofs.MeaningLemmas.{beq-true, beq-same, married-means}
 use Rattle.mml_stable.specs.Reports.{is_stable}
+use Rattle.std.proofs.lemmas.Bool.Decides.{nat_tests}
 
 -- no other rule than a seduction is enabled at i
 pub record IsQuiet (c : Configuration) (i : ℕ) : Type 0 where
@@ -133,7 +134,4 @@ stable-means c = (to, from)
 
 -- where no node is privileged, m is true exactly at the married nodes
 pub stable-m : (c : Configuration) (i : ℕ) → IsLawful c → IsStable c → i < c.size → (c.m i ≡ true) ↔ IsMarried c i
-stable-m c i l s i_in =
-    let right = idle-settled c i l (s i i_in) in
-    let means = married-means c i l in
-    ((λ h. means.0 (sym right ∙ h)), (λ h. right ∙ means.1 h))
+stable-m c i l s i_in = grind (arith, nat_tests, idle-settled, married-means)

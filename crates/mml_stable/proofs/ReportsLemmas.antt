@@ -1,10 +1,9 @@
 -- The lists of a report: the open links of a node from rows of sets, and that no node is privileged.
-use Rattle.std.proofs.Common.{◌≡◌, ◌≢◌, inl, inr, ℕ, zero, suc, ◌+◌, ◌<◌, ◌≤◌, Bool, true, false, cond, not, ◌&&◌, ◌||◌, eqb, ltb, List, [], ◌∷◌, ◌++◌, length, map, sym, refl, ap}
-use Rattle.std.proofs.Common.{◌∙◌, arith, add-one, Option, None, Some, length-append}
+use Rattle.std.proofs.Common.{◌≡◌, ◌≢◌, ℕ, zero, suc, ◌+◌, ◌<◌, Bool, true, false, cond, not, ◌&&◌, eqb, ltb, [], ◌∷◌, ◌++◌, length, map, sym, refl, ap}
+use Rattle.std.proofs.Common.{◌∙◌, arith, add-one, Option, length-append}
 use Rattle.std.proofs.lemmas.List.{append-nil}
 use Rattle.std.specs.Prelude.{is_some}
 use Rattle.std.proofs.lemmas.Bool.{lt-ltb, le-ltb, eq-eqb, ne_eqb, and_parts, cases_eq, cases_lt}
-use Rattle.std.specs.List.{range_with_len}
 use Rattle.std.proofs.lemmas.List.Elements.{filter_agree}
 use Rattle.std.specs.Ordering.{nat_cmp}
 use Rattle.std.specs.FinSet as sets
@@ -17,6 +16,7 @@ use Rattle.mml_rules.specs.declared.rule.Kind.{Kind}
 use Rattle.mml_rules.specs.Configuration.{Configuration, IsLawful}
 use Rattle.mml_stable.specs.inside.Rest.{IsFreeFrom}
 use Rattle.mml_stable.specs.Reports.{each_below, listed_if, privileged_at, is_free, is_open, open_link, open_links_at}
+use Rattle.std.proofs.lemmas.Bool.Decides.{nat_tests}
 
 -- what is listed of the numbers below n that pass
 listed_below : {A : Type 0} (t : ℕ → Bool) (f : ℕ → A) (n : ℕ) → passing t f n ≡ each_below n (λ b. listed_if (t b) (f b))
@@ -30,9 +30,7 @@ listed_below t f (suc n) = ap (passing t f) (sym (add-one n)) ∙ passing_more t
 -- of the ends of the open links of a
 pub links_of_ends : (c : Configuration) (a : ℕ) (ends : FinSet nat_cmp) → ((b : ℕ) → sets.contains ends b ≡ is_open c a b)
     → map (open_link c a) (ranks_in c.size ends) ≡ open_links_at c a
-links_of_ends c a ends same =
-    ap (map (open_link c a)) (filter_agree (sets.contains ends) (is_open c a) same (range_with_len 0 c.size))
-    ∙ listed_below (is_open c a) (open_link c a) c.size
+links_of_ends c a ends same = grind (arith, nat_tests, filter_agree, listed_below)
 
 -- both ends of an open link are nodes
 pub both_ends : (c : Configuration) (a b : ℕ) → IsLawful c → is_open c a b ≡ true → (a < c.size) × (b < c.size)
@@ -41,15 +39,7 @@ both_ends c a b lawful open_b = lawful.in_range a b (and_parts (c.linked a b) _ 
 -- no node is listed with its rule where there is none
 pub none_listed : (n : ℕ) (kind : ℕ → Option Kind) → eqb (length (each_below n (λ i. privileged_at i (kind i)))) 0 ≡ not (some_below n (λ i. is_some (kind i)))
 none_listed zero kind = refl
-none_listed (suc n) kind = go (kind n) (none_listed n kind)
-  where
-    listed : List (ℕ × Kind)
-    listed = each_below n (λ i. privileged_at i (kind i))
-
-    go : (k : Option Kind) → eqb (length listed) 0 ≡ not (some_below n (λ i. is_some (kind i)))
-        → eqb (length (listed ++ privileged_at n k)) 0 ≡ not (is_some k || some_below n (λ i. is_some (kind i)))
-    go None below = ap (λ xs. eqb (length xs) 0) (append-nil listed) ∙ below
-    go (Some k) below = ne_eqb (length (listed ++ (n, k) ∷ [])) 0 (λ e. omega (arith, length-append listed ((n, k) ∷ []), e))
+none_listed (suc n) kind = grind (arith, nat_tests, append-nil, ne_eqb, length-append, (none_listed n kind))
 
 -- all free nodes are left before the first
 pub all_left : (c : Configuration) (free : FinSet nat_cmp) → free ≡ those_below c.size (is_free c) → IsFreeFrom c 0 free
@@ -58,13 +48,7 @@ all_left c free e b =
     ∙ ap (λ t. not t && (ltb b c.size && is_free c b)) (sym (le-ltb b 0 (omega arith)))
 
 past : (a b : ℕ) (x : Bool) → (not (eqb b a) && (not (ltb b a) && x)) ≡ (not (ltb b (a + 1)) && x)
-past a b x = elim (cases_lt b a) [
-  | inl l ↦ rw (ne_eqb b a (λ e. omega (arith, l, e)), lt-ltb b a l, lt-ltb b (a + 1) (omega (arith, l))) refl
-  | inr h ↦ elim (cases_eq b a) [
-    | inl e ↦ rw (eq-eqb b a e, lt-ltb b (a + 1) (omega (arith, e))) refl
-    | inr ne ↦ rw (ne_eqb b a ne, le-ltb b a h, le-ltb b (a + 1) (omega (arith, h, ne))) refl
-  ]
-]
+past a b x = grind (arith, nat_tests, cases_lt, ne_eqb, lt-ltb, cases_eq, eq-eqb, le-ltb)
 
 -- the next node is taken out
 pub one_past : (c : Configuration) (a : ℕ) (rest left : FinSet nat_cmp) → IsFreeFrom c a rest → left ≡ sets.remove rest a → IsFreeFrom c (a + 1) left
@@ -77,32 +61,16 @@ has_self c a rest l from = from a ∙ (rw (le-ltb a a (omega arith), lt-ltb a c.
 
 row : (linked free_b from above in_size free_a : Bool) → (linked ≡ true → (from ≡ above) × (in_size ≡ true)) → free_a ≡ true
     → (linked && (from && (in_size && free_b))) ≡ (linked && (above && (free_a && free_b)))
-row false free_b from above in_size free_a within free = refl
-row true free_b from above in_size free_a within free = rw ((within refl).0, (within refl).1, free) refl
+row linked free_b from above in_size free_a within free = grind (arith, nat_tests)
 
 apart : (a b : ℕ) → a ≢ b → not (ltb b a) ≡ ltb a b
-apart a b ne = elim (cases_lt a b) [
-  | inl l ↦ rw (lt-ltb a b l, le-ltb b a (omega (arith, l))) refl
-  | inr h ↦ rw (le-ltb a b h, lt-ltb b a (omega (arith, h, ne))) refl
-]
+apart a b ne = grind (arith, nat_tests, cases_lt, lt-ltb, le-ltb)
 
 -- of a free node: its neighbours that are left
 pub open_row : (c : Configuration) (a b : ℕ) → IsLawful c → is_free c a ≡ true
     → (c.linked a b && (not (ltb b a) && (ltb b c.size && is_free c b))) ≡ is_open c a b
-open_row c a b l free = row (c.linked a b) (is_free c b) (not (ltb b a)) (ltb a b) (ltb b c.size) (is_free c a)
-    (λ linked. (
-      apart a b (λ e. absurd (never (sym linked ∙ sym (ap (c.linked a) e) ∙ l.no_loop a))),
-      lt-ltb b c.size (l.in_range a b linked).1,
-    )) free
-  where
-    never : true ≡ false → ⊥
-    never h = cc
+open_row c a b l free = grind (arith, nat_tests, row, apart, lt-ltb)
 
 -- a node that is not free has none
 pub no_row : (c : Configuration) (a b : ℕ) → is_free c a ≡ false → false ≡ is_open c a b
-no_row c a b taken = none (c.linked a b) (ltb a b) (is_free c a) (is_free c b) taken
-  where
-    none : (linked above free_a free_b : Bool) → free_a ≡ false → false ≡ (linked && (above && (free_a && free_b)))
-    none false above free_a free_b e = refl
-    none true false free_a free_b e = refl
-    none true true free_a free_b e = rw e refl
+no_row c a b taken = grind (arith, nat_tests)

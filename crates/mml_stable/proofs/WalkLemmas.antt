@@ -1,16 +1,17 @@
 -- The walk rises, ends at a privileged node or one that points at no node, and gives an open link its witness.
-use Rattle.std.proofs.Common.{◌≡◌, ℕ, zero, suc, ◌<◌, ◌≤◌, ◌+◌, Bool, true, false, cond, not, ◌&&◌, ◌⊎◌, inl, inr, Option, None, Some, is_some}
-use Rattle.std.proofs.Common.{is_none, unwrap_or, sym, refl, ap, ◌∙◌, subst, arith, add-one}
+use Rattle.std.proofs.Common.{◌≡◌, ℕ, zero, suc, ◌<◌, ◌≤◌, ◌+◌, Bool, true, false, cond, ◌⊎◌, inl, inr, Option, None, Some}
+use Rattle.std.proofs.Common.{unwrap_or, sym, refl, ap, ◌∙◌, subst, arith, add-one}
 use Rattle.std.proofs.lemmas.Bool.{both_ways, and_parts}
 use Rattle.mml_rules.specs.declared.rule.Rule.{Rule}
 use Rattle.mml_rules.specs.declared.rule.Kind.{Kind}
 use Rattle.mml_rules.specs.Configuration.{Configuration, IsLawful}
-use Rattle.mml_rules.specs.Rules.{is_married, has_suitor, greatest_candidate, m_is_right, guard, kind_of, enabled_kind, is_privileged}
+use Rattle.mml_rules.specs.Rules.{is_married, guard, kind_of, enabled_kind, is_privileged}
 use Rattle.mml_rules.proofs.RulesLemmas.{none-null}
 use Rattle.mml_rules.proofs.EnabledKindLemmas.{guard-kind, kind-guard}
 use Rattle.mml_stable.specs.Walk.{climb, top, unless_seduction, walk, certificate, LeadsTo}
 use Rattle.mml_stable.specs.Walk.LeadsTo.{privileged, null, onward}
 use Rattle.mml_stable.proofs.MatchingLemmas.{IsQuiet, idle-quiet, idle-settled, quiet-settled, quiet-vain, quiet-alone, may_seduce}
+use Rattle.std.proofs.lemmas.Bool.Decides.{nat_tests}
 
 -- where the climb from i is at its end: at i, or where an idle node points
 pub record EndsAt (c : Configuration) (i x : ℕ) : Type 0 where
@@ -58,40 +59,20 @@ leads-null c i x (onward h p r) e = leads-null c _ x r e
 
 -- a seduction is for a node that points nowhere
 guard-null : (c : Configuration) (i : ℕ) (r : Rule) → kind_of r ≡ Kind.Seduction → guard c i r ≡ true → c.p i ≡ None
-guard-null c i Rule.Update e g = cc
-guard-null c i (Rule.Marriage j) e g = cc
-guard-null c i Rule.Seduction e g =
-    none-null (c.p i) (and_parts (is_none (c.p i)) (not (has_suitor c i) && is_some (greatest_candidate c i))
-    (and_parts (m_is_right c i) (is_none (c.p i) && (not (has_suitor c i) && is_some (greatest_candidate c i))) g).1).0
-guard-null c i Rule.Abandonment e g = cc
+guard-null c i r e g = grind (arith, nat_tests, none-null, and_parts)
 
 only_seduction : (x : ℕ) (k : Kind) → unless_seduction x (Some k) ≡ None → k ≡ Kind.Seduction
-only_seduction x Kind.Update h = cc
-only_seduction x Kind.Marriage h = cc
-only_seduction x Kind.Seduction h = refl
-only_seduction x Kind.Abandonment h = cc
+only_seduction x k h = grind (arith, nat_tests)
 
 idle_is_quiet : (c : Configuration) (x : ℕ) → IsLawful c → unless_seduction x (enabled_kind c x) ≡ None → IsQuiet c x
 idle_is_quiet c x l h = record { only = λ r g. only_seduction x (kind_of r) (ap (unless_seduction x) (sym (guard-kind c x r l g)) ∙ h) }
 
 idle_is_null : (c : Configuration) (i x : ℕ) → IsLawful c → LeadsTo c i x → unless_seduction x (enabled_kind c x) ≡ None → c.p x ≡ None
-idle_is_null c i x l leads h = go (enabled_kind c x) refl
-  where
-    go : (o : Option Kind) → enabled_kind c x ≡ o → c.p x ≡ None
-    go None e = leads-null c i x leads (ap is_some e)
-    go (Some k) e = let r = kind-guard c x k e in
-        guard-null c x r.0 (r.1 ∙ only_seduction x k (ap (unless_seduction x) (sym e) ∙ h)) r.2
+idle_is_null c i x l leads h = grind (arith, nat_tests, leads-null, kind-guard, guard-null, only_seduction)
 
 -- where the walk from a free node is idle, it has not left the node
 pub idle-stays : (c : Configuration) (i : ℕ) → IsLawful c → i < c.size → is_married c i ≡ false → walk c i ≡ None → IsQuiet c i × (c.p i ≡ None)
-idle-stays c i l i_in free h =
-    let ends = top-ends c l i i_in (inl free) in
-    let quiet = idle_is_quiet c (top c i) l h in
-    let nowhere = idle_is_null c i (top c i) l ends.leads h in
-    elim ends.from [
-      | inl same ↦ (subst (λ x. IsQuiet c x) same quiet, subst (λ x. c.p x ≡ None) same nowhere)
-      | inr y ↦ absurd (quiet-alone c y.0 (top c i) l y.1 nowhere quiet)
-    ]
+idle-stays c i l i_in free h = grind (arith, nat_tests, top-ends, idle_is_quiet, idle_is_null, quiet-alone)
 
 -- a node that is there, with a rule whose guard holds at it
 pub record IsWitness (c : Configuration) (e : ℕ × Kind) : Type 0 where
@@ -99,11 +80,7 @@ pub record IsWitness (c : Configuration) (e : ℕ × Kind) : Type 0 where
   pub kind : enabled_kind c e.0 ≡ Some e.1
 
 kept-witness : (c : Configuration) (x : ℕ) (o : Option Kind) (e : ℕ × Kind) → enabled_kind c x ≡ o → x < c.size → unless_seduction x o ≡ Some e → IsWitness c e
-kept-witness c x None e k x_in h = cc
-kept-witness c x (Some Kind.Update) e k x_in h = let s : (x, Kind.Update) ≡ e = cc in subst (λ e. IsWitness c e) s (record { node = x_in; kind = k })
-kept-witness c x (Some Kind.Marriage) e k x_in h = let s : (x, Kind.Marriage) ≡ e = cc in subst (λ e. IsWitness c e) s (record { node = x_in; kind = k })
-kept-witness c x (Some Kind.Seduction) e k x_in h = cc
-kept-witness c x (Some Kind.Abandonment) e k x_in h = let s : (x, Kind.Abandonment) ≡ e = cc in subst (λ e. IsWitness c e) s (record { node = x_in; kind = k })
+kept-witness c x o e k x_in h = grind (arith, nat_tests)
 
 pub walk-witness : (c : Configuration) (i : ℕ) (e : ℕ × Kind) → IsLawful c → i < c.size → is_married c i ≡ false → walk c i ≡ Some e → IsWitness c e
 walk-witness c i e l i_in free h = kept-witness c (top c i) (enabled_kind c (top c i)) e refl (top-ends c l i i_in (inl free)).in_range h
@@ -134,8 +111,7 @@ witness-guard c e w = kind-guard c e.0 e.1 w.kind
 
 -- steps of a climb
 pub climb_stops : (c : Configuration) (n i : ℕ) → is_privileged c i ≡ true → climb c n i ≡ i
-climb_stops c zero i h = refl
-climb_stops c (suc n) i h = ap (λ b. cond b i (climb c n (unwrap_or (c.p i) i))) h
+climb_stops c n i h = grind (arith, nat_tests)
 
 -- a climb stays at a node that isn't privileged and points nowhere
 pub climb_null : (c : Configuration) (n i : ℕ) → is_privileged c i ≡ false → c.p i ≡ None → climb c n i ≡ i

@@ -1,17 +1,18 @@
 -- The witness of an open link is the same node under names that keep the order.
-use Rattle.std.proofs.Common.{◌≡◌, ◌⊎◌, ℕ, zero, suc, ◌<◌, ◌≤◌, Bool, true, false, ◌&&◌, ltb, Option, None, Some, unwrap_or, is_some, sym, refl, ap}
+use Rattle.std.proofs.Common.{◌≡◌, ◌⊎◌, ℕ, zero, suc, ◌<◌, ◌≤◌, Bool, true, false, Option, None, Some, unwrap_or, is_some, sym, refl, ap}
 use Rattle.std.proofs.Common.{◌∙◌, subst, arith, inl, inr}
 use Rattle.std.proofs.lemmas.Bool.{and_parts, not-true}
 use Rattle.mml_rules.specs.declared.rule.Kind.{Kind}
 use Rattle.mml_rules.specs.Configuration.{Configuration, IsLawful}
-use Rattle.mml_rules.specs.Rules.{is_married, enabled_kind, is_privileged}
+use Rattle.mml_rules.specs.Rules.{is_married, is_privileged}
 use Rattle.mml_rules.specs.Naming.{renamed, IsRenamed}
 use Rattle.mml_rules.proofs.RulesLemmas.{pointee_in}
 use Rattle.mml_rules.proofs.NamingLemmas.{kind_named}
 use Rattle.mml_stable.specs.Walk.{climb, top, unless_seduction, walk, certificate, LeadsTo}
 use Rattle.mml_stable.specs.Walk.LeadsTo.{privileged, null, onward}
-use Rattle.mml_stable.specs.Reports.{is_free, is_open}
+use Rattle.mml_stable.specs.Reports.{is_open}
 use Rattle.mml_stable.proofs.WalkLemmas.{top-ends, climb_stops, climb_null, climb_onward}
+use Rattle.std.proofs.lemmas.Bool.Decides.{nat_tests}
 
 module _ (f : ℕ → ℕ) (c d : Configuration) (l : IsLawful c) (r : IsRenamed f c d) where
   privileged_at : (i : ℕ) → i < c.size → is_privileged d (f i) ≡ is_privileged c i
@@ -23,8 +24,7 @@ module _ (f : ℕ → ℕ) (c d : Configuration) (l : IsLawful c) (r : IsRenamed
   rank_first (suc i) a = let below = rank_first i (omega arith) in let up = r.rising i (suc i) (omega arith) a in omega arith
 
   as_many : (n : ℕ) → c.size ≡ n → c.size ≤ d.size
-  as_many zero e = omega arith
-  as_many (suc n) e = let at = rank_first n (omega arith) in let in_d = r.within n (omega arith) in omega arith
+  as_many n e = grind (arith, nat_tests, rank_first)
 
   -- a walk that comes to its end takes the same way under the names
   climbed : (n m i : ℕ) → n ≤ m → i < c.size → (is_privileged c (climb c n i) ≡ true) ⊎ (c.p (climb c n i) ≡ None) → climb d m (f i) ≡ f (climb c n i)
@@ -59,33 +59,16 @@ module _ (f : ℕ → ℕ) (c d : Configuration) (l : IsLawful c) (r : IsRenamed
   found (Some e) = Some (f e.0, e.1)
 
   unless_named : (x : ℕ) (k : Option Kind) → unless_seduction (f x) k ≡ found (unless_seduction x k)
-  unless_named x None = refl
-  unless_named x (Some Kind.Update) = refl
-  unless_named x (Some Kind.Marriage) = refl
-  unless_named x (Some Kind.Seduction) = refl
-  unless_named x (Some Kind.Abandonment) = refl
+  unless_named x k = grind (arith, nat_tests)
 
   walk_named : (i : ℕ) → i < c.size → is_married c i ≡ false → walk d (f i) ≡ found (walk c i)
-  walk_named i i_in free =
-      let x_in = (top-ends c l i i_in (inl free)).in_range in
-      ap (λ x. unless_seduction x (enabled_kind d x)) (top_named i i_in (inl free))
-      ∙ ap (unless_seduction (f (top c i))) (kind_named f c d l r (top c i) x_in)
-      ∙ unless_named (top c i) (enabled_kind c (top c i))
+  walk_named i i_in free = grind (arith, nat_tests, top-ends, top_named, kind_named, unless_named)
 
   either : (x y : Option (ℕ × Kind)) (a : ℕ)
       → unwrap_or (found x) (unwrap_or (found y) (f a, Kind.Seduction))
       ≡ (f (unwrap_or x (unwrap_or y (a, Kind.Seduction))).0, (unwrap_or x (unwrap_or y (a, Kind.Seduction))).1)
-  either (Some e) y a = refl
-  either None (Some e) a = refl
-  either None None a = refl
+  either x y a = grind (arith, nat_tests)
 
   pub witness_named : (a b : ℕ) → is_open c a b ≡ true → certificate d (f a) (f b) ≡ (f (certificate c a b).0, (certificate c a b).1)
   unfolding certificate
-  witness_named a b h =
-      let linked = and_parts (c.linked a b) (ltb a b && (is_free c a && is_free c b)) h in
-      let lower = and_parts (ltb a b) (is_free c a && is_free c b) linked.1 in
-      let free = and_parts (is_free c a) (is_free c b) lower.1 in
-      let ends = l.in_range a b linked.0 in
-      let first = walk_named a ends.0 (not-true (is_married c a) free.0) in
-      let second = walk_named b ends.1 (not-true (is_married c b) free.1) in
-      (λ z. unwrap_or (first z) (unwrap_or (second z) (f a, Kind.Seduction))) ∙ either (walk c a) (walk c b) a
+  witness_named a b h = grind (arith, nat_tests, and_parts, walk_named, not-true, either)

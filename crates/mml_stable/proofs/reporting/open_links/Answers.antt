@@ -5,10 +5,7 @@ use Rattle.mml_stable.proofs.ReportsLemmas.{all_left, one_past}
 use Rattle.mml_stable.proofs.reporting.open_links.Goals as goal
 
 pub loop-index-init : goal.loop-index-init
-loop-index-init c = record {
-  links = search rules;
-  rest = all_left (configuration c.args.board.now) c.args.free c.requires.free;
-}
+loop-index-init c = search (rules, all_left)
 
 pub loop-index-preserved : goal.loop-index-preserved
 loop-index-preserved c = record {

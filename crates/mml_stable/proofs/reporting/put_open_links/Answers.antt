@@ -1,4 +1,4 @@
-use Rattle.std.proofs.Common.{◌≡◌, ◌∙◌, ◌<◌, ◌++◌, ◌∷◌, [], true, ap, sym}
+use Rattle.std.proofs.Common.{◌≡◌, ◌∙◌, ◌<◌, ◌++◌, ◌∷◌, [], true, ap, sym, arith}
 use Rattle.std.specs.FinSet as sets
 use Rattle.mml_ids.proofs.SetsLemmas.{one_put, all_put}
 use Rattle.mml_board.specs.World.{size, configuration}
@@ -7,12 +7,10 @@ use Rattle.mml_stable.specs.declared.open_link.OpenLink.{OpenLink}
 use Rattle.mml_stable.specs.Reports.{is_open, open_link, open_links_at}
 use Rattle.mml_stable.proofs.ReportsLemmas.{links_of_ends, both_ends}
 use Rattle.mml_stable.proofs.reporting.put_open_links.Goals as goal
+use Rattle.std.proofs.lemmas.Bool.Decides.{nat_tests}
 
 pub loop-b-init : goal.loop-b-init
-loop-b-init c = record {
-  each = λ b h. sym (c.requires.ends b) ∙ h;
-  so_far = ap (λ links. c.args.all.now.items ++ links) (links_of_ends (configuration c.args.board.now) c.args.a c.args.ends c.requires.ends);
-}
+loop-b-init c = grind (arith, nat_tests, links_of_ends)
 
 pub loop-b-preserved : goal.loop-b-preserved
 loop-b-preserved c =
@@ -31,16 +29,10 @@ loop-b-preserved c =
     }
 
 pub returns : goal.returns
-returns c =
-    all_put (open_link (configuration c.args.board.now) c.args.a) (size c.args.board.now) c.loop-b.left c.loop-b.all.items
-    (c.args.all.now.items ++ open_links_at (configuration c.args.board.now) c.args.a) c.in_default.ensures.none c.loop-b.invariant.so_far
+returns c = grind (arith, nat_tests, all_put)
 
 pub open_link-requires-clause-a : goal.open_link-requires-clause-a
-open_link-requires-clause-a c =
-    let d = configuration c.args.board.now in
-    (both_ends d c.args.a c.in-Some.b c.size-size.ensures.lawful (c.loop-b.invariant.each c.in-Some.b c.in-Some.ensures.member)).0
+open_link-requires-clause-a c = grind (arith, nat_tests, both_ends)
 
 pub open_link-requires-clause-b : goal.open_link-requires-clause-b
-open_link-requires-clause-b c =
-    let d = configuration c.args.board.now in
-    (both_ends d c.args.a c.in-Some.b c.size-size.ensures.lawful (c.loop-b.invariant.each c.in-Some.b c.in-Some.ensures.member)).1
+open_link-requires-clause-b c = grind (arith, nat_tests, both_ends)
