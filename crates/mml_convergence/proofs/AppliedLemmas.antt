@@ -22,6 +22,7 @@ use Rattle.mml_convergence.specs.Potential.{whole_potential}
 use Rattle.mml_convergence.specs.Moves.{moves, applied_by, applied_over, is_close, count_closes}
 use Rattle.mml_convergence.proofs.SumsLemmas.{count_some}
 use Rattle.mml_convergence.proofs.WholePotentialLemmas.{whole_fell, whole_most}
+use Rattle.std.proofs.lemmas.Bool.Decides.{nat_tests}
 
 -- what falls in each step by the moves at the least
 abbrev pub Falls : (Configuration → ℕ) → Type 0
@@ -30,8 +31,7 @@ Falls P = (c : Configuration) (chosen : ℕ → Option Rule) → IsLawful c → 
 -- pays for the moves of a close
 pub close_paid : (P : Configuration → ℕ) → Falls P → (w : World) → IsWorld w → chosen_count w + P (configuration (after w event.Close)) ≤ P (configuration w)
 unfolding chosen_count
-close_paid P falls w k =
-    omega (arith, falls (configuration w) (chosen_at w.chosen) k.network.lawful k.hold, ap P (closed-step w k.choices))
+close_paid P falls w k = grind (arith, nat_tests, closed-step)
 
 event_pays : (P : Configuration → ℕ) → Falls P → (w : World) (e : Event) → IsWorld w → is_of_step e ≡ true
     → applied_by w e + P (configuration (after w e)) ≤ P (configuration w)

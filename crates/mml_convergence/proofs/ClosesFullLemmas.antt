@@ -1,11 +1,10 @@
 -- Where each close finds a chosen move at every privileged node, it ends a round.
-use Rattle.std.proofs.Common.{◌≡◌, ℕ, zero, suc, ◌<◌, ◌≤◌, inl, inr, Bool, true, false, cond, not, List, [], ◌∷◌, ◌++◌, refl, ap, subst, arith}
+use Rattle.std.proofs.Common.{◌≡◌, ℕ, zero, suc, ◌<◌, ◌≤◌, inl, inr, Bool, true, false, cond, List, [], ◌∷◌, ◌++◌, refl, ap, subst, arith}
 use Rattle.std.specs.List.{list_all}
 use Rattle.std.proofs.lemmas.Bool.{and_from, or_left, or_right, both_ways, cases_Bool, cases_lt}
-use Rattle.mml_rules.specs.Rules.{is_privileged}
 use Rattle.mml_lab.specs.Rosters.{RosterValue}
 use Rattle.mml_board.specs.declared.event.Event.{Event}
-use Rattle.mml_board.specs.World.{World, size, configuration, IsWorld}
+use Rattle.mml_board.specs.World.{World, size, IsWorld}
 use Rattle.mml_board.specs.Events.{is_legal, after}
 use Rattle.mml_board.specs.Runs.{is_legal_list, world_of}
 use Rattle.mml_board.proofs.WorldLemmas.{size-after}
@@ -15,13 +14,11 @@ use Rattle.mml_convergence.proofs.RestLemmas.{stable_final}
 use Rattle.mml_convergence.specs.Rounds.{IsRound, Rounds, rounds_for, IsFull, ClosesFull}
 use Rattle.mml_convergence.proofs.ServedLemmas.{IsRun, first_legal, first_of_step, run_parts, run_end}
 use Rattle.mml_convergence.proofs.RoundsLemmas.{rounds_end}
+use Rattle.std.proofs.lemmas.Bool.Decides.{nat_tests}
 
 -- a full close is a round by itself
 close_round : (w : World) (e : Event) → is_close e ≡ true → IsFull w → IsRound w (e ∷ [])
-close_round w e close full i lt = elim (cases_Bool (is_privileged (configuration w) i)) [
-  | inl on ↦ or_right _ _ (or_left _ _ (and_from _ _ close (full i lt on)))
-  | inr off ↦ or_left _ _ (ap not off)
-]
+close_round w e close full i lt = grind (arith, nat_tests, cases_Bool, or_right, or_left, and_from)
 
 -- a round is one with an event before it
 longer_round : (w : World) (e : Event) (es : List Event) → IsRound (after w e) es → IsRound w (e ∷ es)

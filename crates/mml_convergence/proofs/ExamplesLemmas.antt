@@ -1,6 +1,6 @@
 -- The bound is reached: on the triangle with a tail a legal list applies 20 moves.
 use Rattle.std.proofs.Common.{◌≡◌, ◌==◌, ℕ, zero, suc, ◌+◌, ◌-◌, ◌*◌, ◌<◌, nat_lt, Bool, true, false, ◌&&◌, ◌||◌, Option, None, Some, is_some}
-use Rattle.std.proofs.Common.{is_none, List, [], ◌∷◌, map, length, set, replicate, sym, refl, ap, ◌∙◌, subst, arith}
+use Rattle.std.proofs.Common.{is_none, List, [], ◌∷◌, map, length, set, replicate, sym, refl, ap, ◌∙◌, subst, arith, rules}
 use Rattle.std.specs.Prelude.{nat_le, All}
 use Rattle.std.specs.List.{list_any, range_with_len}
 use Rattle.std.specs.Ordering.{nat_cmp}
@@ -103,12 +103,7 @@ abbrev third : Network
 third = with_link second 0 2
 
 linked_is : (i j : ℕ) → (configuration_of triangle).linked i j ≡ links i j
-linked_is i j =
-    linked-with_link third 2 3 i j (omega arith) (omega arith)
-    ∙ ap (λ x. ((i == 3) && (j == 2)) || (((i == 2) && (j == 3)) || x)) (linked-with_link second 0 2 i j (omega arith) (omega arith)
-    ∙ ap (λ x. ((i == 2) && (j == 0)) || (((i == 0) && (j == 2)) || x)) (linked-with_link first 1 2 i j (omega arith) (omega arith)
-    ∙ ap (λ x. ((i == 2) && (j == 1)) || (((i == 1) && (j == 2)) || x)) (linked-with_link unlinked 0 1 i j (omega arith) (omega arith)
-    ∙ ap (λ x. ((i == 1) && (j == 0)) || (((i == 0) && (j == 1)) || x)) (none_linked i j))))
+linked_is i j = search (rules, linked-with_link, none_linked)
 
 same_links : (configuration triangle_world).linked ≡ links
 same_links = λ k i j. linked_is i j k
@@ -140,11 +135,7 @@ triangle_network =
     with_link-lawful third 2 3 c (omega arith) (omega arith) (λ e. absurd (omega arith))
 
 points_over : (i j : ℕ) → (registers_at triangle_world.network.registers i).p ≡ Some j → links i j ≡ true
-points_over zero j e = let at : 1 ≡ j = cc in subst (λ j. links 0 j ≡ true) at refl
-points_over (suc zero) j e = let at : 2 ≡ j = cc in subst (λ j. links 1 j ≡ true) at refl
-points_over (suc (suc zero)) j e = let at : 0 ≡ j = cc in subst (λ j. links 2 j ≡ true) at refl
-points_over (suc (suc (suc zero))) j e = let at : 2 ≡ j = cc in subst (λ j. links 3 j ≡ true) at refl
-points_over (suc (suc (suc (suc i)))) j e = absurd cc
+points_over i j e = grind (arith, nat_tests)
 
 -- the triangle with a tail is a lawful world
 pub world : IsWorld triangle_world
@@ -171,19 +162,14 @@ triangle_potential = ap (λ linked. whole_potential (shape linked triangle_world
 -- ---- the run
 
 one_owner : All (λ s. s < 1) (0 ∷ [])
-one_owner zero d lt = omega arith
-one_owner (suc k) d lt = absurd (omega arith)
+one_owner i d lt = grind (arith, nat_tests)
 
 -- the roster of the one student is lawful
 pub roster : IsRoster sole_owner
 roster = grind (arith, nat_tests, one_owner)
 
 owns_all : (i : ℕ) → i < size triangle_world → owns sole_owner (who.Student 0) i ≡ true
-owns_all zero lt = refl
-owns_all (suc zero) lt = refl
-owns_all (suc (suc zero)) lt = refl
-owns_all (suc (suc (suc zero))) lt = refl
-owns_all (suc (suc (suc (suc i)))) lt = absurd (omega arith)
+owns_all i lt = grind (arith, nat_tests)
 
 told : tells links triangle_world.network.registers triangle_world.chosen twenty_moves 20 ≡ true
 unfolding is_married has_suitor greatest_candidate

@@ -12,12 +12,13 @@ use Rattle.mml_lab.specs.Rosters.{RosterValue}
 use Rattle.mml_board.specs.declared.event.Event.{Event}
 use Rattle.mml_board.specs.declared.event.Event.TheVariants as event
 use Rattle.mml_board.specs.World.{World, size, configuration, chosen_at, IsWorld}
-use Rattle.mml_board.specs.Events.{has_right_asker, is_possible, is_any_chosen, is_legal, after}
+use Rattle.mml_board.specs.Events.{is_any_chosen, is_legal, after}
 use Rattle.mml_board.proofs.WorldLemmas.{after-world, size-after, none_at}
 use Rattle.mml_convergence.specs.Potential.{whole_potential}
 use Rattle.mml_convergence.specs.Rest.{is_grant_or_close, EachHasOwner, LeadsToRest}
 use Rattle.mml_convergence.proofs.AppliedLemmas.{close_moves, close_pays, network_most}
 use Rattle.mml_convergence.proofs.RestLemmas.{none_chosen, any_chosen, may_move, first_owner}
+use Rattle.std.proofs.lemmas.Bool.Decides.{nat_tests}
 
 abbrev IsQuiet : World → Type 0
 IsQuiet w = (i : ℕ) → chosen_at w.chosen i ≡ None
@@ -28,10 +29,7 @@ record IsReady (r : RosterValue) (w : World) : Type 0 where
   owned : EachHasOwner r (size w)
 
 ready_after : (r : RosterValue) (w : World) (e : Event) → IsReady r w → is_legal r w e ≡ true → IsReady r (after w e)
-ready_after r w e k legal = record {
-  world = after-world w e k.world (and_parts (has_right_asker r e) (is_possible w e) legal).1;
-  owned = λ i lt. k.owned i (omega (arith, size-after w e));
-}
+ready_after r w e k legal = grind (arith, nat_tests, after-world, and_parts, size-after)
 
 -- a move that can be granted, and closed at once
 record NextMove (r : RosterValue) (w : World) : Type 0 where
@@ -63,8 +61,7 @@ close_lowers r w k legal = let pays = close_pays w k in let moves = close_moves 
 
 goes_on : (r : RosterValue) (w : World) (e : Event) (n : ℕ) (es : List Event) → is_legal r w e ≡ true → is_grant_or_close e ≡ true
     → LeadsToRest r (after w e) n es → LeadsToRest r w (n + 1) (e ∷ es)
-goes_on r w e n es legal forward t = let few = t.few in
-    record { legal = and_from _ _ legal t.legal; forward = and_from _ _ forward t.forward; stable = t.stable; few = omega arith }
+goes_on r w e n es legal forward t = grind (arith, nat_tests, and_from)
 
 within : (r : RosterValue) (w : World) (n m : ℕ) (es : List Event) → n ≤ m → LeadsToRest r w n es → LeadsToRest r w m es
 within r w n m es le t = let few = t.few in record { legal = t.legal; forward = t.forward; stable = t.stable; few = omega arith }

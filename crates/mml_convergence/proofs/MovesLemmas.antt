@@ -1,15 +1,14 @@
 -- What guards say, and over which links a move makes or takes back a pointer.
-use Rattle.std.proofs.Common.{◌≡◌, ◌==◌, ℕ, ◌<◌, Bool, true, false, not, ◌&&◌, ◌||◌, ◌⊎◌, inl, inr, Option, None, Some, is_some, is_none, sym, refl}
-use Rattle.std.proofs.Common.{ap, ◌∙◌, subst, nat_lt}
-use Rattle.std.specs.Option.{option_map_or}
+use Rattle.std.proofs.Common.{◌≡◌, ◌==◌, ℕ, ◌<◌, Bool, true, false, not, ◌&&◌, ◌⊎◌, inl, inr, Option, None, Some, is_some, is_none, refl, subst, nat_lt, arith}
 use Rattle.std.proofs.lemmas.Bool.{and_parts, or_cases, not-true, both_ways, false≢true, ltb-true, eqb-true}
 use Rattle.mml_rules.specs.declared.rule.Rule.{Rule}
 use Rattle.mml_rules.specs.Configuration.{Configuration, holds}
-use Rattle.mml_rules.specs.Rules.{is_married, has_suitor, greatest_candidate, m_is_right, points_in_vain, guard, moved}
+use Rattle.mml_rules.specs.Rules.{is_married, has_suitor, greatest_candidate, m_is_right, guard, moved}
 use Rattle.mml_rules.proofs.ConfigurationLemmas.{holds-true, holds-from}
 use Rattle.mml_rules.proofs.RulesLemmas.{none-null, greatest-is}
 use Rattle.mml_rules.proofs.MeaningLemmas.{beq-true}
 use Rattle.mml_convergence.proofs.StepLemmas.{beq-false}
+use Rattle.std.proofs.lemmas.Bool.Decides.{nat_tests}
 
 -- the guard of a move holds, if there is one
 abbrev pub Holds : Configuration → ℕ → Option Rule → Type 0
@@ -25,11 +24,7 @@ pub record Marries (c : Configuration) (i j : ℕ) : Type 0 where
 
 -- a node that may marry points nowhere, its m is right, and its partner is linked to it and points at it
 pub marries : (c : Configuration) (i j : ℕ) → guard c i (Rule.Marriage j) ≡ true → Marries c i j
-marries c i j h =
-    let x = and_parts (m_is_right c i) (is_none (c.p i) && (c.linked i j && holds (c.p j) i)) h in
-    let y = and_parts (is_none (c.p i)) (c.linked i j && holds (c.p j) i) x.1 in
-    let z = and_parts (c.linked i j) (holds (c.p j) i) y.1 in
-    record { right = beq-true _ _ x.0; null = none-null (c.p i) y.0; linked = z.0; suitor = holds-true (c.p j) i z.1 }
+marries c i j h = grind (arith, nat_tests, and_parts, beq-true, none-null, holds-true)
 
 pub record Seduces (c : Configuration) (i j : ℕ) : Type 0 where
   pub right : c.m i ≡ is_married c i
@@ -51,14 +46,7 @@ seduces c i j h e =
 
 -- a node that may seduce has a greatest candidate
 pub seduced : (c : Configuration) (i : ℕ) → guard c i Rule.Seduction ≡ true → (j : ℕ) × (greatest_candidate c i ≡ Some j)
-seduced c i h =
-    let x = and_parts (m_is_right c i) (is_none (c.p i) && (not (has_suitor c i) && is_some (greatest_candidate c i))) h in
-    let y = and_parts (is_none (c.p i)) (not (has_suitor c i) && is_some (greatest_candidate c i)) x.1 in
-    go (greatest_candidate c i) refl (and_parts (not (has_suitor c i)) (is_some (greatest_candidate c i)) y.1).1
-  where
-    go : (o : Option ℕ) → greatest_candidate c i ≡ o → is_some o ≡ true → (j : ℕ) × (greatest_candidate c i ≡ Some j)
-    go None e s = absurd (false≢true s)
-    go (Some j) e s = (j, e)
+seduced c i h = grind (arith, nat_tests, and_parts, false≢true)
 
 pub record Abandons (c : Configuration) (i j : ℕ) : Type 0 where
   pub right : c.m i ≡ is_married c i
@@ -67,24 +55,11 @@ pub record Abandons (c : Configuration) (i j : ℕ) : Type 0 where
 
 -- a node that may abandon has m right, and the one it points at doesn't point back, and has m true or is lower
 pub abandons : (c : Configuration) (i j : ℕ) → guard c i Rule.Abandonment ≡ true → c.p i ≡ Some j → Abandons c i j
-abandons c i j h e =
-    let x = and_parts (m_is_right c i) (points_in_vain c i) h in
-    let v : (not (holds (c.p j) i) && (c.m j || nat_lt j i)) ≡ true =
-    sym (ap (λ o. option_map_or (λ j. not (holds (c.p j) i) && (c.m j || nat_lt j i)) o false) e) ∙ x.1 in
-    let y = and_parts (not (holds (c.p j) i)) (c.m j || nat_lt j i) v in
-    record {
-      right = beq-true _ _ x.0;
-      unanswered = not-true _ y.0;
-      vain = elim (or_cases (c.m j) (nat_lt j i) y.1) [ inl m ↦ inl m | inr lt ↦ inr (ltb-true j i lt) ];
-    }
+abandons c i j h e = grind (arith, nat_tests, and_parts, beq-true, not-true, or_cases, ltb-true)
 
 -- a node that may abandon points at some node
 pub abandoned : (c : Configuration) (i : ℕ) → guard c i Rule.Abandonment ≡ true → (j : ℕ) × (c.p i ≡ Some j)
-abandoned c i h = go (c.p i) refl (and_parts (m_is_right c i) (points_in_vain c i) h).1
-  where
-    go : (o : Option ℕ) → c.p i ≡ o → option_map_or (λ j. not (holds (c.p j) i) && (c.m j || nat_lt j i)) o false ≡ true → (j : ℕ) × (c.p i ≡ Some j)
-    go None e v = absurd (false≢true v)
-    go (Some j) e v = (j, e)
+abandoned c i h = grind (arith, nat_tests, and_parts, false≢true)
 
 -- ---- who is charged for a move
 
@@ -106,13 +81,7 @@ marries_lower (Some Rule.Abandonment) k i = false
 
 -- a marriage that is charged to a lower node is one with that node
 pub marries_lower-means : (o : Option Rule) (k i : ℕ) → marries_lower o k i ≡ true → (o ≡ Some (Rule.Marriage i)) × (i < k)
-marries_lower-means None k i e = absurd (false≢true e)
-marries_lower-means (Some Rule.Update) k i e = absurd (false≢true e)
-marries_lower-means (Some (Rule.Marriage j)) k i e =
-    let x = and_parts (j == i) (nat_lt i k) e in
-    (ap (λ z. Some (Rule.Marriage z)) (eqb-true j i x.0), ltb-true i k x.1)
-marries_lower-means (Some Rule.Seduction) k i e = absurd (false≢true e)
-marries_lower-means (Some Rule.Abandonment) k i e = absurd (false≢true e)
+marries_lower-means o k i e = grind (arith, nat_tests, false≢true, and_parts, eqb-true, ltb-true)
 
 -- ---- what a move does
 

@@ -1,5 +1,5 @@
 -- What a node's turn brings, while no more nodes are married, or at any time.
-use Rattle.std.proofs.Common.{◌≡◌, ℕ, ◌+◌, ◌<◌, ◌≤◌, ◌⊎◌, inl, inr, false, Option, Some, arith}
+use Rattle.std.proofs.Common.{◌≡◌, ℕ, ◌+◌, ◌<◌, ◌≤◌, ◌⊎◌, inl, inr, false, Option, Some, arith, rules}
 use Rattle.std.proofs.lemmas.Bool.Decides.{nat_tests}
 use Rattle.mml_rules.specs.declared.rule.Rule.{Rule}
 use Rattle.mml_rules.specs.Configuration.{Configuration, IsLawful}
@@ -59,11 +59,7 @@ any_stays c chosen l h p = tt
 
 -- after its turn a node has m false, unless it is married
 pub modest_brings : (i : ℕ) → Brings Any (Modest i) i
-modest_brings i = record {
-  stays = λ c chosen l h p q. modest_stays c chosen l h i q;
-  idle = λ c l p e. modest_idle c i l e;
-  moves = λ c chosen r l h p e. modest_moves c chosen l h i r e;
-}
+modest_brings i = grind (arith, nat_tests, modest_stays, modest_idle, modest_moves)
 
 -- no step makes m true at a node that isn't married, where it was true at none
 pub modest_each : Stays (Each Modest)
@@ -123,9 +119,7 @@ pub record IsWooed (s t : ℕ) (c : Configuration) : Type 0 where
 
 -- a node that points nowhere and has a suitor keeps it while no more nodes are married
 pub wooed_calm : (s t : ℕ) → CalmStays (IsWooed s t)
-wooed_calm s t c chosen l h calm p =
-    let k = p.before.settled in
-    record { before = hopeful_calm c chosen l h calm p.before; pair = courted_kept c chosen l h calm k.modest k.upward s t p.pair }
+wooed_calm s t c chosen l h calm p = search (rules, hopeful_calm, courted_kept)
 
 -- what holds nowhere
 abbrev pub Never : Configuration → Type 0
@@ -133,27 +127,15 @@ Never c = ⊥
 
 -- where only married nodes have m true, after its turn a node points at no lower one, unless it is married
 pub upward_brings : (i : ℕ) → Brings (Each Modest) (λ c. i < c.size → Upward i c) i
-upward_brings i = record {
-  stays = λ c chosen l h p q lt. upward_stays c chosen l h i (q lt);
-  idle = λ c l p e lt. upward_idle c i l e;
-  moves = λ c chosen r l h p e lt. upward_moves c chosen l h i r (p i lt) e;
-}
+upward_brings i = grind (arith, nat_tests, upward_stays, upward_idle, upward_moves)
 
 -- after its turn a married node has m true, while no more nodes are married
 pub aware_brings : (i : ℕ) → CalmBrings IsSettled (λ c. i < c.size → Aware i c) i
-aware_brings i = record {
-  stays = λ c chosen l h calm p q lt. aware_stays c chosen l h calm i (q lt);
-  idle = λ c l p e lt. aware_idle c i l e;
-  moves = λ c chosen r l h calm p e lt. aware_moves c chosen l h calm i r e;
-}
+aware_brings i = grind (arith, nat_tests, aware_stays, aware_idle, aware_moves)
 
 -- after its turn an unmarried node points at no married one, while no more nodes are married
 pub hopeful_brings : (i : ℕ) → CalmBrings IsAware (λ c. i < c.size → Hopeful i c) i
-hopeful_brings i = record {
-  stays = λ c chosen l h calm p q lt. hopeful_stays c chosen l h calm i (q lt);
-  idle = λ c l p e lt. hopeful_idle c i l p.aware e;
-  moves = λ c chosen r l h calm p e lt. hopeful_moves c chosen l h calm i r (p.settled.modest i lt) e;
-}
+hopeful_brings i = grind (arith, nat_tests, hopeful_stays, hopeful_idle, hopeful_moves)
 
 -- after the turn of the lower of two linked nodes that aren't married, some node that isn't married points at one
 pub courting_brings : (a b : ℕ) → CalmBrings (IsReady a b) IsCourting a
@@ -181,14 +163,7 @@ pub record IsDawning (a b : ℕ) (c : Configuration) : Type 0 where
 
 -- a dawning configuration stays so while no more nodes are married
 pub dawning_calm : (a b : ℕ) → CalmStays (IsDawning a b)
-dawning_calm a b c chosen l h calm p = record {
-  modest = modest_each c chosen l h p.modest;
-  lone = lone_stays c chosen l h calm p.lone;
-  either = elim p.either [
-    | inl up ↦ inl (rising_stays c chosen l h calm p.modest p.lone up)
-    | inr k ↦ facing_stays c chosen l h calm p.modest p.lone a b k
-  ];
-}
+dawning_calm a b c chosen l h calm p = grind (arith, nat_tests, modest_each, lone_stays, rising_stays, facing_stays)
 
 -- and there, after the lower node's turn, a pointer leads upwards
 pub dawning_brings : (a b : ℕ) → CalmBrings (IsDawning a b) IsRising a

@@ -64,8 +64,7 @@ module _ (c : Configuration) (chosen : ℕ → Option Rule) (l : IsLawful c) (h 
       ]
 
   own_part_kept : (i : ℕ) → own_part next i ≤ own_part c i
-  own_part_kept i =
-      own_kept (is_married c i) (c.m i) (points_down c i) (is_married next i) (next.m i) (points_down next i) (married i) (m_moved i) (down_kept i)
+  own_part_kept i = grind (arith, nat_tests, own_kept, married, m_moved, down_kept)
 
   m_stays : (j : ℕ) → is_married c j ≡ true → c.m j ≡ true → next.m j ≡ true
   m_stays j e m = elim (m_moved j) [ inl same ↦ same ∙ m | inr changed ↦ changed.0 ∙ e ]
@@ -82,14 +81,7 @@ module _ (c : Configuration) (chosen : ℕ → Option Rule) (l : IsLawful c) (h 
       (holds-from (next.p i) j r.0, holds-from (next.p j) i r.1)
 
   pointer_made : (i j : ℕ) → holds (c.p i) j ≡ false → holds (next.p i) j ≡ true → (is_married c j ≡ false) × (holds (next.p j) i ≡ false → next.m j ≡ false)
-  pointer_made i j off on =
-      let made = makes c i j (chosen i) (h i) off (holds-true (next.p i) j on) in
-      elim made.partner [
-        | inl suitor ↦
-            let alone : is_married c j ≡ false = married-at c j i l suitor ∙ off in
-            (alone, λ gone. let left = drops c j i (chosen j) (h j) suitor gone in left.1 ∙ left.0.right ∙ alone)
-        | inr higher ↦ let alone = married-null c j higher.1 in (alone, λ gone. m_off j alone higher.2)
-      ]
+  pointer_made i j off on = grind (arith, nat_tests, makes, holds-true, married-at, drops, married-null, m_off)
 
   pointer_dropped : (i j : ℕ) → i < j → holds (c.p i) j ≡ true → holds (next.p i) j ≡ false → c.m j ≡ true
   pointer_dropped i j lt on off = grind (arith, nat_tests, drops, holds-true)
@@ -112,8 +104,7 @@ module _ (c : Configuration) (chosen : ℕ → Option Rule) (l : IsLawful c) (h 
   links_after i = sum_below c.size (λ j. cond (is_above c i j) (link_part next i j) 0)
 
   links_kept : (i : ℕ) → links_after i ≤ links_before i
-  links_kept i =
-      sum_kept c.size (λ j. cond (is_above c i j) (link_part next i j) 0) (λ j. cond (is_above c i j) (link_part c i j) 0) (λ j lt. link_part_kept i j)
+  links_kept i = grind (arith, nat_tests, sum_kept, link_part_kept)
 
   links_fell : (i j : ℕ) → c.linked i j ≡ true → i < j → link_part next i j + 1 ≤ link_part c i j → links_after i + 1 ≤ links_before i
   links_fell i j linked lt less =
@@ -188,11 +179,7 @@ module _ (c : Configuration) (chosen : ℕ → Option Rule) (l : IsLawful c) (h 
 
   -- by the four rules
   move_paid : (i : ℕ) (o : Option Rule) → chosen i ≡ o → Pays i (cond (pays o i) 1 0)
-  move_paid i None e = pays_nothing i
-  move_paid i (Some Rule.Update) e = by_own_part i (own_part_updated i e)
-  move_paid i (Some (Rule.Marriage j)) e = marriage_paid i j e (nat_lt j i) refl
-  move_paid i (Some Rule.Seduction) e = seduction_paid i e
-  move_paid i (Some Rule.Abandonment) e = abandonment_paid i e
+  move_paid i o e = grind (arith, nat_tests, pays_nothing, by_own_part, own_part_updated, marriage_paid, seduction_paid, abandonment_paid)
 
   -- ---- a node pays for a marriage of a higher node with it
 
@@ -211,12 +198,7 @@ module _ (c : Configuration) (chosen : ℕ → Option Rule) (l : IsLawful c) (h 
 
   -- i goes on pointing at k, which points back: the link's part falls from 1 to 0
   answer_lowers : (k i : ℕ) → MarriesLower k i → links_after i + 1 ≤ links_before i
-  answer_lowers k i w =
-      let off = w.guarded.right ∙ w.unmarried in
-      let to : next.p k ≡ Some i = ap (λ o. (moved c k o).p) w.chooses in
-      links_fell i k (l.symmetric k i w.guarded.linked) w.higher (link_answered _ _ _ _ _ _ _ _
-      (holds-from (c.p i) k w.guarded.suitor) (ap (λ o. holds o i) w.guarded.null) off (suitor_kept k i w.guarded.suitor off w.higher)
-      (holds-from (next.p k) i to))
+  answer_lowers k i w = grind (arith, nat_tests, links_fell, link_answered, holds-from, suitor_kept)
 
   -- what i may do in the same step is an update
   both_paid : (k i : ℕ) → MarriesLower k i → (o : Option Rule) → chosen i ≡ o → Pays i (cond (pays o i) 1 0 + 1)

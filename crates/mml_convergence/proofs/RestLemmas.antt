@@ -1,6 +1,5 @@
 -- A run that is over has ended where no node is privileged; each run can be led there.
-use Rattle.std.proofs.Common.{◌≡◌, ℕ, zero, suc, ◌<◌, true, false, ◌==◌, List, [], ◌∷◌, length, Option, None, Some, is_some, sym, refl}
-use Rattle.std.proofs.Common.{ap, ◌∙◌, arith}
+use Rattle.std.proofs.Common.{◌≡◌, ℕ, zero, suc, ◌<◌, true, false, ◌==◌, List, [], ◌∷◌, length, Option, None, Some, is_some, sym, refl, ap, ◌∙◌, arith}
 use Rattle.std.specs.List.{list_any}
 use Rattle.std.proofs.lemmas.Bool.{false≢true, both_ways, or_left, eq-eqb, false_from_ne_true, and_right}
 use Rattle.std.proofs.lemmas.Bool.Decides.{nat_tests}
@@ -67,9 +66,7 @@ stable_impossible w event.Close k stable of_step = none (w.chosen) (stable_uncho
     none [] h = refl
     none (None ∷ xs) h = none xs (λ i. h (suc i))
     none (Some x ∷ xs) h = absurd (false≢true (sym (h 0)))
-stable_impossible w (event.Fault i registers) k stable of_step = absurd (false≢true of_step)
-stable_impossible w (event.Link a b) k stable of_step = absurd (false≢true of_step)
-stable_impossible w (event.Cut a b) k stable of_step = absurd (false≢true of_step)
+stable_impossible w _ k stable of_step = absurd (false≢true of_step)
 
 -- where no node is privileged, no grant, release or close is legal
 pub stable_final : (r : RosterValue) (w : World) (e : Event) → IsWorld w → IsStable (configuration w) → is_of_step e ≡ true → is_legal r w e ≡ false

@@ -338,9 +338,7 @@ from_modest r w es k run modest room rounds = elim (cases_lt (married_count (con
     ]
 
 some_rounds : (n : ℕ) → 0 < n → 1 ≤ rounds_for n
-some_rounds zero lt = absurd (omega arith)
-some_rounds (suc zero) lt = omega arith
-some_rounds (suc (suc n)) lt = omega arith
+some_rounds n lt = grind (arith, nat_tests)
 
 -- after 4 rounds for each two nodes, and 1 for one left over, no node is privileged
 pub rounds_end : (r : RosterValue) (w : World) (es : List Event) (k : ℕ) → IsRun r w es → rounds_for (size w) ≤ k → Rounds k w es → EndsStable w es

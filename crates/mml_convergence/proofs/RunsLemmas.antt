@@ -13,6 +13,7 @@ use Rattle.mml_board.specs.Runs.{is_legal_list}
 use Rattle.mml_convergence.specs.Runs.{is_of_step, changes_of_m}
 use Rattle.mml_convergence.proofs.StepLemmas.{weight, change, step-weight, weight_at_most}
 use Rattle.mml_board.proofs.WorldLemmas.{closed-step, after-world}
+use Rattle.std.proofs.lemmas.Bool.Decides.{nat_tests}
 
 -- how often m may still change at i
 abbrev weight_at : World → ℕ → ℕ
@@ -39,5 +40,4 @@ changes_paid r i w (e ∷ es) k legal steps = grind (arith, step_pays w e i k, c
 -- over grants, releases and closes m changes at most twice at a node
 pub twice_at_most : (r : RosterValue) (w : World) (es : List Event) (i : ℕ) → IsWorld w → is_legal_list r w es ≡ true → list_all is_of_step es ≡ true
     → changes_of_m i w es ≤ 2
-twice_at_most r w es i k legal steps =
-    omega (arith, changes_paid r i w es k legal steps, weight_at_most ((configuration w).m i) (is_married (configuration w) i))
+twice_at_most r w es i k legal steps = grind (arith, nat_tests, changes_paid, weight_at_most)

@@ -1,6 +1,5 @@
 -- What one step does to a free node, and to a married one.
-use Rattle.std.proofs.Common.{◌≡◌, ℕ, zero, suc, ◌+◌, ◌<◌, ◌≤◌, ◌⊎◌, inl, inr, Bool, true, false, not, Option, None, Some}
-use Rattle.std.proofs.Common.{sym, refl, ap, ◌∙◌, arith}
+use Rattle.std.proofs.Common.{◌≡◌, ℕ, zero, suc, ◌+◌, ◌<◌, ◌≤◌, ◌⊎◌, inl, inr, Bool, true, false, not, Option, None, Some, sym, refl, ap, ◌∙◌, arith}
 use Rattle.std.proofs.lemmas.Bool.{both_ways, false≢true, false_from_ne_true, cases_Bool, cases_order}
 use Rattle.std.proofs.lemmas.Bool.Decides.{nat_tests}
 use Rattle.mml_rules.specs.declared.rule.Rule.{Rule}
@@ -78,23 +77,16 @@ pub record IsFacing (a b : ℕ) (c : Configuration) : Type 0 where
 
 -- no truth value is its own opposite
 pub self : (b : Bool) → b ≡ not b → ⊥
-self true e = false≢true (sym e)
-self false e = false≢true e
+self b e = grind (arith, nat_tests, false≢true)
 
 -- a rule is applied where m is right, or makes it so
 effect_right : (c : Configuration) (i : ℕ) (r : Rule) → guard c i r ≡ true → (effect c i r).m ≡ is_married c i
-effect_right c i Rule.Update g = refl
-effect_right c i (Rule.Marriage j) g = (marries c i j g).right
-effect_right c i Rule.Seduction g = let s = seduced c i g in (seduces c i s.0 g s.1).right
-effect_right c i Rule.Abandonment g = let a = abandoned c i g in (abandons c i a.0 g a.1).right
+effect_right c i r g = grind (arith, nat_tests, marries, seduced, seduces, abandoned, abandons)
 
 -- a node that isn't married, with m false, takes its pointer back if it moves
 lets_go : (c : Configuration) (i j k : ℕ) (r : Rule) → guard c i r ≡ true → is_married c i ≡ false → c.m i ≡ false → c.p i ≡ Some j
     → (effect c i r).p ≡ Some k → ⊥
-lets_go c i j k Rule.Update g free off e to = self (is_married c i) (free ∙ sym off ∙ updates c i g)
-lets_go c i j k (Rule.Marriage x) g free off e to = let null = (marries c i x g).null in cc
-lets_go c i j k Rule.Seduction g free off e to = let s = seduced c i g in let null = (seduces c i s.0 g s.1).null in cc
-lets_go c i j k Rule.Abandonment g free off e to = cc
+lets_go c i j k r g free off e to = grind (arith, nat_tests, self, updates, marries, seduced, seduces)
 
 -- ---- pointers, upwards
 
@@ -140,12 +132,7 @@ hopeful_idle c i l aware idle free j e = false_from_ne_true (is_married c j) (λ
 
 -- of two linked nodes that aren't married, one points at a node, where the lower one isn't privileged
 pub courting_idle : (c : Configuration) (a b : ℕ) → IsLawful c → Each Modest c → IsOpen a b c → is_privileged c a ≡ false → IsCourting c
-courting_idle c a b l modest k idle = go (c.p a) (c.p b) refl refl
-  where
-    go : (o q : Option ℕ) → c.p a ≡ o → c.p b ≡ q → IsCourting c
-    go (Some y) q e f = record { who = a; whom = y; free = k.low; points = e }
-    go None (Some y) e f = record { who = b; whom = y; free = k.high; points = f }
-    go None None e f = absurd (no_open_link c a b l k.linked k.up idle e f (modest b (l.in_range a b k.linked).1 k.high))
+courting_idle c a b l modest k idle = grind (arith, nat_tests, no_open_link)
 
 -- a node that points nowhere and has a suitor is privileged
 pub courted_idle : (c : Configuration) (s t : ℕ) → IsLawful c → IsCourted s t c → is_privileged c t ≡ false → ⊥
@@ -153,10 +140,7 @@ courted_idle c s t l k idle = quiet-alone c s t l k.suitor k.null (idle-quiet c 
 
 -- where no node is married, one that points nowhere and faces a higher one that points nowhere else is privileged
 pub facing_idle : (c : Configuration) (a b : ℕ) → IsLawful c → Each Modest c → IsLone c → IsFacing a b c → is_privileged c a ≡ false → ⊥
-facing_idle c a b l modest lone k idle = elim k.either [
-  | inl null ↦ no_open_link c a b l k.linked k.up idle k.null null (modest b (l.in_range a b k.linked).1 (lone b))
-  | inr to ↦ quiet-alone c b a l to k.null (idle-quiet c a l idle)
-]
+facing_idle c a b l modest lone k idle = grind (arith, nat_tests, no_open_link, quiet-alone, idle-quiet)
 
 -- ---- a step
 
@@ -198,12 +182,7 @@ module _ (c : Configuration) (chosen : ℕ → Option Rule) (l : IsLawful c) (h 
 
   -- and to a node that wasn't married
   made_free : (i j : ℕ) → holds (c.p i) j ≡ false → next.p i ≡ Some j → is_married c j ≡ false
-  made_free i j off to =
-      let made = makes c i j (chosen i) (h i) off to in
-      elim made.partner [
-        | inl suitor ↦ married-at c j i l suitor ∙ off
-        | inr higher ↦ married-null c j higher.1
-      ]
+  made_free i j off to = grind (arith, nat_tests, makes, married-at, married-null)
 
   -- a node that moved and isn't married has no pointer but a new one
   pointer_new : (i j : ℕ) (r : Rule) → Modest i c → chosen i ≡ Some r → is_married next i ≡ false → next.p i ≡ Some j → holds (c.p i) j ≡ false
@@ -262,14 +241,7 @@ module _ (c : Configuration) (chosen : ℕ → Option Rule) (l : IsLawful c) (h 
         suitor_stays t s k.suitor (modest t range.1 (married-null c t k.null)) (upward s range.0 free t k.suitor)
 
     pub courting_stays : Each Modest c → Each Upward c → Each Hopeful c → IsCourting c → IsCourting next
-    courting_stays modest upward hopeful k =
-        let top = courted c l upward hopeful k in
-        record {
-          who = top.0;
-          whom = top.1;
-          free = free_after top.0 (courted_free c top.0 top.1 l top.2);
-          points = courted_stays modest upward top.0 top.1 top.2;
-        }
+    courting_stays modest upward hopeful k = grind (arith, nat_tests, courted, free_after, courted_free, courted_stays)
 
     pub courting_moves : Each Modest c → Each Upward c → Each Hopeful c → (a b : ℕ) → IsOpen a b c → (r : Rule) → chosen a ≡ Some r → IsCourting next
     courting_moves modest upward hopeful a b k r e = go (next.p a) refl
@@ -308,11 +280,7 @@ module _ (c : Configuration) (chosen : ℕ → Option Rule) (l : IsLawful c) (h 
         by_rule Rule.Abandonment g to = let a = abandoned c t g in let some = a.1 in let null = k.null in cc
 
     pub courted_kept : Each Modest c → Each Upward c → (s t : ℕ) → IsCourted s t c → IsCourted s t next
-    courted_kept modest upward s t k = record { suitor = courted_stays modest upward s t k; null = go (chosen t) refl }
-      where
-        go : (o : Option Rule) → chosen t ≡ o → next.p t ≡ None
-        go None e = ap (λ o. (moved c t o).p) e ∙ k.null
-        go (Some r) e = absurd (courted_moves modest upward s t k r e)
+    courted_kept modest upward s t k = grind (arith, nat_tests, courted_stays, courted_moves)
 
     -- ---- while no node is married
 

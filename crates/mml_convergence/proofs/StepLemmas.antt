@@ -1,6 +1,5 @@
 -- What a step does to the pairs and to m.
-use Rattle.std.proofs.Common.{◌≡◌, ℕ, ◌≤◌, ◌+◌, Bool, true, false, cond, not, ◌⊎◌, inl, inr, Option, None, Some}
-use Rattle.std.proofs.Common.{refl, arith}
+use Rattle.std.proofs.Common.{◌≡◌, ℕ, ◌≤◌, ◌+◌, Bool, true, false, cond, not, ◌⊎◌, Option, Some, arith}
 use Rattle.std.specs.Bool.{beq}
 use Rattle.std.proofs.lemmas.Bool.{not-true, both_ways, false_from_ne_true}
 use Rattle.std.proofs.lemmas.Bool.Decides.{nat_tests}
@@ -18,15 +17,11 @@ beq-false a b h = grind arith
 
 -- a move at a node whose pointer is answered leaves the pointer
 pub answered-keeps : (c : Configuration) (i j : ℕ) (r : Rule) → c.p i ≡ Some j → c.p j ≡ Some i → guard c i r ≡ true → (effect c i r).p ≡ Some j
-answered-keeps c i j Rule.Update a b h = a
-answered-keeps c i j (Rule.Marriage k) a b h = grind (arith, nat_tests, none-null)
-answered-keeps c i j Rule.Seduction a b h = grind (arith, nat_tests, none-null)
-answered-keeps c i j Rule.Abandonment a b h = grind (arith, nat_tests, holds-from)
+answered-keeps c i j r a b h = grind (arith, nat_tests, none-null, holds-from)
 
 moved-keeps : (c : Configuration) (i j : ℕ) (o : Option Rule) → ((r : Rule) → o ≡ Some r → guard c i r ≡ true) → c.p i ≡ Some j → c.p j ≡ Some i
     → (moved c i o).p ≡ Some j
-moved-keeps c i j None h a b = a
-moved-keeps c i j (Some r) h a b = answered-keeps c i j r a b (h r refl)
+moved-keeps c i j o h a b = grind (arith, nat_tests, answered-keeps)
 
 -- a step keeps every pair
 pub step-keeps : (c : Configuration) (chosen : ℕ → Option Rule) → AllHold c chosen → (i j : ℕ) → IsPair c i j → IsPair (step c chosen) i j
@@ -48,11 +43,7 @@ weighed m n x y h e = grind arith
 -- a move leaves m as it was, or makes it right where it was wrong
 pub moved-m : (c : Configuration) (i : ℕ) (o : Option Rule) → ((r : Rule) → o ≡ Some r → guard c i r ≡ true)
     → ((moved c i o).m ≡ c.m i) ⊎ (((moved c i o).m ≡ is_married c i) × (c.m i ≡ not (is_married c i)))
-moved-m c i None h = inl refl
-moved-m c i (Some Rule.Update) h = inr (refl, beq-false (c.m i) (is_married c i) (not-true _ (h Rule.Update refl)))
-moved-m c i (Some (Rule.Marriage j)) h = inl refl
-moved-m c i (Some Rule.Seduction) h = inl refl
-moved-m c i (Some Rule.Abandonment) h = inl refl
+moved-m c i o h = grind (arith, nat_tests, beq-false, not-true)
 
 -- a step leaves a married node married
 pub step-married : (c : Configuration) (chosen : ℕ → Option Rule) → IsLawful c → AllHold c chosen → (i : ℕ) → is_married c i ≡ true
@@ -70,8 +61,7 @@ step-free c chosen l h i e = false_from_ne_true (is_married c i) (λ m. both_way
 -- each change of m at a step is paid for
 pub step-weight : (c : Configuration) (chosen : ℕ → Option Rule) → IsLawful c → AllHold c chosen → (i : ℕ)
     → change (c.m i) ((step c chosen).m i) + weight ((step c chosen).m i) (is_married (step c chosen) i) ≤ weight (c.m i) (is_married c i)
-step-weight c chosen l h i =
-    weighed (c.m i) ((step c chosen).m i) (is_married c i) (is_married (step c chosen) i) (step-married c chosen l h i) (moved-m c i (chosen i) (h i))
+step-weight c chosen l h i = grind (arith, nat_tests, weighed, step-married, moved-m)
 
 -- a node's weight is 2 at the most
 pub weight_at_most : (m x : Bool) → weight m x ≤ 2

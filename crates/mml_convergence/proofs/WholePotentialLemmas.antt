@@ -26,8 +26,6 @@ charge chosen n i = cond (pays (chosen i) i) 1 0 + count_below n (λ k. marries_
 
 -- each move is charged, to its node or to the lower node that it marries
 one_charged : (o : Option Rule) (k n : ℕ) → k < n → cond (is_some o) 1 0 ≤ cond (pays o k) 1 0 + count_below n (marries_lower o k)
-one_charged None k n lt = omega arith
-one_charged (Some Rule.Update) k n lt = omega arith
 one_charged (Some (Rule.Marriage j)) k n lt = go (nat_lt j k) refl
   where
     go : (b : Bool) → nat_lt j k ≡ b → 1 ≤ cond (not b) 1 0 + count_below n (marries_lower (Some (Rule.Marriage j)) k)
@@ -36,8 +34,7 @@ one_charged (Some (Rule.Marriage j)) k n lt = go (nat_lt j k) refl
         let counted = count_some n j (marries_lower (Some (Rule.Marriage j)) k) (omega arith) (and_from (j == j) (nat_lt j k) (eq-eqb j j refl) lower) in
         omega (arith, counted)
     go false up = omega arith
-one_charged (Some Rule.Seduction) k n lt = omega arith
-one_charged (Some Rule.Abandonment) k n lt = omega arith
+one_charged _ k n lt = omega arith
 
 all_charged : (chosen : ℕ → Option Rule) (n : ℕ) → count_below n (moves chosen) ≤ sum_below n (charge chosen n)
 all_charged chosen n =
@@ -84,8 +81,7 @@ potential_most c i =
     omega (arith, own_most (is_married c i) (c.m i) (points_down c i), links, one_pointer c i c.size (c.p i))
 
 and_on : (x y : Bool) → y ≡ true → (x && y) ≡ x
-and_on true y e = e
-and_on false y e = refl
+and_on x y e = grind (arith, nat_tests)
 
 -- each link is counted at its lower end as often as at its higher
 pub counted_above : (c : Configuration) (n : ℕ) → IsLawful c → sum_below n (λ i. count_below n (is_above c i)) ≡ links_below c n
