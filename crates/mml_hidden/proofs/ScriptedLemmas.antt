@@ -3,16 +3,13 @@ use Rattle.std.proofs.Common.{◌≡◌, ◌≢◌, ℕ, ◌-◌, ◌==◌, Bool
 use Rattle.std.proofs.Common.{ap, ◌∙◌, subst, inl, inr}
 use Rattle.std.specs.List.{concat}
 use Rattle.std.specs.Prelude.{slice_index_or, replicate, decimal}
-use Rattle.std.proofs.lemmas.Bool.{eqb-true}
+use Rattle.std.proofs.lemmas.Bool.{eqb-true, cases_lt}
 use Rattle.std.proofs.lemmas.List.Elements.{All-set, All-replicate, All-get_or}
-use Rattle.std.proofs.lemmas.Bool.{cases_lt}
 use Rattle.std.proofs.lemmas.List.{get_or_past}
 use Rattle.mml_lab.specs.declared.who.Who.{Who}
 use Rattle.mml_lab.specs.Labs.{LabValue, IsLab}
 use Rattle.mml_lab.specs.Rosters.{principal}
 use Rattle.mml_board.specs.World.{opening_of}
-use Rattle.mml_policy.specs.declared.ruling.Ruling.{Ruling}
-use Rattle.mml_policy.specs.Rulings.{ruling}
 use Rattle.mml_policy.specs.Alike.{Alike, IsWorldOf}
 use Rattle.mml_codec.specs.declared.request.LineFault.{LineFault}
 use Rattle.mml_codec.specs.declared.request.Request.{Request}
@@ -23,15 +20,14 @@ use Rattle.mml_codec.specs.declared.reply.Refused.TheVariants as refused
 use Rattle.mml_codec.specs.Greetings.{greeting, admitted}
 use Rattle.mml_codec.specs.Lines.{request_in}
 use Rattle.mml_codec.specs.Replies.{reply_line}
-use Rattle.mml_hall.specs.Turns.{State, Outcome, Turn, Run, RequestLine, nothing, plain_turn, known_on}
-use Rattle.mml_hall.specs.Turns.{with_known, settled, answer_to, told, opening}
+use Rattle.mml_hall.specs.Turns.{State, Outcome, Turn, Run, RequestLine, nothing, plain_turn, known_on, with_known, settled, answer_to, opening}
 use Rattle.mml_hall.proofs.TurnsLemmas.{by_turn}
 use Rattle.mml_hall.specs.Transcripts.{Transcript, output_line, output_lines, bytes_written}
 use Rattle.mml_audit.proofs.AuditMeaningLemmas.{reached_first}
 use Rattle.mml_hidden.specs.Twins.{AreTwins, StatesAlike, is_hers}
 use Rattle.mml_hidden.specs.Scripted.{turn_of, replies_to, end_of, written_to, StayAlike, written_on, IsHersThroughout, OnlySheGreets, OnlySheIsKnown}
 use Rattle.mml_hidden.specs.Scripted.{AreUnhindered}
-use Rattle.mml_hidden.proofs.TwinsLemmas.{TurnsAlike, same_known, twin_turn, twin_line, twin_others, told_greeted}
+use Rattle.mml_hidden.proofs.TwinsLemmas.{twin_turn, twin_line, twin_next, twin_halted, entered_is}
 
 -- what is written only where a test holds is the same where it is the same under the test
 pub if_same : (b : Bool) (x y : List (List ℕ)) → (b ≡ true → x ≡ y) → cond b x [] ≡ cond b y []
@@ -39,9 +35,6 @@ if_same true x y h = h refl
 if_same false x y h = refl
 
 module _ (lab other : LabValue) (t : AreTwins lab other) (s : ℕ) where
-  same_hers : (st su : State) → StatesAlike lab s st su → (k : ℕ) → is_hers s (known_on st k) ≡ is_hers s (known_on su k)
-  same_hers st su a k = ap (is_hers s) (same_known lab s st su a k)
-
   same_output : (st su : State) → StatesAlike lab s st su → (line : RequestLine) → is_hers s (known_on st line.connection) ≡ true
       → output_line lab line.connection (turn_of lab st line).reply ≡ output_line other line.connection (turn_of other su line).reply
   same_output st su a line h =
@@ -50,11 +43,8 @@ module _ (lab other : LabValue) (t : AreTwins lab other) (s : ℕ) where
   next_alike : (st su : State) → StatesAlike lab s st su → (line : RequestLine)
       → (is_hers s (known_on st line.connection) ≡ false → Alike lab.roster s (turn_of lab st line).state.world (turn_of other su line).state.world)
       → StatesAlike lab s (turn_of lab st line).state (turn_of other su line).state
-  next_alike st su a line worlds = go (is_hers s (known_on st line.connection)) refl
-    where
-      go : (b : Bool) → is_hers s (known_on st line.connection) ≡ b → StatesAlike lab s (turn_of lab st line).state (turn_of other su line).state
-      go true h = (twin_turn lab other t s st su a nothing line.connection line.request h).states
-      go false h = twin_others lab other t s st su a line.connection line.request (worlds h)
+  next_alike st su a line worlds =
+      twin_next lab other t s st su a nothing line.connection line.request (λ h. (worlds h, twin_halted lab other s st su a line.connection line.request))
 
   pub same_written : (st su : State) (lines : List RequestLine) → StatesAlike lab s st su → StayAlike lab other s st su lines
       → written_to lab s st lines ≡ written_to other s su lines
@@ -63,7 +53,7 @@ module _ (lab other : LabValue) (t : AreTwins lab other) (s : ℕ) where
       let first : cond (is_hers s (known_on st line.connection)) (output_line lab line.connection (turn_of lab st line).reply ∷ []) []
       ≡ cond (is_hers s (known_on su line.connection)) (output_line other line.connection (turn_of other su line).reply ∷ []) [] =
       if_same (is_hers s (known_on st line.connection)) _ _ (λ h. ap (λ (x : List ℕ). x ∷ []) (same_output st su a line h))
-      ∙ ap (λ (b : Bool). cond b (output_line other line.connection (turn_of other su line).reply ∷ []) []) (same_hers st su a line.connection) in
+      ∙ (λ z. cond (is_hers s (slice_index_or (a.greeted z) (line.connection - 1) None)) (output_line other line.connection (turn_of other su line).reply ∷ []) []) in
       let rest = same_written (turn_of lab st line).state (turn_of other su line).state lines (next_alike st su a line stay.0) stay.1 in
       λ z. first z ++ rest z
 
@@ -108,9 +98,6 @@ module _ (lab : LabValue) (s : ℕ) where
   hers_admitted st k None all h = hers_with st k None all refl
   hers_admitted st k (Some x) all h = hers_with st k (Some x) all h
 
-  hers_told : (st : State) (g : Ruling) → OnlySheIsKnown s st → OnlySheIsKnown s (told st g).state
-  hers_told st g all = subst (λ (xs : List (Option Who)). All (λ known. is_hers s known ≡ true) xs) (sym (told_greeted st g)) all
-
   hers_greeted : (st : State) (k : ℕ) (known : Option Who) (q : Request) → OnlySheIsKnown s st → is_hers s known ≡ true
       → ((name key : List ℕ) → q ≡ requests.Hello name key → is_hers s (principal lab.roster name key) ≡ true)
       → OnlySheIsKnown s (settled lab st k (greeting lab.roster known q)).state
@@ -119,7 +106,8 @@ module _ (lab : LabValue) (s : ℕ) where
   hers_greeted st k None requests.Bye all h greets = hers_with st k None all refl
   hers_greeted st k (Some x) requests.Bye all h greets = hers_with st k None all refl
   hers_greeted st k None (requests.Do c) all h greets = hers_with st k None all refl
-  hers_greeted st k (Some x) (requests.Do c) all h greets = hers_told st (ruling lab.ids lab.roster lab.events st.halted st.world x c) all
+  hers_greeted st k (Some x) (requests.Do c) all h greets =
+      subst (λ (xs : List (Option Who)). All (λ known. is_hers s known ≡ true) xs) (sym (entered_is st _).1) all
 
   hers_answer : (st : State) (k : ℕ) (asked : Result Request LineFault) → OnlySheIsKnown s st
       → ((name key : List ℕ) → asked ≡ Ok (requests.Hello name key) → is_hers s (principal lab.roster name key) ≡ true)
@@ -138,12 +126,11 @@ module _ (lab other : LabValue) (t : AreTwins lab other) (s : ℕ) where
       → replies_to lab st lines ≡ replies_to other su lines
   same_replies st su [] a all greets = refl
   same_replies st su (line ∷ lines) a all greets =
-      let both : TurnsAlike lab s (turn_of lab st line) (turn_of other su line) =
-      twin_turn lab other t s st su a nothing line.connection line.request (hers_known lab s st line.connection all) in
+      let both = twin_turn lab other t s st su a nothing line.connection line.request (hers_known lab s st line.connection all) in
       let rest =
-      same_replies (turn_of lab st line).state (turn_of other su line).state lines both.states
+      same_replies (turn_of lab st line).state (turn_of other su line).state lines both.1
       (hers_plain lab s st line.connection line.request all greets.0) greets.1 in
-      λ z. both.reply z ∷ rest z
+      λ z. both.0 z ∷ rest z
 
   same_outputs : (lines : List RequestLine) (rs : List Reply) → output_lines lab lines rs ≡ output_lines other lines rs
   same_outputs [] rs = refl

@@ -13,7 +13,7 @@ use Rattle.mml_board.specs.World.{World}
 use Rattle.mml_policy.specs.declared.command.Command.{Command}
 use Rattle.mml_policy.specs.declared.refusal.Refusal.{Refusal}
 use Rattle.mml_policy.specs.declared.ruling.Ruling.{Ruling}
-use Rattle.mml_policy.specs.declared.ruling.Ruling.TheVariants.{Denied, Seen, Looked, Reported, Full, Journal, Granted}
+use Rattle.mml_policy.specs.declared.ruling.Ruling.TheVariants.{Looked, Reported, Journal, Granted}
 use Rattle.mml_policy.specs.Rulings.{event_of, after_ruling}
 use Rattle.mml_policy.specs.Alike.{Alike, IsWorldOf}
 use Rattle.mml_codec.specs.declared.request.LineFault.{LineFault}
@@ -50,14 +50,9 @@ but_last l e =
 
 seen_plainly : (w : World) (l : List Event) (g : Ruling)
     → take (length (entered l (event_of g)) - length (places_in (reply_of w g))) (entered l (event_of g)) ≡ l
-seen_plainly w l (Denied d) = all_of l (length l - 0) (omega arith)
-seen_plainly w l (Seen s) = all_of l (length l - 0) (omega arith)
-seen_plainly w l (Looked k) = all_of l (length l - 0) (omega arith)
-seen_plainly w l Reported = all_of l (length l - 0) (omega arith)
-seen_plainly w l Full = all_of l (length l - 0) (omega arith)
-seen_plainly w l Journal = all_of l (length l - 0) (omega arith)
 seen_plainly w l (Granted e (done.Move node kind)) = but_last l e
 seen_plainly w l (Granted e _) = but_last l e
+seen_plainly w l _ = all_of l (length l - 0) (omega arith)
 
 -- a refusal in the place of a ruling tells what hindered it
 hindered : (g : Ruling) (why : Refused) (kept : Option Refusal) → MayRefuse g why kept → IsUnhindered (reply.Refuse why) → ⊥
@@ -77,15 +72,11 @@ plain_from : (lab : LabValue) (ps : List ℕ) (l : List Event) (x : Who) (c : Co
 plain_from lab ps l x c r new legal h =
     let g = ruling_at lab (world_in lab l) x c in
     let there : seen_at r new ≡ l =
-    (λ z. take (length (h.1.0 z) - length (places_in (h.0 z))) (h.1.0 z)) ∙ seen_plainly_at g in
+    (λ z. take (length (h.1.0 z) - length (places_in (h.0 z))) (h.1.0 z)) ∙ seen_plainly (after_ruling (world_in lab l) g) l g in
     record {
       legal = ap (is_legal_in lab) there ∙ legal;
       says = h.0 ∙ ap (λ l. reply_to lab.ids lab.roster lab.events false (world_in lab l) x c) (sym there);
     }
-  where
-    seen_plainly_at : (g : Ruling)
-        → take (length (entered l (event_of g)) - length (places_in (reply_of (after_ruling (world_in lab l) g) g))) (entered l (event_of g)) ≡ l
-    seen_plainly_at g = seen_plainly (after_ruling (world_in lab l) g) l g
 
 plain_told : (lab : LabValue) (old new : WindowValue) (x : Who) (c : Command) (r : Reply) → IsUnhindered r → Told lab old x c r new → IsPlain lab x c r new
 plain_told lab old new x c r free t = elim t.says [

@@ -1,5 +1,5 @@
 -- A student is told the same in worlds that are alike.
-use Rattle.std.proofs.Common.{◌≡◌, ℕ, Bool, true, false, cond, nat_le, is_none, ◌==◌, List, Result, Ok, Err, refl, sym, ap, ◌∙◌}
+use Rattle.std.proofs.Common.{◌≡◌, ℕ, Bool, true, false, cond, nat_le, is_none, ◌==◌, List, Result, Ok, refl, sym, ap, ◌∙◌}
 use Rattle.std.proofs.lemmas.Bool.{false≢true}
 use Rattle.std.specs.Result.{IfOk}
 use Rattle.mml_ids.proofs.GivesLemmas.{bind-if, need-if}
@@ -15,7 +15,7 @@ use Rattle.mml_policy.specs.declared.command.Command.TheVariants as command
 use Rattle.mml_policy.specs.declared.denial.Denial.{Denial}
 use Rattle.mml_policy.specs.declared.denial.Denial.TheVariants.{Hidden, NotOwner, Guard}
 use Rattle.mml_policy.specs.declared.ruling.Ruling.{Ruling}
-use Rattle.mml_policy.specs.declared.ruling.Ruling.TheVariants.{Denied, Seen, Looked, Reported, Full, Journal, Granted}
+use Rattle.mml_policy.specs.declared.ruling.Ruling.TheVariants.{Reported, Full, Journal, Granted}
 use Rattle.mml_policy.specs.declared.verdict.Leave.{Leave}
 use Rattle.mml_policy.specs.declared.verdict.Leave.TheVariants.{See, Look, Report, Grant}
 use Rattle.mml_policy.specs.Visible.{is_visible}
@@ -32,10 +32,8 @@ use Rattle.mml_hidden.specs.CommandReplies.{world_left, reply_to, line_to}
 -- ---- a student is told no report
 
 abbrev NoReport : Leave → Type 0
-NoReport (See i) = Unit {0}
-NoReport (Look i) = Unit {0}
 NoReport Report = ⊥
-NoReport (Grant e) = Unit {0}
+NoReport _ = Unit {0}
 
 no_report : (ids : List ℕ) (r : RosterValue) (w : World) (s : ℕ) (k : Command) → IfOk (clauses ids r w (who.Student s) k) NoReport
 no_report ids r w s (command.See id) =
@@ -54,13 +52,8 @@ no_report ids r w s (command.Move id q at) =
 no_report ids r w s _ = tt
 
 abbrev is_report : Ruling → Bool
-is_report (Denied d) = false
-is_report (Seen s) = false
-is_report (Looked l) = false
 is_report Reported = true
-is_report Full = false
-is_report Journal = false
-is_report (Granted e d) = false
+is_report _ = false
 
 unless_full : (b h : Bool) (e : Event) (d : Done) → is_report (cond b Full (cond h Journal (Granted e d))) ≡ false
 unless_full true h e d = refl
@@ -68,28 +61,22 @@ unless_full false true e d = refl
 unless_full false false e d = refl
 
 unreported : (limit : ℕ) (h : Bool) (w : World) (p : Result Leave Denial) → IfOk p NoReport → is_report (ruled limit h w p) ≡ false
-unreported limit h w (Ok (See i)) n = refl
-unreported limit h w (Ok (Look i)) n = refl
 unreported limit h w (Ok Report) n = absurd n
 unreported limit h w (Ok (Grant e)) n = unless_full (nat_le limit w.place) h e (done_by w e)
-unreported limit h w (Err d) n = refl
+unreported limit h w _ n = refl
 
 -- no command of a student is ruled to be a report
-pub student_unreported : (ids : List ℕ) (r : RosterValue) (limit : ℕ) (h : Bool) (w : World) (s : ℕ) (k : Command)
+student_unreported : (ids : List ℕ) (r : RosterValue) (limit : ℕ) (h : Bool) (w : World) (s : ℕ) (k : Command)
     → is_report (ruling ids r limit h w (who.Student s) k) ≡ false
 student_unreported ids r limit h w s k = unreported limit h w (clauses ids r w (who.Student s) k) (no_report ids r w s k)
 
 -- ---- the reply to any other ruling is made of the ruling, the number and the place
 
 -- a ruling other than a report has the same reply in worlds of the same number and place
-pub same_reply_of : (w v : World) (g : Ruling) → is_report g ≡ false → w.number ≡ v.number → w.place ≡ v.place → reply_of w g ≡ reply_of v g
-same_reply_of w v (Denied d) h number place = refl
-same_reply_of w v (Seen s) h number place = refl
-same_reply_of w v (Looked l) h number place = refl
+same_reply_of : (w v : World) (g : Ruling) → is_report g ≡ false → w.number ≡ v.number → w.place ≡ v.place → reply_of w g ≡ reply_of v g
 same_reply_of w v Reported h number place = absurd (false≢true (sym h))
-same_reply_of w v Full h number place = refl
-same_reply_of w v Journal h number place = refl
 same_reply_of w v (Granted e d) h number place = λ k. reply_of_done (number k) (place k) d
+same_reply_of w v _ h number place = refl
 
 -- in worlds that are alike for a student, each command of the student has the same reply
 pub same_reply_to : (ids : List ℕ) (r : RosterValue) (limit : ℕ) (h : Bool) (w v : World) (s : ℕ) (k : Command) → IsWorldOf ids w

@@ -1,277 +1,192 @@
--- The turn of a line on a student's connection, in states that are alike for the student.
-use Rattle.std.proofs.Common.{◌≡◌, ℕ, ◌-◌, Bool, true, false, cond, List, Option, None, Some, Result, Ok, Err, refl, sym, ap, ◌∙◌, subst}
+-- The turn of a line in two states that are alike for a student.
+use Rattle.std.proofs.Common.{◌≡◌, ◌⊎◌, ℕ, Bool, true, false, cond, List, Option, None, Some, Result, Ok, Err, refl, sym, ap, ◌∙◌, subst, inl, inr}
 use Rattle.std.proofs.lemmas.Bool.{false≢true, eqb-true}
-use Rattle.std.specs.Prelude.{slice_index_or, slice_set}
 use Rattle.std.specs.Option.{option_map_or}
 use Rattle.mml_lab.specs.declared.who.Who.{Who}
 use Rattle.mml_lab.specs.declared.who.Who.TheVariants as who
 use Rattle.mml_lab.specs.Labs.{LabValue}
-use Rattle.mml_lab.specs.Rosters.{RosterValue, principal}
+use Rattle.mml_lab.specs.Rosters.{principal}
 use Rattle.mml_rules.specs.Network.{Network}
 use Rattle.mml_board.specs.declared.event.Event.{Event}
 use Rattle.mml_board.specs.World.{World}
-use Rattle.mml_board.specs.Events.{after, is_legal}
+use Rattle.mml_board.specs.Events.{after}
 use Rattle.mml_board.proofs.WorldLemmas.{after-world, size-after}
 use Rattle.mml_board.proofs.RunsLemmas.{legal-possible}
 use Rattle.mml_policy.specs.declared.command.Command.{Command}
-use Rattle.mml_policy.specs.declared.ruling.Ruling.{Ruling}
 use Rattle.mml_policy.specs.Rulings.{ruling, event_of, after_ruling}
 use Rattle.mml_policy.specs.Alike.{Alike, IsWorldOf}
-use Rattle.mml_policy.proofs.AlikeLemmas.{same_ruling, alike_afterwards}
+use Rattle.mml_policy.proofs.AlikeLemmas.{alike_afterwards}
 use Rattle.mml_policy.proofs.RulingsLemmas.{legal_event}
 use Rattle.mml_codec.specs.declared.request.LineFault.{LineFault}
 use Rattle.mml_codec.specs.declared.request.Request.{Request}
 use Rattle.mml_codec.specs.declared.request.Request.TheVariants as requests
 use Rattle.mml_codec.specs.declared.reply.Reply.{Reply}
-use Rattle.mml_codec.specs.declared.greeting.Greeting.{Greeting}
-use Rattle.mml_codec.specs.declared.greeting.Greeting.TheVariants.{Answered, LeftToJudge}
+use Rattle.mml_codec.specs.declared.greeting.Greeting.TheVariants.{Answered}
 use Rattle.mml_codec.specs.Greetings.{greeting, admitted}
 use Rattle.mml_codec.specs.Lines.{request_in}
 use Rattle.mml_codec.specs.Replies.{reply_line}
 use Rattle.mml_codec.specs.Rulings.{reply_of}
-use Rattle.mml_hall.specs.Turns.{State, Outcome, Mishap, nothing, while_read, later, sink_failed, turn, known_on, with_known, entered, told, settled, answer_to}
-use Rattle.mml_hall.specs.Turns.{plain_turn, takes_memory, without_memory, is_grant, halting, replied}
+use Rattle.mml_hall.specs.Turns.{State, Outcome, Mishap, nothing, while_read, later, sink_failed, turn, known_on, entered, told, settled, answer_to}
+use Rattle.mml_hall.specs.Turns.{plain_turn, takes_memory, without_memory, is_grant, halting}
+use Rattle.mml_hall.proofs.TurnsLemmas.{plain_does, whatever_befell, either_of}
 use Rattle.mml_hidden.specs.Twins.{AreTwins, StatesAlike, is_hers}
-use Rattle.mml_hidden.proofs.ToldLemmas.{same_reply_of, student_unreported}
+use Rattle.mml_hidden.proofs.ToldLemmas.{same_reply_to}
 
--- ---- one lab with another network in the place of two labs
+-- ---- what comes of a turn, in one lab
 
-abbrev with_network : LabValue → Network → LabValue
-with_network lab n = record { ids = lab.ids; roster = lab.roster; network = n; events = lab.events; sessions = lab.sessions }
+-- an event that takes place, or none, leaves who is known, and whether the journal is halted
+pub entered_is : (st : State) (o : Option Event)
+    → ((entered st o).world ≡ option_map_or (after st.world) o st.world) × ((entered st o).greeted ≡ st.greeted) × ((entered st o).halted ≡ st.halted)
+entered_is st None = (refl, refl, refl)
+entered_is st (Some e) = (refl, refl, refl)
 
-pub twin_is : (lab other : LabValue) → AreTwins lab other → with_network lab other.network ≡ other
-twin_is lab other t = λ k. record { ids = t.ids k; roster = t.roster k; network = other.network; events = t.events k; sessions = t.sessions k }
+module _ (lab : LabValue) (st : State) (k : ℕ) (line : List ℕ) where
+  plain_world : IsWorldOf lab.ids st.world → IsWorldOf lab.ids (plain_turn lab st k line).state.world
+  plain_world is = elim (plain_does lab st k line) [
+    | inl idle ↦ subst (λ (after : State). IsWorldOf lab.ids after.world) (sym idle.state) is
+    | inr (inl greets) ↦ subst (λ (after : State). IsWorldOf lab.ids after.world) (sym greets.state) is
+    | inr (inr grants) ↦
+        let legal = (legal_event lab.ids lab.roster lab.events st.halted st.world grants.who grants.command grants.event is.nodes (ap event_of grants.ruled)).0 in
+        subst (λ (after : State). IsWorldOf lab.ids after.world) (sym grants.state) (record {
+          world = after-world st.world grants.event is.world (legal-possible lab.roster st.world grants.event legal);
+          nodes = is.nodes ∙ sym (size-after st.world grants.event);
+        })
+  ]
 
--- ---- worlds stay worlds of the lab's nodes
+  turn_world : IsWorldOf lab.ids st.world → (m : Mishap) → IsWorldOf lab.ids (turn m lab st k line).state.world
+  turn_world is m = whatever_befell lab st k line (λ out. IsWorldOf lab.ids out.state.world) (plain_world is) is is m
 
-entered_world : (st : State) (o : Option Event) → (entered st o).world ≡ option_map_or (after st.world) o st.world
-entered_world st None = refl
-entered_world st (Some e) = refl
+  plain_halted : (plain_turn lab st k line).state.halted ≡ st.halted
+  plain_halted = elim (plain_does lab st k line) [
+    | inl idle ↦ ap (λ (after : State). after.halted) idle.state
+    | inr (inl greets) ↦ ap (λ (after : State). after.halted) greets.state
+    | inr (inr grants) ↦ ap (λ (after : State). after.halted) grants.state
+  ]
 
-still_of : (ids : List ℕ) (r : RosterValue) (w : World) (o : Option Event) → IsWorldOf ids w → ((e : Event) → o ≡ Some e → is_legal r w e ≡ true)
-    → IsWorldOf ids (option_map_or (after w) o w)
-still_of ids r w None is legal = is
-still_of ids r w (Some e) is legal = record {
-  world = after-world w e is.world (legal-possible r w e (legal e refl));
-  nodes = is.nodes ∙ sym (size-after w e);
-}
-
-ruled_still : (ids : List ℕ) (r : RosterValue) (limit : ℕ) (h : Bool) (w : World) (x : Who) (c : Command) → IsWorldOf ids w
-    → IsWorldOf ids (after_ruling w (ruling ids r limit h w x c))
-ruled_still ids r limit h w x c is = still_of ids r w (event_of (ruling ids r limit h w x c)) is (λ e k. (legal_event ids r limit h w x c e is.nodes k).0)
-
-told_world : (st : State) (g : Ruling) → (told st g).state.world ≡ after_ruling st.world g
-told_world st g = entered_world st (event_of g)
-
--- what comes of a ruling leaves who is known
-pub told_greeted : (st : State) (g : Ruling) → (told st g).state.greeted ≡ st.greeted
-told_greeted st g = go (event_of g)
-  where
-    go : (o : Option Event) → (entered st o).greeted ≡ st.greeted
-    go None = refl
-    go (Some e) = refl
-
-told_halted : (st : State) (g : Ruling) → (told st g).state.halted ≡ st.halted
-told_halted st g = go (event_of g)
-  where
-    go : (o : Option Event) → (entered st o).halted ≡ st.halted
-    go None = refl
-    go (Some e) = refl
-
--- ---- the worlds after any plain turn are of the lab's nodes
-
-module _ (lab : LabValue) (st : State) (is : IsWorldOf lab.ids st.world) where
-  told_of : (x : Who) (c : Command) → IsWorldOf lab.ids (told st (ruling lab.ids lab.roster lab.events st.halted st.world x c)).state.world
-  told_of x c =
-      subst (λ (w : World). IsWorldOf lab.ids w) (sym (told_world st (ruling lab.ids lab.roster lab.events st.halted st.world x c)))
-      (ruled_still lab.ids lab.roster lab.events st.halted st.world x c is)
-
-  settled_of : (k : ℕ) (g : Greeting) → IsWorldOf lab.ids (settled lab st k g).state.world
-  settled_of k (Answered r x) = is
-  settled_of k (LeftToJudge x c) = told_of x c
-
-  answer_of : (k : ℕ) (asked : Result Request LineFault) → IsWorldOf lab.ids (answer_to lab st k asked).state.world
-  answer_of k (Err fault) = is
-  answer_of k (Ok q) = settled_of k (greeting lab.roster (known_on st k) q)
-
-  pub plain_of : (k : ℕ) (line : List ℕ) → IsWorldOf lab.ids (plain_turn lab st k line).state.world
-  unfolding plain_turn
-  plain_of k line = answer_of k (request_in line)
-
--- ---- the same reply, and states that are alike again
+-- ---- two states that differ in their worlds and events alone
 
 pub record TurnsAlike (lab : LabValue) (s : ℕ) (one two : Outcome) : Type 0 where
   pub reply : one.reply ≡ two.reply
-  pub states : StatesAlike lab s one.state two.state
+  pub worlds : Alike lab.roster s one.state.world two.state.world
+  pub greeted : one.state.greeted ≡ two.state.greeted
+  pub halted : one.state.halted ≡ two.state.halted
 
-module _ (lab : LabValue) (s : ℕ) (st su : State) (a : StatesAlike lab s st su) where
-  pub same_known : (k : ℕ) → known_on st k ≡ known_on su k
-  same_known k = ap (λ (xs : List (Option Who)). slice_index_or xs (k - 1) None) a.greeted
+either_both : (P : Outcome → Outcome → Type 0) (b c : Bool) (p q one two : Outcome) → b ≡ c → P p q → P one two → P (cond b p one) (cond c q two)
+either_both P true true p q one two e x y = x
+either_both P false false p q one two e x y = y
+either_both P true false p q one two e x y = absurd (false≢true (sym e))
+either_both P false true p q one two e x y = absurd (false≢true e)
 
-  pub known_alike : (k : ℕ) (x : Option Who) → StatesAlike lab s (with_known st k x) (with_known su k x)
-  known_alike k x = record {
-    first = a.first;
-    second = a.second;
-    worlds = a.worlds;
-    greeted = ap (λ (xs : List (Option Who)). slice_set xs (k - 1) x) a.greeted;
-    halted = a.halted;
-  }
+module _ (lab : LabValue) (s : ℕ) (st : State) (v : World) (es : List Event) (first : IsWorldOf lab.ids st.world) (second : IsWorldOf lab.ids v)
+    (a : Alike lab.roster s st.world v) where
+  abbrev su : State
+  su = record { world = v; events = es; greeted = st.greeted; halted = st.halted }
 
-  -- a command of hers
-  abbrev ruling_st : Command → Ruling
-  ruling_st c = ruling lab.ids lab.roster lab.events st.halted st.world (who.Student s) c
+  -- the outcomes of a command, before each world
+  abbrev told_st : Who → Command → Outcome
+  told_st x c = told st (ruling lab.ids lab.roster lab.events st.halted st.world x c)
 
-  abbrev ruling_su : Command → Ruling
-  ruling_su c = ruling lab.ids lab.roster lab.events su.halted su.world (who.Student s) c
+  abbrev told_su : Who → Command → Outcome
+  told_su x c = told su (ruling lab.ids lab.roster lab.events st.halted v x c)
 
-  abbrev ruling_half : Command → Ruling
-  ruling_half c = ruling lab.ids lab.roster lab.events st.halted su.world (who.Student s) c
-
-  halt_path : (c : Command) → ruling_half c ≡ ruling_su c
-  halt_path c = ap (λ (h : Bool). ruling lab.ids lab.roster lab.events h su.world (who.Student s) c) a.halted
-
-  same_g : (c : Command) → ruling_st c ≡ ruling_su c
-  same_g c = same_ruling lab.ids lab.roster lab.events st.halted st.world su.world s c a.first a.second a.worlds ∙ halt_path c
-
-  alike_g : (c : Command) → Alike lab.roster s (told st (ruling_st c)).state.world (told su (ruling_su c)).state.world
-  alike_g c =
-      subst (λ (w : World). Alike lab.roster s w (told su (ruling_su c)).state.world) (sym (told_world st (ruling_st c)))
-      (subst (λ (v : World). Alike lab.roster s (after_ruling st.world (ruling_st c)) v) (sym (told_world su (ruling_su c)))
-      (subst (λ (g : Ruling). Alike lab.roster s (after_ruling st.world (ruling_st c)) (after_ruling su.world g)) (halt_path c)
-      (alike_afterwards lab.ids lab.roster lab.events st.halted st.world su.world s c a.first a.second a.worlds)))
-
-  told_alike : (c : Command) → TurnsAlike lab s (told st (ruling_st c)) (told su (ruling_su c))
+  told_alike : (c : Command) → TurnsAlike lab s (told_st (who.Student s) c) (told_su (who.Student s) c)
   told_alike c =
-      let after : Alike lab.roster s (told st (ruling_st c)).state.world (told su (ruling_su c)).state.world = alike_g c in
+      let g = ruling lab.ids lab.roster lab.events st.halted st.world (who.Student s) c in
+      let h = ruling lab.ids lab.roster lab.events st.halted v (who.Student s) c in
+      let left = entered_is st (event_of g) in
+      let right = entered_is su (event_of h) in
       record {
-        reply =
-            same_reply_of (told st (ruling_st c)).state.world (told su (ruling_su c)).state.world (ruling_st c)
-            (student_unreported lab.ids lab.roster lab.events st.halted st.world s c) after.number after.place
-            ∙ ap (reply_of (told su (ruling_su c)).state.world) (same_g c);
-        states = record {
-          first = told_of lab st a.first (who.Student s) c;
-          second = told_of lab su a.second (who.Student s) c;
-          worlds = after;
-          greeted = told_greeted st (ruling_st c) ∙ a.greeted ∙ sym (told_greeted su (ruling_su c));
-          halted = told_halted st (ruling_st c) ∙ a.halted ∙ sym (told_halted su (ruling_su c));
-        };
+        reply = ap (λ (w : World). reply_of w g) left.0 ∙ same_reply_to lab.ids lab.roster lab.events st.halted st.world v s c first second a
+            ∙ sym (ap (λ (w : World). reply_of w h) right.0);
+        worlds = subst (λ (w : World). Alike lab.roster s w (told_su (who.Student s) c).state.world) (sym left.0)
+            (subst (λ (w : World). Alike lab.roster s (after_ruling st.world g) w) (sym right.0)
+            (alike_afterwards lab.ids lab.roster lab.events st.halted st.world v s c first second a));
+        greeted = left.1 ∙ sym right.1;
+        halted = left.2 ∙ sym right.2;
       }
-
-  judged_alike : (x : Who) (c : Command) → x ≡ who.Student s
-      → TurnsAlike lab s (told st (ruling lab.ids lab.roster lab.events st.halted st.world x c))
-      (told su (ruling lab.ids lab.roster lab.events su.halted su.world x c))
-  judged_alike x c e =
-      subst (λ (y : Who). TurnsAlike lab s (told st (ruling lab.ids lab.roster lab.events st.halted st.world y c))
-      (told su (ruling lab.ids lab.roster lab.events su.halted su.world y c)))
-      (sym e) (told_alike c)
-
-  she_is : (x : Who) → is_hers s (Some x) ≡ true → x ≡ who.Student s
-  she_is who.Teacher h = absurd (false≢true h)
-  she_is (who.Student t) h = ap who.Student (eqb-true t s h)
 
   -- a greeting, a bye, or what is asked before a greeting
   answered_alike : (k : ℕ) (r : Reply) (x : Option Who) → TurnsAlike lab s (settled lab st k (Answered r x)) (settled lab su k (Answered r x))
-  answered_alike k r x = record { reply = refl; states = known_alike k x }
+  answered_alike k r x = record { reply = refl; worlds = a; greeted = refl; halted = refl }
 
   admitted_alike : (k : ℕ) (found : Option Who) → TurnsAlike lab s (settled lab st k (admitted found)) (settled lab su k (admitted found))
   admitted_alike k None = answered_alike k _ _
   admitted_alike k (Some x) = answered_alike k _ _
 
-  pub greeted_alike : (k : ℕ) (known : Option Who) (q : Request) → is_hers s known ≡ true
+  greeted_alike : (k : ℕ) (known : Option Who) (q : Request) → is_hers s known ≡ true
       → TurnsAlike lab s (settled lab st k (greeting lab.roster known q)) (settled lab su k (greeting lab.roster known q))
   greeted_alike k None (requests.Hello name key) h = admitted_alike k (principal lab.roster name key)
   greeted_alike k (Some x) (requests.Hello name key) h = answered_alike k _ _
   greeted_alike k None requests.Bye h = answered_alike k _ _
   greeted_alike k (Some x) requests.Bye h = answered_alike k _ _
   greeted_alike k None (requests.Do c) h = answered_alike k _ _
-  greeted_alike k (Some x) (requests.Do c) h = judged_alike x c (she_is x h)
+  greeted_alike k (Some who.Teacher) (requests.Do c) h = absurd (false≢true h)
+  greeted_alike k (Some (who.Student t)) (requests.Do c) h =
+      subst (λ (t : ℕ). TurnsAlike lab s (told_st (who.Student t) c) (told_su (who.Student t) c)) (sym (eqb-true t s h)) (told_alike c)
 
   answer_alike : (k : ℕ) (asked : Result Request LineFault) → is_hers s (known_on st k) ≡ true
       → TurnsAlike lab s (answer_to lab st k asked) (answer_to lab su k asked)
-  answer_alike k (Err fault) h = record { reply = refl; states = a }
-  answer_alike k (Ok q) h =
-      subst
-      (λ (known : Option Who). TurnsAlike lab s (settled lab st k (greeting lab.roster (known_on st k) q)) (settled lab su k (greeting lab.roster known q)))
-      (same_known k) (greeted_alike k (known_on st k) q h)
+  answer_alike k (Err fault) h = record { reply = refl; worlds = a; greeted = refl; halted = refl }
+  answer_alike k (Ok q) h = greeted_alike k (known_on st k) q h
 
-  pub plain_alike : (k : ℕ) (line : List ℕ) → is_hers s (known_on st k) ≡ true → TurnsAlike lab s (plain_turn lab st k line) (plain_turn lab su k line)
+  plain_alike : (k : ℕ) (line : List ℕ) → is_hers s (known_on st k) ≡ true → TurnsAlike lab s (plain_turn lab st k line) (plain_turn lab su k line)
   unfolding plain_turn
   plain_alike k line h = answer_alike k (request_in line) h
 
   -- whatever befell the turn, in both
-  stays_alike : (r : Reply) → TurnsAlike lab s (replied st r) (replied su r)
-  stays_alike r = record { reply = refl; states = a }
-
-  halting_alike : TurnsAlike lab s (halting st) (halting su)
-  halting_alike = record {
-    reply = refl;
-    states = record { first = a.first; second = a.second; worlds = a.worlds; greeted = a.greeted; halted = refl };
-  }
-
-  either : (b c : Bool) (p q one two : Outcome) → b ≡ c → TurnsAlike lab s p q → TurnsAlike lab s one two → TurnsAlike lab s (cond b p one) (cond c q two)
-  either b c p q one two e x y = subst (λ (d : Bool). TurnsAlike lab s (cond b p one) (cond d q two)) e (go b)
-    where
-      go : (d : Bool) → TurnsAlike lab s (cond d p one) (cond d q two)
-      go true = x
-      go false = y
-
-  pub turn_alike : (mishap : Mishap) (k : ℕ) (line : List ℕ) → is_hers s (known_on st k) ≡ true
+  turn_alike : (mishap : Mishap) (k : ℕ) (line : List ℕ) → is_hers s (known_on st k) ≡ true
       → TurnsAlike lab s (turn mishap lab st k line) (turn mishap lab su k line)
   turn_alike nothing k line h = plain_alike k line h
-  turn_alike while_read k line h = stays_alike _
+  turn_alike while_read k line h = record { reply = refl; worlds = a; greeted = refl; halted = refl }
   turn_alike later k line h =
       let plain : TurnsAlike lab s (plain_turn lab st k line) (plain_turn lab su k line) = plain_alike k line h in
-      either (takes_memory (plain_turn lab st k line).reply) (takes_memory (plain_turn lab su k line).reply) (without_memory st) (without_memory su)
-      (plain_turn lab st k line) (plain_turn lab su k line) (ap takes_memory plain.reply) (stays_alike _) plain
+      either_both (TurnsAlike lab s) _ _ (without_memory st) (without_memory su) _ _ (ap takes_memory plain.reply)
+      (record { reply = refl; worlds = a; greeted = refl; halted = refl }) plain
   turn_alike sink_failed k line h =
       let plain : TurnsAlike lab s (plain_turn lab st k line) (plain_turn lab su k line) = plain_alike k line h in
-      either (is_grant (plain_turn lab st k line).reply) (is_grant (plain_turn lab su k line).reply) (halting st) (halting su)
-      (plain_turn lab st k line) (plain_turn lab su k line) (ap is_grant plain.reply) halting_alike plain
+      either_both (TurnsAlike lab s) _ _ (halting st) (halting su) _ _ (ap is_grant plain.reply)
+      (record { reply = refl; worlds = a; greeted = refl; halted = refl }) plain
 
-  -- a line of another: the same are known afterwards
-  others_settled : (k : ℕ) (known : Option Who) (q : Request)
-      → (((settled lab st k (greeting lab.roster known q)).state.greeted ≡ (settled lab su k (greeting lab.roster known q)).state.greeted)
-      × ((settled lab st k (greeting lab.roster known q)).state.halted ≡ (settled lab su k (greeting lab.roster known q)).state.halted))
-  others_settled k None q =
-      let t : TurnsAlike lab s (settled lab st k (greeting lab.roster None q)) (settled lab su k (greeting lab.roster None q)) =
-      greeted_alike k None q refl in
-      (t.states.greeted, t.states.halted)
-  others_settled k (Some x) (requests.Hello name key) = ((known_alike k (Some x)).greeted, a.halted)
-  others_settled k (Some x) requests.Bye = ((known_alike k None).greeted, a.halted)
-  others_settled k (Some x) (requests.Do c) = (
-    told_greeted st _ ∙ a.greeted ∙ sym (told_greeted su _),
-    told_halted st _ ∙ a.halted ∙ sym (told_halted su _),
-  )
+  -- a line of another: the replies are the same, and so is who is known afterwards, or nobody else is known than before
+  abbrev KnownAlike : Outcome → Outcome → Type 0
+  KnownAlike one two =
+      ((one.reply ≡ two.reply) × (one.state.greeted ≡ two.state.greeted)) ⊎ ((one.state.greeted ≡ st.greeted) × (two.state.greeted ≡ st.greeted))
 
-  others_answer : (k : ℕ) (asked : Result Request LineFault)
-      → (((answer_to lab st k asked).state.greeted ≡ (answer_to lab su k asked).state.greeted)
-      × ((answer_to lab st k asked).state.halted ≡ (answer_to lab su k asked).state.halted))
-  others_answer k (Err fault) = (a.greeted, a.halted)
-  others_answer k (Ok q) =
-      subst (λ (known : Option Who).
-      (((settled lab st k (greeting lab.roster (known_on st k) q)).state.greeted ≡ (settled lab su k (greeting lab.roster known q)).state.greeted)
-      × ((settled lab st k (greeting lab.roster (known_on st k) q)).state.halted ≡ (settled lab su k (greeting lab.roster known q)).state.halted)))
-      (same_known k) (others_settled k (known_on st k) q)
+  settled_known : (k : ℕ) (known : Option Who) (q : Request)
+      → KnownAlike (settled lab st k (greeting lab.roster known q)) (settled lab su k (greeting lab.roster known q))
+  settled_known k None q = let t = greeted_alike k None q refl in inl (t.reply, t.greeted)
+  settled_known k (Some x) (requests.Hello name key) = inl (refl, refl)
+  settled_known k (Some x) requests.Bye = inl (refl, refl)
+  settled_known k (Some x) (requests.Do c) = inr ((entered_is st _).1, (entered_is su _).1)
 
-  pub others_plain : (k : ℕ) (line : List ℕ)
-      → (((plain_turn lab st k line).state.greeted ≡ (plain_turn lab su k line).state.greeted)
-      × ((plain_turn lab st k line).state.halted ≡ (plain_turn lab su k line).state.halted))
+  answer_known : (k : ℕ) (asked : Result Request LineFault) → KnownAlike (answer_to lab st k asked) (answer_to lab su k asked)
+  answer_known k (Err fault) = inl (refl, refl)
+  answer_known k (Ok q) = settled_known k (known_on st k) q
+
+  plain_known : (k : ℕ) (line : List ℕ) → KnownAlike (plain_turn lab st k line) (plain_turn lab su k line)
   unfolding plain_turn
-  others_plain k line = others_answer k (request_in line)
+  plain_known k line = answer_known k (request_in line)
 
-  pub others_alike : (k : ℕ) (line : List ℕ) → Alike lab.roster s (plain_turn lab st k line).state.world (plain_turn lab su k line).state.world
-      → StatesAlike lab s (plain_turn lab st k line).state (plain_turn lab su k line).state
-  others_alike k line worlds =
-      let both = others_plain k line in
-      record {
-        first = plain_of lab st a.first k line;
-        second = plain_of lab su a.second k line;
-        worlds = worlds;
-        greeted = both.0;
-        halted = both.1;
-      }
+  either_known : (f : Reply → Bool) (p q one two : Outcome) → p.state.greeted ≡ st.greeted → q.state.greeted ≡ st.greeted → KnownAlike one two
+      → (cond (f one.reply) p one).state.greeted ≡ (cond (f two.reply) q two).state.greeted
+  either_known f p q one two x y (inl (e, h)) =
+      either_both (λ o u. o.state.greeted ≡ u.state.greeted) (f one.reply) (f two.reply) p q one two (ap f e) (x ∙ sym y) h
+  either_known f p q one two x y (inr (e, h)) =
+      either_of (λ o. o.state.greeted ≡ st.greeted) (f one.reply) p one x e ∙ sym (either_of (λ o. o.state.greeted ≡ st.greeted) (f two.reply) q two y h)
+
+  turn_known : (m : Mishap) (k : ℕ) (line : List ℕ) → (turn m lab st k line).state.greeted ≡ (turn m lab su k line).state.greeted
+  turn_known nothing k line = elim (plain_known k line) [
+    | inl same ↦ same.1
+    | inr none ↦ none.0 ∙ sym none.1
+  ]
+  turn_known while_read k line = refl
+  turn_known later k line = either_known takes_memory (without_memory st) (without_memory su) _ _ refl refl (plain_known k line)
+  turn_known sink_failed k line = either_known is_grant (halting st) (halting su) _ _ refl refl (plain_known k line)
 
 -- ---- in two labs
+
+abbrev with_network : LabValue → Network → LabValue
+with_network lab n = record { ids = lab.ids; roster = lab.roster; network = n; events = lab.events; sessions = lab.sessions }
 
 -- a turn reads no network of the lab
 net_turn : (lab : LabValue) (n : Network) (m : Mishap) (st : State) (k : ℕ) (line : List ℕ) → turn m lab st k line ≡ turn m (with_network lab n) st k line
@@ -281,24 +196,51 @@ net_turn lab n while_read st k line = refl
 net_turn lab n later st k line = refl
 net_turn lab n sink_failed st k line = refl
 
--- in twin labs a line has the same turn from the same state
-pub twin_same : (lab other : LabValue) → AreTwins lab other → (m : Mishap) (st : State) (k : ℕ) (line : List ℕ) → turn m lab st k line ≡ turn m other st k line
-twin_same lab other t m st k line = net_turn lab other.network m st k line ∙ ap (λ (o : LabValue). turn m o st k line) (twin_is lab other t)
+module _ (lab other : LabValue) (t : AreTwins lab other) (s : ℕ) (st su : State) (a : StatesAlike lab s st su) (m : Mishap) (k : ℕ) (line : List ℕ) where
+  abbrev su_here : State
+  su_here = record { world = su.world; events = su.events; greeted = st.greeted; halted = st.halted }
 
-module _ (lab other : LabValue) (t : AreTwins lab other) (s : ℕ) (st su : State) (a : StatesAlike lab s st su) where
-  pub twin_turn : (mishap : Mishap) (k : ℕ) (line : List ℕ) → is_hers s (known_on st k) ≡ true
-      → TurnsAlike lab s (turn mishap lab st k line) (turn mishap other su k line)
-  twin_turn mishap k line h =
-      subst (λ (o : Outcome). TurnsAlike lab s (turn mishap lab st k line) o) (twin_same lab other t mishap su k line)
-      (turn_alike lab s st su a mishap k line h)
+  same_turn : turn m lab su_here k line ≡ turn m other su k line
+  same_turn = net_turn lab other.network m su_here k line ∙ (λ z. turn m
+      (record { ids = t.ids z; roster = t.roster z; network = other.network; events = t.events z; sessions = t.sessions z })
+      (record { world = su.world; events = su.events; greeted = a.greeted z; halted = a.halted z }) k line)
 
-  pub twin_line : (mishap : Mishap) (k : ℕ) (line : List ℕ) → is_hers s (known_on st k) ≡ true
-      → reply_line lab.ids lab.roster (turn mishap lab st k line).reply ≡ reply_line other.ids other.roster (turn mishap other su k line).reply
-  twin_line mishap k line h = λ z. reply_line (t.ids z) (t.roster z) ((twin_turn mishap k line h).reply z)
+  alike_here : is_hers s (known_on st k) ≡ true → TurnsAlike lab s (turn m lab st k line) (turn m other su k line)
+  alike_here h =
+      subst (λ (o : Outcome). TurnsAlike lab s (turn m lab st k line) o) same_turn
+      (turn_alike lab s st su.world su.events a.first a.second a.worlds m k line h)
 
-  pub twin_others : (k : ℕ) (line : List ℕ) → Alike lab.roster s (plain_turn lab st k line).state.world (plain_turn other su k line).state.world
-      → StatesAlike lab s (plain_turn lab st k line).state (plain_turn other su k line).state
-  twin_others k line worlds =
-      subst (λ (o : Outcome). Alike lab.roster s (plain_turn lab st k line).state.world o.state.world
-      → StatesAlike lab s (plain_turn lab st k line).state o.state)
-      (twin_same lab other t nothing su k line) (others_alike lab s st su a k line) worlds
+  -- a line of another leaves the states alike where it leaves the worlds so, and both halted or neither
+  pub twin_others : Alike lab.roster s (turn m lab st k line).state.world (turn m other su k line).state.world
+      → (turn m lab st k line).state.halted ≡ (turn m other su k line).state.halted
+      → StatesAlike lab s (turn m lab st k line).state (turn m other su k line).state
+  twin_others worlds halted = record {
+    first = turn_world lab st k line a.first m;
+    second = subst (λ (o : Outcome). IsWorldOf lab.ids o.state.world) same_turn (turn_world lab su_here k line a.second m);
+    worlds = worlds;
+    greeted = turn_known lab s st su.world su.events a.first a.second a.worlds m k line ∙ ap (λ (o : Outcome). o.state.greeted) same_turn;
+    halted = halted;
+  }
+
+  pub twin_turn : is_hers s (known_on st k) ≡ true
+      → ((turn m lab st k line).reply ≡ (turn m other su k line).reply) × StatesAlike lab s (turn m lab st k line).state (turn m other su k line).state
+  twin_turn h = let turns = alike_here h in (turns.reply, twin_others turns.worlds turns.halted)
+
+  pub twin_line : is_hers s (known_on st k) ≡ true
+      → reply_line lab.ids lab.roster (turn m lab st k line).reply ≡ reply_line other.ids other.roster (turn m other su k line).reply
+  twin_line h = λ z. reply_line (t.ids z) (t.roster z) ((twin_turn h).0 z)
+
+  -- the states stay alike after a line of hers, and after another's where the worlds do
+  pub twin_next : (is_hers s (known_on st k) ≡ false → Alike lab.roster s (turn m lab st k line).state.world (turn m other su k line).state.world
+      × ((turn m lab st k line).state.halted ≡ (turn m other su k line).state.halted))
+      → StatesAlike lab s (turn m lab st k line).state (turn m other su k line).state
+  twin_next stay = go (is_hers s (known_on st k)) refl
+    where
+      go : (b : Bool) → is_hers s (known_on st k) ≡ b → StatesAlike lab s (turn m lab st k line).state (turn m other su k line).state
+      go true h = (twin_turn h).1
+      go false h = twin_others (stay h).0 (stay h).1
+
+-- a plain turn halts nothing
+pub twin_halted : (lab other : LabValue) (s : ℕ) (st su : State) (a : StatesAlike lab s st su) (k : ℕ) (line : List ℕ)
+    → (plain_turn lab st k line).state.halted ≡ (plain_turn other su k line).state.halted
+twin_halted lab other s st su a k line = plain_halted lab st k line ∙ a.halted ∙ sym (plain_halted other su k line)

@@ -12,20 +12,20 @@ pub record BefallenLine : Type 0 where
   pub line : RequestLine
   pub mishap : Mishap
 
--- its turn
+-- the turn of a line by what befell it
 abbrev pub turn_with : LabValue → State → BefallenLine → Outcome
 turn_with lab st b = turn b.mishap lab st b.line.connection b.line.request
 
--- the lines alone
+-- the lines without what befell them
 abbrev pub lines_in : List BefallenLine → List RequestLine
 lines_in bs = map (λ b. b.line) bs
 
--- the replies of the turns
+-- the replies of the turns of lines by what befell them
 abbrev pub replies_with : LabValue → State → List BefallenLine → List Reply
 replies_with lab st [] = []
 replies_with lab st (b ∷ bs) = (turn_with lab st b).reply ∷ replies_with lab (turn_with lab st b).state bs
 
--- the state that they lead to
+-- the state to which the turns of lines lead by what befell them
 abbrev pub end_with : LabValue → State → List BefallenLine → State
 end_with lab st [] = st
 end_with lab st (b ∷ bs) = end_with lab (turn_with lab st b).state bs
@@ -46,20 +46,20 @@ written_on_any lab some (line ∷ lines) [] = []
 written_on_any lab some (line ∷ lines) (r ∷ rs) =
     (if some line.connection then output_line lab line.connection r ∷ [] else []) ++ written_on_any lab some lines rs
 
--- whenever a line comes on one of these connections, it is known as student s, or as nobody yet
+-- each line on one of some connections comes while its connection is known as student s, or as nobody yet
 abbrev pub AreHersThroughout : LabValue → ℕ → (ℕ → Bool) → State → List BefallenLine → Type 0
 AreHersThroughout lab s some st [] = Unit {0}
 AreHersThroughout lab s some st (b ∷ bs) =
     (some b.line.connection ≡ true → is_hers s (known_on st b.line.connection) ≡ true) × AreHersThroughout lab s some (turn_with lab st b).state bs
 
--- something befell each line, so that the turns have these replies and lead to that end
+-- something befell each of the lines, so that their turns have these replies and lead to that end
 pub record Befalls (lab : LabValue) (st : State) (lines : List RequestLine) (rs : List Reply) (end : State) : Type 0 where
   pub befallen : List BefallenLine
   pub lines_are : lines_in befallen ≡ lines
   pub replies_are : rs ≡ replies_with lab st befallen
   pub end_is : end ≡ end_with lab st befallen
 
--- the transcript's lines and replies are those of turns that this befell
+-- the transcript's lines and replies are those of turns by what befell the lines
 pub record Befell (lab : LabValue) (t : Transcript lab) (bs : List BefallenLine) : Type 0 where
   pub lines_are : lines_in bs ≡ t.lines
   pub replies_are : t.replies ≡ replies_with lab (opening lab) bs
