@@ -25,9 +25,7 @@ is_kind _ _ = false
 -- the close at place q applied it
 abbrev pub is_fate_at : ℕ → Fate → Bool
 is_fate_at q (fate.Applied p) = p == q
-is_fate_at q fate.Released = false
-is_fate_at q fate.Dropped = false
-is_fate_at q fate.Chosen = false
+is_fate_at q _ = false
 
 abbrev pub is_applied_at : ℕ → Move → Bool
 is_applied_at q m = is_fate_at q m.fate
@@ -35,9 +33,7 @@ is_applied_at q m = is_fate_at q m.fate
 -- some close applied it
 abbrev pub is_fate_applied : Fate → Bool
 is_fate_applied (fate.Applied p) = true
-is_fate_applied fate.Released = false
-is_fate_applied fate.Dropped = false
-is_fate_applied fate.Chosen = false
+is_fate_applied _ = false
 
 abbrev pub is_applied : Move → Bool
 is_applied m = is_fate_applied m.fate

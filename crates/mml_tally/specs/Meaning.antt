@@ -30,22 +30,16 @@ abbrev pub total : ByRule → ℕ
 total n = n.update + n.marriage + n.seduction + n.abandonment
 
 abbrev pub is_fate_released : Fate → Bool
-is_fate_released (fate.Applied p) = false
 is_fate_released fate.Released = true
-is_fate_released fate.Dropped = false
-is_fate_released fate.Chosen = false
+is_fate_released _ = false
 
 abbrev pub is_fate_dropped : Fate → Bool
-is_fate_dropped (fate.Applied p) = false
-is_fate_dropped fate.Released = false
 is_fate_dropped fate.Dropped = true
-is_fate_dropped fate.Chosen = false
+is_fate_dropped _ = false
 
 abbrev pub is_fate_left : Fate → Bool
-is_fate_left (fate.Applied p) = false
-is_fate_left fate.Released = false
-is_fate_left fate.Dropped = false
 is_fate_left fate.Chosen = true
+is_fate_left _ = false
 
 -- the teacher released it, a fault, a link or a cut dropped it, or it is chosen still
 abbrev pub is_released : Move → Bool

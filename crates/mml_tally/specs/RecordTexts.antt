@@ -8,7 +8,7 @@ use Rattle.mml_board.specs.World.{World}
 use Rattle.mml_stable.specs.Reports.{each_below}
 use Rattle.mml_tally.specs.declared.ask.Ask.{Ask}
 use Rattle.mml_tally.specs.declared.ask.Denials.{Denials}
-use Rattle.mml_tally.specs.declared.record_text.Kept.{Kept}
+use Rattle.mml_tally.specs.declared.record_text.Findings.{Findings}
 use Rattle.mml_tally.specs.Owners.{owners_in_order, is_shared}
 use Rattle.mml_tally.specs.Asks.{denials_of, asked_of}
 use Rattle.mml_tally.specs.Texts.{numbers_text, owner_text, students_text, nodes_text, ends_text}
@@ -40,13 +40,13 @@ whole_text true = codes " whole\n"
 whole_text false = codes " cut\n"
 
 -- sessions that ended, lines that were answered, and whether the record is whole
-abbrev pub record_line : Kept → List ℕ
-record_line k = codes "record" ++ (numbers_text (k.sessions ∷ k.lines ∷ []) ++ whole_text k.whole)
+abbrev pub record_line : Findings → List ℕ
+record_line f = codes "record" ++ (numbers_text (f.sessions ∷ f.lines ∷ []) ++ whole_text f.whole)
 
-abbrev pub record_text : LabValue → Kept → List Ask → List ℕ
-record_text lab k asks = denied_text lab asks (length lab.roster.students) ++ (asked_text lab asks (length lab.ids) ++ record_line k)
+abbrev pub record_text : LabValue → Findings → List Ask → List ℕ
+record_text lab f asks = denied_text lab asks (length lab.roster.students) ++ (asked_text lab asks (length lab.ids) ++ record_line f)
 
 -- the tally of a run with a record
-abbrev pub recorded_text : LabValue → World → List Event → Kept → List Ask → List ℕ
-recorded_text lab w es k asks =
-    students_text lab es (length lab.roster.students) ++ (nodes_text lab es (length lab.ids) ++ (record_text lab k asks ++ ends_text w es))
+abbrev pub recorded_text : LabValue → World → List Event → Findings → List Ask → List ℕ
+recorded_text lab w es f asks =
+    students_text lab es (length lab.roster.students) ++ (nodes_text lab es (length lab.ids) ++ (record_text lab f asks ++ ends_text w es))

@@ -1,7 +1,8 @@
 -- What a list of events tells of its run.
-use Rattle.std.specs.Prelude.{ℕ, ◌+◌, Bool, true, false, nat_lt, if◌then◌else◌, List, [], ◌∷◌, drop, count_by}
+use Rattle.std.specs.Prelude.{ℕ, ◌+◌, Bool, true, false, not, nat_lt, if◌then◌else◌, List, [], ◌∷◌, drop, count_by}
 use Rattle.mml_board.specs.declared.event.Event.{Event}
 use Rattle.mml_board.specs.declared.event.Event.TheVariants as event
+use Rattle.mml_convergence.specs.Runs.{is_of_step}
 use Rattle.mml_convergence.specs.Moves.{is_close}
 use Rattle.mml_tally.specs.declared.fate.Fate.{Fate}
 use Rattle.mml_tally.specs.declared.fate.Fate.TheVariants as fate
@@ -24,12 +25,7 @@ is_cut _ = false
 
 -- a fault, a link or a cut
 abbrev pub is_change : Event → Bool
-is_change (event.Grant s i rule) = false
-is_change (event.Release i) = false
-is_change event.Close = false
-is_change (event.Fault i registers) = true
-is_change (event.Link a b) = true
-is_change (event.Cut a b) = true
+is_change e = not (is_of_step e)
 
 -- the place of the last fault, link or cut, which is `last` so far: the next event has place q
 abbrev pub last_change : ℕ → ℕ → List Event → ℕ
@@ -39,9 +35,7 @@ last_change last q (e ∷ es) = last_change (if is_change e then q else last) (q
 -- a close after that place applied the move
 abbrev pub is_fate_after : ℕ → Fate → Bool
 is_fate_after k (fate.Applied p) = nat_lt k p
-is_fate_after k fate.Released = false
-is_fate_after k fate.Dropped = false
-is_fate_after k fate.Chosen = false
+is_fate_after k _ = false
 
 abbrev pub is_applied_after : ℕ → Move → Bool
 is_applied_after k m = is_fate_after k m.fate

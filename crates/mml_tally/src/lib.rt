@@ -19,6 +19,6 @@ pub use fate::{Fate, ended_by, fate_of};
 pub use granted_move::{Move, moves_of};
 pub use marks::{ByRule, Marks, by_rule, is_applied, marks_of, moves_at, moves_by};
 pub use owners::{is_shared, owners_of};
-pub use record_text::{Kept, put_recorded_tally};
+pub use record_text::{Findings, put_recorded_tally};
 pub use run::{Run, run_of};
 pub use text::put_tally;

@@ -10,9 +10,9 @@ use mml_ids::{Memory, Piece, Rank, put};
 use mml_lab::{Lab, Roster, Student, Who};
 use std::alloc::Global;
 
-/// What a run's record comes to.
-#[derive(Clone, Copy, Debug, PartialEq, Eq)]
-pub struct Kept {
+/// What a record comes to.
+#[derive(Clone, Copy, Debug, PartialEq, Eq, Drop)]
+pub struct Findings {
     /// How many sessions ended.
     pub sessions: u64,
     /// How many lines were answered.
@@ -30,15 +30,15 @@ pub fn put_recorded_tally(
     lab: &Lab,
     board: &Board,
     events: &[Event],
-    kept: &Kept,
+    findings: &Findings,
     asks: &[Ask],
 ) -> Result<(), Memory>
     ensures { OnOk result (out.new.items
-        ≡ out.old.items ++ recorded_text lab.now board.now events.now kept.now asks.now) }
+        ≡ out.old.items ++ recorded_text lab.now board.now events.now findings.now asks.now) }
 {
     let all = moves_of(alloc, events)?;
     put_granted(out, alloc, lab, &all)?;
-    put_record(out, alloc, lab, kept, asks)?;
+    put_record(out, alloc, lab, findings, asks)?;
     put_ends(out, board, events, &all)
 }
 
@@ -46,15 +46,15 @@ fn put_record(
     out: &mut Vec<u8>,
     alloc: Global,
     lab: &Lab,
-    kept: &Kept,
+    findings: &Findings,
     asks: &[Ask],
 ) -> Result<(), Memory>
     ensures { OnOk result
-        (out.new.items ≡ out.old.items ++ record_text lab.now kept.now asks.now) }
+        (out.new.items ≡ out.old.items ++ record_text lab.now findings.now asks.now) }
 {
     put_denied(out, alloc, lab, asks)?;
     put_asked(out, alloc, lab, asks)?;
-    put_kept(out, kept)
+    put_findings(out, findings)
 }
 
 fn put_denied(out: &mut Vec<u8>, alloc: Global, lab: &Lab, asks: &[Ask]) -> Result<(), Memory>
@@ -136,12 +136,12 @@ fn put_askers(
     Ok(())
 }
 
-fn put_kept(out: &mut Vec<u8>, kept: &Kept) -> Result<(), Memory>
-    ensures { OnOk result (out.new.items ≡ out.old.items ++ record_line kept.now) }
+fn put_findings(out: &mut Vec<u8>, findings: &Findings) -> Result<(), Memory>
+    ensures { OnOk result (out.new.items ≡ out.old.items ++ record_line findings.now) }
 {
     put(out, &[Piece::Text("record")])?;
-    put_numbers(out, &[kept.sessions, kept.lines])?;
-    put(out, &[Piece::Text(whole_text(kept.whole))])
+    put_numbers(out, &[findings.sessions, findings.lines])?;
+    put(out, &[Piece::Text(whole_text(findings.whole))])
 }
 
 fn whole_text(is_whole: bool) -> &'static str
