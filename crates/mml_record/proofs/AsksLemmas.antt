@@ -1,5 +1,5 @@
 -- What is read of the lines of a record is what was answered by the rules.
-use Rattle.std.proofs.Common.{◌≡◌, ℕ, zero, suc, ◌+◌, ◌-◌, ◌/◌, ◌%◌, Bool, true, false, true≢false, cond, not, eqb, List, [], ◌∷◌, ◌++◌, length, take, codes, decimal}
+use Rattle.std.proofs.Common.{◌≡◌, ℕ, zero, suc, ◌+◌, ◌/◌, ◌%◌, Bool, true, false, true≢false, cond, not, eqb, List, [], ◌∷◌, ◌++◌, length, take, codes, decimal}
 use Rattle.std.proofs.Common.{inl, inr, refl, sym, ap, ◌∙◌, arith, Option, None, Some, Result, Ok, Err}
 use Rattle.std.specs.Prelude.{nat_lt, bytes_eq}
 use Rattle.std.specs.Fmt.{digits, digits_onto, digit_glyph}
@@ -31,7 +31,6 @@ use Rattle.mml_record.specs.declared.entries.Entry.TheVariants as entry
 use Rattle.mml_record.specs.Certified.{seen_after, FitsGreeting, FitsAsked, Fits, GoesOn}
 use Rattle.mml_record.specs.Asks.{unended, clause_first, clause_second, clause_member, clause_told, memory_text, known_by, known_asked, known_after, line_of, student_of}
 use Rattle.mml_record.specs.Asks.{asks_from, clause_in, AreAskedOf}
-use Rattle.mml_journal.specs.Words.{cut}
 use Rattle.mml_journal.proofs.CuttingLemmas.{avoids, cut_here}
 use Rattle.mml_record.proofs.TextLineLemmas.{front_of}
 use Rattle.mml_record.proofs.OnceLemmas.{fits_once}

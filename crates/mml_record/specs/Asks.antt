@@ -59,7 +59,7 @@ abbrev pub line_of : Result Request LineFault → Line
 line_of (Ok request) = line_of_request request
 line_of (Err fault) = lines.Malformed
 
--- ---- what its reply tells
+-- ---- what a reply tells
 
 -- a reply's line without its newline
 abbrev pub unended : List ℕ → List ℕ
@@ -95,7 +95,7 @@ clause_told text = do
 abbrev pub memory_text : List ℕ
 memory_text = codes "{\"refuse\":\"memory\"}"
 
--- ---- who is known behind it
+-- ---- who is known behind a line
 
 abbrev pub known_by : Option Who → Greeting → Option Who
 known_by known (Answered r x) = x
@@ -141,7 +141,7 @@ asks_from roster known (e ∷ es) = asks_at known e ++ asks_from roster (known_b
 abbrev pub asks_in : RosterValue → List Entry → List Ask
 asks_in roster es = asks_from roster None es
 
--- ---- what that means
+-- ---- what asks mean
 
 -- the clause by which the reply is a denial
 abbrev pub clause_in : Reply → Option ℕ

@@ -1,4 +1,5 @@
 //! What is found of a record.
+use mml_tally::Findings;
 
 /// What a text is found to be.
 #[derive(Clone, Copy, Debug, PartialEq, Eq, Drop)]
@@ -7,17 +8,6 @@ pub enum Verdict {
     Passed(Findings),
     /// None.
     Refused(BadEntry),
-}
-
-/// What a record comes to.
-#[derive(Clone, Copy, Debug, PartialEq, Eq, Drop)]
-pub struct Findings {
-    /// How many sessions ended.
-    pub sessions: u64,
-    /// How many lines were answered.
-    pub lines: u64,
-    /// Whether nothing is left out.
-    pub whole: bool,
 }
 
 /// The first entry that can't be.
