@@ -1,7 +1,7 @@
 -- What is told of a record.
 use Rattle.std.specs.Prelude.{ℕ, if◌then◌else◌, List, [], ◌∷◌, codes, decimal}
 use Rattle.std.specs.List.{concat}
-use Rattle.mml_record.specs.declared.verdict.Findings.{Findings}
+use Rattle.mml_tally.specs.declared.record_text.Findings.{Findings}
 
 abbrev pub verified_line : Findings → ℕ → List ℕ
 verified_line found events =

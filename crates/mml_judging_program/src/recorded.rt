@@ -15,8 +15,8 @@ use mml_board::{Board, Event};
 use mml_ends::Retrying;
 use mml_lab::Lab;
 use mml_program::{Fault as ProgramFault, lab_of, or_memory, read_journal};
-use mml_record::{Findings, Verdict, read_asks, read_record};
-use mml_tally::{Ask, Kept, put_recorded_tally};
+use mml_record::{Verdict, read_asks, read_record};
+use mml_tally::{Ask, Findings, put_recorded_tally};
 use std::alloc::Global;
 use std::fs::File;
 use std::io;
@@ -33,7 +33,7 @@ pub fn tally_recorded<R: Files<File = File> + Print + AllocGlobal>(
     let audited = audited_of(rt.alloc(), &lab, journal.as_slice())?;
     let events = audited.events.as_slice();
     let mut asks = Vec::new(rt.alloc());
-    let kept = read_seats(rt, &lab, events, task.record, &mut asks)?;
+    let findings = read_seats(rt, &lab, events, task.record, &mut asks)?;
     let mut writer = Retrying::new(io::writer(rt));
     let alloc = rt.alloc();
     match write_recorded(
@@ -41,7 +41,7 @@ pub fn tally_recorded<R: Files<File = File> + Print + AllocGlobal>(
         &lab,
         &audited.board,
         events,
-        &kept,
+        &findings,
         asks.as_slice(),
         &mut writer,
     ) {
@@ -64,7 +64,7 @@ fn read_seats<R: Files<File = File> + AllocGlobal>(
     events: &[Event],
     folder: &str,
     asks: &mut Vec<Ask>,
-) -> Result<Kept, Fault>
+) -> Result<Findings, Fault>
     requires { is_legal_in lab.now events.now ≡ true }
 {
     let begun = read_begun(rt, folder)?;
@@ -83,11 +83,7 @@ fn read_seats<R: Files<File = File> + AllocGlobal>(
     let count = events.len() as u64;
     match find_misgranted(rt.alloc(), granted.as_slice(), begun, count, all.whole)? {
         Some(amiss) => Err(Fault::Record(RecordRefusal::of_places(amiss))),
-        None => Ok(Kept {
-            sessions: all.sessions,
-            lines: all.lines,
-            whole: all.whole,
-        }),
+        None => Ok(all),
     }
 }
 
@@ -118,15 +114,15 @@ pub fn write_recorded<W: Write>(
     lab: &Lab,
     board: &Board,
     events: &[Event],
-    kept: &Kept,
+    findings: &Findings,
     asks: &[Ask],
     writer: &mut W,
 ) -> Result<(), ProgramFault>
     ensures { OnOk result (Appends (W.contents writer.old) (W.contents writer.new)
-        (recorded_text lab.now board.now events.now kept.now asks.now)) }
+        (recorded_text lab.now board.now events.now findings.now asks.now)) }
 {
     let mut text = Vec::new(alloc);
-    match put_recorded_tally(&mut text, alloc, lab, board, events, kept, asks) {
+    match put_recorded_tally(&mut text, alloc, lab, board, events, findings, asks) {
         Ok(()) => write_text(&text, writer),
         Err(_) => Err(ProgramFault::Memory),
     }

@@ -18,7 +18,8 @@ use mml_lines::{WholeFault, read_whole};
 use mml_program::{
     Fault as ProgramFault, lab_of, memory_or, or_memory, read_journal, write_pieces,
 };
-use mml_record::{Findings, PieceFault, Verdict, read_record_from};
+use mml_record::{PieceFault, Verdict, read_record_from};
+use mml_tally::Findings;
 use std::alloc::Global;
 use std::fs::File;
 use std::io::Write;
