@@ -1,5 +1,6 @@
 -- Lines that go out together, over several steps.
 use Rattle.std.proofs.Common.{◌≡◌, ℕ, zero, suc, ◌+◌, ◌-◌, ◌<◌, ◌≤◌, arith, List, [], ◌∷◌, ◌++◌, length, take, drop, map, refl, sym, ◌∙◌, ap, append_assoc}
+use Rattle.std.proofs.lemmas.Bool.Decides.{nat_tests}
 use Rattle.std.proofs.Common.{append-nil, length-append, length-take, length-drop, Option, subst, Result, Ok, Err, OnOk, IfErr, cond}
 use Rattle.std.specs.Prelude.{nat_lt, ⊤}
 use Rattle.std.specs.List.{concat}
@@ -44,12 +45,7 @@ all_out a b lines h = subst (λ (t : List (List ℕ)). Appends a b (concat t)) (
 
 part_past : (sent rest : List (List ℕ)) (out : ℕ) → part_in (map length (sent ++ rest)) (length (concat sent) + out) ≡ part_in (map length rest) out
 part_past [] rest out = let same : 0 + out ≡ out = omega arith in ap (λ n. part_in (map length rest) n) same
-part_past (x ∷ sent) rest out =
-    let size = length-append x (concat sent) in
-    let far = le-ltb (length (x ++ concat sent) + out) (length x) (omega (arith, size)) in
-    let back : length (x ++ concat sent) + out - length x ≡ length (concat sent) + out = omega (arith, size) in
-    ap (λ b. cond b (length (x ++ concat sent) + out) (part_in (map length (sent ++ rest)) (length (x ++ concat sent) + out - length x))) far
-    ∙ (ap (λ n. part_in (map length (sent ++ rest)) n) back ∙ part_past sent rest out)
+part_past (x ∷ sent) rest out = grind (arith, nat_tests, length-append, le-ltb, part_past sent rest out)
 
 -- what was held breaks off, after what went out before
 pub breaks_on : (f : WriteFault) (a b c : Option (List ℕ)) (lines held : List (List ℕ)) → Sends a b lines held → BreaksOff f b c held → BreaksOff f a c lines
@@ -79,23 +75,12 @@ part_within (x ∷ lines) more out few =
 
 -- it breaks off before a line that comes after
 pub breaks_before : (f : WriteFault) (a b : Option (List ℕ)) (lines more : List (List ℕ)) → BreaksOff f a b lines → BreaksOff f a b (lines ++ more)
-breaks_before f a b lines more h =
-    let bytes = concat-append lines more in (
-      h.0,
-      omega (arith, h.1, ap length bytes, length-append (concat lines) (concat more)),
-      h.2 ∙ part_within lines more h.0 h.1,
-      subst (λ (t : List ℕ). Appends a b t) (sym (ap (take h.0) bytes ∙ take-append-le h.0 (concat lines) (concat more) h.1)) h.3,
-    )
+breaks_before f a b lines more h = grind (arith, nat_tests, h.0, h.1, h.2, h.3, concat-append, length-append, part_within, take-append-le)
 
 -- one line breaks off
 pub breaks_in : (f : WriteFault) (a b : Option (List ℕ)) (line : List ℕ) → f.written < length line → Appends a b (take f.written line)
     → BreaksOff f a b (line ∷ [])
-breaks_in f a b line short h = (
-  f.written,
-  omega (arith, short, length-append line []),
-  sym (ap (λ c. cond c f.written (f.written - length line)) (lt-ltb f.written (length line) short)),
-  subst (λ (t : List ℕ). Appends a b (take f.written t)) (sym (append-nil line)) h,
-)
+breaks_in f a b line short h = grind (arith, nat_tests, f.written, length-append line [], lt-ltb f.written (length line) short, append-nil line)
 
 -- a flush failed after all was written
 pub breaks_after : (f : WriteFault) (a b : Option (List ℕ)) (lines : List (List ℕ)) → f.written ≡ 0 → Sends a b lines [] → BreaksOff f a b lines
@@ -120,24 +105,18 @@ breaks_after f a b lines none h =
 pub parts_whole : (ns bytes : List ℕ) → total ns ≡ length bytes → concat (parted ns bytes) ≡ bytes
 parts_whole [] [] e = refl
 parts_whole [] (b ∷ bytes) e = absurd (omega (arith, e))
-parts_whole (n ∷ ns) bytes e =
-    ap (λ t. take n bytes ++ t) (parts_whole ns (drop n bytes) (omega (arith, e, length-drop n bytes))) ∙ take-append-drop n bytes
+parts_whole (n ∷ ns) bytes e = grind (arith, nat_tests, length-drop, take-append-drop, parts_whole ns (drop n bytes) (omega (arith, e, length-drop n bytes)))
 
 pub parts_sized : (ns bytes : List ℕ) → total ns ≡ length bytes → map length (parted ns bytes) ≡ ns
 parts_sized [] bytes e = refl
-parts_sized (n ∷ ns) bytes e =
-    ap (λ t. length (take n bytes) ∷ t) (parts_sized ns (drop n bytes) (omega (arith, e, length-drop n bytes)))
-    ∙ ap (λ t. t ∷ ns) (length-take n bytes ∙ omega (arith, e))
+parts_sized (n ∷ ns) bytes e = grind (arith, nat_tests, length-drop, length-take, parts_sized ns (drop n bytes) (omega (arith, e, length-drop n bytes)))
 
 -- a part more
 pub parts_longer : (ns bytes line : List ℕ) → total ns ≡ length bytes → parted (ns ++ length line ∷ []) (bytes ++ line) ≡ parted ns bytes ++ line ∷ []
 parts_longer [] [] line e = ap (λ t. t ∷ []) (take-length line)
 parts_longer [] (b ∷ bytes) line e = absurd (omega (arith, e))
 parts_longer (n ∷ ns) bytes line e =
-    let front : n ≤ length bytes = omega (arith, e) in
-    ap (λ t. t ∷ parted (ns ++ length line ∷ []) (drop n (bytes ++ line))) (take-append-le n bytes line front)
-    ∙ (ap (λ (t : List ℕ). take n bytes ∷ parted (ns ++ length line ∷ []) t) (drop-append-le n bytes line front)
-    ∙ ap (λ t. take n bytes ∷ t) (parts_longer ns (drop n bytes) line (omega (arith, e, length-drop n bytes))))
+    grind (arith, nat_tests, take-append-le, drop-append-le, length-drop, parts_longer ns (drop n bytes) line (omega (arith, e, length-drop n bytes)))
 
 -- one length more adds to the total
 pub total_longer : (ns : List ℕ) (n : ℕ) → total (ns ++ n ∷ []) ≡ total ns + n

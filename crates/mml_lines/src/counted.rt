@@ -3,7 +3,7 @@ ghost use Rattle.std.specs.Prelude.{◌≡◌, [], ◌+◌, ◌<◌, ◌≤◌, 
 ghost use Rattle.std.specs.Vec.{vec_capacity};
 ghost use Rattle.std.specs.Io.{ReadsAtMost};
 ghost use Rattle.std.specs.Io.KnownBytes.{Consumes, IsAtEnd, ReadConsumes, prepend_known};
-ghost use Rattle.mml_lines.specs.LinesOf.{IsWithinLimit};
+ghost use Rattle.mml_ids.specs.Lines.{IsUnbroken};
 
 use crate::lines::{MAX_READS, READ_SIZE, Step};
 use std::io;
@@ -45,13 +45,8 @@ impl<'a, R: Read> Counted<'a, R> {
     }
 
     /// One read onto what is held, where that is the front of a line, or the ending that it found.
-    pub(crate) fn read_onto(
-        &mut self,
-        held: &mut Vec<u8>,
-        chunk: &mut Vec<u8>,
-        limit: usize,
-    ) -> Result<(), Step>
-        requires needed { IsWithinLimit limit held.old.items }
+    pub(crate) fn read_onto(&mut self, held: &mut Vec<u8>, chunk: &mut Vec<u8>) -> Result<(), Step>
+        requires needed { IsUnbroken held.old.items }
         requires few { self.old.reads < MAX_READS }
         requires chunk { vec_len chunk.old ≡ READ_SIZE }
         requires room { vec_len held.old + READ_SIZE ≤ vec_capacity held.old }
@@ -67,8 +62,6 @@ impl<'a, R: Read> Counted<'a, R> {
             × ((step ≡ Step.End) × IsAtEnd (R.remaining self.new.reader.now)
             ⊎ (step ≡ Step.ReadFault))) }
     {
-        // The need stands in the clauses alone.
-        let _ = limit;
         match self.read(chunk) {
             Ok(0) => Err(Step::End),
             Ok(n) => {
