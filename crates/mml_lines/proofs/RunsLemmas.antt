@@ -56,19 +56,19 @@ each_longer P (y ∷ xs) x all one = (all.0, each_longer P xs x all.1 one)
 pub flat_longer : {A B : Type 0} (f : A → List B) (xs : List A) (x : A) → flat_map f (xs ++ x ∷ []) ≡ flat_map f xs ++ f x
 flat_longer f xs x = flat_map-append f xs (x ∷ []) ∙ ap (λ t. flat_map f xs ++ t) (append-nil (f x))
 
-module _ {A L R : Type 0} {Step : A → L → R → A → Type 0} {MayCome : L → Type 0} {MayReply : R → Type 0} {st : A} where
+module _ {X A L R : Type 0} {Step : X → A → L → R → A → Type 0} {MayCome : X → L → Type 0} {MayReply : R → Type 0} {lab : X} {st : A} where
   -- an exchange with no line yet
-  abbrev pub empty : Exchange Step MayCome MayReply st
+  abbrev pub empty : Exchange Step MayCome MayReply lab st
   empty = record { lines = []; replies = []; end = st; each = tt; goes_on = tt; run = refl }
 
   -- an exchange with one line more
-  abbrev pub longer : (t : Exchange Step MayCome MayReply st) {after : A} (s : OneStep Step MayCome t.end after) → MayReply s.reply
-      → Exchange Step MayCome MayReply st
+  abbrev pub longer : (t : Exchange Step MayCome MayReply lab st) {after : A} (s : OneStep Step MayCome lab t.end after) → MayReply s.reply
+      → Exchange Step MayCome MayReply lab st
   longer t {after} s may = record {
     lines = t.lines ++ s.line ∷ [];
     replies = t.replies ++ s.reply ∷ [];
     end = after;
-    each = each_longer MayCome t.lines s.line t.each s.valid;
+    each = each_longer (MayCome lab) t.lines s.line t.each s.valid;
     goes_on = each_longer MayReply t.replies s.reply t.goes_on may;
-    run = run_longer Step st t.end after t.lines t.replies s.line s.reply t.run s.turn;
+    run = run_longer (Step lab) st t.end after t.lines t.replies s.line s.reply t.run s.turn;
   }

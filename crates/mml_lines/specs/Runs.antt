@@ -20,18 +20,19 @@ AtEach Step P st [] (r ∷ rs) end run = Unit {0}
 AtEach Step P st (line ∷ lines) [] end run = Unit {0}
 AtEach Step P st (line ∷ lines) (r ∷ rs) end run = P st line r run.0 × AtEach Step P run.0 lines rs end run.2
 
--- an exchange: lines that may come, the reply to each, which may be given, and where they lead
-pub record Exchange {A L R : Type 0} (Step : A → L → R → A → Type 0) (MayCome : L → Type 0) (MayReply : R → Type 0) (st : A) : Type 0 where
+-- an exchange in a lab, or what else its steps are taken in: lines that may come, the reply to each, which may be given, and
+-- where they lead
+pub record Exchange {X A L R : Type 0} (Step : X → A → L → R → A → Type 0) (MayCome : X → L → Type 0) (MayReply : R → Type 0) (lab : X) (st : A) : Type 0 where
   pub lines : List L
   pub replies : List R
   pub end : A
-  pub each : AllByRecursion MayCome lines
+  pub each : AllByRecursion (MayCome lab) lines
   pub goes_on : AllByRecursion MayReply replies
-  pub run : Runs Step st lines replies end
+  pub run : Runs (Step lab) st lines replies end
 
 -- one line that may come, its reply, and the step from one state to another
-pub record OneStep {A L R : Type 0} (Step : A → L → R → A → Type 0) (MayCome : L → Type 0) (st after : A) : Type 0 where
+pub record OneStep {X A L R : Type 0} (Step : X → A → L → R → A → Type 0) (MayCome : X → L → Type 0) (lab : X) (st after : A) : Type 0 where
   pub line : L
   pub reply : R
-  pub valid : MayCome line
-  pub turn : Step st line reply after
+  pub valid : MayCome lab line
+  pub turn : Step lab st line reply after
