@@ -12,6 +12,8 @@ use Rattle.std.specs.List.{AllByRecursion}
 use Rattle.std.specs.Io.KnownBytes.{Consumes, prepend_known}
 use Rattle.mml_ids.specs.Lines.{IsUnbroken, ended}
 use Rattle.mml_lines.specs.LinesOf.{IsWithinLimit, IsTooLong}
+use Rattle.mml_lines.proofs.KnownBytesLemmas.{put_back}
+use Rattle.mml_lines.proofs.LinesOfLemmas.{tail_unbroken}
 use Rattle.mml_lines.specs.declared.lines.TheConstants.{READ_SIZE}
 use Rattle.mml_hall.specs.declared.TheConstants.{MAX_SCRIPT_LINE}
 use Rattle.mml_hall.specs.Turns.{RequestLine}
@@ -31,9 +33,6 @@ request_unbroken line word request e h = unbroken_rest (32 ∷ []) request (unbr
 pub word_without_space : (word rest line : List ℕ) → line ≡ word ++ rest → ((request : List ℕ) → rest ≢ 32 ∷ request) → (request : List ℕ)
     → line ≢ word ++ 32 ∷ request
 word_without_space word rest line e differs request h = differs request (append_cancel_left word rest (32 ∷ request) (sym e ∙ h))
-
-tail_unbroken : (b : ℕ) (bytes : List ℕ) → IsUnbroken (b ∷ bytes) → IsUnbroken bytes
-tail_unbroken b bytes h k less e = h (suc k) (omega (arith, less)) e
 
 digits_unbroken : (ds : List ℕ) → IsUnbroken (map (λ d. 48 + d) ds)
 digits_unbroken [] k less e = omega (arith, less)
@@ -61,12 +60,6 @@ pub scripts_unbroken : (n : ℕ) (ss : List RequestLine) → n ≤ 16 → AllByR
 scripts_unbroken n [] few each = All-nil IsUnbroken
 scripts_unbroken n (s ∷ ss) few each =
     All-cons IsUnbroken (script_line s) (map script_line ss) (script_unbroken n s few each.0) (scripts_unbroken n ss few each.1)
-
--- what was taken is put back before what is held
-put_back : (a b : Option (List ℕ)) (taken held : List ℕ) → Consumes a (prepend_known held b) taken → Consumes a (prepend_known (taken ++ held) b) []
-put_back None b taken held h = tt
-put_back (Some xs) None taken held h = absurd h
-put_back (Some xs) (Some ys) taken held h = h ∙ sym (append_assoc taken held ys)
 
 -- what is held begins so that no script line comes next
 abbrev pub ComesBad : ℕ → Option (List ℕ) → Option (List ℕ) → Type 0

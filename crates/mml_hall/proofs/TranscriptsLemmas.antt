@@ -1,10 +1,10 @@
 -- The lines of a transcript.
-use Rattle.std.proofs.Common.{◌≡◌, ◌≤◌, ℕ, List, ◌++◌, map, ap, ◌∙◌, append-nil}
+use Rattle.std.proofs.Common.{◌≡◌, ◌≤◌, ℕ, List, ◌++◌, map}
 use Rattle.mml_lab.specs.declared.TheConstants.{MAX_SESSIONS}
 use Rattle.mml_lab.specs.Labs.{LabValue}
 use Rattle.mml_ids.specs.Lines.{IsUnbroken}
 use Rattle.mml_lines.specs.LinesOf.{lines_of}
-use Rattle.mml_lines.proofs.LinesOfLemmas.{lines_first, no_line}
+use Rattle.mml_lines.proofs.LinesOfLemmas.{all_lines, lines_first}
 use Rattle.mml_hall.specs.ScriptLines.{script_line}
 use Rattle.mml_hall.specs.Transcripts.{Transcript, bytes_read}
 use Rattle.mml_hall.proofs.ScriptLinesLemmas.{scripts_unbroken}
@@ -15,7 +15,6 @@ pub first_lines : (lab : LabValue) (t : Transcript lab) (rest : List ℕ) → la
 first_lines lab t rest few = lines_first (map script_line t.lines) rest (scripts_unbroken lab.sessions t.lines few t.each)
 
 -- where no newline follows, they are its script lines alone
-pub all_lines : (lab : LabValue) (t : Transcript lab) (rest : List ℕ) → lab.sessions ≤ MAX_SESSIONS → IsUnbroken rest
+pub only_lines : (lab : LabValue) (t : Transcript lab) (rest : List ℕ) → lab.sessions ≤ MAX_SESSIONS → IsUnbroken rest
     → lines_of (bytes_read t ++ rest) ≡ map script_line t.lines
-all_lines lab t rest few unbroken =
-    first_lines lab t rest few ∙ (ap (λ (ls : List (List ℕ)). map script_line t.lines ++ ls) (no_line rest unbroken) ∙ append-nil (map script_line t.lines))
+only_lines lab t rest few unbroken = all_lines (map script_line t.lines) rest (scripts_unbroken lab.sessions t.lines few t.each) unbroken

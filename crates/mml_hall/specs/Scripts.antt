@@ -4,23 +4,20 @@ use Rattle.std.specs.Io.KnownBytes.{Appends, Consumes, IsAtEnd, prepend_known}
 use Rattle.mml_lab.specs.Labs.{LabValue}
 use Rattle.mml_ids.specs.Lines.{ended}
 use Rattle.mml_lines.specs.LinesOf.{IsWithinLimit}
+use Rattle.mml_lines.specs.Runs.{OneStep}
 use Rattle.mml_lines.specs.Sending.{BreaksOff}
 use Rattle.mml_lines.specs.declared.lines.TheConstants.{READ_SIZE}
-use Rattle.mml_codec.specs.declared.reply.Reply.{Reply}
 use Rattle.mml_hall.specs.declared.TheConstants.{MAX_SCRIPT_LINE}
 use Rattle.mml_hall.specs.declared.script.ScriptFault.{ScriptFault}
 use Rattle.mml_hall.specs.declared.script.ScriptFault.TheVariants as fault
 use Rattle.mml_hall.specs.Halls.{HallValue}
-use Rattle.mml_hall.specs.Turns.{State, RequestLine, Turn}
+use Rattle.mml_hall.specs.Turns.{State, TurnOf}
 use Rattle.mml_hall.specs.ScriptLines.{IsScriptLine, IsBad, script_line}
 use Rattle.mml_hall.specs.Transcripts.{Transcript, output_line, bytes_read, lines_written, bytes_written}
 
 -- the turn of one script line
-pub record LineTurn (lab : LabValue) (st after : State) : Type 0 where
-  pub line : RequestLine
-  pub reply : Reply
-  pub valid : IsScriptLine lab.sessions line
-  pub turn : Turn lab st line.connection line.request (record { reply = reply; state = after })
+abbrev pub LineTurn : LabValue → State → State → Type 0
+LineTurn lab st after = OneStep TurnOf (λ lab. IsScriptLine lab.sessions) lab st after
 
 abbrev pub line_read : {lab : LabValue} {st after : State} → LineTurn lab st after → List ℕ
 line_read t = ended (script_line t.line)

@@ -1,11 +1,12 @@
 -- A run over the lines of a script, as bytes that come in and bytes that go out.
 use Rattle.std.specs.Prelude.{ℕ, List, [], ◌∷◌, ◌++◌, map, flat_map, decimal}
-use Rattle.std.specs.List.{AllByRecursion, concat}
+use Rattle.std.specs.List.{concat}
 use Rattle.mml_lab.specs.Labs.{LabValue}
 use Rattle.mml_ids.specs.Lines.{ended}
+use Rattle.mml_lines.specs.Runs.{Exchange}
 use Rattle.mml_codec.specs.declared.reply.Reply.{Reply}
 use Rattle.mml_codec.specs.Replies.{reply_line}
-use Rattle.mml_hall.specs.Turns.{State, RequestLine, Run, opening}
+use Rattle.mml_hall.specs.Turns.{RequestLine, TurnOf, opening}
 use Rattle.mml_hall.specs.ScriptLines.{IsScriptLine, script_line}
 
 -- the line that is written in answer: the connection, a space and the reply's line
@@ -19,12 +20,8 @@ output_lines lab (s ∷ ss) [] = []
 output_lines lab (s ∷ ss) (r ∷ rs) = output_line lab s.connection r ∷ output_lines lab ss rs
 
 -- script lines, the reply to each, and the state that they lead to
-pub record Transcript (lab : LabValue) : Type 0 where
-  pub lines : List RequestLine
-  pub replies : List Reply
-  pub end : State
-  pub each : AllByRecursion (IsScriptLine lab.sessions) lines
-  pub run : Run lab (opening lab) lines replies end
+abbrev pub Transcript : LabValue → Type 0
+Transcript lab = Exchange TurnOf (λ lab. IsScriptLine lab.sessions) (λ r. Unit {0}) lab (opening lab)
 
 -- the bytes of the script lines, each with its newline
 abbrev pub bytes_read : {lab : LabValue} → Transcript lab → List ℕ
