@@ -1,9 +1,8 @@
 -- Bytes that go out together, over several steps.
 use Rattle.std.proofs.Common.{◌≡◌, ◌≢◌, inl, inr, ℕ, ◌+◌, ◌<◌, List, [], ◌++◌, length, take, refl, sym, ◌∙◌, ap, append_assoc, append-nil, length-append, arith, subst, Option}
-use Rattle.std.proofs.Common.{Some, None}
 use Rattle.std.proofs.Math.Seq.{take-append-add}
 use Rattle.std.proofs.KnownBytes.{Appends-nil, Appends-trans}
-use Rattle.std.specs.Io.KnownBytes.{Appends, Consumes, prepend_known}
+use Rattle.std.specs.Io.KnownBytes.{Appends}
 use Rattle.mml_session.specs.Holding.{Holds, HoldsBack, BreaksOff}
 
 -- there were no bytes
@@ -48,10 +47,3 @@ out_alike b c d held held' same still h = subst (λ (t : Option (List ℕ)). App
 
 pub off_alike : (b c d : Option (List ℕ)) (held held' : List ℕ) → held' ≡ held → c ≡ b → BreaksOff c d held' → BreaksOff b d held
 off_alike b c d held held' same still h = subst (λ (t : Option (List ℕ)). BreaksOff t d held) still (subst (λ (t : List ℕ). BreaksOff c d t) same h)
-
--- what was taken and what is held are together what was held
-pub given_back : (a left : Option (List ℕ)) (bytes held : List ℕ) → Consumes a (prepend_known held left) bytes
-    → Consumes a (prepend_known (bytes ++ held) left) []
-given_back None left bytes held h = tt
-given_back (Some xs) None bytes held h = absurd h
-given_back (Some xs) (Some ys) bytes held h = h ∙ sym (append_assoc bytes held ys)

@@ -9,7 +9,7 @@ use Rattle.mml_lab.specs.Labs.{LabValue}
 use Rattle.mml_ids.specs.Lines.{IsUnbroken}
 use Rattle.mml_lines.specs.LinesOf.{IsWithinLimit, lines_of}
 use Rattle.mml_lines.proofs.RunsLemmas.{by_steps, run_keeps}
-use Rattle.mml_lines.proofs.LinesOfLemmas.{lines_first, no_line}
+use Rattle.mml_lines.proofs.LinesOfLemmas.{all_lines, lines_first}
 use Rattle.mml_board.specs.declared.event.Event.{Event}
 use Rattle.mml_policy.specs.declared.command.Command.{Command}
 use Rattle.mml_policy.specs.Rulings.{event_of}
@@ -102,6 +102,5 @@ pub first_lines : (lab : LabValue) (st : Standing) (t : Talk lab st) (rest : Lis
 first_lines lab st t rest = lines_first t.lines rest (all_unbroken MAX_REQUEST t.lines t.each)
 
 -- where no newline follows, they are its own alone
-pub all_lines : (lab : LabValue) (st : Standing) (t : Talk lab st) (rest : List ℕ) → IsUnbroken rest → lines_of (bytes_read t ++ rest) ≡ t.lines
-all_lines lab st t rest unbroken =
-    first_lines lab st t rest ∙ (ap (λ (ls : List (List ℕ)). t.lines ++ ls) (no_line rest unbroken) ∙ append-nil t.lines)
+pub only_lines : (lab : LabValue) (st : Standing) (t : Talk lab st) (rest : List ℕ) → IsUnbroken rest → lines_of (bytes_read t ++ rest) ≡ t.lines
+only_lines lab st t rest unbroken = all_lines t.lines rest (all_unbroken MAX_REQUEST t.lines t.each) unbroken

@@ -1,34 +1,26 @@
 -- A run over the lines of one connection, as bytes that come in and bytes that go out.
 use Rattle.std.specs.Prelude.{◌≡◌, ℕ, false, List, flat_map, None}
-use Rattle.std.specs.List.{AllByRecursion}
 use Rattle.mml_lab.specs.Labs.{LabValue}
 use Rattle.mml_ids.specs.Lines.{ended}
 use Rattle.mml_lines.specs.LinesOf.{IsWithinLimit}
+use Rattle.mml_lines.specs.Runs.{Exchange, OneStep}
 use Rattle.mml_codec.specs.declared.TheConstants.{MAX_REQUEST}
 use Rattle.mml_codec.specs.declared.reply.Reply.{Reply}
 use Rattle.mml_codec.specs.Replies.{reply_line}
 use Rattle.mml_window.specs.Windows.{WindowValue}
-use Rattle.mml_session.specs.Turns.{Standing, standing, Turn, Run, is_bye}
+use Rattle.mml_session.specs.Turns.{Standing, standing, Turn, is_bye}
 
 -- at the beginning nobody is known
 abbrev pub newcomer : WindowValue → Standing
 newcomer w = standing None w
 
 -- lines, the reply to each, none of which is bye, and where they lead
-pub record Talk (lab : LabValue) (st : Standing) : Type 0 where
-  pub lines : List (List ℕ)
-  pub replies : List Reply
-  pub end : Standing
-  pub each : AllByRecursion (IsWithinLimit MAX_REQUEST) lines
-  pub goes_on : AllByRecursion (λ r. is_bye r ≡ false) replies
-  pub run : Run lab st lines replies end
+abbrev pub Talk : LabValue → Standing → Type 0
+Talk lab st = Exchange Turn (λ lab. IsWithinLimit MAX_REQUEST) (λ r. is_bye r ≡ false) lab st
 
 -- the turn of one line
-pub record LineTurn (lab : LabValue) (st after : Standing) : Type 0 where
-  pub line : List ℕ
-  pub reply : Reply
-  pub short : IsWithinLimit MAX_REQUEST line
-  pub turn : Turn lab st line reply after
+abbrev pub LineTurn : LabValue → Standing → Standing → Type 0
+LineTurn lab st after = OneStep Turn (λ lab. IsWithinLimit MAX_REQUEST) lab st after
 
 -- the bytes of the lines, each with its newline
 abbrev pub bytes_read : {lab : LabValue} {st : Standing} → Talk lab st → List ℕ

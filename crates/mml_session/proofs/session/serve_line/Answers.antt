@@ -11,4 +11,4 @@ returns-clause-serves g c =
     let tells = rw (c.seen_count.ensures, c.bytes-line.ensures) at c.tell.ensures.tells in
     let turn =
     turn_told g.H.House.lab st after line c.answer_into.new.reply tells.0 tells.1 (rw c.bytes-line.ensures at c.in_ok-answer_into.ensures.turn) in
-    (record { line = line; reply = tells.0; short = c.requires.line; turn = turn }, refl, tells.2, tells.3)
+    (record { line = line; reply = tells.0; valid = c.requires.line; turn = turn }, refl, tells.2, tells.3)

@@ -18,7 +18,7 @@ loop-before-init g c = record {
 
 pub loop-before-preserved : goal.loop-before-preserved
 loop-before-preserved g c = record {
-  so_far = one_more c.args.connection g.H.House.lab _ _ _ _ _ _ _ _ _ _ _ _ _ _ _ _ c.loop-before.invariant.so_far (rw c.loop-before.invariant.number at c.in-Served.ensures.serves);
+  so_far = one_more _ _ _ _ _ _ c.loop-before.invariant.so_far (rw c.loop-before.invariant.number at c.in-Served.ensures.serves);
   few = c.in-Served.ensures.few refl;
   out = c.in-Served.ensures.out refl;
   number = c.in-Served.ensures.number ∙ c.loop-before.invariant.number;
@@ -30,5 +30,4 @@ loop-before-preserved g c = record {
 
 pub returns-in-Ended-clause-ended : goal.returns-in-Ended-clause-ended
 returns-in-Ended-clause-ended g c =
-    ended_so c.args.connection g.H.House.lab _ _ _ _ c.in-Ended.end _ _ _ _ _ _ _ _ _ _ _ _ _ _ _ c.loop-before.invariant.so_far
-    (rw c.loop-before.invariant.number at c.in-Ended.ensures.serves) c.let_out-ending.ensures (rw c.seen_count.ensures at c.left.ensures)
+    ended_so _ _ _ _ _ _ c.loop-before.invariant.so_far c.in-Ended.end _ _ _ (rw c.loop-before.invariant.number at c.in-Ended.ensures.serves) c.let_out-ending.ensures (rw c.seen_count.ensures at c.left.ensures)
