@@ -1,5 +1,5 @@
 -- Places that climb.
-use Rattle.std.proofs.Common.{◌≡◌, ℕ, ◌+◌, ◌<◌, ◌≤◌, List, [], ◌∷◌, ◌++◌, length, arith, le_refl, length-append}
+use Rattle.std.proofs.Common.{ℕ, ◌+◌, ◌<◌, ◌≤◌, List, [], ◌∷◌, ◌++◌, length, arith, le_refl}
 use mathlib.Core.List.{IsPrefix}
 use Rattle.mml_board.specs.declared.event.Event.{Event}
 use Rattle.mml_window.specs.Climbing.{Climbs}
@@ -9,7 +9,7 @@ pub climbs_more : (low : ℕ) (ps : List ℕ) (high higher : ℕ) → high ≤ h
 climbs_more low [] high higher le c = omega arith
 climbs_more low (p ∷ ps) high higher le c = (c.0, climbs_more p ps high higher le c.1)
 
-climbs_push : (low : ℕ) (ps : List ℕ) (high p : ℕ) → high < p → Climbs low ps high → Climbs low (ps ++ p ∷ []) p
+pub climbs_push : (low : ℕ) (ps : List ℕ) (high p : ℕ) → high < p → Climbs low ps high → Climbs low (ps ++ p ∷ []) p
 climbs_push low [] high p lt c = (omega arith, le_refl p)
 climbs_push low (q ∷ ps) high p lt c = (c.0, climbs_push q ps high p lt c.1)
 
@@ -21,9 +21,3 @@ climbs_count low (p ∷ ps) high c = omega (arith, c.0, climbs_count p ps high c
 -- what was seen goes on
 pub climbs_on : (ps : List ℕ) (xs ys : List Event) → IsPrefix xs ys → Climbs 0 ps (length xs) → Climbs 0 ps (length ys)
 climbs_on ps xs ys pre c = climbs_more 0 ps (length xs) (length ys) (prefix_length xs ys pre) c
-
--- the next place is above all that were granted
-pub climbs_next : (ps : List ℕ) (xs : List Event) (e : Event) (p : ℕ) → p ≡ length xs + 1 → Climbs 0 ps (length xs)
-    → Climbs 0 (ps ++ p ∷ []) (length (xs ++ e ∷ []))
-climbs_next ps xs e p is c =
-    climbs_more 0 (ps ++ p ∷ []) p (length (xs ++ e ∷ [])) (omega (arith, length-append xs (e ∷ []))) (climbs_push 0 ps (length xs) p (omega arith) c)

@@ -9,4 +9,3 @@ pub mod BookLemmas
 pub mod AnswerLemmas
 pub mod AboutLemmas
 pub mod TallyLemmas
-pub mod ShowingLemmas

@@ -1,5 +1,5 @@
 -- What an answer to an act says.
-use Rattle.std.specs.Prelude.{◌≡◌, ◌⊎◌, ℕ, ◌+◌, true, false, List, [], ◌∷◌, ◌++◌, length, Option, None, Some}
+use Rattle.std.specs.Prelude.{◌≡◌, ◌⊎◌, ℕ, ◌+◌, true, false, List, [], ◌∷◌, ◌++◌, length, Option, Some}
 use mathlib.Core.List.{IsPrefix}
 use Rattle.mml_lab.specs.declared.who.Who.{Who}
 use Rattle.mml_lab.specs.Labs.{LabValue}
@@ -11,7 +11,6 @@ use Rattle.mml_policy.specs.declared.ruling.Ruling.TheVariants as ruling
 use Rattle.mml_policy.specs.About.{IsDone}
 use Rattle.mml_window.specs.declared.answer.Answer.{Answer}
 use Rattle.mml_window.specs.declared.answer.Answer.TheVariants.{Granted, Denied, Refused}
-use Rattle.mml_policy.specs.declared.refusal.Refusal.{Refusal}
 use Rattle.mml_policy.specs.declared.refusal.Refusal.TheVariants.{Full, Journal, Memory}
 use Rattle.mml_board.specs.Lists.{is_legal_in, world_in}
 use Rattle.mml_window.specs.Rulings.{ruling_at}
@@ -48,12 +47,6 @@ Lets lab failures old e done (Refused Journal) new = HaltsBook failures old new
 Lets lab failures old e done (Refused Memory) new = new ≡ old
 Lets lab failures old e done (Granted place number d) new =
     (d ≡ done) × (place ≡ length old.events + 1) × (number ≡ (world_in lab new.events).number) × Grows failures old new e
-
--- why an act was refused, if it was
-abbrev pub refused_by : Answer → Option Refusal
-refused_by (Denied d) = None
-refused_by (Refused why) = Some why
-refused_by (Granted place number done) = None
 
 -- what an answer says of the list at which it is given, and of the window afterwards, which keeps why the act was refused
 abbrev pub Says : LabValue → List Event → List ℕ → Who → Command → Answer → WindowValue → Type 0

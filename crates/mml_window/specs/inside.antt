@@ -1,4 +1,6 @@
 pub mod Leaves
 pub mod BookInside
-pub mod BlankInside
+pub mod ResumedInside
 pub mod Cursors
+pub mod Readers
+pub mod Keeping

@@ -1,6 +1,3 @@
-ghost use Rattle.std.specs.Prelude.{◌≡◌};
-ghost use Rattle.mml_window.specs.Answers.{refused_by};
-
 use mml_board::Done;
 use mml_policy::{Denial, Refusal};
 
@@ -13,16 +10,4 @@ pub enum Answer {
     Denied(Denial),
     /// All clauses hold, and it didn't take place.
     Refused(Refusal),
-}
-
-impl Answer {
-    /// Why it is no grant though all clauses hold, if it is none.
-    pub(crate) fn refused(&self) -> Option<Refusal>
-        ensures { result ≡ refused_by self.now }
-    {
-        match self {
-            Answer::Refused(refusal) => Some(*refusal),
-            Answer::Denied(_) | Answer::Granted { .. } => None,
-        }
-    }
 }

@@ -26,7 +26,7 @@ impl House for Brand {
 }
 
 /// A reader's slot at what a house publishes.
-pub(crate) type Place<H> = Reader<Published, View, Publishing<H>>;
+pub(crate) type Slot<H> = Reader<Published, View, Publishing<H>>;
 
 /// A reader that has entered, with what it reads.
 pub(crate) type Entered<H> = Reading<Published, View, Publishing<H>>;

@@ -1,7 +1,6 @@
 ghost use Rattle.std.specs.Prelude.{◌≡◌, ◌≢◌, ℕ, ◌+◌, ◌<◌, ◌≤◌, ◌++◌, ◌∷◌, [], length, drop, vec_capacity, IfOk, IfErr, IsTrue, IsFalse, MatchBool};
 ghost use mathlib.Core.List.{IsPrefix};
 ghost use Rattle.std.specs.Arc.{arc_value};
-ghost use Rattle.left_right.specs.Sides.{view};
 ghost use Rattle.mml_lab.specs.Labs.{IsLab};
 ghost use Rattle.mml_lab.specs.declared.TheConstants.{MAX_EVENTS};
 ghost use Rattle.mml_policy.specs.declared.command.Command.TheVariants as command;
@@ -10,15 +9,15 @@ ghost use Rattle.mml_policy.specs.About.{IsSeen, IsLookedAt};
 ghost use Rattle.mml_stable.specs.Reports.{report_of, NamesNodes};
 ghost use Rattle.mml_window.specs.declared.sight.SightFault.TheVariants as faults;
 ghost use Rattle.mml_board.specs.Lists.{world_in};
-ghost use Rattle.mml_window.specs.Rule.{viewer};
 ghost use Rattle.mml_window.specs.Windows.{window, window_with, IsWindow, SeesOn};
 ghost use Rattle.mml_window.specs.Views.{Tells, TellsNumber};
 ghost use Rattle.mml_window.specs.Tallies.{times};
 ghost use Rattle.mml_window.specs.inside.Cursors.{IsStuck};
+ghost use Rattle.mml_window.specs.inside.Keeping.{IsNextPlace, Keeps};
 
-use crate::house::{House, Place, Press};
-use crate::looking::{Reader, enter, leave, look_for_all, look_for_board, look_for_event};
-use crate::press::new_place;
+use crate::answer::Answer;
+use crate::house::{House, Press};
+use crate::looking::{Reader, enter, leave, look_for, take_slot};
 use crate::showing::{look_at, report_at, see_at};
 use crate::sight::{Closed, SightFault};
 use mml_board::Event;
@@ -45,21 +44,17 @@ pub struct Window<H: House> {
 }
 
 impl<H: House> Model for Window<H> {
-    ghost use Rattle.std.specs.Prelude.{◌≡◌, ◌≤◌, unwrap_or, option_map, vec_capacity};
+    ghost use Rattle.std.specs.Prelude.{◌≡◌, ◌≤◌, vec_capacity};
     ghost use Rattle.std.specs.Arc.{arc_value};
-    ghost use Rattle.left_right.specs.Sides.{view as known};
-    ghost use Rattle.mml_window.specs.Rule.{newcomer};
     ghost use Rattle.mml_window.specs.Windows.{WindowValue, window_with, IsWindow};
+    ghost use Rattle.mml_window.specs.inside.Readers.{view_by};
 
     ghost Value = { WindowValue };
 
-    ghost view = { λ w. window_with
-        (unwrap_or (option_map (λ r. known r.slot.place) w.reader) newcomer).seen w.places.items
-        w.refused };
+    ghost view = { λ w. window_with (view_by w.reader).seen w.places.items w.refused };
 
-    ghost invariant = { λ w. IsWindow H.lab (window_with
-        (unwrap_or (option_map (λ r. known r.slot.place) w.reader) newcomer).seen w.places.items
-        w.refused)
+    ghost invariant = { λ w. IsWindow H.lab
+        (window_with (view_by w.reader).seen w.places.items w.refused)
         × (arc_value w.lab ≡ H.lab) × (H.lab.events ≤ vec_capacity w.places) };
 }
 
@@ -81,13 +76,11 @@ impl<H: House> Window<H> {
         }
     }
 
-    /// Takes a reader's slot, where it has seen nothing.
-    pub(crate) fn take_slot(&mut self, slot: Place<H>)
-        requires window { self.old ≡ window [] [] }
-        requires slot { view slot.place ≡ viewer [] }
+    /// Takes a reader's slot, if there is one.
+    pub(crate) fn take_slot(&mut self, press: &Press<H>)
         ensures { self.new ≡ self.old }
     {
-        self.reader = Some(Reader::new(slot));
+        take_slot(press, &mut self.reader);
     }
 
     /// How many events it has seen.
@@ -107,11 +100,22 @@ impl<H: House> Window<H> {
         self.refused
     }
 
-    /// Keeps why an act was refused, if it was.
-    pub(crate) fn keep_refused(&mut self, refused: Option<Refusal>)
-        ensures { self.new ≡ window_with self.old.seen self.old.places refused }
+    /// Keeps what an answer says: why the act was refused, or the place of the event that it saw happen.
+    pub(crate) fn keep<R: Wait>(&mut self, rt: &R, press: &Press<H>, answer: &Answer)
+        requires { IsNextPlace H.lab self.old.seen press.now.desk.shown.value.events.items answer.now }
+        ensures { Keeps press.now.desk.shown.value.events.items self.old answer.now self.new }
     {
-        self.refused = refused;
+        match answer {
+            Answer::Denied(_) => self.refused = None,
+            Answer::Refused(refusal) => self.refused = Some(*refusal),
+            Answer::Granted { place, .. } => {
+                self.refused = None;
+                match press.published().events.last() {
+                    Some(event) => self.look_for_event(rt, press, *place, event),
+                    None => unreachable!(),
+                }
+            }
+        }
     }
 
     /// The nodes' identifiers.
@@ -135,12 +139,12 @@ impl<H: House> Window<H> {
     pub fn number(&mut self) -> Result<u64, Closed>
         ensures { TellsNumber H.lab self.old result self.new }
     {
-        let Some(reader) = self.reader.take() else {
+        let Some(reading) = enter(&mut self.reader) else {
             return Err(Closed);
         };
-        let (reader, number) = read_number(reader);
-        self.reader = Some(reader);
-        number
+        let number = reading.get().board.number();
+        self.reader = Some(leave(reading));
+        Ok(number)
     }
 
     /// What a node shows to those who may see it. It takes no memory.
@@ -150,11 +154,11 @@ impl<H: House> Window<H> {
         ensures nodes { IfOk result (IsSeen H.lab.ids) }
         ensures memory { IfErr result (λ fault. fault ≢ faults.Memory) }
     {
-        let Some(reader) = self.reader.take() else {
+        let Some(reading) = enter(&mut self.reader) else {
             return Err(SightFault::Closed);
         };
-        let (reader, see) = read_see(reader, &self.lab, who, node);
-        self.reader = Some(reader);
+        let see = see_at(&reading.get().board, &self.lab, who, node);
+        self.reader = Some(leave(reading));
         see
     }
 
@@ -165,11 +169,11 @@ impl<H: House> Window<H> {
             self.new }
         ensures nodes { IfOk result (IsLookedAt H.lab.ids) }
     {
-        let Some(reader) = self.reader.take() else {
+        let Some(reading) = enter(&mut self.reader) else {
             return Err(SightFault::Closed);
         };
-        let (reader, look) = read_look(alloc, reader, &self.lab, who, node);
-        self.reader = Some(reader);
+        let look = look_at(alloc, &reading.get().board, &self.lab, who, node);
+        self.reader = Some(leave(reading));
         look
     }
 
@@ -181,11 +185,11 @@ impl<H: House> Window<H> {
         ensures report { IfOk result (λ r. r ≡ report_of (world_in H.lab self.new.seen)) }
         ensures nodes { IfOk result (NamesNodes (length H.lab.ids)) }
     {
-        let Some(reader) = self.reader.take() else {
+        let Some(reading) = enter(&mut self.reader) else {
             return Err(SightFault::Closed);
         };
-        let (reader, report) = read_report(alloc, reader, &self.lab, who);
-        self.reader = Some(reader);
+        let report = report_at(alloc, &reading.get().board, &self.lab, who);
+        self.reader = Some(leave(reading));
         report
     }
 
@@ -195,33 +199,24 @@ impl<H: House> Window<H> {
         ensures on { SeesOn H.lab self.old self.new }
         ensures world { world_in H.lab self.new.seen ≡ press.now.desk.shown.value.board }
     {
-        let reader = match self.reader.take() {
-            Some(reader) => reader,
-            None => Reader::new(new_place(rt, press)),
-        };
-        self.reader = Some(look_for_board(rt, reader, &press.published().board));
+        let board = &press.published().board;
+        look_for(rt, press, &mut self.reader, |published| {
+            published.board.is_same(board)
+        });
     }
 
     /// Looks until it sees one event more, which is this one, and keeps the place.
-    #[tactic(auto, using(crate::proofs::ClimbingLemmas::climbs_next, crate::proofs::ClimbingLemmas::climbs_count))]
-    pub(crate) fn look_for_event<R: Wait>(
-        &mut self,
-        rt: &R,
-        press: &Press<H>,
-        place: u64,
-        event: &Event,
-    )
+    #[tactic(auto, using(crate::proofs::ClimbingLemmas::climbs_count))]
+    fn look_for_event<R: Wait>(&mut self, rt: &R, press: &Press<H>, place: u64, event: &Event)
         requires next { place ≡ length self.old.seen + 1 }
-        requires room { length self.old.seen < H.lab.events }
+        requires room { place ≤ H.lab.events }
         ensures { self.new
             ≡ window_with (self.old.seen ++ event.now ∷ []) (self.old.places ++ place ∷ [])
             self.old.refused }
     {
-        let reader = match self.reader.take() {
-            Some(reader) => reader,
-            None => Reader::new(new_place(rt, press)),
-        };
-        self.reader = Some(look_for_event(rt, reader, place, event));
+        look_for(rt, press, &mut self.reader, |published| {
+            published.ends_in(place, event)
+        });
         self.places.push_reserved(place);
     }
 
@@ -232,11 +227,10 @@ impl<H: House> Window<H> {
             self.old.places self.old.refused }
         ensures begins { IsPrefix self.old.seen press.now.desk.shown.value.events.items }
     {
-        let reader = match self.reader.take() {
-            Some(reader) => reader,
-            None => Reader::new(new_place(rt, press)),
-        };
-        self.reader = Some(look_for_all(rt, reader, press.published().events.as_slice()));
+        let events = press.published().events.as_slice();
+        look_for(rt, press, &mut self.reader, |published| {
+            published.has_all(events)
+        });
     }
 
     /// How many places it was granted.
@@ -265,89 +259,5 @@ impl<H: House> Window<H> {
             ((p : ℕ) × (0 < times p (drop cursor self.now.places))) }
     {
         cursor >= self.places.len()
-    }
-}
-
-fn read_number<H: House>(reader: Reader<H>) -> (Reader<H>, Result<u64, Closed>)
-    ensures tells { TellsNumber H.lab (window (view reader.slot.place).seen []) result.1
-        (window (view result.0.slot.place).seen []) }
-    ensures few { length (view reader.slot.place).seen ≤ H.lab.events
-        → length (view result.0.slot.place).seen ≤ H.lab.events }
-{
-    match enter(reader) {
-        Ok(reading) => {
-            let number = reading.get().board.number();
-            (leave(reading), Ok(number))
-        }
-        Err(reader) => (reader, Err(Closed)),
-    }
-}
-
-fn read_see<H: House>(
-    reader: Reader<H>,
-    lab: &Lab,
-    who: Who,
-    node: u64,
-) -> (Reader<H>, Result<See, SightFault>)
-    requires lab { lab.now ≡ H.lab }
-    ensures tells { Tells rulings.Seen H.lab (window (view reader.slot.place).seen []) who
-        (command.See node) result.1 (window (view result.0.slot.place).seen []) }
-    ensures memory { IfErr result.1 (λ fault. fault ≢ faults.Memory) }
-    ensures few { length (view reader.slot.place).seen ≤ H.lab.events
-        → length (view result.0.slot.place).seen ≤ H.lab.events }
-{
-    let _nodes = lab.node_count();
-    match enter(reader) {
-        Ok(reading) => {
-            let see = see_at(&reading.get().board, lab, who, node);
-            (leave(reading), see)
-        }
-        Err(reader) => (reader, Err(SightFault::Closed)),
-    }
-}
-
-fn read_look<H: House>(
-    alloc: Global,
-    reader: Reader<H>,
-    lab: &Lab,
-    who: Who,
-    node: u64,
-) -> (Reader<H>, Result<Look, SightFault>)
-    requires lab { lab.now ≡ H.lab }
-    ensures tells { Tells rulings.Looked H.lab (window (view reader.slot.place).seen []) who
-        (command.Look node) result.1 (window (view result.0.slot.place).seen []) }
-    ensures few { length (view reader.slot.place).seen ≤ H.lab.events
-        → length (view result.0.slot.place).seen ≤ H.lab.events }
-{
-    let _nodes = lab.node_count();
-    match enter(reader) {
-        Ok(reading) => {
-            let look = look_at(alloc, &reading.get().board, lab, who, node);
-            (leave(reading), look)
-        }
-        Err(reader) => (reader, Err(SightFault::Closed)),
-    }
-}
-
-fn read_report<H: House>(
-    alloc: Global,
-    reader: Reader<H>,
-    lab: &Lab,
-    who: Who,
-) -> (Reader<H>, Result<Report, SightFault>)
-    requires lab { lab.now ≡ H.lab }
-    ensures tells { Tells (λ r. rulings.Reported) H.lab (window (view reader.slot.place).seen []) who
-        command.Report result.1 (window (view result.0.slot.place).seen []) }
-    ensures report { IfOk result.1 (λ r. r ≡ report_of (world_in H.lab (view result.0.slot.place).seen)) }
-    ensures few { length (view reader.slot.place).seen ≤ H.lab.events
-        → length (view result.0.slot.place).seen ≤ H.lab.events }
-{
-    let _nodes = lab.node_count();
-    match enter(reader) {
-        Ok(reading) => {
-            let report = report_at(alloc, &reading.get().board, lab, who);
-            (leave(reading), report)
-        }
-        Err(reader) => (reader, Err(SightFault::Closed)),
     }
 }

@@ -1,11 +1,20 @@
-use Rattle.std.proofs.Common.{rules}
+use Rattle.std.proofs.Common.{rules, ◌≡◌, ap, sym}
 use Rattle.mml_policy.specs.declared.command.Command.TheVariants as command
+use Rattle.mml_policy.specs.declared.ruling.Ruling.TheVariants as rulings
 use Rattle.mml_window.proofs.AboutLemmas.{looked_at_is}
-use Rattle.mml_window.proofs.ViewLemmas.{tells_beside}
+use Rattle.mml_window.proofs.ViewLemmas.{nodes_entered, tells_entered}
 use Rattle.mml_window.proofs.window.Window.look.Goals as goal
 
+pub look_at-look-requires : goal.look_at-look-requires
+look_at-look-requires g c =
+    let held : c.deref.result.now ≡ g.H.House.lab = search rules in
+    nodes_entered held c.self.invariant.0.lawful c.in-Some.ensures.saw (ap (λ x. x.board) c.get.ensures)
+
 pub returns-clause-tells : goal.returns-clause-tells
-returns-clause-tells g c = search (rules, tells_beside)
+returns-clause-tells g c =
+    let held : c.deref.result.now ≡ g.H.House.lab = search rules in
+    tells_entered rulings.Looked g.H.House.lab _ _ _ _ _ _ c.args.who (command.Look c.args.node) _ c.args.self.now c.self.inside.places.items c.self.inside.refused
+    held c.in-Some.ensures.saw c.leave.ensures (ap (λ x. x.board) c.get.ensures) (sym c.self.view_is) c.look_at-look.ensures
 
 pub returns-clause-nodes : goal.returns-clause-nodes
-returns-clause-nodes g c = looked_at_is g.H.House.lab c.self.invariant.0.lawful _ _ c.args.who (command.Look c.args.node) _ c.read_look-reader.ensures.tells
+returns-clause-nodes g c = looked_at_is g.H.House.lab c.self.invariant.0.lawful c.args.self.now _ c.args.who (command.Look c.args.node) _ (returns-clause-tells g c)

@@ -1,18 +1,20 @@
-use Rattle.std.proofs.Common.{rules}
-use Rattle.left_right.specs.Sides.{view}
+use Rattle.std.proofs.Common.{rules, ◌≡◌, ap, sym}
 use Rattle.mml_policy.specs.declared.command.Command.TheVariants as command
 use Rattle.mml_policy.specs.declared.ruling.Ruling.TheVariants as rulings
 use Rattle.mml_window.proofs.AboutLemmas.{report_is}
-use Rattle.mml_window.proofs.ViewLemmas.{tells_beside}
+use Rattle.mml_window.proofs.ViewLemmas.{nodes_entered, tells_entered}
 use Rattle.mml_window.proofs.window.Window.report.Goals as goal
+
+pub report_at-report-requires : goal.report_at-report-requires
+report_at-report-requires g c =
+    let held : c.deref.result.now ≡ g.H.House.lab = search rules in
+    nodes_entered held c.self.invariant.0.lawful c.in-Some.ensures.saw (ap (λ x. x.board) c.get.ensures)
 
 pub returns-clause-tells : goal.returns-clause-tells
 returns-clause-tells g c =
-    tells_beside (λ r. rulings.Reported) g.H.House.lab
-    (view c.in-Some.reader.slot.place).seen _ c.self.inside.places.items c.self.inside.refused c.args.who command.Report _ c.args.self.now
-    (search rules) c.read_report-reader.ensures.tells
+    let held : c.deref.result.now ≡ g.H.House.lab = search rules in
+    tells_entered (λ r. rulings.Reported) g.H.House.lab _ _ _ _ _ _ c.args.who command.Report _ c.args.self.now c.self.inside.places.items c.self.inside.refused
+    held c.in-Some.ensures.saw c.leave.ensures (ap (λ x. x.board) c.get.ensures) (sym c.self.view_is) c.report_at-report.ensures.ruled
 
 pub returns-clause-nodes : goal.returns-clause-nodes
-returns-clause-nodes g c =
-    report_is g.H.House.lab c.self.invariant.0.lawful
-    (λ r. rulings.Reported) _ _ c.args.who command.Report _ c.read_report-reader.ensures.tells c.read_report-reader.ensures.report
+returns-clause-nodes g c = report_is g.H.House.lab c.self.invariant.0.lawful (λ r. rulings.Reported) c.args.self.now _ c.args.who command.Report _ (returns-clause-tells g c) (search rules)

@@ -1,0 +1,23 @@
+-- What a house has before it is started.
+use Rattle.std.specs.Prelude.{◌≡◌, ◌≤◌, true, false, ℕ, Bool, List, length, Option}
+use Rattle.mml_lab.specs.Labs.{LabValue, IsLab}
+use Rattle.mml_window.specs.declared.published.Published.{Published}
+use Rattle.mml_board.specs.declared.event.Event.{Event}
+use Rattle.mml_board.specs.Lists.{is_legal_in, world_in}
+use Rattle.mml_window.specs.Journals.{TellsJournal}
+
+-- a copy of what is to be published, with these events
+pub record IsCopyOf (lab : LabValue) (begun : List Event) (x : Published) : Type 0 where
+  pub board : x.board ≡ world_in lab begun
+  pub limit : x.limit ≡ lab.events
+  pub events : x.events.items ≡ begun
+
+-- a house that goes on, before it is started
+pub record IsResumed (lab : LabValue) (begun : List Event) (first second : Published) (halted : Bool) (taken : Option (List ℕ)) : Type 0 where
+  pub lawful : IsLab lab
+  pub legal : is_legal_in lab begun ≡ true
+  pub few : length begun ≤ lab.events
+  pub one : IsCopyOf lab begun first
+  pub two : IsCopyOf lab begun second
+  pub running : halted ≡ false
+  pub journal : TellsJournal lab begun false taken
