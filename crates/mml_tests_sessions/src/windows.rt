@@ -218,7 +218,7 @@ fn decides_alone<H: House, R: Wait>(
     let (desk, windows) = blank.start::<H>(alloc)?;
     let mut book = desk.into_book();
     let holds = refuses_the_second(rt, alloc, &mut book);
-    Ok((holds, ending_of(&book.finish(rt, windows))))
+    Ok((holds, ending_of(&book.finish_from(rt, windows, 0))))
 }
 
 #[test]
