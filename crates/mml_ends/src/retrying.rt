@@ -39,7 +39,7 @@ impl<R: Read + Drop> Read for Retrying<R> {
             ⊎ IsErrAnd result (λ e. error_kind e ≡ ErrorKind.OutOfMemory)) }
     {
         let got = read_on(&mut self.inner, buf);
-        self.lacked_memory = self.lacked_memory || is_out_of_memory(&got);
+        self.lacked_memory = self.lacked_memory || failed_by(&got, ErrorKind::OutOfMemory);
         got
     }
 }
@@ -56,7 +56,7 @@ impl<W: Write + Drop> Write for Retrying<W> {
             ⊎ IsErrAnd result (λ e. error_kind e ≡ ErrorKind.OutOfMemory)) }
     {
         let put = write_on(&mut self.inner, buf);
-        self.lacked_memory = self.lacked_memory || is_out_of_memory(&put);
+        self.lacked_memory = self.lacked_memory || failed_by(&put, ErrorKind::OutOfMemory);
         put
     }
 
@@ -78,13 +78,9 @@ fn read_on<R: Read>(reader: &mut R, buf: &mut [u8]) -> io::Result<usize>
     ensures retried { IfErr result (λ e. error_kind e ≢ ErrorKind.Interrupted) }
 {
     for _ in 0..u64::MAX {
-        match reader.read(buf) {
-            Ok(count) => return Ok(count),
-            Err(error) => {
-                if !is_interrupted(&error) {
-                    return Err(error);
-                }
-            }
+        let got = reader.read(buf);
+        if !failed_by(&got, ErrorKind::Interrupted) {
+            return got;
         }
     }
     Err(Error::from(ErrorKind::TimedOut))
@@ -99,30 +95,20 @@ fn write_on<W: Write>(writer: &mut W, buf: &[u8]) -> io::Result<usize>
     ensures retried { IfErr result (λ e. error_kind e ≢ ErrorKind.Interrupted) }
 {
     for _ in 0..u64::MAX {
-        match writer.write(buf) {
-            Ok(count) => return Ok(count),
-            Err(error) => {
-                if !is_interrupted(&error) {
-                    return Err(error);
-                }
-            }
+        let put = writer.write(buf);
+        if !failed_by(&put, ErrorKind::Interrupted) {
+            return put;
         }
     }
     Err(Error::from(ErrorKind::TimedOut))
 }
 
-fn is_interrupted(error: &Error) -> bool
-    ensures { IsTrue result ↔ (error_kind error.now ≡ ErrorKind.Interrupted) }
-{
-    error.kind() == ErrorKind::Interrupted
-}
-
-// Whether a call failed because memory ran out.
-fn is_out_of_memory(done: &io::Result<usize>) -> bool
-    ensures { IsTrue result ↔ IsErrAnd done.now (λ e. error_kind e ≡ ErrorKind.OutOfMemory) }
+// Whether a call failed by an error of this kind.
+fn failed_by(done: &io::Result<usize>, kind: ErrorKind) -> bool
+    ensures { IsTrue result ↔ IsErrAnd done.now (λ e. error_kind e ≡ kind) }
 {
     match done {
         Ok(_) => false,
-        Err(error) => error.kind() == ErrorKind::OutOfMemory,
+        Err(error) => error.kind() == kind,
     }
 }
