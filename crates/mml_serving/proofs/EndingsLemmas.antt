@@ -31,22 +31,17 @@ module _ {R W : Type 0} (lab : LabValue) (remaining : R → Option (List ℕ)) (
   pub early_so : (sessions : List (EndedSession R W)) (windows : List WindowValue) → ServesWindows lab remaining contents to_come count sessions windows
       → (f : ServeFault) → EndsWithout lab windows f → EndsEarly lab remaining contents to_come count f
   early_so sessions windows serves fault.Memory without = tt
-  early_so sessions windows serves fault.Place without = absurd without
-  early_so sessions windows serves fault.Accept without = absurd without
   early_so sessions windows serves fault.Astray without = record { sessions = sessions; windows = windows; serves = serves; astray = without }
-  early_so sessions windows serves fault.Halted without = absurd without
-  early_so sessions windows serves fault.Write without = absurd without
+  early_so sessions windows serves _ without = absurd without
 
   module _ {S : Type 0} (sink : S → Option (List ℕ)) where
     -- nothing is written where there is no log
     pub badly_early : (wrote : Option (List ℕ)) (f : ServeFault) → EndsEarly lab remaining contents to_come count f
         → EndsBadly lab sink remaining contents to_come count wrote wrote f
-    badly_early wrote fault.Memory early = Appends-nil wrote
-    badly_early wrote fault.Place early = Appends-nil wrote
-    badly_early wrote fault.Accept early = Appends-nil wrote
     badly_early wrote fault.Astray early = (early, Appends-nil wrote)
     badly_early wrote fault.Halted early = absurd early
     badly_early wrote fault.Write early = absurd early
+    badly_early wrote _ early = Appends-nil wrote
 
     -- where there is one, the last line says why
     pub badly_logged : (sessions : List (EndedSession R W)) (log : Log S) → ServesHouse lab sink remaining contents to_come count sessions log
@@ -54,9 +49,6 @@ module _ {R W : Type 0} (lab : LabValue) (remaining : R → Option (List ℕ)) (
         → LacksLastLine log.halted wrote wrote' (done_line (length log.events) log.board.number) f
         → EndsBadly lab sink remaining contents to_come count wrote wrote' f
     badly_logged sessions log serves wrote wrote' fault.Memory lacks = lacks.1
-    badly_logged sessions log serves wrote wrote' fault.Place lacks = absurd lacks
-    badly_logged sessions log serves wrote wrote' fault.Accept lacks = absurd lacks
-    badly_logged sessions log serves wrote wrote' fault.Astray lacks = absurd lacks
     badly_logged sessions log serves wrote wrote' fault.Halted lacks = (record { sessions = sessions; log = log; serves = serves; holds = lacks.0 }, lacks.1)
     badly_logged sessions log serves wrote wrote' fault.Write lacks = record {
       sessions = sessions;
@@ -64,3 +56,4 @@ module _ {R W : Type 0} (lab : LabValue) (remaining : R → Option (List ℕ)) (
       serves = serves;
       holds = (lacks.0, subst (λ (w : World). IsCutShort wrote wrote' (done_line (length log.events) w.number) fault.Write) serves.kept.board lacks.1);
     }
+    badly_logged sessions log serves wrote wrote' _ lacks = absurd lacks

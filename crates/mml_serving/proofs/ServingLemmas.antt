@@ -1,5 +1,5 @@
 -- Connections that came and were served, one more at a time.
-use Rattle.std.proofs.Common.{◌≡◌, ◌≤◌, ℕ, ◌+◌, List, [], ◌∷◌, ◌++◌, All, ap, drop, map, length, length-append, length-drop, arith, refl, subst, sym, Option}
+use Rattle.std.proofs.Common.{◌≡◌, ◌≤◌, ℕ, ◌+◌, List, [], ◌∷◌, ◌++◌, All, drop, map, length, append_assoc, length-append, length-drop, arith, refl, Option}
 use Rattle.std.proofs.Common.{IfOk, Result, Ok, Err}
 use Rattle.std.proofs.lemmas.List.{map-append, length-map}
 use Rattle.std.proofs.lemmas.List.Elements.{All-drop}
@@ -9,20 +9,16 @@ use Rattle.mml_serving.specs.declared.connection.Connection.{Connection}
 use Rattle.mml_serving.specs.declared.connection.EndedSession.{EndedSession}
 use Rattle.mml_serving.specs.Arriving.{Takes}
 use Rattle.mml_serving.specs.Serving.{Each, IsServed, Numbered, ServesAll, ServesWindows, ends}
-use Rattle.mml_serving.proofs.ArrivingLemmas.{Takes-trans}
 
 numbered_more : {R W : Type 0} (n : ℕ) (cs : List (Connection R W)) (c : Connection R W) → Numbered n cs → c.number ≡ n + length cs → Numbered n (cs ++ c ∷ [])
-numbered_more n [] c so_far at = (omega (arith, at), tt)
-numbered_more n (x ∷ xs) c so_far at = (so_far.0, numbered_more (n + 1) xs c so_far.1 (omega (arith, at)))
+numbered_more n [] c so_far at = grind arith
+numbered_more n (x ∷ xs) c so_far at = grind (arith, numbered_more (n + 1) xs c)
 
 each_more : {A B C : Type 0} (P : A → B → C → Type 0) (xs : List A) (ys : List B) (zs : List C) (x : A) (y : B) (z : C) → Each P xs ys zs → P x y z
     → Each P (xs ++ x ∷ []) (ys ++ y ∷ []) (zs ++ z ∷ [])
 each_more P [] [] [] x y z so_far one = (one, tt)
 each_more P (a ∷ us) (b ∷ vs) (c ∷ ws) x y z so_far one = (so_far.0, each_more P us vs ws x y z so_far.1 one)
-each_more P [] [] (c ∷ ws) x y z so_far one = absurd so_far
-each_more P [] (b ∷ vs) ws x y z so_far one = absurd so_far
-each_more P (a ∷ us) [] ws x y z so_far one = absurd so_far
-each_more P (a ∷ us) (b ∷ vs) [] x y z so_far one = absurd so_far
+each_more P _ _ _ x y z so_far one = absurd so_far
 
 -- one thread more was joined, of that connection f tells
 pub served_more : {H A B C : Type 0} (P : A → B → C → Type 0) (f : H → A) (hs : List H) (h : H) (ys ys' : List B) (y : B) (zs zs' : List C) (z : C)
@@ -32,12 +28,11 @@ served_more P f hs h ys ys' y zs zs' z one two so_far it = rw (one, two, map-app
 -- one thread more was started
 module _ {H R W : Type 0} (f : H → Connection R W) (hs hs' : List H) (h : H) (one : hs' ≡ hs ++ h ∷ []) where
   pub numbered_so : (n : ℕ) (c : Connection R W) → f h ≡ c → c.number ≡ n + length hs → Numbered n (map f hs) → Numbered n (map f hs')
-  numbered_so n c it at so_far = rw (one, map-append f hs (h ∷ []), it) (numbered_more n (map f hs) c so_far (rw (length-map hs f) at))
+  numbered_so n c it at so_far = grind (arith, map-append f hs (h ∷ []), length-map hs f, numbered_more n (map f hs) c)
 
   pub came_so : (known a b : Option (List (R × W))) (c : Connection R W) → f h ≡ c → Takes known a (map ends (map f hs)) → Takes a b (ends c ∷ [])
       → Takes known b (map ends (map f hs'))
-  came_so known a b c it so_far next =
-      rw (one, map-append f hs (h ∷ []), map-append ends (map f hs) (f h ∷ []), it) (Takes-trans known a b (map ends (map f hs)) (ends c ∷ []) so_far next)
+  came_so known a b c it so_far next = grind (arith, map-append, append_assoc)
 
 module _ {R W : Type 0} (lab : LabValue) (remaining : R → Option (List ℕ)) (contents : W → Option (List ℕ)) (to_come : Option (List (R × W))) (count : ℕ) where
   -- all threads were joined
@@ -53,10 +48,7 @@ module _ {R W : Type 0} (lab : LabValue) (remaining : R → Option (List ℕ)) (
 pub each_long : {A B C : Type 0} (P : A → B → C → Type 0) (xs : List A) (ys : List B) (zs : List C) → Each P xs ys zs → length zs ≡ length xs
 each_long P [] [] [] h = refl
 each_long P (a ∷ us) (b ∷ vs) (c ∷ ws) h = omega (arith, each_long P us vs ws h.1)
-each_long P [] [] (c ∷ ws) h = absurd h
-each_long P [] (b ∷ vs) ws h = absurd h
-each_long P (a ∷ us) [] ws h = absurd h
-each_long P (a ∷ us) (b ∷ vs) [] h = absurd h
+each_long P _ _ _ h = absurd h
 
 -- so many windows were used, and the others stayed as they were
 pub serves_windows : {R W : Type 0} (lab : LabValue) (remaining : R → Option (List ℕ)) (contents : W → Option (List ℕ))
@@ -70,9 +62,8 @@ serves_windows lab remaining contents to_come count sessions used unused fresh n
   unused = unused;
   parts = refl;
   all =
-      let served : length used ≡ length each.connections = each_long (IsServed lab remaining contents) each.connections sessions used each.served in
-      let left : length unused ≡ length (drop n fresh) = ap (λ (ws : List WindowValue). length ws) rest in
-      omega (arith, served, each.all, few, left, length-drop n fresh, whole, so_many, length-append used unused);
-  idle = subst (λ (ws : List WindowValue). All (λ w. w ≡ window [] []) ws) (sym rest) (All-drop (λ w. w ≡ window [] []) n fresh idle);
+      let served = each_long (IsServed lab remaining contents) each.connections sessions used each.served in
+      rw (length-append used unused, rest, length-drop n fresh) (omega (arith, served, each.all, few, whole, so_many));
+  idle = rw rest (All-drop (λ w. w ≡ window [] []) n fresh idle);
   each = each;
 }

@@ -16,10 +16,7 @@ use Rattle.mml_serving.specs.Arriving.{Takes}
 abbrev pub Each : {A B C : Type 0} → (A → B → C → Type 0) → List A → List B → List C → Type 0
 Each P [] [] [] = Unit {0}
 Each P (x ∷ xs) (y ∷ ys) (z ∷ zs) = P x y z × Each P xs ys zs
-Each P [] [] (z ∷ zs) = ⊥
-Each P [] (y ∷ ys) zs = ⊥
-Each P (x ∷ xs) [] zs = ⊥
-Each P (x ∷ xs) (y ∷ ys) [] = ⊥
+Each P _ _ _ = ⊥
 
 -- the connection was served to an end through a window that had seen nothing
 abbrev pub IsServed : {R W : Type 0} → LabValue → (R → Option (List ℕ)) → (W → Option (List ℕ)) → Connection R W → EndedSession R W → WindowValue → Type 0

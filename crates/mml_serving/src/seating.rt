@@ -28,7 +28,7 @@ pub(crate) enum SeatingFault {
 
 // A connection, and the window through which it is to be served.
 #[derive(Drop)]
-struct Seat<H: House, R: Drop, W: Drop> {
+struct Seated<H: House, R: Drop, W: Drop> {
     window: Window<H>,
     connection: Connection<R, W>,
 }
@@ -75,7 +75,7 @@ pub(crate) fn serve_all<
             };
             for index in 0..connections {
                 let seat = next_seat(&mut arrivals, &mut windows, index + 1)?;
-                let pledge = Pledge(Snapshot::of(&seat.connection));
+                let pledge = ConnectionPledge(Snapshot::of(&seat.connection));
                 match scope.spawn_with(
                     pledge,
                     move || -> (Window<H>, EndedSession<R, W>)
@@ -97,10 +97,10 @@ pub(crate) fn serve_all<
 
 // A thread's promise that the connection was served to an end, through a window that had seen nothing.
 #[derive(Drop)]
-struct Pledge<R: Drop, W: Drop>(Snapshot<Connection<R, W>>);
+struct ConnectionPledge<R: Drop, W: Drop>(Snapshot<Connection<R, W>>);
 
 impl<H: House, R: Read + Drop, W: Write + Drop> Promise<(Window<H>, EndedSession<R, W>)>
-    for Pledge<R, W> {
+    for ConnectionPledge<R, W> {
     ghost use Rattle.mml_serving.specs.Serving.{IsServed};
 
     ghost kept_by = { λ pledge t. IsServed H.lab R.remaining W.contents pledge.0.value t.1 t.0 };
@@ -111,7 +111,7 @@ fn next_seat<H: House, R: Read + Drop, W: Write + Drop, A: Arrivals<R, W>>(
     arrivals: &mut A,
     windows: &mut Vec<Window<H>>,
     number: u8,
-) -> Result<Seat<H, R, W>, SeatingFault>
+) -> Result<Seated<H, R, W>, SeatingFault>
     requires fresh { All (λ w. w ≡ window [] []) windows.old.items }
     requires some { 0 < length windows.old.items }
     ensures taken { IfOk result (λ seat. Takes (A.to_come arrivals.old) (A.to_come arrivals.new)
@@ -123,7 +123,7 @@ fn next_seat<H: House, R: Read + Drop, W: Write + Drop, A: Arrivals<R, W>>(
 {
     let (reader, writer) = accept(arrivals)?;
     match windows.pop() {
-        Some(window) => Ok(Seat {
+        Some(window) => Ok(Seated {
             window,
             connection: Connection {
                 number,
@@ -165,13 +165,13 @@ fn serve_apart<Rt: Wait, S: Sink + Drop, H: House, R: LetGo + Drop, W: HangUp + 
     rt: &Rt,
     alloc: Global,
     desk: &Desk<S, H>,
-    seat: Seat<H, R, W>,
+    seat: Seated<H, R, W>,
     gate: &G,
 ) -> (Window<H>, EndedSession<R, W>)
     requires fresh { seat.window ≡ window [] [] }
     ensures served { IsServed H.lab R.remaining W.contents seat.connection result.1 result.0 }
 {
-    let Seat {
+    let Seated {
         mut window,
         connection,
     } = seat;
@@ -204,7 +204,7 @@ fn serve_apart<Rt: Wait, S: Sink + Drop, H: House, R: LetGo + Drop, W: HangUp + 
 fn join_all<Rt: Threads, H: House, R: Read + Drop, W: Write + Drop>(
     rt: &Rt,
     alloc: Global,
-    handles: Vec<PromisedHandle<(Window<H>, EndedSession<R, W>), Pledge<R, W>>>,
+    handles: Vec<PromisedHandle<(Window<H>, EndedSession<R, W>), ConnectionPledge<R, W>>>,
 ) -> Result<(Vec<Window<H>>, Vec<EndedSession<R, W>>), SeatingFault>
     ensures { IfOk result (λ parts. Each (IsServed H.lab R.remaining W.contents)
         (map (λ h. h.promise.0.value) handles.items) parts.1.items parts.0.items) }

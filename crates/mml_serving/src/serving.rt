@@ -115,7 +115,14 @@ pub fn serve_arrivals<
         Err(HouseFault::Memory) => return Err(ServeFault::Memory),
         Err(HouseFault::Place) => return Err(ServeFault::Place),
     };
-    let served = in_house::<Brand, _, _, _, _, _, _>(rt, alloc, blank, arrivals, connections, gate);
+    let served = serve_in_house::<Brand, _, _, _, _, _, _>(
+        rt,
+        alloc,
+        blank,
+        arrivals,
+        connections,
+        gate,
+    );
     let house = match served {
         Ok(house) => house,
         Err(fault) => return Err(fault),
@@ -127,7 +134,7 @@ pub fn serve_arrivals<
 }
 
 // Serves the connections in the house that H names.
-fn in_house<
+fn serve_in_house<
     H: House + Send + Sync,
     Rt: Threads + Wait + Sync,
     S: Sink + Send + Drop,
