@@ -1,17 +1,15 @@
 -- What a student can't see changes nothing for the student.
-use Rattle.std.proofs.Common.{◌≡◌, ℕ, ◌+◌, ◌<◌, ◌==◌, Bool, true, false, cond, ◌&&◌, ◌||◌, List, [], ◌∷◌, length, map, Option, None, Some, is_none, option_map}
+use Rattle.std.proofs.lemmas.Bool.Decides.{nat_tests}
+use Rattle.std.proofs.Common.{◌≡◌, ℕ, ◌<◌, Bool, true, false, cond, ◌&&◌, ◌||◌, List, [], ◌∷◌, length, map, Option, Some}
 use Rattle.std.proofs.Common.{Result, Ok, Err, refl, sym, ap, nat_le, ◌∙◌, subst, nat_le, arith, inl, inr, slice_set, filter}
-use Rattle.std.specs.List.{range_with_len}
 use Rattle.std.specs.Result.{IfOk}
 use Rattle.std.proofs.lemmas.Bool.{cases_eq}
 use Rattle.std.proofs.lemmas.List.{get_or-set_other}
 use Rattle.std.proofs.lemmas.Grind.{get_or-set_at}
-use Rattle.mml_ids.specs.Search.{some_below}
 use Rattle.mml_rules.specs.declared.rule.Rule.{Rule}
 use Rattle.mml_rules.specs.Configuration.{Configuration, IsLawful}
 use Rattle.mml_rules.specs.Around.{AgreeAround}
 use Rattle.mml_rules.specs.Network.{registers_at}
-use Rattle.mml_rules.specs.Rules.{guard, kind_of}
 use Rattle.mml_ids.proofs.SearchLemmas.{same_bool, some_below_same}
 use Rattle.mml_rules.proofs.AroundLemmas.{same_guard, same_kind}
 use Rattle.mml_lab.specs.declared.who.Who.{Who}
@@ -23,16 +21,14 @@ use Rattle.mml_board.specs.Events.{choosing, done_by}
 use Rattle.mml_policy.specs.declared.command.Command.{Command}
 use Rattle.mml_policy.specs.declared.command.Command.TheVariants as command
 use Rattle.mml_policy.specs.declared.denial.Denial.{Denial}
-use Rattle.mml_policy.specs.declared.denial.Denial.TheVariants.{Hidden, NotOwner, Stale, Guard}
 use Rattle.mml_policy.specs.declared.verdict.Leave.{Leave}
 use Rattle.mml_policy.specs.declared.verdict.Leave.TheVariants.{Grant}
 use Rattle.mml_policy.specs.Visible.{is_visible, owns_neighbour}
-use Rattle.mml_policy.specs.Clauses.{node, rule_of}
 use Rattle.mml_policy.specs.Verdicts.{clauses}
 use Rattle.mml_policy.specs.Shown.{near, look_of}
 use Rattle.mml_policy.specs.Rulings.{ruling_on_leave, ruled, ruling, after_ruling}
 use Rattle.mml_policy.specs.declared.ruling.Ruling.{Ruling}
-use Rattle.mml_policy.specs.declared.ruling.Ruling.TheVariants.{Seen, Looked, Full, Journal, Granted}
+use Rattle.mml_policy.specs.declared.ruling.Ruling.TheVariants.{Full, Journal, Granted}
 use Rattle.mml_policy.specs.Alike.{Alike, IsWorldOf}
 use Rattle.mml_ids.proofs.GivesLemmas.{bind-same, need-same, bind-if, need-if}
 use Rattle.mml_policy.proofs.ClausesLemmas.{node_there}
@@ -50,12 +46,7 @@ and_alike false false false h = refl
 
 filter_alike : {X Y : Type 0} (t : X → Bool) (f g : X → Y) (xs : List X) → ((x : X) → t x ≡ true → f x ≡ g x) → map f (filter t xs) ≡ map g (filter t xs)
 filter_alike t f g [] h = refl
-filter_alike t f g (x ∷ xs) h = go (t x) (h x) (filter_alike t f g xs h)
-  where
-    go : (b : Bool) → (b ≡ true → f x ≡ g x) → map f (filter t xs) ≡ map g (filter t xs)
-        → map f (cond b (x ∷ filter t xs) (filter t xs)) ≡ map g (cond b (x ∷ filter t xs) (filter t xs))
-    go true e rest = λ k. e refl k ∷ rest k
-    go false e rest = rest
+filter_alike t f g (x ∷ xs) h = grind (arith, nat_tests, filter_alike t f g xs h)
 
 module _ (ids : List ℕ) (r : RosterValue) (limit : ℕ) (is_halted : Bool) (s : ℕ) (w v : World) (in_w : IsWorldOf ids w) (in_v : IsWorldOf ids v)
     (a : Alike r s w v) where
@@ -78,38 +69,22 @@ module _ (ids : List ℕ) (r : RosterValue) (limit : ℕ) (is_halted : Bool) (s 
   same_size = sym in_w.nodes ∙ in_v.nodes
 
   around : (i : ℕ) → owns r x i ≡ true → AgreeAround c d i
-  around i own = record {
-    links = λ j. a.links i j own;
-    p_here = ap (λ q. q.p) (a.here i own);
-    m_here = ap (λ q. q.m) (a.here i own);
-    p_near = λ j n. ap (λ q. q.p) (a.near i j own n);
-    m_near = λ j n. ap (λ q. q.m) (a.near i j own n);
-  }
+  around i own = grind (arith, nat_tests)
 
   to_mine : (i j : ℕ) → owns r x j ≡ true → c.linked i j ≡ d.linked i j
   to_mine i j own = both_ways_linked c i j lawful_w ∙ a.links j i own ∙ both_ways_linked d j i lawful_v
 
   same_neighbour : (i : ℕ) → owns_neighbour r c x i ≡ owns_neighbour r d x i
   unfolding owns_neighbour
-  same_neighbour i =
-      ap (λ n. some_below n (λ j. c.linked i j && owns r x j)) same_size
-      ∙ some_below_same (size v) _ _ (λ j _. and_alike (owns r x j) (c.linked i j) (d.linked i j) (to_mine i j))
+  same_neighbour i = grind (arith, nat_tests, same_size, some_below_same, and_alike, to_mine)
 
   same_visible : (i : ℕ) → is_visible r c x i ≡ is_visible r d x i
   same_visible i = ap (λ b. owns r x i || b) (same_neighbour i)
 
   -- the same verdicts
   same_clauses : (k : Command) → clauses ids r w x k ≡ clauses ids r v x k
-  same_clauses (command.See id) =
-      bind-same (node ids id Hidden) (node ids id Hidden) _ _ refl (λ i _.
-      need-same (is_visible r c x i) (is_visible r d x i) _ _ _ _ (same_visible i) refl (λ _. refl))
-  same_clauses (command.Move id q at) =
-      bind-same (node ids id NotOwner) (node ids id NotOwner) _ _ refl (λ i _.
-      need-same (owns r x i) (owns r x i) _ _ _ _ refl refl (λ own.
-      need-same (at == w.number) (at == v.number) (Stale w.number) (Stale v.number) _ _ (ap (λ n. at == n) a.number) (ap Stale a.number) (λ _.
-      need-same (is_none (chosen_at w.chosen i)) (is_none (chosen_at v.chosen i)) _ _ _ _ (ap is_none (a.chosen i own)) refl (λ _.
-      bind-same (rule_of ids q Guard) (rule_of ids q Guard) _ _ refl (λ rule _.
-      need-same (guard c i rule) (guard d i rule) _ _ _ _ (same_guard c d i lawful_w lawful_v (around i own) rule) refl (λ _. refl))))))
+  same_clauses (command.See id) = grind (arith, nat_tests, bind-same, need-same, same_visible)
+  same_clauses (command.Move id q at) = grind (arith, nat_tests, bind-same, need-same, same_guard, around)
   same_clauses _ = refl
 
   -- what is shown is the same
@@ -124,20 +99,10 @@ module _ (ids : List ℕ) (r : RosterValue) (limit : ℕ) (is_halted : Bool) (s 
 
   same_near : (i : ℕ) → owns r x i ≡ true → near w i ≡ near v i
   unfolding near
-  same_near i own =
-      filter_alike (c.linked i) (λ j. (j, registers_at w.network.registers j)) (λ j. (j, registers_at v.network.registers j)) (range_with_len 0 (size w))
-      (λ j n. ap (λ q. (j, q)) (a.near i j own n))
-      ∙ (λ k. map (λ j. (j, registers_at v.network.registers j)) (filter (λ j. a.links i j own k) (range_with_len 0 (same_size k))))
+  same_near i own = grind (arith, nat_tests, filter_alike, same_size)
 
   same_look : (i : ℕ) → owns r x i ≡ true → look_of w i ≡ look_of v i
-  same_look i own = λ k. record {
-    at = a.number k;
-    node = i;
-    regs = a.here i own k;
-    chosen = option_map kind_of (a.chosen i own k);
-    enabled = same_kind c d i lawful_w lawful_v (around i own) k;
-    near = same_near i own k;
-  }
+  same_look i own = grind (arith, nat_tests, same_kind, around, same_near)
 
   -- a move chosen in both worlds leaves them alike
   room_w : (i : ℕ) → i < length ids → i < length w.chosen
@@ -147,20 +112,10 @@ module _ (ids : List ℕ) (r : RosterValue) (limit : ℕ) (is_halted : Bool) (s 
   room_v i l = let e = in_v.nodes in let f = in_v.world.choices in omega arith
 
   chosen_alike : (i j : ℕ) (q : Option Rule) → i < length ids → owns r x j ≡ true → chosen_at (slice_set w.chosen i q) j ≡ chosen_at (slice_set v.chosen i q) j
-  chosen_alike i j q l own = elim (cases_eq j i) [
-    | inl e ↦ get_or-set_at w.chosen i j q None e (room_w i l) ∙ sym (get_or-set_at v.chosen i j q None e (room_v i l))
-    | inr ne ↦ get_or-set_other w.chosen i j q None ne ∙ a.chosen j own ∙ sym (get_or-set_other v.chosen i j q None ne)
-  ]
+  chosen_alike i j q l own = grind (arith, nat_tests, cases_eq, get_or-set_at, room_w, room_v, get_or-set_other)
 
   choosing_alike : (i : ℕ) (q : Option Rule) → i < length ids → Alike r s (choosing w i q) (choosing v i q)
-  choosing_alike i q l = record {
-    number = a.number;
-    place = ap (λ n. n + 1) a.place;
-    links = a.links;
-    chosen = λ j own. chosen_alike i j q l own;
-    here = a.here;
-    near = a.near;
-  }
+  choosing_alike i q l = grind (arith, nat_tests, chosen_alike)
 
   -- what the leave tells is the same, and the worlds afterwards are alike
   abbrev Keeps : Leave → Type 0
@@ -186,22 +141,9 @@ module _ (ids : List ℕ) (r : RosterValue) (limit : ℕ) (is_halted : Bool) (s 
       (entered (nat_le limit w.place) is_halted g k refl (choosing_alike i (Some q) l))
 
   keeps : (k : Command) → IfOk (clauses ids r w x k) Keeps
-  keeps (command.See id) =
-      bind-if Keeps (node ids id Hidden) _ (λ i _.
-      need-if Keeps (is_visible r c x i) _ _ (λ shown.
-      ((λ k. Seen (record { at = a.number k; node = i; regs = same_seen i shown k })), a)))
-  keeps (command.Look id) =
-      bind-if Keeps (node ids id NotOwner) _ (λ i _.
-      need-if Keeps (owns r x i) _ _ (λ own.
-      (ap Looked (same_look i own), a)))
-  keeps (command.Move id q at) =
-      bind-if Keeps (node ids id NotOwner) _ (λ i there.
-      need-if Keeps (owns r x i) _ _ (λ own.
-      need-if Keeps (at == w.number) _ _ (λ _.
-      need-if Keeps (is_none (chosen_at w.chosen i)) _ _ (λ _.
-      bind-if Keeps (rule_of ids q Guard) _ (λ rule _.
-      need-if Keeps (guard c i rule) _ _ (λ _.
-      keeps_move i rule (node_there ids id _ i there)))))))
+  keeps (command.See id) = grind (arith, nat_tests, bind-if, need-if, same_seen)
+  keeps (command.Look id) = grind (arith, nat_tests, bind-if, need-if, same_look)
+  keeps (command.Move id q at) = grind (arith, nat_tests, bind-if, need-if, keeps_move, node_there)
   keeps _ = tt
 
   abbrev Same : Result Leave Denial → Result Leave Denial → Type 0

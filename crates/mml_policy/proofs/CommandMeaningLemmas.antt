@@ -19,7 +19,7 @@ use Rattle.mml_policy.specs.declared.denial.Denial.{Denial}
 use Rattle.mml_policy.specs.declared.denial.Denial.TheVariants.{NotTeacher, NoNode, BadRegister, Loop, Linked, NotLinked}
 use Rattle.mml_policy.specs.declared.verdict.Verdict.TheVariants as verdicts
 use Rattle.mml_policy.specs.declared.verdict.Leave.{Leave}
-use Rattle.mml_policy.specs.declared.verdict.Leave.TheVariants.{See, Look, Grant}
+use Rattle.mml_policy.specs.declared.verdict.Leave.TheVariants.{Grant}
 use Rattle.mml_policy.specs.Visible.{is_teacher}
 use Rattle.mml_policy.specs.Clauses.{node, pointer}
 use Rattle.mml_policy.specs.Verdicts.{settled, verdict}

@@ -104,8 +104,7 @@ module _ (ids : List ℕ) (r : RosterValue) (w : World) (x : Who) where
 
     no_register : (i : ℕ) → ((q : Option ℕ) → IsNamed ids p q → ¬ IsRegister w i q) → (s : Result (Option ℕ) Denial) → pointer ids p BadRegister ≡ s
         → (pointer ids p BadRegister >>= with_register i) ≡ Err BadRegister
-    no_register i none (Ok q) e = bind-from (pointer ids p BadRegister) (with_register i) _ q e (need-fails (may_point (configuration w) i q) _ _
-        (false_from_ne_true (may_point (configuration w) i q) (λ fits. none q (named-is ids p q e) (register-is w i q fits))))
+    no_register i none (Ok q) e = search (arith, bind-from, need-fails, false_from_ne_true, named-is, register-is)
     no_register i none (Err d) e = bind-fails (pointer ids p BadRegister) (with_register i) BadRegister (e ∙ ap Err (no_pointer ids p d e).0)
 
     fault_to : (d : Denial) → verdict ids r w x (command.Fault id p m) ≡ verdicts.Deny d → why_no_fault d

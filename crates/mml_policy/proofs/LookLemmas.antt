@@ -1,5 +1,7 @@
 -- What a look shows is visible to the one who may look.
-use Rattle.std.proofs.Common.{◌≡◌, ℕ, zero, suc, ◌+◌, Bool, true, false, ◌⊎◌, [], refl, sym, subst, add-one, arith}
+use Rattle.std.proofs.lemmas.Bool.Decides.{nat_tests}
+use Rattle.std.proofs.lemmas.Grind.{common_steps}
+use Rattle.std.proofs.Common.{◌≡◌, ℕ, zero, suc, ◌+◌, Bool, true, false, ◌⊎◌, refl, subst, add-one, arith}
 use Rattle.std.specs.List.{All}
 use Rattle.std.proofs.lemmas.List.Elements.{All-nil, All-cons, All-append}
 use Rattle.mml_rules.specs.declared.regs.Regs.{Regs}
@@ -17,11 +19,8 @@ use Rattle.mml_policy.proofs.NearLemmas.{passing_with, passing_without}
 
 near_more : (P : ℕ × Regs → Type 0) (w : World) (i n : ℕ) (b : Bool) → (configuration w).linked i n ≡ b
     → ((j : ℕ) → (configuration w).linked i j ≡ true → P (j, registers_at w.network.registers j)) → All P (near_below w i n) → All P (near_below w i (n + 1))
-near_more P w i n true e each so_far =
-    subst (All P) (sym (passing_with ((configuration w).linked i) (λ j. (j, registers_at w.network.registers j)) n e))
-    (All-append P _ _ so_far (All-cons P (n, registers_at w.network.registers n) [] (each n e) (All-nil P)))
-near_more P w i n false e each so_far =
-    subst (All P) (sym (passing_without ((configuration w).linked i) (λ j. (j, registers_at w.network.registers j)) n e)) so_far
+near_more P w i n true e each so_far = grind (arith, common_steps, nat_tests, passing_with, All-append, All-cons, All-nil)
+near_more P w i n false e each so_far = grind (arith, nat_tests, passing_without)
 
 -- what holds of each neighbour holds of all that are near
 near_all_hold : (P : ℕ × Regs → Type 0) (w : World) (i n : ℕ) → ((j : ℕ) → (configuration w).linked i j ≡ true → P (j, registers_at w.network.registers j))
@@ -46,9 +45,4 @@ visible_here r w x i lawful w' = grind (arith, from_fact)
 -- a look by the teacher or by the node's owner shows only what is visible to them
 pub shows_visible : (r : RosterValue) (w : World) (x : Who) (i : ℕ) → IsLawful (configuration w) → (x ≡ who.Teacher) ⊎ (owns r x i ≡ true)
     → ShowsWhatIsVisible r w x (look_of w i)
-shows_visible r w x i lawful may = record {
-  node = visible_here r w x i lawful may;
-  registers = refl;
-  near = near_hold (λ n. is_visible r (configuration w) x n.0 ≡ true) w i (visible_near r w x i lawful may);
-  near_registers = near_hold (λ n. n.1 ≡ registers_at w.network.registers n.0) w i (λ j l. refl);
-}
+shows_visible r w x i lawful may = search (arith, visible_here, near_hold, visible_near)

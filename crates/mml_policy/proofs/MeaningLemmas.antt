@@ -1,4 +1,5 @@
 -- When a move is granted.
+use Rattle.std.proofs.lemmas.Bool.Decides.{nat_tests}
 use Rattle.std.proofs.Common.{false, Result, Err, subst, true≢false, ◌≡◌, ℕ, ◌==◌, true, List, Option, None, Some, is_none, Ok, refl, sym, ap, ◌∙◌, arith}
 use Rattle.std.specs.Prelude.{◌↔◌}
 use Rattle.std.specs.Option.{ok_or}
@@ -17,7 +18,6 @@ use Rattle.mml_board.specs.declared.event.Event.{Event}
 use Rattle.mml_board.specs.declared.event.Event.TheVariants as event
 use Rattle.mml_board.specs.World.{World, configuration, chosen_at}
 use Rattle.mml_policy.specs.declared.command.Asked.{Asked}
-use Rattle.mml_policy.specs.declared.command.Asked.TheVariants as asked
 use Rattle.mml_policy.specs.declared.command.Command.TheVariants as command
 use Rattle.mml_policy.specs.declared.denial.Denial.{Denial}
 use Rattle.mml_policy.specs.declared.denial.Denial.TheVariants.{NotOwner, Guard}
@@ -71,20 +71,7 @@ module _ (ids : List ℕ) (r : RosterValue) (w : World) (x : Who) (id : ℕ) (a 
       let four = need-ok (at == w.number) _ _ _ three.1 in
       let five = need-ok (is_none (chosen_at w.chosen two.0)) _ _ _ four.1 in
       let six = bind-ok (rule_of ids a Guard) _ _ five.1 in
-      let seven = need-ok (guard (configuration w) two.0 six.0) _ _ _ six.2 in
-      let same : Ok (Grant (event.Grant one.0 two.0 six.0)) ≡ Ok (Grant e) = seven.1 in
-      let is = student-ok x _ one.0 one.1 in (
-        one.0,
-        two.0,
-        six.0,
-        grind arith,
-        record {
-          own = record { student = is; node = node-ok ids id _ two.0 two.1; owner = owner_is r x one.0 two.0 is three.0 };
-          current = eqb-true at w.number four.0;
-          free = none-is _ five.0;
-          guard = (asked_is ids a _ six.0 six.1, (guard-means (configuration w) two.0 six.0 l).0 seven.0);
-        },
-      )
+      grind (arith, nat_tests, need-ok, student-ok, node-ok, owner_is, eqb-true, none-is, asked_is, guard-means)
 
   from_facts : (e : Event) → IsMove e → verdict ids r w x (command.Move id a at) ≡ verdicts.Grant e
   from_facts e f =

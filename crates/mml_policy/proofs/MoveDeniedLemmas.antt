@@ -1,5 +1,6 @@
 -- Why a move is denied, both ways.
-use Rattle.std.proofs.Common.{◌≡◌, ◌↔◌, ℕ, ◌==◌, List, is_none, Result, Ok, Err, refl, sym, ap, ◌∙◌, arith}
+use Rattle.std.proofs.lemmas.Bool.Decides.{nat_tests}
+use Rattle.std.proofs.Common.{◌≡◌, ◌↔◌, ℕ, ◌==◌, List, is_none, Result, Ok, Err, refl, ap, ◌∙◌, arith}
 use Rattle.std.proofs.lemmas.Bool.{false_from_ne_true, eq-eqb, ne_eqb}
 use Rattle.mml_ids.specs.Gives.{◌>>=◌, ◌>>◌, need}
 use Rattle.mml_ids.proofs.GivesLemmas.{bind-from, need-from}
@@ -52,12 +53,8 @@ module _ (ids : List ℕ) (r : RosterValue) (w : World) (x : Who) (id : ℕ) (a 
 
   from_why : (d : Denial) → why d → verdict ids r w x (command.Move id a at) ≡ verdicts.Deny d
   from_why NotOwner h = ap settled (no_owner h)
-  from_why (Stale n) h =
-      ap settled (past_owner h.s h.i _ h.own (need-fails (at == w.number) (Stale w.number) _ (ne_eqb at w.number h.late)))
-      ∙ ap (λ n. verdicts.Deny (Stale n)) (sym h.told)
-  from_why Chosen h = ap settled (past_owner h.s h.i _ h.own (
-      need-from (at == w.number) _ _ _ (eq-eqb at w.number h.current) (
-      need-fails (is_none (chosen_at w.chosen h.i)) _ _ (ap is_none h.chosen.1))))
+  from_why (Stale n) h = grind (arith, nat_tests, past_owner, need-fails, ne_eqb)
+  from_why Chosen h = grind (arith, nat_tests, past_owner, need-from, eq-eqb, need-fails)
   from_why Guard h = ap settled (past_owner h.s h.i _ h.own (
       need-from (at == w.number) _ _ _ (eq-eqb at w.number h.current) (
       need-from (is_none (chosen_at w.chosen h.i)) _ _ _ (ap is_none h.free) (

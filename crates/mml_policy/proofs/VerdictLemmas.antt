@@ -1,5 +1,6 @@
 -- What a verdict grants is legal, and what it shows is there; acts alone are granted.
-use Rattle.std.proofs.Common.{◌≡◌, ℕ, ◌<◌, ◌==◌, Bool, true, false, not, ◌||◌, List, length, is_some, is_none, Result, Ok, Err, refl, sym, ap, ◌∙◌, arith}
+use Rattle.std.proofs.lemmas.Bool.Decides.{nat_tests}
+use Rattle.std.proofs.Common.{◌≡◌, ℕ, ◌<◌, ◌==◌, Bool, true, false, List, length, is_none, Result, Ok, Err, refl, sym, ap, ◌∙◌, arith}
 use Rattle.std.specs.Result.{IfOk}
 use Rattle.std.proofs.lemmas.Bool.{and_from, lt-ltb}
 use Rattle.std.proofs.lemmas.Result.{IfOk-at_ok}
@@ -9,17 +10,17 @@ use Rattle.mml_lab.specs.declared.who.Who.TheVariants as who
 use Rattle.mml_lab.specs.Rosters.{RosterValue, owns}
 use Rattle.mml_board.specs.declared.event.Event.{Event}
 use Rattle.mml_board.specs.World.{World, size, configuration, chosen_at}
-use Rattle.mml_board.specs.Events.{is_legal, is_node, may_point, is_any_chosen}
+use Rattle.mml_board.specs.Events.{is_legal, is_node}
 use Rattle.mml_policy.specs.Acts.{is_act}
 use Rattle.mml_policy.specs.declared.command.Command.{Command}
 use Rattle.mml_policy.specs.declared.command.Command.TheVariants as command
 use Rattle.mml_policy.specs.declared.denial.Denial.{Denial}
-use Rattle.mml_policy.specs.declared.denial.Denial.TheVariants.{Hidden, NotOwner, Guard, NoNode, BadRegister}
-use Rattle.mml_policy.specs.Visible.{is_teacher, is_visible}
+use Rattle.mml_policy.specs.declared.denial.Denial.TheVariants.{NotOwner, Guard}
+use Rattle.mml_policy.specs.Visible.{is_teacher}
 use Rattle.mml_policy.specs.declared.verdict.Verdict.TheVariants as verdicts
 use Rattle.mml_policy.specs.declared.verdict.Leave.{Leave}
 use Rattle.mml_policy.specs.declared.verdict.Leave.TheVariants.{See, Look, Report, Grant}
-use Rattle.mml_policy.specs.Clauses.{node, student, rule_of, pointer}
+use Rattle.mml_policy.specs.Clauses.{node, student, rule_of}
 use Rattle.mml_policy.specs.Verdicts.{clauses, settled, verdict}
 use Rattle.mml_ids.proofs.GivesLemmas.{bind-if, need-if}
 use Rattle.mml_policy.proofs.ClausesLemmas.{node_there, student-ok}
@@ -73,12 +74,8 @@ module _ (ids : List ℕ) (r : RosterValue) (w : World) (x : Who) where
   view = Good ids r w false
 
   good : (c : Command) → IfOk (clauses ids r w x c) (Good ids r w (is_act c))
-  good (command.See id) =
-      bind-if view (node ids id Hidden) _ (λ i there.
-      need-if view (is_visible r (configuration w) x i) _ _ (λ _. (refl, λ same. node_there ids id _ i there)))
-  good (command.Look id) =
-      bind-if view (node ids id NotOwner) _ (λ i there.
-      need-if view (is_teacher x || owns r x i) _ _ (λ _. (refl, λ same. node_there ids id _ i there)))
+  good (command.See id) = grind (arith, nat_tests, bind-if, need-if, node_there)
+  good (command.Look id) = grind (arith, nat_tests, bind-if, need-if, node_there)
   good (command.Move id a at) =
       bind-if act (student x NotOwner) _ (λ s is.
       bind-if act (node ids id NotOwner) _ (λ i there.
@@ -91,34 +88,11 @@ module _ (ids : List ℕ) (r : RosterValue) (w : World) (x : Who) where
         λ same. and_from _ _ (owner_is r x s i (student-ok x _ s is) owner)
             (and_from _ _ (node_is ids w i same (node_there ids id _ i there)) (and_from _ _ free g)),
       ))))))))
-  good command.Close =
-      need-if act (is_teacher x) _ _ (λ _.
-      need-if act (is_any_chosen w) _ _ (λ some. (refl, λ same. some)))
-  good (command.Fault id p m) =
-      need-if act (is_teacher x) _ _ (λ _.
-      bind-if act (node ids id NoNode) _ (λ i there.
-      bind-if act (pointer ids p BadRegister) _ (λ q pointed.
-      need-if act (may_point (configuration w) i q) _ _ (λ may.
-      (refl, λ same. and_from _ _ (node_is ids w i same (node_there ids id _ i there)) may)))))
-  good (command.Link first second) =
-      need-if act (is_teacher x) _ _ (λ _.
-      bind-if act (node ids first NoNode) _ (λ a a_there.
-      bind-if act (node ids second NoNode) _ (λ b b_there.
-      need-if act (not (a == b)) _ _ (λ apart.
-      need-if act (not ((configuration w).linked a b)) _ _ (λ loose. (
-        refl,
-        λ same. and_from _ _ (and_from _ _ (node_is ids w a same (node_there ids first _ a a_there)) (node_is ids w b same (node_there ids second _ b b_there)))
-            (and_from _ _ apart loose),
-      ))))))
-  good (command.Cut first second) =
-      need-if act (is_teacher x) _ _ (λ _.
-      bind-if act (node ids first NoNode) _ (λ a a_there.
-      bind-if act (node ids second NoNode) _ (λ b b_there.
-      need-if act ((configuration w).linked a b) _ _ (λ linked. (refl, λ same. linked)))))
-  good (command.Release id) =
-      need-if act (is_teacher x) _ _ (λ _.
-      bind-if act (node ids id NoNode) _ (λ i there.
-      need-if act (is_some (chosen_at w.chosen i)) _ _ (λ is. (refl, λ same. is))))
+  good command.Close = grind (arith, nat_tests, need-if)
+  good (command.Fault id p m) = grind (arith, nat_tests, need-if, bind-if, and_from, node_is, node_there)
+  good (command.Link first second) = grind (arith, nat_tests, need-if, bind-if, and_from, node_is, node_there)
+  good (command.Cut first second) = grind (arith, nat_tests, need-if, bind-if)
+  good (command.Release id) = grind (arith, nat_tests, need-if, bind-if)
   good command.Report = need-if view (is_teacher x) _ _ (λ _. (refl, λ same. tt))
 
   -- acts alone are given leave to an event
