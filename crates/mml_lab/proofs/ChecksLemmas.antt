@@ -1,6 +1,7 @@
 -- Links are looked up by rank, and put into the rows of neighbours one after the other.
-use Rattle.std.proofs.Common.{◌≡◌, ℕ, ℤ, pos, ◌-◌, ◌<◌, ◌≤◌, true, false, not, ◌&&◌, List, length, get_or, take, map, Option, Some, None}
-use Rattle.std.proofs.Common.{Ok, Err, sym, ap, ◌∙◌, subst, arith}
+use Rattle.std.proofs.lemmas.Bool.Decides.{nat_tests}
+use Rattle.std.proofs.Common.{◌≡◌, ℕ, ℤ, pos, ◌-◌, ◌<◌, ◌≤◌, true, not, ◌&&◌, List, length, get_or, take, map, Option, Some, None}
+use Rattle.std.proofs.Common.{Ok, Err, ap, subst, arith}
 use Rattle.std.specs.Prelude.{is_some, slice_index, position}
 use Rattle.std.specs.FinSet.{FinSet}
 use Rattle.std.specs.Ordering.{nat_cmp, int_eq}
@@ -41,10 +42,7 @@ near-linked ids table links rows are z w some_z some_w =
     let i = some_rank (rank_at ids z) some_z in
     let j = some_rank (rank_at ids w) some_w in
     let at_i = rank-names ids table z i.0 i.1 in
-    let at_j = rank-names ids table w j.0 j.1 in
-    (λ t. are_near rows (i.1 t) (j.1 t)) ∙ are.members i.0 j.0 at_i.0 ∙ has-neighbours_of ids links (slice_index ids i.0) j.0
-    ∙ ap (λ b. b && is_linked links (pos (slice_index ids i.0)) (pos (slice_index ids j.0))) (lt-ltb j.0 (length ids) at_j.0)
-    ∙ (λ t. is_linked links (sym at_i.1 t) (sym at_j.1 t))
+    grind (arith, nat_tests, rank-names, has-neighbours_of, lt-ltb)
 
 -- where each end is a node of the file, each has a rank
 pub all-ranked : (nodes : List NodeSpec) → IsTable (in_order (file_ids nodes)) → (links : List (ℤ × ℤ)) → unless (ends_fault nodes links) ≡ Ok tt

@@ -1,12 +1,13 @@
 -- The forms of names and keys.
-use Rattle.std.proofs.Common.{◌≡◌, ◌↔◌, ℕ, List, [], ◌∷◌, length, Bool, true, ◌&&◌, ◌||◌, inl, arith, All, nat_lt, nat_le, rules}
+use Rattle.std.proofs.lemmas.Bool.Decides.{nat_tests}
+use Rattle.std.proofs.lemmas.Grind.{common_steps}
+use Rattle.std.proofs.Common.{◌≡◌, ◌↔◌, ℕ, List, [], ◌∷◌, length, Bool, true, ◌||◌, arith, All, nat_le, rules}
 use Rattle.std.specs.List.{list_all}
 use Rattle.std.specs.Int.{is_in_range, IsInRange}
-use Rattle.std.specs.Char.{is_ascii_lowercase, is_ascii_graphic}
 use Rattle.std.proofs.lemmas.Bool.{and_from, and_parts, or_cases, eqb-true, eq-eqb, leb-true, le-leb, ltb-true, lt-ltb}
 use Rattle.std.proofs.lemmas.List.Elements.{All-weaker, All-tail, All-cons}
 use Rattle.std.proofs.lemmas.List.Sums.{AllPass-from_list_all, list_all-from_AllPass}
-use Rattle.mml_lab.specs.declared.TheConstants.{MAX_NAME, MAX_KEY}
+use Rattle.mml_lab.specs.declared.TheConstants.{MAX_NAME}
 use Rattle.mml_lab.specs.Rosters.{is_name, is_key, is_name_byte}
 use Rattle.mml_lab.specs.RosterMeaning.{IsName, IsKey, IsNameByte}
 
@@ -36,16 +37,7 @@ all_pass p P means bs all = list_all-from_AllPass p bs (All-weaker P (λ b. p b 
 
 name-is : (name : List ℕ) → is_name name ≡ true → IsName name
 name-is [] is = absurd cc
-name-is (b ∷ bs) is =
-    let bytes_and_length = and_parts (is_ascii_lowercase b && list_all is_name_byte bs) (nat_le (length (b ∷ bs)) MAX_NAME) is in
-    let first_and_rest = and_parts (is_ascii_lowercase b) (list_all is_name_byte bs) bytes_and_length.0 in
-    let letter = in_range 97 122 b first_and_rest.0 in
-    record {
-      some = omega arith;
-      short = leb-true (length (b ∷ bs)) MAX_NAME bytes_and_length.1;
-      first = letter;
-      bytes = All-cons IsNameByte b bs (inl letter) (each_passes is_name_byte IsNameByte name_byte bs first_and_rest.1);
-    }
+name-is (b ∷ bs) is = grind (arith, common_steps, nat_tests, and_parts, in_range, leb-true, All-cons, each_passes, name_byte)
 
 from_name : (name : List ℕ) → IsName name → is_name name ≡ true
 from_name [] form = let some = form.some in absurd (omega arith)
@@ -58,14 +50,7 @@ pub name-means : (name : List ℕ) → (is_name name ≡ true) ↔ IsName name
 name-means name = (name-is name, from_name name)
 
 key-is : (key : List ℕ) → is_key key ≡ true → IsKey key
-key-is key is =
-    let length_and_bytes = and_parts (nat_lt 0 (length key) && nat_le (length key) MAX_KEY) (list_all is_ascii_graphic key) is in
-    let lengths = and_parts (nat_lt 0 (length key)) (nat_le (length key) MAX_KEY) length_and_bytes.0 in
-    record {
-      some = ltb-true 0 (length key) lengths.0;
-      short = leb-true (length key) MAX_KEY lengths.1;
-      bytes = each_passes is_ascii_graphic (IsInRange 33 126) (in_range 33 126) key length_and_bytes.1;
-    }
+key-is key is = grind (arith, common_steps, nat_tests, and_parts, ltb-true, leb-true, each_passes, in_range)
 
 from_key : (key : List ℕ) → IsKey key → is_key key ≡ true
 from_key key form = search (rules, and_from, lt-ltb, le-leb, all_pass, from_range)

@@ -1,12 +1,11 @@
 -- The errors of a lab file are told in their order.
-use Rattle.std.proofs.Common.{◌≡◌, ◌<◌, ◌+◌, ℕ, suc, Bool, List, [], ◌∷◌, ◌++◌, Option, Some, None, Result, Ok, Err, inl, inr, option_map, not, nat_lt, nat_le}
-use Rattle.std.proofs.Common.{refl, sym, ◌∙◌, subst, arith}
+use Rattle.std.proofs.lemmas.Bool.Decides.{nat_tests}
+use Rattle.std.proofs.Common.{◌≡◌, ◌<◌, ◌+◌, ℕ, suc, Bool, List, [], ◌∷◌, ◌++◌, Option, Some, None, Result, Ok, Err, option_map, not, nat_lt, nat_le}
+use Rattle.std.proofs.Common.{sym, ◌∙◌, subst, arith}
 use Rattle.std.specs.List.{slice_get}
 use Rattle.std.proofs.lemmas.Bool.{cases_lt, lt-ltb, le-ltb, lt-leb, le-leb}
 use Rattle.mml_ids.specs.Gives.{◌>>◌, need, first_fault, fault_if}
 use Rattle.mml_lab.specs.declared.lab_fault.LabFault.{LabFault}
-use Rattle.mml_lab.specs.declared.lab_fault.LabFault.TheVariants as fault
-use Rattle.mml_lab.specs.declared.lab_fault.Key.TheVariants as key
 use Rattle.mml_lab.specs.Shape.{RawSpec}
 use Rattle.mml_lab.specs.Labs.{both_fault, ids_fault, forms_fault, no_owner_fault, owner_twice_fault, ends_fault, loops_fault, again_fault, pointers_fault, unless}
 use Rattle.mml_lab.specs.Labs.{identified, enrolled, owned, linked, limited, checked, error_of, lab_fault}
@@ -37,13 +36,7 @@ and_also a b = (a, b)
 
 have_order : (raw : RawSpec) → HaveOrder 0 (errors_of raw)
 unfolding both_fault ids_fault forms_fault no_owner_fault owner_twice_fault ends_fault loops_fault again_fault pointers_fault
-have_order raw = and_also (mapped 0 fault.BothOwners _ (λ x. refl)) (and_also (mapped 1 fault.Id _ (λ x. refl))
-    (and_also (mapped 2 fault.Name _ (λ x. refl)) (and_also (mapped 3 fault.NameTwice _ (λ x. refl))
-    (and_also (mapped 4 fault.NoOwner _ (λ x. refl)) (and_also (mapped 5 fault.OwnerTwice _ (λ x. refl))
-    (and_also (mapped 6 fault.LinkEnd _ (λ x. refl)) (and_also (mapped 7 fault.Loop _ (λ x. refl))
-    (and_also (mapped 8 fault.LinkTwice _ (λ x. refl)) (and_also (mapped 9 fault.BadPointer _ (λ x. refl))
-    (and_also (tested 10 _ (fault.Limit key.Events) refl) (and_also (tested 11 _ (fault.Limit key.Sessions) refl)
-    (and_also (tested 12 _ (fault.Limit key.Student) refl) tt))))))))))))
+have_order raw = grind (arith, nat_tests, and_also, mapped, tested)
 
 -- ---- the first one
 
@@ -74,10 +67,7 @@ one_if : (b : Bool) (e : LabFault) → EndsIn (need b e) (fault_if (not b) e ∷
 one_if b e = grind arith
 
 one_above : (n greatest : ℕ) (e : LabFault) → EndsIn (need (nat_le n greatest) e) (fault_if (nat_lt greatest n) e ∷ [])
-one_above n greatest e = elim (cases_lt greatest n) [
-  | inl more ↦ record { first = rw (lt-ltb greatest n more, lt-leb n greatest more) refl }
-  | inr few ↦ record { first = rw (le-ltb greatest n few, le-leb n greatest few) refl }
-]
+one_above n greatest e = grind (arith, nat_tests, cases_lt, lt-ltb, lt-leb, le-ltb, le-leb)
 
 more : (r s : Result (Unit {0}) LabFault) {ts us : List (Option LabFault)} → EndsIn r ts → EndsIn s us → EndsIn (r >> s) (ts ++ us)
 more r s {ts} {us} a b = record { first = by r ts a.first }

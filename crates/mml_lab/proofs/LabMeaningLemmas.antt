@@ -1,5 +1,6 @@
 -- What the definitions of a lab mean.
-use Rattle.std.proofs.Common.{◌≡◌, ◌≢◌, ◌↔◌, ℕ, ℤ, pos, ◌<◌, ◌==◌, Bool, true, false, not, ◌&&◌, ◌||◌, List, [], length, get_or, take, map}
+use Rattle.std.proofs.lemmas.Bool.Decides.{nat_tests}
+use Rattle.std.proofs.Common.{◌≡◌, ◌≢◌, ◌↔◌, ℕ, ℤ, pos, ◌<◌, ◌==◌, Bool, true, false, not, ◌&&◌, List, [], length, get_or, map}
 use Rattle.std.proofs.Common.{Option, Some, None, Ok, ◌⊎◌, inl, inr, sym, ap, ◌∙◌, subst, arith, Contains}
 use Rattle.std.specs.Prelude.{slice_index, position, unwrap_or}
 use Rattle.std.specs.List.{list_any, Any}
@@ -31,25 +32,10 @@ use Rattle.mml_lab.proofs.LabInLemmas.{positive, lawful_from, node_at, IsNodeAt,
 
 -- a link is found to join two numbers exactly where it does
 pub joins-means : (a b : ℤ) (link : ℤ × ℤ) → (joins a b link ≡ true) ↔ Joins a b link
-joins-means a b link = (there, back)
-  where
-    there : joins a b link ≡ true → Joins a b link
-    there holds = elim (or_cases (int_eq link.0 a && int_eq link.1 b) (int_eq link.0 b && int_eq link.1 a) holds) [
-      | inl e ↦ let p = and_parts (int_eq link.0 a) (int_eq link.1 b) e in inl ((Decides-int_eq link.0 a).0 p.0, (Decides-int_eq link.1 b).0 p.1)
-      | inr e ↦ let p = and_parts (int_eq link.0 b) (int_eq link.1 a) e in inr ((Decides-int_eq link.0 b).0 p.0, (Decides-int_eq link.1 a).0 p.1)
-    ]
-
-    or_right : (x y : Bool) → y ≡ true → (x || y) ≡ true
-    or_right x y e = grind arith
-
-    back : Joins a b link → joins a b link ≡ true
-    back x = grind (arith, and_from, or_right)
+joins-means a b link = grind (arith, nat_tests, or_cases, and_parts, Decides-int_eq, and_from)
 
 pub any_means : {X : Type 0} (p : X → Bool) (P : X → Type 0) → ((x : X) → (p x ≡ true) ↔ P x) → (xs : List X) → (list_any p xs ≡ true) ↔ Any P xs
-any_means p P means xs = (
-  λ e. let a = Any-from_list_any p xs e in (a.0, a.1, a.2, a.3, (means a.1).0 a.4),
-  λ a. list_any-from_Any p xs (a.0, a.1, a.2, a.3, (means a.1).1 a.4),
-)
+any_means p P means xs = grind (arith, nat_tests, Any-from_list_any, list_any-from_Any)
 
 pub linked-means : (raw : RawSpec) (a b : ℤ) → (is_linked raw.links a b ≡ true) ↔ HasLink raw a b
 linked-means raw a b = any_means (joins a b) (Joins a b) (joins-means a b) raw.links
@@ -106,10 +92,7 @@ ranked nodes table z node =
     let same : number_of node.1.id ≡ n = ap number_of node.4 in
     let some : list_any (λ k. k == n) ids ≡ true =
     listed nodes n ∙ list_any-from_Any (λ (x : NodeSpec). number_of x.id == n) nodes (node.0, node.1, node.2, node.3, eq-eqb (number_of node.1.id) n same) in
-    let a = Any-from_list_any (λ k. k == n) ids some in
-    let j = a.0 in
-    let here : slice_index ids j ≡ n = get_or_default ids j 0 a.1 a.2 ∙ a.3 ∙ eqb-true a.1 n a.4 in
-    (j, a.2, rank_of_id ids j n table a.2 (sym (get_or_default ids j n 0 a.2 ∙ here)), positive z (slice_index ids j) (sym here) (table.positive j a.2))
+    grind (arith, nat_tests, Any-from_list_any, get_or_default, eqb-true, rank_of_id, table, positive)
 
 -- the links of a file without an error do
 pub all-join : (raw : RawSpec) → IsFaultless raw → JoinNodes raw
@@ -139,10 +122,7 @@ module _ (raw : RawSpec) (right : IsFaultless raw) where
       let apart : is_again_at ns k ≡ false = none-is (is_again_at ns) (length ns) (sound ns right.ids).differ k (omega arith) in
       let first : get_or ns j 0 ≡ number_of x.id =
       get_or-map (λ node. number_of node.id) raw.nodes j x 0 (omega arith) ∙ ap (λ (n : NodeSpec). number_of n.id) at_j in
-      let second : get_or ns k 0 ≡ number_of y.id = get_or-map (λ node. number_of node.id) raw.nodes k y 0 lt ∙ ap (λ (n : NodeSpec). number_of n.id) at_k in
-      let short : length (take k ns) ≡ k = length-take-le k ns (omega arith) in
-      both_ways (is_again_at ns k) apart (list_any_at (λ n. n == slice_index ns k) (take k ns) j 0 (omega arith)
-      (eq-eqb (get_or (take k ns) j 0) (get_or ns k 0) (get_or-take k ns j 0 less ∙ first ∙ same ∙ sym second)))
+      grind (arith, nat_tests, get_or-map, length-take-le, both_ways, list_any_at, eq-eqb, get_or-take)
 
   pub node_is : (i : ℕ) (node : NodeSpec) → i < length ids → Contains raw.nodes node → node.id ≡ pos (slice_index ids i)
       → node_with raw.nodes (slice_index ids i) ≡ Some node

@@ -1,4 +1,5 @@
 -- A network has as many links as its file, where the file has no error.
+use Rattle.std.proofs.lemmas.Bool.Decides.{nat_tests}
 use Rattle.std.proofs.Common.{◌≡◌, ◌≢◌, ℕ, ℤ, pos, zero, suc, ◌+◌, ◌<◌, ◌≤◌, ◌==◌, ◌⊎◌, Bool, true, false, ◌||◌, ◌&&◌, List, length, get_or, take, Option}
 use Rattle.std.proofs.Common.{sym, ap, ◌∙◌, subst, arith, inl, inr, add-one}
 use Rattle.std.specs.Prelude.{slice_index}
@@ -111,9 +112,7 @@ module _ (raw : RawSpec) (right : IsFaultless raw) where
       ∙ list_any-IsPermutation (λ k. k == n) (file_ids raw.nodes) ids (in_order-moves (file_ids raw.nodes)))
       ∙ list_any-from_Any (λ (x : NodeSpec). number_of x.id == n) raw.nodes
       (node.0, node.1, node.2, node.3, eq-eqb (number_of node.1.id) n (ap number_of node.4)) in
-      let a = Any-from_list_any (λ k. k == n) ids some in
-      let here : slice_index ids a.0 ≡ n = get_or_default ids a.0 0 a.1 a.2 ∙ a.3 ∙ eqb-true a.1 n a.4 in
-      (a.0, a.2, positive z (slice_index ids a.0) (sym here) ((table raw right).positive a.0 a.2))
+      grind (arith, nat_tests, Any-from_list_any, get_or_default, eqb-true, positive, table)
 
   ranks_of : (link : Link) → HasNode raw link.0 → HasNode raw link.1 → link.0 ≢ link.1 → (a b : ℕ) × JoinsRanks ids link a b
   ranks_of link first second differ =

@@ -1,5 +1,6 @@
 -- The error of a link that stands twice.
-use Rattle.std.proofs.Common.{◌≡◌, ◌↔◌, ℕ, ℤ, ◌<◌, true, false, List, length, get_or, take, Option, Some, None, Result, Ok, Err, refl, ap, ◌∙◌, arith}
+use Rattle.std.proofs.lemmas.Bool.Decides.{nat_tests}
+use Rattle.std.proofs.Common.{◌≡◌, ◌↔◌, ℕ, ℤ, ◌<◌, true, false, List, length, get_or, take, Option, Some, None, Result, Ok, Err, refl, ◌∙◌, arith}
 use Rattle.std.specs.Prelude.{option_map, slice_get}
 use Rattle.std.specs.Option.{option_map_or}
 use Rattle.std.proofs.lemmas.Bool.{cases_Bool, both_ways}
@@ -11,7 +12,7 @@ use Rattle.mml_ids.specs.Search.{first_below}
 use Rattle.mml_lab.specs.declared.lab_fault.LabFault.{LabFault}
 use Rattle.mml_lab.specs.declared.lab_fault.LabFault.TheVariants as fault
 use Rattle.mml_lab.specs.Shape.{RawSpec}
-use Rattle.mml_lab.specs.Labs.{joins, is_linked, is_link_again, ends_fault, loops_fault, again_fault, unless, linked}
+use Rattle.mml_lab.specs.Labs.{is_linked, is_link_again, ends_fault, loops_fault, again_fault, unless, linked}
 use Rattle.mml_lab.specs.LabMeaning.{JoinNodes, IsLinkAgain, IsFirstLinkAgain}
 use Rattle.mml_ids.proofs.SearchLemmas.{first-is, first-at, none-is, none-at}
 use Rattle.mml_ids.proofs.FindLemmas.{list_any-found}
@@ -34,9 +35,7 @@ again-means links k = (there (slice_get links k) refl, back)
         let short : length (take k links) ≡ k = length-take-le k links (omega arith) in
         let here : get_or (take k links) twice.earlier twice.link ≡ twice.link =
         get_or-take k links twice.earlier twice.link before ∙ get_or_from_slice_get links twice.earlier twice.link twice.link twice.first in
-        ap (λ (o : Option Link). option_map_or (λ l. is_linked (take k links) l.0 l.1) o false) twice.second
-        ∙ list_any_at (joins twice.again.0 twice.again.1) (take k links) twice.earlier twice.link (omega arith)
-        (ap (joins twice.again.0 twice.again.1) here ∙ (joins-means twice.again.0 twice.again.1 twice.link).1 twice.joins)
+        grind (arith, nat_tests, list_any_at, joins-means)
 
 not_again : (links : List Link) (k : ℕ) → (is_link_again links k ≡ false) ↔ (¬ IsLinkAgain links k)
 not_again links k = grind (arith, both_ways, again-means, cases_Bool)

@@ -1,4 +1,5 @@
 -- The first name that stands before it already, met student after student.
+use Rattle.std.proofs.lemmas.Bool.Decides.{nat_tests}
 use Rattle.std.proofs.Common.{◌≡◌, ℕ, suc, ◌+◌, ◌-◌, ◌<◌, ◌≤◌, List, [], ◌∷◌, ◌++◌, length, get_or, take, map, Option, None, Bool, true, false}
 use Rattle.std.proofs.Common.{◌||◌, Ok, Err, refl, sym, ap, ◌∙◌, arith, string_bytes, String, Global, is_some, true≢false, append-nil, length-append, rules}
 use Rattle.std.specs.Prelude.{bytes_eq}
@@ -51,11 +52,7 @@ taken_at teacher all done rest x es t name r b parts seen same_teacher same is a
     let here : is_name_again (account_view teacher ∷ map account_view all) (length done + 1)
     ≡ (bytes_eq (string_bytes x.name) (string_bytes teacher.name) || list_any (has_name (string_bytes x.name)) (map account_view done)) =
     rw (accounts, place) (again_at (account_view teacher) (map account_view done) (account_view x) (map account_view rest)) in
-    let before : list_any (has_name (string_bytes x.name)) (map account_view done)
-    ≡ is_some (lookup (λ k. bytes_eq (string_bytes x.name) (string_bytes k)) es) =
-    ap (list_any (has_name (string_bytes x.name))) (sym seen) ∙ sym (lookup_any (string_bytes x.name) es) in
-    here ∙ ap (λ t. bytes_eq (string_bytes x.name) (string_bytes teacher.name) || t) before ∙ ap (is_taken (string_bytes teacher.name) es) (sym same)
-    ∙ ap (λ u. is_taken u es name) (sym same_teacher) ∙ sym is ∙ at
+    grind (arith, nat_tests, lookup_any)
 
 -- nothing stands before the teacher
 pub teacher_first : (accounts : List Account) → 0 < length accounts

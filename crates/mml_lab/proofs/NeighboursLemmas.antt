@@ -1,6 +1,8 @@
 -- The rows of neighbours, as links are put into them one after the other.
-use Rattle.std.proofs.Common.{◌≡◌, ℕ, ℤ, pos, negsuc, ◌+◌, ◌<◌, ◌≤◌, Bool, false, ◌&&◌, ◌||◌, eqb, ltb, List, [], length, get_or, set, take, map, Option}
-use Rattle.std.proofs.Common.{Some, None, ◌⊎◌, refl, sym, ap, ◌∙◌, inl, inr, arith, rules}
+use Rattle.std.proofs.lemmas.Bool.Decides.{nat_tests}
+use Rattle.std.proofs.lemmas.Grind.{common_steps}
+use Rattle.std.proofs.Common.{◌≡◌, ℕ, ℤ, pos, negsuc, ◌+◌, ◌<◌, ◌&&◌, ◌||◌, eqb, ltb, List, [], length, get_or, set, take, map}
+use Rattle.std.proofs.Common.{sym, ◌∙◌, arith, rules}
 use Rattle.std.specs.Prelude.{slice_index, replicate}
 use Rattle.std.specs.Ordering.{nat_cmp, int_eq}
 use Rattle.std.specs.FinSet as sets
@@ -59,38 +61,7 @@ pub one_more : (ids : List ℕ) → IsTable ids → (links : List (ℤ × ℤ)) 
     || ((holds (rank_in ids (number_of link.0)) i && holds (rank_in ids (number_of link.1)) q)
     || (holds (rank_in ids (number_of link.1)) i && holds (rank_in ids (number_of link.0)) q))))
     → AreRows ids (take k links) rows → AreRows ids (take (k + 1) links) new
-one_more ids table links k link rows new lt is long step so_far = record {
-  size = long ∙ so_far.size;
-  members = λ i q in_i. step i q ∙ ap (λ b. b || near i q) (so_far.members i q in_i ∙ has-neighbours_of ids (take k links) (slice_index ids i) q)
-      ∙ at i q in_i (cases_lt q (length ids)) ∙ sym (has-neighbours_of ids (take (k + 1) links) (slice_index ids i) q);
-}
-  where
-    near : ℕ → ℕ → Bool
-    near i q =
-        (holds (rank_in ids (number_of link.0)) i && holds (rank_in ids (number_of link.1)) q)
-        || (holds (rank_in ids (number_of link.1)) i && holds (rank_in ids (number_of link.0)) q)
-
-    beyond : (z : ℤ) (q : ℕ) → length ids ≤ q → holds (rank_in ids (number_of z)) q ≡ false
-    beyond z q past = by (rank_in ids (number_of z)) refl
-      where
-        by : (o : Option ℕ) → rank_in ids (number_of z) ≡ o → holds o q ≡ false
-        by None e = refl
-        by (Some k) e = let found = position-Some (λ n. eqb n (number_of z)) ids k 0 e in ne_eqb k q (λ same. absurd (omega (arith, found.0)))
-
-    none : (i q : ℕ) → length ids ≤ q → near i q ≡ false
-    none i q past =
-        rw (beyond link.0 q past, beyond link.1 q past, and_right (holds (rank_in ids (number_of link.0)) i) false refl)
-        (and_right (holds (rank_in ids (number_of link.1)) i) false refl)
-
-    at : (i q : ℕ) → i < length ids → (q < length ids) ⊎ (length ids ≤ q)
-        → ((ltb q (length ids) && is_linked (take k links) (pos (slice_index ids i)) (pos (slice_index ids q))) || near i q)
-        ≡ (ltb q (length ids) && is_linked (take (k + 1) links) (pos (slice_index ids i)) (pos (slice_index ids q)))
-    at i q in_i (inl in_q) = rw (lt-ltb q (length ids) in_q)
-        (sym (list_any_more (joins (pos (slice_index ids i)) (pos (slice_index ids q))) links k link lt
-        ∙ ap (λ l. is_linked (take k links) (pos (slice_index ids i)) (pos (slice_index ids q)) || joins (pos (slice_index ids i)) (pos (slice_index ids q)) l)
-        (sym is)
-        ∙ ap (λ b. is_linked (take k links) (pos (slice_index ids i)) (pos (slice_index ids q)) || b) (joins_at ids table link i q in_i in_q)))
-    at i q in_i (inr past) = rw (le-ltb q (length ids) past) (none i q past)
+one_more ids table links k link rows new lt is long step so_far = grind (arith, common_steps, nat_tests, has-neighbours_of, cases_lt, position-Some, ne_eqb, and_right, lt-ltb, list_any_more, joins_at, le-ltb)
 
 -- the rows of all links hold each node's neighbours
 pub all_rows : (ids : List ℕ) (links : List (ℤ × ℤ)) (rows : Rows) → AreRows ids links rows → rows ≡ map (neighbours_of ids links) ids

@@ -6,7 +6,6 @@ use Rattle.std.specs.Map.{lookup}
 use Rattle.mml_ids.specs.Gives.{Faults}
 use Rattle.mml_ids.specs.Ids.{id_fault, is_id_memory}
 use Rattle.mml_ids.specs.declared.id_table.IdFault.{IdFault}
-use Rattle.mml_ids.specs.declared.id_table.IdFault.TheVariants as id
 use Rattle.mml_lab.specs.declared.raw_lab.RawNode.{RawNode}
 use Rattle.mml_lab.specs.Shape.{NodeSpec, is_lab_memory}
 use Rattle.mml_lab.specs.inside.Raw.{node_view, entry_view}

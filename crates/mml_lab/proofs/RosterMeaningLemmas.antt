@@ -1,10 +1,12 @@
 -- What the roster's definitions mean.
-use Rattle.std.proofs.Common.{◌≡◌, ◌↔◌, ◌==◌, ℕ, suc, ◌<◌, ◌≤◌, List, ◌∷◌, length, get_or, take, Option, Some, None, true, false, not, ◌⊎◌, inl}
+use Rattle.std.proofs.Common.{◌≡◌, ◌↔◌, ℕ, suc, ◌<◌, ◌≤◌, List, ◌∷◌, length, get_or, Option, Some, None, true, false, not, ◌⊎◌, inl}
 use Rattle.std.proofs.Common.{inr, refl, sym, ap, ◌∙◌, arith, true≢false, All, Contains}
 use Rattle.std.specs.List.{position}
 use Rattle.std.specs.Option.{option_map}
-use Rattle.std.proofs.lemmas.Bool.{cases_Bool, cases_order, and_from, and_parts, not-false, eqb-true, eq-eqb}
-use Rattle.std.proofs.lemmas.List.{length-take-le, get_or-take, get_or_default}
+use Rattle.std.proofs.lemmas.Bool.Decides.{nat_tests}
+use Rattle.std.proofs.lemmas.Bool.{cases_Bool, cases_order, cases_lt, and_from, and_parts, not-false, eqb-true, eq-eqb}
+use Rattle.std.proofs.lemmas.List.{length-take-le, get_or-take, get_or_default, get_or_past}
+use Rattle.std.proofs.lemmas.List.Elements.{All-get_or}
 use Rattle.std.proofs.lemmas.List.Folds.{list_any_at, Any-from_list_any}
 use Rattle.std.proofs.lemmas.List.Quantifiers.{position-Some}
 use Rattle.std.proofs.lemmas.Slice.Eq.{bytes_eq-Decides}
@@ -72,13 +74,11 @@ principal-nobody r name key roster =
 
 -- a student is found to own a node exactly where listed among its owners
 pub owns-student : (r : RosterValue) (s i : ℕ) → (owns r (who.Student s) i ≡ true) ↔ Contains (owners_of r i) s
-owns-student r s i = (
-  (λ is. let any = Any-from_list_any (λ o. o == s) (owners_of r i) is in among any.0 any.1 any.2 any.3 any.4),
-  λ there. list_any_at (λ o. o == s) (owners_of r i) there.0 s there.1 (eq-eqb (get_or (owners_of r i) there.0 s) s there.2),
-)
-  where
-    among : (k o : ℕ) → k < length (owners_of r i) → get_or (owners_of r i) k o ≡ o → (o == s) ≡ true → Contains (owners_of r i) s
-    among k o lt at same = let equal : o ≡ s = eqb-true o s same in (k, lt, ap (get_or (owners_of r i) k) (sym equal) ∙ at ∙ equal)
+owns-student r s i = grind (arith, nat_tests, Any-from_list_any, list_any_at, eq-eqb, eqb-true)
+
+-- an owner is a student
+pub owner_there : (r : RosterValue) (s i : ℕ) → IsRoster r → owns r (who.Student s) i ≡ true → s < length r.students
+owner_there r s i known owner = grind (arith, nat_tests, owns-student, cases_lt, All-get_or, get_or_past)
 
 -- ---- names
 
@@ -103,16 +103,7 @@ name_of_student r name s found = (student_is r name s found).1
 
 again_means : (accounts : List Account) (k : ℕ) → k < length accounts → is_name_again accounts k ≡ true
     → (j : ℕ) × (j < k) × (name_at accounts j ≡ name_at accounts k)
-again_means accounts k within is =
-    let any = Any-from_list_any (has_name (name_at accounts k)) (take k accounts) is in
-    there any.0 any.1 any.2 any.3 any.4
-  where
-    there : (j : ℕ) (a : Account) → j < length (take k accounts) → get_or (take k accounts) j a ≡ a → has_name (name_at accounts k) a ≡ true
-        → (j : ℕ) × (j < k) × (name_at accounts j ≡ name_at accounts k)
-    there j a lt at named =
-        let before : j < k = omega (arith, length-take-le k accounts) in
-        let here : get_or accounts j no_account ≡ a = get_or_default accounts j no_account a (omega arith) ∙ sym (get_or-take k accounts j a before) ∙ at in
-        (j, before, ap (λ (b : Account). b.name) here ∙ sym ((bytes_eq-Decides (name_at accounts k) a.name).0 named))
+again_means accounts k within is = grind (arith, nat_tests, Any-from_list_any, length-take-le, get_or_default, get_or-take, bytes_eq-Decides)
 
 is_again : (accounts : List Account) (j k : ℕ) → j < k → k < length accounts → name_at accounts j ≡ name_at accounts k → is_name_again accounts k ≡ true
 is_again accounts j k lt within same = grind (arith, get_or-take, bytes_eq-Decides, list_any_at, length-take-le)
@@ -183,5 +174,4 @@ is_roster teacher students owners few formed twice owned = record {
     differ (who.Student s) who.Teacher in_a in_b same = let no_such : suc s ≡ 0 = one_place (suc s) 0 (omega arith) (omega arith) same in absurd (omega arith)
     differ (who.Student s) (who.Student t) in_a in_b same =
         let one_more : suc s ≡ suc t = one_place (suc s) (suc t) (omega arith) (omega arith) same in
-        let equal : s ≡ t = omega arith in
-        ap who.Student equal
+        grind (arith, nat_tests)

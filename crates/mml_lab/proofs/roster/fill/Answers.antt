@@ -12,9 +12,7 @@ pub returns-then-is_taken : goal.returns-then-is_taken
 returns-then-is_taken c =
     let at = c.loop-student.invariant in
     let parts = ap (λ zs. c.loop-student.yielded ++ zs) (sym c.in-Some.ensures.steps.0) ∙ at.left in
-    at_fault c.args.teacher.now c.args.students.items c.loop-student.yielded (into_iter_items c.next.new.self) c.in-Some.student c.loop-student.found.entries
-    c.as_str.result.now c.as_str-in-loop-student.result.now c.is_taken.result
-    c.len.result at.so_far parts c.len.ensures.len c.as_str.ensures.value c.as_str-in-loop-student.ensures.value c.is_taken.ensures c.if-is_taken.true
+    search (arith, at_fault)
 
 pub loop-student-preserved : goal.loop-student-preserved
 loop-student-preserved c =

@@ -1,4 +1,4 @@
-use Rattle.std.proofs.Common.{map, arith, ◌+◌}
+use Rattle.std.proofs.Common.{map, arith}
 use Rattle.std.proofs.lemmas.List.{length-map}
 use Rattle.mml_lab.specs.inside.Raw.{entry_view}
 use Rattle.mml_lab.specs.Rosters.{has_name_and_key, no_account}
