@@ -8,17 +8,19 @@ use Rattle.mml_lab.specs.Labs.{LabValue, IsLab}
 use Rattle.mml_lab.specs.Rosters.{RosterValue}
 use Rattle.mml_board.specs.declared.event.Event.{Event}
 use Rattle.mml_board.specs.declared.event.Event.TheVariants as event
-use Rattle.mml_board.specs.World.{World, IsWorld, size, chosen_at, configuration, opening_of}
+use Rattle.mml_board.specs.World.{World, IsWorld, size, chosen_at, opening_of}
 use Rattle.mml_board.specs.Events.{is_legal, is_node, after}
 use Rattle.mml_board.specs.Runs.{is_legal_list, world_of}
-use Rattle.mml_board.proofs.WorldLemmas.{after-world, none_at, chosen_node, length-none, hold-none}
+use Rattle.mml_board.proofs.WorldLemmas.{after-world, none_at, chosen_node}
 use Rattle.mml_board.proofs.EventsLemmas.{dropped}
 use Rattle.mml_board.proofs.RunsLemmas.{legal-possible}
-use Rattle.mml_laws.specs.Choices.{keeps, IsGrantedLast}
+use Rattle.mml_audit.proofs.AuditMeaningLemmas.{reached_first}
+use Rattle.mml_tally.specs.Meaning.{leaves}
+use Rattle.mml_laws.specs.Choices.{IsGrantedLast}
 
 -- the rule was chosen by the event, or before it and kept by it
 abbrev IsFrom : World → Event → ℕ → Rule → Type 0
-IsFrom w e i q = ((s : ℕ) × (e ≡ event.Grant s i q)) ⊎ ((chosen_at w.chosen i ≡ Some q) × (keeps i e ≡ true))
+IsFrom w e i q = ((s : ℕ) × (e ≡ event.Grant s i q)) ⊎ ((chosen_at w.chosen i ≡ Some q) × (leaves i e ≡ true))
 
 none_some : (o : Option Rule) (q : Rule) → o ≡ None → o ≢ Some q
 none_some o q e h = absurd cc
@@ -42,7 +44,7 @@ module _ (w : World) (is : IsWorld w) where
         let here : chosen_at (after w (event.Release j)).chosen i ≡ None =
         subst (λ k. chosen_at (after w (event.Release j)).chosen k ≡ None) (sym same) (get_or-set_same w.chosen j None None (omega (arith, is.choices, lt))) in
         absurd (none_some _ q here h)
-    | inr other ↦ inr (sym (get_or-set_other w.chosen j i None None other) ∙ h, ap not (ne_eqb i j other))
+    | inr other ↦ inr (sym (get_or-set_other w.chosen j i None None other) ∙ h, ap not (ne_eqb j i (λ e. other (sym e))))
   ]
 
   one_back : (r : RosterValue) (e : Event) (i : ℕ) (q : Rule) → is_legal r w e ≡ true → chosen_at (after w e).chosen i ≡ Some q → IsFrom w e i q
@@ -61,7 +63,7 @@ module _ (w : World) (is : IsWorld w) where
       get_or-set_same w.chosen i (Some q) None (omega (arith, is.choices, lt))
 
   -- a grant isn't legal where a move is chosen
-  kept_on : (r : RosterValue) (e : Event) (i : ℕ) (q : Rule) → is_legal r w e ≡ true → keeps i e ≡ true → chosen_at w.chosen i ≡ Some q
+  kept_on : (r : RosterValue) (e : Event) (i : ℕ) (q : Rule) → is_legal r w e ≡ true → leaves i e ≡ true → chosen_at w.chosen i ≡ Some q
       → chosen_at (after w e).chosen i ≡ Some q
   kept_on r (event.Grant s j p) i q legal keep h = elim (cases_eq i j) [
     | inl same ↦ absurd (taken (subst (λ k. chosen_at w.chosen k ≡ Some q) same h))
@@ -73,7 +75,7 @@ module _ (w : World) (is : IsWorld w) where
           let free = (and_parts (is_none (chosen_at w.chosen j)) _ (and_parts (is_node w j) _ (legal-possible r w (event.Grant s j p) legal)).1).0 in
           false≢true (sym (ap is_none e) ∙ free)
   kept_on r (event.Release j) i q legal keep h = elim (cases_eq i j) [
-    | inl same ↦ absurd (false≢true (sym (ap not (eq-eqb i j same)) ∙ keep))
+    | inl same ↦ absurd (false≢true (sym (ap not (eq-eqb j i (sym same))) ∙ keep))
     | inr other ↦ get_or-set_other w.chosen j i None None other ∙ h
   ]
   kept_on r _ i q legal keep h = absurd (false≢true keep)
@@ -83,10 +85,10 @@ after_legal r w e is legal = after-world w e is (legal-possible r w e legal)
 
 -- chosen before and kept by all, or granted last
 abbrev Stays : World → List Event → ℕ → Rule → Type 0
-Stays w es i q = IsGrantedLast es i q ⊎ ((chosen_at w.chosen i ≡ Some q) × (list_all (keeps i) es ≡ true))
+Stays w es i q = IsGrantedLast es i q ⊎ ((chosen_at w.chosen i ≡ Some q) × (list_all (leaves i) es ≡ true))
 
 one_more : (e : Event) (es : List Event) (i : ℕ) (q : Rule) → IsGrantedLast es i q → IsGrantedLast (e ∷ es) i q
-one_more e es i q g = record { before = e ∷ g.before; owner = g.owner; later = g.later; order = ap (λ fs. e ∷ fs) g.order; kept = g.kept }
+one_more e es i q g = record { before = e ∷ g.before; owner = g.owner; later = g.later; order = ap (λ fs. e ∷ fs) g.order; leave = g.leave }
 
 back : (r : RosterValue) (w : World) (es : List Event) (i : ℕ) (q : Rule) → IsWorld w → is_legal_list r w es ≡ true
     → chosen_at (world_of w es).chosen i ≡ Some q → Stays w es i q
@@ -96,21 +98,21 @@ back r w (e ∷ es) i q is legal h =
     elim (back r (after w e) es i q (after_legal r w e is both.0) both.1 h) [
       | inl granted ↦ inl (one_more e es i q granted)
       | inr stays ↦ elim (one_back w is r e i q both.0 stays.0) [
-        | inl by ↦ inl (record { before = []; owner = by.0; later = es; order = ap (λ f. f ∷ es) by.1; kept = stays.1 })
-        | inr kept ↦ inr (kept.0, and_from (keeps i e) (list_all (keeps i) es) kept.1 stays.1)
+        | inl by ↦ inl (record { before = []; owner = by.0; later = es; order = ap (λ f. f ∷ es) by.1; leave = stays.1 })
+        | inr kept ↦ inr (kept.0, and_from (leaves i e) (list_all (leaves i) es) kept.1 stays.1)
       ]
     ]
 
 stays_on : (r : RosterValue) (w : World) (es : List Event) (i : ℕ) (q : Rule) → IsWorld w → is_legal_list r w es ≡ true
-    → chosen_at w.chosen i ≡ Some q → list_all (keeps i) es ≡ true → chosen_at (world_of w es).chosen i ≡ Some q
+    → chosen_at w.chosen i ≡ Some q → list_all (leaves i) es ≡ true → chosen_at (world_of w es).chosen i ≡ Some q
 stays_on r w [] i q is legal h keep = h
 stays_on r w (e ∷ es) i q is legal h keep =
     let both = and_parts (is_legal r w e) (is_legal_list r (after w e) es) legal in
-    let kept = and_parts (keeps i e) (list_all (keeps i) es) keep in
+    let kept = and_parts (leaves i e) (list_all (leaves i) es) keep in
     stays_on r (after w e) es i q (after_legal r w e is both.0) both.1 (kept_on w is r e i q both.0 kept.0 h) kept.1
 
 forth : (r : RosterValue) (w : World) (before : List Event) (s : ℕ) (later : List Event) (i : ℕ) (q : Rule) → IsWorld w
-    → is_legal_list r w (before ++ event.Grant s i q ∷ later) ≡ true → list_all (keeps i) later ≡ true
+    → is_legal_list r w (before ++ event.Grant s i q ∷ later) ≡ true → list_all (leaves i) later ≡ true
     → chosen_at (world_of w (before ++ event.Grant s i q ∷ later)).chosen i ≡ Some q
 forth r w [] s later i q is legal keep =
     let both = and_parts (is_legal r w (event.Grant s i q)) (is_legal_list r (after w (event.Grant s i q)) later) legal in
@@ -120,15 +122,11 @@ forth r w (e ∷ before) s later i q is legal keep =
     forth r (after w e) before s later i q (after_legal r w e is both.0) both.1 keep
 
 pub opening : (lab : LabValue) → IsLab lab → IsWorld (opening_of lab.network)
-opening lab is = record {
-  network = is.network;
-  choices = length-none (length lab.network.registers) None;
-  hold = hold-none (length lab.network.registers) (configuration (opening_of lab.network));
-}
+opening lab is = (reached_first lab is).world.world
 
 pub granted_last : (lab : LabValue) (es : List Event) (i : ℕ) (q : Rule) → IsLab lab → is_legal_list lab.roster (opening_of lab.network) es ≡ true
     → (chosen_at (world_of (opening_of lab.network) es).chosen i ≡ Some q) ↔ IsGrantedLast es i q
-granted_last lab es i q is legal = (there, λ g. here g.before g.owner g.later g.order g.kept)
+granted_last lab es i q is legal = (there, λ g. here g.before g.owner g.later g.order g.leave)
   where
     there : chosen_at (world_of (opening_of lab.network) es).chosen i ≡ Some q → IsGrantedLast es i q
     there h = elim (back lab.roster (opening_of lab.network) es i q (opening lab is) legal h) [
@@ -136,7 +134,7 @@ granted_last lab es i q is legal = (there, λ g. here g.before g.owner g.later g
       | inr old ↦ absurd (none_some _ q (none_at (length lab.network.registers) i) old.0)
     ]
 
-    here : (before : List Event) (s : ℕ) (later : List Event) → es ≡ before ++ event.Grant s i q ∷ later → list_all (keeps i) later ≡ true
+    here : (before : List Event) (s : ℕ) (later : List Event) → es ≡ before ++ event.Grant s i q ∷ later → list_all (leaves i) later ≡ true
         → chosen_at (world_of (opening_of lab.network) es).chosen i ≡ Some q
     here before s later e keep =
         subst (λ fs. chosen_at (world_of (opening_of lab.network) fs).chosen i ≡ Some q) (sym e)

@@ -18,12 +18,13 @@ use Rattle.mml_board.specs.declared.event.Event.TheVariants as event
 use Rattle.mml_board.specs.World.{World, IsWorld, size, configuration, chosen_at, opening_of}
 use Rattle.mml_board.specs.Events.{is_legal, is_node, is_chosen, after, chosen_count}
 use Rattle.mml_board.specs.Runs.{is_legal_list, world_of}
-use Rattle.mml_board.proofs.WorldLemmas.{closed-step, after-world, size-after}
+use Rattle.mml_board.proofs.WorldLemmas.{after-world, size-after}
 use Rattle.mml_board.proofs.RunsLemmas.{legal-possible, list-world, legal-one_more, place-world_of}
 use Rattle.mml_convergence.specs.Potential.{whole_potential}
 use Rattle.mml_convergence.specs.Rest.{EachHasOwner, is_grant_or_close}
 use Rattle.mml_convergence.proofs.SumsLemmas.{count_same}
-use Rattle.mml_convergence.proofs.AppliedLemmas.{close_pays, close_moves, network_most}
+use Rattle.mml_convergence.proofs.AppliedLemmas.{Falls, close_paid, close_moves, network_most}
+use Rattle.mml_convergence.proofs.WholePotentialLemmas.{whole_fell}
 use Rattle.mml_convergence.proofs.RestLemmas.{any_chosen, may_move, first_owner}
 use Rattle.mml_bounds.specs.Courtships.{most_courtships, courting_potential}
 use Rattle.mml_bounds.proofs.NumbersLemmas.{courtships_kept, courtships_even}
@@ -69,11 +70,10 @@ grant_chooses r w s i q k legal =
 -- ---- the events are paid for
 
 -- by a potential from which each close takes the moves that it applies
-module _ (potential : Configuration → ℕ)
-    (pays : (w : World) → IsWorld w → chosen_count w + potential (configuration (after w event.Close)) ≤ potential (configuration w)) where
+module _ (potential : Configuration → ℕ) (falls : Falls potential) where
   events_paid : (r : RosterValue) (w : World) (es : List Event) → IsWorld w → is_legal_list r w es ≡ true → list_all is_grant_or_close es ≡ true
       → length es + chosen_count w ≤ 2 * potential (configuration w)
-  events_paid r w [] k legal forward = let paid = pays w k in omega (arith, paid)
+  events_paid r w [] k legal forward = let paid = close_paid potential falls w k in omega (arith, paid)
   events_paid r w (e ∷ es) k legal forward =
       let both = and_parts (is_legal r w e) (is_legal_list r (after w e) es) legal in
       let kinds = and_parts (is_grant_or_close e) (list_all is_grant_or_close es) forward in
@@ -84,18 +84,8 @@ module _ (potential : Configuration → ℕ)
           → length es + chosen_count (after w e) ≤ 2 * potential (configuration (after w e))
           → suc (length es) + chosen_count w ≤ 2 * potential (configuration w)
       one (event.Grant s i q) l g rest = let more = grant_chooses r w s i q k l in omega (arith, more, rest)
-      one event.Close l g rest = let paid = pays w k in let moves = close_moves w k l in omega (arith, paid, moves, rest)
-      one (event.Release i) l g rest = absurd (false≢true g)
-      one (event.Fault i registers) l g rest = absurd (false≢true g)
-      one (event.Link a b) l g rest = absurd (false≢true g)
-      one (event.Cut a b) l g rest = absurd (false≢true g)
-
-courting_pays : (w : World) → IsWorld w → chosen_count w + courting_potential (configuration (after w event.Close)) ≤ courting_potential (configuration w)
-unfolding chosen_count
-courting_pays w k =
-    let pays = courting_fell (configuration w) (chosen_at w.chosen) k.network.lawful k.hold in
-    let same : courting_potential (configuration (after w event.Close)) ≡ courting_potential _ = ap courting_potential (closed-step w k.choices) in
-    omega (arith, pays, same)
+      one event.Close l g rest = let paid = close_paid potential falls w k in let moves = close_moves w k l in omega (arith, paid, moves, rest)
+      one _ l g rest = absurd (false≢true g)
 
 least : (a n l q : ℕ) → a ≤ 4 * l + 6 * n → a ≤ 6 * n + 4 * q → a ≤ 6 * n + 4 * min l q
 least a n l q by_links by_nodes = grind (arith, by_links, by_nodes)
@@ -103,9 +93,9 @@ least a n l q by_links by_nodes = grind (arith, by_links, by_nodes)
 pub events_few : (r : RosterValue) (w : World) (es : List Event) → IsWorld w → is_legal_list r w es ≡ true → list_all is_grant_or_close es ≡ true
     → length es + chosen_count w ≤ events_to_rest (size w) (link_count w.network)
 events_few r w es k legal forward =
-    let by_links = events_paid whole_potential close_pays r w es k legal forward in
+    let by_links = events_paid whole_potential whole_fell r w es k legal forward in
     let links_most = network_most w.network k.network in
-    let by_nodes = events_paid courting_potential courting_pays r w es k legal forward in
+    let by_nodes = events_paid courting_potential courting_fell r w es k legal forward in
     let nodes_most = courting_most (configuration w) in
     least (length es + chosen_count w) (size w) (link_count w.network) (most_courtships (size w)) (omega (arith, by_links, links_most))
     (omega (arith, by_nodes, nodes_most))

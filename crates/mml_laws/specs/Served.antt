@@ -31,11 +31,11 @@ pub record IsSession (lab : LabValue) (old new : WindowValue) (replies : List Re
   pub ended : Ended end lab old new input left wrote wrote'
   pub all : replies ≡ replies_in end lab old new input left wrote wrote' ended
 
--- sessions with these replies, one after another, led it there
+-- sessions with these replies, one after another, led a window from the one value to the other
 abbrev pub AreSessions : LabValue → WindowValue → List (List Reply) → WindowValue → Type 0
 AreSessions lab old sessions new = Chain (λ replies old new. IsSession lab old new replies) old sessions new
 
--- each window of a house was led so, from having seen what came before the house
+-- sessions with these replies led each window of a house, from having seen what came before the house
 abbrev pub AreServed : LabValue → List Event → List (List (List Reply)) → List WindowValue → Type 0
 AreServed lab begun [] [] = Unit {0}
 AreServed lab begun [] (w ∷ ws) = ⊥
@@ -47,7 +47,7 @@ abbrev pub named_in : List (List Reply) → List ℕ
 named_in [] = []
 named_in (replies ∷ later) = flat_map places_in replies ++ named_in later
 
--- and those of all windows'
+-- the places that the replies of all windows' sessions name, in order
 abbrev pub named_by : List (List (List Reply)) → List ℕ
 named_by [] = []
 named_by (sessions ∷ others) = named_in sessions ++ named_by others

@@ -40,17 +40,17 @@ NamesItsEvent lab l known line r =
     (p : ℕ) → place_in r ≡ Some p
     → (x : Who) × (command : Command) × (known ≡ Some x) × (request_in line ≡ Ok (Do command)) × IsToldAt lab l p x command r
 
--- so it is at each turn of a run of a hall
+-- each reply of a run of a hall that names a place names the event that its line asked for
 abbrev pub EachNamesItsEvent : (lab : LabValue) (l : List Event) (st : State) (lines : List RequestLine) (rs : List Reply) (end : State)
     → Run lab st lines rs end → Type 0
 EachNamesItsEvent lab l st lines rs end run =
     AtEach (TurnOf lab) (λ st line r next. NamesItsEvent lab l (known_on st line.connection) line.request r) st lines rs end run
 
--- so it is at a turn of a session
+-- where a session's reply names a place of the list, the event there is the one that its line asked for
 abbrev pub NamesItsEventIn : LabValue → List Event → session.Standing → List ℕ → Reply → Type 0
 NamesItsEventIn lab l st line r = NamesItsEvent lab l st.known line r
 
--- and at each
+-- each reply of a session that names a place names the event that its line asked for
 abbrev pub EachNamesItsEventIn : (lab : LabValue) (l : List Event) (st : session.Standing) (lines : List (List ℕ)) (rs : List Reply)
     (end : session.Standing) → session.Run lab st lines rs end → Type 0
 EachNamesItsEventIn lab l st lines rs end run =

@@ -36,7 +36,7 @@ pub fn a_connection_is_known_as_one()
 /// In a hall a hello on a connection that is known is denied as `greeted`, and a command on one that isn't as
 /// `not-greeted`, or refused as `memory`; neither changes anything. In a plain turn a command on a connection
 /// that is known is ruled on as that of the one who is known.
-pub fn a_hall_knows_its_connections_so()
+pub fn a_hall_answers_by_who_is_known()
     ensures again { (lab : LabValue) (st : hall.State) (k : ℕ) (line : List ℕ) (out : hall.Outcome)
         (x : Who) (name key : List ℕ) → hall.known_on st k ≡ Some x →
         request_in line ≡ Ok (requests.Hello name key) → hall.Turn lab st k line out →
@@ -54,7 +54,7 @@ pub fn a_hall_knows_its_connections_so()
 /// In a session a hello of one who is known is denied as `greeted`, and a command of one who isn't as
 /// `not-greeted`, or refused as `memory`; neither changes anything. A command of one who is known is answered as
 /// that one's, who stays known, or refused as `memory`.
-pub fn a_session_knows_its_connection_so()
+pub fn a_session_answers_by_who_is_known()
     ensures again { (lab : LabValue) (st next : session.Standing) (line : List ℕ) (r : Reply)
         (x : Who) (name key : List ℕ) → st.known ≡ Some x →
         request_in line ≡ Ok (requests.Hello name key) → session.Turn lab st line r next →
