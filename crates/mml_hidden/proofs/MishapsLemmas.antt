@@ -1,6 +1,5 @@
 -- Scripts whose turns may meet mishaps, the same in both runs.
-use Rattle.std.proofs.Common.{◌≡◌, ℕ, Bool, true, false, List, [], ◌∷◌, ◌++◌, refl, sym, ap, ◌∙◌}
-use Rattle.std.specs.Prelude.{decimal}
+use Rattle.std.proofs.Common.{◌≡◌, ℕ, Bool, true, false, List, [], ◌∷◌, ◌++◌, refl, sym, ap, ◌∙◌, arith}
 use Rattle.mml_lab.specs.Labs.{LabValue, IsLab}
 use Rattle.mml_board.specs.World.{opening_of}
 use Rattle.mml_policy.specs.Alike.{Alike}
@@ -12,6 +11,7 @@ use Rattle.mml_hidden.specs.Mishaps.{BefallenLine, turn_with, lines_in, replies_
 use Rattle.mml_hidden.specs.Mishaps.{Befell}
 use Rattle.mml_hidden.proofs.TwinsLemmas.{twin_next, twin_line}
 use Rattle.mml_hidden.proofs.ScriptedLemmas.{if_same, openings_alike}
+use Rattle.std.proofs.lemmas.Bool.Decides.{nat_tests}
 
 -- ---- two runs of one script that the same befell
 
@@ -25,8 +25,7 @@ module _ (lab other : LabValue) (t : AreTwins lab other) (s : ℕ) where
 
   output_with : (st su : State) → StatesAlike lab s st su → (b : BefallenLine) → is_hers s (known_on st b.line.connection) ≡ true
       → output_line lab b.line.connection (turn_with lab st b).reply ≡ output_line other b.line.connection (turn_with other su b).reply
-  output_with st su a b h =
-      ap (λ (bytes : List ℕ). decimal b.line.connection ++ 32 ∷ bytes) (twin_line lab other t s st su a b.mishap b.line.connection b.line.request h)
+  output_with st su a b h = grind (arith, nat_tests, twin_line)
 
   pub same_end_with : (st su : State) (bs : List BefallenLine) → StatesAlike lab s st su → StayAlikeWith lab other s st su bs
       → StatesAlike lab s (end_with lab st bs) (end_with other su bs)

@@ -1,16 +1,15 @@
 -- Scripts in two labs between which a student can't tell.
-use Rattle.std.proofs.Common.{◌≡◌, ◌≢◌, ℕ, ◌-◌, ◌==◌, Bool, true, false, cond, List, [], ◌∷◌, ◌++◌, length, Option, None, Some, Result, Ok, Err, All, refl, sym}
-use Rattle.std.proofs.Common.{ap, ◌∙◌, subst, inl, inr}
+use Rattle.std.proofs.Common.{◌≡◌, ◌≢◌, ℕ, ◌-◌, ◌==◌, Bool, true, false, cond, List, [], ◌∷◌, ◌++◌, Option, None, Result, Ok, All, refl, sym, ap, ◌∙◌, subst}
 use Rattle.std.specs.List.{concat}
-use Rattle.std.specs.Prelude.{slice_index_or, replicate, decimal}
+use Rattle.std.specs.Prelude.{slice_index_or, decimal}
 use Rattle.std.proofs.lemmas.Bool.{eqb-true, cases_lt}
-use Rattle.std.proofs.lemmas.List.Elements.{All-set, All-replicate, All-get_or}
+use Rattle.std.proofs.lemmas.List.Elements.{All-set, All-replicate}
 use Rattle.std.proofs.lemmas.List.{get_or_past}
 use Rattle.mml_lab.specs.declared.who.Who.{Who}
 use Rattle.mml_lab.specs.Labs.{LabValue, IsLab}
 use Rattle.mml_lab.specs.Rosters.{principal}
 use Rattle.mml_board.specs.World.{opening_of}
-use Rattle.mml_policy.specs.Alike.{Alike, IsWorldOf}
+use Rattle.mml_policy.specs.Alike.{Alike}
 use Rattle.mml_codec.specs.declared.request.LineFault.{LineFault}
 use Rattle.mml_codec.specs.declared.request.Request.{Request}
 use Rattle.mml_codec.specs.declared.request.Request.TheVariants as requests
@@ -19,7 +18,6 @@ use Rattle.mml_codec.specs.declared.reply.Reply.TheVariants.{Refuse}
 use Rattle.mml_codec.specs.declared.reply.Refused.TheVariants as refused
 use Rattle.mml_codec.specs.Greetings.{greeting, admitted}
 use Rattle.mml_codec.specs.Lines.{request_in}
-use Rattle.mml_codec.specs.Replies.{reply_line}
 use Rattle.mml_hall.specs.Turns.{State, Outcome, Turn, Run, RequestLine, nothing, plain_turn, known_on, with_known, settled, answer_to, opening}
 use Rattle.mml_hall.proofs.TurnsLemmas.{by_turn}
 use Rattle.mml_hall.specs.Transcripts.{Transcript, output_line, output_lines, bytes_written}
@@ -28,11 +26,12 @@ use Rattle.mml_hidden.specs.Twins.{AreTwins, StatesAlike, is_hers}
 use Rattle.mml_hidden.specs.Scripted.{turn_of, replies_to, end_of, written_to, StayAlike, written_on, IsHersThroughout, OnlySheGreets, OnlySheIsKnown}
 use Rattle.mml_hidden.specs.Scripted.{AreUnhindered}
 use Rattle.mml_hidden.proofs.TwinsLemmas.{twin_turn, twin_line, twin_next, twin_halted, entered_is}
+use Rattle.std.proofs.lemmas.Bool.Decides.{nat_tests}
+use Rattle.std.proofs.Common.{arith}
 
 -- what is written only where a test holds is the same where it is the same under the test
 pub if_same : (b : Bool) (x y : List (List ℕ)) → (b ≡ true → x ≡ y) → cond b x [] ≡ cond b y []
-if_same true x y h = h refl
-if_same false x y h = refl
+if_same b x y h = grind (arith, nat_tests)
 
 module _ (lab other : LabValue) (t : AreTwins lab other) (s : ℕ) where
   same_output : (st su : State) → StatesAlike lab s st su → (line : RequestLine) → is_hers s (known_on st line.connection) ≡ true
@@ -81,10 +80,7 @@ module _ (lab other : LabValue) (t : AreTwins lab other) (s : ℕ) where
 -- ---- where she alone is known
 
 none_known : (xs : List (Option Who)) (s i : ℕ) → All (λ known. is_hers s known ≡ true) xs → is_hers s (slice_index_or xs i None) ≡ true
-none_known xs s i all = elim (cases_lt i (length xs)) [
-  | inl lt ↦ All-get_or (λ (known : Option Who). is_hers s known ≡ true) xs i None lt all
-  | inr ge ↦ ap (is_hers s) (get_or_past xs i None ge)
-]
+none_known xs s i all = grind (arith, nat_tests, cases_lt, get_or_past)
 
 module _ (lab : LabValue) (s : ℕ) where
   hers_known : (st : State) (k : ℕ) → OnlySheIsKnown s st → is_hers s (known_on st k) ≡ true
@@ -95,25 +91,17 @@ module _ (lab : LabValue) (s : ℕ) where
 
   hers_admitted : (st : State) (k : ℕ) (found : Option Who) → OnlySheIsKnown s st → is_hers s found ≡ true
       → OnlySheIsKnown s (settled lab st k (admitted found)).state
-  hers_admitted st k None all h = hers_with st k None all refl
-  hers_admitted st k (Some x) all h = hers_with st k (Some x) all h
+  hers_admitted st k found all h = grind (arith, nat_tests, hers_with)
 
   hers_greeted : (st : State) (k : ℕ) (known : Option Who) (q : Request) → OnlySheIsKnown s st → is_hers s known ≡ true
       → ((name key : List ℕ) → q ≡ requests.Hello name key → is_hers s (principal lab.roster name key) ≡ true)
       → OnlySheIsKnown s (settled lab st k (greeting lab.roster known q)).state
-  hers_greeted st k None (requests.Hello name key) all h greets = hers_admitted st k (principal lab.roster name key) all (greets name key refl)
-  hers_greeted st k (Some x) (requests.Hello name key) all h greets = hers_with st k (Some x) all h
-  hers_greeted st k None requests.Bye all h greets = hers_with st k None all refl
-  hers_greeted st k (Some x) requests.Bye all h greets = hers_with st k None all refl
-  hers_greeted st k None (requests.Do c) all h greets = hers_with st k None all refl
-  hers_greeted st k (Some x) (requests.Do c) all h greets =
-      subst (λ (xs : List (Option Who)). All (λ known. is_hers s known ≡ true) xs) (sym (entered_is st _).1) all
+  hers_greeted st k known q all h greets = grind (arith, nat_tests, hers_admitted, hers_with, entered_is)
 
   hers_answer : (st : State) (k : ℕ) (asked : Result Request LineFault) → OnlySheIsKnown s st
       → ((name key : List ℕ) → asked ≡ Ok (requests.Hello name key) → is_hers s (principal lab.roster name key) ≡ true)
       → OnlySheIsKnown s (answer_to lab st k asked).state
-  hers_answer st k (Err fault) all greets = all
-  hers_answer st k (Ok q) all greets = hers_greeted st k (known_on st k) q all (hers_known st k all) (λ name key e. greets name key (ap Ok e))
+  hers_answer st k asked all greets = grind (arith, nat_tests, hers_greeted, hers_known)
 
   pub hers_plain : (st : State) (k : ℕ) (line : List ℕ) → OnlySheIsKnown s st
       → ((name key : List ℕ) → request_in line ≡ Ok (requests.Hello name key) → is_hers s (principal lab.roster name key) ≡ true)
@@ -135,15 +123,11 @@ module _ (lab other : LabValue) (t : AreTwins lab other) (s : ℕ) where
   same_outputs : (lines : List RequestLine) (rs : List Reply) → output_lines lab lines rs ≡ output_lines other lines rs
   same_outputs [] rs = refl
   same_outputs (line ∷ lines) [] = refl
-  same_outputs (line ∷ lines) (r ∷ rs) =
-      let rest = same_outputs lines rs in
-      λ z. (decimal line.connection ++ 32 ∷ reply_line (t.ids z) (t.roster z) r) ∷ rest z
+  same_outputs (line ∷ lines) (r ∷ rs) = grind (arith, nat_tests, (same_outputs lines rs))
 
   pub same_bytes : (st su : State) (lines : List RequestLine) → StatesAlike lab s st su → OnlySheIsKnown s st → OnlySheGreets lab s lines
       → concat (output_lines lab lines (replies_to lab st lines)) ≡ concat (output_lines other lines (replies_to other su lines))
-  same_bytes st su lines a all greets =
-      ap (λ (rs : List Reply). concat (output_lines lab lines rs)) (same_replies st su lines a all greets)
-      ∙ ap concat (same_outputs lines (replies_to other su lines))
+  same_bytes st su lines a all greets = grind (arith, nat_tests, same_replies, same_outputs)
 
 -- ---- at the beginning
 
@@ -151,13 +135,7 @@ module _ (lab other : LabValue) (t : AreTwins lab other) (s : ℕ) where
 pub openings_alike : (lab other : LabValue) (s : ℕ) → AreTwins lab other → IsLab lab → IsLab other
     → Alike lab.roster s (opening_of lab.network) (opening_of other.network)
     → StatesAlike lab s (opening lab) (opening other)
-openings_alike lab other s t is other_is a = record {
-  first = (reached_first lab is).world;
-  second = subst (λ (ids : List ℕ). IsWorldOf ids (opening_of other.network)) (sym t.ids) (reached_first other other_is).world;
-  worlds = a;
-  greeted = ap (λ (n : ℕ). replicate n None) t.sessions;
-  halted = refl;
-}
+openings_alike lab other s t is other_is a = grind (arith, nat_tests, reached_first)
 
 -- at the beginning nobody but the student is known, since nobody is
 pub opening_hers : (lab : LabValue) (s : ℕ) → OnlySheIsKnown s (opening lab)
@@ -168,9 +146,7 @@ opening_hers lab s = All-replicate (λ (known : Option Who). is_hers s known ≡
 plain_there : (lab : LabValue) (st : State) (k : ℕ) (line : List ℕ) (out : Outcome) → Turn lab st k line out → out.reply ≢ Refuse refused.Memory
     → out.reply ≢ Refuse refused.Journal
     → out ≡ plain_turn lab st k line
-plain_there lab st k line =
-    by_turn lab st k line (λ out. out.reply ≢ Refuse refused.Memory → out.reply ≢ Refuse refused.Journal → out ≡ plain_turn lab st k line)
-    (λ memory journal. refl) (λ memory journal. absurd (memory refl)) (λ memory journal. absurd (journal refl))
+plain_there lab st k line = grind (arith, nat_tests, by_turn)
 
 -- a run that nothing hindered has the replies and the end of its plain turns
 pub plain_run : (lab : LabValue) (st : State) (lines : List RequestLine) (rs : List Reply) (end : State) → Run lab st lines rs end → AreUnhindered rs
@@ -178,12 +154,7 @@ pub plain_run : (lab : LabValue) (st : State) (lines : List RequestLine) (rs : L
 plain_run lab st [] [] end run free = (refl, run)
 plain_run lab st [] (r ∷ rs) end run free = absurd run
 plain_run lab st (line ∷ lines) [] end run free = absurd run
-plain_run lab st (line ∷ lines) (r ∷ rs) end (next, here, run) (now, free) =
-    let plain : record { reply = r; state = next } ≡ turn_of lab st line =
-    plain_there lab st line.connection line.request (record { reply = r; state = next }) here now.0 now.1 in
-    let state : next ≡ (turn_of lab st line).state = ap (λ (o : Outcome). o.state) plain in
-    let rest = plain_run lab next lines rs end run free in
-    ((λ z. (plain z).reply ∷ (rest.0 ∙ ap (λ (x : State). replies_to lab x lines) state) z), rest.1 ∙ ap (λ (x : State). end_of lab x lines) state)
+plain_run lab st (line ∷ lines) (r ∷ rs) end (next, here, run) (now, free) = grind (arith, nat_tests, plain_there, (plain_run lab next lines rs end run free))
 
 -- where only the student greets, the same lines are answered by the same bytes in both labs
 pub same_transcripts : (lab other : LabValue) (s : ℕ) (t : Transcript lab) (u : Transcript other) → AreTwins lab other → IsLab lab → IsLab other

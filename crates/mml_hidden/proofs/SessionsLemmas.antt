@@ -6,21 +6,18 @@ use Rattle.std.proofs.lemmas.Bool.{false≢true, eqb-true}
 use Rattle.mml_lab.specs.declared.who.Who.{Who}
 use Rattle.mml_lab.specs.declared.who.Who.TheVariants as who
 use Rattle.mml_lab.specs.Labs.{LabValue, IsLab}
-use Rattle.mml_lab.specs.Rosters.{RosterValue, principal}
-use Rattle.mml_board.specs.declared.done.Done.TheVariants as done
+use Rattle.mml_lab.specs.Rosters.{principal}
 use Rattle.mml_board.specs.declared.event.Event.{Event}
 use Rattle.mml_board.specs.World.{World}
 use Rattle.mml_policy.specs.declared.command.Command.{Command}
 use Rattle.mml_policy.specs.declared.refusal.Refusal.{Refusal}
 use Rattle.mml_policy.specs.declared.ruling.Ruling.{Ruling}
-use Rattle.mml_policy.specs.declared.ruling.Ruling.TheVariants.{Looked, Reported, Journal, Granted}
-use Rattle.mml_policy.specs.Rulings.{event_of, after_ruling}
+use Rattle.mml_policy.specs.Rulings.{event_of}
 use Rattle.mml_policy.specs.Alike.{Alike, IsWorldOf}
 use Rattle.mml_codec.specs.declared.request.LineFault.{LineFault}
 use Rattle.mml_codec.specs.declared.request.Request.{Request}
 use Rattle.mml_codec.specs.declared.request.Request.TheVariants as requests
 use Rattle.mml_codec.specs.declared.reply.Refused.{Refused}
-use Rattle.mml_codec.specs.declared.reply.Refused.TheVariants as refused
 use Rattle.mml_codec.specs.declared.reply.Reply.{Reply}
 use Rattle.mml_codec.specs.declared.reply.Reply.TheVariants as reply
 use Rattle.mml_codec.specs.Greetings.{greeting, admitted}
@@ -37,6 +34,7 @@ use Rattle.mml_hidden.specs.CommandReplies.{reply_to}
 use Rattle.mml_hidden.specs.Twins.{AreTwins, is_hers}
 use Rattle.mml_hidden.specs.Sessions.{seen_at, IsUnhindered, IsToldAlike, AreToldAlike}
 use Rattle.mml_hidden.proofs.ToldLemmas.{same_reply_to}
+use Rattle.std.proofs.lemmas.Bool.Decides.{nat_tests}
 
 -- ---- the list at which a reply was given
 
@@ -50,17 +48,11 @@ but_last l e =
 
 seen_plainly : (w : World) (l : List Event) (g : Ruling)
     → take (length (entered l (event_of g)) - length (places_in (reply_of w g))) (entered l (event_of g)) ≡ l
-seen_plainly w l (Granted e (done.Move node kind)) = but_last l e
-seen_plainly w l (Granted e _) = but_last l e
-seen_plainly w l _ = all_of l (length l - 0) (omega arith)
+seen_plainly w l g = grind (arith, nat_tests, but_last, all_of)
 
 -- a refusal in the place of a ruling tells what hindered it
 hindered : (g : Ruling) (why : Refused) (kept : Option Refusal) → MayRefuse g why kept → IsUnhindered (reply.Refuse why) → ⊥
-hindered (Looked l) refused.Memory kept may free = free.0 refl
-hindered Reported refused.Memory kept may free = free.0 refl
-hindered (Granted e d) refused.Memory kept may free = free.0 refl
-hindered (Granted e d) refused.Journal kept may free = free.1 refl
-hindered g why kept may free = absurd may
+hindered g why kept may free = grind (arith, nat_tests)
 
 -- the reply is that of the ruling, at the list
 record IsPlain (lab : LabValue) (x : Who) (c : Command) (r : Reply) (new : WindowValue) : Type 0 where
@@ -69,14 +61,7 @@ record IsPlain (lab : LabValue) (x : Who) (c : Command) (r : Reply) (new : Windo
 
 plain_from : (lab : LabValue) (ps : List ℕ) (l : List Event) (x : Who) (c : Command) (r : Reply) (new : WindowValue) → is_legal_in lab l ≡ true
     → Plainly lab l ps (ruling_at lab (world_in lab l) x c) r new → IsPlain lab x c r new
-plain_from lab ps l x c r new legal h =
-    let g = ruling_at lab (world_in lab l) x c in
-    let there : seen_at r new ≡ l =
-    (λ z. take (length (h.1.0 z) - length (places_in (h.0 z))) (h.1.0 z)) ∙ seen_plainly (after_ruling (world_in lab l) g) l g in
-    record {
-      legal = ap (is_legal_in lab) there ∙ legal;
-      says = h.0 ∙ ap (λ l. reply_to lab.ids lab.roster lab.events false (world_in lab l) x c) (sym there);
-    }
+plain_from lab ps l x c r new legal h = grind (arith, nat_tests, seen_plainly)
 
 plain_told : (lab : LabValue) (old new : WindowValue) (x : Who) (c : Command) (r : Reply) → IsUnhindered r → Told lab old x c r new → IsPlain lab x c r new
 plain_told lab old new x c r free t = elim t.says [
@@ -103,8 +88,7 @@ module _ (lab other : LabValue) (is : IsLab lab) (too : IsLab other) (t : AreTwi
       ∙ sym k.says
 
   she_is : (x : Who) → is_hers s (Some x) ≡ true → x ≡ who.Student s
-  she_is who.Teacher h = absurd (false≢true h)
-  she_is (who.Student j) h = ap who.Student (eqb-true j s h)
+  she_is x h = grind (arith, nat_tests, false≢true, eqb-true)
 
   -- the same reply, and the same one is known
   abbrev IsSame : Reply → Reply → Standing → Standing → Type 0
@@ -135,10 +119,7 @@ module _ (lab other : LabValue) (is : IsLab lab) (too : IsLab other) (t : AreTwi
         → IsToldAlike lab other s known r q next.window last.window
         → Asked lab st asked r next → Asked other su asked q last → IsSame r q next last
     asked_both known (Err fault) e f a h k = (h.0 ∙ sym k.0, ap (λ n. n.known) h.1 ∙ e ∙ sym f ∙ sym (ap (λ n. n.known) k.1))
-    asked_both known (Ok asked) e f a h k = settled_both known asked e f a
-        (subst (λ x. Settles lab st (greeting lab.roster x asked) r next) e h)
-        (subst (λ x. Settles other su (greeting lab.roster x asked) q last) f
-        (subst (λ (x : RosterValue). Settles other su (greeting x su.known asked) q last) (sym t.roster) k))
+    asked_both known (Ok asked) e f a h k = grind (arith, nat_tests, settled_both)
 
     turn_both : (line : List ℕ) → st.known ≡ su.known → IsToldAlike lab other s st.known r q next.window last.window → Turn lab st line r next
         → Turn other su line q last → IsSame r q next last

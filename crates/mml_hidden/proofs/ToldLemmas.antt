@@ -1,33 +1,28 @@
 -- A student is told the same in worlds that are alike.
-use Rattle.std.proofs.Common.{◌≡◌, ℕ, Bool, true, false, cond, nat_le, is_none, ◌==◌, List, Result, Ok, refl, sym, ap, ◌∙◌}
+use Rattle.std.proofs.Common.{◌≡◌, ℕ, Bool, true, false, cond, List, Result, ap, arith}
 use Rattle.std.proofs.lemmas.Bool.{false≢true}
 use Rattle.std.specs.Result.{IfOk}
 use Rattle.mml_ids.proofs.GivesLemmas.{bind-if, need-if}
-use Rattle.mml_rules.specs.Rules.{guard}
 use Rattle.mml_lab.specs.declared.who.Who.TheVariants as who
-use Rattle.mml_lab.specs.Rosters.{RosterValue, owns}
+use Rattle.mml_lab.specs.Rosters.{RosterValue}
 use Rattle.mml_board.specs.declared.event.Event.{Event}
-use Rattle.mml_board.specs.World.{World, configuration, chosen_at}
+use Rattle.mml_board.specs.World.{World}
 use Rattle.mml_board.specs.declared.done.Done.{Done}
-use Rattle.mml_board.specs.Events.{done_by}
 use Rattle.mml_policy.specs.declared.command.Command.{Command}
-use Rattle.mml_policy.specs.declared.command.Command.TheVariants as command
 use Rattle.mml_policy.specs.declared.denial.Denial.{Denial}
-use Rattle.mml_policy.specs.declared.denial.Denial.TheVariants.{Hidden, NotOwner, Guard}
 use Rattle.mml_policy.specs.declared.ruling.Ruling.{Ruling}
 use Rattle.mml_policy.specs.declared.ruling.Ruling.TheVariants.{Reported, Full, Journal, Granted}
 use Rattle.mml_policy.specs.declared.verdict.Leave.{Leave}
-use Rattle.mml_policy.specs.declared.verdict.Leave.TheVariants.{See, Look, Report, Grant}
-use Rattle.mml_policy.specs.Visible.{is_visible}
-use Rattle.mml_policy.specs.Clauses.{node, rule_of}
+use Rattle.mml_policy.specs.declared.verdict.Leave.TheVariants.{Report}
 use Rattle.mml_policy.specs.Verdicts.{clauses}
 use Rattle.mml_policy.specs.Rulings.{ruled, ruling}
 use Rattle.mml_policy.specs.Alike.{Alike, IsWorldOf}
 use Rattle.mml_policy.proofs.AlikeLemmas.{same_ruling, alike_afterwards}
 use Rattle.mml_codec.specs.declared.reply.Reply.{Reply}
 use Rattle.mml_codec.specs.Replies.{reply_line}
-use Rattle.mml_codec.specs.Rulings.{reply_of, reply_of_done}
-use Rattle.mml_hidden.specs.CommandReplies.{world_left, reply_to, line_to}
+use Rattle.mml_codec.specs.Rulings.{reply_of}
+use Rattle.mml_hidden.specs.CommandReplies.{reply_to, line_to}
+use Rattle.std.proofs.lemmas.Bool.Decides.{nat_tests}
 
 -- ---- a student is told no report
 
@@ -36,34 +31,17 @@ NoReport Report = ⊥
 NoReport _ = Unit {0}
 
 no_report : (ids : List ℕ) (r : RosterValue) (w : World) (s : ℕ) (k : Command) → IfOk (clauses ids r w (who.Student s) k) NoReport
-no_report ids r w s (command.See id) =
-    bind-if NoReport (node ids id Hidden) _ (λ i _.
-    need-if NoReport (is_visible r (configuration w) (who.Student s) i) _ _ (λ _. tt))
-no_report ids r w s (command.Look id) =
-    bind-if NoReport (node ids id NotOwner) _ (λ i _.
-    need-if NoReport (owns r (who.Student s) i) _ _ (λ _. tt))
-no_report ids r w s (command.Move id q at) =
-    bind-if NoReport (node ids id NotOwner) _ (λ i _.
-    need-if NoReport (owns r (who.Student s) i) _ _ (λ _.
-    need-if NoReport (at == w.number) _ _ (λ _.
-    need-if NoReport (is_none (chosen_at w.chosen i)) _ _ (λ _.
-    bind-if NoReport (rule_of ids q Guard) _ (λ rule _.
-    need-if NoReport (guard (configuration w) i rule) _ _ (λ _. tt))))))
-no_report ids r w s _ = tt
+no_report ids r w s k = grind (arith, nat_tests, bind-if, need-if)
 
 abbrev is_report : Ruling → Bool
 is_report Reported = true
 is_report _ = false
 
 unless_full : (b h : Bool) (e : Event) (d : Done) → is_report (cond b Full (cond h Journal (Granted e d))) ≡ false
-unless_full true h e d = refl
-unless_full false true e d = refl
-unless_full false false e d = refl
+unless_full b h e d = grind (arith, nat_tests)
 
 unreported : (limit : ℕ) (h : Bool) (w : World) (p : Result Leave Denial) → IfOk p NoReport → is_report (ruled limit h w p) ≡ false
-unreported limit h w (Ok Report) n = absurd n
-unreported limit h w (Ok (Grant e)) n = unless_full (nat_le limit w.place) h e (done_by w e)
-unreported limit h w _ n = refl
+unreported limit h w p n = grind (arith, nat_tests, unless_full)
 
 -- no command of a student is ruled to be a report
 student_unreported : (ids : List ℕ) (r : RosterValue) (limit : ℕ) (h : Bool) (w : World) (s : ℕ) (k : Command)
@@ -74,20 +52,13 @@ student_unreported ids r limit h w s k = unreported limit h w (clauses ids r w (
 
 -- a ruling other than a report has the same reply in worlds of the same number and place
 same_reply_of : (w v : World) (g : Ruling) → is_report g ≡ false → w.number ≡ v.number → w.place ≡ v.place → reply_of w g ≡ reply_of v g
-same_reply_of w v Reported h number place = absurd (false≢true (sym h))
-same_reply_of w v (Granted e d) h number place = λ k. reply_of_done (number k) (place k) d
-same_reply_of w v _ h number place = refl
+same_reply_of w v g h number place = grind (arith, nat_tests, false≢true)
 
 -- in worlds that are alike for a student, each command of the student has the same reply
 pub same_reply_to : (ids : List ℕ) (r : RosterValue) (limit : ℕ) (h : Bool) (w v : World) (s : ℕ) (k : Command) → IsWorldOf ids w
     → IsWorldOf ids v → Alike r s w v
     → reply_to ids r limit h w (who.Student s) k ≡ reply_to ids r limit h v (who.Student s) k
-same_reply_to ids r limit h w v s k in_w in_v a =
-    let after : Alike r s (world_left ids r limit h w (who.Student s) k) (world_left ids r limit h v (who.Student s) k) =
-    alike_afterwards ids r limit h w v s k in_w in_v a in
-    same_reply_of (world_left ids r limit h w (who.Student s) k) (world_left ids r limit h v (who.Student s) k) (ruling ids r limit h w (who.Student s) k)
-    (student_unreported ids r limit h w s k) after.number after.place
-    ∙ ap (λ (g : Ruling). reply_of (world_left ids r limit h v (who.Student s) k) g) (same_ruling ids r limit h w v s k in_w in_v a)
+same_reply_to ids r limit h w v s k in_w in_v a = grind (arith, nat_tests, alike_afterwards, same_reply_of, student_unreported, same_ruling)
 
 -- and the same line in answer
 pub same_line_to : (ids : List ℕ) (r : RosterValue) (limit : ℕ) (h : Bool) (w v : World) (s : ℕ) (k : Command) → IsWorldOf ids w

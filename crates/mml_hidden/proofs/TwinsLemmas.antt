@@ -1,11 +1,10 @@
 -- The turn of a line in two states that are alike for a student.
-use Rattle.std.proofs.Common.{◌≡◌, ◌⊎◌, ℕ, Bool, true, false, cond, List, Option, None, Some, Result, Ok, Err, refl, sym, ap, ◌∙◌, subst, inl, inr}
+use Rattle.std.proofs.Common.{◌≡◌, ◌⊎◌, ℕ, Bool, true, false, cond, List, Option, Result, refl, sym, ap, ◌∙◌, subst, inl, inr, arith}
 use Rattle.std.proofs.lemmas.Bool.{false≢true, eqb-true}
 use Rattle.std.specs.Option.{option_map_or}
 use Rattle.mml_lab.specs.declared.who.Who.{Who}
 use Rattle.mml_lab.specs.declared.who.Who.TheVariants as who
 use Rattle.mml_lab.specs.Labs.{LabValue}
-use Rattle.mml_lab.specs.Rosters.{principal}
 use Rattle.mml_rules.specs.Network.{Network}
 use Rattle.mml_board.specs.declared.event.Event.{Event}
 use Rattle.mml_board.specs.World.{World}
@@ -13,32 +12,30 @@ use Rattle.mml_board.specs.Events.{after}
 use Rattle.mml_board.proofs.WorldLemmas.{after-world, size-after}
 use Rattle.mml_board.proofs.RunsLemmas.{legal-possible}
 use Rattle.mml_policy.specs.declared.command.Command.{Command}
-use Rattle.mml_policy.specs.Rulings.{ruling, event_of, after_ruling}
+use Rattle.mml_policy.specs.Rulings.{ruling, event_of}
 use Rattle.mml_policy.specs.Alike.{Alike, IsWorldOf}
 use Rattle.mml_policy.proofs.AlikeLemmas.{alike_afterwards}
 use Rattle.mml_policy.proofs.RulingsLemmas.{legal_event}
 use Rattle.mml_codec.specs.declared.request.LineFault.{LineFault}
 use Rattle.mml_codec.specs.declared.request.Request.{Request}
-use Rattle.mml_codec.specs.declared.request.Request.TheVariants as requests
 use Rattle.mml_codec.specs.declared.reply.Reply.{Reply}
 use Rattle.mml_codec.specs.declared.greeting.Greeting.TheVariants.{Answered}
 use Rattle.mml_codec.specs.Greetings.{greeting, admitted}
 use Rattle.mml_codec.specs.Lines.{request_in}
 use Rattle.mml_codec.specs.Replies.{reply_line}
-use Rattle.mml_codec.specs.Rulings.{reply_of}
 use Rattle.mml_hall.specs.Turns.{State, Outcome, Mishap, nothing, while_read, later, sink_failed, turn, known_on, entered, told, settled, answer_to}
 use Rattle.mml_hall.specs.Turns.{plain_turn, takes_memory, without_memory, is_grant, halting}
 use Rattle.mml_hall.proofs.TurnsLemmas.{plain_does, whatever_befell, either_of}
 use Rattle.mml_hidden.specs.Twins.{AreTwins, StatesAlike, is_hers}
 use Rattle.mml_hidden.proofs.ToldLemmas.{same_reply_to}
+use Rattle.std.proofs.lemmas.Bool.Decides.{nat_tests}
 
 -- ---- what comes of a turn, in one lab
 
 -- an event that takes place, or none, leaves who is known, and whether the journal is halted
 pub entered_is : (st : State) (o : Option Event)
     → ((entered st o).world ≡ option_map_or (after st.world) o st.world) × ((entered st o).greeted ≡ st.greeted) × ((entered st o).halted ≡ st.halted)
-entered_is st None = (refl, refl, refl)
-entered_is st (Some e) = (refl, refl, refl)
+entered_is st o = grind (arith, nat_tests)
 
 module _ (lab : LabValue) (st : State) (k : ℕ) (line : List ℕ) where
   plain_world : IsWorldOf lab.ids st.world → IsWorldOf lab.ids (plain_turn lab st k line).state.world
@@ -57,11 +54,7 @@ module _ (lab : LabValue) (st : State) (k : ℕ) (line : List ℕ) where
   turn_world is m = whatever_befell lab st k line (λ out. IsWorldOf lab.ids out.state.world) (plain_world is) is is m
 
   plain_halted : (plain_turn lab st k line).state.halted ≡ st.halted
-  plain_halted = elim (plain_does lab st k line) [
-    | inl idle ↦ ap (λ (after : State). after.halted) idle.state
-    | inr (inl greets) ↦ ap (λ (after : State). after.halted) greets.state
-    | inr (inr grants) ↦ ap (λ (after : State). after.halted) grants.state
-  ]
+  plain_halted = grind (arith, nat_tests, plain_does)
 
 -- ---- two states that differ in their worlds and events alone
 
@@ -72,10 +65,7 @@ pub record TurnsAlike (lab : LabValue) (s : ℕ) (one two : Outcome) : Type 0 wh
   pub halted : one.state.halted ≡ two.state.halted
 
 either_both : (P : Outcome → Outcome → Type 0) (b c : Bool) (p q one two : Outcome) → b ≡ c → P p q → P one two → P (cond b p one) (cond c q two)
-either_both P true true p q one two e x y = x
-either_both P false false p q one two e x y = y
-either_both P true false p q one two e x y = absurd (false≢true (sym e))
-either_both P false true p q one two e x y = absurd (false≢true e)
+either_both P b c p q one two e x y = grind (arith, nat_tests, false≢true)
 
 module _ (lab : LabValue) (s : ℕ) (st : State) (v : World) (es : List Event) (first : IsWorldOf lab.ids st.world) (second : IsWorldOf lab.ids v)
     (a : Alike lab.roster s st.world v) where
@@ -90,44 +80,22 @@ module _ (lab : LabValue) (s : ℕ) (st : State) (v : World) (es : List Event) (
   told_su x c = told su (ruling lab.ids lab.roster lab.events st.halted v x c)
 
   told_alike : (c : Command) → TurnsAlike lab s (told_st (who.Student s) c) (told_su (who.Student s) c)
-  told_alike c =
-      let g = ruling lab.ids lab.roster lab.events st.halted st.world (who.Student s) c in
-      let h = ruling lab.ids lab.roster lab.events st.halted v (who.Student s) c in
-      let left = entered_is st (event_of g) in
-      let right = entered_is su (event_of h) in
-      record {
-        reply = ap (λ (w : World). reply_of w g) left.0 ∙ same_reply_to lab.ids lab.roster lab.events st.halted st.world v s c first second a
-            ∙ sym (ap (λ (w : World). reply_of w h) right.0);
-        worlds = subst (λ (w : World). Alike lab.roster s w (told_su (who.Student s) c).state.world) (sym left.0)
-            (subst (λ (w : World). Alike lab.roster s (after_ruling st.world g) w) (sym right.0)
-            (alike_afterwards lab.ids lab.roster lab.events st.halted st.world v s c first second a));
-        greeted = left.1 ∙ sym right.1;
-        halted = left.2 ∙ sym right.2;
-      }
+  told_alike c = grind (arith, nat_tests, entered_is, same_reply_to, alike_afterwards)
 
   -- a greeting, a bye, or what is asked before a greeting
   answered_alike : (k : ℕ) (r : Reply) (x : Option Who) → TurnsAlike lab s (settled lab st k (Answered r x)) (settled lab su k (Answered r x))
   answered_alike k r x = record { reply = refl; worlds = a; greeted = refl; halted = refl }
 
   admitted_alike : (k : ℕ) (found : Option Who) → TurnsAlike lab s (settled lab st k (admitted found)) (settled lab su k (admitted found))
-  admitted_alike k None = answered_alike k _ _
-  admitted_alike k (Some x) = answered_alike k _ _
+  admitted_alike k found = grind (arith, nat_tests, answered_alike)
 
   greeted_alike : (k : ℕ) (known : Option Who) (q : Request) → is_hers s known ≡ true
       → TurnsAlike lab s (settled lab st k (greeting lab.roster known q)) (settled lab su k (greeting lab.roster known q))
-  greeted_alike k None (requests.Hello name key) h = admitted_alike k (principal lab.roster name key)
-  greeted_alike k (Some x) (requests.Hello name key) h = answered_alike k _ _
-  greeted_alike k None requests.Bye h = answered_alike k _ _
-  greeted_alike k (Some x) requests.Bye h = answered_alike k _ _
-  greeted_alike k None (requests.Do c) h = answered_alike k _ _
-  greeted_alike k (Some who.Teacher) (requests.Do c) h = absurd (false≢true h)
-  greeted_alike k (Some (who.Student t)) (requests.Do c) h =
-      subst (λ (t : ℕ). TurnsAlike lab s (told_st (who.Student t) c) (told_su (who.Student t) c)) (sym (eqb-true t s h)) (told_alike c)
+  greeted_alike k known q h = grind (arith, nat_tests, admitted_alike, answered_alike, false≢true, eqb-true, told_alike)
 
   answer_alike : (k : ℕ) (asked : Result Request LineFault) → is_hers s (known_on st k) ≡ true
       → TurnsAlike lab s (answer_to lab st k asked) (answer_to lab su k asked)
-  answer_alike k (Err fault) h = record { reply = refl; worlds = a; greeted = refl; halted = refl }
-  answer_alike k (Ok q) h = greeted_alike k (known_on st k) q h
+  answer_alike k asked h = grind (arith, nat_tests, greeted_alike)
 
   plain_alike : (k : ℕ) (line : List ℕ) → is_hers s (known_on st k) ≡ true → TurnsAlike lab s (plain_turn lab st k line) (plain_turn lab su k line)
   unfolding plain_turn
@@ -138,14 +106,8 @@ module _ (lab : LabValue) (s : ℕ) (st : State) (v : World) (es : List Event) (
       → TurnsAlike lab s (turn mishap lab st k line) (turn mishap lab su k line)
   turn_alike nothing k line h = plain_alike k line h
   turn_alike while_read k line h = record { reply = refl; worlds = a; greeted = refl; halted = refl }
-  turn_alike later k line h =
-      let plain : TurnsAlike lab s (plain_turn lab st k line) (plain_turn lab su k line) = plain_alike k line h in
-      either_both (TurnsAlike lab s) _ _ (without_memory st) (without_memory su) _ _ (ap takes_memory plain.reply)
-      (record { reply = refl; worlds = a; greeted = refl; halted = refl }) plain
-  turn_alike sink_failed k line h =
-      let plain : TurnsAlike lab s (plain_turn lab st k line) (plain_turn lab su k line) = plain_alike k line h in
-      either_both (TurnsAlike lab s) _ _ (halting st) (halting su) _ _ (ap is_grant plain.reply)
-      (record { reply = refl; worlds = a; greeted = refl; halted = refl }) plain
+  turn_alike later k line h = grind (arith, nat_tests, plain_alike, either_both)
+  turn_alike sink_failed k line h = grind (arith, nat_tests, plain_alike, either_both)
 
   -- a line of another: the replies are the same, and so is who is known afterwards, or nobody else is known than before
   abbrev KnownAlike : Outcome → Outcome → Type 0
@@ -154,14 +116,10 @@ module _ (lab : LabValue) (s : ℕ) (st : State) (v : World) (es : List Event) (
 
   settled_known : (k : ℕ) (known : Option Who) (q : Request)
       → KnownAlike (settled lab st k (greeting lab.roster known q)) (settled lab su k (greeting lab.roster known q))
-  settled_known k None q = let t = greeted_alike k None q refl in inl (t.reply, t.greeted)
-  settled_known k (Some x) (requests.Hello name key) = inl (refl, refl)
-  settled_known k (Some x) requests.Bye = inl (refl, refl)
-  settled_known k (Some x) (requests.Do c) = inr ((entered_is st _).1, (entered_is su _).1)
+  settled_known k known q = grind (arith, nat_tests, greeted_alike, entered_is)
 
   answer_known : (k : ℕ) (asked : Result Request LineFault) → KnownAlike (answer_to lab st k asked) (answer_to lab su k asked)
-  answer_known k (Err fault) = inl (refl, refl)
-  answer_known k (Ok q) = settled_known k (known_on st k) q
+  answer_known k asked = grind (arith, nat_tests, settled_known)
 
   plain_known : (k : ℕ) (line : List ℕ) → KnownAlike (plain_turn lab st k line) (plain_turn lab su k line)
   unfolding plain_turn
@@ -169,16 +127,10 @@ module _ (lab : LabValue) (s : ℕ) (st : State) (v : World) (es : List Event) (
 
   either_known : (f : Reply → Bool) (p q one two : Outcome) → p.state.greeted ≡ st.greeted → q.state.greeted ≡ st.greeted → KnownAlike one two
       → (cond (f one.reply) p one).state.greeted ≡ (cond (f two.reply) q two).state.greeted
-  either_known f p q one two x y (inl (e, h)) =
-      either_both (λ o u. o.state.greeted ≡ u.state.greeted) (f one.reply) (f two.reply) p q one two (ap f e) (x ∙ sym y) h
-  either_known f p q one two x y (inr (e, h)) =
-      either_of (λ o. o.state.greeted ≡ st.greeted) (f one.reply) p one x e ∙ sym (either_of (λ o. o.state.greeted ≡ st.greeted) (f two.reply) q two y h)
+  either_known f p q one two x y alike = grind (arith, nat_tests, either_both, either_of)
 
   turn_known : (m : Mishap) (k : ℕ) (line : List ℕ) → (turn m lab st k line).state.greeted ≡ (turn m lab su k line).state.greeted
-  turn_known nothing k line = elim (plain_known k line) [
-    | inl same ↦ same.1
-    | inr none ↦ none.0 ∙ sym none.1
-  ]
+  turn_known nothing k line = grind (arith, nat_tests, plain_known)
   turn_known while_read k line = refl
   turn_known later k line = either_known takes_memory (without_memory st) (without_memory su) _ _ refl refl (plain_known k line)
   turn_known sink_failed k line = either_known is_grant (halting st) (halting su) _ _ refl refl (plain_known k line)
@@ -201,14 +153,10 @@ module _ (lab other : LabValue) (t : AreTwins lab other) (s : ℕ) (st su : Stat
   su_here = record { world = su.world; events = su.events; greeted = st.greeted; halted = st.halted }
 
   same_turn : turn m lab su_here k line ≡ turn m other su k line
-  same_turn = net_turn lab other.network m su_here k line ∙ (λ z. turn m
-      (record { ids = t.ids z; roster = t.roster z; network = other.network; events = t.events z; sessions = t.sessions z })
-      (record { world = su.world; events = su.events; greeted = a.greeted z; halted = a.halted z }) k line)
+  same_turn = grind (arith, nat_tests, net_turn)
 
   alike_here : is_hers s (known_on st k) ≡ true → TurnsAlike lab s (turn m lab st k line) (turn m other su k line)
-  alike_here h =
-      subst (λ (o : Outcome). TurnsAlike lab s (turn m lab st k line) o) same_turn
-      (turn_alike lab s st su.world su.events a.first a.second a.worlds m k line h)
+  alike_here h = grind (arith, nat_tests, same_turn, turn_alike)
 
   -- a line of another leaves the states alike where it leaves the worlds so, and both halted or neither
   pub twin_others : Alike lab.roster s (turn m lab st k line).state.world (turn m other su k line).state.world
@@ -234,11 +182,7 @@ module _ (lab other : LabValue) (t : AreTwins lab other) (s : ℕ) (st su : Stat
   pub twin_next : (is_hers s (known_on st k) ≡ false → Alike lab.roster s (turn m lab st k line).state.world (turn m other su k line).state.world
       × ((turn m lab st k line).state.halted ≡ (turn m other su k line).state.halted))
       → StatesAlike lab s (turn m lab st k line).state (turn m other su k line).state
-  twin_next stay = go (is_hers s (known_on st k)) refl
-    where
-      go : (b : Bool) → is_hers s (known_on st k) ≡ b → StatesAlike lab s (turn m lab st k line).state (turn m other su k line).state
-      go true h = (twin_turn h).1
-      go false h = twin_others (stay h).0 (stay h).1
+  twin_next stay = grind (arith, nat_tests, twin_turn, twin_others)
 
 -- a plain turn halts nothing
 pub twin_halted : (lab other : LabValue) (s : ℕ) (st su : State) (a : StatesAlike lab s st su) (k : ℕ) (line : List ℕ)
