@@ -291,7 +291,7 @@ fn serve_line<W: Write, S: Sink>(
     }
 }
 
-// Answers a script line and lets the reply go out.
+// Answers a script line and lets the reply go out, written where it goes out from, if it is short.
 fn serve<W: Write, S: Sink>(
     alloc: Global,
     hall: &mut Hall<S>,
@@ -314,7 +314,14 @@ fn serve<W: Write, S: Sink>(
 {
     let mut reply = Reply::Bye;
     hall.answer_into(alloc, line.connection, line.request, &mut reply);
-    tell(alloc, hall.lab(), &reply, line.front, out, outgoing, writer)
+    let told = Told {
+        lab: hall.lab(),
+        reply: &reply,
+    };
+    if outgoing.append(line.front, &told) {
+        return Ok(());
+    }
+    tell_apart(alloc, told, line.front, out, outgoing, writer)
 }
 
 // A reply, as what its output line has behind the connection.
@@ -336,46 +343,24 @@ impl LineRest for Told<'_> {
     }
 }
 
-// Lets the line of a reply go out, written where it goes out from, if it is short.
-fn tell<W: Write>(
-    alloc: Global,
-    lab: &Lab,
-    reply: &Reply,
-    front: &[u8],
-    out: &mut Vec<u8>,
-    outgoing: &mut Outgoing,
-    writer: &mut W,
-) -> Result<(), WriteFault>
-    requires room { REPLY_ROOM ≤ vec_capacity out.old }
-    requires about { IsAbout lab.now.ids lab.now.roster reply.now }
-    ensures room { REPLY_ROOM ≤ vec_capacity out.new }
-    ensures tells { Tells result lab.now reply.now front.now outgoing.old outgoing.new
-        (W.contents writer.old) (W.contents writer.new) }
-{
-    if outgoing.append(front, &Told { lab, reply }) {
-        return Ok(());
-    }
-    tell_apart(alloc, lab, reply, front, out, outgoing, writer)
-}
-
-// The same by way of a buffer of its own: a long reply, and one for which those that are held make room.
+// Lets the line of a reply go out by way of a buffer of its own: a long reply, and one for which those that
+// are held make room.
 #[inline(never)]
 fn tell_apart<W: Write>(
     alloc: Global,
-    lab: &Lab,
-    reply: &Reply,
+    told: Told<'_>,
     front: &[u8],
     out: &mut Vec<u8>,
     outgoing: &mut Outgoing,
     writer: &mut W,
 ) -> Result<(), WriteFault>
     requires room { REPLY_ROOM ≤ vec_capacity out.old }
-    requires about { IsAbout lab.now.ids lab.now.roster reply.now }
+    requires about { IsAbout told.lab.now.ids told.lab.now.roster told.reply.now }
     ensures room { REPLY_ROOM ≤ vec_capacity out.new }
-    ensures tells { Tells result lab.now reply.now front.now outgoing.old outgoing.new
+    ensures tells { Tells result told.entry.lab.now told.entry.reply.now front.now outgoing.old outgoing.new
         (W.contents writer.old) (W.contents writer.new) }
 {
-    let _is_whole = put_reply(alloc, lab, reply, out);
+    let _is_whole = put_reply(alloc, told.lab, told.reply, out);
     outgoing.put(front, out, writer)
 }
 

@@ -82,9 +82,3 @@ Knew end.WriteFault who lab old new input left wrote wrote' e = e.2.talk.end.kno
 Knew end.TooLong who lab old new input left wrote wrote' e = e.1.talk.end.known ≡ who
 Knew end.Closed who lab old new input left wrote wrote' e = e.1.talk.end.known ≡ who
 Knew end.Memory who lab old new input left wrote wrote' e = who ≡ None
-
--- the same, and who was known
-abbrev pub EndedKnown : SessionEnd → Option Who → LabValue → WindowValue → WindowValue → Option (List ℕ) → Option (List ℕ) → Option (List ℕ)
-    → Option (List ℕ) → Type 0
-EndedKnown end who lab old new input left wrote wrote' =
-    (e : Ended end lab old new input left wrote wrote') × Knew end who lab old new input left wrote wrote' e

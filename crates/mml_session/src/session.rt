@@ -5,7 +5,7 @@ ghost use Rattle.mml_lines.specs.declared.lines.TheConstants.{READ_SIZE};
 ghost use Rattle.mml_lines.specs.LinesState.{bytes_ahead, fresh};
 ghost use Rattle.mml_lab.specs.Rosters.{IsPrincipal};
 ghost use Rattle.mml_session.specs.Turns.{standing, is_bye, places_in};
-ghost use Rattle.mml_session.specs.Ends.{Ended, EndedKnown};
+ghost use Rattle.mml_session.specs.Ends.{Ended};
 ghost use Rattle.mml_session.specs.Records.{EndedRecorded, Records, entry_for, is_shown};
 ghost use Rattle.mml_session.specs.Holding.{LetsOut};
 ghost use Rattle.mml_session.specs.Serving.{SendsReply, ServesLine, ServesNext, Tells, next_after};
@@ -71,37 +71,12 @@ pub fn serve_one<Rt: Wait, S: Sink + Drop, H: House, R: Read, W: Write, G: Gate>
         (reader.new ≡ reader.old) × (writer.new ≡ writer.old) }
 {
     let setting = Setting { rt, alloc, desk };
-    serve_known(&setting, window, reader, writer, gate, connection).end
-}
-
-/// The same, and tells who was known at the end.
-pub fn serve_known<Rt: Wait, S: Sink + Drop, H: House, R: Read, W: Write, G: Gate>(
-    setting: &Setting<'_, Rt, S, H>,
-    window: &mut Window<H>,
-    reader: &mut R,
-    writer: &mut W,
-    gate: &G,
-    connection: u8,
-) -> Ending
-    ensures ended { EndedKnown result.end result.who H.lab window.old window.new
-        (R.remaining reader.old) (R.remaining reader.new)
-        (W.contents writer.old) (W.contents writer.new) }
-    ensures untouched { result.end ≡ SessionEnd.Memory →
-        (reader.new ≡ reader.old) × (writer.new ≡ writer.old) }
-{
-    serve_recorded(
-        setting,
-        window,
-        reader,
-        writer,
-        gate,
-        connection,
-        &mut NoRecorder,
-    )
+    let recorder = &mut NoRecorder;
+    serve_recorded(&setting, window, reader, writer, gate, connection, recorder).end
 }
 
 /// The same, and gives a recorder each line that is answered, before its reply goes out, and then the
-/// session's end.
+/// session's end. It tells who was known then too.
 pub fn serve_recorded<Rt: Wait, S: Sink + Drop, H: House, R: Read, W: Write, G: Gate, K: Recorder>(
     setting: &Setting<'_, Rt, S, H>,
     window: &mut Window<H>,

@@ -13,16 +13,7 @@ use Rattle.mml_session.proofs.session.serve_next.Goals as goal
 pub returns-in-Line-clause-serves : goal.returns-in-Line-clause-serves
 returns-in-Line-clause-serves g c =
     let says = rw (c.requires.going, c.in-Line.ensures.limit, c.requires.limit) at c.in-Line.ensures.says in
-    let st = standing c.args.session.now.known c.args.window.now in
-    let after = standing c.serve_line-said.new.session.known c.serve_line-said.new.window in
-    let input = prepend_known c.args.session.now.lines.unread (g.R.Read.remaining c.args.reader.now) in
-    let left = g.R.Read.remaining c.next.new.reader in
-    let wrote = g.W.Write.contents c.args.writer.now in
-    let wrote' = g.W.Write.contents c.serve_line-said.new.writer in
-    let given = g.K.Recorder.kept c.args.recorder.now in
-    let given' = g.K.Recorder.kept c.serve_line-said.new.recorder in
     let unsent = c.args.session.now.held.bytes.items in
-    let unsent' = c.serve_line-said.new.session.held.bytes.items in
     let line = c.next.new.self.line in
     let unread = c.next.new.self.unread in
     let ahead : unsent ≢ [] → length (ended line ++ unread) < READ_SIZE = λ some.
@@ -33,13 +24,9 @@ returns-in-Line-clause-serves g c =
           (length (ended line)) c.args.session.now.lines.unread unsent c.requires.out c.in-Line.ensures.read_where_needed c.in-Line.ensures.reads_grow
           c.in-Line.ensures.reads_counted c.requires.few some,
     ) in
-    let next =
-    serves_next c.args.session.now.connection g.H.House.lab st after input left wrote wrote' given given' unread line unsent unsent' c.in-Line.ensures.taken says.0 says.1
-    ahead c.serve_line-said.result c.serve_line-said.ensures.serves in
-    rw c.go_on.ensures.held
-    (subst (λ (n : Next). ServesNext n c.args.session.now.connection g.H.House.lab st after input c.serve_line-said.new.session.lines.unread left unsent unsent' wrote wrote' given given') (sym c.go_on.ensures.next)
-    (subst (λ (l : LinesState). ServesNext (next_after c.serve_line-said.result) c.args.session.now.connection g.H.House.lab st after input l.unread left unsent unsent' wrote wrote' given given')
-    (sym c.serve_line-said.ensures.lines) next))
+    rw (c.go_on.ensures.held, c.go_on.ensures.next, c.serve_line-said.ensures.lines)
+    (serves_next c.args.session.now.connection g.H.House.lab _ _ _ _ _ _ _ _ unread line unsent _ c.in-Line.ensures.taken says.0 says.1 ahead
+    c.serve_line-said.result c.serve_line-said.ensures.serves)
 
 pub returns-in-TooLong-clause-serves : goal.returns-in-TooLong-clause-serves
 returns-in-TooLong-clause-serves g c =
