@@ -24,11 +24,8 @@ never_admitted (Some x) who c e = absurd (cc e)
 pub judged : (r : RosterValue) (known : Option Who) (request : Request) (who : Who) (c : Command) → LeftToJudge who c ≡ greeting r known request
     → (known ≡ Some who) × (request ≡ requests.Do c)
 judged r None (requests.Hello name key) who c e = never_admitted (principal r name key) who c e
-judged r (Some x) (requests.Hello name key) who c e = absurd (cc e)
-judged r None requests.Bye who c e = absurd (cc e)
-judged r (Some x) requests.Bye who c e = absurd (cc e)
-judged r None (requests.Do d) who c e = absurd (cc e)
 judged r (Some x) (requests.Do d) who c e = (cc e, cc e)
+judged r _ _ who c e = absurd (cc e)
 
 -- a window that is closed has seen nothing more, and was asked only to show something
 pub closed_so : (told : Result ⊤ Closed) (r : RosterValue) (known : Option Who) (request : Request) (who : Who) (c : Command) (old new : WindowValue)
@@ -51,8 +48,5 @@ plain_admitted (Some who) = (refl, refl)
 -- the reply of a greeting is short and names no place
 pub plain_greeting : (r : RosterValue) (known : Option Who) (request : Request) → IsPlain (greeting r known request)
 plain_greeting r None (requests.Hello name key) = plain_admitted (principal r name key)
-plain_greeting r (Some who) (requests.Hello name key) = (refl, refl)
-plain_greeting r None requests.Bye = (refl, refl)
-plain_greeting r (Some who) requests.Bye = (refl, refl)
-plain_greeting r None (requests.Do c) = (refl, refl)
 plain_greeting r (Some who) (requests.Do c) = tt
+plain_greeting r _ _ = (refl, refl)

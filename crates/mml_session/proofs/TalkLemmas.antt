@@ -25,7 +25,7 @@ use Rattle.mml_board.specs.Lists.{world_in}
 use Rattle.mml_window.specs.Rulings.{ruling_at}
 use Rattle.mml_window.specs.Windows.{WindowValue}
 use Rattle.mml_window.proofs.PrefixLemmas.{prefix_self, prefix_trans, prefix_more}
-use Rattle.mml_session.specs.Turns.{Standing, places_in, entered, Plainly, Refuses, Told, Settles, Asked, Turn, Run}
+use Rattle.mml_session.specs.Turns.{Standing, places_in, entered, Plainly, Refuses, Told, Settles, Asked, Turn}
 use Rattle.mml_session.specs.Talks.{Talk, LineTurn, bytes_read}
 use Rattle.mml_session.proofs.GreetingLemmas.{IsPlain, plain_greeting}
 
@@ -73,11 +73,6 @@ module _ (lab : LabValue) where
   turn_on st next line r (inl h) = asked_on st next (request_in line) r h
   turn_on st next line r (inr h) = stays st.window next.window r (ap (λ (t : Standing). t.window) h.1) (ap places_in h.0)
 
-  -- so did each later one
-  pub run_seen : (st end : Standing) (ls : List (List ℕ)) (rs : List Reply) → Run lab st ls rs end → IsPrefix st.window.seen end.window.seen
-  run_seen = run_keeps (Turn lab) (λ st end. IsPrefix st.window.seen end.window.seen) (λ st. prefix_self st.window.seen)
-      (λ st next end. prefix_trans st.window.seen next.window.seen end.window.seen) (λ st next line r turn. (turn_on st next line r turn).seen)
-
   pub turn_places : (st after : Standing) (t : LineTurn lab st after) → after.window.places ≡ st.window.places ++ places_in t.reply
   turn_places st after t = (turn_on st after t.line t.reply t.turn).places
 
@@ -91,7 +86,9 @@ module _ (lab : LabValue) where
       ∙ append_assoc st.window.places (places_in r) (flat_map places_in rs))) st t.end t.lines t.replies t.run
 
   pub talk_seen : (st : Standing) (t : Talk lab st) → IsPrefix st.window.seen t.end.window.seen
-  talk_seen st t = run_seen st t.end t.lines t.replies t.run
+  talk_seen st t = run_keeps (Turn lab) (λ st end. IsPrefix st.window.seen end.window.seen) (λ st. prefix_self st.window.seen)
+      (λ st next end. prefix_trans st.window.seen next.window.seen end.window.seen) (λ st next line r turn. (turn_on st next line r turn).seen)
+      st t.end t.lines t.replies t.run
 
 all_unbroken : (limit : ℕ) (ls : List (List ℕ)) → AllByRecursion (IsWithinLimit limit) ls → All IsUnbroken ls
 all_unbroken limit [] each = All-nil IsUnbroken

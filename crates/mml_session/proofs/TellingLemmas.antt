@@ -79,18 +79,12 @@ refused_says : (lab : LabValue) (l : List Event) (ps : List ℕ) (who : Who) (c 
     ⊎ Refuses l ps (ruling_at lab (world_in lab l) who c) (replies.Refuse (refusal_for why)) new
 refused_says lab l ps who c Full new h =
     inl (subst (λ (ruled : Ruling). Plainly lab l ps ruled (replies.Refuse refused.Full) new) (sym h.0) (refl, seen_so l ps new h.2))
-refused_says lab l ps who c Journal new h = inr (subst (λ (ruled : Ruling). Refuses l ps ruled (replies.Refuse refused.Journal) new) (sym h.0.2) (
-  refused.Journal,
-  refl,
-  ap (λ (w : WindowValue). w.refused) h.1,
-  has_seen l ps new h.1,
-))
-refused_says lab l ps who c Memory new h = inr (subst (λ (ruled : Ruling). Refuses l ps ruled (replies.Refuse refused.Memory) new) (sym h.0.2) (
-  refused.Memory,
-  refl,
-  ap (λ (w : WindowValue). w.refused) h.1,
-  has_seen l ps new h.1,
-))
+refused_says lab l ps who c Journal new h =
+    let kept = ap (λ (w : WindowValue). w.refused) h.1 in
+    inr (subst (λ (ruled : Ruling). Refuses l ps ruled (replies.Refuse refused.Journal) new) (sym h.0.2) (refused.Journal, refl, kept, has_seen l ps new h.1))
+refused_says lab l ps who c Memory new h =
+    let kept = ap (λ (w : WindowValue). w.refused) h.1 in
+    inr (subst (λ (ruled : Ruling). Refuses l ps ruled (replies.Refuse refused.Memory) new) (sym h.0.2) (refused.Memory, refl, kept, has_seen l ps new h.1))
 
 -- the reply to what the window refused tells it
 pub refused_told : (lab : LabValue) (old new : WindowValue) (who : Who) (c : Command) (why : Refusal)
