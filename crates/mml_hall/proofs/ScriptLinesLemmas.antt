@@ -1,6 +1,7 @@
 -- How a script line is spelled, and what is none.
-use Rattle.std.proofs.Common.{◌≡◌, ◌≢◌, ℕ, ◌+◌, ◌-◌, ◌*◌, ◌/◌, ◌%◌, ◌<◌, ◌≤◌, ◌^◌, ◌⊎◌, List, [], ◌∷◌, ◌++◌, length, map, decimal, get_or, arith, sym}
-use Rattle.std.proofs.Common.{subst, ◌∙◌, length-append, append_assoc, refl, ap, zero, suc, All, Option, Some, None, inl, inr}
+use Rattle.std.proofs.lemmas.Bool.Decides.{nat_tests}
+use Rattle.std.proofs.Common.{◌≡◌, ◌≢◌, ℕ, ◌+◌, ◌-◌, ◌*◌, ◌<◌, ◌≤◌, ◌^◌, ◌⊎◌, List, [], ◌∷◌, ◌++◌, length, map, decimal, get_or, arith, sym}
+use Rattle.std.proofs.Common.{subst, ◌∙◌, length-append, refl, ap, zero, suc, All, Option, inl, inr}
 use Rattle.std.specs.Prelude.{slice_index}
 use Rattle.std.proofs.lemmas.Bool.{cases_lt}
 use Rattle.itoa.proofs.Decimal.{decimal_two}
@@ -68,8 +69,7 @@ ComesBad sessions a b = (bad : List ℕ) × Consumes a (prepend_known bad b) [] 
 -- a line that is no script line, with no more after it than one read brings in, is bad input
 pub bad_line : (a b : Option (List ℕ)) (line more : List ℕ) (limit sessions : ℕ) → Consumes a (prepend_known more b) (ended line) → limit ≡ MAX_SCRIPT_LINE
     → IsWithinLimit limit line → length more < READ_SIZE → ((s : RequestLine) → IsScriptLine sessions s → line ≢ script_line s) → ComesBad sessions a b
-bad_line a b line more limit sessions taken e within few differs =
-    (ended line ++ more, put_back a b (ended line) more taken, inl (line, more, refl, subst (λ (n : ℕ). IsWithinLimit n line) e within, differs, few))
+bad_line a b line more limit sessions taken e within few differs = grind (arith, nat_tests, put_back a b (ended line) more taken)
 
 -- bytes that are too many for a script line, by no more than one read, are bad input
 pub too_long : (a b : Option (List ℕ)) (held : List ℕ) (limit sessions : ℕ) → Consumes a (prepend_known held b) [] → limit ≡ MAX_SCRIPT_LINE
@@ -84,27 +84,14 @@ FirstDigits n line = ((n < 10) × (slice_index line 0 ≡ 48 + n) × (slice_inde
 
 first_digits : (line rest : List ℕ) (n : ℕ) → n ≤ 16 → line ≡ decimal n ++ 32 ∷ rest → FirstDigits n line
 unfolding FirstDigits
-first_digits line rest n few e =
-    elim (cases_lt n 10) [
-      | inl one ↦
-          let whole : line ≡ (48 + n) ∷ 32 ∷ rest = e ∙ ap (λ t. t ++ 32 ∷ rest) (decimal_digit n one) in
-          inl (one, ap (λ t. slice_index t 0) whole, ap (λ t. slice_index t 1) whole, omega (arith, ap length whole))
-      | inr two ↦
-          let whole : line ≡ (48 + n / 10) ∷ (48 + n % 10) ∷ 32 ∷ rest = e ∙ ap (λ t. t ++ 32 ∷ rest) (decimal_two n two (omega (arith, few))) in
-          let tens : 48 + n / 10 ≡ 49 = omega (arith, two, few) in
-          let units : 48 + n % 10 ≡ 38 + n = omega (arith, two, few) in
-          inr (two, ap (λ t. slice_index t 0) whole ∙ tens, ap (λ t. slice_index t 1) whole ∙ units, omega (arith, ap length whole))
-    ]
+first_digits line rest n few e = grind (arith, nat_tests, cases_lt, decimal_digit, decimal_two)
 
 -- a line that begins with a number up to 16, of two digits, has that number in its first two bytes
 pub two_digits : (line rest : List ℕ) (n tens units : ℕ) → n ≤ 16 → line ≡ decimal n ++ 32 ∷ rest → slice_index line 0 ≡ 48 + tens
     → slice_index line 1 ≡ 48 + units
     → units < 10 → 10 * tens + units ≡ n
 unfolding FirstDigits
-two_digits line rest n tens units few e first second small = elim (first_digits line rest n few e) [
-  | inl one ↦ absurd (omega (arith, one.2, second))
-  | inr two ↦ omega (arith, two.1, two.2, first, second)
-]
+two_digits line rest n tens units few e first second small = grind (arith, nat_tests, first_digits)
 
 -- a line that begins with a number up to 16, of one digit, has that number in its first byte
 pub one_digit : (line rest : List ℕ) (n units : ℕ) → n ≤ 16 → line ≡ decimal n ++ 32 ∷ rest → slice_index line 0 ≡ 48 + units

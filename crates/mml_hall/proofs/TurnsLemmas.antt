@@ -1,4 +1,5 @@
 -- What turns leave as it was, and where out of memory may stand in the place of a reply.
+use Rattle.std.proofs.lemmas.Bool.Decides.{nat_tests}
 use Rattle.std.proofs.Common.{◌≡◌, ◌≢◌, ◌⊎◌, ◌<◌, ◌-◌, ℕ, Bool, true, false, not, cond, List, Option, Some, None, Result, Ok, Err, refl, sym, ap, ◌∙◌}
 use Rattle.std.proofs.Common.{arith, subst, inl, inr}
 use Rattle.std.proofs.lemmas.Bool.{or_right}
@@ -13,7 +14,7 @@ use Rattle.mml_board.specs.declared.done.Done.{Done}
 use Rattle.mml_policy.specs.declared.command.Command.{Command}
 use Rattle.mml_board.specs.declared.done.Done.TheVariants as done
 use Rattle.mml_policy.specs.declared.ruling.Ruling.{Ruling}
-use Rattle.mml_policy.specs.declared.ruling.Ruling.TheVariants.{Denied, Seen, Looked, Reported, Full, Journal, Granted}
+use Rattle.mml_policy.specs.declared.ruling.Ruling.TheVariants.{Granted}
 use Rattle.mml_policy.specs.Rulings.{ruling}
 use Rattle.mml_codec.specs.declared.request.LineFault.{LineFault}
 use Rattle.mml_codec.specs.declared.request.Request.{Request}
@@ -88,12 +89,6 @@ module _ (lab : LabValue) (st : State) (k : ℕ) where
 
   does_told : (x : Who) (c : Command) (ruled : Ruling) → ruling lab.ids lab.roster lab.events st.halted st.world x c ≡ ruled → known_on st k ≡ Some x
       → Does (Ok (requests.Do c)) (told st ruled)
-  does_told x c (Denied d) e known = inl (record { state = refl; nameless = refl })
-  does_told x c (Seen s) e known = inl (record { state = refl; nameless = refl })
-  does_told x c (Looked l) e known = inl (record { state = refl; nameless = refl })
-  does_told x c Reported e known = inl (record { state = refl; nameless = refl })
-  does_told x c Full e known = inl (record { state = refl; nameless = refl })
-  does_told x c Journal e known = inl (record { state = refl; nameless = refl })
   does_told x c (Granted f d) e known = inr (inr (record {
     who = x;
     command = c;
@@ -105,6 +100,7 @@ module _ (lab : LabValue) (st : State) (k : ℕ) where
     reply = refl;
     state = refl;
   }))
+  does_told x c _ e known = inl (record { state = refl; nameless = refl })
 
   does_admit : (found : Option Who) (asked : Result Request LineFault) → known_on st k ≡ None → Does asked (settled lab st k (admitted found))
   does_admit None asked e = idle_known asked None _ e refl
@@ -113,8 +109,7 @@ module _ (lab : LabValue) (st : State) (k : ℕ) where
   does_greet : (known : Option Who) (q : Request) → known_on st k ≡ known → Does (Ok q) (settled lab st k (greeting lab.roster known q))
   does_greet None (requests.Hello name key) e = does_admit (principal lab.roster name key) (Ok (requests.Hello name key)) e
   does_greet (Some x) (requests.Hello name key) e = idle_known (Ok (requests.Hello name key)) (Some x) _ e refl
-  does_greet None requests.Bye e = inr (inl (record { known = None; state = refl; nameless = refl; short = refl; tells = λ h. h }))
-  does_greet (Some x) requests.Bye e = inr (inl (record { known = None; state = refl; nameless = refl; short = refl; tells = λ h. h }))
+  does_greet _ requests.Bye e = inr (inl (record { known = None; state = refl; nameless = refl; short = refl; tells = λ h. h }))
   does_greet None (requests.Do c) e = idle_known (Ok (requests.Do c)) None _ e refl
   does_greet (Some x) (requests.Do c) e = does_told x c (ruling lab.ids lab.roster lab.events st.halted st.world x c) refl e
 
@@ -149,9 +144,7 @@ refused_turn lab st k line = by_turn lab st k line (λ out. IsRefusal out.reply 
     ]
 
 other_known : (st : State) (k j : ℕ) (x : Option Who) → 0 < k → 0 < j → j ≢ k → known_on (with_known st k x) j ≡ known_on st j
-other_known st k j x some some' differ =
-    let apart : j - 1 ≢ k - 1 = omega arith in
-    get_or-set_other st.greeted (k - 1) (j - 1) x None apart
+other_known st k j x some some' differ = grind (arith, nat_tests, st.greeted, get_or-set_other)
 
 -- a turn leaves who is known on every other connection
 pub others_turn : (lab : LabValue) (st : State) (k j : ℕ) (line : List ℕ) (out : Outcome) → Turn lab st k line out → 0 < k → 0 < j → j ≢ k

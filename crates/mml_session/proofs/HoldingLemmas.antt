@@ -1,5 +1,5 @@
 -- Bytes that go out together, over several steps.
-use Rattle.std.proofs.Common.{◌≡◌, ◌≢◌, inl, inr, ℕ, ◌+◌, ◌<◌, List, [], ◌++◌, length, take, refl, sym, ◌∙◌, ap, append_assoc, append-nil, length-append, arith, subst, Option}
+use Rattle.std.proofs.Common.{◌≡◌, ◌≢◌, inl, inr, ℕ, ◌+◌, List, [], ◌++◌, length, take, sym, ◌∙◌, ap, append_assoc, append-nil, length-append, arith, subst, Option}
 use Rattle.std.proofs.Math.Seq.{take-append-add}
 use Rattle.std.proofs.KnownBytes.{Appends-nil, Appends-trans}
 use Rattle.std.specs.Io.KnownBytes.{Appends}

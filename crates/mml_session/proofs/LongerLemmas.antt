@@ -1,15 +1,10 @@
 -- A talk goes on by one line.
-use Rattle.std.proofs.Common.{◌≡◌, ℕ, false, List, [], ◌∷◌, ◌++◌, refl, sym, ◌∙◌, ap, append_assoc, append-nil}
+use Rattle.std.proofs.Common.{◌≡◌, ℕ, List, [], ◌∷◌, ◌++◌, sym, ◌∙◌, ap, append_assoc, append-nil}
 use Rattle.mml_lab.specs.Labs.{LabValue}
-use Rattle.mml_ids.specs.Lines.{ended}
-use Rattle.mml_lines.specs.LinesOf.{IsWithinLimit}
-use Rattle.mml_lines.proofs.RunsLemmas.{run_longer, each_longer, flat_longer}
-use Rattle.mml_codec.specs.declared.TheConstants.{MAX_REQUEST}
+use Rattle.mml_lines.proofs.RunsLemmas.{run_longer}
 use Rattle.mml_codec.specs.declared.reply.Reply.{Reply}
-use Rattle.mml_codec.specs.Replies.{reply_line}
-use Rattle.mml_session.specs.Turns.{Standing, Turn, Run, is_bye}
-use Rattle.mml_session.specs.Records.{entries_of, line_entries, run_entries, turn_entries}
-use Rattle.mml_session.specs.Talks.{Talk, LineTurn, bytes_read, bytes_written, line_read, line_written}
+use Rattle.mml_session.specs.Turns.{Standing, Turn, Run}
+use Rattle.mml_session.specs.Records.{run_entries, turn_entries}
 
 -- what is recorded of a run with one line more comes after what is recorded of it
 pub longer_entries : (lab : LabValue) (st mid after : Standing) (ls : List (List ℕ)) (rs : List Reply) (line : List ℕ) (r : Reply)

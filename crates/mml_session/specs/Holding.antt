@@ -1,5 +1,5 @@
 -- Replies that go out together: which bytes are out, and which are held.
-use Rattle.std.specs.Prelude.{◌≡◌, ◌⊎◌, ℕ, ◌<◌, List, [], ◌++◌, length, take, Option, None}
+use Rattle.std.specs.Prelude.{◌≡◌, ◌⊎◌, ℕ, ◌<◌, List, [], ◌++◌, length, take, Option}
 use Rattle.std.specs.Io.KnownBytes.{Appends}
 use Rattle.mml_lab.specs.declared.who.Who.{Who}
 use Rattle.mml_session.specs.declared.session.SessionEnd.TheVariants as end

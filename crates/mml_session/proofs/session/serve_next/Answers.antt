@@ -1,11 +1,7 @@
-use Rattle.std.proofs.Common.{◌≢◌, ◌<◌, refl, sym, subst, length, ◌++◌, [], arith, length-append}
-use Rattle.std.specs.Io.KnownBytes.{prepend_known}
+use Rattle.std.proofs.Common.{◌≢◌, ◌<◌, refl, length, ◌++◌, [], arith, length-append}
 use Rattle.mml_ids.specs.Lines.{ended}
-use Rattle.mml_lines.specs.LinesState.{LinesState}
 use Rattle.mml_lines.specs.declared.lines.TheConstants.{READ_SIZE}
-use Rattle.mml_session.specs.declared.session.Next.{Next}
 use Rattle.mml_session.specs.Turns.{standing}
-use Rattle.mml_session.specs.Serving.{ServesNext, next_after}
 use Rattle.mml_session.proofs.ServingLemmas.{serves_next, unread_before}
 use Rattle.mml_session.proofs.RecordLemmas.{records_nil}
 use Rattle.mml_session.proofs.session.serve_next.Goals as goal
