@@ -1,5 +1,6 @@
 -- What the sink of a house has taken, as it begins, grants and halts.
-use Rattle.std.proofs.Common.{◌≡◌, ℕ, ◌<◌, true, false, List, [], ◌∷◌, ◌++◌, ◌∙◌, append-nil, length, take, sym, ap, refl, subst, Option, None, Some, arith}
+use Rattle.std.proofs.lemmas.Bool.Decides.{nat_tests}
+use Rattle.std.proofs.Common.{◌≡◌, ℕ, ◌<◌, true, false, List, [], ◌∷◌, ◌++◌, ◌∙◌, append-nil, length, take, sym, ap, subst, Option, None, Some, arith}
 use Rattle.mml_lab.specs.Labs.{LabValue}
 use Rattle.mml_board.specs.declared.event.Event.{Event}
 use Rattle.mml_board.specs.World.{opening_of}
@@ -17,14 +18,11 @@ use Rattle.mml_window.proofs.ListLemmas.{place_in}
 
 -- nothing was granted yet
 pub nothing_told : (lab : LabValue) (told : Option (List ℕ)) → IsFresh told → TellsJournal lab [] false told
-nothing_told lab None fresh = tt
-nothing_told lab (Some bytes) fresh = ([], fresh, refl)
+nothing_told lab x1 fresh = grind (arith, nat_tests)
 
 -- the text of one event more
 text-one_more : (lab : LabValue) (l : List Event) (e : Event) → text_in lab (l ++ e ∷ []) ≡ text_in lab l ++ next_line lab.ids lab.roster (world_in lab l) e
-text-one_more lab l e =
-    one_more lab.ids lab.roster (opening_of lab.network) l e
-    ∙ ap (λ n. text_in lab l ++ ended (event_line lab.ids lab.roster n (world_in lab l).number e)) (omega (arith, place_in lab l))
+text-one_more lab l e = grind (arith, nat_tests, one_more, opening_of, text_in, ended, event_line, world_in, place_in)
 
 -- no line is torn before the journal halts
 whole : (lab : LabValue) (l : List Event) (bytes : List ℕ) → IsJournal lab l false bytes → bytes ≡ text_in lab l
@@ -33,9 +31,7 @@ whole lab l bytes j = j.1 ∙ ap (λ t. text_in lab l ++ t) j.2 ∙ append-nil _
 -- the line of a granted event was taken
 pub line_taken : (lab : LabValue) (l : List Event) (e : Event) (old new : Option (List ℕ)) → TellsJournal lab l false old
     → new ≡ with_more old (next_line lab.ids lab.roster (world_in lab l) e) → TellsJournal lab (l ++ e ∷ []) false new
-line_taken lab l e None new j more = subst (TellsJournal lab (l ++ e ∷ []) false) (sym more) tt
-line_taken lab l e (Some bytes) new j more = subst (TellsJournal lab (l ++ e ∷ []) false) (sym more)
-    ([], ap (λ t. t ++ next_line lab.ids lab.roster (world_in lab l) e) (whole lab l bytes j) ∙ sym (text-one_more lab l e) ∙ sym (append-nil _), refl)
+line_taken lab l e x3 new j more = grind (arith, nat_tests, nat_tests, next_line, world_in, whole, text-one_more, append-nil)
 
 -- a part of its line was taken
 pub line_torn : (lab : LabValue) (l : List Event) (e : Event) → is_legal lab.roster (world_in lab l) e ≡ true → (line : List ℕ) (n : ℕ) → n < length line

@@ -1,4 +1,5 @@
 -- How often a place stands among the places of windows, as cursors move over them.
+use Rattle.std.proofs.lemmas.Bool.Decides.{nat_tests}
 use Rattle.std.proofs.Common.{◌≡◌, ◌≢◌, ◌⊎◌, ℕ, zero, suc, ◌+◌, ◌<◌, ◌≤◌, ◌&&◌, Bool, true, false, List, [], ◌∷◌, ◌++◌, length, take, drop, set, get_or}
 use Rattle.std.proofs.Common.{replicate, add-one, refl, sym, ap, ◌∙◌, subst, ⊎_elim, inl, inr, arith, append_assoc, append-nil, cond, leb, eqb, leb-true}
 use Rattle.std.proofs.Common.{leb-false, length-append}
@@ -46,10 +47,7 @@ less_or_not (suc a) (suc b) = ⊎_elim (λ (l : a < b). inl (omega arith)) (λ (
 -- places that climb from above low: none is low or less
 climbs_below : (low : ℕ) (ps : List ℕ) (high p : ℕ) → p ≤ low → Climbs low ps high → times p ps ≡ 0
 climbs_below low [] high p le c = refl
-climbs_below low (q ∷ ps) high p le c =
-    let lt : low < q = c.0 in
-    let differ : p ≡ q → ⊥ = λ (e : p ≡ q). omega (arith, e) in
-    times_skip p q ps differ ∙ climbs_below q ps high p (omega arith) c.1
+climbs_below low (q ∷ ps) high p le c = grind (arith, nat_tests, times_skip, climbs_below q ps high p (omega arith) c.1)
 
 climbs_lower : (low lower : ℕ) (ps : List ℕ) (high : ℕ) → lower ≤ low → Climbs low ps high → Climbs lower ps high
 climbs_lower low lower [] high le c = omega (arith, le, c)
@@ -94,8 +92,7 @@ some_behind (p ∷ ps) (suc n) lt = some_behind ps n (omega arith)
 
 -- a cursor is past the places exactly where none of them is left
 pub at_end : (b : Bool) (ps : List ℕ) (n : ℕ) → leb (length ps) n ≡ b → MatchBool b (drop n ps ≡ []) ((p : ℕ) × (0 < times p (drop n ps)))
-at_end true ps n is = none_behind ps n (leb-true (length ps) n is)
-at_end false ps n is = some_behind ps n (leb-false (length ps) n is)
+at_end x0 ps n is = grind (arith, nat_tests, none_behind, leb-true, some_behind, leb-false)
 
 -- where two parts of what is left have a smaller place beside this one, so do they together
 pub stuck_append : (place : ℕ) (xs ys : List ℕ) → IsStuck place xs → IsStuck place ys → IsStuck place (xs ++ ys)
@@ -110,9 +107,7 @@ left_suc : (ws : List WindowValue) (cs : List ℕ) (i : ℕ) (w : WindowValue) �
 left_suc [] cs i w lw lc = absurd (omega arith)
 left_suc (v ∷ ws) [] i w lw lc = absurd (omega arith)
 left_suc (v ∷ ws) (c ∷ cs) zero w lw lc = append-nil (drop c v.places)
-left_suc (v ∷ ws) (c ∷ cs) (suc i) w lw lc =
-    ap (λ (l : List ℕ). drop c v.places ++ l) (left_suc ws cs i w (omega arith) (omega arith))
-    ∙ sym (append_assoc (drop c v.places) (left_of (take i ws) (take i cs)) (drop (get_or cs i 0) (get_or ws i w).places))
+left_suc (v ∷ ws) (c ∷ cs) (suc i) w lw lc = grind (arith, nat_tests, append-nil, drop, append_assoc, left_of, take, get_or, left_suc ws cs i w (omega arith) (omega arith))
 
 -- what is left of one window more, from its cursor on, comes behind what is left of the others
 left_more : (ws : List WindowValue) (cs : List ℕ) (i : ℕ) (w : WindowValue) → i < length ws → i < length cs
@@ -133,8 +128,7 @@ left_among : (p : ℕ) (ws : List WindowValue) (cs : List ℕ) (i : ℕ) (w : Wi
 left_among p [] cs i w lw lc = absurd (omega arith)
 left_among p (v ∷ ws) [] i w lw lc = absurd (omega arith)
 left_among p (v ∷ ws) (c ∷ cs) zero w lw lc = omega (arith, times_append p (drop c v.places) (left_of ws cs))
-left_among p (v ∷ ws) (c ∷ cs) (suc i) w lw lc =
-    omega (arith, times_append p (drop c v.places) (left_of ws cs), left_among p ws cs i w (omega arith) (omega arith))
+left_among p (v ∷ ws) (c ∷ cs) (suc i) w lw lc = grind (arith, nat_tests, times_append, drop, left_of, left_among p ws cs i w (omega arith) (omega arith))
 
 -- one cursor moves on over this place
 left_moved : (p place : ℕ) (ws : List WindowValue) (cs : List ℕ) (i : ℕ) (w : WindowValue) → i < length ws → i < length cs
@@ -142,10 +136,7 @@ left_moved : (p place : ℕ) (ws : List WindowValue) (cs : List ℕ) (i : ℕ) (
     → times p (left_of ws cs) ≡ times p (place ∷ []) + times p (left_of ws (set cs i (get_or cs i 0 + 1)))
 left_moved p place [] cs i w lw lc is = absurd (omega arith)
 left_moved p place (v ∷ ws) [] i w lw lc is = absurd (omega arith)
-left_moved p place (v ∷ ws) (c ∷ cs) zero w lw lc is =
-    let a : times p (drop c v.places) ≡ times p (place ∷ []) + times p (drop (c + 1) v.places) =
-    ap (times p) is ∙ times_append p (place ∷ []) (drop (c + 1) v.places) in
-    omega (arith, a, times_append p (drop c v.places) (left_of ws cs), times_append p (drop (c + 1) v.places) (left_of ws cs))
+left_moved p place (v ∷ ws) (c ∷ cs) zero w lw lc is = grind (arith, nat_tests, times, drop, times_append, left_of, set, get_or)
 left_moved p place (v ∷ ws) (c ∷ cs) (suc i) w lw lc is =
     let a = left_moved p place ws cs i w (omega arith) (omega arith) is in
     omega (arith, a, times_append p (drop c v.places) (left_of ws cs), times_append p (drop c v.places) (left_of ws (set cs i (get_or cs i 0 + 1))))
@@ -159,21 +150,16 @@ pub record Stands (ws : List WindowValue) (cs : List ℕ) (i : ℕ) (w : WindowV
 module _ (ws : List WindowValue) (cs : List ℕ) (i : ℕ) (w : WindowValue) (at : Stands ws cs i w) where
   -- what is left of this window comes behind what is left of those before it
   pub window_more : left_of (take (i + 1) ws) (take (i + 1) cs) ≡ left_of (take i ws) (take i cs) ++ drop (get_or cs i 0) w.places
-  window_more =
-      left_more ws cs i w at.window at.cursor
-      ∙ ap (λ (v : WindowValue). left_of (take i ws) (take i cs) ++ drop (get_or cs i 0) v.places) at.is
+  window_more = grind (arith, nat_tests, left_more, left_of, take, drop, get_or)
 
   -- what is left of this window is left
   pub window_among : (p : ℕ) → times p (drop (get_or cs i 0) w.places) ≤ times p (left_of ws cs)
-  window_among p =
-      omega (arith, left_among p ws cs i w at.window at.cursor, ap (λ (v : WindowValue). times p (drop (get_or cs i 0) v.places)) at.is)
+  window_among p = grind (arith, nat_tests, left_among, times, drop, get_or)
 
   -- its cursor moves on over this place
   pub window_moved : (p place : ℕ) → drop (get_or cs i 0) w.places ≡ place ∷ drop (get_or cs i 0 + 1) w.places
       → times p (left_of ws cs) ≡ times p (place ∷ []) + times p (left_of ws (set cs i (get_or cs i 0 + 1)))
-  window_moved p place next =
-      left_moved p place ws cs i w at.window at.cursor
-      (subst (λ (v : WindowValue). drop (get_or cs i 0) v.places ≡ place ∷ drop (get_or cs i 0 + 1) v.places) (sym at.is) next)
+  window_moved p place next = grind (arith, nat_tests, left_moved, drop, get_or)
 
 -- no place is counted off yet
 pub left_first : (ws : List WindowValue) (n : ℕ) → length ws ≤ n → left_of ws (replicate n 0) ≡ told_of ws
@@ -196,14 +182,10 @@ once_low : (first n p : ℕ) → p ≤ first → once_from first n p ≡ 0
 once_low first n p le = ap (λ (b : Bool). cond (b && leb p n) 1 0) (le-ltb first p le)
 
 once_within : (first n p : ℕ) → first < p → p ≤ n → once_from first n p ≡ 1
-once_within first n p above le =
-    let a : once_from first n p ≡ cond (leb p n) 1 0 = ap (λ (b : Bool). cond (b && leb p n) 1 0) (lt-ltb first p above) in
-    let b : cond (leb p n) 1 0 ≡ 1 = ap (λ (b : Bool). cond b 1 0) (le-leb p n le) in a ∙ b
+once_within first n p above le = grind (arith, nat_tests, once_from, leb, lt-ltb, le-leb)
 
 once_above : (first n p : ℕ) → first < p → n < p → once_from first n p ≡ 0
-once_above first n p above lt =
-    let a : once_from first n p ≡ cond (leb p n) 1 0 = ap (λ (b : Bool). cond (b && leb p n) 1 0) (lt-ltb first p above) in
-    let b : cond (leb p n) 1 0 ≡ 0 = ap (λ (b : Bool). cond b 1 0) (lt-leb p n lt) in a ∙ b
+once_above first n p above lt = grind (arith, nat_tests, once_from, leb, lt-ltb, lt-leb)
 
 -- the places above the first number up to n are counted off, and these are left
 abbrev pub IsCounted : ℕ → ℕ → List ℕ → List ℕ → Type 0
