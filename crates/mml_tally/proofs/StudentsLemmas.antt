@@ -1,13 +1,11 @@
 -- Who asked in a legal list is a student of the lab, so all their marks together are the list's.
-use Rattle.std.proofs.Common.{◌≡◌, ℕ, ◌+◌, ◌<◌, true, List, [], ◌∷◌, None, inl, inr, ◌∙◌, subst, arith, length}
-use Rattle.std.specs.Prelude.{All, Contains, count_by}
-use Rattle.std.proofs.lemmas.Bool.{cases_lt, and_parts}
-use Rattle.std.proofs.lemmas.List.{get_or_past}
-use Rattle.std.proofs.lemmas.List.Elements.{All-get_or}
+use Rattle.std.proofs.Common.{◌≡◌, ℕ, ◌+◌, true, List, [], ◌∷◌, None, ◌∙◌, arith, length}
+use Rattle.std.specs.Prelude.{count_by}
+use Rattle.std.proofs.lemmas.Bool.{and_parts}
 use Rattle.mml_lab.specs.declared.who.Who.TheVariants as who
 use Rattle.mml_lab.specs.Labs.{LabValue, IsLab}
-use Rattle.mml_lab.specs.Rosters.{RosterValue, IsRoster, owners_of, owns}
-use Rattle.mml_lab.proofs.RosterMeaningLemmas.{owns-student}
+use Rattle.mml_lab.specs.Rosters.{RosterValue, IsRoster, owns}
+use Rattle.mml_lab.proofs.RosterMeaningLemmas.{owner_there}
 use Rattle.mml_board.specs.declared.event.Event.{Event}
 use Rattle.mml_board.specs.declared.event.Event.TheVariants as event
 use Rattle.mml_board.specs.World.{World, IsWorld, size, configuration, opening_of}
@@ -22,19 +20,6 @@ use Rattle.mml_tally.specs.Runs.{run_of}
 use Rattle.mml_tally.specs.Meaning.{total}
 use Rattle.mml_tally.proofs.AppliedLemmas.{nothing_pending, unchosen, applied_is}
 use Rattle.mml_tally.proofs.MarksLemmas.{AllOf, students_sum, total_applied}
-
--- an owner is a student
-owner_there : (r : RosterValue) (s i : ℕ) → IsRoster r → owns r (who.Student s) i ≡ true → s < length r.students
-owner_there r s i known owner =
-    let found : Contains (owners_of r i) s = (owns-student r s i).0 owner in
-    elim (cases_lt i (length r.owners)) [
-      | inl within ↦
-          let each : All (λ t. t < length r.students) (owners_of r i) = All-get_or (All (λ t. t < length r.students)) r.owners i [] within known.owned in
-          subst (λ t. t < length r.students) found.2 (All-get_or (λ t. t < length r.students) (owners_of r i) found.0 s found.1 each)
-      | inr past ↦
-          let none : owners_of r i ≡ [] = get_or_past r.owners i [] past in
-          absurd (omega (arith, found.1, subst (λ (xs : List ℕ). found.0 < length xs) none found.1))
-    ]
 
 askers_there : (r : RosterValue) (w : World) (q : ℕ) (es : List Event) → IsRoster r → is_legal_list r w es ≡ true → AllOf (length r.students) (moves_from q es)
 askers_there r w q [] known legal = tt
