@@ -6,7 +6,6 @@ use Rattle.std.proofs.lemmas.Slice.Eq.{bytes_eq-Decides}
 use Rattle.serde_json.specs.Data.{Data, number}
 use Rattle.serde_json.specs.Find.{get, as_number, as_u64}
 use Rattle.mml_board.specs.Vocabulary as verb
-use Rattle.mml_board.specs.Vocabulary.{rule_name}
 use Rattle.mml_plain.specs.LookUps.{◌>>=◌, text_at, number_at, truth_at, register_at, as_register}
 use Rattle.mml_policy.specs.declared.command.Asked.{Asked}
 use Rattle.mml_policy.specs.declared.command.Asked.TheVariants as asked
