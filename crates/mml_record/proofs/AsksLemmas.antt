@@ -1,6 +1,6 @@
 -- What is read of the lines of a record is what was answered by the rules.
 use Rattle.std.proofs.Common.{◌≡◌, ℕ, zero, suc, ◌+◌, ◌/◌, ◌%◌, Bool, true, false, true≢false, cond, not, eqb, List, [], ◌∷◌, ◌++◌, length, take, codes, decimal}
-use Rattle.std.proofs.Common.{inl, inr, refl, sym, ap, ◌∙◌, arith, Option, None, Some, Result, Ok, Err}
+use Rattle.std.proofs.Common.{inl, inr, refl, sym, ap, ◌∙◌, arith, Option, None, Some, Result}
 use Rattle.std.specs.Prelude.{nat_lt, bytes_eq}
 use Rattle.std.specs.Fmt.{digits, digits_onto, digit_glyph}
 use Rattle.std.proofs.lemmas.Bool.{and_from}
@@ -17,12 +17,10 @@ use Rattle.mml_policy.specs.Denials.{clause_of}
 use Rattle.mml_codec.specs.declared.request.LineFault.{LineFault}
 use Rattle.mml_codec.specs.declared.request.Request.{Request}
 use Rattle.mml_codec.specs.declared.greeting.Greeting.{Greeting}
-use Rattle.mml_codec.specs.declared.greeting.Greeting.TheVariants.{Answered, LeftToJudge}
 use Rattle.mml_codec.specs.declared.reply.Refused.TheVariants as refused
 use Rattle.mml_codec.specs.declared.reply.Reply.{Reply}
 use Rattle.mml_codec.specs.declared.reply.Reply.TheVariants as replies
 use Rattle.mml_codec.specs.Facts.{object_text}
-use Rattle.mml_codec.specs.Greetings.{greeting}
 use Rattle.mml_codec.specs.Lines.{request_in}
 use Rattle.mml_codec.specs.Replies.{text, reply_line, place_in}
 use Rattle.mml_session.specs.Turns.{is_bye}
@@ -38,12 +36,10 @@ use Rattle.mml_record.proofs.OnceLemmas.{fits_once}
 -- ---- a number has no comma
 
 glyph_other : (b : Bool) (d : ℕ) → not (eqb (cond b (48 + d) (87 + d)) 44) ≡ true
-glyph_other true d = grind (arith, nat_tests)
-glyph_other false d = grind (arith, nat_tests)
+glyph_other b d = grind (arith, nat_tests)
 
 digit_more : (b : Bool) (front rest : List ℕ) → avoids 44 front ≡ true → avoids 44 rest ≡ true → avoids 44 (cond b front rest) ≡ true
-digit_more true front rest h k = h
-digit_more false front rest h k = k
+digit_more b front rest h k = grind (arith, nat_tests)
 
 no_comma_from : (k n : ℕ) (acc : List ℕ) → avoids 44 acc ≡ true → avoids 44 (digits_onto k 10 false n acc) ≡ true
 no_comma_from zero n acc h = h
@@ -112,41 +108,19 @@ stale at rest = behind_number at (codes "\"clause\":" ++ (decimal 2 ++ rest)) (S
 
 denied_is : (ids : List ℕ) (roster : RosterValue) (d : Denial) → clause_told (text ids roster (replies.Deny d)) ≡ Some (clause_of d)
 unfolding object_text
-denied_is ids roster denial.NotGreeted = plain 0 _ ∙ digit_is denial.NotGreeted _
-denied_is ids roster denial.Greeted = plain 1 _ ∙ digit_is denial.Greeted _
-denied_is ids roster denial.Unknown = plain 2 _ ∙ digit_is denial.Unknown _
-denied_is ids roster denial.Hidden = plain 1 _ ∙ digit_is denial.Hidden _
-denied_is ids roster denial.NotOwner = plain 1 _ ∙ digit_is denial.NotOwner _
-denied_is ids roster (denial.Stale at) = stale at _
-denied_is ids roster denial.Chosen = plain 3 _ ∙ digit_is denial.Chosen _
-denied_is ids roster denial.Guard = plain 4 _ ∙ digit_is denial.Guard _
-denied_is ids roster denial.NotTeacher = plain 1 _ ∙ digit_is denial.NotTeacher _
-denied_is ids roster denial.Empty = plain 2 _ ∙ digit_is denial.Empty _
-denied_is ids roster denial.NoNode = plain 2 _ ∙ digit_is denial.NoNode _
-denied_is ids roster denial.BadRegister = plain 3 _ ∙ digit_is denial.BadRegister _
-denied_is ids roster denial.Loop = plain 3 _ ∙ digit_is denial.Loop _
-denied_is ids roster denial.Linked = plain 4 _ ∙ digit_is denial.Linked _
-denied_is ids roster denial.NotLinked = plain 3 _ ∙ digit_is denial.NotLinked _
-denied_is ids roster denial.NotChosen = plain 3 _ ∙ digit_is denial.NotChosen _
+denied_is ids roster d = grind (arith, nat_tests, plain, digit_is, stale)
 
 pub told_is : (ids : List ℕ) (roster : RosterValue) (r : Reply) → clause_told (text ids roster r) ≡ clause_in r
 unfolding object_text clause_member clause_first
-told_is ids roster (replies.Hello who) = first_member _ None refl
-told_is ids roster replies.Bye = first_member _ None refl
 told_is ids roster (replies.See s) = behind_number s.at _ None refl
 told_is ids roster (replies.Look l) = behind_number l.at _ None refl
 told_is ids roster (replies.Move at place node kind) = behind_number at _ None refl
 told_is ids roster (replies.Close at place moved) = behind_number at _ None refl
 told_is ids roster (replies.Fault at place node dropped) = behind_number at _ None refl
-told_is ids roster (replies.Link at place a b dropped) = first_member _ None refl
-told_is ids roster (replies.Cut at place a b dropped) = first_member _ None refl
 told_is ids roster (replies.Release at place node) = behind_number at _ None refl
 told_is ids roster (replies.Report r) = behind_number r.at _ None refl
 told_is ids roster (replies.Deny d) = denied_is ids roster d
-told_is ids roster (replies.Refuse refused.Malformed) = first_member _ None refl
-told_is ids roster (replies.Refuse refused.Full) = first_member _ None refl
-told_is ids roster (replies.Refuse refused.Journal) = first_member _ None refl
-told_is ids roster (replies.Refuse refused.Memory) = first_member _ None refl
+told_is ids roster _ = first_member _ None refl
 
 -- ---- who is known
 
@@ -159,12 +133,10 @@ unended_is bytes = front_of bytes (ended bytes) (unended (ended bytes)) (length 
 
 module _ (lab : LabValue) (l first : List Event) (known : Option Who) (r : Reply) (known' : Option Who) where
   greeted_is : (g : Greeting) → FitsGreeting lab l first known g r known' → known_by known g ≡ known'
-  greeted_is (Answered q x) f = sym f.1
-  greeted_is (LeftToJudge who c) f = sym f.0
+  greeted_is g f = grind (arith, nat_tests)
 
   asked_is : (asked : Result Request LineFault) → FitsAsked lab l first known asked r known' → known_asked lab.roster known asked ≡ known'
-  asked_is (Err fault) f = sym f.1
-  asked_is (Ok q) f = greeted_is (greeting lab.roster known q) f
+  asked_is asked f = grind (arith, nat_tests, greeted_is)
 
   module _ (line : List ℕ) where
     by_text : (b : Bool) → bytes_eq (text lab.ids lab.roster r) memory_text ≡ b → Fits lab l first known line r known'
