@@ -1,5 +1,5 @@
 -- What is chosen at a node was granted there last.
-use Rattle.std.proofs.Common.{◌≡◌, ◌≢◌, ◌↔◌, ◌⊎◌, ◌<◌, ℕ, true, not, is_none, List, [], ◌∷◌, ◌++◌, length, Option, None, Some, inl, inr, refl, sym, ap, ◌∙◌, subst, arith}
+use Rattle.std.proofs.Common.{◌≡◌, ◌≢◌, ◌↔◌, ◌⊎◌, ◌<◌, ℕ, true, List, [], ◌∷◌, ◌++◌, length, Option, None, Some, inl, inr, refl, sym, ap, subst, arith}
 use Rattle.std.specs.List.{list_all}
 use Rattle.std.proofs.lemmas.Bool.{and_parts, and_from, false≢true, ltb-true, cases_eq, eq-eqb, ne_eqb}
 use Rattle.std.proofs.lemmas.List.{get_or-set_same, get_or-set_other}
@@ -17,6 +17,7 @@ use Rattle.mml_board.proofs.RunsLemmas.{legal-possible}
 use Rattle.mml_audit.proofs.AuditMeaningLemmas.{reached_first}
 use Rattle.mml_tally.specs.Meaning.{leaves}
 use Rattle.mml_laws.specs.Choices.{IsGrantedLast}
+use Rattle.std.proofs.lemmas.Bool.Decides.{nat_tests}
 
 -- the rule was chosen by the event, or before it and kept by it
 abbrev IsFrom : World → Event → ℕ → Rule → Type 0
@@ -30,22 +31,10 @@ some_same p q h = cc
 
 module _ (w : World) (is : IsWorld w) where
   by_grant : (s j i : ℕ) (p q : Rule) → j < size w → chosen_at (after w (event.Grant s j p)).chosen i ≡ Some q → IsFrom w (event.Grant s j p) i q
-  by_grant s j i p q lt h = elim (cases_eq i j) [
-    | inl same ↦
-        let here : chosen_at (after w (event.Grant s j p)).chosen j ≡ Some p = get_or-set_same w.chosen j (Some p) None (omega (arith, is.choices, lt)) in
-        let at : chosen_at (after w (event.Grant s j p)).chosen j ≡ Some q = subst (λ k. chosen_at (after w (event.Grant s j p)).chosen k ≡ Some q) same h in
-        inl (s, λ k. event.Grant s (sym same k) (some_same p q (sym here ∙ at) k))
-    | inr other ↦ inr (sym (get_or-set_other w.chosen j i (Some p) None other) ∙ h, refl)
-  ]
+  by_grant s j i p q lt h = grind (arith, nat_tests, cases_eq, get_or-set_same, some_same, get_or-set_other)
 
   by_release : (j i : ℕ) (q : Rule) → j < size w → chosen_at (after w (event.Release j)).chosen i ≡ Some q → IsFrom w (event.Release j) i q
-  by_release j i q lt h = elim (cases_eq i j) [
-    | inl same ↦
-        let here : chosen_at (after w (event.Release j)).chosen i ≡ None =
-        subst (λ k. chosen_at (after w (event.Release j)).chosen k ≡ None) (sym same) (get_or-set_same w.chosen j None None (omega (arith, is.choices, lt))) in
-        absurd (none_some _ q here h)
-    | inr other ↦ inr (sym (get_or-set_other w.chosen j i None None other) ∙ h, ap not (ne_eqb j i (λ e. other (sym e))))
-  ]
+  by_release j i q lt h = grind (arith, nat_tests, cases_eq, get_or-set_same, none_some, get_or-set_other, ne_eqb)
 
   one_back : (r : RosterValue) (e : Event) (i : ℕ) (q : Rule) → is_legal r w e ≡ true → chosen_at (after w e).chosen i ≡ Some q → IsFrom w e i q
   one_back r (event.Grant s j p) i q legal h =
@@ -58,27 +47,12 @@ module _ (w : World) (is : IsWorld w) where
 
   granted_here : (r : RosterValue) (s i : ℕ) (q : Rule) → is_legal r w (event.Grant s i q) ≡ true
       → chosen_at (after w (event.Grant s i q)).chosen i ≡ Some q
-  granted_here r s i q legal =
-      let lt = ltb-true i (size w) (and_parts (is_node w i) _ (legal-possible r w (event.Grant s i q) legal)).0 in
-      get_or-set_same w.chosen i (Some q) None (omega (arith, is.choices, lt))
+  granted_here r s i q legal = grind (arith, nat_tests, ltb-true, and_parts, legal-possible, get_or-set_same)
 
   -- a grant isn't legal where a move is chosen
   kept_on : (r : RosterValue) (e : Event) (i : ℕ) (q : Rule) → is_legal r w e ≡ true → leaves i e ≡ true → chosen_at w.chosen i ≡ Some q
       → chosen_at (after w e).chosen i ≡ Some q
-  kept_on r (event.Grant s j p) i q legal keep h = elim (cases_eq i j) [
-    | inl same ↦ absurd (taken (subst (λ k. chosen_at w.chosen k ≡ Some q) same h))
-    | inr other ↦ get_or-set_other w.chosen j i (Some p) None other ∙ h
-  ]
-    where
-      taken : chosen_at w.chosen j ≡ Some q → ⊥
-      taken e =
-          let free = (and_parts (is_none (chosen_at w.chosen j)) _ (and_parts (is_node w j) _ (legal-possible r w (event.Grant s j p) legal)).1).0 in
-          false≢true (sym (ap is_none e) ∙ free)
-  kept_on r (event.Release j) i q legal keep h = elim (cases_eq i j) [
-    | inl same ↦ absurd (false≢true (sym (ap not (eq-eqb j i (sym same))) ∙ keep))
-    | inr other ↦ get_or-set_other w.chosen j i None None other ∙ h
-  ]
-  kept_on r _ i q legal keep h = absurd (false≢true keep)
+  kept_on r e i q legal keep h = grind (arith, nat_tests, cases_eq, get_or-set_other, and_parts, legal-possible, false≢true, eq-eqb)
 
 after_legal : (r : RosterValue) (w : World) (e : Event) → IsWorld w → is_legal r w e ≡ true → IsWorld (after w e)
 after_legal r w e is legal = after-world w e is (legal-possible r w e legal)

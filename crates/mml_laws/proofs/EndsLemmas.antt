@@ -16,7 +16,7 @@ use Rattle.mml_policy.specs.Alike.{IsWorldOf}
 use Rattle.mml_policy.specs.Asking.{asker, command_of, id_of, asked_of}
 use Rattle.mml_policy.specs.Rulings.{event_of}
 use Rattle.mml_policy.proofs.AskingLemmas.{granted_iff}
-use Rattle.mml_board.specs.Lists.{world_in}
+use Rattle.mml_board.specs.Lists.{world_in, world_in}
 use Rattle.mml_audit.specs.AuditMeaning.{IsJournalOf}
 use Rattle.mml_stable.specs.Listed.{IsMaximalMatching}
 use Rattle.mml_convergence.specs.Moves.{applied_over, count_closes}
@@ -27,12 +27,12 @@ use Rattle.mml_convergence.proofs.AppliedLemmas.{moves_bounded, closes_bounded}
 use Rattle.mml_stable.proofs.ListedLemmas.{listed_matching}
 use Rattle.mml_stable.proofs.MatchingLemmas.{stable-means}
 use Rattle.mml_convergence.proofs.RestLemmas.{ended}
-use Rattle.mml_board.specs.Lists.{world_in}
 use Rattle.mml_window.specs.Rulings.{ruling_while}
 use Rattle.mml_laws.specs.Ends.{GrantsNoStep}
 use Rattle.mml_laws.proofs.ChoicesLemmas.{opening}
 use Rattle.mml_laws.proofs.RestWithinLemmas.{size-world_of}
 use Rattle.mml_laws.proofs.RuledLemmas.{ruled_granted}
+use Rattle.std.proofs.lemmas.Bool.Decides.{nat_tests}
 
 some_not_none : (e : Event) → Some e ≢ None
 some_not_none e h = cc
@@ -95,9 +95,7 @@ over_is_stable bytes lab es w halted spelled legal here room running none =
 
 module _ (lab : LabValue) (es fs : List Event) (bytes : List ℕ) (is : IsLab lab) (journal : IsJournalOf lab (es ++ fs) bytes) (steps : list_all is_of_step fs ≡ true) where
   both_legal : (is_legal_list lab.roster (opening_of lab.network) es ≡ true) × (is_legal_list lab.roster (world_in lab es) fs ≡ true)
-  both_legal =
-      and_parts (is_legal_list lab.roster (opening_of lab.network) es) (is_legal_list lab.roster (world_in lab es) fs)
-      (sym (legal-append lab.roster (opening_of lab.network) es fs) ∙ journal.legal)
+  both_legal = grind (arith, nat_tests, and_parts, legal-append)
 
   pub few_moves : applied_over (world_in lab es) fs ≤ 2 * link_count (world_in lab es).network + 3 * length lab.ids
   few_moves =

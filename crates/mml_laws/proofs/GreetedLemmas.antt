@@ -1,5 +1,5 @@
 -- Who a connection is known as, in a hall and in a session.
-use Rattle.std.proofs.Common.{◌≡◌, ◌⊎◌, ◌-◌, ℕ, List, Option, None, Some, Result, Ok, inl, inr, sym, ap, ◌∙◌, subst}
+use Rattle.std.proofs.Common.{◌≡◌, ◌⊎◌, ℕ, List, Option, None, Some, Ok, ap, ◌∙◌, arith}
 use Rattle.std.proofs.lemmas.List.{set-get_or}
 use Rattle.mml_lab.specs.declared.who.Who.{Who}
 use Rattle.mml_lab.specs.Labs.{LabValue}
@@ -12,7 +12,6 @@ use Rattle.mml_policy.specs.declared.denial.Denial.TheVariants as denial
 use Rattle.mml_policy.specs.Rulings.{ruling}
 use Rattle.mml_codec.specs.declared.greeting.Greeting.{Greeting}
 use Rattle.mml_codec.specs.declared.greeting.Greeting.TheVariants.{Answered, LeftToJudge}
-use Rattle.mml_codec.specs.declared.request.LineFault.{LineFault}
 use Rattle.mml_codec.specs.declared.request.Request.{Request}
 use Rattle.mml_codec.specs.declared.request.Request.TheVariants as requests
 use Rattle.mml_codec.specs.declared.reply.Reply.{Reply}
@@ -22,6 +21,7 @@ use Rattle.mml_codec.specs.Lines.{request_in}
 use Rattle.mml_hall.specs.Turns as hall
 use Rattle.mml_session.specs.Turns as session
 use Rattle.mml_laws.specs.Greeted.{IsTold, IsDenied}
+use Rattle.std.proofs.lemmas.Bool.Decides.{nat_tests}
 
 pub nobody_greets : (r : RosterValue) (name key : List ℕ) → IsRoster r → ((w : Who) → ¬ IsKnownAs r w name key)
     → greeting r None (requests.Hello name key) ≡ Answered (reply.Deny denial.Unknown) None
@@ -31,9 +31,7 @@ nobody_greets r name key is none = ap admitted ((principal-nobody r name key is)
 
 module _ (lab : LabValue) (st : hall.State) (k : ℕ) where
   same_known : (x : Option Who) → hall.known_on st k ≡ x → hall.with_known st k x ≡ st
-  same_known x e =
-      subst (λ (y : Option Who). hall.with_known st k y ≡ st) e
-      (ap (λ (xs : List (Option Who)). record { world = st.world; events = st.events; greeted = xs; halted = st.halted }) (set-get_or st.greeted (k - 1) None))
+  same_known x e = grind (arith, nat_tests, set-get_or)
 
   -- a greeting that is denied changes nothing
   denied_so : (d : Denial) (x : Option Who) → hall.known_on st k ≡ x → hall.settled lab st k (Answered (reply.Deny d) x) ≡ hall.replied st (reply.Deny d)
@@ -47,10 +45,7 @@ module _ (lab : LabValue) (st : hall.State) (k : ℕ) where
 
     told_so : (d : Denial) (out : hall.Outcome) → hall.plain_turn lab st k line ≡ hall.replied st (reply.Deny d) → hall.Turn lab st k line out
         → IsTold st (reply.Deny d) out
-    told_so d out plain (hall.nothing, e) = inl (e ∙ plain)
-    told_so d out plain (hall.while_read, e) = inr e
-    told_so d out plain (hall.later, e) = inl (e ∙ ap (hall.unless_refused st) plain)
-    told_so d out plain (hall.sink_failed, e) = inl (e ∙ ap (hall.unless_failed st) plain)
+    told_so d out plain fact = grind (arith, nat_tests)
 
     pub hall_again : (out : hall.Outcome) (x : Who) (name key : List ℕ) → hall.known_on st k ≡ Some x → request_in line ≡ Ok (requests.Hello name key)
         → hall.Turn lab st k line out → IsTold st (reply.Deny denial.Greeted) out
@@ -80,37 +75,24 @@ module _ (lab : LabValue) (st : hall.State) (k : ℕ) where
 module _ (lab : LabValue) (st next : session.Standing) (line : List ℕ) (r : Reply) where
   settles_so : (q : Request) (g : Greeting) → request_in line ≡ Ok q → greeting lab.roster st.known q ≡ g → session.Turn lab st line r next
       → session.Settles lab st g r next ⊎ session.Unread st r next
-  settles_so q g asked e (inl h) =
-      inl (subst (λ (x : Greeting). session.Settles lab st x r next) e
-      (subst (λ (a : Result Request LineFault). session.Asked lab st a r next) asked h))
-  settles_so q g asked e (inr h) = inr h
+  settles_so q g asked e fact = grind (arith, nat_tests)
 
   denied_in : (d : Denial) (x : Option Who) → st.known ≡ x → session.Settles lab st (Answered (reply.Deny d) x) r next ⊎ session.Unread st r next
       → IsDenied d st r next
-  denied_in d x known (inl h) = inl (h.0, h.1 ∙ (λ j. session.standing (sym known j) st.window))
-  denied_in d x known (inr h) = inr h
+  denied_in d x known fact = grind (arith, nat_tests)
 
   pub session_again : (x : Who) (name key : List ℕ) → st.known ≡ Some x → request_in line ≡ Ok (requests.Hello name key)
       → session.Turn lab st line r next → IsDenied denial.Greeted st r next
-  session_again x name key known asked t =
-      denied_in denial.Greeted (Some x) known
-      (settles_so (requests.Hello name key) (Answered (reply.Deny denial.Greeted) (Some x)) asked
-      (ap (λ (y : Option Who). greeting lab.roster y (requests.Hello name key)) known) t)
+  session_again x name key known asked t = grind (arith, nat_tests, denied_in, settles_so)
 
   pub session_unknown : (c : Command) → st.known ≡ None → request_in line ≡ Ok (requests.Do c)
       → session.Turn lab st line r next → IsDenied denial.NotGreeted st r next
-  session_unknown c known asked t =
-      denied_in denial.NotGreeted None known
-      (settles_so (requests.Do c) (Answered (reply.Deny denial.NotGreeted) None) asked
-      (ap (λ (y : Option Who). greeting lab.roster y (requests.Do c)) known) t)
+  session_unknown c known asked t = grind (arith, nat_tests, denied_in, settles_so)
 
   judged_in : (x : Who) (c : Command) → st.known ≡ Some x → session.Settles lab st (LeftToJudge x c) r next ⊎ session.Unread st r next
       → ((next.known ≡ Some x) × session.Told lab st.window x c r next.window) ⊎ session.Unread st r next
-  judged_in x c known (inl h) = inl (h.0 ∙ known, h.1)
-  judged_in x c known (inr h) = inr h
+  judged_in x c known fact = grind (arith, nat_tests)
 
   pub session_judged : (x : Who) (c : Command) → st.known ≡ Some x → request_in line ≡ Ok (requests.Do c) → session.Turn lab st line r next
       → ((next.known ≡ Some x) × session.Told lab st.window x c r next.window) ⊎ session.Unread st r next
-  session_judged x c known asked t =
-      judged_in x c known
-      (settles_so (requests.Do c) (LeftToJudge x c) asked (ap (λ (y : Option Who). greeting lab.roster y (requests.Do c)) known) t)
+  session_judged x c known asked t = grind (arith, nat_tests, judged_in, settles_so)

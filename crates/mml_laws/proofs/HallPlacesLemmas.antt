@@ -27,6 +27,7 @@ use Rattle.mml_window.proofs.ListLemmas as lists
 use Rattle.mml_window.proofs.PrefixLemmas.{prefix_self, prefix_trans}
 use Rattle.mml_laws.specs.Told.{IsToldAt, NamesItsEvent, EachNamesItsEvent}
 use Rattle.mml_laws.proofs.ToldAtLemmas.{told_at, longer}
+use Rattle.std.proofs.lemmas.Bool.Decides.{nat_tests}
 
 -- ---- states on the way
 
@@ -41,11 +42,7 @@ on_hall lab st is = record { legal = is.legal; few = is.few; world = is.events }
 
 module _ (lab : LabValue) (is : IsLab lab) where
   on_quiet : (st : State) (out : Outcome) → IsOn lab st → IsQuiet st out → IsOn lab out.state
-  on_quiet st out on q = record {
-    legal = subst (λ (l : List Event). is_legal_in lab l ≡ true) (sym q.events) on.legal;
-    few = subst (λ (l : List Event). length l ≤ lab.events) (sym q.events) on.few;
-    world = q.world ∙ on.world ∙ ap (world_in lab) (sym q.events);
-  }
+  on_quiet st out on q = grind (arith, nat_tests)
 
   on_granting : (st : State) (k : ℕ) (asked : Result Request LineFault) (out : Outcome) → IsOn lab st → IsGranting lab st k asked out → IsOn lab out.state
   on_granting st k asked out on g =

@@ -18,6 +18,7 @@ use Rattle.mml_journal.proofs.LengthLemmas.{line_unbroken}
 use Rattle.mml_journal.proofs.MemberLemmas.{legal_member}
 use Rattle.mml_audit.specs.AuditMeaning.{IsJournalOf}
 use Rattle.mml_audit.proofs.AuditMeaningLemmas.{IsReached, reached_next, reached_first}
+use Rattle.std.proofs.lemmas.Bool.Decides.{nat_tests}
 
 nothing_else : (line : List ℕ) (lines : List (List ℕ)) → [] ≢ line ∷ lines
 nothing_else line lines h = cc
@@ -44,14 +45,10 @@ module _ (lab : LabValue) (is : IsLab lab) where
 
   pub said_next : (w : World) (e : Event) → IsReached lab w → is_legal lab.roster w e ≡ true → w.place < lab.events
       → said_by lab.ids lab.roster (line w e) ≡ Ok (w.place + 1, w.number, e)
-  said_next w e on legal room =
-      text_is_read lab.ids lab.roster (w.place + 1) w.number e is.ids is.roster (omega (arith, room, is.few_events))
-      (omega (arith, room, is.few_events, on.number)) (legal_member lab.ids lab.roster w is.roster on.world.world on.world.nodes e legal)
+  said_next w e on legal room = grind (arith, nat_tests, text_is_read, legal_member)
 
   unbroken_next : (w : World) (e : Event) → IsReached lab w → is_legal lab.roster w e ≡ true → w.place < lab.events → IsUnbroken (line w e)
-  unbroken_next w e on legal room =
-      line_unbroken lab.ids lab.roster (w.place + 1) w.number e is.ids is.roster (omega (arith, room, is.few_events))
-      (omega (arith, room, is.few_events, on.number)) (legal_member lab.ids lab.roster w is.roster on.world.world on.world.nodes e legal)
+  unbroken_next w e on legal room = grind (arith, nat_tests, line_unbroken, legal_member)
 
   -- the first line is the first event's
   pub lines_next : (w : World) (e : Event) (es : List Event) → IsReached lab w → is_legal lab.roster w e ≡ true → w.place < lab.events

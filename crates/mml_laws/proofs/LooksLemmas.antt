@@ -1,7 +1,6 @@
 -- A look is whole.
-use Rattle.std.proofs.Common.{◌≡◌, ◌↔◌, ◌⊎◌, ◌<◌, ◌+◌, ℕ, zero, suc, Bool, true, false, cond, ◌||◌, nat_le, List, [], ◌∷◌, ◌++◌, Option, None, Some, option_map, Result, Ok, Err, inl, inr, refl, sym, ap, ◌∙◌, subst, arith, add-one}
+use Rattle.std.proofs.Common.{◌≡◌, ◌↔◌, ◌⊎◌, ◌<◌, ◌+◌, ℕ, zero, suc, Bool, true, false, cond, ◌||◌, List, [], ◌∷◌, ◌++◌, Option, Some, option_map, Result, Ok, inl, inr, refl, sym, ap, ◌∙◌, subst, arith, add-one}
 use Rattle.std.specs.List.{All, Contains}
-use Rattle.std.specs.Option.{ok_or}
 use Rattle.std.proofs.lemmas.Bool.{cases_eq, both_ways, or_cases, or_left, or_right}
 use Rattle.std.proofs.lemmas.List.Elements.{All-nil, All-cons, All-append, All-head, All-tail, All-weaker, All-contains}
 use Rattle.std.proofs.lemmas.List.Elements.{Contains-append_left, Contains-append_right, Contains-push}
@@ -23,16 +22,13 @@ use Rattle.mml_board.specs.World.{World, size, configuration, chosen_at}
 use Rattle.mml_board.specs.Events.{done_by}
 use Rattle.mml_policy.specs.declared.command.Command.TheVariants as command
 use Rattle.mml_policy.specs.declared.denial.Denial.{Denial}
-use Rattle.mml_policy.specs.declared.denial.Denial.TheVariants.{NotOwner}
 use Rattle.mml_policy.specs.declared.look.Look as TheLook
 use Rattle.mml_policy.specs.declared.see.See as TheSee
 use Rattle.mml_policy.specs.declared.ruling.Ruling.TheVariants.{Full, Journal, Granted, Seen, Looked}
 use Rattle.mml_policy.specs.declared.verdict.Leave.{Leave}
-use Rattle.mml_policy.specs.declared.verdict.Leave.TheVariants.{See, Look, Report, Grant}
-use Rattle.mml_policy.specs.Clauses.{node}
+use Rattle.mml_policy.specs.declared.verdict.Leave.TheVariants.{Look}
 use Rattle.mml_policy.specs.Rulings.{ruled, ruling}
 use Rattle.mml_policy.specs.Shown.{look_of, near, near_below}
-use Rattle.mml_policy.specs.Verdicts.{clauses}
 use Rattle.mml_policy.specs.Visible.{is_teacher}
 use Rattle.mml_policy.proofs.ClausesLemmas.{node-ok}
 use Rattle.mml_policy.proofs.NearLemmas.{passing_with, passing_without, shown}
@@ -40,6 +36,7 @@ use Rattle.mml_policy.proofs.SeenLemmas.{see_shows}
 use Rattle.mml_policy.proofs.VisibleLemmas.{teacher_is}
 use Rattle.mml_stable.specs.Listed.{Rises}
 use Rattle.mml_laws.specs.Looks.{IsLinkedWith, IsEnabledKind, IsWholeLook}
+use Rattle.std.proofs.lemmas.Bool.Decides.{nat_tests}
 
 -- ---- the nodes near
 
@@ -80,16 +77,7 @@ module _ (w : World) (i : ℕ) where
   }
 
   one_without : (n : ℕ) → (configuration w).linked i n ≡ false → IsNearBelow n (near_below w i n) → IsNearBelow (suc n) (near_below w i n)
-  one_without n apart h = record {
-    only =
-        All-weaker (λ x. (x.0 < n) × IsLinkedWith w i x) (λ x. (x.0 < suc n) × IsLinkedWith w i x) (λ x k. (omega (arith, k.0), k.1)) (near_below w i n)
-        h.only;
-    all = λ j lt l. elim (cases_eq j n) [
-      | inl e ↦ absurd (both_ways ((configuration w).linked i n) apart (subst (λ k. (configuration w).linked i k ≡ true) e l))
-      | inr ne ↦ h.all j (omega (arith, lt, ne)) l
-    ];
-    rising = h.rising;
-  }
+  one_without n apart h = grind (arith, nat_tests, cases_eq, both_ways)
 
   near_step : (n : ℕ) (b : Bool) → (configuration w).linked i n ≡ b → IsNearBelow n (near_below w i n) → IsNearBelow (n + 1) (near_below w i (n + 1))
   near_step n true e h =
@@ -110,18 +98,11 @@ module _ (w : World) (i : ℕ) where
   -- ---- the look
 
   chosen_kind : (o : Option Rule) (kind : Kind) → (option_map kind_of o ≡ Some kind) ↔ ((q : Rule) × (o ≡ Some q) × (kind_of q ≡ kind))
-  chosen_kind None kind = (λ h. absurd cc, λ h. absurd (let e = h.1 in cc))
-  chosen_kind (Some q) kind = (
-    (λ h. let same : kind_of q ≡ kind = cc in (q, refl, same)),
-    (λ h. let same : q ≡ h.0 = let e = h.1 in cc in ap Some (ap kind_of same ∙ h.2)),
-  )
+  chosen_kind o kind = grind (arith, nat_tests)
 
   module _ (lawful : IsLawful (configuration w)) where
     enabled : (kind : Kind) → (enabled_kind (configuration w) i ≡ Some kind) ↔ IsEnabledKind w i kind
-    enabled kind = (
-      (λ h. let g = kind-guard (configuration w) i kind h in (g.0, g.1, (guard-means (configuration w) i g.0 lawful).0 g.2)),
-      (λ h. guard-kind (configuration w) i h.0 lawful ((guard-means (configuration w) i h.0 lawful).1 h.2) ∙ ap Some h.1),
-    )
+    enabled kind = grind (arith, nat_tests, kind-guard, guard-means, guard-kind)
 
     near_exact : (n : ℕ × Regs) → Contains (near w i) n ↔ IsLinkedWith w i n
     near_exact n = (
@@ -143,17 +124,11 @@ module _ (w : World) (i : ℕ) where
 -- ---- when it is answered
 
 shows_nothing : (full halted : Bool) (w : World) (e : Event) (l : TheLook.Look) → cond full Full (cond halted Journal (Granted e (done_by w e))) ≡ Looked l → ⊥
-shows_nothing true halted w e l h = cc
-shows_nothing false true w e l h = cc
-shows_nothing false false w e l h = cc
+shows_nothing full halted w e l h = grind (arith, nat_tests)
 
 looked : (limit : ℕ) (halted : Bool) (w : World) (found : Result Leave Denial) (l : TheLook.Look) → ruled limit halted w found ≡ Looked l
     → (i : ℕ) × (found ≡ Ok (Look i)) × (l ≡ look_of w i)
-looked limit halted w (Ok (See i)) l h = absurd cc
-looked limit halted w (Ok (Look i)) l h = let same : l ≡ look_of w i = cc in (i, refl, same)
-looked limit halted w (Ok Report) l h = absurd cc
-looked limit halted w (Ok (Grant e)) l h = absurd (shows_nothing (nat_le limit w.place) halted w e l h)
-looked limit halted w (Err d) l h = absurd cc
+looked limit halted w found l h = grind (arith, nat_tests, shows_nothing)
 
 one_node : (i j : ℕ) → (let r : Result Leave Denial = Ok (Look i) in r ≡ Ok (Look j)) → j ≡ i
 one_node i j h = cc
@@ -162,28 +137,17 @@ owner_or_teacher : (r : RosterValue) (x : Who) (i : ℕ) → (is_teacher x || ow
 owner_or_teacher r x i h = elim (or_cases (is_teacher x) (owns r x i) h) [ inl t ↦ inl (teacher_is x t) | inr o ↦ inr o ]
 
 from_owner_or_teacher : (r : RosterValue) (x : Who) (i : ℕ) → (x ≡ who.Teacher) ⊎ (owns r x i ≡ true) → (is_teacher x || owns r x i) ≡ true
-from_owner_or_teacher r x i h = elim h [
-  | inl t ↦ or_left (is_teacher x) (owns r x i) (ap is_teacher t)
-  | inr o ↦ or_right (is_teacher x) (owns r x i) o
-]
+from_owner_or_teacher r x i h = grind (arith, nat_tests, or_left, or_right)
 
 module _ (ids : List ℕ) (r : RosterValue) (limit : ℕ) (halted : Bool) (w : World) (x : Who) (id : ℕ) where
   abbrev IsAnswered : TheLook.Look → Type 0
   IsAnswered l = (i : ℕ) × (rank_in ids id ≡ Some i) × ((x ≡ who.Teacher) ⊎ (owns r x i ≡ true)) × (l ≡ look_of w i)
 
   to_look : (l : TheLook.Look) → ruling ids r limit halted w x (command.Look id) ≡ Looked l → IsAnswered l
-  to_look l h =
-      let shown = looked limit halted w (clauses ids r w x (command.Look id)) l h in
-      let one = bind-ok (node ids id NotOwner) _ _ shown.1 in
-      let two = need-ok (is_teacher x || owns r x one.0) _ _ _ one.2 in
-      (one.0, node-ok ids id NotOwner one.0 one.1, owner_or_teacher r x one.0 two.0, shown.2 ∙ ap (look_of w) (one_node one.0 shown.0 two.1))
+  to_look l h = grind (arith, nat_tests, shown, looked, bind-ok, need-ok, node-ok, owner_or_teacher, one_node)
 
   from_look : (l : TheLook.Look) → IsAnswered l → ruling ids r limit halted w x (command.Look id) ≡ Looked l
-  from_look l f =
-      ap (ruled limit halted w)
-      (bind-from (node ids id NotOwner) _ (Ok (Look f.0)) f.0 (ap (λ o. ok_or o NotOwner) f.1) (
-      need-from (is_teacher x || owns r x f.0) _ _ _ (from_owner_or_teacher r x f.0 f.2) refl))
-      ∙ ap Looked (sym f.3)
+  from_look l f = grind (arith, nat_tests, bind-from, need-from, from_owner_or_teacher)
 
   pub look_shows : (l : TheLook.Look) → (ruling ids r limit halted w x (command.Look id) ≡ Looked l) ↔ IsAnswered l
   look_shows l = (to_look l, from_look l)
@@ -193,9 +157,4 @@ module _ (ids : List ℕ) (r : RosterValue) (limit : ℕ) (halted : Bool) (w : W
 
   pub see_present : (s : TheSee.See) → IsLawful (configuration w) → ruling ids r limit halted w x (command.See id) ≡ Seen s
       → (s.at ≡ w.number) × (rank_in ids id ≡ Some s.node) × (s.regs ≡ registers_at w.network.registers s.node)
-  see_present s lawful h =
-      let a = (see_shows ids r limit halted w x lawful id s).0 h in (
-        ap (λ (k : TheSee.See). k.at) a.3,
-        a.1 ∙ ap (λ (k : TheSee.See). Some k.node) (sym a.3),
-        ap (λ (k : TheSee.See). k.regs) a.3 ∙ ap (λ (k : TheSee.See). registers_at w.network.registers k.node) (sym a.3),
-      )
+  see_present s lawful h = grind (arith, nat_tests, see_shows)

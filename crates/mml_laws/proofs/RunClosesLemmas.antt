@@ -1,5 +1,5 @@
 -- No student is told more closes than the run has.
-use Rattle.std.proofs.Common.{◌≡◌, ℕ, ◌+◌, ◌<◌, ◌≤◌, Bool, true, false, cond, eqb, List, [], ◌∷◌, length, inl, inr, refl, ap, sym, ◌∙◌, arith}
+use Rattle.std.proofs.Common.{◌≡◌, ℕ, ◌+◌, ◌<◌, ◌≤◌, Bool, true, false, cond, eqb, List, [], ◌∷◌, length, refl, ap, arith}
 use Rattle.std.specs.Prelude.{count_by}
 use Rattle.std.specs.List.{filter}
 use Rattle.std.proofs.lemmas.List.Sums.{sum_by-cons}
@@ -14,6 +14,7 @@ use Rattle.mml_tally.specs.Moves.{fate_of, moves_from, moves}
 use Rattle.mml_tally.specs.Marks.{count_closes}
 use Rattle.mml_tally.specs.inside.Closes.{close_of, count_new}
 use Rattle.mml_tally.proofs.ClosesLemmas.{next_close, IsNext, fate_next, closes_counted}
+use Rattle.std.proofs.lemmas.Bool.Decides.{nat_tests}
 
 -- one event more at the front of those that are counted
 more : (p : Event → Bool) (e : Event) (es : List Event) → count_by p (e ∷ es) ≡ cond (p e) 1 0 + count_by p es
@@ -32,26 +33,13 @@ module _ (test : Move → Bool) where
   -- an event that grants nothing and is no close leaves them
   passed : (last q : ℕ) (e : Event) (es : List Event) → counted last q (e ∷ es) ≡ counted last (q + 1) es → next_close q (e ∷ es) ≡ next_close (q + 1) es
       → count_by is_close (e ∷ es) ≡ count_by is_close es → AreFew last (q + 1) es → AreFew last q (e ∷ es)
-  passed last q e es same next closes rest = record {
-    most = omega (arith, same, closes, rest.most);
-    fewer = λ at lt. let fewer = rest.fewer (at ∙ next) (omega (arith, next, lt)) in omega (arith, same, closes, fewer);
-  }
+  passed last q e es same next closes rest = grind (arith, nat_tests)
 
   -- a grant is counted where its close is another than the one before: then it is the next one
   granted : (last q k : ℕ) (es : List Event) → IsNext last (q + 1) es k → AreFew k (q + 1) es
       → (cond (eqb k last) 0 1 + counted k (q + 1) es ≤ count_by is_close es)
       × (last ≡ next_close (q + 1) es → next_close (q + 1) es < q + 1 + length es → cond (eqb k last) 0 1 + counted k (q + 1) es + 1 ≤ count_by is_close es)
-  granted last q k es next rest = elim (cases_eq k last) [
-    | inl e ↦
-        let off : cond {A = ℕ} (eqb k last) 0 1 ≡ 0 = ap (λ b. cond b 0 1) (eq-eqb k last e) in
-        (omega (arith, off, rest.most), λ at lt. let fewer = rest.fewer (e ∙ at) lt in omega (arith, off, fewer))
-    | inr ne ↦
-        let on : cond {A = ℕ} (eqb k last) 0 1 ≡ 1 = ap (λ b. cond b 0 1) (ne_eqb k last ne) in
-        elim next.which [
-          | inl e ↦ absurd (ne e)
-          | inr f ↦ let fewer = rest.fewer f.0 f.1 in (omega (arith, on, fewer), λ at lt. absurd (ne (f.0 ∙ sym at)))
-        ]
-  ]
+  granted last q k es next rest = grind (arith, nat_tests, cases_eq, eq-eqb, ne_eqb)
 
   abbrev move_of : ℕ → ℕ → ℕ → Rule → List Event → Move
   move_of q s i rule es = record { place = q; who = s; node = i; kind = kind_of rule; fate = fate_of i (q + 1) es }

@@ -27,6 +27,8 @@ use Rattle.mml_session.specs.Turns.{Standing, entered, Told, Plainly, Refuses, S
 use Rattle.mml_session.proofs.TalkLemmas.{turn_on}
 use Rattle.mml_laws.specs.Told.{IsToldAt, NamesItsEventIn, EachNamesItsEventIn}
 use Rattle.mml_laws.proofs.ToldAtLemmas.{names_grant, told_at, longer}
+use Rattle.std.proofs.lemmas.Bool.Decides.{nat_tests}
+use Rattle.std.proofs.Common.{arith}
 
 none_named : (r : Reply) (p : ℕ) → place_in r ≡ None → place_in r ≡ Some p → ⊥
 none_named r p none some = cc
@@ -58,8 +60,7 @@ module _ (lab : LabValue) (is : IsLab lab) (l : List Event) (legal : is_legal_in
 
   admitted_names : (st next : Standing) (found : Option Who) (asked : Result Request LineFault) (r : Reply) (p : ℕ)
       → Settles lab st (admitted found) r next → place_in r ≡ Some p → Names st asked p r
-  admitted_names st next None asked r p h named = absurd (none_named r p (ap place_in h.0) named)
-  admitted_names st next (Some x) asked r p h named = absurd (none_named r p (ap place_in h.0) named)
+  admitted_names st next found asked r p h named = grind (arith, nat_tests, none_named)
 
   greeting_names : (st next : Standing) (known : Option Who) (q : Request) (r : Reply) (p : ℕ) → st.known ≡ known
       → Settles lab st (greeting lab.roster known q) r next → IsPrefix next.window.seen l → place_in r ≡ Some p → Names st (Ok q) p r

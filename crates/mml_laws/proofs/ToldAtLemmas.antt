@@ -13,7 +13,7 @@ use Rattle.mml_board.specs.Runs.{is_legal_list, world_of}
 use Rattle.mml_board.proofs.EventsLemmas.{next_place}
 use Rattle.mml_policy.specs.declared.command.Command.{Command}
 use Rattle.mml_policy.specs.declared.ruling.Ruling.{Ruling}
-use Rattle.mml_policy.specs.declared.ruling.Ruling.TheVariants.{Denied, Seen, Looked, Reported, Full, Journal, Granted}
+use Rattle.mml_policy.specs.declared.ruling.Ruling.TheVariants.{Granted}
 use Rattle.mml_policy.specs.Rulings.{after_ruling}
 use Rattle.mml_journal.specs.EventLines.{event_line}
 use Rattle.mml_audit.proofs.AuditMeaningLemmas.{IsReached, reached_next, reached_first}
@@ -27,6 +27,7 @@ use Rattle.mml_window.proofs.ListLemmas as lists
 use Rattle.mml_laws.specs.Told.{IsToldAt}
 use Rattle.mml_laws.proofs.JournalsLemmas.{lines, lines_next, line}
 use Rattle.mml_laws.proofs.RuledLemmas.{ruled_granted}
+use Rattle.std.proofs.lemmas.Bool.Decides.{nat_tests}
 
 -- ---- the line of an event
 
@@ -45,16 +46,7 @@ line_at lab is w (f ∷ before) e later on legal few =
 
 pub names_grant : (w : World) (ruled : Ruling) (p : ℕ) → place_in (reply_of (after_ruling w ruled) ruled) ≡ Some p
     → (e : Event) × (done : Done) × (ruled ≡ Granted e done) × (p ≡ w.place + 1)
-names_grant w (Denied d) p h = absurd cc
-names_grant w (Seen s) p h = absurd cc
-names_grant w (Looked l) p h = absurd cc
-names_grant w Reported p h = absurd cc
-names_grant w Full p h = absurd cc
-names_grant w Journal p h = absurd cc
-names_grant w (Granted e done) p h = (e, done, refl, place (sym (place_of_done (after w e).number (after w e).place done) ∙ h) ∙ next_place w e)
-  where
-    place : {n : ℕ} → Some n ≡ Some p → p ≡ n
-    place h = cc
+names_grant w ruled p h = grind (arith, nat_tests, place_of_done, next_place)
 
 module _ (lab : LabValue) (is : IsLab lab) (l before : List Event) (e : Event) (later : List Event) (done : Done) (x : Who) (c : Command) (r : Reply)
     (halted : Bool) (order : l ≡ before ++ e ∷ later) (legal : is_legal_in lab l ≡ true) (few : length l ≤ lab.events) where

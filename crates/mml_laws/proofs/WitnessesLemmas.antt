@@ -1,13 +1,14 @@
 -- From which end a witness is sought.
-use Rattle.std.proofs.Common.{◌≡◌, ◌≢◌, ◌<◌, ℕ, true, false, Option, Some, None, inl, refl, ap, ◌∙◌, subst, nat_lt, unwrap_or}
+use Rattle.std.proofs.Common.{◌≡◌, ◌<◌, ℕ, true, false, Option, Some, None, inl, refl, ap, subst, arith}
 use Rattle.std.proofs.lemmas.Bool.{and_parts, both_ways, not-true}
 use Rattle.mml_rules.specs.declared.rule.Kind.{Kind}
 use Rattle.mml_rules.specs.Configuration.{Configuration, IsLawful}
 use Rattle.mml_rules.specs.Rules.{enabled_kind, is_married}
-use Rattle.mml_stable.specs.Reports.{is_open, is_free}
+use Rattle.mml_stable.specs.Reports.{is_open}
 use Rattle.mml_stable.specs.Walk.{certificate, LeadsTo, privileged, null, onward, top, walk, unless_seduction}
 use Rattle.mml_stable.proofs.WalkLemmas.{top-ends}
 use Rattle.mml_laws.specs.Witnesses.{EndsIn, IsIdle}
+use Rattle.std.proofs.lemmas.Bool.Decides.{nat_tests}
 
 next_same : (o : Option ℕ) (i j : ℕ) → o ≡ Some i → o ≡ Some j → i ≡ j
 next_same o i j e f = cc
@@ -36,48 +37,26 @@ module _ (c : Configuration) where
     walk_there = ap (λ y. unless_seduction y (enabled_kind c y)) top_there
 
     shown : (kind : Kind) → EndsIn c x kind → walk c i ≡ Some (x, kind)
-    shown kind ends = walk_there ∙ ap (unless_seduction x) ends.0 ∙ by kind ends.1
-      where
-        by : (k : Kind) → k ≢ Kind.Seduction → unless_seduction x (Some k) ≡ Some (x, k)
-        by Kind.Update apart = refl
-        by Kind.Marriage apart = refl
-        by Kind.Seduction apart = absurd (apart refl)
-        by Kind.Abandonment apart = refl
+    shown kind ends = grind (arith, nat_tests, walk_there)
 
     idle : IsIdle c x → walk c i ≡ None
-    idle none = walk_there ∙ by (enabled_kind c x) none
-      where
-        by : (o : Option Kind) → ((kind : Kind) → o ≡ Some kind → kind ≡ Kind.Seduction) → unless_seduction x o ≡ None
-        by None each = refl
-        by (Some k) each = ap (λ j. unless_seduction x (Some j)) (each k refl)
+    idle none = grind (arith, nat_tests, walk_there)
 
   module _ (a b : ℕ) (lawful : IsLawful c) (open_ : is_open c a b ≡ true) where
     parts : (c.linked a b ≡ true) × (is_married c a ≡ false) × (is_married c b ≡ false)
-    parts =
-        let one = and_parts (c.linked a b) _ open_ in
-        let two = and_parts (nat_lt a b) _ one.1 in
-        let three = and_parts (is_free c a) (is_free c b) two.1 in
-        (one.0, not-true _ three.0, not-true _ three.1)
+    parts = grind (arith, nat_tests, and_parts, not-true)
 
     from_lower : (x : ℕ) (kind : Kind) → LeadsTo c a x → EndsIn c x kind → certificate c a b ≡ (x, kind)
     unfolding certificate
-    from_lower x kind leads ends =
-        let here = lawful.in_range a b parts.0 in
-        ap (λ o. unwrap_or o (unwrap_or (walk c b) (a, Kind.Seduction))) (shown lawful a x here.0 parts.1 leads kind ends)
+    from_lower x kind leads ends = grind (arith, nat_tests, parts, shown)
 
     from_higher : (x y : ℕ) (kind : Kind) → LeadsTo c a x → IsIdle c x → LeadsTo c b y → EndsIn c y kind → certificate c a b ≡ (y, kind)
     unfolding certificate
-    from_higher x y kind leads none leads_b ends =
-        let here = lawful.in_range a b parts.0 in
-        ap (λ o. unwrap_or o (unwrap_or (walk c b) (a, Kind.Seduction))) (idle lawful a x here.0 parts.1 leads none)
-        ∙ ap (λ o. unwrap_or o (a, Kind.Seduction)) (shown lawful b y here.1 parts.2 leads_b kind ends)
+    from_higher x y kind leads none leads_b ends = grind (arith, nat_tests, parts, idle, shown)
 
     from_neither : (x y : ℕ) → LeadsTo c a x → IsIdle c x → LeadsTo c b y → IsIdle c y → certificate c a b ≡ (a, Kind.Seduction)
     unfolding certificate
-    from_neither x y leads none leads_b none_b =
-        let here = lawful.in_range a b parts.0 in
-        ap (λ o. unwrap_or o (unwrap_or (walk c b) (a, Kind.Seduction))) (idle lawful a x here.0 parts.1 leads none)
-        ∙ ap (λ o. unwrap_or o (a, Kind.Seduction)) (idle lawful b y here.1 parts.2 leads_b none_b)
+    from_neither x y leads none leads_b none_b = grind (arith, nat_tests, parts, idle)
 
 pub sought_lower : (c : Configuration) (a b x : ℕ) (kind : Kind) → IsLawful c → is_open c a b ≡ true → LeadsTo c a x → EndsIn c x kind
     → certificate c a b ≡ (x, kind)
