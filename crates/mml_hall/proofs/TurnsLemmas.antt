@@ -1,6 +1,6 @@
 -- What turns leave as it was, and where out of memory may stand in the place of a reply.
 use Rattle.std.proofs.lemmas.Bool.Decides.{nat_tests}
-use Rattle.std.proofs.Common.{◌≡◌, ◌≢◌, ◌⊎◌, ◌<◌, ◌-◌, ℕ, Bool, true, false, not, cond, List, Option, Some, None, Result, Ok, Err, refl, sym, ap, ◌∙◌}
+use Rattle.std.proofs.Common.{◌≡◌, ◌≢◌, ◌⊎◌, ◌<◌, ◌-◌, ℕ, Bool, true, false, true≢false, not, cond, List, Option, Some, None, Result, Ok, Err, refl, sym, ap, ◌∙◌}
 use Rattle.std.proofs.Common.{arith, subst, inl, inr}
 use Rattle.std.proofs.lemmas.Bool.{or_right}
 use Rattle.std.proofs.lemmas.List.{get_or-set_other, set-get_or}
@@ -160,14 +160,11 @@ others_turn lab st k j line out t some some' differ = by_turn lab st k line (λ 
 
 -- ---- a reply that isn't short
 
-never : true ≡ false → ⊥
-never h = cc
-
 long_turn : (lab : LabValue) (st : State) (k : ℕ) (line : List ℕ) → is_short (plain_turn lab st k line).reply ≡ false → (plain_turn lab st k line).state ≡ st
 long_turn lab st k line long = elim (plain_does lab st k line) [
   | inl idle ↦ idle.state
-  | inr (inl greets) ↦ absurd (never (sym greets.short ∙ long))
-  | inr (inr grants) ↦ absurd (never (sym (short_done _ _ grants.done) ∙ sym (ap is_short grants.reply) ∙ long))
+  | inr (inl greets) ↦ absurd (true≢false (sym greets.short ∙ long))
+  | inr (inr grants) ↦ absurd (true≢false (sym (short_done _ _ grants.done) ∙ sym (ap is_short grants.reply) ∙ long))
 ]
 
 long_takes_memory : (r : Reply) → is_short r ≡ false → takes_memory r ≡ true
@@ -189,7 +186,7 @@ pub told_turn : (lab : LabValue) (st : State) (k : ℕ) (line : List ℕ) (out :
 told_turn lab st k line out told t (inl same) = subst (λ (r : Reply). Turn lab st k line (record { reply = r; state = out.state })) (sym same) t
 told_turn lab st k line out told t (inr want) =
     by_turn lab st k line (λ out. is_short out.reply ≡ false → Turn lab st k line (record { reply = told; state = out.state }))
-    (wanting lab st k line told want.1) (λ long. absurd (never long)) (λ long. absurd (never long)) out t want.0
+    (wanting lab st k line told want.1) (λ long. absurd (true≢false long)) (λ long. absurd (true≢false long)) out t want.0
 
 -- ---- the events that turns make
 
