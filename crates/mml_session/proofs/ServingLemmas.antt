@@ -1,5 +1,6 @@
 -- What comes of a line, from what its parts say.
-use Rattle.std.proofs.Common.{◌≡◌, ◌≢◌, ℕ, zero, suc, ◌+◌, ◌-◌, ◌*◌, ◌<◌, ◌≤◌, arith, true, true≢false, List, [], ◌++◌, length, sym, refl, Option, Result, Ok, Err, subst}
+use Rattle.std.proofs.Common.{◌≡◌, ◌≢◌, ℕ, ◌+◌, ◌-◌, ◌*◌, ◌<◌, ◌≤◌, arith, true, true≢false, List, [], ◌++◌, length, sym, refl, Option, Result, Ok, Err, subst}
+use Rattle.std.proofs.Math.Nat.{lt_of_not-le}
 use Rattle.std.specs.Io.KnownBytes.{Consumes, prepend_known}
 use Rattle.mml_lab.specs.Labs.{LabValue}
 use Rattle.mml_ids.specs.Lines.{ended}
@@ -40,11 +41,7 @@ pub unread_before : (limit old new old_reads new_reads taken : ℕ) (unread unse
     → (old_reads < new_reads → IsWithinLimit limit unread) → old_reads ≤ new_reads → taken + new ≤ old + READ_SIZE * (new_reads - old_reads)
     → old < READ_SIZE → unsent ≢ [] → taken + new < READ_SIZE
 unread_before limit old new old_reads new_reads taken unread unsent out needed grow counted few some =
-    by_reads (new_reads - old_reads) refl
-  where
-    by_reads : (more : ℕ) → new_reads - old_reads ≡ more → taken + new < READ_SIZE
-    by_reads zero e = omega (arith, grow, counted, few, e)
-    by_reads (suc more) e = let read : old_reads < new_reads = omega (arith, e) in absurd (some (out (needed read)))
+    let still : new_reads < old_reads + 1 = lt_of_not-le (λ read. some (out (needed (omega (arith, read))))) in omega (arith, grow, counted, few, still)
 
 -- a reply's line that stands behind what was held is sent with it
 pub sent_behind : (said : Said) (r : Reply) (unsent whole bytes unsent' : List ℕ) (wrote wrote' : Option (List ℕ)) → bytes ≡ unsent ++ whole
