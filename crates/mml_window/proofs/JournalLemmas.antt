@@ -12,13 +12,8 @@ use Rattle.mml_journal.specs.Sinks.{with_more, IsLineFor}
 use Rattle.mml_journal.proofs.JournalTextLemmas.{one_more}
 use Rattle.mml_board.specs.Lists.{world_in}
 use Rattle.mml_journal.specs.JournalText.{text_in}
-use Rattle.mml_journal.specs.Taken.{IsFresh}
 use Rattle.mml_window.specs.Journals.{IsJournal, TellsJournal}
 use Rattle.mml_window.proofs.ListLemmas.{place_in}
-
--- nothing was granted yet
-pub nothing_told : (lab : LabValue) (told : Option (List ℕ)) → IsFresh told → TellsJournal lab [] false told
-nothing_told lab x1 fresh = grind (arith, nat_tests)
 
 -- the text of one event more
 text-one_more : (lab : LabValue) (l : List Event) (e : Event) → text_in lab (l ++ e ∷ []) ≡ text_in lab l ++ next_line lab.ids lab.roster (world_in lab l) e

@@ -1,12 +1,11 @@
 -- How often a place stands among the places of windows, as cursors move over them.
 use Rattle.std.proofs.lemmas.Bool.Decides.{nat_tests}
-use Rattle.std.proofs.Common.{◌≡◌, ◌≢◌, ◌⊎◌, ℕ, zero, suc, ◌+◌, ◌<◌, ◌≤◌, ◌&&◌, Bool, true, false, List, [], ◌∷◌, ◌++◌, length, take, drop, set, get_or}
-use Rattle.std.proofs.Common.{replicate, add-one, refl, sym, ap, ◌∙◌, subst, ⊎_elim, inl, inr, arith, append_assoc, append-nil, cond, leb, eqb, leb-true}
+use Rattle.std.proofs.Common.{◌≡◌, ◌⊎◌, ℕ, zero, suc, ◌+◌, ◌<◌, ◌≤◌, Bool, List, [], ◌∷◌, ◌++◌, length, take, drop, set, get_or}
+use Rattle.std.proofs.Common.{replicate, add-one, refl, sym, ap, ◌∙◌, subst, ⊎_elim, inl, inr, arith, append_assoc, append-nil, cond, leb, leb-true}
 use Rattle.std.proofs.Common.{leb-false, length-append}
 use Rattle.std.specs.Prelude.{MatchBool}
-use Rattle.std.proofs.lemmas.Bool.{ne_eqb, lt-ltb, le-ltb, lt-leb, le-leb}
-use Rattle.std.proofs.lemmas.Bool.Decides.{eqb_tells}
-use Rattle.std.proofs.lemmas.List.{take_more, drop_more}
+use Rattle.std.proofs.lemmas.Bool.{ne_eqb}
+use Rattle.std.proofs.lemmas.List.{take_more, drop_more, drop_all}
 use Rattle.mml_window.specs.Climbing.{Climbs}
 use Rattle.mml_window.specs.Windows.{WindowValue}
 use Rattle.mml_window.specs.Tallies.{times, told_of, once_from}
@@ -16,28 +15,11 @@ pub times_skip : (p q : ℕ) (qs : List ℕ) → (p ≡ q → ⊥) → times p (
 times_skip p q qs differ = ap (λ (b : Bool). cond b (suc (times p qs)) (times p qs)) (ne_eqb p q differ)
 
 pub times_hit : (p q : ℕ) (qs : List ℕ) → p ≡ q → times p (q ∷ qs) ≡ suc (times p qs)
-times_hit p q qs is =
-    ⊎_elim (λ (t : (eqb p q ≡ true) × (p ≡ q)). ap (λ (b : Bool). cond b (suc (times p qs)) (times p qs)) t.0)
-    (λ (t : (eqb p q ≡ false) × (p ≢ q)). absurd (t.1 is)) (eqb_tells p q)
+times_hit p q qs is = grind (arith, nat_tests)
 
 pub times_append : (p : ℕ) (xs ys : List ℕ) → times p (xs ++ ys) ≡ times p xs + times p ys
 times_append p [] ys = omega arith
-times_append p (x ∷ xs) ys = ⊎_elim
-    (λ (t : (eqb p x ≡ true) × (p ≡ x)). let e : times p (x ∷ xs) ≡ suc (times p xs) =
-    times_hit p x xs t.1 in
-    let f : times p (x ∷ (xs ++ ys)) ≡ suc (times p (xs ++ ys)) =
-    times_hit p x (xs ++ ys) t.1 in
-    let h : times p (xs ++ ys) ≡ times p xs + times p ys =
-    times_append p xs ys in
-    omega (arith, e, f, h))
-    (λ (t : (eqb p x ≡ false) × (p ≢ x)). let e : times p (x ∷ xs) ≡ times p xs =
-    times_skip p x xs t.1 in
-    let f : times p (x ∷ (xs ++ ys)) ≡ times p (xs ++ ys) =
-    times_skip p x (xs ++ ys) t.1 in
-    let h : times p (xs ++ ys) ≡ times p xs + times p ys =
-    times_append p xs ys in
-    omega (arith, e, f, h))
-    (eqb_tells p x)
+times_append p (x ∷ xs) ys = grind (arith, nat_tests, times_append p xs ys)
 
 less_or_not : (a b : ℕ) → (a < b) ⊎ (b ≤ a)
 less_or_not a zero = inr (omega arith)
@@ -79,12 +61,6 @@ stuck_at place ps high n q c lt is differ =
     let climbs = subst (λ (l : List ℕ). Climbs 0 l high) next (climbs_drop 0 ps high n c) in
     subst (IsStuck place) (sym next) (stuck_before place q (drop (n + 1) ps) high differ climbs)
 
-none_behind : (ps : List ℕ) (n : ℕ) → length ps ≤ n → drop n ps ≡ []
-none_behind [] zero le = refl
-none_behind [] (suc n) le = refl
-none_behind (p ∷ ps) zero le = absurd (omega arith)
-none_behind (p ∷ ps) (suc n) le = none_behind ps n (omega arith)
-
 some_behind : (ps : List ℕ) (n : ℕ) → n < length ps → (p : ℕ) × (0 < times p (drop n ps))
 some_behind [] n lt = absurd (omega arith)
 some_behind (p ∷ ps) zero lt = let h : times p (p ∷ ps) ≡ suc (times p ps) = times_hit p p ps refl in (p, omega (arith, h))
@@ -92,7 +68,7 @@ some_behind (p ∷ ps) (suc n) lt = some_behind ps n (omega arith)
 
 -- a cursor is past the places exactly where none of them is left
 pub at_end : (b : Bool) (ps : List ℕ) (n : ℕ) → leb (length ps) n ≡ b → MatchBool b (drop n ps ≡ []) ((p : ℕ) × (0 < times p (drop n ps)))
-at_end x0 ps n is = grind (arith, nat_tests, none_behind, leb-true, some_behind, leb-false)
+at_end x0 ps n is = grind (arith, nat_tests, drop_all, leb-true, some_behind, leb-false)
 
 -- where two parts of what is left have a smaller place beside this one, so do they together
 pub stuck_append : (place : ℕ) (xs ys : List ℕ) → IsStuck place xs → IsStuck place ys → IsStuck place (xs ++ ys)
@@ -178,22 +154,10 @@ told_more ws i w lt =
     ap (λ (l : List WindowValue). length (told_of l)) (take_more ws i w lt) ∙ ap length (told_push (take i ws) (get_or ws i w))
     ∙ length-append (told_of (take i ws)) (get_or ws i w).places
 
-once_low : (first n p : ℕ) → p ≤ first → once_from first n p ≡ 0
-once_low first n p le = ap (λ (b : Bool). cond (b && leb p n) 1 0) (le-ltb first p le)
-
-once_within : (first n p : ℕ) → first < p → p ≤ n → once_from first n p ≡ 1
-once_within first n p above le = grind (arith, nat_tests, once_from, leb, lt-ltb, le-leb)
-
-once_above : (first n p : ℕ) → first < p → n < p → once_from first n p ≡ 0
-once_above first n p above lt = grind (arith, nat_tests, once_from, leb, lt-ltb, lt-leb)
-
 -- the places above the first number up to n are counted off, and these are left
 abbrev pub IsCounted : ℕ → ℕ → List ℕ → List ℕ → Type 0
 IsCounted first n all left = (p : ℕ) → times p all ≡ once_from first n p + times p left
 
 -- before any place is counted off, all are left
 pub counted_none : (first : ℕ) (all left : List ℕ) → left ≡ all → IsCounted first first all left
-counted_none first all left is p = ⊎_elim
-    (λ (l : first < p). omega (arith, ap (times p) is, once_above first first p l l))
-    (λ (l : p ≤ first). omega (arith, ap (times p) is, once_low first first p l))
-    (less_or_not first p)
+counted_none first all left is p = grind (arith, nat_tests, ap (times p) is)
