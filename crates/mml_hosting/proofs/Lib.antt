@@ -1,5 +1,3 @@
-pub mod ChainLemmas
-pub mod PlaceLemmas
+pub mod SeatLemmas
 pub mod PortLemmas
-pub mod SeenLemmas
 pub mod HouseLemmas

@@ -1,35 +1,40 @@
--- Places and their connections, that are served or being served, counted.
+-- Seats and their connections, that are served or being served, counted.
 use Rattle.std.specs.Prelude.{◌≡◌, ◌⊎◌, ℕ, ◌+◌, List, [], ◌∷◌, ◌++◌}
 use Rattle.std.specs.List.{sum_by}
-use Rattle.mml_hosting.specs.Places.{came_to}
-use Rattle.mml_hosting.specs.declared.place.ServedSession.{ServedSession}
-use Rattle.mml_hosting.specs.declared.place.Place.{Place}
+use Rattle.mml_hosting.specs.Seats.{came_to}
+use Rattle.mml_hosting.specs.declared.seat.ServedSession.{ServedSession}
+use Rattle.mml_hosting.specs.declared.seat.Seat.{Seat}
 use Rattle.mml_hosting.specs.declared.port_serving.Busy.{Busy}
 
--- those that will have come to its place
+-- those that will have come to its seat
 abbrev pub bound_for : {H K C R W U : Type 0} → (K → ServedSession R W) → Busy H K C R W U → List (R × W)
-bound_for shows b = came_to shows b.handle.promise.0.value ++ b.handle.promise.1.value ∷ []
+bound_for shows b = came_to shows b.handle.promise.0.value.record ++ b.handle.promise.1.value ∷ []
 
--- what is counted of a place: of its number, and of each connection that came to it
-abbrev pub count_in : {H K C R W : Type 0} → (K → ServedSession R W) → (ℕ → ℕ) → (R × W → ℕ) → Place H K C → ℕ
-count_in shows g h p = g p.number + sum_by h (came_to shows p)
+-- what is counted of a seat: of its number, and of each connection that came to it
+abbrev pub count_in : {H K C R W : Type 0} → (K → ServedSession R W) → (ℕ → ℕ) → (R × W → ℕ) → Seat H K C → ℕ
+count_in shows g h s = g s.record.number + sum_by h (came_to shows s.record)
 
-abbrev pub count_free : {H K C R W : Type 0} → (K → ServedSession R W) → (ℕ → ℕ) → (R × W → ℕ) → List (Place H K C) → ℕ
+abbrev pub count_free : {H K C R W : Type 0} → (K → ServedSession R W) → (ℕ → ℕ) → (R × W → ℕ) → List (Seat H K C) → ℕ
 count_free shows g h free = sum_by (count_in shows g h) free
 
--- what is counted of a place to which one more will have come
+-- what is counted of a seat to which one more will have come
 abbrev pub count_at : {H K C R W U : Type 0} → (K → ServedSession R W) → (ℕ → ℕ) → (R × W → ℕ) → Busy H K C R W U → ℕ
-count_at shows g h b = g b.handle.promise.0.value.number + sum_by h (bound_for shows b)
+count_at shows g h b = g b.handle.promise.0.value.record.number + sum_by h (bound_for shows b)
 
 abbrev pub count_busy : {H K C R W U : Type 0} → (K → ServedSession R W) → (ℕ → ℕ) → (R × W → ℕ) → List (Busy H K C R W U) → ℕ
 count_busy shows g h busy = sum_by (count_at shows g h) busy
 
-abbrev pub count_all : {H K C R W U : Type 0} → (K → ServedSession R W) → (ℕ → ℕ) → (R × W → ℕ) → List (Place H K C) → List (Busy H K C R W U) → ℕ
+abbrev pub count_all : {H K C R W U : Type 0} → (K → ServedSession R W) → (ℕ → ℕ) → (R × W → ℕ) → List (Seat H K C) → List (Busy H K C R W U) → ℕ
 count_all shows g h free busy = count_free shows g h free + count_busy shows g h busy
 
+-- whatever is counted, the free seats and the busy ones have as many as others
+abbrev pub KeepCounts : {H K C R W U : Type 0} → (K → ServedSession R W) → List (Seat H K C) → List (Busy H K C R W U) → List (Seat H K C)
+    → List (Busy H K C R W U) → Type 0
+KeepCounts {H} {K} {C} {R} {W} shows free busy free' busy' = (g : ℕ → ℕ) (h : R × W → ℕ) → count_all shows g h free' busy' ≡ count_all shows g h free busy
+
 -- the connection is among those served or being served, or it was turned away
-abbrev pub TakesIn : {H K C R W U : Type 0} → (K → ServedSession R W) → R × W → List (Place H K C) → List (Busy H K C R W U) → List (Place H K C)
+abbrev pub TakesIn : {H K C R W U : Type 0} → (K → ServedSession R W) → R × W → List (Seat H K C) → List (Busy H K C R W U) → List (Seat H K C)
     → List (Busy H K C R W U) → Type 0
 TakesIn {H} {K} {C} {R} {W} shows ends free busy free' busy' =
     ((g : ℕ → ℕ) (h : R × W → ℕ) → count_all shows g h free' busy' ≡ count_all shows g h free busy + h ends)
-    ⊎ ((g : ℕ → ℕ) (h : R × W → ℕ) → count_all shows g h free' busy' ≡ count_all shows g h free busy)
+    ⊎ KeepCounts shows free busy free' busy'

@@ -1,4 +1,4 @@
-pub mod Places
+pub mod Seats
 pub mod Ports
 pub mod Counting
 pub mod Bringing

@@ -1,13 +1,11 @@
 -- Connections that came to a port.
 use Rattle.std.specs.Prelude.{◌≡◌, ℕ, List, ◌++◌, map, flat_map, length, All, Option}
 use Rattle.std.specs.List.{sum_by}
-use Rattle.mml_lab.specs.Labs.{LabValue}
-use Rattle.mml_board.specs.declared.event.Event.{Event}
+use Rattle.mml_window.specs.Windows.{WindowValue}
 use Rattle.mml_serving.specs.Arriving.{Takes}
-use Rattle.mml_hosting.specs.declared.place.ServedSession.{ServedSession}
-use Rattle.mml_hosting.specs.declared.place.Place.{Place}
-use Rattle.mml_session.specs.Records.{Kept}
-use Rattle.mml_hosting.specs.Places.{IsPlace, came_to}
+use Rattle.mml_hosting.specs.declared.seat.Seat.{Seat}
+use Rattle.mml_hosting.specs.declared.seat.SeatRecord.{SeatRecord}
+use Rattle.mml_hosting.specs.Seats.{IsSeat, Terms, came_to}
 
 -- whatever is counted in them, both lists have as many
 abbrev pub HaveSame : {A : Type 0} → List A → List A → Type 0
@@ -21,14 +19,19 @@ pub record Attends {C : Type 0} (to_come : Option (List C)) (old new : List C) :
   pub came : Takes to_come left connections
   pub each : HaveSame (old ++ connections) (new ++ turned)
 
-abbrev pub numbers_of : {H K C : Type 0} → List (Place H K C) → List ℕ
-numbers_of ps = map (λ p. p.number) ps
+abbrev pub records_of : {H K C : Type 0} → List (Seat H K C) → List (SeatRecord K C)
+records_of ss = map (λ s. s.record) ss
 
--- as many places as there were, with their numbers, in which the old connections and those that came were served, each as often, but for those that were turned away
-pub record ServesPort {H K C R W : Type 0} (lab : LabValue) (begun : List Event) (given : ℕ → Option Kept) (remaining : R → Option (List ℕ))
-    (contents : W → Option (List ℕ)) (recorded : C → Option Kept) (shows : K → ServedSession R W) (to_come : Option (List (R × W)))
-    (old new : List (Place H K C)) : Type 0 where
-  pub places : All (IsPlace lab begun given remaining contents recorded shows) new
+abbrev pub windows_of : {H K C : Type 0} → List (Seat H K C) → List WindowValue
+windows_of ss = map (λ s. s.window) ss
+
+abbrev pub numbers_of : {K C : Type 0} → List (SeatRecord K C) → List ℕ
+numbers_of rs = map (λ r. r.number) rs
+
+-- as many seats as there were, with their numbers, in which the old connections and those that came were served, each as often, but for
+-- those that were turned away
+pub record ServesPort {H K C R W : Type 0} (t : Terms K C R W) (to_come : Option (List (R × W))) (old new : List (Seat H K C)) : Type 0 where
+  pub seats : All (IsSeat t) new
   pub count : length new ≡ length old
-  pub numbers : HaveSame (numbers_of old) (numbers_of new)
-  pub attends : Attends to_come (flat_map (came_to shows) old) (flat_map (came_to shows) new)
+  pub numbers : HaveSame (numbers_of (records_of old)) (numbers_of (records_of new))
+  pub attends : Attends to_come (flat_map (came_to t.shows) (records_of old)) (flat_map (came_to t.shows) (records_of new))

@@ -2,7 +2,7 @@
 use mml_window::{Brand, House};
 
 /// Names one house, for contracts alone, the events that came before it was opened, and what the recorders
-/// of its places had kept.
+/// of its seats had kept.
 pub trait Begun: House {
     ghost use Rattle.std.specs.Prelude.{ℕ, List, Option};
     ghost use Rattle.mml_session.specs.Records.{Kept};
@@ -11,7 +11,7 @@ pub trait Begun: House {
     // The events that came before, in their order.
     ghost begun: { List Event };
 
-    // What the recorder of the place with each number had kept, where it tells.
+    // What the recorder of the seat with each number had kept, where it tells.
     ghost given: { ℕ → Option Kept };
 }
 

@@ -5,11 +5,11 @@
 mod accepting;
 mod begun;
 mod hosted;
-mod place;
 mod port_serving;
+mod seat;
 
 pub use accepting::{Accept, Accepted, Bell, CutOff};
 pub use begun::Begun;
-pub use hosted::{HostFault, Hosted, Record, Recorders, no_recorders, resume_host, serve_host};
-pub use place::{Keep, Place, ServedSession, serve_in};
+pub use hosted::{HostFault, Hosted, Recorders, no_recorders, resume_host, serve_host};
 pub use port_serving::{BUSY, serve_port};
+pub use seat::{Keep, Seat, SeatRecord, ServedSession, serve_in};

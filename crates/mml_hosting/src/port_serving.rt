@@ -1,13 +1,13 @@
-//! A port: connections are taken as they come, each to a place that is free.
-ghost use Rattle.std.specs.Prelude.{◌≡◌, ◌<◌, ◌≤◌, ◌+◌, ◌++◌, ℕ, true, false, All, IfOk, IfErr, IfSome, IfNone, [], ◌∷◌, vec_len, vec_capacity};
+//! A port: connections are taken as they come, each to a seat that is free.
+ghost use Rattle.std.specs.Prelude.{◌≡◌, ◌<◌, ◌≤◌, ◌+◌, ℕ, true, All, IfOk, IfErr, IfSome, IfNone, [], vec_len, vec_capacity};
 ghost use Rattle.std.specs.Thread.{IsSync, IsSend};
-ghost use Rattle.mml_hosting.specs.Places.{IsPlace, came_to};
+ghost use Rattle.mml_hosting.specs.Seats.{IsReady, IsSeat, ServesIn, came_to, terms};
 ghost use Rattle.mml_hosting.specs.Ports.{ServesPort};
-ghost use Rattle.mml_hosting.specs.Counting.{count_free, count_busy, count_in, TakesIn};
+ghost use Rattle.mml_hosting.specs.Counting.{count_free, count_busy, count_in, KeepCounts, TakesIn};
 
 use crate::accepting::{Accept, Accepted, Bell, CutOff};
 use crate::begun::Begun;
-use crate::place::{Keep, Place, serve_in, set_mark};
+use crate::seat::{Keep, Seat, serve_in, set_mark};
 use mml_ids::Memory;
 use mml_journal::Sink;
 use mml_lines::put_all;
@@ -22,28 +22,25 @@ use std::sync::atomic::{AtomicU64, Ordering};
 use std::thread;
 use std::thread::{Promise, PromisedHandle, Scope, Threads};
 
-/// What a connection is told for which no place is free.
+/// What a connection is told for which no seat is free.
 pub const BUSY: &[u8] = b"{\"refuse\":\"busy\"}\n";
 
-// A thread's promise that the connection was served in the place.
+// A thread's promise that the connection was served in the seat.
 #[derive(Drop)]
-struct Pledge<H: Begun, K: Drop, C: Drop, R: Drop, W: Drop>(
-    Snapshot<Place<H, K, C>>,
+struct SeatPledge<H: Begun, K: Drop, C: Drop, R: Drop, W: Drop>(
+    Snapshot<Seat<H, K, C>>,
     Snapshot<(R, W)>,
 );
 
 impl<H: Begun, K: Keep<R, W> + Drop, C: Recorder + Drop, R: Read + Drop, W: Write + Drop> Promise<
-    Place<H, K, C>,
-> for Pledge<H, K, C, R, W> {
-    ghost use Rattle.std.specs.Prelude.{◌≡◌, ◌++◌, [], ◌∷◌};
-    ghost use Rattle.mml_hosting.specs.Places.{IsPlace, came_to};
+    Seat<H, K, C>,
+> for SeatPledge<H, K, C, R, W> {
+    ghost use Rattle.mml_hosting.specs.Seats.{ServesIn, terms};
 
-    ghost kept_by = { λ pledge p. IsPlace H.lab H.begun H.given R.remaining W.contents C.kept K.shows p
-        × (came_to K.shows p ≡ came_to K.shows pledge.0.value ++ pledge.1.value ∷ [])
-        × (p.number ≡ pledge.0.value.number) };
+    ghost kept_by = { λ pledge s. ServesIn (terms H.lab H.begun H.given R.remaining W.contents C.kept K.shows) pledge.0.value pledge.1.value s };
 }
 
-// A place in which a connection is served.
+// A seat in which a connection is served.
 #[derive(Drop)]
 struct Busy<
     H: Begun,
@@ -55,7 +52,7 @@ struct Busy<
 > {
     number: u8,
     line: U,
-    handle: PromisedHandle<Place<H, K, C>, Pledge<H, K, C, R, W>>,
+    handle: PromisedHandle<Seat<H, K, C>, SeatPledge<H, K, C, R, W>>,
 }
 
 impl<
@@ -79,10 +76,10 @@ impl<
         None
     }
 
-    // Waits for one, and gives back its place.
-    fn join_one<Rt: Threads>(rt: &Rt, busy: &mut Vec<Self>, index: usize) -> Place<H, K, C>
+    // Waits for one, and gives back its seat.
+    fn join_one<Rt: Threads>(rt: &Rt, busy: &mut Vec<Self>, index: usize) -> Seat<H, K, C>
         requires { index < vec_len busy.old }
-        ensures place { IsPlace H.lab H.begun H.given R.remaining W.contents C.kept K.shows result }
+        ensures seat { IsSeat (terms H.lab H.begun H.given R.remaining W.contents C.kept K.shows) result }
         ensures count { (g : ℕ → ℕ) (h : R × W → ℕ) →
             count_busy K.shows g h busy.new.items + count_in K.shows g h result ≡ count_busy K.shows g h busy.old.items }
         ensures len { vec_len busy.new + 1 ≡ vec_len busy.old }
@@ -94,8 +91,8 @@ impl<
             handle,
         } = busy.swap_remove(index);
         drop(line);
-        let place = handle.join(rt);
-        place
+        let seat = handle.join(rt);
+        seat
     }
 
     // The one to wait for next: by the marks the first whose thread has come to its end, and without marks any.
@@ -110,20 +107,18 @@ impl<
         }
     }
 
-    // Takes back the places whose threads have come to their end by the marks. Without marks it waits for all
-    // threads, and takes back all places.
+    // Takes back the seats whose threads have come to their end by the marks. Without marks it waits for all
+    // threads, and takes back all seats.
     fn gather<Rt: Threads>(
         rt: &Rt,
-        free: &mut Vec<Place<H, K, C>>,
+        free: &mut Vec<Seat<H, K, C>>,
         busy: &mut Vec<Self>,
         marks: Option<&[AtomicU64]>,
     )
-        requires places { All (IsPlace H.lab H.begun H.given R.remaining W.contents C.kept K.shows) free.old.items }
+        requires seats { All (IsSeat (terms H.lab H.begun H.given R.remaining W.contents C.kept K.shows)) free.old.items }
         requires room { vec_len free.old + vec_len busy.old ≤ vec_capacity free.old }
-        ensures places { All (IsPlace H.lab H.begun H.given R.remaining W.contents C.kept K.shows) free.new.items }
-        ensures count { (g : ℕ → ℕ) (h : R × W → ℕ) →
-            count_free K.shows g h free.new.items + count_busy K.shows g h busy.new.items
-            ≡ count_free K.shows g h free.old.items + count_busy K.shows g h busy.old.items }
+        ensures seats { All (IsSeat (terms H.lab H.begun H.given R.remaining W.contents C.kept K.shows)) free.new.items }
+        ensures count { KeepCounts K.shows free.old.items busy.old.items free.new.items busy.new.items }
         ensures len { vec_len free.new + vec_len busy.new ≡ vec_len free.old + vec_len busy.old }
         ensures capacity { vec_capacity free.new ≡ vec_capacity free.old }
         ensures busy_capacity { vec_capacity busy.new ≡ vec_capacity busy.old }
@@ -135,49 +130,47 @@ impl<
     }
 }
 
-// A place that is free, where one session more may be served.
+// A seat that is free, where one session more may be served.
 fn next_free<H: Begun, K: Keep<R, W> + Drop, C: Recorder + Drop, R: Read + Drop, W: Write + Drop>(
-    free: &mut Vec<Place<H, K, C>>,
-) -> Option<Place<H, K, C>>
-    requires places { All (IsPlace H.lab H.begun H.given R.remaining W.contents C.kept K.shows) free.old.items }
-    ensures place { IfSome result (λ place. IsPlace H.lab H.begun H.given R.remaining W.contents C.kept K.shows place
-        × (place.is_dismissed ≡ false) × (vec_len place.sessions < vec_capacity place.sessions)) }
-    ensures places { All (IsPlace H.lab H.begun H.given R.remaining W.contents C.kept K.shows) free.new.items }
-    ensures some { IfSome result (λ place. (vec_len free.new + 1 ≡ vec_len free.old)
-        × ((g : ℕ → ℕ) (h : R × W → ℕ) → count_free K.shows g h free.new.items + count_in K.shows g h place
+    free: &mut Vec<Seat<H, K, C>>,
+) -> Option<Seat<H, K, C>>
+    requires seats { All (IsSeat (terms H.lab H.begun H.given R.remaining W.contents C.kept K.shows)) free.old.items }
+    ensures ready { IfSome result (IsReady (terms H.lab H.begun H.given R.remaining W.contents C.kept K.shows)) }
+    ensures seats { All (IsSeat (terms H.lab H.begun H.given R.remaining W.contents C.kept K.shows)) free.new.items }
+    ensures some { IfSome result (λ seat. (vec_len free.new + 1 ≡ vec_len free.old)
+        × ((g : ℕ → ℕ) (h : R × W → ℕ) → count_free K.shows g h free.new.items + count_in K.shows g h seat
         ≡ count_free K.shows g h free.old.items)) }
     ensures none { IfNone result (vec_len free.new ≡ vec_len free.old) }
     ensures same { IfNone result ((g : ℕ → ℕ) (h : R × W → ℕ) →
         count_free K.shows g h free.new.items ≡ count_free K.shows g h free.old.items) }
     ensures capacity { vec_capacity free.new ≡ vec_capacity free.old }
 {
-    let mut place = free.pop()?;
-    if !is_made_ready(&mut place) {
-        free.push_reserved(place);
+    let mut seat = free.pop()?;
+    if !is_made_ready(&mut seat) {
+        free.push_reserved(seat);
         return None;
     }
-    Some(place)
+    Some(seat)
 }
 
-// Whether one session more may be served in the place. Where it may, there is room for what is kept of it.
+// Whether one session more may be served in the seat. Where it may, there is room for what is kept of it.
 fn is_made_ready<
     H: Begun,
     K: Keep<R, W> + Drop,
     C: Recorder + Drop,
     R: Read + Drop,
     W: Write + Drop,
->(place: &mut Place<H, K, C>) -> bool
-    requires place { IsPlace H.lab H.begun H.given R.remaining W.contents C.kept K.shows place.old }
-    ensures place { IsPlace H.lab H.begun H.given R.remaining W.contents C.kept K.shows place.new }
-    ensures came { came_to K.shows place.new ≡ came_to K.shows place.old }
-    ensures number { place.new.number ≡ place.old.number }
-    ensures ready { result ≡ true → (place.new.is_dismissed ≡ false)
-        × (vec_len place.new.sessions < vec_capacity place.new.sessions) }
+>(seat: &mut Seat<H, K, C>) -> bool
+    requires seat { IsSeat (terms H.lab H.begun H.given R.remaining W.contents C.kept K.shows) seat.old }
+    ensures seat { IsSeat (terms H.lab H.begun H.given R.remaining W.contents C.kept K.shows) seat.new }
+    ensures came { came_to K.shows seat.new.record ≡ came_to K.shows seat.old.record }
+    ensures number { seat.new.record.number ≡ seat.old.record.number }
+    ensures ready { result ≡ true → IsReady (terms H.lab H.begun H.given R.remaining W.contents C.kept K.shows) seat.new }
 {
-    !place.is_dismissed && place.sessions.reserve(1).is_ok()
+    !seat.is_dismissed && seat.record.sessions.reserve(1).is_ok()
 }
 
-// Says that no place is free, and hangs up.
+// Says that no seat is free, and hangs up.
 fn turn_away<R: Drop, W: Write + HangUp + Drop>(ends: (R, W)) {
     let (_reader, mut writer) = ends;
     // The other side may be gone.
@@ -199,7 +192,7 @@ fn cut_off_all<
     }
 }
 
-// For each number that a place may have, which is a byte, whether the thread there has come to its end: none has.
+// For each number that a seat may have, which is a byte, whether the thread there has come to its end: none has.
 fn new_marks(alloc: Global) -> Result<Vec<AtomicU64>, Memory> {
     let mut marks = Vec::new(alloc);
     for _ in 0..256u16 {
@@ -218,7 +211,7 @@ struct Shared<'s, Rt, S: Sink, H: Begun, G, B> {
     desk: &'s Desk<S, H>,
     gate: &'s G,
     bell: &'s B,
-    // By the number of a place, whether its thread has come to its end.
+    // By the number of a seat, whether its thread has come to its end.
     marks: &'s [AtomicU64],
 }
 
@@ -230,7 +223,7 @@ impl<
     G: Gate + Sync + 's,
     B: Bell + Sync + 's,
 > Shared<'s, Rt, S, H, G, B> {
-    // Serves a connection in a place in a thread of its own. Where none can be made it is ended before it
+    // Serves a connection in a seat in a thread of its own. Where none can be made it is ended before it
     // is served, so that nobody behind waits for it; but at the desk it is served at once.
     fn serve_apart<
         E,
@@ -242,18 +235,14 @@ impl<
     >(
         &self,
         scope: &Scope<'s, E>,
-        place: Place<H, K, C>,
+        seat: Seat<H, K, C>,
         ends: (R, W),
         line: &U,
-    ) -> Result<PromisedHandle<Place<H, K, C>, Pledge<H, K, C, R, W>>, Place<H, K, C>>
-        requires place { IsPlace H.lab H.begun H.given R.remaining W.contents C.kept K.shows place }
-        requires open { place.is_dismissed ≡ false }
-        requires room { vec_len place.sessions < vec_capacity place.sessions }
-        ensures pledged { IfOk result (λ handle. (handle.promise.0.value ≡ place)
+    ) -> Result<PromisedHandle<Seat<H, K, C>, SeatPledge<H, K, C, R, W>>, Seat<H, K, C>>
+        requires { IsReady (terms H.lab H.begun H.given R.remaining W.contents C.kept K.shows) seat }
+        ensures pledged { IfOk result (λ handle. (handle.promise.0.value ≡ seat)
             × (handle.promise.1.value ≡ ends)) }
-        ensures served { IfErr result (λ served. IsPlace H.lab H.begun H.given R.remaining W.contents C.kept K.shows served
-            × (came_to K.shows served ≡ came_to K.shows place ++ ends ∷ [])
-            × (served.number ≡ place.number)) }
+        ensures served { IfErr result (ServesIn (terms H.lab H.begun H.given R.remaining W.contents C.kept K.shows) seat ends) }
     {
         let rt = self.rt;
         let alloc = self.alloc;
@@ -261,23 +250,19 @@ impl<
         let gate = self.gate;
         let bell = self.bell;
         let marks = self.marks;
-        let is_desk = place.is_desk;
-        set_mark(marks, place.number, 0);
-        let pledge = Pledge(Snapshot::of(&place), Snapshot::of(&ends));
+        let is_desk = seat.is_desk;
+        set_mark(marks, seat.record.number, 0);
+        let pledge = SeatPledge(Snapshot::of(&seat), Snapshot::of(&ends));
         match scope.spawn_with(
             pledge,
-            move || -> Place<H, K, C>
-                requires { IsPlace H.lab H.begun H.given R.remaining W.contents C.kept K.shows place
-                    × (place.is_dismissed ≡ false)
-                    × (vec_len place.sessions < vec_capacity place.sessions) }
-                ensures { IsPlace H.lab H.begun H.given R.remaining W.contents C.kept K.shows result
-                    × (came_to K.shows result ≡ came_to K.shows place ++ ends ∷ [])
-                    × (result.number ≡ place.number) }
+            move || -> Seat<H, K, C>
+                requires { IsReady (terms H.lab H.begun H.given R.remaining W.contents C.kept K.shows) seat }
+                ensures { ServesIn (terms H.lab H.begun H.given R.remaining W.contents C.kept K.shows) seat ends result }
             {
                 let setting = Setting { rt, alloc, desk };
-                let place = serve_in(&setting, place, ends, gate, marks);
-                bell.ring(place.is_dismissed);
-                place
+                let seat = serve_in(&setting, seat, ends, gate, marks);
+                bell.ring(seat.is_dismissed);
+                seat
             },
         ) {
             Ok(handle) => Ok(handle),
@@ -290,7 +275,7 @@ impl<
         }
     }
 
-    // Serves a connection in a place that is free, and turns it away where none is.
+    // Serves a connection in a seat that is free, and turns it away where none is.
     fn take_in<
         E,
         K: Keep<R, W> + Send + Drop + 's,
@@ -301,15 +286,15 @@ impl<
     >(
         &self,
         scope: &Scope<'s, E>,
-        free: &mut Vec<Place<H, K, C>>,
+        free: &mut Vec<Seat<H, K, C>>,
         busy: &mut Vec<Busy<H, K, C, R, W, U>>,
         ends: (R, W),
         line: U,
     )
-        requires places { All (IsPlace H.lab H.begun H.given R.remaining W.contents C.kept K.shows) free.old.items }
+        requires seats { All (IsSeat (terms H.lab H.begun H.given R.remaining W.contents C.kept K.shows)) free.old.items }
         requires room { vec_len free.old + vec_len busy.old ≤ vec_capacity free.old }
         requires busy_room { vec_len free.old + vec_len busy.old ≤ vec_capacity busy.old }
-        ensures places { All (IsPlace H.lab H.begun H.given R.remaining W.contents C.kept K.shows) free.new.items }
+        ensures seats { All (IsSeat (terms H.lab H.begun H.given R.remaining W.contents C.kept K.shows)) free.new.items }
         ensures takes { TakesIn K.shows ends free.old.items busy.old.items
             free.new.items busy.new.items }
         ensures len { vec_len free.new + vec_len busy.new ≡ vec_len free.old + vec_len busy.old }
@@ -317,18 +302,18 @@ impl<
         ensures busy_capacity { vec_capacity busy.new ≡ vec_capacity busy.old }
     {
         Busy::gather(self.rt, free, busy, Some(self.marks));
-        let Some(place) = next_free(free) else {
+        let Some(seat) = next_free(free) else {
             turn_away(ends);
             return;
         };
-        let number = place.number;
-        match self.serve_apart(scope, place, ends, &line) {
+        let number = seat.record.number;
+        match self.serve_apart(scope, seat, ends, &line) {
             Ok(handle) => busy.push_reserved(Busy {
                 number,
                 line,
                 handle,
             }),
-            Err(place) => free.push_reserved(place),
+            Err(seat) => free.push_reserved(seat),
         }
     }
 
@@ -344,15 +329,15 @@ impl<
     >(
         &self,
         scope: &Scope<'s, E>,
-        places: Vec<Place<H, K, C>>,
+        seats: Vec<Seat<H, K, C>>,
         arrivals: A,
-    ) -> Result<Vec<Place<H, K, C>>, Memory>
-        requires places { All (IsPlace H.lab H.begun H.given R.remaining W.contents C.kept K.shows) places.items }
-        ensures { IfOk result (λ ps. ServesPort H.lab H.begun H.given R.remaining W.contents C.kept K.shows
-            (A.to_come arrivals) places.items ps.items) }
+    ) -> Result<Vec<Seat<H, K, C>>, Memory>
+        requires seats { All (IsSeat (terms H.lab H.begun H.given R.remaining W.contents C.kept K.shows)) seats.items }
+        ensures { IfOk result (λ ps. ServesPort (terms H.lab H.begun H.given R.remaining W.contents C.kept K.shows)
+            (A.to_come arrivals) seats.items ps.items) }
     {
         let mut arrivals = arrivals;
-        let mut free = places;
+        let mut free = seats;
         let mut busy = Vec::with_capacity(self.alloc, free.len())?;
         // There is room for all that are in it.
         free.reserve(0)?;
@@ -371,7 +356,7 @@ impl<
     }
 }
 
-/// Takes connections as they come, each to a place that is free, where a thread of its own serves it,
+/// Takes connections as they come, each to a seat that is free, where a thread of its own serves it,
 /// and turns away those for which none is. At the end all that are still served are hung up, and all
 /// threads have ended when it returns. For whom no thread can be made is ended before anything is read,
 /// but at the desk.
@@ -389,14 +374,14 @@ pub fn serve_port<
     B: Bell + Sync,
 >(
     setting: &Setting<'_, Rt, S, H>,
-    places: Vec<Place<H, K, C>>,
+    seats: Vec<Seat<H, K, C>>,
     arrivals: A,
     gate: &G,
     bell: &B,
-) -> Result<Vec<Place<H, K, C>>, Memory>
-    requires places { All (IsPlace H.lab H.begun H.given R.remaining W.contents C.kept K.shows) places.items }
-    ensures serves { IfOk result (λ ps. ServesPort H.lab H.begun H.given R.remaining W.contents C.kept K.shows
-        (A.to_come arrivals) places.items ps.items) }
+) -> Result<Vec<Seat<H, K, C>>, Memory>
+    requires seats { All (IsSeat (terms H.lab H.begun H.given R.remaining W.contents C.kept K.shows)) seats.items }
+    ensures serves { IfOk result (λ ps. ServesPort (terms H.lab H.begun H.given R.remaining W.contents C.kept K.shows)
+        (A.to_come arrivals) seats.items ps.items) }
 {
     let rt = setting.rt;
     let alloc = setting.alloc;
@@ -406,12 +391,12 @@ pub fn serve_port<
     thread::scope(
         thread::scope_env(),
         rt,
-        |scope| -> Result<Vec<Place<H, K, C>>, Memory>
+        |scope| -> Result<Vec<Seat<H, K, C>>, Memory>
             requires { IsSync Rt.row × IsSync G.row × IsSync B.row × IsSend S.row × IsSend H.row
                 × IsSync H.row × IsSend K.row × IsSend C.row × IsSend R.row × IsSend W.row
-                × All (IsPlace H.lab H.begun H.given R.remaining W.contents C.kept K.shows) places.items }
-            ensures { IfOk result (λ ps. ServesPort H.lab H.begun H.given R.remaining W.contents C.kept K.shows
-                (A.to_come arrivals) places.items ps.items) }
+                × All (IsSeat (terms H.lab H.begun H.given R.remaining W.contents C.kept K.shows)) seats.items }
+            ensures { IfOk result (λ ps. ServesPort (terms H.lab H.begun H.given R.remaining W.contents C.kept K.shows)
+                (A.to_come arrivals) seats.items ps.items) }
         {
             let shared = Shared {
                 rt,
@@ -421,7 +406,7 @@ pub fn serve_port<
                 bell,
                 marks,
             };
-            shared.serve_until_over(scope, places, arrivals)
+            shared.serve_until_over(scope, seats, arrivals)
         },
     )
 }

@@ -1,14 +1,14 @@
 use Rattle.std.proofs.Common.{◌∷◌}
-use Rattle.mml_hosting.specs.Places.{kept_from}
+use Rattle.mml_hosting.specs.Seats.{kept_from}
 use Rattle.mml_hosting.proofs.hosted.resume_host.Given as goal
 
 -- the house that was just opened
-abbrev pub ghosts-in_house-H-House : goal.ghosts-in_house-H-House
-ghosts-in_house-H-House g a = record { name = a.house.name; lab = a.house.lab }
+abbrev pub ghosts-host_in_house-H-House : goal.ghosts-host_in_house-H-House
+ghosts-host_in_house-H-House g a = record { name = a.house.name; lab = a.house.lab }
 
 -- the events that came before, and what the recorders had kept
-abbrev pub ghosts-in_house-H-Begun : goal.ghosts-in_house-H-Begun
-ghosts-in_house-H-Begun g a = record {
+abbrev pub ghosts-host_in_house-H-Begun : goal.ghosts-host_in_house-H-Begun
+ghosts-host_in_house-H-Begun g a = record {
   begun = a.house.begun;
   given = kept_from g.C.Recorder.kept 1 (a.recorders.desk ∷ a.recorders.others.items);
 }

@@ -1,7 +1,7 @@
 use Rattle.std.proofs.Common.{arith}
-use Rattle.mml_hosting.specs.Places.{IsPlace}
+use Rattle.mml_hosting.specs.Seats.{IsSeat}
 use Rattle.mml_hosting.specs.Counting.{count_in}
-use Rattle.mml_hosting.proofs.PlaceLemmas.{all_more, sum_more}
+use Rattle.mml_hosting.proofs.SeatLemmas.{all_more, sum_more}
 use Rattle.mml_hosting.proofs.port_serving.Busy.gather.Goals as goal
 
 pub loop-index-preserved : goal.loop-index-preserved
@@ -10,9 +10,7 @@ loop-index-preserved g c =
     let put = c.push_reserved.ensures in
     let one = c.join_one.ensures in
     record {
-      places =
-          all_more (IsPlace g.H.House.lab g.H.Begun.begun g.H.Begun.given g.R.Read.remaining g.W.Write.contents g.C.Recorder.kept g.K.Keep.shows) c.loop-index.free.items c.push_reserved.new.self.items
-          c.join_one.result put.items at.places one.place;
+      seats = all_more (IsSeat _) _ _ _ put.items at.seats one.seat;
       count = λ of h. omega (
         arith,
         at.count of h,

@@ -1,6 +1,6 @@
 //! A window through which one connection after another is served.
-ghost use Rattle.std.specs.Prelude.{◌≡◌, ◌<◌, ◌++◌, ◌&&◌, false, [], ◌∷◌, vec_len, vec_capacity};
-ghost use Rattle.mml_hosting.specs.Places.{IsPlace, came_to, is_teachers_bye};
+ghost use Rattle.std.specs.Prelude.{◌≡◌, ◌&&◌};
+ghost use Rattle.mml_hosting.specs.Seats.{IsReady, ServesIn, is_teachers_bye, terms};
 
 use crate::begun::Begun;
 use mml_journal::Sink;
@@ -25,7 +25,7 @@ pub struct ServedSession<R: Drop, W: Drop> {
 
 /// What is kept of a session that has ended.
 pub trait Keep<R: Drop, W: Drop>: Sized {
-    ghost use Rattle.mml_hosting.specs.declared.place.ServedSession.{ServedSession};
+    ghost use Rattle.mml_hosting.specs.declared.seat.ServedSession.{ServedSession};
 
     // The session.
     ghost shows: { Self → ServedSession R W };
@@ -56,21 +56,29 @@ impl<R: Drop, W: Drop> Keep<R, W> for Snapshot<ServedSession<R, W>> {
     }
 }
 
-/// A window, with the number by which a gate and a record know it, what is kept of the sessions that were
-/// served through it, and what records them.
+/// What is left of a seat.
 #[derive(Drop)]
-pub struct Place<H: Begun, K: Drop, C: Drop> {
+pub struct SeatRecord<K: Drop, C: Drop> {
     pub number: u8,
+    /// What is kept of the sessions that were served in it, in order.
+    pub sessions: Vec<K>,
+    /// What recorded them.
+    pub recorder: C,
+}
+
+/// A window through which connections are served, with what is left of its seat at the end: the number by
+/// which a gate and a record know it, what is kept of the sessions, and what records them.
+#[derive(Drop)]
+pub struct Seat<H: Begun, K: Drop, C: Drop> {
     /// Whether the teacher's bye ends its service.
     pub is_desk: bool,
     pub window: Window<H>,
-    pub sessions: Vec<K>,
-    pub recorder: C,
+    pub record: SeatRecord<K, C>,
     /// Whether the last session at the desk was ended by the teacher's bye.
     pub is_dismissed: bool,
 }
 
-/// Serves a connection in a place, hangs up, and marks the place as free.
+/// Serves a connection in a seat, hangs up, and marks the seat as free.
 pub fn serve_in<
     Rt: Wait,
     S: Sink + Drop,
@@ -82,27 +90,26 @@ pub fn serve_in<
     G: Gate,
 >(
     setting: &Setting<'_, Rt, S, H>,
-    place: Place<H, K, C>,
+    seat: Seat<H, K, C>,
     ends: (R, W),
     gate: &G,
     marks: &[AtomicU64],
-) -> Place<H, K, C>
-    requires place { IsPlace H.lab H.begun H.given R.remaining W.contents C.kept K.shows place }
-    requires open { place.is_dismissed ≡ false }
-    requires room { vec_len place.sessions < vec_capacity place.sessions }
-    ensures place { IsPlace H.lab H.begun H.given R.remaining W.contents C.kept K.shows result }
-    ensures came { came_to K.shows result ≡ came_to K.shows place ++ ends ∷ [] }
-    ensures number { result.number ≡ place.number }
+) -> Seat<H, K, C>
+    requires { IsReady (terms H.lab H.begun H.given R.remaining W.contents C.kept K.shows) seat }
+    ensures { ServesIn (terms H.lab H.begun H.given R.remaining W.contents C.kept K.shows) seat ends result }
 {
     let came = Snapshot::of(&ends);
-    let Place {
-        number,
+    let Seat {
         is_desk,
         mut window,
+        record,
+        is_dismissed: _,
+    } = seat;
+    let SeatRecord {
+        number,
         mut sessions,
         mut recorder,
-        is_dismissed: _,
-    } = place;
+    } = record;
     let (mut reader, mut writer) = ends;
     let ending = serve_recorded(
         setting,
@@ -124,24 +131,26 @@ pub fn serve_in<
         writer,
     };
     sessions.push_reserved(K::keep(session));
-    Place {
-        number,
+    Seat {
         is_desk,
         window,
-        sessions,
-        recorder,
+        record: SeatRecord {
+            number,
+            sessions,
+            recorder,
+        },
         is_dismissed,
     }
 }
 
-// Whether the place is that of the desk, and the session was ended by the teacher's bye.
+// Whether the seat is that of the desk, and the session was ended by the teacher's bye.
 fn is_dismissed_by(ending: &Ending, is_desk: bool) -> bool
     ensures { result ≡ (is_desk && is_teachers_bye ending.now) }
 {
     is_desk && matches!(ending.end, SessionEnd::Bye) && matches!(ending.who, Some(Who::Teacher))
 }
 
-// Notes whether the thread of the place with this number has come to its end: 1, or 0 while it serves.
+// Notes whether the thread of the seat with this number has come to its end: 1, or 0 while it serves.
 pub(crate) fn set_mark(marks: &[AtomicU64], number: u8, value: u64) {
     if let Some(mark) = marks.get(usize::from(number)) {
         mark.store(value, Ordering::SeqCst);

@@ -2,19 +2,19 @@ use Rattle.std.proofs.Common.{◌≡◌, ◌≤◌, ◌+◌, [], All, length, ve
 use Rattle.std.specs.List.{range_with_len}
 use Rattle.std.specs.Vec.Iter.{into_iter_items}
 use Rattle.mml_window.specs.Windows.{window}
-use Rattle.mml_hosting.specs.Places.{AreGiven}
-use Rattle.mml_hosting.specs.Ports.{numbers_of}
+use Rattle.mml_hosting.specs.Seats.{AreGiven}
+use Rattle.mml_hosting.specs.Ports.{numbers_of, records_of}
 use Rattle.mml_hosting.specs.Hosting.{IsUnused}
-use Rattle.mml_hosting.proofs.hosted.places_of.Given as goal
+use Rattle.mml_hosting.proofs.hosted.seats_over.Given as goal
 
 abbrev pub invariant-loop-recorder : goal.invariant-loop-recorder
 invariant-loop-recorder g l = record {
   rest : All (λ w. w ≡ window g.H.Begun.begun []) l.windows.items;
   given : AreGiven g.H.Begun.given g.C.Recorder.kept l.number (into_iter_items l.recorder-iterator);
-  unused : All (IsUnused g.H.Begun.begun g.H.Begun.given g.C.Recorder.kept) l.places.items;
-  numbers : numbers_of l.places.items ≡ range_with_len l.fn.first (vec_len l.places);
-  next : l.number ≡ l.fn.first + vec_len l.places;
-  count : vec_len l.places + vec_len l.windows ≡ vec_len l.fn.windows;
+  unused : All (IsUnused g.H.Begun.begun g.H.Begun.given g.C.Recorder.kept) l.seats.items;
+  numbers : numbers_of (records_of l.seats.items) ≡ range_with_len l.fn.first (vec_len l.seats);
+  next : l.number ≡ l.fn.first + vec_len l.seats;
+  count : vec_len l.seats + vec_len l.windows ≡ vec_len l.fn.windows;
   left : length (into_iter_items l.recorder-iterator) ≡ vec_len l.windows;
-  room : vec_len l.places + vec_len l.windows ≤ vec_capacity l.places;
+  room : vec_len l.seats + vec_len l.windows ≤ vec_capacity l.seats;
 }

@@ -3,26 +3,25 @@ use Rattle.std.proofs.lemmas.List.Elements.{All-pop}
 use Rattle.mml_window.specs.Windows.{window}
 use Rattle.std.specs.Vec.Iter.{into_iter_items}
 use Rattle.mml_hosting.specs.Hosting.{IsUnused}
-use Rattle.mml_hosting.proofs.HouseLemmas.{given_next, numbers_more}
-use Rattle.mml_hosting.proofs.PlaceLemmas.{all_more}
-use Rattle.mml_hosting.proofs.hosted.places_of.Goals as goal
+use Rattle.mml_hosting.proofs.HouseLemmas.{numbers_more}
+use Rattle.mml_hosting.proofs.SeatLemmas.{all_more}
+use Rattle.mml_hosting.proofs.hosted.seats_over.Goals as goal
 
 pub loop-recorder-preserved : goal.loop-recorder-preserved
 loop-recorder-preserved g c =
     let at = c.loop-recorder.invariant in
     let put = c.push_reserved.ensures in
     let goes : into_iter_items c.loop-recorder.recorder-iterator ≡ c.in-Some.recorder ∷ into_iter_items c.next.new.self = search rules in
-    let recorder = given_next g.H.Begun.given g.C.Recorder.kept c.loop-recorder.number _ _ _ goes at.given in
-    let popped =
-    All-pop (λ w. w ≡ window g.H.Begun.begun []) _ _ (Some c.in-Some-pop.window) c.in-Some-pop.ensures.items at.rest in
+    let recorder = rw goes at at.given in
+    let popped = All-pop (λ w. w ≡ window g.H.Begun.begun []) _ _ (Some c.in-Some-pop.window) c.in-Some-pop.ensures.items at.rest in
     record {
       rest = popped.0;
       given = recorder.1;
       unused =
-          all_more (IsUnused g.H.Begun.begun g.H.Begun.given g.C.Recorder.kept) c.loop-recorder.places.items c.push_reserved.new.self.items _ put.items at.unused
+          all_more (IsUnused g.H.Begun.begun g.H.Begun.given g.C.Recorder.kept) c.loop-recorder.seats.items c.push_reserved.new.self.items _ put.items at.unused
           (record { unseen = popped.1; recorder = recorder.0; sessions = search rules; dismissed = refl });
       numbers =
-          numbers_more c.args.first (vec_len c.loop-recorder.places) (vec_len c.push_reserved.new.self) c.loop-recorder.places.items
+          numbers_more c.args.first (vec_len c.loop-recorder.seats) (vec_len c.push_reserved.new.self) c.loop-recorder.seats.items
           c.push_reserved.new.self.items _ put.items (omega (arith, put.len)) at.numbers at.next;
       next = omega (arith, put.len, at.next);
       count = search rules;

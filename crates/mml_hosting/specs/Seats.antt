@@ -1,0 +1,104 @@
+-- Windows through which one connection after another is served.
+use Rattle.std.specs.Prelude.{◌≡◌, ◌<◌, ℕ, ◌+◌, ◌==◌, if◌then◌else◌, Bool, true, false, List, [], ◌∷◌, ◌++◌, map, All, ⊤, Option, None, Some, vec_len, vec_capacity}
+use Rattle.mml_lab.specs.Labs.{LabValue}
+use Rattle.mml_board.specs.declared.event.Event.{Event}
+use Rattle.mml_lines.specs.Runs.{Chain}
+use Rattle.mml_window.specs.Windows.{WindowValue, window}
+use Rattle.mml_lab.specs.declared.who.Who.{Who}
+use Rattle.mml_lab.specs.declared.who.Who.TheVariants as who
+use Rattle.mml_session.specs.declared.session.Ending.{Ending}
+use Rattle.mml_session.specs.declared.session.SessionEnd.{SessionEnd}
+use Rattle.mml_session.specs.declared.session.SessionEnd.TheVariants as end
+use Rattle.mml_session.specs.Records.{Kept, Stand, stand, EndedRecorded}
+use Rattle.mml_hosting.specs.declared.seat.ServedSession.{ServedSession}
+use Rattle.mml_hosting.specs.declared.seat.Seat.{Seat}
+use Rattle.mml_hosting.specs.declared.seat.SeatRecord.{SeatRecord}
+
+-- by what the contracts of a house tell: its lab, the events that came before it was opened, and what the recorder of each number was
+-- given; what a connection's ends have left to read and were written; what a recorder has kept; and the session that is shown by what is
+-- kept of it
+pub record Terms (K C R W : Type 0) : Type 0 where
+  pub lab : LabValue
+  pub begun : List Event
+  pub given : ℕ → Option Kept
+  pub remaining : R → Option (List ℕ)
+  pub contents : W → Option (List ℕ)
+  pub recorded : C → Option Kept
+  pub shows : K → ServedSession R W
+
+abbrev pub terms : {K C R W : Type 0} → LabValue → List Event → (ℕ → Option Kept) → (R → Option (List ℕ)) → (W → Option (List ℕ))
+    → (C → Option Kept) → (K → ServedSession R W) → Terms K C R W
+terms lab begun given remaining contents recorded shows = record {
+  lab = lab;
+  begun = begun;
+  given = given;
+  remaining = remaining;
+  contents = contents;
+  recorded = recorded;
+  shows = shows;
+}
+
+-- the connection was served to such an end, through a window that it led from the one value to the other, and what was recorded of it,
+-- under this number, led the recorder
+abbrev pub Leads : {K C R W : Type 0} → Terms K C R W → ℕ → ServedSession R W → Stand → Stand → Type 0
+Leads t number s a b =
+    EndedRecorded s.ending.end s.ending.who number t.lab a.window b.window (t.remaining s.came.value.0) (t.remaining s.reader)
+    (t.contents s.came.value.1) (t.contents s.writer) a.kept b.kept
+
+-- what the recorder of the seat with this number has kept, where they are numbered from the first number on
+abbrev pub kept_from : {C : Type 0} → (C → Option Kept) → ℕ → List C → ℕ → Option Kept
+kept_from kept first [] n = None
+kept_from kept first (c ∷ cs) n = if n == first then kept c else kept_from kept (first + 1) cs n
+
+-- the recorders of seats that are numbered from this number on have kept what each was to have
+abbrev pub AreGiven : {C : Type 0} → (ℕ → Option Kept) → (C → Option Kept) → ℕ → List C → Type 0
+AreGiven given kept n [] = ⊤
+AreGiven given kept n (c ∷ cs) = (kept c ≡ given n) × AreGiven given kept (n + 1) cs
+
+-- the sessions that were served in a seat, in order, by what is kept of each
+abbrev pub sessions_of : {K C R W : Type 0} → (K → ServedSession R W) → SeatRecord K C → List (ServedSession R W)
+sessions_of shows r = map shows r.sessions.items
+
+-- the connections that came to it, in order
+abbrev pub came_to : {K C R W : Type 0} → (K → ServedSession R W) → SeatRecord K C → List (R × W)
+came_to shows r = map (λ s. s.came.value) (sessions_of shows r)
+
+-- a bye of one who is known as the teacher
+abbrev bye_of : SessionEnd → Option Who → Bool
+bye_of end.Bye (Some who.Teacher) = true
+bye_of _ _ = false
+
+abbrev pub is_teachers_bye : Ending → Bool
+is_teachers_bye ending = bye_of ending.end ending.who
+
+-- the sessions that the teacher's bye didn't end
+abbrev pub AreGoingOn : {R W : Type 0} → List (ServedSession R W) → Type 0
+AreGoingOn ss = All (λ s. is_teachers_bye s.ending ≡ false) ss
+
+-- the last session, and no earlier one, was ended by the teacher's bye
+abbrev pub IsDismissed : {R W : Type 0} → List (ServedSession R W) → Type 0
+IsDismissed {R} {W} ss =
+    (before : List (ServedSession R W)) × (s : ServedSession R W) × (ss ≡ before ++ s ∷ []) × (is_teachers_bye s.ending ≡ true) × AreGoingOn before
+
+-- the sessions of a seat led a window from having seen what came before the house to this one, and its recorder from what that of its
+-- number was given to where it is
+abbrev pub Led : {K C R W : Type 0} → Terms K C R W → SeatRecord K C → WindowValue → Type 0
+Led t r w = Chain (Leads t r.number) (stand (window t.begun []) (t.given r.number)) (sessions_of t.shows r) (stand w (t.recorded r.recorder))
+
+-- its sessions led its window, and at the desk it is noted whether the teacher's bye came
+pub record IsSeat {H K C R W : Type 0} (t : Terms K C R W) (s : Seat H K C) : Type 0 where
+  pub led : Led t s.record s.window
+  pub dismissed : s.is_dismissed ≡ true → IsDismissed (sessions_of t.shows s.record)
+  pub going_on : s.is_desk ≡ true → s.is_dismissed ≡ false → AreGoingOn (sessions_of t.shows s.record)
+
+-- one connection more may be served in it, and there is room for what is kept of that
+pub record IsReady {H K C R W : Type 0} (t : Terms K C R W) (s : Seat H K C) : Type 0 where
+  pub seat : IsSeat t s
+  pub going_on : s.is_dismissed ≡ false
+  pub room : vec_len s.record.sessions < vec_capacity s.record.sessions
+
+-- the seat is one with the same number, to which the connection came too
+pub record ServesIn {H K C R W : Type 0} (t : Terms K C R W) (old : Seat H K C) (ends : R × W) (new : Seat H K C) : Type 0 where
+  pub seat : IsSeat t new
+  pub came : came_to t.shows new.record ≡ came_to t.shows old.record ++ ends ∷ []
+  pub number : new.record.number ≡ old.record.number
