@@ -58,22 +58,13 @@ pending_grant w i rule s q es k lt free =
 
 pending_release : (w : World) (i q : ℕ) (es : List Event) → IsWorld w → i < size w
     → pending w q (event.Release i ∷ es) ≡ pending (after w (event.Release i)) (q + 1) es
-pending_release w i q es k lt = count_same (size w) (will w q (event.Release i ∷ es)) (will (after w (event.Release i)) (q + 1) es) same
-  where
-    set_at : (j : ℕ) → chosen_at (after w (event.Release i)).chosen j ≡ cond (eqb j i) None (chosen_at w.chosen j)
-    set_at j = chosen_at-set w.chosen i j None (omega (arith, k.choices))
-
-    same : (j : ℕ) → j < size w → will w q (event.Release i ∷ es) j ≡ will (after w (event.Release i)) (q + 1) es j
-    same j l = grind (arith, nat_tests, set_at j)
+pending_release w i q es k lt = grind (arith, nat_tests, count_same, chosen_at-set)
 
 -- ---- a close applies them all, and another configuration has none
 
 pending_close : (w : World) (q : ℕ) (es : List Event) → pending w q (event.Close ∷ es) ≡ chosen_count w
 unfolding chosen_count
-pending_close w q es = count_same (size w) (will w q (event.Close ∷ es)) (is_chosen w) (λ j l. beside (is_chosen w j))
-  where
-    beside : (x : Bool) → (x && true) ≡ x
-    beside x = grind arith
+pending_close w q es = grind (arith, nat_tests, count_same)
 
 pub unchosen : (n i : ℕ) → is_some (chosen_at (replicate n None) i) ≡ false
 unchosen n i = ap is_some (none_at n i)
@@ -83,8 +74,7 @@ never w n = count_none n (λ i. is_chosen w i && false) (λ i l. and_right (is_c
 
 -- nor is one left where the choices are new
 none_left : (w : World) (e : Event) (q : ℕ) (es : List Event) → (after w e).chosen ≡ replicate (size w) None → pending (after w e) q es ≡ 0
-none_left w e q es new =
-    nothing_pending (after w e) (size (after w e)) q es (λ i. ap (λ c. is_some (chosen_at c i)) new ∙ unchosen (size w) i)
+none_left w e q es new = grind (arith, nat_tests, nothing_pending, unchosen)
 
 -- what closes apply is what is chosen now and what is granted later, as far as a close applies it
 pub applied_is : (r : RosterValue) (w : World) (q : ℕ) (es : List Event) → IsWorld w → is_legal_list r w es ≡ true

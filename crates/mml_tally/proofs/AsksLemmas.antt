@@ -1,6 +1,6 @@
 -- Each line is of one student, or of others; and other names change nothing.
-use Rattle.std.proofs.Common.{◌≡◌, ℕ, ◌+◌, Bool, true, false, cond, ◌&&◌, eqb, List, [], ◌∷◌, map, Option, None, Some, is_some, is_none, option_map, ◌↔◌}
-use Rattle.std.proofs.Common.{inl, inr, refl, ◌∙◌, sym, arith}
+use Rattle.std.proofs.Common.{◌≡◌, ℕ, ◌+◌, Bool, true, cond, ◌&&◌, eqb, List, [], ◌∷◌, map, Option, None, Some, is_some, is_none, option_map, ◌↔◌}
+use Rattle.std.proofs.Common.{refl, ◌∙◌, arith}
 use Rattle.std.specs.Prelude.{count_by}
 use Rattle.std.proofs.lemmas.Bool.{cases_eq, ne_eqb}
 use Rattle.std.proofs.lemmas.Bool.Decides.{nat_tests}
@@ -15,8 +15,7 @@ use Rattle.mml_tally.proofs.AppliedLemmas.{only_one}
 
 -- a line that is left out, or kept, by a test
 kept : (test : Ask → Bool) (a : Ask) (asks : List Ask) (b : Bool) → count_by test (cond b (a ∷ asks) asks) ≡ one (b && test a) + count_by test asks
-kept test a asks true = more test a asks
-kept test a asks false = omega arith
+kept test a asks b = grind (arith, nat_tests, more)
 
 -- ---- each line is of one student, or of others
 
@@ -41,12 +40,10 @@ asks_sum test n (a ∷ asks) h =
 
 one_clause : (d : Option ℕ) → is_numbered d ≡ true
     → one (is_clause 1 d) + one (is_clause 2 d) + one (is_clause 3 d) + one (is_clause 4 d) ≡ one (is_some d)
-one_clause None h = refl
-one_clause (Some c) h = grind (arith, nat_tests)
+one_clause d h = grind (arith, nat_tests)
 
 numbered : (s n : ℕ) (w : Option ℕ) (d : Option ℕ) → IsKnownOf n w d → is_student s w ≡ true → is_numbered d ≡ true
-numbered s n None d h b = absurd cc
-numbered s n (Some t) d h b = h.1
+numbered s n w d h b = grind (arith, nat_tests)
 
 total_more : (a : Ask) (asks : List Ask) → is_numbered a.denied ≡ true → total_denied (denials_in asks) ≡ count_by is_denied asks
     → total_denied (denials_in (a ∷ asks)) ≡ count_by is_denied (a ∷ asks)
@@ -56,12 +53,7 @@ total_more a asks h rest =
 
 pub total_is : (s n : ℕ) (asks : List Ask) → AreAsksOf n asks → total_denied (denials_of asks s) ≡ count_by is_denied (asks_by s asks)
 total_is s n [] h = refl
-total_is s n (a ∷ asks) h = go (is_student s a.who) refl (total_is s n asks h.1)
-  where
-    go : (b : Bool) → is_student s a.who ≡ b → total_denied (denials_in (asks_by s asks)) ≡ count_by is_denied (asks_by s asks)
-        → total_denied (denials_in (cond b (a ∷ asks_by s asks) (asks_by s asks))) ≡ count_by is_denied (cond b (a ∷ asks_by s asks) (asks_by s asks))
-    go true e rest = total_more a (asks_by s asks) (numbered s n a.who a.denied h.0 e) rest
-    go false e rest = rest
+total_is s n (a ∷ asks) h = grind (arith, nat_tests, total_more, numbered, (total_is s n asks h.1))
 
 pub denied_sum : (n : ℕ) (asks : List Ask) → AreAsksOf n asks
     → sum_below n (λ s. total_denied (denials_of asks s)) + count_by is_denied (asks_of_others asks) ≡ count_by is_denied asks
@@ -78,13 +70,7 @@ told w l d = record { who = w; line = l; denied = d }
 module _ (f : ℕ → ℕ) (s : ℕ) (same : (t : ℕ) → (f t ≡ s) ↔ (t ≡ s)) where
   under : (w : Option ℕ) (l : Line) (d : Option ℕ) (xs ys : List Ask) → xs ≡ ys
       → cond (is_student s (option_map f w)) (told (option_map f w) l d ∷ xs) xs ≡ cond (is_student s w) (told w l d ∷ ys) ys
-  under None l d xs ys e = e
-  under (Some t) l d xs ys e = elim (cases_eq t s) [
-    | inl is ↦
-        let stays : f t ≡ t = (same t).1 is ∙ sym is in
-        λ k. cond (eqb (stays k) s) (told (Some (stays k)) l d ∷ e k) (e k)
-    | inr not_s ↦ rw (ne_eqb (f t) s (λ is. not_s ((same t).0 is)), ne_eqb t s not_s) e
-  ]
+  under w l d xs ys e = grind (arith, nat_tests, cases_eq, ne_eqb)
 
   pub asks_under : (asks : List Ask) → asks_by s (map (asked_under f) asks) ≡ asks_by s asks
   asks_under [] = refl

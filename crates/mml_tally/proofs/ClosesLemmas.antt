@@ -1,6 +1,6 @@
 -- The closes that applied moves come in order, so one pass counts each once.
 use Rattle.std.proofs.Common.{◌≡◌, ◌⊎◌, ℕ, ◌+◌, ◌<◌, ◌≤◌, Bool, true, false, cond, ◌&&◌, ◌||◌, eqb, ltb, List, [], ◌∷◌, length}
-use Rattle.std.proofs.Common.{Some, None, unwrap_or, inl, inr, refl, ap, ◌∙◌, sym, arith}
+use Rattle.std.proofs.Common.{inl, inr, refl, ap, ◌∙◌, sym, arith}
 use Rattle.std.specs.List.{filter, list_any}
 use Rattle.std.proofs.lemmas.Bool.{cases_eq, or_cases, eqb-true, and_right}
 use Rattle.std.proofs.lemmas.Bool.Decides.{nat_tests}
@@ -12,7 +12,7 @@ use Rattle.mml_tally.specs.declared.fate.Fate.{Fate}
 use Rattle.mml_tally.specs.declared.fate.Fate.TheVariants as fate
 use Rattle.mml_tally.specs.declared.granted_move.Move.{Move}
 use Rattle.mml_tally.specs.Moves.{fate_of, moves_from, moves}
-use Rattle.mml_tally.specs.Marks.{is_fate_at, is_applied_at, is_fate_applied, is_applied, count_closes}
+use Rattle.mml_tally.specs.Marks.{is_fate_at, is_applied_at, is_applied, count_closes}
 use Rattle.mml_tally.specs.inside.Closes.{close_of, count_new}
 use Rattle.mml_tally.proofs.CountsLemmas.{one, count_split, count_one}
 
@@ -36,20 +36,12 @@ pub record IsNext (last q : ℕ) (es : List Event) (close : ℕ) : Type 0 where
 -- the same, told one event earlier
 next_earlier : (last q : ℕ) (e : Event) (es : List Event) (close : ℕ) → next_close q (e ∷ es) ≡ next_close (q + 1) es → IsNext last (q + 1) es close
     → IsNext last q (e ∷ es) close
-next_earlier last q e es close same h = elim h.which [
-  | inl e ↦ record { which = inl e }
-  | inr f ↦ record { which = inr (f.0 ∙ sym same, omega (arith, f.1, same)) }
-]
+next_earlier last q e es close same h = grind (arith, nat_tests)
 
 pub fate_next : (last i q : ℕ) (es : List Event) → IsNext last q es (close_of last (fate_of i q es))
 fate_next last i q [] = record { which = inl refl }
 fate_next last i q (event.Grant s j rule ∷ es) = next_earlier last q (event.Grant s j rule) es _ refl (fate_next last i (q + 1) es)
-fate_next last i q (event.Release j ∷ es) = go (eqb j i) (fate_next last i (q + 1) es)
-  where
-    go : (b : Bool) → IsNext last (q + 1) es (close_of last (fate_of i (q + 1) es))
-        → IsNext last q (event.Release j ∷ es) (close_of last (unwrap_or (cond b (Some fate.Released) None) (fate_of i (q + 1) es)))
-    go true h = record { which = inl refl }
-    go false h = next_earlier last q (event.Release j) es _ refl h
+fate_next last i q (event.Release j ∷ es) = grind (arith, nat_tests, next_earlier, (fate_next last i (q + 1) es))
 fate_next last i q (event.Close ∷ es) = record { which = inr (refl, omega arith) }
 fate_next last i q (_ ∷ es) = record { which = inl refl }
 
@@ -75,23 +67,12 @@ rising_moves n last q (_ ∷ es) le within few = rising_moves n last (q + 1) es 
 -- an earlier place to come from serves as well
 pub rising_less : (n a b : ℕ) (ms : List Move) → a ≤ b → Rising n b ms → Rising n a ms
 rising_less n a b [] le h = tt
-rising_less n a b (m ∷ ms) le h = go m.fate (rising_less n a b ms le) h.0 h.1 h.2
-  where
-    go : (f : Fate) → (Rising n b ms → Rising n a ms) → b ≤ close_of b f → close_of b f ≤ n → Rising n (close_of b f) ms
-        → (a ≤ close_of a f) × (close_of a f ≤ n) × Rising n (close_of a f) ms
-    go (fate.Applied p) less x y z = (omega arith, omega arith, z)
-    go fate.Released less x y z = (omega arith, omega arith, less z)
-    go fate.Dropped less x y z = (omega arith, omega arith, less z)
-    go fate.Chosen less x y z = (omega arith, omega arith, less z)
+rising_less n a b (m ∷ ms) le h = grind (arith, nat_tests, (rising_less n a b ms le))
 
 -- and those that a test leaves do
 pub rising_filter : (test : Move → Bool) (n last : ℕ) (ms : List Move) → Rising n last ms → Rising n last (filter test ms)
 rising_filter test n last [] h = tt
-rising_filter test n last (m ∷ ms) h = go (test m) (rising_filter test n (close_of last m.fate) ms h.2)
-  where
-    go : (b : Bool) → Rising n (close_of last m.fate) (filter test ms) → Rising n last (cond b (m ∷ filter test ms) (filter test ms))
-    go true rest = (h.0, h.1, rest)
-    go false rest = rising_less n last (close_of last m.fate) (filter test ms) h.0 rest
+rising_filter test n last (m ∷ ms) h = grind (arith, nat_tests, rising_less, (rising_filter test n (close_of last m.fate) ms h.2))
 
 -- ---- and one pass counts each place once
 
@@ -100,10 +81,7 @@ abbrev pub some_at : ℕ → List Move → Bool
 some_at q ms = list_any (is_applied_at q) ms
 
 at_close : (last q : ℕ) (f : Fate) → is_fate_at q f ≡ true → close_of last f ≡ q
-at_close last q (fate.Applied p) e = eqb-true p q e
-at_close last q fate.Released e = cc
-at_close last q fate.Dropped e = cc
-at_close last q fate.Chosen e = cc
+at_close last q f e = grind (arith, nat_tests, eqb-true)
 
 pub none_before : (n last q : ℕ) (ms : List Move) → Rising n last ms → some_at q ms ≡ true → last ≤ q
 none_before n last q [] h e = cc
@@ -161,14 +139,7 @@ closes_counted test (e ∷ es) =
 
 none_applied : (n : ℕ) (ms : List Move) → Rising n 1 ms → count_new 0 ms ≡ 0 → filter is_applied ms ≡ []
 none_applied n [] h none = refl
-none_applied n (m ∷ ms) h none = go m.fate (none_applied n ms) h.0 h.2 none
-  where
-    go : (f : Fate) → (Rising n 1 ms → count_new 0 ms ≡ 0 → filter is_applied ms ≡ []) → 1 ≤ close_of 1 f → Rising n (close_of 1 f) ms → cond (eqb (close_of 0 f) 0) 0 1 + count_new (close_of 0 f) ms ≡ 0
-        → cond (is_fate_applied f) (m ∷ filter is_applied ms) (filter is_applied ms) ≡ []
-    go (fate.Applied p) rest some rising none = absurd (grind (arith, nat_tests))
-    go fate.Released rest some rising none = rest rising (omega (arith, none))
-    go fate.Dropped rest some rising none = rest rising (omega (arith, none))
-    go fate.Chosen rest some rising none = rest rising (omega (arith, none))
+none_applied n (m ∷ ms) h none = grind (arith, nat_tests, (none_applied n ms))
 
 pub no_close : (test : Move → Bool) (es : List Event) → count_closes (length es) (filter test (moves es)) ≡ 0 → filter is_applied (filter test (moves es)) ≡ []
 no_close test [] none = refl

@@ -1,6 +1,5 @@
 -- What students' marks add up to, and what they don't depend on.
-use Rattle.std.proofs.Common.{◌≡◌, ◌↔◌, ℕ, suc, ◌+◌, ◌<◌, Bool, true, false, cond, ◌&&◌, eqb, List, [], ◌∷◌, unwrap_or, map}
-use Rattle.std.proofs.Common.{inl, inr, refl, ap, ◌∙◌, sym, arith, length}
+use Rattle.std.proofs.Common.{◌≡◌, ◌↔◌, ℕ, suc, ◌+◌, ◌<◌, Bool, cond, ◌&&◌, eqb, List, [], ◌∷◌, unwrap_or, map, inl, inr, refl, ap, ◌∙◌, sym, arith, length}
 use Rattle.std.specs.Prelude.{count_by}
 use Rattle.std.proofs.lemmas.Bool.{cases_eq, ne_eqb}
 use Rattle.std.proofs.lemmas.List.Sums.{length-filter}
@@ -18,6 +17,7 @@ use Rattle.mml_tally.specs.Marks.{is_kind, is_fate_applied, is_applied, applied,
 use Rattle.mml_tally.specs.Meaning.{total, is_fate_released, is_fate_dropped, is_fate_left, is_released, is_dropped, is_left, asked_as}
 use Rattle.mml_tally.proofs.CountsLemmas.{one, more}
 use Rattle.mml_tally.proofs.AppliedLemmas.{only_one}
+use Rattle.std.proofs.lemmas.Bool.Decides.{nat_tests}
 
 -- ---- each move is of one rule
 
@@ -53,11 +53,7 @@ AllOf n (m ∷ ms) = (m.who < n) × AllOf n ms
 -- the moves of s, with one more at the front
 one_by : (test : Move → Bool) (m : Move) (ms : List Move) (s : ℕ)
     → count_by test (moves_by s (m ∷ ms)) ≡ one (eqb m.who s && test m) + count_by test (moves_by s ms)
-one_by test m ms s = go (eqb m.who s)
-  where
-    go : (b : Bool) → count_by test (cond b (m ∷ moves_by s ms) (moves_by s ms)) ≡ one (b && test m) + count_by test (moves_by s ms)
-    go true = more test m (moves_by s ms)
-    go false = omega arith
+one_by test m ms s = grind (arith, nat_tests, one, more)
 
 pub students_sum : (test : Move → Bool) (n : ℕ) (ms : List Move) → AllOf n ms → sum_below n (λ s. count_by test (moves_by s ms)) ≡ count_by test ms
 students_sum test n [] h = sum_zero n
@@ -72,12 +68,7 @@ students_sum test n (m ∷ ms) h =
 -- ---- other names change nothing
 
 ended_as : (f : ℕ → ℕ) (i q : ℕ) (e : Event) → ended_by i q (asked_as f e) ≡ ended_by i q e
-ended_as f i q (event.Grant s j rule) = refl
-ended_as f i q (event.Release j) = refl
-ended_as f i q event.Close = refl
-ended_as f i q (event.Fault j registers) = refl
-ended_as f i q (event.Link a b) = refl
-ended_as f i q (event.Cut a b) = refl
+ended_as f i q e = grind (arith, nat_tests)
 
 fate_as : (f : ℕ → ℕ) (i q : ℕ) (es : List Event) → fate_of i q (map (asked_as f) es) ≡ fate_of i q es
 fate_as f i q [] = refl

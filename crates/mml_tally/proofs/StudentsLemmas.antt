@@ -8,7 +8,7 @@ use Rattle.mml_lab.specs.Rosters.{RosterValue, IsRoster, owns}
 use Rattle.mml_lab.proofs.RosterMeaningLemmas.{owner_there}
 use Rattle.mml_board.specs.declared.event.Event.{Event}
 use Rattle.mml_board.specs.declared.event.Event.TheVariants as event
-use Rattle.mml_board.specs.World.{World, IsWorld, size, configuration, opening_of}
+use Rattle.mml_board.specs.World.{World, IsWorld, size, opening_of}
 use Rattle.mml_board.specs.Events.{is_legal, is_possible, after}
 use Rattle.mml_board.specs.Runs.{is_legal_list}
 use Rattle.mml_board.proofs.WorldLemmas.{length-none, hold-none}
@@ -20,6 +20,7 @@ use Rattle.mml_tally.specs.Runs.{run_of}
 use Rattle.mml_tally.specs.Meaning.{total}
 use Rattle.mml_tally.proofs.AppliedLemmas.{nothing_pending, unchosen, applied_is}
 use Rattle.mml_tally.proofs.MarksLemmas.{AllOf, students_sum, total_applied}
+use Rattle.std.proofs.lemmas.Bool.Decides.{nat_tests}
 
 askers_there : (r : RosterValue) (w : World) (q : ℕ) (es : List Event) → IsRoster r → is_legal_list r w es ≡ true → AllOf (length r.students) (moves_from q es)
 askers_there r w q [] known legal = tt
@@ -31,11 +32,7 @@ askers_there r w q (event.Grant s i rule ∷ es) known legal =
 askers_there r w q (_ ∷ es) known legal = askers_there r _ (q + 1) es known (and_parts _ _ legal).1
 
 opening-world : (lab : LabValue) → IsLab lab → IsWorld (opening_of lab.network)
-opening-world lab known = record {
-  network = known.network;
-  choices = length-none (length lab.network.registers) None;
-  hold = hold-none (length lab.network.registers) (configuration (opening_of lab.network));
-}
+opening-world lab known = grind (arith, nat_tests, length-none, hold-none)
 
 pub run_applies : (lab : LabValue) (es : List Event) → IsLab lab → is_legal_list lab.roster (opening_of lab.network) es ≡ true
     → (run_of es).moves ≡ applied_over (opening_of lab.network) es

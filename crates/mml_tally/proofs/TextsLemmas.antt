@@ -1,5 +1,5 @@
 -- A text with one line more.
-use Rattle.std.proofs.Common.{◌≡◌, ℕ, ◌+◌, add-one, List, ◌++◌, append_assoc, ap, ◌∙◌, sym, refl}
+use Rattle.std.proofs.Common.{◌≡◌, ℕ, ◌+◌, add-one, List, ◌++◌, append_assoc, ap, ◌∙◌, sym, refl, arith}
 use Rattle.mml_lab.specs.declared.who.Who.TheVariants as who
 use Rattle.mml_lab.specs.Labs.{LabValue}
 use Rattle.mml_lab.specs.Rosters.{RosterValue, name_of}
@@ -11,6 +11,7 @@ use Rattle.mml_tally.specs.declared.ask.Denials.{Denials}
 use Rattle.mml_tally.specs.Asks.{denials_of}
 use Rattle.mml_tally.specs.Texts.{student_line, students_text}
 use Rattle.mml_tally.specs.RecordTexts.{denied_line, denied_text}
+use Rattle.std.proofs.lemmas.Bool.Decides.{nat_tests}
 
 -- the line of a student whose name and marks were told
 line_of : (r r' : RosterValue) (s s' : ℕ) (name : List ℕ) (marks : Marks) (es : List Event) → r ≡ r' → s ≡ s' → name ≡ name_of r (who.Student s)
@@ -33,11 +34,4 @@ next_student lab es now before first r s place name marks b n er es' en em =
 pub next_denied : (lab : LabValue) (asks : List Ask) (now before first : List ℕ) (r : RosterValue) (s place : ℕ) (name : List ℕ) (denied : Denials)
     → before ≡ first ++ denied_text lab asks place → now ≡ before ++ denied_line name denied → r ≡ lab.roster → s ≡ place
     → name ≡ name_of r (who.Student s) → denied ≡ denials_of asks s → now ≡ first ++ denied_text lab asks (place + 1)
-next_denied lab asks now before first r s place name denied b n er es en ed =
-    let named : name ≡ name_of lab.roster (who.Student place) = en ∙ ap (λ z. name_of z (who.Student s)) er ∙ ap (λ z. name_of lab.roster (who.Student z)) es in
-    let counted : denied ≡ denials_of asks place = ed ∙ ap (denials_of asks) es in
-    let line : denied_line name denied ≡ denied_line (name_of lab.roster (who.Student place)) (denials_of asks place) = λ k. denied_line (named k) (counted k) in
-    let more : denied_text lab asks (place + 1) ≡ denied_text lab asks place ++ denied_line (name_of lab.roster (who.Student place)) (denials_of asks place) =
-    rw add-one refl in
-    n ∙ ap (λ t. t ++ denied_line name denied) b ∙ append_assoc first (denied_text lab asks place) (denied_line name denied)
-    ∙ ap (λ t. first ++ (denied_text lab asks place ++ t)) line ∙ ap (λ t. first ++ t) (sym more)
+next_denied lab asks now before first r s place name denied b n er es en ed = grind (arith, nat_tests, add-one, append_assoc)
