@@ -5,10 +5,9 @@ ghost use Rattle.mml_board.specs.Lists.{is_legal_in};
 ghost use Rattle.mml_tally.specs.RecordTexts.{recorded_text};
 
 use crate::fault::Fault;
-use crate::granting::find_misgranted;
 use crate::record_refusal::RecordRefusal;
 use crate::tally::write_text;
-use crate::verifying::{read_begun, read_seat, together};
+use crate::verifying::{granted_once, no_findings, read_begun, read_seat, together};
 use crate::words::VerifyTask;
 use mml_audit::{Audited, audit_events};
 use mml_board::{Board, Event};
@@ -69,22 +68,20 @@ fn read_seats<R: Files<File = File> + AllocGlobal>(
 {
     let begun = read_begun(rt, folder)?;
     let mut granted = Vec::new(rt.alloc());
-    let mut all = Findings {
-        sessions: 0,
-        lines: 0,
-        whole: true,
-    };
+    let mut all = no_findings();
     for seat in 0..lab.sessions() {
         let text = read_seat(rt, folder, seat + 1)?;
         let text = text.as_slice();
         let found = read_lines(rt.alloc(), lab, events, seat + 1, text, &mut granted, asks)?;
         all = together(all, found);
     }
-    let count = events.len() as u64;
-    match find_misgranted(rt.alloc(), granted.as_slice(), begun, count, all.whole)? {
-        Some(amiss) => Err(Fault::Record(RecordRefusal::of_places(amiss))),
-        None => Ok(all),
-    }
+    granted_once(
+        rt.alloc(),
+        all,
+        granted.as_slice(),
+        begun,
+        events.len() as u64,
+    )
 }
 
 // What the record of a seat comes to; what its lines asked goes behind where it is one.

@@ -72,19 +72,40 @@ fn verify_seats<R: Files<File = File> + AllocGlobal>(
     requires { is_legal_in lab.now events.now ≡ true }
 {
     let mut granted = Vec::new(rt.alloc());
-    let mut all = Findings {
-        sessions: 0,
-        lines: 0,
-        whole: true,
-    };
+    let mut all = no_findings();
     for seat in 0..lab.sessions() {
         match verify_seat(rt, lab, events, seat + 1, folder, &mut granted)? {
             Verdict::Passed(found) => all = together(all, found),
             Verdict::Refused(bad) => return Err(Fault::Record(RecordRefusal::of(seat + 1, bad))),
         }
     }
-    let count = events.len() as u64;
-    match find_misgranted(rt.alloc(), granted.as_slice(), begun, count, all.whole)? {
+    granted_once(
+        rt.alloc(),
+        all,
+        granted.as_slice(),
+        begun,
+        events.len() as u64,
+    )
+}
+
+// What no record comes to.
+pub(crate) fn no_findings() -> Findings {
+    Findings {
+        sessions: 0,
+        lines: 0,
+        whole: true,
+    }
+}
+
+// What all records come to, unless something is amiss with the places that they grant.
+pub(crate) fn granted_once(
+    alloc: Global,
+    all: Findings,
+    granted: &[u64],
+    begun: u64,
+    count: u64,
+) -> Result<Findings, Fault> {
+    match find_misgranted(alloc, granted, begun, count, all.whole)? {
         Some(amiss) => Err(Fault::Record(RecordRefusal::of_places(amiss))),
         None => Ok(all),
     }

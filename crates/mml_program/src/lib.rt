@@ -16,5 +16,5 @@ pub use files::{
 };
 pub use lab_refusal::{AuditRefusal, LabRefusal};
 pub use script_answering::{answer_script, write_audit, write_pieces, write_size};
-pub use task::{lab_in, lab_of, run, words_of};
+pub use task::{begin, lab_in, lab_of, run, words_of};
 pub use words::{ScriptTask, ServeTask, Task, command_of, match_words, read_words, with_optional};

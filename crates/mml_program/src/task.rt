@@ -23,8 +23,7 @@ use std::sync::Wait;
 use std::thread::Threads;
 use std::{env, io};
 
-/// Does what the words of the command line ask for. Before all else each standard stream that is closed
-/// is held, so that no file takes its place. The lab is read first, then the journal's file is
+/// Does what the words of the command line ask for. The lab is read first, then the journal's file is
 /// opened, the script is read or the port taken, and only then the journal is begun: what stood in its
 /// file is kept under another name, and where an earlier step fails the file is as it was.
 pub fn run<
@@ -38,11 +37,7 @@ pub fn run<
         + Print
         + AllocGlobal,
 >(rt: &R) -> Result<(), Fault> {
-    hold_streams(rt).map_err(|error| memory_or(&error, Fault::Write))?;
-    if has_small_stacks() {
-        return Err(Fault::Memory);
-    }
-    let words = words_of(rt)?;
+    let words = begin(rt)?;
     match read_words(rt.alloc(), words.as_slice())? {
         Task::BuiltIn => answer_input(rt),
         Task::Check { lab } => check_file(rt, lab),
@@ -227,6 +222,16 @@ fn listen<R: Net<Listener = TcpListener, Stream = TcpStream>>(
         Ok(listener) => Ok(listener),
         Err(error) => Err(memory_or(&error, Fault::Listen)),
     }
+}
+
+/// What a program begins with: the words. Before all else each standard stream that is closed is held, so that
+/// no file takes its place. Over stacks that are too small nothing is begun.
+pub fn begin<R: Env + Files<File = File> + AllocGlobal>(rt: &R) -> Result<Vec<String>, Fault> {
+    hold_streams(rt).map_err(|error| memory_or(&error, Fault::Write))?;
+    if has_small_stacks() {
+        return Err(Fault::Memory);
+    }
+    words_of(rt)
 }
 
 /// The words, the program's name first; one that isn't UTF-8 is not understood.
