@@ -216,19 +216,7 @@ module _ (ids : List ℕ) (r : RosterValue) (roster : IsRoster r) where
   deny_facts d = grind (arith, nat_tests, and_parts, is_bare, plain_words, number_facts)
 
   facts_of : (q : Reply) → IsAbout ids r q → AreFactsOf ids (fields_of r q)
-  facts_of (replies.Hello who) about = (refl, (plain_name r who roster about, tt))
-  facts_of replies.Bye about = (refl, tt)
-  facts_of (replies.See s) about = (tt, (tt, (about.node, (refl, (about.pointer, tt)))))
-  facts_of (replies.Look l) about = (tt, (tt, (tt, (about.near, (about.node, (refl, (about.pointer, (tt, tt))))))))
-  facts_of (replies.Move at place node k) about = (tt, (about, (refl, (tt, (tt, tt)))))
-  facts_of (replies.Close at place moved) about = (tt, (tt, (refl, (tt, tt))))
-  facts_of (replies.Fault at place node dropped) about = (tt, (tt, (about, (refl, (tt, tt)))))
-  facts_of (replies.Link at place a b dropped) about = (about.0, (tt, (about.1, (tt, (refl, (tt, tt))))))
-  facts_of (replies.Cut at place a b dropped) about = (about.0, (tt, (about.1, (tt, (refl, (tt, tt))))))
-  facts_of (replies.Release at place node) about = (tt, (about, (refl, (tt, tt))))
-  facts_of (replies.Report q) about = (tt, (about.free, (refl, (about.links, (about.pairs, (about.privileged, (tt, tt)))))))
-  facts_of (replies.Deny d) about = deny_facts d
-  facts_of (replies.Refuse q) about = (plain_refusal q, tt)
+  facts_of q about = grind (arith, nat_tests, plain_name, deny_facts, plain_refusal)
 
   pub reply_text : (q : Reply) → IsAbout ids r q → text ids r q ≡ compact_text (reply_value ids r q)
   unfolding object_text
