@@ -82,21 +82,7 @@ clause_digit n rest = clause_first (codes "\"clause\":" ++ (decimal n ++ rest))
 digit_is : (d : Denial) (rest : List ℕ) → clause_digit (clause_of d) rest ≡ Some (clause_of d)
 unfolding clause_digit clause_first digits
 digit_is denial.NotGreeted rest = refl
-digit_is denial.Greeted rest = refl
-digit_is denial.Unknown rest = refl
-digit_is denial.Hidden rest = refl
-digit_is denial.NotOwner rest = refl
-digit_is (denial.Stale at) rest = refl
-digit_is denial.Chosen rest = refl
-digit_is denial.Guard rest = refl
-digit_is denial.NotTeacher rest = refl
-digit_is denial.Empty rest = refl
-digit_is denial.NoNode rest = refl
-digit_is denial.BadRegister rest = refl
-digit_is denial.Loop rest = refl
-digit_is denial.Linked rest = refl
-digit_is denial.NotLinked rest = refl
-digit_is denial.NotChosen rest = refl
+digit_is _ rest = refl
 
 plain : (n : ℕ) (rest : List ℕ) → clause_told (123 ∷ (codes "\"clause\":" ++ (decimal n ++ rest))) ≡ clause_digit n rest
 unfolding clause_told clause_member clause_digit
