@@ -1,24 +1,20 @@
 -- A student who is known in a record is one of the lab, whom only a clause from 1 to 4 denies anything.
-use Rattle.std.proofs.Common.{◌≡◌, ℕ, ◌==◌, Bool, true, List, [], ◌∷◌, length, take, refl, sym, subst, Option, None, Some, Result, Ok, Err, arith}
-use Rattle.std.specs.Prelude.{IfSome, position, option_map, is_none, if◌then◌else◌}
-use Rattle.std.specs.Option.{ok_or}
+use Rattle.std.proofs.Common.{◌≡◌, ℕ, Bool, true, List, [], ◌∷◌, length, take, refl, sym, subst, Option, None, Some, Result, Err, arith}
+use Rattle.std.specs.Prelude.{IfErr, IfSome, position, option_map, if◌then◌else◌}
 use Rattle.std.proofs.lemmas.List.Quantifiers.{position-Some}
 use Rattle.mml_ids.specs.Ids.{rank_in}
-use Rattle.mml_ids.specs.Gives.{◌>>=◌, ◌>>◌, need}
-use Rattle.mml_rules.specs.Rules.{guard}
+use Rattle.mml_ids.proofs.GivesLemmas.{bind-deny, need-deny}
 use Rattle.mml_lab.specs.declared.who.Who.{Who}
 use Rattle.mml_lab.specs.declared.who.Who.TheVariants as who
 use Rattle.mml_lab.specs.Labs.{LabValue}
-use Rattle.mml_lab.specs.Rosters.{RosterValue, IsPrincipal, principal, has_name_and_key, owns}
+use Rattle.mml_lab.specs.Rosters.{RosterValue, IsPrincipal, principal, has_name_and_key}
 use Rattle.mml_board.specs.declared.done.Done.{Done}
 use Rattle.mml_board.specs.declared.event.Event.{Event}
-use Rattle.mml_board.specs.World.{World, configuration, chosen_at}
-use Rattle.mml_board.specs.Events.{done_by, is_any_chosen}
+use Rattle.mml_board.specs.World.{World}
+use Rattle.mml_board.specs.Events.{done_by}
 use Rattle.mml_policy.specs.declared.command.Asked.{Asked}
 use Rattle.mml_policy.specs.declared.command.Command.{Command}
-use Rattle.mml_policy.specs.declared.command.Command.TheVariants as command
 use Rattle.mml_policy.specs.declared.denial.Denial.{Denial}
-use Rattle.mml_policy.specs.declared.denial.Denial.TheVariants as denial
 use Rattle.mml_policy.specs.declared.ruling.Ruling.{Ruling}
 use Rattle.mml_policy.specs.declared.ruling.Ruling.TheVariants.{Full, Journal, Granted}
 use Rattle.mml_policy.specs.declared.verdict.Leave.{Leave}
@@ -26,7 +22,6 @@ use Rattle.mml_policy.specs.Clauses.{node, student, rule_of, pointer}
 use Rattle.mml_policy.specs.Denials.{clause_of}
 use Rattle.mml_policy.specs.Rulings.{ruled, after_ruling}
 use Rattle.mml_policy.specs.Verdicts.{clauses}
-use Rattle.mml_policy.specs.Visible.{is_teacher}
 use Rattle.mml_codec.specs.declared.request.LineFault.{LineFault}
 use Rattle.mml_codec.specs.declared.request.Request.{Request}
 use Rattle.mml_codec.specs.declared.request.Request.TheVariants as requests
@@ -41,59 +36,33 @@ use Rattle.mml_record.specs.declared.entries.Entry.{Entry}
 use Rattle.mml_record.specs.declared.entries.Entry.TheVariants as entry
 use Rattle.mml_record.specs.Certified.{FitsRuling, FitsGreeting, FitsAsked, Fits}
 use Rattle.mml_record.specs.Asks.{student_of, clause_in, AreAskedOf}
+use Rattle.mml_record.proofs.CountLemmas.{same_err}
 use Rattle.std.proofs.lemmas.Bool.Decides.{nat_tests}
 
 -- ---- a command is denied by a clause from 1 to 4
 
--- where it is an error, its clause is one of four
-unfoldable IsFair : {A : Type 0} → Result A Denial → Type 0
-IsFair (Ok x) = Unit {0}
-IsFair (Err d) = is_numbered (Some (clause_of d)) ≡ true
-
-fair_ok : {A : Type 0} (x : A) → IsFair (Ok x)
-unfolding IsFair
-fair_ok x = tt
-
-fair_steps : {A B : Type 0} (s : Result A Denial) (t : A → Result B Denial) → IsFair s → ((x : A) → IsFair (t x)) → IsFair (s >>= t)
-unfolding IsFair
-fair_steps s t h k = grind (arith, nat_tests)
-
-fair_if : {B : Type 0} (b : Bool) (d : Denial) (t : Result B Denial) → is_numbered (Some (clause_of d)) ≡ true → IsFair t → IsFair (need b d >> t)
-unfolding IsFair
-fair_if b d t h k = grind (arith, nat_tests)
-
-fair_found : (o : Option ℕ) (d : Denial) → is_numbered (Some (clause_of d)) ≡ true → IsFair (ok_or o d)
-unfolding IsFair
-fair_found o d h = grind (arith, nat_tests)
-
-fair_student : (x : Who) (d : Denial) → is_numbered (Some (clause_of d)) ≡ true → IsFair (student x d)
-unfolding IsFair
-fair_student x d h = grind (arith, nat_tests)
-
-fair_rule : (ids : List ℕ) (rule : Asked) (d : Denial) → is_numbered (Some (clause_of d)) ≡ true → IsFair (rule_of ids rule d)
-fair_rule ids rule d h = grind (arith, nat_tests, fair_ok, fair_steps, fair_found)
-
-fair_pointer : (ids : List ℕ) (p : Option ℕ) (d : Denial) → is_numbered (Some (clause_of d)) ≡ true → IsFair (pointer ids p d)
-fair_pointer ids p d h = grind (arith, nat_tests, fair_ok, fair_steps, fair_found)
+-- its clause is one of four
+abbrev IsFair : Denial → Type 0
+IsFair d = is_numbered (Some (clause_of d)) ≡ true
 
 module _ (ids : List ℕ) (r : RosterValue) (w : World) (x : Who) where
-  fair : (c : Command) → IsFair (clauses ids r w x c)
-  fair (command.See id) = grind (arith, nat_tests, fair_steps, fair_found, fair_if, fair_ok)
-  fair (command.Look id) = grind (arith, nat_tests, fair_steps, fair_found, fair_if, fair_ok)
-  fair (command.Move id rule at) =
-      fair_steps (student x denial.NotOwner) _ (fair_student x denial.NotOwner refl)
-      (λ s. fair_steps (node ids id denial.NotOwner) _ (fair_found (rank_in ids id) denial.NotOwner refl)
-      (λ i. fair_if (owns r x i) denial.NotOwner _ refl
-      (fair_if (at == w.number) (denial.Stale w.number) _ refl
-      (fair_if (is_none (chosen_at w.chosen i)) denial.Chosen _ refl
-      (fair_steps (rule_of ids rule denial.Guard) _ (fair_rule ids rule denial.Guard refl)
-      (λ q. fair_if (guard (configuration w) i q) denial.Guard _ refl (fair_ok _)))))))
-  fair command.Close = fair_if (is_teacher x) denial.NotTeacher _ refl (fair_if (is_any_chosen w) denial.Empty _ refl (fair_ok _))
-  fair (command.Fault id p m) = grind (arith, nat_tests, fair_if, fair_steps, fair_found, fair_pointer, fair_ok)
-  fair (command.Link first second) = grind (arith, nat_tests, fair_if, fair_steps, fair_found, fair_ok)
-  fair (command.Cut first second) = grind (arith, nat_tests, fair_if, fair_steps, fair_found, fair_ok)
-  fair (command.Release id) = grind (arith, nat_tests, fair_if, fair_steps, fair_found, fair_ok)
-  fair command.Report = fair_if (is_teacher x) denial.NotTeacher _ refl (fair_ok _)
+  node_fair : (id : ℕ) (d : Denial) → IsFair d → (e : Denial) → node ids id d ≡ Err e → IsFair e
+  node_fair id d fine e h = subst IsFair (same_err (rank_in ids id) d e h) fine
+
+  student_fair : (d : Denial) → IsFair d → (e : Denial) → student x d ≡ Err e → IsFair e
+  student_fair d fine e h = grind (arith, nat_tests)
+
+  rule_fair : (q : Asked) (d : Denial) → IsFair d → IfErr (rule_of ids q d) IsFair
+  rule_fair q d fine = grind (arith, nat_tests, bind-deny, node_fair)
+
+  pointer_fair : (p : Option ℕ) (d : Denial) → IsFair d → IfErr (pointer ids p d) IsFair
+  pointer_fair p d fine = grind (arith, nat_tests, bind-deny, node_fair)
+
+  fair_of : {A : Type 0} (s : Result A Denial) → IfErr s IsFair → (e : Denial) → s ≡ Err e → IsFair e
+  fair_of s h e same = grind (arith, nat_tests)
+
+  fair : (c : Command) → IfErr (clauses ids r w x c) IsFair
+  fair c = grind (arith, nat_tests, bind-deny, node_fair, need-deny, student_fair, fair_of, rule_fair, pointer_fair)
 
 -- ---- so is what a student who is known asks
 
@@ -107,8 +76,7 @@ told_numbered : (v w : World) (e : Event) (full halted : Bool)
     → IsNumbered (reply_of v (if full then Full else (if halted then Journal else Granted e (done_by w e))))
 told_numbered v w e full halted = grind (arith, nat_tests, done_numbered)
 
-ruled_numbered : (limit : ℕ) (halted : Bool) (v w : World) (s : Result Leave Denial) → IsFair s → IsNumbered (reply_of v (ruled limit halted w s))
-unfolding IsFair
+ruled_numbered : (limit : ℕ) (halted : Bool) (v w : World) (s : Result Leave Denial) → IfErr s IsFair → IsNumbered (reply_of v (ruled limit halted w s))
 ruled_numbered limit halted v w s h = grind (arith, nat_tests, told_numbered)
 
 module _ (lab : LabValue) (l first : List Event) where
