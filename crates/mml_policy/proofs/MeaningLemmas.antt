@@ -1,9 +1,8 @@
 -- When a move is granted.
 use Rattle.std.proofs.lemmas.Bool.Decides.{nat_tests}
-use Rattle.std.proofs.Common.{false, Result, Err, subst, true≢false, ◌≡◌, ℕ, ◌==◌, true, List, Option, None, Some, is_none, Ok, refl, sym, ap, ◌∙◌, arith}
+use Rattle.std.proofs.Common.{false, Result, Err, subst, true≢false, ◌≡◌, ℕ, ◌==◌, true, List, Option, None, Some, is_none, Ok, refl, sym, ◌∙◌, arith}
 use Rattle.std.specs.Prelude.{◌↔◌}
-use Rattle.std.specs.Option.{ok_or}
-use Rattle.std.proofs.lemmas.Bool.{eqb-true, eqb-false, eq-eqb}
+use Rattle.std.proofs.lemmas.Bool.{eqb-true, eqb-false}
 use Rattle.std.proofs.lemmas.Result.{IfErr-at_err}
 use Rattle.std.specs.Result.{IfErr}
 use Rattle.mml_ids.specs.Ids.{rank_in}
@@ -22,11 +21,10 @@ use Rattle.mml_policy.specs.declared.command.Command.TheVariants as command
 use Rattle.mml_policy.specs.declared.denial.Denial.{Denial}
 use Rattle.mml_policy.specs.declared.denial.Denial.TheVariants.{NotOwner, Guard}
 use Rattle.mml_policy.specs.declared.verdict.Verdict.TheVariants as verdicts
-use Rattle.mml_policy.specs.declared.verdict.Leave.TheVariants.{Grant}
 use Rattle.mml_policy.specs.Clauses.{node, student, rule_of}
-use Rattle.mml_policy.specs.Verdicts.{clauses, settled, verdict}
+use Rattle.mml_policy.specs.Verdicts.{clauses, verdict}
 use Rattle.mml_policy.specs.Meaning.{IsAsked, IsOwner, IsGuarded, MayMove, DeniesMove}
-use Rattle.mml_ids.proofs.GivesLemmas.{bind-ok, bind-from, need-ok, need-from, bind-deny, need-deny}
+use Rattle.mml_ids.proofs.GivesLemmas.{bind-ok, bind-from, need-ok, bind-deny, need-deny}
 use Rattle.mml_policy.proofs.ClausesLemmas.{node-ok, node-err, student-ok, student-err}
 use Rattle.mml_policy.proofs.VerdictLemmas.{settled-grant, settled-deny, owner_is}
 
@@ -76,15 +74,9 @@ module _ (ids : List ℕ) (r : RosterValue) (w : World) (x : Who) (id : ℕ) (a 
   from_facts : (e : Event) → IsMove e → verdict ids r w x (command.Move id a at) ≡ verdicts.Grant e
   from_facts e f =
       let m = f.4 in
-      ap settled (
-      bind-from (student x NotOwner) _ _ f.0 (ap (λ y. student y NotOwner) m.own.student) (
-      bind-from (node ids id NotOwner) _ _ f.1 (ap (λ o. ok_or o NotOwner) m.own.node) (
-      need-from (owns r x f.1) _ _ _ (ap (λ y. owns r y f.1) m.own.student ∙ m.own.owner) (
-      need-from (at == w.number) _ _ _ (eq-eqb at w.number m.current) (
-      need-from (is_none (chosen_at w.chosen f.1)) _ _ _ (ap is_none m.free) (
-      bind-from (rule_of ids a Guard) _ _ f.2 (asked_from ids a _ f.2 m.guard.0) (
-      need-from (guard (configuration w) f.1 f.2) _ _ _ ((guard-means (configuration w) f.1 f.2 l).1 m.guard.1) (
-      ap (λ e. Ok (Grant e)) (sym f.3)))))))))
+      let rule = asked_from ids a Guard f.2 m.guard.0 in
+      let g = (guard-means (configuration w) f.1 f.2 l).1 m.guard.1 in
+      grind (arith, nat_tests, rule, g)
 
   pub move_means : (e : Event) → (verdict ids r w x (command.Move id a at) ≡ verdicts.Grant e) ↔ IsMove e
   move_means e = (to_facts e, from_facts e)

@@ -55,10 +55,7 @@ module _ (ids : List ℕ) (r : RosterValue) (w : World) (x : Who) (id : ℕ) (a 
   from_why NotOwner h = ap settled (no_owner h)
   from_why (Stale n) h = grind (arith, nat_tests, past_owner, need-fails, ne_eqb)
   from_why Chosen h = grind (arith, nat_tests, past_owner, need-from, eq-eqb, need-fails)
-  from_why Guard h = ap settled (past_owner h.s h.i _ h.own (
-      need-from (at == w.number) _ _ _ (eq-eqb at w.number h.current) (
-      need-from (is_none (chosen_at w.chosen h.i)) _ _ _ (ap is_none h.free) (
-      no_guard h.s h.i h.unfit))))
+  from_why Guard h = let none = no_guard h.s h.i h.unfit in grind (arith, nat_tests, past_owner, none)
   from_why d h = absurd h
 
   pub move_denied_exactly : (d : Denial) → (verdict ids r w x (command.Move id a at) ≡ verdicts.Deny d) ↔ DeniesMove ids r w x id a at d
