@@ -20,7 +20,7 @@ node_part c i =
     if is_married c i then (if c.m i then 0 else 1)
     else (if c.m i then 1 else 0) + pointer_part c i
 
--- the most courtships among n nodes that aren't married: of each two that marry each other node courts one at the most, and one of the two the other
+-- the most courtships among n nodes that aren't married: of two that marry, each other node courts at most one, and one of the two the other
 abbrev pub most_courtships : ℕ → ℕ
 most_courtships zero = 0
 most_courtships (suc zero) = 0

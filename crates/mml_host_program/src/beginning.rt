@@ -74,12 +74,14 @@ impl<C: Recorder + Send + Drop> Ready<C> {
         let served = serve_host::<_, _, SocketSession<'_, R>, _, _, _, _, _, _, _, _, _>(
             rt, alloc, lab, sink, recorders, at_desk, at_port, &bell, &NoGate, writer,
         );
-        told(served)
+        end_of_class(served)
     }
 }
 
-// What the end of a class is told as.
-fn told<S: Drop, K: Drop, C: Drop>(served: Result<Hosted<S, K, C>, HostFault>) -> Result<(), Fault>
+// How a class ends: well, or with the error of its host.
+fn end_of_class<S: Drop, K: Drop, C: Drop>(
+    served: Result<Hosted<S, K, C>, HostFault>,
+) -> Result<(), Fault>
     ensures { OnOk result (IsOk served) }
 {
     match served {

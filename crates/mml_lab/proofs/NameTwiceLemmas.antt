@@ -12,7 +12,7 @@ use Rattle.mml_ids.proofs.SearchLemmas.{first_here, first_next, first_end}
 use Rattle.mml_lab.specs.declared.raw_lab.Account.{Account as KeptAccount}
 use Rattle.mml_lab.specs.declared.lab_fault.LabFault.TheVariants as fault
 use Rattle.mml_lab.specs.Shape.{Account}
-use Rattle.mml_lab.specs.inside.Raw.{account_view, entry_view}
+use Rattle.mml_lab.specs.inside.Raw.{account_view, entry_account}
 use Rattle.mml_lab.specs.Rosters.{has_name, is_name_again, name_twice}
 use Rattle.mml_lab.proofs.StudentNamedLemmas.{Entry}
 
@@ -32,7 +32,7 @@ take_middle : {X : Type 0} (xs ys : List X) → take (length xs) (xs ++ ys) ≡ 
 take_middle [] ys = refl
 take_middle (x ∷ xs) ys = ap (λ zs. x ∷ zs) (take_middle xs ys)
 
-lookup_any : (name : List ℕ) (es : List Entry) → is_some (lookup (λ k. bytes_eq name (string_bytes k)) es) ≡ list_any (has_name name) (map entry_view es)
+lookup_any : (name : List ℕ) (es : List Entry) → is_some (lookup (λ k. bytes_eq name (string_bytes k)) es) ≡ list_any (has_name name) (map entry_account es)
 lookup_any name [] = refl
 lookup_any name (e ∷ es) = grind (arith, string_bytes, lookup_any name es)
 
@@ -43,7 +43,7 @@ again_at teacher before a after = grind (arith, at_middle, take_middle)
 
 -- the test at a student, by the map of those before
 pub taken_at : (teacher : KeptAccount) (all done rest : List KeptAccount) (x : KeptAccount) (es : List Entry) (t name : List ℕ) (r b : Bool)
-    → done ++ x ∷ rest ≡ all → map entry_view es ≡ map account_view done → t ≡ string_bytes teacher.name → name ≡ string_bytes x.name
+    → done ++ x ∷ rest ≡ all → map entry_account es ≡ map account_view done → t ≡ string_bytes teacher.name → name ≡ string_bytes x.name
     → r ≡ is_taken t es name → r ≡ b → is_name_again (account_view teacher ∷ map account_view all) (length done + 1) ≡ b
 taken_at teacher all done rest x es t name r b parts seen same_teacher same is at =
     let accounts : map account_view all ≡ map account_view done ++ account_view x ∷ map account_view rest =
@@ -89,8 +89,8 @@ pub absent : (teacher : List ℕ) (es : List Entry) (name : List ℕ) (k : Strin
     → r ≡ false → lookup (λ q. bytes_eq (string_bytes k) (string_bytes q)) es ≡ None
 absent teacher es name k r same is at = rw same (none_from_is_some _ (second_false (bytes_eq name teacher) _ (sym is ∙ at)))
 
-pub one_more : (done : List KeptAccount) (x : KeptAccount) (es new : List Entry) (n v : String Global) → map entry_view es ≡ map account_view done
-    → new ≡ es ++ (n, v) ∷ [] → entry_view (n, v) ≡ account_view x → map entry_view new ≡ map account_view (done ++ x ∷ [])
+pub one_more : (done : List KeptAccount) (x : KeptAccount) (es new : List Entry) (n v : String Global) → map entry_account es ≡ map account_view done
+    → new ≡ es ++ (n, v) ∷ [] → entry_account (n, v) ≡ account_view x → map entry_account new ≡ map account_view (done ++ x ∷ [])
 one_more done x es new n v seen more last = grind (arith, map-append)
 
 pub nothing_left : {X : Type 0} (xs : List X) → length xs ≡ 0 → xs ≡ []
@@ -99,7 +99,7 @@ nothing_left (x ∷ xs) h = absurd (omega arith)
 
 -- the map holds the students so far, and no name of theirs stands before it
 pub record IsSoFar (teacher : KeptAccount) (all done : List KeptAccount) (es : List Entry) : Type 0 where
-  pub seen : map entry_view es ≡ map account_view done
+  pub seen : map entry_account es ≡ map account_view done
   pub none : first_from (is_name_again (account_view teacher ∷ map account_view all)) (length done + 1)
       (length (account_view teacher ∷ map account_view all) - (length done + 1))
       ≡ first_below (is_name_again (account_view teacher ∷ map account_view all)) (length (account_view teacher ∷ map account_view all))
@@ -115,7 +115,7 @@ module _ (teacher : KeptAccount) (all done rest : List KeptAccount) (x : KeptAcc
   at_fault n so_far parts count same_teacher same is at =
       let again : is_name_again (account_view teacher ∷ map account_view all) (length done + 1) ≡ true =
       taken_at teacher all done rest x es t name r true parts so_far.seen same_teacher same is at in
-      let place : n + 1 ≡ length done + 1 = omega (arith, ap length so_far.seen, length-map es entry_view, length-map done account_view) in
+      let place : n + 1 ≡ length done + 1 = omega (arith, ap length so_far.seen, length-map es entry_account, length-map done account_view) in
       rw place (fault_at (account_view teacher ∷ map account_view all) (map account_view all)
       (length done + 1) (is_within (account_view teacher) all done rest x parts) again so_far.none)
 
@@ -125,5 +125,5 @@ module _ (teacher : KeptAccount) (all done rest : List KeptAccount) (x : KeptAcc
 
 -- once no student is left, no name stood twice and the map holds all students
 pub at_end : (teacher : KeptAccount) (all done rest : List KeptAccount) (es : List Entry) → IsSoFar teacher all done es → done ++ rest ≡ all → length rest ≡ 0
-    → unless_fault (name_twice (account_view teacher ∷ map account_view all)) (map account_view all) ≡ Ok (map entry_view es)
+    → unless_fault (name_twice (account_view teacher ∷ map account_view all)) (map account_view all) ≡ Ok (map entry_account es)
 at_end teacher all done rest es so_far parts nothing = grind (arith, append-nil, nothing_left, length-map, no_fault)

@@ -8,7 +8,7 @@ use Rattle.mml_ids.specs.Ids.{id_fault, is_id_memory}
 use Rattle.mml_ids.specs.declared.id_table.IdFault.{IdFault}
 use Rattle.mml_lab.specs.declared.raw_lab.RawNode.{RawNode}
 use Rattle.mml_lab.specs.Shape.{NodeSpec, is_lab_memory}
-use Rattle.mml_lab.specs.inside.Raw.{node_view, entry_view}
+use Rattle.mml_lab.specs.inside.Raw.{node_view, entry_account}
 use Rattle.mml_lab.specs.Rosters.{has_name}
 use Rattle.mml_lab.specs.Faults.{id_fault_as}
 use Rattle.mml_lab.specs.Labs.{number_of, file_ids, node_with, ids_fault, unless}
@@ -24,7 +24,7 @@ node_with-read nodes id = find-map (λ node. number_of node.id == id) node_view 
 
 -- the map of students has a name exactly where some student has it
 pub some-lookup : (name : List ℕ) (entries : List (String Global × String Global))
-    → is_some (lookup (λ k. bytes_eq name (string_bytes k)) entries) ≡ list_any (has_name name) (map entry_view entries)
+    → is_some (lookup (λ k. bytes_eq name (string_bytes k)) entries) ≡ list_any (has_name name) (map entry_account entries)
 some-lookup name [] = refl
 some-lookup name (e ∷ es) = grind (arith, string_bytes, some-lookup name es)
 

@@ -6,7 +6,7 @@ use Rattle.std.specs.Map.{keys_of}
 use Rattle.std.proofs.lemmas.List.Quantifiers.{position-Some}
 use Rattle.std.proofs.lemmas.Slice.Eq.{bytes_eq-Decides}
 use Rattle.mml_lab.specs.Shape.{Account}
-use Rattle.mml_lab.specs.inside.Raw.{entry_view}
+use Rattle.mml_lab.specs.inside.Raw.{entry_account}
 use Rattle.mml_lab.specs.declared.who.Who.TheVariants as who
 use Rattle.mml_lab.specs.Rosters.{RosterValue, has_name, no_account, name_of, student_named}
 
@@ -18,21 +18,21 @@ abbrev pub account_at : List Account → ℕ → Account
 account_at accounts k = get_or accounts k no_account
 
 place_same : (name : List ℕ) (es : List Entry)
-    → position_or_len (λ k. bytes_eq name (string_bytes k)) (keys_of es) ≡ position_or_len (has_name name) (map entry_view es)
+    → position_or_len (λ k. bytes_eq name (string_bytes k)) (keys_of es) ≡ position_or_len (has_name name) (map entry_account es)
 place_same name [] = refl
 place_same name (e ∷ es) = rw (place_same name es)
 
-length_same : (es : List Entry) → length (keys_of es) ≡ length (map entry_view es)
+length_same : (es : List Entry) → length (keys_of es) ≡ length (map entry_account es)
 length_same [] = refl
 length_same (e ∷ es) = rw (length_same es)
 
 -- the map's search for a name is the roster's
 pub position_same : (name : List ℕ) (es : List Entry)
-    → position (λ k. bytes_eq name (string_bytes k)) (keys_of es) ≡ position (has_name name) (map entry_view es)
+    → position (λ k. bytes_eq name (string_bytes k)) (keys_of es) ≡ position (has_name name) (map entry_account es)
 position_same name es = rw (place_same name es, length_same es)
 
 -- the map's search for a name, where the map holds the roster's students
-pub search_same : (r : RosterValue) (name : List ℕ) (es : List Entry) (o : Option ℕ) → map entry_view es ≡ r.students
+pub search_same : (r : RosterValue) (name : List ℕ) (es : List Entry) (o : Option ℕ) → map entry_account es ≡ r.students
     → o ≡ position (λ k. bytes_eq name (string_bytes k)) (keys_of es) → o ≡ student_named r name
 search_same r name es o same found = found ∙ position_same name es ∙ ap (position (has_name name)) same
 

@@ -4,7 +4,7 @@ ghost use Rattle.std.specs.List.{find};
 ghost use Rattle.mml_ids.specs.Gives.{Gives};
 ghost use Rattle.mml_lab.specs.declared.TheConstants.{MAX_STUDENTS};
 ghost use Rattle.mml_lab.specs.Shape.{is_lab_memory};
-ghost use Rattle.mml_lab.specs.inside.Raw.{node_view, entry_view};
+ghost use Rattle.mml_lab.specs.inside.Raw.{node_view, entry_account};
 ghost use Rattle.mml_lab.specs.Labs.{IsLab, number_of, registers_in, registers_with, place_of, owners_in, owners_with, node_with};
 ghost use Rattle.mml_lab.specs.inside.ChecksView.{checked_view};
 ghost use Rattle.mml_lab.specs.declared.lab_fault.LabFault.TheVariants.{Memory};
@@ -48,7 +48,7 @@ fn parts(alloc: Global, checked: &Checked) -> Result<(Vec<Regs>, Vec<Vec<Student
     ensures registers { IfOk result (λ parts. parts.0.items ≡ map (registers_with
         checked.now.ids (map node_view checked.now.nodes.items)) checked.now.ids) }
     ensures owners { IfOk result (λ parts. map (λ v. v.items) parts.1.items ≡ map (owners_with
-        (map entry_view checked.now.students.entries) (map node_view checked.now.nodes.items))
+        (map entry_account checked.now.students.entries) (map node_view checked.now.nodes.items))
         checked.now.ids) }
     ensures err { IfErr result (λ fault. fault ≡ Memory) }
 {
@@ -109,7 +109,7 @@ pub(crate) fn owners(
 ) -> Result<Vec<Vec<Student>>, LabFault>
     requires { length students.now.entries ≤ MAX_STUDENTS }
     ensures ok { IfOk result (λ owners. map (λ v. v.items) owners.items ≡ map
-        (owners_with (map entry_view students.now.entries) (map node_view nodes.now)) ids.now) }
+        (owners_with (map entry_account students.now.entries) (map node_view nodes.now)) ids.now) }
     ensures err { IfErr result (λ fault. fault ≡ Memory) }
 {
     let mut found = Vec::new(alloc);
@@ -127,7 +127,7 @@ fn owners_with(
 ) -> Result<Vec<Student>, LabFault>
     requires { length students.now.entries ≤ MAX_STUDENTS }
     ensures ok { IfOk result (λ owners. owners.items ≡
-        owners_with (map entry_view students.now.entries) (map node_view nodes.now) id) }
+        owners_with (map entry_account students.now.entries) (map node_view nodes.now) id) }
     ensures err { IfErr result (λ fault. fault ≡ Memory) }
 {
     match node_with(nodes, id) {
@@ -143,7 +143,7 @@ fn owners_in(
 ) -> Result<Vec<Student>, LabFault>
     requires { length students.now.entries ≤ MAX_STUDENTS }
     ensures ok { IfOk result (λ owners. owners.items ≡
-        map (λ name. place_of (map entry_view students.now.entries) (string_bytes name)) names.now) }
+        map (λ name. place_of (map entry_account students.now.entries) (string_bytes name)) names.now) }
     ensures err { IfErr result (λ fault. fault ≡ Memory) }
 {
     let mut found = Vec::new(alloc);
@@ -155,7 +155,7 @@ fn owners_in(
 
 fn student_named(students: &IndexMap<String, String>, name: &str) -> Student
     requires { length students.now.entries ≤ MAX_STUDENTS }
-    ensures { result ≡ place_of (map entry_view students.now.entries) name.now }
+    ensures { result ≡ place_of (map entry_account students.now.entries) name.now }
 {
     match students.get_index_of(name) {
         Some(index) => Student::new(index as u16),

@@ -6,7 +6,7 @@ ghost use Rattle.mml_ids.specs.Gives.{Gives, need};
 ghost use Rattle.mml_ids.specs.Ids.{in_order};
 ghost use Rattle.mml_lab.specs.declared.lab_fault.LabFault.TheVariants.{Limit};
 ghost use Rattle.mml_lab.specs.Shape.{is_lab_memory};
-ghost use Rattle.mml_lab.specs.inside.Raw.{account_view, node_view, entry_view, raw_view};
+ghost use Rattle.mml_lab.specs.inside.Raw.{account_view, node_view, entry_account, raw_view};
 ghost use Rattle.mml_lab.specs.Rosters.{has_name};
 ghost use Rattle.mml_lab.specs.Labs.{number_of, file_ids, joins, is_linked, lacks_owner, are_one_twice, points_astray, is_within, both_fault, ids_fault};
 ghost use Rattle.mml_lab.specs.Labs.{forms_fault, no_owner_fault, owner_twice_fault, pointers_fault, unless, identified, enrolled, owned, limited, lab_from};
@@ -149,24 +149,24 @@ fn enrol(
     ensures tests { Gives is_lab_memory (λ _. tt {0}) result
         (enrolled (account_view teacher.now) (map account_view students.items)) }
     ensures students { IfOk result
-        (λ m. map entry_view m.entries ≡ map account_view students.items) }
+        (λ m. map entry_account m.entries ≡ map account_view students.items) }
 {
     unless(forms_fault(teacher, &students))?;
     students_map(alloc, teacher, students)
 }
 
-/// Ends where an owner is no student, or both of a node are one.
+/// Refuses an owner who is no student, and a node whose two owners are the same student.
 #[tactic(auto, unfolding(crate::specs::Labs::owned))]
 fn check_owners(students: &IndexMap<String, String>, nodes: &[RawNode]) -> Result<(), LabFault>
     ensures { Gives is_lab_memory (λ u. u) result
-        (owned (map entry_view students.now.entries) (map node_view nodes.now)) }
+        (owned (map entry_account students.now.entries) (map node_view nodes.now)) }
 {
     unless(no_owner_fault(students, nodes))?;
     unless(owner_twice_fault(nodes))
 }
 
 fn count(students: &IndexMap<String, String>) -> usize
-    ensures { result ≡ length (map entry_view students.now.entries) }
+    ensures { result ≡ length (map entry_account students.now.entries) }
 {
     students.len()
 }
@@ -226,7 +226,7 @@ fn forms_fault(teacher: &Account, students: &[Account]) -> Option<LabFault>
 #[tactic(auto, unfolding(crate::specs::Labs::no_owner_fault))]
 fn no_owner_fault(students: &IndexMap<String, String>, nodes: &[RawNode]) -> Option<LabFault>
     ensures { result ≡
-        no_owner_fault (map entry_view students.now.entries) (map node_view nodes.now) }
+        no_owner_fault (map entry_account students.now.entries) (map node_view nodes.now) }
 {
     match first_without_owner(students, nodes) {
         Some(index) => Some(LabFault::NoOwner(index)),
@@ -246,13 +246,13 @@ fn owner_twice_fault(nodes: &[RawNode]) -> Option<LabFault>
 
 fn first_without_owner(students: &IndexMap<String, String>, nodes: &[RawNode]) -> Option<usize>
     ensures { result ≡ position
-        (λ node. lacks_owner (map entry_view students.now.entries) (node_view node)) nodes.now }
+        (λ node. lacks_owner (map entry_account students.now.entries) (node_view node)) nodes.now }
 {
     nodes.iter().position(|node| lacks_owner(students, node))
 }
 
 fn lacks_owner(students: &IndexMap<String, String>, node: &RawNode) -> bool
-    ensures { result ≡ lacks_owner (map entry_view students.now.entries) (node_view node.now) }
+    ensures { result ≡ lacks_owner (map entry_account students.now.entries) (node_view node.now) }
 {
     lacks_student(students, &node.owners)
 }
@@ -260,7 +260,7 @@ fn lacks_owner(students: &IndexMap<String, String>, node: &RawNode) -> bool
 /// Whether one of the names is no student's.
 fn lacks_student(students: &IndexMap<String, String>, names: &[String]) -> bool
     ensures { result ≡ list_any (λ name. not (list_any (has_name (string_bytes name))
-        (map entry_view students.now.entries))) names.now }
+        (map entry_account students.now.entries))) names.now }
 {
     names.iter().any(|name| !is_student(students, name))
 }
@@ -268,7 +268,7 @@ fn lacks_student(students: &IndexMap<String, String>, names: &[String]) -> bool
 /// Whether the name is a student's.
 fn is_student(students: &IndexMap<String, String>, name: &String) -> bool
     ensures { result ≡ list_any (has_name (string_bytes name.now))
-        (map entry_view students.now.entries) }
+        (map entry_account students.now.entries) }
 {
     students.contains_key(name.as_str())
 }

@@ -8,7 +8,7 @@ ghost use Rattle.mml_lab.specs.declared.TheConstants.{MAX_NAME};
 ghost use Rattle.mml_lab.specs.declared.lab_fault.LabFault.TheVariants.{Memory};
 ghost use Rattle.mml_ids.specs.declared.TheConstants.{MAX_NODES};
 ghost use Rattle.mml_lab.specs.Shape.{is_lab_memory};
-ghost use Rattle.mml_lab.specs.inside.Raw.{account_view, entry_view};
+ghost use Rattle.mml_lab.specs.inside.Raw.{account_view, entry_account};
 ghost use Rattle.mml_lab.specs.Rosters.{principal, student_named, owns, name_of, is_name, has_name_and_key, no_account, name_twice, with_owners, IsPrincipal};
 ghost use Rattle.mml_lab.specs.Rosters.{IsRoster};
 
@@ -54,10 +54,10 @@ impl Roster {
         owners: Vec<Vec<Student>>,
     ) -> Result<Roster, LabFault>
         requires lawful { IsRoster (with_owners (account_view teacher)
-            (map entry_view students.entries) (map (λ v. v.items) owners.items)) }
+            (map entry_account students.entries) (map (λ v. v.items) owners.items)) }
         requires nodes { length owners.items ≤ MAX_NODES }
         ensures roster { IfOk result (λ roster. roster ≡ with_owners (account_view teacher)
-            (map entry_view students.entries) (map (λ v. v.items) owners.items)) }
+            (map entry_account students.entries) (map (λ v. v.items) owners.items)) }
         ensures err { IfErr result (λ fault. fault ≡ Memory) }
     {
         let owned = owned_by_each(alloc, students.len(), &owners)?;
@@ -150,7 +150,7 @@ fn has_name_and_key(account: &Account, name: &str, key: &str) -> bool
 /// that a student's name takes the steps of an unknown one of its length.
 fn student_with(students: &IndexMap<String, String>, name: &str, key: &str) -> Option<usize>
     ensures value { result ≡
-        position (has_name_and_key name.now key.now) (map entry_view students.now.entries) }
+        position (has_name_and_key name.now key.now) (map entry_account students.now.entries) }
     ensures within { IfSome result (λ place. place < length students.now.entries) }
 {
     let mut found = None;
@@ -166,7 +166,7 @@ fn student_with(students: &IndexMap<String, String>, name: &str, key: &str) -> O
 fn is_at(students: &IndexMap<String, String>, place: usize, name: &str, key: &str) -> bool
     requires { place < length students.now.entries }
     ensures { result ≡ has_name_and_key name.now key.now
-        (slice_index_or (map entry_view students.now.entries) place no_account) }
+        (slice_index_or (map entry_account students.now.entries) place no_account) }
 {
     match students.get_index(place) {
         Some((known, secret)) => {
@@ -181,7 +181,7 @@ fn is_at(students: &IndexMap<String, String>, place: usize, name: &str, key: &st
 fn name_at(students: &IndexMap<String, String>, place: usize) -> &str
     requires { place < length students.now.entries }
     ensures { result.now ≡
-        (slice_index_or (map entry_view students.now.entries) place no_account).name }
+        (slice_index_or (map entry_account students.now.entries) place no_account).name }
 {
     match students.get_index(place) {
         Some((name, _)) => name.as_str(),
@@ -203,7 +203,7 @@ pub(crate) fn students_map(
     teacher: &Account,
     students: Vec<Account>,
 ) -> Result<IndexMap<String, String>, LabFault>
-    ensures { Gives is_lab_memory (λ m. map entry_view m.entries) result
+    ensures { Gives is_lab_memory (λ m. map entry_account m.entries) result
         (unless_fault (name_twice (account_view teacher.now ∷ map account_view students.items))
         (map account_view students.items)) }
 {
@@ -219,7 +219,7 @@ fn fill(
     students: Vec<Account>,
 ) -> Result<(), LabFault>
     requires { found.old.entries ≡ [] }
-    ensures { Gives is_lab_memory (λ _. map entry_view found.new.entries) result
+    ensures { Gives is_lab_memory (λ _. map entry_account found.new.entries) result
         (unless_fault (name_twice (account_view teacher.now ∷ map account_view students.items))
         (map account_view students.items)) }
 {

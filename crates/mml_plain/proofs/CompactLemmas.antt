@@ -28,7 +28,7 @@ use Rattle.mml_plain.specs.declared.member_value.MemberValue.{MemberValue}
 use Rattle.mml_plain.specs.declared.member_value.MemberValue.TheVariants.{Null, Truth, Number, Other}
 use Rattle.mml_plain.specs.Reading.{members_at, value_at, if_over, object_at}
 use Rattle.mml_plain.specs.Shown.{Shows}
-use Rattle.mml_plain.specs.Compact.{is_bare_byte, is_bare, ended, Spaced, BeginsValue, BeginsMember, BeginsQuoted, BeginsAfter, PutsKnown, PutsMember}
+use Rattle.mml_plain.specs.Compact.{is_bare_byte, is_bare, is_value_ended, Spaced, BeginsValue, BeginsMember, BeginsQuoted, BeginsAfter, PutsKnown, PutsMember}
 use Rattle.mml_plain.specs.declared.fields.Fields.{Fields}
 use Rattle.mml_plain.specs.Fields.{with}
 use Rattle.mml_plain.proofs.ReadingLemmas.{items_next, members_suc, members_next, value_array, value_object}
@@ -101,13 +101,13 @@ pub record Begun (us : SpacedTokens) (found : Members) : Type 0 where
 pub record Before (line rest : List ℕ) (found : Members) : Type 0 where
   pub us : SpacedTokens
   pub begun : Begun us found
-  pub text : line ≡ 123 ∷ (print_spaced false us ++ (separator (ended (told us)) (Token.key []) ++ rest))
+  pub text : line ≡ 123 ∷ (print_spaced false us ++ (separator (is_value_ended (told us)) (Token.key []) ++ rest))
 
 -- the members so far, with what follows the last
 pub record After (line rest : List ℕ) (found : Members) : Type 0 where
   pub us : SpacedTokens
   pub begun : Begun us found
-  pub closed : ended (told us) ≡ true
+  pub closed : is_value_ended (told us) ≡ true
   pub text : line ≡ 123 ∷ (print_spaced false us ++ rest)
 
 pub begun : (line rest : List ℕ) → line ≡ 123 ∷ rest → Before line rest no_members
@@ -182,22 +182,22 @@ module _ (line rest more k : List ℕ) (v : MemberValue) (found : Members) (m : 
   said : told us ≡ told b.us ++ Token.key k ∷ first ∷ others
   said = told_append b.us one ∙ ap (λ ts. told b.us ++ Token.key k ∷ first ∷ ts) (told_close others)
 
-  one_text : print_spaced (ended (told b.us)) one ≡ separator (ended (told b.us)) (Token.key k) ++ (gap ++ (token_text (Token.key k) ++ (between ++ (token_text first ++ print_from (ends first) others))))
+  one_text : print_spaced (is_value_ended (told b.us)) one ≡ separator (is_value_ended (told b.us)) (Token.key k) ++ (gap ++ (token_text (Token.key k) ++ (between ++ (token_text first ++ print_from (ends first) others))))
   unfolding print_spaced
-  one_text = ap (λ l. separator (ended (told b.us)) (Token.key k) ++ (gap ++ (token_text (Token.key k) ++ (between ++ (token_text first ++ l))))) (spaced_close (ends first) others)
+  one_text = ap (λ l. separator (is_value_ended (told b.us)) (Token.key k) ++ (gap ++ (token_text (Token.key k) ++ (between ++ (token_text first ++ l))))) (spaced_close (ends first) others)
 
   rest_is : rest ≡ gap ++ (token_text (Token.key k) ++ (between ++ (token_text first ++ (print_from (ends first) others ++ more))))
   rest_is = grind arith
 
-  text_is : print_spaced false b.us ++ (separator (ended (told b.us)) (Token.key k) ++ rest) ≡ print_spaced false us ++ more
+  text_is : print_spaced false b.us ++ (separator (is_value_ended (told b.us)) (Token.key k) ++ rest) ≡ print_spaced false us ++ more
   text_is = grind (arith, comma, rest_is, member_text, one_text, append_assoc, spaced_append)
 
-  one_utf8 : IsUtf8 (print_spaced (ended (told b.us)) one)
+  one_utf8 : IsUtf8 (print_spaced (is_value_ended (told b.us)) one)
   one_utf8 =
       let value : IsUtf8 (token_text first ++ print_from (ends first) others) = m.value.utf8 in
       let at_value = IsUtf8-append between _ (IsUtf8-IsGap between m.spaced_value.is_gap) value in
       let at_key = IsUtf8-append gap _ (IsUtf8-IsGap gap m.spaced.is_gap) (IsUtf8-append (token_text (Token.key k)) _ (IsUtf8-key k m.key_utf8) at_value) in
-      subst IsUtf8 (sym one_text) (IsUtf8-append (separator (ended (told b.us)) (Token.key k)) _ (IsUtf8-separator (ended (told b.us)) (Token.key k)) at_key)
+      subst IsUtf8 (sym one_text) (IsUtf8-append (separator (is_value_ended (told b.us)) (Token.key k)) _ (IsUtf8-separator (is_value_ended (told b.us)) (Token.key k)) at_key)
 
   goes_on : (n : ℕ) (ts : List Token) → members_at 126 no_members ((b.begun.turns + 1) + n) (told us ++ ts) ≡ members_at 126 (put k m.value.datum found) n ts
   goes_on n ts =
@@ -278,7 +278,7 @@ digit_first xs d digit h here one = take_more xs 0 d h ∙ ap (λ b. b ∷ []) h
 
 -- a text that begins with tokens of which a value is read begins with that value
 of_tokens : (text rest : List ℕ) (v : MemberValue) (d : Data) (t : Token) (ts : List Token) → ArePrintable (t ∷ ts)
-    → IsUtf8 (token_text t ++ print_from (ends t) ts) → ended (t ∷ ts) ≡ true → ((us : List Token) → value_at 126 (t ∷ (ts ++ us)) ≡ Some (d, us)) → Shows v d
+    → IsUtf8 (token_text t ++ print_from (ends t) ts) → is_value_ended (t ∷ ts) ≡ true → ((us : List Token) → value_at 126 (t ∷ (ts ++ us)) ≡ Some (d, us)) → Shows v d
     → text ≡ token_text t ++ (print_from (ends t) ts ++ rest) → BeginsValue text v rest
 of_tokens text rest v d t ts printable utf8 ends_value value shows spelled = record {
   first = t;

@@ -15,6 +15,7 @@ use Rattle.mml_plain.specs.Shown.{Shows}
 abbrev pub is_bare_byte : ℕ → Bool
 is_bare_byte b = nat_lt 31 b && (nat_lt b 128 && (not (b == 34) && not (b == 92)))
 
+-- each byte stands for itself in a string
 abbrev pub is_bare : List ℕ → Bool
 is_bare [] = true
 is_bare (b ∷ bs) = is_bare_byte b && is_bare bs
@@ -26,8 +27,8 @@ pub record Spaced (text : List ℕ) (rest : List ℕ) : Type 0 where
   pub spelled : text ≡ gap ++ rest
 
 -- the last of these tokens ends a value
-abbrev pub ended : List Token → Bool
-ended ts = fold (λ _ t. ends t) false ts
+abbrev pub is_value_ended : List Token → Bool
+is_value_ended ts = fold (λ _ t. ends t) false ts
 
 -- spaces and a quotation mark, and then the rest
 pub record BeginsQuoted (text : List ℕ) (rest : List ℕ) : Type 0 where
@@ -45,7 +46,7 @@ pub record BeginsValue (text : List ℕ) (v : MemberValue) (rest : List ℕ) : T
   pub others : List Token
   pub printable : ArePrintable (first ∷ others)
   pub utf8 : IsUtf8 (token_text first ++ print_from (ends first) others)
-  pub ends_value : ended (first ∷ others) ≡ true
+  pub ends_value : is_value_ended (first ∷ others) ≡ true
   pub datum : Data
   pub value : (ts : List Token) → value_at 126 (first ∷ (others ++ ts)) ≡ Some (datum, ts)
   pub shows : Shows v datum

@@ -16,6 +16,7 @@ pub record IsSeen (ids : List ℕ) (s : See) : Type 0 where
 abbrev pub IsNear : List ℕ → ℕ × Regs → Type 0
 IsNear ids n = (n.0 < length ids) × IfSome n.1.p (λ j. j < length ids)
 
+-- the node, the one that it points at, its neighbours and those that they point at are the lab's
 pub record IsLookedAt (ids : List ℕ) (l : Look) : Type 0 where
   pub node : l.node < length ids
   pub pointer : IfSome l.regs.p (λ j. j < length ids)

@@ -1,7 +1,7 @@
 //! Those who are served at a port, and who of them leaves for a newcomer.
 ghost use Rattle.std.specs.Prelude.{◌<◌, IfSome, vec_len};
 
-use crate::last_word::LastWord;
+use crate::end_reason::EndReason;
 use crate::parting::Partings;
 use crate::shared_socket::SharedSocket;
 use mml_ids::Memory;
@@ -54,7 +54,7 @@ impl Guest {
 
     fn leaves<Rt: Wait>(&mut self, rt: &Rt) {
         self.is_leaving = true;
-        self.socket.end_with(rt, LastWord::Busy);
+        self.socket.end_with(rt, EndReason::Busy);
     }
 }
 
@@ -134,17 +134,22 @@ impl Crowd {
             && let Ok(now) = Instant::now(rt)
         {
             let mut guests = self.guests.lock(rt);
-            let _is_full = self.has_strangers(rt, &mut guests, now);
+            let _is_full = self.let_stranger_go_if_full(rt, &mut guests, now);
         }
     }
 
     // Whether those who haven't greeted have their share. Then the first who has had its time leaves.
-    fn has_strangers<Rt: Wait>(&self, rt: &Rt, guests: &mut Vec<Guest>, now: Instant) -> bool {
+    fn let_stranger_go_if_full<Rt: Wait>(
+        &self,
+        rt: &Rt,
+        guests: &mut Vec<Guest>,
+        now: Instant,
+    ) -> bool {
         let share = (self.places / STRANGERS).max(1);
         if count_strangers(guests) < share {
             return false;
         }
-        if let Some(at) = oldest_stranger(guests, now)
+        if let Some(at) = first_who_may_go(guests, now)
             && let Some(guest) = guests.get_mut(at)
         {
             guest.leaves(rt);
@@ -162,9 +167,9 @@ impl Crowd {
     /// Whether there is a place for a newcomer, who has waited for so long. Where there is none, one who has
     /// to leave for it does: the first of those who haven't greeted, where they have their share, or after
     /// a moment the last of a name that has more places than it may.
-    pub fn has_room<Rt: Wait>(&self, rt: &Rt, now: Instant, waited: Duration) -> bool {
+    pub fn finds_room<Rt: Wait>(&self, rt: &Rt, now: Instant, waited: Duration) -> bool {
         let mut guests = self.guests.lock(rt);
-        if self.has_strangers(rt, &mut guests, now) {
+        if self.let_stranger_go_if_full(rt, &mut guests, now) {
             return false;
         }
         if guests.len() < self.places {
@@ -203,7 +208,7 @@ fn count_strangers(guests: &Vec<Guest>) -> usize {
 }
 
 // The first who hasn't greeted, and has had its time.
-fn oldest_stranger(guests: &Vec<Guest>, now: Instant) -> Option<usize> {
+fn first_who_may_go(guests: &Vec<Guest>, now: Instant) -> Option<usize> {
     for index in 0..guests.len() {
         if guests[index].may_go(now) {
             return Some(index);

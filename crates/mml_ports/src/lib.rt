@@ -2,7 +2,7 @@
 #![tactic(auto)]
 
 mod crowd;
-mod last_word;
+mod end_reason;
 mod parting;
 mod port;
 mod shared_socket;
@@ -12,7 +12,7 @@ mod state;
 mod two_ports;
 
 pub use crowd::Crowd;
-pub use last_word::LastWord;
+pub use end_reason::EndReason;
 pub use parting::Partings;
 pub use port::{EndBell, Port};
 pub use shared_socket::SharedSocket;

@@ -1,5 +1,5 @@
 //! Those who left their place before the turn of their denial.
-use crate::last_word::LastWord;
+use crate::end_reason::EndReason;
 use std::alloc::Global;
 use std::collections::VecDeque;
 use std::io::{Read, Write};
@@ -37,7 +37,7 @@ impl Parting {
             return None;
         }
         tell(&stream, UNKNOWN);
-        tell(&stream, LastWord::Busy.line());
+        tell(&stream, EndReason::Busy.line());
         if stream.shutdown(Shutdown::Write).is_err() {
             return None;
         }
@@ -122,7 +122,7 @@ impl Partings {
             if let Some(first) = all.pop_front()
                 && !first.is_told
             {
-                tell(&first.stream, LastWord::Over.line());
+                tell(&first.stream, EndReason::Over.line());
             }
         }
     }

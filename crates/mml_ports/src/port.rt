@@ -1,6 +1,6 @@
 //! A host's ports, of whose connections no contract knows what they give and take.
 use crate::crowd::Crowd;
-use crate::last_word::LastWord;
+use crate::end_reason::EndReason;
 use crate::shared_socket::SharedSocket;
 use crate::socket_reader::{Incoming, SocketReader};
 use crate::socket_writer::{ReplyWriter, SocketCutOff, WRITE_LIMIT};
@@ -39,9 +39,9 @@ struct Newcomer<'a, Rt> {
 
 impl<'a, Rt: Clock + Wait + Eprint> Newcomer<'a, Rt> {
     // Hangs up, and says why.
-    fn turn_away(self, rt: &'a Rt, word: LastWord) {
+    fn turn_away(self, rt: &'a Rt, word: EndReason) {
         let mut newcomer = self;
-        newcomer.socket.note_last(rt, word);
+        newcomer.socket.note_end_reason(rt, word);
         newcomer.writer.hang_up();
     }
 }
@@ -123,11 +123,11 @@ impl<'a, Rt: Clock + Wait + Eprint> Port<'a, Rt> {
         if self.waiting.len() >= WAITING
             && let Some(first) = self.waiting.pop_front()
         {
-            first.turn_away(self.rt, LastWord::Busy);
+            first.turn_away(self.rt, EndReason::Busy);
         }
         if let Err(refused) = self.waiting.push_back(newcomer) {
             self.state.note_memory(self.rt);
-            refused.value.turn_away(self.rt, LastWord::Busy);
+            refused.value.turn_away(self.rt, EndReason::Busy);
         }
     }
 
@@ -139,7 +139,7 @@ impl<'a, Rt: Clock + Wait + Eprint> Port<'a, Rt> {
         };
         let now = Instant::now(self.rt).ok()?;
         let waited = now.duration_since(first.since);
-        let has_room = self.crowd.has_room(self.rt, now, waited);
+        let has_room = self.crowd.finds_room(self.rt, now, waited);
         self.crowd.note_wanted(!has_room);
         if has_room {
             return self.bring(now);
@@ -147,7 +147,7 @@ impl<'a, Rt: Clock + Wait + Eprint> Port<'a, Rt> {
         if waited >= Duration::from_millis(PLACE)
             && let Some(first) = self.waiting.pop_front()
         {
-            first.turn_away(self.rt, LastWord::Busy);
+            first.turn_away(self.rt, EndReason::Busy);
         }
         None
     }
@@ -188,7 +188,7 @@ impl<'a, Rt: Clock + Wait + Eprint> Port<'a, Rt> {
     fn close(&mut self) -> Brought<'a, Rt> {
         for _ in 0..self.waiting.len() {
             if let Some(first) = self.waiting.pop_front() {
-                first.turn_away(self.rt, LastWord::Over);
+                first.turn_away(self.rt, EndReason::Over);
             }
         }
         self.crowd.partings.close(self.rt);
@@ -202,7 +202,7 @@ impl<'a, Rt: Clock + Wait + Eprint> Port<'a, Rt> {
             ErrorKind::Interrupted | ErrorKind::WouldBlock => {}
             _ => {
                 if let Some(first) = self.waiting.pop_front() {
-                    first.turn_away(self.rt, LastWord::Busy);
+                    first.turn_away(self.rt, EndReason::Busy);
                 }
             }
         }
@@ -218,7 +218,7 @@ impl<'a, Rt: Clock + Wait + Eprint> Accept<
     SocketCutOff<'a, Rt>,
 > for Port<'a, Rt> {
     fn accept_next(&mut self) -> Brought<'a, Rt> {
-        let ended = self.state.ended(self.rt);
+        let ended = self.state.ended_count(self.rt);
         if self.state.is_over(self.rt) {
             return self.close();
         }

@@ -1,5 +1,5 @@
 //! A connection's socket: one descriptor, which its reader, its writer and what cuts it off share.
-use crate::last_word::LastWord;
+use crate::end_reason::EndReason;
 use std::net::{Shutdown, TcpStream};
 use std::sync::atomic::{AtomicBool, AtomicU64, Ordering};
 use std::sync::{Condvar, CondvarTimeouts, Mutex, RwLock, Wait};
@@ -24,7 +24,7 @@ pub struct SharedSocket {
     denied: AtomicU64,
     is_writing: AtomicBool,
     is_ending: AtomicBool,
-    last: Mutex<Option<LastWord>>,
+    last: Mutex<Option<EndReason>>,
     // Whether another thread ends the connection may be waited for.
     ending: Condvar,
 }
@@ -46,8 +46,8 @@ impl SharedSocket {
         }
     }
 
-    /// Why it is ended, where nothing was told before.
-    pub(crate) fn note_last<Rt: Wait>(&self, rt: &Rt, word: LastWord) {
+    /// Keeps why the connection is ended, unless a reason is kept already.
+    pub(crate) fn note_end_reason<Rt: Wait>(&self, rt: &Rt, word: EndReason) {
         let mut last = self.last.lock(rt);
         if last.is_none() {
             *last = Some(word);
@@ -55,7 +55,7 @@ impl SharedSocket {
     }
 
     /// What it is told at its end.
-    pub(crate) fn last<Rt: Wait>(&self, rt: &Rt) -> Option<LastWord> {
+    pub(crate) fn last<Rt: Wait>(&self, rt: &Rt) -> Option<EndReason> {
         *self.last.lock(rt)
     }
 
@@ -70,12 +70,12 @@ impl SharedSocket {
 
     /// Whether it leaves for want of a place.
     pub(crate) fn is_turned_away<Rt: Wait>(&self, rt: &Rt) -> bool {
-        matches!(self.last(rt), Some(LastWord::Busy))
+        matches!(self.last(rt), Some(EndReason::Busy))
     }
 
     /// Ends the connection from another thread than its own, with that word: nothing more is read, and
     /// who is writing is hung up.
-    pub(crate) fn end_with<Rt: Wait>(&self, rt: &Rt, word: LastWord) {
+    pub(crate) fn end_with<Rt: Wait>(&self, rt: &Rt, word: EndReason) {
         self.begin_end(rt, word);
         let how = if self.is_writing.load(Ordering::SeqCst) {
             Shutdown::Both
@@ -90,7 +90,7 @@ impl SharedSocket {
     }
 
     // Both at once, so that who waits for the end isn't told before.
-    fn begin_end<Rt: Wait>(&self, rt: &Rt, word: LastWord) {
+    fn begin_end<Rt: Wait>(&self, rt: &Rt, word: EndReason) {
         let mut last = self.last.lock(rt);
         if last.is_none() {
             *last = Some(word);

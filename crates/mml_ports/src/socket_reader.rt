@@ -2,7 +2,7 @@
 ghost use Rattle.std.specs.Prelude.{◌≤◌, length};
 ghost use Rattle.std.specs.Io.{ReadsAtMost};
 
-use crate::last_word::LastWord;
+use crate::end_reason::EndReason;
 use crate::shared_socket::SharedSocket;
 use crate::state::HostState;
 use mml_codec::MAX_REQUEST;
@@ -154,7 +154,7 @@ impl<'a, Rt: Clock + Wait> SocketReader<'a, Rt> {
             self.note_first(*byte);
         }
         if is_long {
-            self.socket.note_last(self.rt, LastWord::Long);
+            self.socket.note_end_reason(self.rt, EndReason::Long);
         }
         if has_line && self.has_greeted {
             self.renew()?;
@@ -196,7 +196,7 @@ impl<'a, Rt: Clock + Wait> Read for SocketReader<'a, Rt> {
         match read {
             // What comes after the reply to the teacher's bye isn't answered.
             Ok(_) if self.state.is_dismissed(self.rt) => {
-                self.socket.note_last(self.rt, LastWord::Over);
+                self.socket.note_end_reason(self.rt, EndReason::Over);
                 Ok(0)
             }
             Ok(count) => {
@@ -205,7 +205,7 @@ impl<'a, Rt: Clock + Wait> Read for SocketReader<'a, Rt> {
             }
             Err(error) => {
                 if matches!(error.kind(), ErrorKind::TimedOut | ErrorKind::WouldBlock) {
-                    self.socket.note_last(self.rt, LastWord::Late);
+                    self.socket.note_end_reason(self.rt, EndReason::Late);
                 }
                 Err(error)
             }

@@ -3,7 +3,7 @@ ghost use Rattle.std.specs.Prelude.{◌≡◌};
 ghost use Rattle.std.specs.Io.{WritesAtMost};
 
 use crate::crowd::Crowd;
-use crate::last_word::LastWord;
+use crate::end_reason::EndReason;
 use crate::parting::{PARTING, UNKNOWN, take_unwanted};
 use crate::shared_socket::SharedSocket;
 use crate::socket_reader::Incoming;
@@ -241,7 +241,7 @@ impl<'a, Rt: Clock + Wait + Eprint> HangUp for ReplyWriter<'a, Rt> {
 }
 
 // Says a last word, if the other side takes it at once.
-fn say(stream: &TcpStream, word: LastWord) {
+fn say(stream: &TcpStream, word: EndReason) {
     let mut stream = stream;
     if stream
         .set_write_timeout(Some(Duration::from_millis(PARTING)))
@@ -282,9 +282,9 @@ impl<'a, Rt: Wait> SocketCutOff<'a, Rt> {
 impl<'a, Rt: Wait> CutOff for SocketCutOff<'a, Rt> {
     fn cut_off(&self) {
         let word = if self.state.is_over(self.rt) {
-            LastWord::Over
+            EndReason::Over
         } else {
-            LastWord::Busy
+            EndReason::Busy
         };
         self.socket.end_with(self.rt, word);
     }

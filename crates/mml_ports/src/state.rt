@@ -96,7 +96,7 @@ impl HostState {
     }
 
     /// How many sessions have ended.
-    pub fn ended<Rt: Wait>(&self, rt: &Rt) -> u64 {
+    pub fn ended_count<Rt: Wait>(&self, rt: &Rt) -> u64 {
         self.news.lock(rt).ended
     }
 

@@ -98,13 +98,13 @@ fn answer_lines<R: Print + AllocGlobal, S: Sink + Drop>(
     let mut script = script;
     let mut writer = Retrying::new(io::writer(rt));
     match answer_script(rt.alloc(), lab, &mut script, &mut writer, sink) {
-        Ok(hall) => ended(&hall),
+        Ok(hall) => end_of_script(&hall),
         Err(fault) => Err(or_memory(fault, writer.lacked_memory)),
     }
 }
 
 // How a script ends whose lines are answered.
-fn ended<S: Sink>(hall: &Hall<S>) -> Result<(), Fault> {
+fn end_of_script<S: Sink>(hall: &Hall<S>) -> Result<(), Fault> {
     if hall.halted() {
         return Err(Fault::Journal);
     }

@@ -85,7 +85,7 @@ fn task_of<'a>(name: &str, values: &ArgMatches<'a>) -> Option<Task<'a>> {
 }
 
 fn whole<'a>(alloc: Global) -> Result<Command<'a>, AllocError> {
-    plain(alloc, "mml_server")
+    command_without_help(alloc, "mml_server")
         .subcommand(command_of(alloc, "check", &["lab"])?)?
         .subcommand(with_optional(
             alloc,
@@ -106,7 +106,7 @@ pub fn command_of<'a>(
     name: &'a str,
     values: &[&'a str],
 ) -> Result<Command<'a>, AllocError> {
-    let mut command = plain(alloc, name);
+    let mut command = command_without_help(alloc, name);
     for value in values {
         command = command.arg(Arg::new(alloc, value).required(true).action(ArgAction::Set))?;
     }
@@ -122,8 +122,8 @@ pub fn with_optional<'a>(
     command.arg(Arg::new(alloc, value).action(ArgAction::Set))
 }
 
-// A command without help and version.
-fn plain<'a>(alloc: Global, name: &'a str) -> Command<'a> {
+// A command of this name, without the flags for help and version and without a subcommand for help.
+fn command_without_help<'a>(alloc: Global, name: &'a str) -> Command<'a> {
     Command::new(alloc, name)
         .disable_help_flag(true)
         .disable_version_flag(true)

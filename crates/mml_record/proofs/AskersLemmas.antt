@@ -141,4 +141,4 @@ pub are_asks_of : (lab : LabValue) (l : List Event) (known : Option Who) → IfS
 are_asks_of lab l known k [] asks h = subst (AreAsksOf (length lab.roster.students)) (sym h) tt
 are_asks_of lab l known k (entry.Said p line out ∷ es) asks h = grind (arith, nat_tests, known_of, one_there, (are_asks_of lab l h.1 (one_there lab l (take p l) known k line h.0 h.1 h.4) es h.2 h.6))
 are_asks_of lab l known k (entry.Left p ∷ es) asks h = are_asks_of lab l None tt es asks h
-are_asks_of lab l known k (entry.Cut p ∷ es) asks h = are_asks_of lab l None tt es asks h
+are_asks_of lab l known k (entry.Unrecorded p ∷ es) asks h = are_asks_of lab l None tt es asks h

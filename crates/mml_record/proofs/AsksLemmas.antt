@@ -161,4 +161,4 @@ asked_of_rules lab l known gone least (entry.Said p line out ∷ es) ps on =
       asked_of_rules lab l on.5 (is_bye r) (seen_after p (place_in r)) es on.6 on.10,
     )
 asked_of_rules lab l known gone least (entry.Left p ∷ es) ps on = asked_of_rules lab l None false p es ps on.2
-asked_of_rules lab l known gone least (entry.Cut p ∷ es) ps on = asked_of_rules lab l None true p es ps on.2
+asked_of_rules lab l known gone least (entry.Unrecorded p ∷ es) ps on = asked_of_rules lab l None true p es ps on.2

@@ -126,12 +126,12 @@ ask_of known line out = record { who = student_of known; line = line_of (request
 abbrev pub asks_at : Option Who → Entry → List Ask
 asks_at known (entry.Said p line out) = ask_of known line out ∷ []
 asks_at known (entry.Left p) = []
-asks_at known (entry.Cut p) = []
+asks_at known (entry.Unrecorded p) = []
 
 abbrev pub known_behind : RosterValue → Option Who → Entry → Option Who
 known_behind roster known (entry.Said p line out) = known_after roster known line (unended out)
 known_behind roster known (entry.Left p) = None
-known_behind roster known (entry.Cut p) = None
+known_behind roster known (entry.Unrecorded p) = None
 
 -- each line that was answered, from where someone is known, or nobody
 abbrev pub asks_from : RosterValue → Option Who → List Entry → List Ask
@@ -155,4 +155,4 @@ AreAskedOf lab l known (entry.Said p line out ∷ es) asks =
     (r : Reply) × (known' : Option Who) × (more : List Ask) × (out ≡ reply_line lab.ids lab.roster r) × Fits lab l (take p l) known line r known'
     × (asks ≡ record { who = student_of known; line = line_of (request_in line); denied = clause_in r } ∷ more) × AreAskedOf lab l known' es more
 AreAskedOf lab l known (entry.Left p ∷ es) asks = AreAskedOf lab l None es asks
-AreAskedOf lab l known (entry.Cut p ∷ es) asks = AreAskedOf lab l None es asks
+AreAskedOf lab l known (entry.Unrecorded p ∷ es) asks = AreAskedOf lab l None es asks

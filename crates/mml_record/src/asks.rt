@@ -219,7 +219,7 @@ fn read_ask(
             push_ask(asks, &ask)?;
             Ok(then)
         }
-        RawEntry::Left { .. } | RawEntry::Cut { .. } => Ok(None),
+        RawEntry::Left { .. } | RawEntry::Unrecorded { .. } => Ok(None),
     }
 }
 

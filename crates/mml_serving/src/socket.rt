@@ -54,8 +54,8 @@ impl LetGo for Socket {
 }
 
 impl HangUp for Socket {
-    // The handle is given back when the other side has ended too, or has sent more, or taken longer, than
-    // it is waited for.
+    // Says that nothing more comes, and gives the handle back once the other side has ended too, or after the last
+    // turn of `linger`, which nobody hurries here.
     fn hang_up(&mut self) {
         if let Some(stream) = self.end.inner.0.take() {
             linger(stream, &AtomicBool::new(false));

@@ -3,7 +3,7 @@ use Rattle.std.proofs.Common.{◌≡◌, ◌≢◌, inl, inr, ℕ, ◌+◌, List
 use Rattle.std.proofs.Math.Seq.{take-append-add}
 use Rattle.std.proofs.KnownBytes.{Appends-nil, Appends-trans}
 use Rattle.std.specs.Io.KnownBytes.{Appends}
-use Rattle.mml_session.specs.Holding.{Holds, HoldsBack, BreaksOff}
+use Rattle.mml_session.specs.Holding.{IsHeldOrOut, HoldsBack, BreaksOff}
 
 -- there were no bytes
 pub none_back : (a : Option (List ℕ)) (held : List ℕ) → held ≡ [] → HoldsBack a a [] held
@@ -18,7 +18,7 @@ pub back_out : (a b c : Option (List ℕ)) (bytes held : List ℕ) → HoldsBack
 back_out a b c bytes held h k = subst (λ (t : List ℕ). Appends a c t) (sym h.1) (Appends-trans a b c h.0 held h.2 k)
 
 -- or stays
-pub back_on : (a b c : Option (List ℕ)) (bytes held held' : List ℕ) → HoldsBack a b bytes held → Holds b c held held' → HoldsBack a c bytes held'
+pub back_on : (a b c : Option (List ℕ)) (bytes held held' : List ℕ) → HoldsBack a b bytes held → IsHeldOrOut b c held held' → HoldsBack a c bytes held'
 back_on a b c bytes held held' h (inl k) =
     (h.0, h.1 ∙ ap (λ l. h.0 ++ l) (sym k.0), subst (λ (t : Option (List ℕ)). Appends a t h.0) (sym k.1) h.2)
 back_on a b c bytes held held' h (inr k) =

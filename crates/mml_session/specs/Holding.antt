@@ -6,8 +6,8 @@ use Rattle.mml_session.specs.declared.session.SessionEnd.TheVariants as end
 use Rattle.mml_session.specs.declared.session.Ending.{Ending}
 
 -- the bytes are all held, or all out
-abbrev pub Holds : Option (List ℕ) → Option (List ℕ) → List ℕ → List ℕ → Type 0
-Holds wrote wrote' bytes held = ((held ≡ bytes) × (wrote' ≡ wrote)) ⊎ ((held ≡ []) × Appends wrote wrote' bytes)
+abbrev pub IsHeldOrOut : Option (List ℕ) → Option (List ℕ) → List ℕ → List ℕ → Type 0
+IsHeldOrOut wrote wrote' bytes held = ((held ≡ bytes) × (wrote' ≡ wrote)) ⊎ ((held ≡ []) × Appends wrote wrote' bytes)
 
 -- the last of the bytes are held, and those before them are out
 abbrev pub HoldsBack : Option (List ℕ) → Option (List ℕ) → List ℕ → List ℕ → Type 0

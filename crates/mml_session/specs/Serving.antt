@@ -18,12 +18,12 @@ use Rattle.mml_session.specs.declared.session.Said.TheVariants as said
 use Rattle.mml_session.specs.Turns.{Standing, is_bye}
 use Rattle.mml_session.specs.Talks.{LineTurn, line_read, line_written}
 use Rattle.mml_session.specs.Ends.{IsView}
-use Rattle.mml_session.specs.Holding.{Holds, BreaksOff}
+use Rattle.mml_session.specs.Holding.{IsHeldOrOut, BreaksOff}
 use Rattle.mml_session.specs.Records.{Kept, Records, entry_for, line_entries}
 
 -- what was held and the line of a reply are held, or out, as they are with a bye's, or a front of them is
 abbrev pub SendsReply : Said → Reply → List ℕ → List ℕ → List ℕ → Option (List ℕ) → Option (List ℕ) → Type 0
-SendsReply said.Told r whole unsent unsent' wrote wrote' = (is_bye r ≡ false) × Holds wrote wrote' (unsent ++ whole) unsent'
+SendsReply said.Told r whole unsent unsent' wrote wrote' = (is_bye r ≡ false) × IsHeldOrOut wrote wrote' (unsent ++ whole) unsent'
 SendsReply said.Bye r whole unsent unsent' wrote wrote' = (is_bye r ≡ true) × (unsent' ≡ []) × Appends wrote wrote' (unsent ++ whole)
 SendsReply (said.Unwritten n) r whole unsent unsent' wrote wrote' =
     (n < length (unsent ++ whole)) × (unsent' ≡ []) × Appends wrote wrote' (take n (unsent ++ whole))
@@ -56,7 +56,7 @@ abbrev pub ServesNext : Next → ℕ → LabValue → Standing → Standing → 
     → Option (List ℕ) → Option Kept → Option Kept → Type 0
 ServesNext next.Served number lab st after input held left unsent unsent' wrote wrote' given given' =
     (t : LineTurn lab st after) × (is_bye t.reply ≡ false) × Consumes input (prepend_known held left) (line_read t)
-    × Holds wrote wrote' (unsent ++ line_written t) unsent' × Records number given given' (line_entries t)
+    × IsHeldOrOut wrote wrote' (unsent ++ line_written t) unsent' × Records number given given' (line_entries t)
 ServesNext (next.Ended end.Bye) number lab st after input held left unsent unsent' wrote wrote' given given' =
     (t : LineTurn lab st after) × (t.reply ≡ reply.Bye) × Consumes input (prepend_known held left) (line_read t) × (length held < READ_SIZE)
     × (unsent' ≡ []) × Appends wrote wrote' (unsent ++ line_written t) × Records number given given' (line_entries t)

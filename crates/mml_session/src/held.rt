@@ -1,7 +1,7 @@
 //! Replies that go out together.
 ghost use Rattle.std.specs.Prelude.{◌≡◌, ◌<◌, ◌++◌, [], length, take, IfOk, IfErr, OnOk, IsTrue, if◌then◌else◌};
 ghost use Rattle.std.specs.Io.KnownBytes.{Appends};
-ghost use Rattle.mml_session.specs.Holding.{Holds};
+ghost use Rattle.mml_session.specs.Holding.{IsHeldOrOut};
 
 use mml_codec::REPLY_ROOM;
 use mml_ids::Memory;
@@ -38,7 +38,7 @@ impl Held {
         at_once: bool,
         writer: &mut W,
     ) -> Result<(), WriteFault>
-        ensures ok { OnOk result (Holds (W.contents writer.old) (W.contents writer.new)
+        ensures ok { OnOk result (IsHeldOrOut (W.contents writer.old) (W.contents writer.new)
             (self.old.bytes.items ++ line.now) self.new.bytes.items) }
         ensures out { OnOk result (IsTrue at_once → (self.new.bytes.items ≡ [])
             × Appends (W.contents writer.old) (W.contents writer.new)
@@ -51,16 +51,20 @@ impl Held {
         ensures none { IfErr result (λ _. self.new.bytes.items ≡ []) }
     {
         if self.hold(line) {
-            return self.keep(at_once, writer);
+            return self.let_out_when_due(at_once, writer);
         }
         let came = put_both(&self.bytes, line, writer);
         self.bytes.clear();
         came
     }
 
-    // Lets all that is held go out where that is asked, or where it is more than is held.
-    pub(crate) fn keep<W: Write>(&mut self, at_once: bool, writer: &mut W) -> Result<(), WriteFault>
-        ensures ok { OnOk result (Holds (W.contents writer.old) (W.contents writer.new)
+    // Writes all that is held where `at_once` says so, or where that is more than `HELD_BYTES`.
+    pub(crate) fn let_out_when_due<W: Write>(
+        &mut self,
+        at_once: bool,
+        writer: &mut W,
+    ) -> Result<(), WriteFault>
+        ensures ok { OnOk result (IsHeldOrOut (W.contents writer.old) (W.contents writer.new)
             self.old.bytes.items self.new.bytes.items) }
         ensures out { OnOk result (IsTrue at_once → (self.new.bytes.items ≡ [])
             × Appends (W.contents writer.old) (W.contents writer.new) self.old.bytes.items) }

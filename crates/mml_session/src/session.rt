@@ -384,7 +384,7 @@ fn record<K: Recorder>(recorder: &mut K, judged: Judged<'_>, reply: &Reply, out:
         (entry_for judged.entry.seen judged.entry.line.now reply.now out.now) }
 {
     if !is_shown(reply) {
-        let before = judged.seen.saturating_sub(places_told(reply));
+        let before = judged.seen.saturating_sub(count_places(reply));
         recorder.said(judged.number, before, judged.line, out);
     }
 }
@@ -397,7 +397,7 @@ fn is_shown(reply: &Reply) -> bool
 }
 
 // How many places a reply names.
-fn places_told(reply: &Reply) -> u64
+fn count_places(reply: &Reply) -> u64
     ensures { result ≡ length (places_in reply.now) }
 {
     match reply {
@@ -439,7 +439,7 @@ fn send_held<W: Write>(reply: &Reply, held: &mut Held, at_once: bool, writer: &m
     ensures out { IsTrue at_once → held.new.bytes.items ≡ [] }
 {
     let is_last = is_bye(reply);
-    match held.keep(at_once || is_last, writer) {
+    match held.let_out_when_due(at_once || is_last, writer) {
         Ok(()) => { if is_last { Said::Bye } else { Said::Told } }
         Err(fault) => Said::Unwritten(fault.written),
     }

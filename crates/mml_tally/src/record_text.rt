@@ -21,9 +21,9 @@ pub struct Findings {
     pub whole: bool,
 }
 
-/// Puts the tally of a run that was recorded at the end of a text: what is told of any run, and before its
-/// last two lines what the record comes to. The board is the one to which the events led; the asks are what
-/// the record's lines asked.
+/// Puts at the end of a text the tally of a run that was recorded: the lines that any run has, and before the last
+/// two of them those of the record. The board is the world after the events; the asks are what the record's lines
+/// asked.
 pub fn put_recorded_tally(
     out: &mut Vec<u8>,
     alloc: Global,

@@ -8,7 +8,7 @@ use mml_rules::Scene;
 use std::alloc::Global;
 use std::test::Fail;
 
-fn word_of(ruling: &Ruling) -> &'static str {
+fn ruling_name(ruling: &Ruling) -> &'static str {
     match ruling {
         Ruling::Denied(_) => "denied",
         Ruling::Seen(_) => "seen",
@@ -38,7 +38,7 @@ fn ruled(
     }
     let course = Course { board, ids, roster };
     let ruling = rule_on(alloc, &course, *limit, *is_halted, who, command)?;
-    Ok(word_of(&ruling))
+    Ok(ruling_name(&ruling))
 }
 
 /// What comes of each of these of ana, in a row.

@@ -23,7 +23,7 @@ use Rattle.mml_window.specs.declared.sight.SightFault.{SightFault}
 use Rattle.mml_board.specs.Lists.{is_legal_in, world_in}
 use Rattle.mml_window.specs.Rulings.{ruling_at}
 use Rattle.mml_window.specs.Windows.{WindowValue}
-use Rattle.mml_window.specs.Views.{Tells}
+use Rattle.mml_window.specs.Views.{AnswersView}
 use Rattle.mml_window.specs.Books.{BookValue}
 use Rattle.mml_window.specs.Answers.{Decides, IsAnswered}
 use Rattle.mml_window.proofs.ListLemmas.{nodes_in}
@@ -42,18 +42,18 @@ module _ (lab : LabValue) (is : IsLab lab) where
   ruled_there l who command r legal same =
       subst (IsRuled lab.ids) same (ruled_is lab.ids lab.roster (world_in lab l) (world_is l legal) (sym (nodes_in lab l is)) lab.events false who command)
 
-  pub seen_is : (old new : WindowValue) (who : Who) (command : Command) (r : Result See SightFault) → Tells Seen lab old who command r new
+  pub seen_is : (old new : WindowValue) (who : Who) (command : Command) (r : Result See SightFault) → AnswersView Seen lab old who command r new
       → IfOk r (IsSeen lab.ids)
   seen_is old new who command (Ok s) t = ruled_there new.seen who command (Seen s) t.1.legal t.0
   seen_is old new who command (Err fault) t = tt
 
-  pub looked_at_is : (old new : WindowValue) (who : Who) (command : Command) (r : Result Look SightFault) → Tells Looked lab old who command r new
+  pub looked_at_is : (old new : WindowValue) (who : Who) (command : Command) (r : Result Look SightFault) → AnswersView Looked lab old who command r new
       → IfOk r (IsLookedAt lab.ids)
   looked_at_is old new who command (Ok s) t = ruled_there new.seen who command (Looked s) t.1.legal t.0
   looked_at_is old new who command (Err fault) t = tt
 
   pub report_is : (shown : Report → Ruling) (old new : WindowValue) (who : Who) (command : Command) (r : Result Report SightFault)
-      → Tells shown lab old who command r new → IfOk r (λ told. told ≡ report_of (world_in lab new.seen))
+      → AnswersView shown lab old who command r new → IfOk r (λ told. told ≡ report_of (world_in lab new.seen))
       → IfOk r (NamesNodes (length lab.ids))
   report_is shown old new who command (Ok s) t told =
       subst (NamesNodes (length lab.ids)) (sym told) (subst (λ n. NamesNodes n (report_of (world_in lab new.seen))) (sym (nodes_in lab new.seen is))

@@ -15,13 +15,13 @@ use Rattle.mml_window.specs.Rulings.{ruling_at}
 use Rattle.mml_window.specs.Rule.{Saw}
 use Rattle.mml_policy.specs.declared.refusal.Refusal.{Refusal}
 use Rattle.mml_window.specs.Windows.{WindowValue, window_with, SeesOn}
-use Rattle.mml_window.specs.Views.{Shows, Tells}
+use Rattle.mml_window.specs.Views.{Shows, AnswersView}
 use Rattle.mml_window.proofs.ListLemmas.{nodes_in}
 
 -- what is shown at a list that was seen
 pub tells : {A : Type 0} (shown : A → Ruling) (lab : LabValue) (old new : WindowValue) (who : Who) (command : Command) (r : Result A SightFault)
     → SeesOn lab old new
-    → Shows shown (ruling_at lab (world_in lab new.seen) who command) r → Tells shown lab old who command r new
+    → Shows shown (ruling_at lab (world_in lab new.seen) who command) r → AnswersView shown lab old who command r new
 tells shown lab old new who command (Ok x) on s = (s, on)
 tells shown lab old new who command (Err (fault.Denied d)) on s = (s, on)
 tells shown lab old new who command (Err fault.Memory) on s = (s, on)
@@ -37,12 +37,12 @@ nodes_entered {lab} {lab'} {x} {v} {w} {board} named is saw read =
 pub tells_entered : {A : Type 0} (shown : A → Ruling) (lab lab' : LabValue) (x : Published) (v w u : View) (board : World) (who : Who) (command : Command)
     (r : Result A SightFault) (old : WindowValue) (ps : List ℕ) (why : Option Refusal)
     → lab' ≡ lab → Saw lab v x w → u ≡ w → board ≡ x.board → old ≡ window_with v.seen ps why
-    → Shows shown (ruling_at lab' board who command) r → Tells shown lab old who command r (window_with u.seen ps why)
+    → Shows shown (ruling_at lab' board who command) r → AnswersView shown lab old who command r (window_with u.seen ps why)
 tells_entered shown lab lab' x v w u board who command r old ps why named saw left read was s =
     let seen : x.events.items ≡ u.seen = ap (λ (y : View). y.seen) (sym saw.view ∙ sym left) in
     let world : board ≡ world_in lab x.events.items = read ∙ saw.published.board in
-    subst (λ (o : WindowValue). Tells shown lab o who command r (window_with u.seen ps why)) (sym was)
-    (subst (λ (l : List Event). Tells shown lab (window_with v.seen ps why) who command r (window_with l ps why)) seen
+    subst (λ (o : WindowValue). AnswersView shown lab o who command r (window_with u.seen ps why)) (sym was)
+    (subst (λ (l : List Event). AnswersView shown lab (window_with v.seen ps why) who command r (window_with l ps why)) seen
     (tells shown lab (window_with v.seen ps why) (window_with x.events.items ps why) who command r
     (record { begins = saw.begins; legal = saw.published.legal; places = refl; refused = refl })
     (subst (λ (k : Ruling). Shows shown k r) (λ t. ruling_at (named t) (world t) who command) s)))

@@ -24,9 +24,9 @@ Shows shown r (Err (fault.Denied d)) = r ≡ Denied d
 Shows {A} shown r (Err fault.Memory) = (x : A) × (r ≡ shown x)
 Shows shown r (Err fault.Closed) = ⊥
 
--- it is ruled in the world of the list that the window has then seen; a window that is closed has seen nothing more
-abbrev pub Tells : {A : Type 0} → (A → Ruling) → LabValue → WindowValue → Who → Command → Result A SightFault → WindowValue → Type 0
-Tells shown lab old who command (Ok x) new = Shows shown (ruling_at lab (world_in lab new.seen) who command) (Ok x) × SeesOn lab old new
-Tells shown lab old who command (Err (fault.Denied d)) new = (ruling_at lab (world_in lab new.seen) who command ≡ Denied d) × SeesOn lab old new
-Tells shown lab old who command (Err fault.Memory) new = Shows shown (ruling_at lab (world_in lab new.seen) who command) (Err fault.Memory) × SeesOn lab old new
-Tells shown lab old who command (Err fault.Closed) new = new ≡ old
+-- a view is answered as is ruled in the world of the list that the window has then seen; a closed window has seen nothing more
+abbrev pub AnswersView : {A : Type 0} → (A → Ruling) → LabValue → WindowValue → Who → Command → Result A SightFault → WindowValue → Type 0
+AnswersView shown lab old who command (Ok x) new = Shows shown (ruling_at lab (world_in lab new.seen) who command) (Ok x) × SeesOn lab old new
+AnswersView shown lab old who command (Err (fault.Denied d)) new = (ruling_at lab (world_in lab new.seen) who command ≡ Denied d) × SeesOn lab old new
+AnswersView shown lab old who command (Err fault.Memory) new = Shows shown (ruling_at lab (world_in lab new.seen) who command) (Err fault.Memory) × SeesOn lab old new
+AnswersView shown lab old who command (Err fault.Closed) new = new ≡ old

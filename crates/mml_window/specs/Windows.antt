@@ -13,6 +13,7 @@ pub record WindowValue : Type 0 where
   pub places : List ℕ
   pub refused : Option Refusal
 
+-- the window that has seen these events, was granted these places, and whose last act was refused for that reason, if it was
 abbrev pub window_with : List Event → List ℕ → Option Refusal → WindowValue
 window_with seen places refused = record { seen = seen; places = places; refused = refused }
 

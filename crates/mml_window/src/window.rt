@@ -10,7 +10,7 @@ ghost use Rattle.mml_stable.specs.Reports.{report_of, NamesNodes};
 ghost use Rattle.mml_window.specs.declared.sight.SightFault.TheVariants as faults;
 ghost use Rattle.mml_board.specs.Lists.{world_in};
 ghost use Rattle.mml_window.specs.Windows.{window, window_with, IsWindow, SeesOn};
-ghost use Rattle.mml_window.specs.Views.{Tells, TellsNumber};
+ghost use Rattle.mml_window.specs.Views.{AnswersView, TellsNumber};
 ghost use Rattle.mml_window.specs.Tallies.{times};
 ghost use Rattle.mml_window.specs.inside.Cursors.{IsStuck};
 ghost use Rattle.mml_window.specs.inside.Keeping.{IsNextPlace, Keeps};
@@ -111,7 +111,7 @@ impl<H: House> Window<H> {
             Answer::Granted { place, .. } => {
                 self.refused = None;
                 match press.published().events.last() {
-                    Some(event) => self.look_for_event(rt, press, *place, event),
+                    Some(event) => self.read_until_event(rt, press, *place, event),
                     None => unreachable!(),
                 }
             }
@@ -150,7 +150,7 @@ impl<H: House> Window<H> {
     /// What a node shows to those who may see it. It takes no memory.
     #[tactic(auto, using(crate::proofs::ClimbingLemmas::climbs_on))]
     pub fn see(&mut self, who: Who, node: u64) -> Result<See, SightFault>
-        ensures tells { Tells rulings.Seen H.lab self.old who (command.See node) result self.new }
+        ensures tells { AnswersView rulings.Seen H.lab self.old who (command.See node) result self.new }
         ensures nodes { IfOk result (IsSeen H.lab.ids) }
         ensures memory { IfErr result (λ fault. fault ≢ faults.Memory) }
     {
@@ -165,7 +165,7 @@ impl<H: House> Window<H> {
     /// What a node shows to its owners and the teacher.
     #[tactic(auto, using(crate::proofs::ClimbingLemmas::climbs_on))]
     pub fn look(&mut self, alloc: Global, who: Who, node: u64) -> Result<Look, SightFault>
-        ensures tells { Tells rulings.Looked H.lab self.old who (command.Look node) result
+        ensures tells { AnswersView rulings.Looked H.lab self.old who (command.Look node) result
             self.new }
         ensures nodes { IfOk result (IsLookedAt H.lab.ids) }
     {
@@ -180,7 +180,7 @@ impl<H: House> Window<H> {
     /// The report on the published configuration, for the teacher.
     #[tactic(auto, using(crate::proofs::ClimbingLemmas::climbs_on))]
     pub fn report(&mut self, alloc: Global, who: Who) -> Result<Report, SightFault>
-        ensures tells { Tells (λ r. rulings.Reported) H.lab self.old who command.Report result
+        ensures tells { AnswersView (λ r. rulings.Reported) H.lab self.old who command.Report result
             self.new }
         ensures report { IfOk result (λ r. r ≡ report_of (world_in H.lab self.new.seen)) }
         ensures nodes { IfOk result (NamesNodes (length H.lab.ids)) }
@@ -195,7 +195,7 @@ impl<H: House> Window<H> {
 
     /// Looks until it sees a list whose world is this board's.
     #[tactic(auto, using(crate::proofs::ClimbingLemmas::climbs_on))]
-    pub(crate) fn look_for_board<R: Wait>(&mut self, rt: &R, press: &Press<H>)
+    pub(crate) fn read_until_board<R: Wait>(&mut self, rt: &R, press: &Press<H>)
         ensures on { SeesOn H.lab self.old self.new }
         ensures world { world_in H.lab self.new.seen ≡ press.now.desk.shown.value.board }
     {
@@ -207,7 +207,7 @@ impl<H: House> Window<H> {
 
     /// Looks until it sees one event more, which is this one, and keeps the place.
     #[tactic(auto, using(crate::proofs::ClimbingLemmas::climbs_count))]
-    fn look_for_event<R: Wait>(&mut self, rt: &R, press: &Press<H>, place: u64, event: &Event)
+    fn read_until_event<R: Wait>(&mut self, rt: &R, press: &Press<H>, place: u64, event: &Event)
         requires next { place ≡ length self.old.seen + 1 }
         requires room { place ≤ H.lab.events }
         ensures { self.new
@@ -222,7 +222,7 @@ impl<H: House> Window<H> {
 
     /// Looks until it sees all that is published.
     #[tactic(auto, using(crate::proofs::ClimbingLemmas::climbs_on))]
-    pub(crate) fn look_for_all<R: Wait>(&mut self, rt: &R, press: &Press<H>)
+    pub(crate) fn read_until_all<R: Wait>(&mut self, rt: &R, press: &Press<H>)
         ensures window { self.new ≡ window_with press.now.desk.shown.value.events.items
             self.old.places self.old.refused }
         ensures begins { IsPrefix self.old.seen press.now.desk.shown.value.events.items }

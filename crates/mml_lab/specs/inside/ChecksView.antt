@@ -5,14 +5,14 @@ use Rattle.mml_lab.specs.declared.raw_lab.RawNode.{RawNode}
 use Rattle.mml_lab.specs.declared.checks.Checked.{Checked}
 use Rattle.mml_lab.specs.declared.checks.Found.{Found}
 use Rattle.mml_lab.specs.Labs.{LabValue}
-use Rattle.mml_lab.specs.inside.Raw.{account_view, entry_view, node_view}
+use Rattle.mml_lab.specs.inside.Raw.{account_view, entry_account, node_view}
 use Rattle.mml_lab.specs.inside.Checks.{lab_with}
 
 abbrev pub checked_view : Checked → LabValue
 checked_view c =
-    lab_with c.ids (account_view c.teacher) (map entry_view c.students.entries) (map node_view c.nodes.items) c.neighbours.items c.events c.sessions
+    lab_with c.ids (account_view c.teacher) (map entry_account c.students.entries) (map node_view c.nodes.items) c.neighbours.items c.events c.sessions
 
 -- the lab of what was found out, with the teacher and the nodes of the file
 abbrev pub found_view : Account → List RawNode → Found → LabValue
 found_view teacher nodes f =
-    lab_with f.ids (account_view teacher) (map entry_view f.students.entries) (map node_view nodes) f.neighbours.items f.events f.sessions
+    lab_with f.ids (account_view teacher) (map entry_account f.students.entries) (map node_view nodes) f.neighbours.items f.events f.sessions

@@ -10,9 +10,10 @@ abbrev pub account_view : KeptAccount → Account
 account_view p = record { name = string_bytes p.name; key = string_bytes p.key }
 
 -- an entry of the map from names to keys
-abbrev pub entry_view : String Global × String Global → Account
-entry_view e = record { name = string_bytes e.0; key = string_bytes e.1 }
+abbrev pub entry_account : String Global × String Global → Account
+entry_account e = record { name = string_bytes e.0; key = string_bytes e.1 }
 
+-- a node of the file, with the bytes of its owners' names
 abbrev pub node_view : RawNode → NodeSpec
 node_view n = record { id = n.id; owners = map string_bytes n.owners.items; both = n.both; p = n.p; m = n.m }
 

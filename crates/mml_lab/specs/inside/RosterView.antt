@@ -1,12 +1,12 @@
 -- What a roster stands for.
 use Rattle.std.specs.Prelude.{map, length}
 use Rattle.mml_lab.specs.declared.roster.Roster.TheInside.{Inside}
-use Rattle.mml_lab.specs.inside.Raw.{account_view, entry_view}
+use Rattle.mml_lab.specs.inside.Raw.{account_view, entry_account}
 use Rattle.mml_lab.specs.inside.Owned.{AreOwned}
 use Rattle.mml_lab.specs.Rosters.{RosterValue, IsRoster, with_owners}
 
 abbrev pub roster_view : Inside → RosterValue
-roster_view a = with_owners (account_view a.teacher) (map entry_view a.students.entries) (map (λ v. v.items) a.owners.items)
+roster_view a = with_owners (account_view a.teacher) (map entry_account a.students.entries) (map (λ v. v.items) a.owners.items)
 
 -- the roster's own, and rows of what each student owns
 pub record IsRosterInside (a : Inside) : Type 0 where

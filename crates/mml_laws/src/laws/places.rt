@@ -33,9 +33,9 @@ pub fn replies_of_a_hall_name_their_events()
         IsPrefix st.events end.events }
 {}
 
-/// In a session, and at its last line, a reply that names place p answers one who was known, and event p is the
-/// one that this one's command is granted after the first p - 1. The events are any legal list of the lab's that
-/// begins with what its window has seen at the end, as those of a house do.
+/// Where a reply of a session, or the one to its last line, names place p, somebody was known on the connection, and
+/// event p of the list is the one that their command is granted after events 1 to p - 1. The list is any legal one of
+/// the lab that begins with the events that the window has seen at the end; the list of a house is one.
 pub fn replies_of_a_session_name_their_events()
     ensures talk { (lab : LabValue) (st : session.Standing) (t : Talk lab st) (l : List Event) →
         IsLab lab → is_legal_in lab l ≡ true → length l ≤ lab.events →

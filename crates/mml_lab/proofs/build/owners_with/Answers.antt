@@ -2,7 +2,7 @@ use Rattle.std.proofs.Common.{◌∙◌, ap, map, [], Option, Result, string_byt
 use Rattle.std.specs.Prelude.{option_map, IfOk}
 use Rattle.std.specs.Option.{option_map_or}
 use Rattle.mml_lab.specs.Shape.{NodeSpec}
-use Rattle.mml_lab.specs.inside.Raw.{node_view, entry_view}
+use Rattle.mml_lab.specs.inside.Raw.{node_view, entry_account}
 use Rattle.mml_lab.specs.Labs.{place_of, owners_in}
 use Rattle.mml_ids.proofs.MapLemmas.{map-map}
 use Rattle.mml_lab.proofs.RawLemmas.{node_with-read}
@@ -13,7 +13,7 @@ if_ok r h weaker = grind arith
 
 pub returns-in-Some-clause-ok : goal.returns-in-Some-clause-ok
 returns-in-Some-clause-ok c =
-    let students = map entry_view c.args.students.now.entries in
+    let students = map entry_account c.args.students.now.entries in
     let found = ap (option_map node_view) c.in-Some.ensures ∙ node_with-read c.args.nodes.now c.args.id in
     let read =
     ap (map (λ name. place_of students (string_bytes name))) c.deref.ensures.value
@@ -22,6 +22,6 @@ returns-in-Some-clause-ok c =
 
 pub returns-in-None-clause-ok : goal.returns-in-None-clause-ok
 returns-in-None-clause-ok c =
-    let students = map entry_view c.args.students.now.entries in
+    let students = map entry_account c.args.students.now.entries in
     let found = ap (option_map node_view) c.in-None.ensures ∙ node_with-read c.args.nodes.now c.args.id in
     c.new.ensures.items ∙ ap (λ (o : Option NodeSpec). option_map_or (owners_in students) o []) found

@@ -1,5 +1,5 @@
 use Rattle.std.proofs.Common.{◌∙◌, ap, map, sym}
-use Rattle.mml_lab.specs.inside.Raw.{account_view, node_view, entry_view}
+use Rattle.mml_lab.specs.inside.Raw.{account_view, node_view, entry_account}
 use Rattle.mml_lab.specs.Labs.{unless, limited}
 use Rattle.mml_lab.proofs.ChecksLemmas.{gathered}
 use Rattle.mml_lab.proofs.checks.gather.Goals as goal
@@ -15,7 +15,7 @@ returns c =
       nodes = map node_view c.args.nodes.now;
       links = c.args.links.now;
     })
-    c.in_ok-ids.ids (map entry_view c.in_ok-students.students.entries) c.in_ok-neighbours.neighbours.items c.in_ok-events.events c.in_ok-events.sessions
+    c.in_ok-ids.ids (map entry_account c.in_ok-students.students.entries) c.in_ok-neighbours.neighbours.items c.in_ok-events.events c.in_ok-events.sessions
     c.in_ok-ids.ensures.tests c.in_ok-students.ensures.tests c.in_ok-check_owners.ensures c.in_ok-neighbours.ensures.tests
     (ap unless (sym c.pointers_fault.ensures) ∙ c.in_ok-unless.ensures)
     (ap (limited c.args.bounds.events c.args.bounds.sessions) (sym c.count.ensures) ∙ c.in_ok-events.ensures.tests)

@@ -1,12 +1,12 @@
 use Rattle.std.proofs.Common.{◌∙◌, ap, map, not, string_bytes}
 use Rattle.std.specs.List.{list_any}
-use Rattle.mml_lab.specs.inside.Raw.{entry_view}
+use Rattle.mml_lab.specs.inside.Raw.{entry_account}
 use Rattle.mml_lab.specs.Rosters.{has_name}
 use Rattle.mml_ids.proofs.MapLemmas.{list_any-map}
 use Rattle.mml_lab.proofs.checks.lacks_owner.Goals as goal
 
 pub returns : goal.returns
 returns c =
-    let students = map entry_view c.args.students.now.entries in
+    let students = map entry_account c.args.students.now.entries in
     c.lacks_student.ensures ∙ ap (list_any (λ name. not (list_any (has_name (string_bytes name)) students))) c.deref.ensures.value
     ∙ list_any-map (λ name. not (list_any (has_name name) students)) string_bytes _

@@ -1,13 +1,13 @@
 use Rattle.std.proofs.Common.{map, arith}
 use Rattle.std.proofs.lemmas.List.{length-map}
-use Rattle.mml_lab.specs.inside.Raw.{entry_view}
+use Rattle.mml_lab.specs.inside.Raw.{entry_account}
 use Rattle.mml_lab.specs.Rosters.{has_name_and_key, no_account}
 use Rattle.mml_lab.proofs.SearchedLemmas.{IsSoFar, at_start, at_first, at_later, at_other, at_end, is_within}
 use Rattle.mml_lab.proofs.roster.student_with.Goals as goal
 use Rattle.mml_lab.proofs.roster.student_with.Goals.{then-is_at+then-is_none, else-is_at, else-is_at-via-then-is_at+else-is_none, else-is_at-via-else-is_at}
 
 pub loop-place-init : goal.loop-place-init
-loop-place-init c = at_start (has_name_and_key c.args.name.now c.args.key.now) (map entry_view c.args.students.now.entries) no_account
+loop-place-init c = at_start (has_name_and_key c.args.name.now c.args.key.now) (map entry_account c.args.students.now.entries) no_account
 
 pub loop-place-preserved : goal.loop-place-preserved
 loop-place-preserved c =

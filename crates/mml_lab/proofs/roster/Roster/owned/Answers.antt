@@ -3,7 +3,7 @@ use Rattle.std.specs.FinSet as sets
 use Rattle.std.proofs.lemmas.Bool.{cases_lt}
 use Rattle.std.proofs.lemmas.List.{get_or_default, length-map}
 use Rattle.mml_ids.specs.inside.WordsLemmas.{has_empty}
-use Rattle.mml_lab.specs.inside.Raw.{entry_view}
+use Rattle.mml_lab.specs.inside.Raw.{entry_account}
 use Rattle.mml_lab.specs.inside.Owned.{row_at}
 use Rattle.mml_lab.specs.inside.RosterView.{roster_view}
 use Rattle.mml_lab.specs.Rosters.{owns}
@@ -17,8 +17,8 @@ pub returns-in-Student : goal.returns-in-Student
 returns-in-Student c =
     let a = c.self.inside in
     let at = c.min.result in
-    let students = length (map entry_view a.students.entries) in
-    let many : c.len.result ≡ students = c.len.ensures.len ∙ sym (length-map a.students.entries entry_view) in
+    let students = length (map entry_account a.students.entries) in
+    let many : c.len.result ≡ students = c.len.ensures.len ∙ sym (length-map a.students.entries entry_account) in
     let s : c.from.result ≡ c.in-Student.student = c.from.ensures ∙ c.index.ensures in
     let within : at < length a.owned.items = omega (arith, c.min.ensures, many, c.self.invariant.rows.count) in
     let row : c.index-in-Student.result.now ≡ row_at a.owned.items at = c.index-in-Student.ensures ∙ sym (get_or_default a.owned.items at sets.empty c.index-in-Student.result.now within) in

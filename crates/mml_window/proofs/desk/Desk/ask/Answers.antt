@@ -10,7 +10,7 @@ use Rattle.mml_window.proofs.desk.Desk.ask.Goals as goal
 pub keep-requires : goal.keep-requires
 keep-requires g c =
     let lab = g.H.House.lab in
-    let seen = c.look_for_board.new.self.seen in
+    let seen = c.read_until_board.new.self.seen in
     let same : world_in lab seen ≡ world_in lab c.deref_mut.result.now.events = search rules in
     let events : c.decide-answer.new.self.events ≡ c.press-2.result.now.desk.shown.value.events.items = search rules in
     let few : length c.decide-answer.new.self.events ≤ lab.events = search rules in
@@ -21,14 +21,14 @@ keep-requires g c =
 pub returns-clause-present : goal.returns-clause-present
 returns-clause-present g c =
     let lab = g.H.House.lab in
-    let same : world_in lab c.look_for_board.new.self.seen ≡ world_in lab c.deref.result.now.events = c.look_for_board.ensures.world ∙ c.press.ensures.board in
+    let same : world_in lab c.read_until_board.new.self.seen ≡ world_in lab c.deref.result.now.events = c.read_until_board.ensures.world ∙ c.press.ensures.board in
     let book : c.deref_mut.result.now ≡ c.deref.result.now = search rules in
     let events : c.press-2.result.now.desk.shown.value.events.items ≡ c.decide-answer.new.self.events = search rules in
-    present lab g.S.Sink.contents g.S.Sink.failures c.deref.result.now c.decide-answer.new.self c.args.window.now c.look_for_board.new.self c.keep.new.self
-    c.args.who c.args.command.now c.press.ensures.book c.look_for_board.ensures.on same c.decide-answer.result
+    present lab g.S.Sink.contents g.S.Sink.failures c.deref.result.now c.decide-answer.new.self c.args.window.now c.read_until_board.new.self c.keep.new.self
+    c.args.who c.args.command.now c.press.ensures.book c.read_until_board.ensures.on same c.decide-answer.result
     (subst (λ (b : BookValue _). Decides lab g.S.Sink.failures b c.args.who c.args.command.now c.decide-answer.result c.decide-answer.new.self)
     book c.decide-answer.ensures.decides)
-    (subst (λ (l : List Event). Keeps l c.look_for_board.new.self c.decide-answer.result c.keep.new.self) events c.keep.ensures)
+    (subst (λ (l : List Event). Keeps l c.read_until_board.new.self c.decide-answer.result c.keep.new.self) events c.keep.ensures)
 
 pub returns-clause-answers : goal.returns-clause-answers
 returns-clause-answers g c = let p = (returns-clause-present g c).answers in (p.0, p.1, p.2, p.4)

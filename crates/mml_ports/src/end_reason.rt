@@ -3,7 +3,7 @@ use mml_hosting::BUSY;
 
 /// Why a connection is ended that might have gone on.
 #[derive(Clone, Copy, Debug, PartialEq, Eq)]
-pub enum LastWord {
+pub enum EndReason {
     /// There is no place for it.
     Busy,
     /// A line, or a granted hello, wasn't there in time.
@@ -14,14 +14,14 @@ pub enum LastWord {
     Over,
 }
 
-impl LastWord {
+impl EndReason {
     /// The line that is sent.
     pub fn line(self) -> &'static [u8] {
         match self {
-            LastWord::Busy => BUSY,
-            LastWord::Late => b"{\"refuse\":\"late\"}\n",
-            LastWord::Long => b"{\"refuse\":\"long\"}\n",
-            LastWord::Over => b"{\"refuse\":\"over\"}\n",
+            EndReason::Busy => BUSY,
+            EndReason::Late => b"{\"refuse\":\"late\"}\n",
+            EndReason::Long => b"{\"refuse\":\"long\"}\n",
+            EndReason::Over => b"{\"refuse\":\"over\"}\n",
         }
     }
 }

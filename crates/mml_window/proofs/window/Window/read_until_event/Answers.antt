@@ -6,7 +6,7 @@ use Rattle.mml_window.specs.Windows.{window_with}
 use Rattle.mml_window.specs.inside.Readers.{view_by}
 use Rattle.mml_window.proofs.ClimbingLemmas.{climbs_push}
 use Rattle.mml_window.proofs.PrefixLemmas.{one_more}
-use Rattle.mml_window.proofs.window.Window.look_for_event.Goals as goal
+use Rattle.mml_window.proofs.window.Window.read_until_event.Goals as goal
 
 pub invariant_of-self : goal.invariant_of-self
 invariant_of-self g c =
