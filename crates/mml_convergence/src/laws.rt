@@ -131,8 +131,9 @@ pub fn runs_end_stable()
         (es : List Event) × LeadsToRest r w (4 * link_count w.network + 6 * size w) es }
 {}
 
-/// Potentials counted by hand: of two linked nodes, and of all nodes of a triangle with a tail, whose 20 are
-/// all of 2 for each link and 3 for each node.
+/// Potentials counted by hand, to see that the definition is the one that is meant: of two linked nodes, where
+/// neither points, one asks, one is refused, and they are a pair; and of all nodes of a triangle with a tail: 20,
+/// the most that its 4 links and 4 nodes may have.
 pub fn potentials_by_hand()
     ensures apart { (potential (two_nodes None false None false) 0 ≡ 3) ×
         (potential (two_nodes None false None false) 1 ≡ 1) }

@@ -118,7 +118,7 @@ impl Crowd {
         }
     }
 
-    /// Whether a newcomer waits for a place from now on.
+    /// From now on a newcomer waits for a place, or none does.
     pub fn note_wanted(&self, is_wanted: bool) {
         self.is_wanted.store(is_wanted, Ordering::SeqCst);
     }

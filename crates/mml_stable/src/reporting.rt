@@ -78,7 +78,8 @@ fn free_nodes(alloc: Global, board: &Board) -> Result<(Vec<Rank>, NodeSet), Memo
     Ok((all, set))
 }
 
-/// The privileged nodes, each with the rule that is enabled there, and whether there is none.
+/// The privileged nodes in rising order, each with the rule that is enabled there, which was found before; and
+/// whether there is none.
 fn privileged_nodes(
     alloc: Global,
     board: &Board,

@@ -86,9 +86,9 @@ fn is_copy_opening(alloc: Global, board: &Board) -> Result<bool, Fail> {
     is_opening(alloc, &copy)
 }
 
-/// Whether a board and its copy are told so.
-fn are_opening(alloc: Global, board: &Board) -> Result<(bool, bool), Fail> {
-    Ok((is_opening(alloc, board)?, is_copy_opening(alloc, board)?))
+/// Whether a board is told as `OPENING`, and its copy too.
+fn are_both_opening(alloc: Global, board: &Board) -> Result<bool, Fail> {
+    Ok(is_opening(alloc, board)? && is_copy_opening(alloc, board)?)
 }
 
 /// What is shown of the first node, whose only neighbour points at it.
@@ -131,15 +131,16 @@ fn first_line(alloc: Global, lab: &Lab, board: &Board) -> Result<Vec<u8>, Fail> 
     Ok(line)
 }
 
-/// Whether a board and its copy are told so, what is shown of the first node, and the first line.
+/// Whether a board and its copy are told as `OPENING`; and whether the first node and the first line are shown as
+/// they should be.
 fn are_told_at_first(alloc: Global, lab: &Lab) -> Result<(bool, bool), Fail> {
     let board = boxed_board(alloc, lab)?;
-    let opened = are_opening(alloc, &board)?;
+    let are_opening = are_both_opening(alloc, &board)?;
     let look = look_at_the_first(alloc, &board)?;
     let line = first_line(alloc, lab, &board)?;
     let is_shown = look.as_str() == "0 None None Some(Marriage) 1 Some(0) false";
     let is_line = line.as_slice() == b"1 0 grant ana 5 abandonment\n".as_slice();
-    Ok((opened == (true, true), is_shown && is_line))
+    Ok((are_opening, is_shown && is_line))
 }
 
 /// Whether board, copy, first node and first line are told so where the higher node points.

@@ -1,4 +1,4 @@
-//! What is told of a run.
+//! The text of a report.
 use mml_board::Board;
 use mml_fakes::labs::{boxed_board, boxed_lab};
 use mml_ids::Rank;
@@ -69,19 +69,21 @@ node = [
 
 const TOLD: &str = "0 false; 0=1 2=3; 4 5; 3 Update 5 Marriage; 4-5 5 Marriage";
 
-fn told_of_board(alloc: Global, board: &Board) -> Result<String, Fail> {
+/// The report of a board, as text.
+fn board_report_text(alloc: Global, board: &Board) -> Result<String, Fail> {
     let report = report(alloc, board)?;
     report_text(alloc, &report)
 }
 
-fn told_of(alloc: Global, document: &str) -> Result<String, Fail> {
+/// The report of a lab's board at the beginning, as text.
+fn lab_report_text(alloc: Global, document: &str) -> Result<String, Fail> {
     let lab = boxed_lab(alloc, document)?;
     let board = boxed_board(alloc, &lab)?;
-    told_of_board(alloc, &board)
+    board_report_text(alloc, &board)
 }
 
 #[test]
 fn report_of_two_pairs_and_an_open_link(rt: HostRuntime) -> Result<(), Fail> {
-    assert_eq!(rt; told_of(rt.alloc(), DOCUMENT)?.as_str(), TOLD);
+    assert_eq!(rt; lab_report_text(rt.alloc(), DOCUMENT)?.as_str(), TOLD);
     Ok(())
 }

@@ -17,7 +17,7 @@ pub record WindowValue : Type 0 where
 abbrev pub window_with : List Event → List ℕ → Option Refusal → WindowValue
 window_with seen places refused = record { seen = seen; places = places; refused = refused }
 
--- its last act was not refused
+-- the window that has seen these events and was granted these places, and whose last act was not refused
 abbrev pub window : List Event → List ℕ → WindowValue
 window seen places = window_with seen places None
 

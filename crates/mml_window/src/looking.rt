@@ -66,7 +66,7 @@ pub(crate) fn enter<H: House>(reader: &mut Option<Reader<H>>) -> Option<Entered<
     }
 }
 
-/// Lets a reader leave what it has seen whole.
+/// Lets a reader, which has seen all that is published, leave; it comes back with how many events these are.
 pub(crate) fn leave<H: House>(reading: Entered<H>) -> Reader<H>
     requires { view reading.place ≡ viewer reading.part.value.events.items }
     ensures { result ≡ view reading.place }

@@ -4,11 +4,11 @@ use Rattle.mml_rules.specs.declared.rule.Kind.{Kind}
 use Rattle.mml_rules.specs.Configuration.{Configuration}
 use Rattle.mml_rules.specs.Rules.{enabled_kind}
 
--- those of the nodes below n
+-- at each node below n, the list has the rule that is enabled there
 abbrev pub AreFound : Configuration → ℕ → List (Option Kind) → Type 0
 AreFound c n kinds = (i : ℕ) → i < n → slice_index_or kinds i None ≡ enabled_kind c i
 
--- those of all nodes
+-- the list has a place for each node, and there the rule that is enabled at it
 pub record AreKinds (c : Configuration) (kinds : List (Option Kind)) : Type 0 where
   pub room : c.size ≤ length kinds
   pub found : AreFound c c.size kinds

@@ -64,8 +64,10 @@ impl Visit<MemorySink> for Asked {
     }
 }
 
-/// What is told of a house over the path of three with so many events, whose sink fails at that put.
-fn told_of<R: Wait>(
+/// Whether what is asked after a first act that is granted takes no memory, in a house over the path of three with
+/// this line as its limit of events and a sink that fails at this put, if at any, and whether the last act gets the
+/// wanted refusal; none where there were fewer than two windows. `is_there`: whether the library that counts is.
+fn takes_none_after_first<R: Wait>(
     rt: &R,
     alloc: Global,
     events: &str,
@@ -87,8 +89,15 @@ fn told_of<R: Wait>(
 #[test]
 fn refusals_that_take_no_memory(rt: HostRuntime) -> Result<(), Fail> {
     let is_there = is_there(rt.alloc());
-    let full = told_of(&rt, rt.alloc(), "events = 1", None, Refusal::Full, is_there)?;
-    let halted = told_of(
+    let full = takes_none_after_first(
+        &rt,
+        rt.alloc(),
+        "events = 1",
+        None,
+        Refusal::Full,
+        is_there,
+    )?;
+    let halted = takes_none_after_first(
         &rt,
         rt.alloc(),
         "events = 100",
