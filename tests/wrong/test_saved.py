@@ -17,7 +17,7 @@ from tests.wrong.judging import judge
 from tests.wrong.libraries import tree_at
 from tests.wrong.outputs import read_output
 from tests.wrong.saved import find_name, hand_on
-from tests.wrong.test_wrong import CRATE, NEVER, TOP
+from tests.wrong.test_wrong import CRATE, THERE, TOP
 
 LOADED = re.compile(rf"(?m)^crate {CRATE}: modules loaded=(\d+) checked=(\d+)$")
 
@@ -85,17 +85,17 @@ class TakingUp(unittest.TestCase):
             (top / "crates.txt").write_text(f"{CRATE}:\n", encoding="utf-8")
             tree = tree_at(top)
             name = find_name(tree)
-            texts: list[dict[str, str]] = [{}, apply_edit(NEVER, {}, folder)]
+            texts: list[dict[str, str]] = [{}, apply_edit(THERE, {}, folder)]
             for number, text in enumerate(texts):
                 place = Path(room) / str(number)
                 place.mkdir()
                 if number:
                     hand_on(tree.library(CRATE), place / "kept" / name)
-                ended = try_round(tree, CRATE, Round([NEVER], text), place, Running())
+                ended = try_round(tree, CRATE, Round([THERE], text), place, Running())
                 found = LOADED.search(ended.output)
                 assert found is not None, ended.output
                 self.assertEqual(int(found[1]) > int(found[2]), number == 1, found[0])
-                self.assertEqual(bool(judge([NEVER], ended.status, read_output(CRATE, ended.output)).of_edit), number == 0)
+                self.assertEqual(bool(judge([THERE], ended.status, read_output(CRATE, ended.output)).of_edit), number == 0)
                 if not number:
                     saved = {it.stem: it.read_bytes() for it in (place / "kept" / name).glob("Rattle-*.oantt")}
                     write_library(tree.library(CRATE), saved)

@@ -20,6 +20,7 @@ TOP = Path(__file__).resolve().parents[2]
 KEPT = Path(__file__).with_name("kept")
 CRATE = "mml_ends"
 FILE = "src/retrying.rt"
+# Edits of the crate as it was when the outputs of `kept` were kept.
 NEVER = Edit(
     "interrupted_is_never.edit",
     (Refusal("retrying::is_interrupted", "returns"),),
@@ -37,6 +38,18 @@ ELSEWHERE = Edit(
 )
 THERE = Edit(ELSEWHERE.name, (Refusal("retrying::Retrying::new", "returns-clause-lacked_memory"),), ELSEWHERE.pairs)
 UNTYPED = Edit("is_no_truth_value.edit", NEVER.wanted, (Pair(FILE, NEVER.pairs[0].old, "    error.kind()"),))
+# Edits of the crate as it is.
+OTHER_KIND = Edit(
+    "another_kind_of_failure.edit",
+    (Refusal("retrying::failed_by", "returns-in-Err"),),
+    (Pair(FILE, "        Err(error) => error.kind() == kind,", "        Err(error) => error.kind() != kind,"),),
+)
+SAME_FLUSH = Edit(
+    SAME.name,
+    (Refusal("retrying::RetryingWrite::flush", "returns"),),
+    (Pair(FILE, "        self.inner.flush()", "        let flushed = self.inner.flush(); flushed"),),
+)
+UNTYPED_KIND = Edit(UNTYPED.name, OTHER_KIND.wanted, (Pair(FILE, OTHER_KIND.pairs[0].old, "        Err(error) => error.kind(),"),))
 
 
 def text_of(edit: Edit) -> str:
@@ -272,17 +285,17 @@ class Trying(unittest.TestCase):
 
     def test_three_bodies(self) -> None:
         """One that is refused, one that means the same and one that is refused elsewhere, by one check."""
-        tried = self.try_edits(NEVER, SAME, ELSEWHERE)
+        tried = self.try_edits(OTHER_KIND, SAME_FLUSH, ELSEWHERE)
         self.assertEqual((tried.checks, tried.passed, tried.failed), (1, 1, 2))
         self.assertEqual(len(tried.faults), 2)
-        self.assertIn("means_the_same.edit: retrying::is_out_of_memory is still proved", tried.faults[0])
+        self.assertIn("means_the_same.edit: retrying::RetryingWrite::flush is still proved", tried.faults[0])
         self.assertIn("refused_at_another_goal.edit: ", tried.faults[1])
         self.assertIn("'# refused: retrying::Retrying::new returns-clause-lacked_memory'", tried.faults[1])
         self.assertGreater(tried.seconds, 0)
 
     def test_not_compiled(self) -> None:
         """A text that doesn't compile."""
-        tried = self.try_edits(UNTYPED)
+        tried = self.try_edits(UNTYPED_KIND)
         self.assertEqual((tried.checks, tried.passed, tried.failed), (1, 0, 1))
         self.assertRegex(tried.faults[0], r"an error of no goal: src/retrying\.rt:\d+:\d+: error\[mismatched-types\]")
 
