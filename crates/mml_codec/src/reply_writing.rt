@@ -213,20 +213,28 @@ fn put_text(ids: &IdTable, roster: &Roster, reply: &Reply, out: &mut Vec<u8>) ->
     }
 }
 
-#[tactic(auto, unfolding(crate::specs::Facts::object_text))]
 fn put_hello(ids: &IdTable, roster: &Roster, who: Who, out: &mut Vec<u8>) -> Result<(), Memory>
     requires { IsPrincipal roster.now who }
     ensures { Puts (object_text ids.now
         (hello_fields (name_of roster.now who))) TEXT_ROOM out.old out.new result }
 {
-    put(
-        out,
-        &[
-            Piece::Text("{\"ok\":\"hello\",\"who\":\""),
-            Piece::Text(roster.name_of(who)),
-            Piece::Text("\"}"),
-        ],
-    )
+    make_room(out, TEXT_ROOM)?;
+    *out = with_hello(taken(out), ids, roster, who);
+    Ok(())
+}
+
+// By pieces a hello and its bye took 229 instructions more.
+#[inline(always)]
+#[tactic(auto, unfolding(crate::specs::Facts::object_text))]
+fn with_hello(text: Vec<u8>, ids: &IdTable, roster: &Roster, who: Who) -> Vec<u8>
+    requires about { IsPrincipal roster.now who }
+    requires room { length text.items + TEXT_ROOM ≤ vec_capacity text }
+    ensures adds { Adds (object_text ids.now
+        (hello_fields (name_of roster.now who))) TEXT_ROOM text result }
+{
+    let text = with_text(text, "{\"ok\":\"hello\",\"who\":\"");
+    let text = with_text(text, roster.name_of(who));
+    with_text(text, "\"}")
 }
 
 fn put_see(ids: &IdTable, see: &See, out: &mut Vec<u8>) -> Result<(), Memory>
@@ -602,11 +610,21 @@ fn put_number_first(denial: Denial, out: &mut Vec<u8>) -> Result<(), Memory>
     }
 }
 
-#[tactic(auto, unfolding(crate::specs::Facts::object_text))]
 fn put_bye(ids: &IdTable, out: &mut Vec<u8>) -> Result<(), Memory>
     ensures { Puts (object_text ids.now bye_fields) TEXT_ROOM out.old out.new result }
 {
-    put(out, &[Piece::Text("{\"ok\":\"bye\"}")])
+    make_room(out, TEXT_ROOM)?;
+    *out = with_bye(taken(out), ids);
+    Ok(())
+}
+
+#[inline(always)]
+#[tactic(auto, unfolding(crate::specs::Facts::object_text))]
+fn with_bye(text: Vec<u8>, ids: &IdTable) -> Vec<u8>
+    requires room { length text.items + TEXT_ROOM ≤ vec_capacity text }
+    ensures adds { Adds (object_text ids.now bye_fields) TEXT_ROOM text result }
+{
+    with_text(text, "{\"ok\":\"bye\"}")
 }
 
 #[tactic(auto, unfolding(crate::specs::Facts::object_text))]
