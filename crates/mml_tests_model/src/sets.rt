@@ -20,7 +20,7 @@ fn taken(left: &mut NodeSet) -> Option<u64> {
 /// Whether a set has these ranks, of which the first is the least and the last the greatest, and no
 /// other.
 fn has_only(set: NodeSet, ranks: &[u64]) -> bool {
-    let least = set.least().map(Rank::index);
+    let least = least_of(set);
     let greatest = set.greatest().map(Rank::index);
     let has_all = ranks.iter().all(|index| match Rank::new(*index) {
         Some(rank) => set.has(rank),
@@ -80,7 +80,8 @@ fn has(set: NodeSet, index: u64) -> bool {
 }
 
 fn least_of(set: NodeSet) -> Option<u64> {
-    Some(set.least()?.index())
+    let mut left = set;
+    taken(&mut left)
 }
 
 fn greatest_of(set: NodeSet) -> Option<u64> {
