@@ -1,8 +1,8 @@
 //! A network with rows of bits beside it, so that a look at a node takes a few operations on words.
-ghost use Rattle.std.specs.Prelude.{◌≡◌, ◌≢◌, ℕ, ◌<◌, length, true, Some, IfOk};
+ghost use Rattle.std.specs.Prelude.{◌≡◌, ◌≢◌, ℕ, ◌<◌, length, true, Some, IfOk, if◌then◌else◌};
 ghost use Rattle.std.specs.FinSet as set;
 ghost use Rattle.mml_rules.specs.Rules.{is_candidate};
-ghost use Rattle.mml_rules.specs.Network.{neighbours_at, registers_at, configuration_of, unpointed, with_registers, with_link, without_link};
+ghost use Rattle.mml_rules.specs.Network.{neighbours_at, configuration_of, unpointed, with_registers, with_link, without_link};
 ghost use Rattle.mml_board.specs.inside.Rows.{with_suitor, without_suitor};
 
 use crate::node_sets::{is_empty, put};
@@ -40,22 +40,10 @@ impl Model for IndexedNetwork {
 }
 
 impl Scene for IndexedNetwork {
-    ghost configuration = { configuration_of };
+    ghost shown = { λ network. network };
 
-    fn size(&self) -> u64 {
-        self.network.size()
-    }
-
-    fn linked(&self, a: Rank, b: Rank) -> bool {
-        self.network.linked(a, b)
-    }
-
-    fn p(&self, node: Rank) -> Option<Rank> {
-        self.network.p(node)
-    }
-
-    fn m(&self, node: Rank) -> bool {
-        self.network.m(node)
+    fn network(&self) -> &Network {
+        &self.network
     }
 
     fn has_suitor(&self, node: Rank) -> bool {
@@ -81,9 +69,10 @@ impl IndexedNetwork {
         let mut believing = NodeSet::empty();
         for index in 0..network.size() {
             let node = Rank::at(index);
-            add_suitor(&mut suitors, network.p(node), node);
-            free = put(free, node, network.p(node).is_none());
-            believing = put(believing, node, network.m(node));
+            let registers = &network.registers(node);
+            put_suitor(&mut suitors, registers.p, node, true);
+            free = put(free, node, registers.p.is_none());
+            believing = put(believing, node, registers.m);
         }
         Ok(IndexedNetwork {
             network,
@@ -107,21 +96,6 @@ impl IndexedNetwork {
         })
     }
 
-    /// The nodes linked to a node; none where it is past the last one.
-    pub fn neighbours(&self, node: Rank) -> NodeSet
-        ensures { result ≡ neighbours_at self.now.neighbours node }
-    {
-        self.network.neighbours(node)
-    }
-
-    /// A node's registers.
-    pub fn registers(&self, node: Rank) -> Regs
-        requires { node < length self.now.registers }
-        ensures { result ≡ registers_at self.now.registers node }
-    {
-        self.network.registers(node)
-    }
-
     /// The nodes that a seduction of a node may choose.
     fn candidates(&self, node: Rank) -> NodeSet
         requires { node < length self.now.registers }
@@ -143,7 +117,8 @@ impl IndexedNetwork {
     {
         let _size = self.network.size();
         let registers = &registers;
-        move_suitor(&mut self.suitors, node, self.network.p(node), registers.p);
+        let from = self.network.registers(node).p;
+        move_suitor(&mut self.suitors, node, from, registers.p);
         self.free = put(self.free, node, registers.p.is_none());
         self.believing = put(self.believing, node, registers.m);
         self.network.set_registers(node, *registers);
@@ -195,28 +170,23 @@ fn move_suitor(suitors: &mut [NodeSet], node: Rank, from: Option<Rank>, to: Opti
     requires to { (i : ℕ) → to ≡ Some i → i < length suitors.old }
     ensures { suitors.new ≡ with_suitor (without_suitor suitors.old from node) to node }
 {
-    remove_suitor(suitors, from, node);
-    add_suitor(suitors, to, node);
+    put_suitor(suitors, from, node, false);
+    put_suitor(suitors, to, node, true);
 }
 
-/// Puts a node into the row of the node that it points at.
-fn add_suitor(suitors: &mut [NodeSet], p: Option<Rank>, node: Rank)
+/// Puts a node into the row of the node at which p points, or takes it out of there.
+fn put_suitor(suitors: &mut [NodeSet], p: Option<Rank>, node: Rank, is_in: bool)
     requires { (i : ℕ) → p ≡ Some i → i < length suitors.old }
-    ensures { suitors.new ≡ with_suitor suitors.old p node }
+    ensures { suitors.new ≡
+        (if is_in then with_suitor suitors.old p node else without_suitor suitors.old p node) }
 {
     if let Some(other) = p {
-        let row = suitors[other.index() as usize].with(node);
-        suitors[other.index() as usize] = row;
-    }
-}
-
-/// Takes a node out of the row of the node that it points at.
-fn remove_suitor(suitors: &mut [NodeSet], p: Option<Rank>, node: Rank)
-    requires { (i : ℕ) → p ≡ Some i → i < length suitors.old }
-    ensures { suitors.new ≡ without_suitor suitors.old p node }
-{
-    if let Some(other) = p {
-        let row = suitors[other.index() as usize].except(node);
+        let row = suitors[other.index() as usize];
+        let row = if is_in {
+            row.with(node)
+        } else {
+            row.except(node)
+        };
         suitors[other.index() as usize] = row;
     }
 }

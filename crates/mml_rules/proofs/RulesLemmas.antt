@@ -31,19 +31,6 @@ married-at c i j l a = grind (arith, married-from, holds-true, false_from_ne_tru
 pub pointee_in : (c : Configuration) (i j : ℕ) → IsLawful c → c.p i ≡ Some j → j < c.size
 pointee_in c i j l h = (l.in_range i j (l.to_linked i j h)).1
 
--- a node that points at i is a suitor of i
-pub suitor_at : (c : Configuration) (i k : ℕ) (o : Option ℕ) → IsLawful c → o ≡ c.p k → holds o i ≡ true → true ≡ has_suitor c i
-unfolding has_suitor
-suitor_at c i k o l p h =
-    let points : c.p k ≡ Some i = sym p ∙ holds-true o i h in
-    let linked : c.linked i k ≡ true = l.symmetric k i (l.to_linked k i points) in
-    sym (some_below-at c.size k (λ k. c.linked i k && holds (c.p k) i) (l.in_range i k linked).1 (and_from _ _ linked (holds-from (c.p k) i points)))
-
--- where no node points at i, it has no suitor
-pub no_suitor : (c : Configuration) (i n : ℕ) → c.size ≤ n → ((k : ℕ) → k < n → holds (c.p k) i ≡ false) → false ≡ has_suitor c i
-unfolding has_suitor
-no_suitor c i n all h = grind (arith, false_from_ne_true, some_below-find, both_ways, and_parts)
-
 -- a register that is found null is null
 pub none-null : (o : Option ℕ) → is_none o ≡ true → o ≡ None
 none-null o h = grind (arith, false≢true)

@@ -1,9 +1,9 @@
 ghost use Rattle.std.specs.FinSet as set;
 ghost use Rattle.std.specs.Prelude.{◌≡◌, ◌≢◌, ℕ, ◌<◌, length, true, Some, IfOk};
-ghost use Rattle.mml_rules.specs.Network.{neighbours_at, registers_at, configuration_of, IsNetwork, with_neighbour, without_neighbour, unpointed};
+ghost use Rattle.mml_rules.specs.Network.{neighbours_at, registers_at, IsNetwork, with_neighbour, without_neighbour, unpointed};
 ghost use Rattle.mml_rules.specs.Network.{with_registers, with_link, without_link};
 
-use crate::{Regs, Scene};
+use crate::Regs;
 use mml_ids::{Memory, NodeSet, Rank};
 use std::alloc::Global;
 use std::marker::Model;
@@ -29,26 +29,6 @@ impl Model for Network {
     ghost invariant = { λ a. IsNetwork (record { neighbours = a.neighbours.items; registers = a.registers.items }) };
 }
 
-impl Scene for Network {
-    ghost configuration = { configuration_of };
-
-    fn size(&self) -> u64 {
-        self.registers.len() as u64
-    }
-
-    fn linked(&self, a: Rank, b: Rank) -> bool {
-        self.neighbours[a.index() as usize].has(b)
-    }
-
-    fn p(&self, node: Rank) -> Option<Rank> {
-        self.registers[node.index() as usize].p
-    }
-
-    fn m(&self, node: Rank) -> bool {
-        self.registers[node.index() as usize].m
-    }
-}
-
 impl Network {
     /// The network of these rows of neighbours and registers.
     pub fn of(neighbours: Vec<NodeSet>, registers: Vec<Regs>) -> Network
@@ -71,6 +51,14 @@ impl Network {
             neighbours,
             registers,
         })
+    }
+
+    /// How many nodes there are. Their ranks are the numbers below it.
+    pub fn size(&self) -> u64
+        ensures size { result ≡ length self.now.registers }
+        ensures network { IsNetwork self.now }
+    {
+        self.registers.len() as u64
     }
 
     /// The nodes linked to a node; none where it is past the last one.

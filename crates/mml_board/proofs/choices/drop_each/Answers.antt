@@ -1,4 +1,4 @@
-use Rattle.std.proofs.Common.{false, None, ap, sym, ◌∙◌, arith, length-set, replicate, cond, eqb, rules}
+use Rattle.std.proofs.Common.{false, None, ap, sym, ◌∙◌, arith, length-set, replicate, cond, eqb}
 use Rattle.std.specs.FinSet as sets
 use Rattle.mml_board.proofs.ChoicesLemmas.{are_chosen-set, all_dropped}
 use Rattle.mml_board.proofs.WorldLemmas.{chosen_within}

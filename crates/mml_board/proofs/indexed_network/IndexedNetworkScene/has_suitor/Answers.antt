@@ -13,6 +13,6 @@ returns c =
     let row : c.index-2.result.now ≡ neighbours_at c.self.inside.suitors.items c.args.node =
     c.index-2.ensures ∙ ap (λ i. get_or c.self.inside.suitors.items i c.index-2.result.now) c.index.ensures.value
     ∙ get_or_default c.self.inside.suitors.items c.args.node c.index-2.result.now sets.empty (omega (arith, c.self.invariant.count, node)) in
-    suitors-read n c.self.inside.suitors.items c.self.inside.free c.self.inside.believing c.index-2.result.now c.args.node c.size-size.ensures.lawful
+    suitors-read n c.self.inside.suitors.items c.self.inside.free c.self.inside.believing c.index-2.result.now c.args.node c.size-size.ensures.network.lawful
     c.self.invariant node row c.is_empty.result c.is_empty.ensures
     ∙ ap (λ (x : Network). has_suitor (configuration_of x) c.args.node) c.self.view_is
