@@ -8,6 +8,7 @@ ghost use Rattle.mml_lab.specs.Rosters.{is_name_byte, is_name, is_key, is_accoun
 use crate::raw_lab::Account;
 use crate::{MAX_KEY, MAX_NAME};
 
+/// Whether a byte may stand in a name: a to z, 0 to 9 or '-'.
 fn is_name_byte(byte: u8) -> bool
     ensures { result ≡ is_name_byte byte }
 {
@@ -25,24 +26,28 @@ pub fn is_name(name: &[u8]) -> bool
     begins && are_name_bytes(&name[1..]) && name.len() as u64 <= MAX_NAME
 }
 
+/// Whether each byte may stand in a name.
 fn are_name_bytes(bytes: &[u8]) -> bool
     ensures { result ≡ list_all is_name_byte bytes.now }
 {
     bytes.iter().all(|byte| is_name_byte(*byte))
 }
 
+/// Whether the bytes have the form of a key: 1 to 64 that can be seen, and no space.
 fn is_key(key: &[u8]) -> bool
     ensures { result ≡ is_key key.now }
 {
     !key.is_empty() && key.len() as u64 <= MAX_KEY && are_graphic(key)
 }
 
+/// Whether each byte is a character of ASCII that can be seen.
 fn are_graphic(bytes: &[u8]) -> bool
     ensures { result ≡ list_all is_ascii_graphic bytes.now }
 {
     bytes.iter().all(|byte| byte.is_ascii_graphic())
 }
 
+/// Whether both the name and the key have their forms.
 fn is_account(account: &Account) -> bool
     ensures { result ≡ is_account (account_view account.now) }
 {
@@ -63,6 +68,7 @@ pub(crate) fn first_malformed(teacher: &Account, students: &[Account]) -> Option
     }
 }
 
+/// The index of the first student whose name or key isn't of its form.
 fn first_malformed_student(students: &[Account]) -> Option<usize>
     ensures value { result ≡ position (λ a. not (is_account (account_view a))) students.now }
     ensures within { IfSome result (λ index. index < length students.now) }

@@ -74,6 +74,7 @@ pub(crate) fn registers(
     Ok(found)
 }
 
+/// The registers of the node with an identifier; null and false where the file has none with it.
 fn registers_with(ids: &IdTable, nodes: &[RawNode], id: u64) -> Regs
     ensures { result ≡ registers_with ids.now (map node_view nodes.now) id }
 {
@@ -83,12 +84,14 @@ fn registers_with(ids: &IdTable, nodes: &[RawNode], id: u64) -> Regs
     }
 }
 
+/// The file's node with an identifier.
 fn node_with(nodes: &[RawNode], id: u64) -> Option<&RawNode>
     ensures { option_copied result ≡ find (λ node. number_of node.id == id) nodes.now }
 {
     nodes.iter().find(|node| number_of(node.id) == id)
 }
 
+/// The registers that the file gives a node: its pointer is the rank of the node that it names.
 #[tactic(auto, unfolding(crate::specs::inside::Checks::rank_at))]
 fn registers_in(ids: &IdTable, node: &RawNode) -> Regs
     ensures { result ≡ registers_in ids.now (node_view node.now) }
@@ -119,6 +122,7 @@ pub(crate) fn owners(
     Ok(found)
 }
 
+/// The owners of the node with an identifier; none where the file has none with it.
 fn owners_with(
     alloc: Global,
     students: &IndexMap<String, String>,
@@ -136,6 +140,7 @@ fn owners_with(
     }
 }
 
+/// The students with these names, in order.
 fn owners_in(
     alloc: Global,
     students: &IndexMap<String, String>,
@@ -153,6 +158,7 @@ fn owners_in(
     Ok(found)
 }
 
+/// The student with a name, and the first one where none has it.
 fn student_named(students: &IndexMap<String, String>, name: &str) -> Student
     requires { length students.now.entries ≤ MAX_STUDENTS }
     ensures { result ≡ place_of (map entry_account students.now.entries) name.now }

@@ -6,6 +6,7 @@ ghost use Rattle.mml_ids.specs.Gives.{Gives, need};
 ghost use Rattle.mml_ids.specs.Ids.{in_order};
 ghost use Rattle.mml_lab.specs.declared.lab_fault.LabFault.TheVariants.{Limit};
 ghost use Rattle.mml_lab.specs.Shape.{is_lab_memory};
+ghost use Rattle.mml_lab.specs.Faults.{id_fault_as};
 ghost use Rattle.mml_lab.specs.inside.Raw.{account_view, node_view, entry_account, raw_view};
 ghost use Rattle.mml_lab.specs.Rosters.{has_name};
 ghost use Rattle.mml_lab.specs.Labs.{number_of, file_ids, joins, is_linked, lacks_owner, are_one_twice, points_astray, is_within, both_fault, ids_fault};
@@ -15,14 +16,14 @@ ghost use Rattle.mml_lab.specs.inside.ChecksView.{checked_view, found_view};
 use crate::accounts::first_malformed;
 use crate::lab_fault::{Key, LabFault};
 use crate::links::neighbours;
-use crate::raw_lab::{Account, RawLab, RawNode};
+use crate::raw_lab::{Account, Bounds, RawLab, RawNode};
 use crate::roster::students_map;
 use crate::{MAX_EVENTS, MAX_SESSIONS, MAX_STUDENTS};
 use indexmap::IndexMap;
-use mml_ids::{IdTable, NodeSet};
+use mml_ids::{IdFault, IdTable, NodeSet};
 use std::alloc::{AllocError, Global};
 
-/// A negative number counts as 0.
+/// The number itself, and 0 for a negative one, which no identifier and no limit is.
 pub(crate) fn number_of(number: i64) -> u64
     ensures { result ≡ number_of number }
 {
@@ -46,8 +47,7 @@ pub(crate) fn check(alloc: Global, raw: RawLab) -> Result<Checked, LabFault>
     ensures { Gives is_lab_memory checked_view result (lab_from (raw_view raw)) }
 {
     let RawLab {
-        events,
-        sessions,
+        bounds,
         teacher,
         students,
         nodes,
@@ -59,14 +59,7 @@ pub(crate) fn check(alloc: Global, raw: RawLab) -> Result<Checked, LabFault>
         neighbours,
         events,
         sessions,
-    } = gather(
-        alloc,
-        &teacher,
-        students,
-        &nodes,
-        &links,
-        Bounds { events, sessions },
-    )?;
+    } = gather(alloc, &teacher, students, &nodes, &links, bounds)?;
     Ok(Checked {
         ids,
         teacher,
@@ -86,13 +79,6 @@ struct Found {
     neighbours: Vec<NodeSet>,
     events: u64,
     sessions: u8,
-}
-
-/// How many events and connections a file allows.
-#[derive(Clone, Copy)]
-struct Bounds {
-    events: i64,
-    sessions: i64,
 }
 
 /// Goes through the errors with the parts of a file. Its teacher and its nodes stay with the caller.
@@ -165,6 +151,7 @@ fn check_owners(students: &IndexMap<String, String>, nodes: &[RawNode]) -> Resul
     unless(owner_twice_fault(nodes))
 }
 
+/// How many students a file has.
 fn count(students: &IndexMap<String, String>) -> usize
     ensures { result ≡ length (map entry_account students.now.entries) }
 {
@@ -181,6 +168,7 @@ pub(crate) fn unless(fault: Option<LabFault>) -> Result<(), LabFault>
     }
 }
 
+/// The error of the first node with both keys of its owners, `owner` and `owners`.
 #[tactic(auto, unfolding(crate::specs::Labs::both_fault))]
 fn both_fault(nodes: &[RawNode]) -> Option<LabFault>
     ensures { result ≡ both_fault (map node_view nodes.now) }
@@ -191,6 +179,7 @@ fn both_fault(nodes: &[RawNode]) -> Option<LabFault>
     }
 }
 
+/// The index of the first node with both keys of its owners.
 fn first_with_both(nodes: &[RawNode]) -> Option<usize>
     ensures { result ≡ position (λ node. node.both) nodes.now }
 {
@@ -204,15 +193,30 @@ fn id_table(alloc: Global, nodes: &[RawNode]) -> Result<IdTable, LabFault>
     ensures table { IfOk result (λ ids. ids ≡ in_order (file_ids (map node_view nodes.now))) }
 {
     let ids = file_ids(alloc, nodes)?;
-    Ok(IdTable::new(alloc, &ids)?)
+    match IdTable::new(alloc, &ids) {
+        Ok(table) => Ok(table),
+        Err(fault) => Err(fault_of_ids(fault)),
+    }
 }
 
+/// An error of identifiers among those of a lab. Out of memory is none of the identifiers.
+fn fault_of_ids(fault: IdFault) -> LabFault
+    ensures { result ≡ id_fault_as fault }
+{
+    match fault {
+        IdFault::Memory => LabFault::Memory,
+        _ => LabFault::Id(fault),
+    }
+}
+
+/// The nodes' identifiers, in the file's order.
 fn file_ids(alloc: Global, nodes: &[RawNode]) -> Result<Vec<u64>, AllocError>
     ensures { IfOk result (λ ids. ids.items ≡ map (λ node. number_of node.id) nodes.now) }
 {
     nodes.iter().map(|node| number_of(node.id)).collect(alloc)
 }
 
+/// The error of the first name or key that isn't of its form.
 #[tactic(auto, unfolding(crate::specs::Labs::forms_fault))]
 fn forms_fault(teacher: &Account, students: &[Account]) -> Option<LabFault>
     ensures { result ≡ forms_fault (account_view teacher.now ∷ map account_view students.now) }
@@ -223,6 +227,7 @@ fn forms_fault(teacher: &Account, students: &[Account]) -> Option<LabFault>
     }
 }
 
+/// The error of the first node with an owner who is no student.
 #[tactic(auto, unfolding(crate::specs::Labs::no_owner_fault))]
 fn no_owner_fault(students: &IndexMap<String, String>, nodes: &[RawNode]) -> Option<LabFault>
     ensures { result ≡
@@ -234,6 +239,7 @@ fn no_owner_fault(students: &IndexMap<String, String>, nodes: &[RawNode]) -> Opt
     }
 }
 
+/// The error of the first node whose two owners are one student.
 #[tactic(auto, unfolding(crate::specs::Labs::owner_twice_fault))]
 fn owner_twice_fault(nodes: &[RawNode]) -> Option<LabFault>
     ensures { result ≡ owner_twice_fault (map node_view nodes.now) }
@@ -244,6 +250,7 @@ fn owner_twice_fault(nodes: &[RawNode]) -> Option<LabFault>
     }
 }
 
+/// The index of the first node with an owner who is no student.
 fn first_without_owner(students: &IndexMap<String, String>, nodes: &[RawNode]) -> Option<usize>
     ensures { result ≡ position
         (λ node. lacks_owner (map entry_account students.now.entries) (node_view node)) nodes.now }
@@ -251,6 +258,7 @@ fn first_without_owner(students: &IndexMap<String, String>, nodes: &[RawNode]) -
     nodes.iter().position(|node| lacks_owner(students, node))
 }
 
+/// Whether one of a node's owners is no student.
 fn lacks_owner(students: &IndexMap<String, String>, node: &RawNode) -> bool
     ensures { result ≡ lacks_owner (map entry_account students.now.entries) (node_view node.now) }
 {
@@ -273,12 +281,14 @@ fn is_student(students: &IndexMap<String, String>, name: &String) -> bool
     students.contains_key(name.as_str())
 }
 
+/// The index of the first node whose two owners are one student.
 fn first_with_owner_twice(nodes: &[RawNode]) -> Option<usize>
     ensures { result ≡ position (λ node. are_one_twice (node_view node).owners) nodes.now }
 {
     nodes.iter().position(|node| are_one_twice(&node.owners))
 }
 
+/// Whether these are two names, and the same.
 fn are_one_twice(names: &[String]) -> bool
     ensures { result ≡ are_one_twice (map string_bytes names.now) }
 {
@@ -317,6 +327,7 @@ fn limits(bounds: Bounds, students: usize) -> Result<(u64, u8), LabFault>
     }
 }
 
+/// The error of the first node that points at one that isn't its neighbour.
 #[tactic(auto, unfolding(crate::specs::Labs::pointers_fault))]
 fn pointers_fault(links: &[(i64, i64)], nodes: &[RawNode]) -> Option<LabFault>
     ensures { result ≡ pointers_fault links.now (map node_view nodes.now) }
@@ -327,6 +338,7 @@ fn pointers_fault(links: &[(i64, i64)], nodes: &[RawNode]) -> Option<LabFault>
     }
 }
 
+/// The index of the first node that points at one that it isn't linked to.
 fn first_astray(links: &[(i64, i64)], nodes: &[RawNode]) -> Option<usize>
     ensures { result ≡ position (λ node. points_astray links.now (node_view node)) nodes.now }
 {
@@ -343,18 +355,21 @@ fn points_astray(links: &[(i64, i64)], node: &RawNode) -> bool
     }
 }
 
+/// Whether some link joins the nodes with these identifiers.
 fn is_linked(links: &[(i64, i64)], a: i64, b: i64) -> bool
     ensures { result ≡ is_linked links.now a b }
 {
     links.iter().any(|link| joins(a, b, *link))
 }
 
+/// Whether a link has these two ends, in either order.
 fn joins(a: i64, b: i64, link: (i64, i64)) -> bool
     ensures { result ≡ joins a b link }
 {
     has_ends(link, a, b) || has_ends(link, b, a)
 }
 
+/// Whether a link has this first end and this second one.
 fn has_ends(link: (i64, i64), first: i64, second: i64) -> bool
     ensures { result ≡ (int_eq link.0 first && int_eq link.1 second) }
 {

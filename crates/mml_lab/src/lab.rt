@@ -90,7 +90,7 @@ impl Lab {
     }
 
     /// A node's registers at the beginning.
-    pub fn regs(&self, node: Rank) -> Regs
+    pub fn registers(&self, node: Rank) -> Regs
         requires { node < length self.now.ids }
         ensures { result ≡ registers_at self.now.network.registers node }
     {
@@ -127,15 +127,10 @@ impl Lab {
     }
 
     /// How many links there are at the beginning.
-    #[tactic(auto, unfolding(crate::specs::Labs::link_count))]
     pub fn link_count(&self) -> u64
         ensures { result ≡ link_count self.now.network }
     {
-        let mut count = 0;
-        for index in 0..self.node_count() {
-            count += self.links_below(Rank::at(index));
-        }
-        count
+        link_count(&self.network)
     }
 
     /// How many students take part, without the teacher.
@@ -144,20 +139,30 @@ impl Lab {
     {
         self.roster.student_count()
     }
+}
 
-    /// How many of the nodes below this one are linked to it.
-    fn links_below(&self, node: Rank) -> u64
-        requires { node < length self.now.ids }
-        ensures count { result
-            ≡ count_below node ((configuration_of self.now.network).linked node) }
-        ensures few { result ≤ node }
-    {
-        let mut count = 0;
-        for index in 0..node.index() {
-            if self.linked(node, Rank::at(index)) {
-                count += 1;
-            }
-        }
-        count
+/// How many links a network has.
+#[tactic(auto, unfolding(crate::specs::Labs::link_count))]
+pub fn link_count(network: &Network) -> u64
+    ensures { result ≡ link_count network.now }
+{
+    let mut count = 0;
+    for index in 0..network.size() {
+        count += links_below(network, Rank::at(index));
     }
+    count
+}
+
+/// How many of the nodes below this one are linked to it.
+fn links_below(network: &Network, node: Rank) -> u64
+    ensures count { result ≡ count_below node ((configuration_of network.now).linked node) }
+    ensures few { result ≤ node }
+{
+    let mut count = 0;
+    for index in 0..node.index() {
+        if network.neighbours(node).has(Rank::at(index)) {
+            count += 1;
+        }
+    }
+    count
 }

@@ -68,19 +68,6 @@ pub enum LabFault {
     Memory,
 }
 
-impl From<IdFault> for LabFault {
-    ghost use Rattle.mml_lab.specs.Faults.{id_fault_as};
-
-    ghost from_gives = { λ fault e. e ≡ id_fault_as fault };
-
-    fn from(fault: IdFault) -> LabFault {
-        match fault {
-            IdFault::Memory => LabFault::Memory,
-            _ => LabFault::Id(fault),
-        }
-    }
-}
-
 impl From<AllocError> for LabFault {
     ghost from_gives = { λ _ e. e ≡ Memory };
 

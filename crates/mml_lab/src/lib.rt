@@ -15,7 +15,7 @@ mod roster;
 mod who;
 
 pub use accounts::is_name;
-pub use lab::Lab;
+pub use lab::{Lab, link_count};
 pub use lab_fault::{Key, LabFault};
 pub use lab_reading::read_lab;
 pub use roster::Roster;

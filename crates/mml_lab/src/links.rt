@@ -38,6 +38,7 @@ pub(crate) fn neighbours(
     rows(alloc, ids, links)
 }
 
+/// The error of the first link with an end that is no node.
 #[tactic(auto, unfolding(crate::specs::Labs::ends_fault))]
 fn ends_fault(nodes: &[RawNode], links: &[(i64, i64)]) -> Option<LabFault>
     ensures { result ≡ ends_fault (map node_view nodes.now) links.now }
@@ -48,12 +49,14 @@ fn ends_fault(nodes: &[RawNode], links: &[(i64, i64)]) -> Option<LabFault>
     }
 }
 
+/// The index of the first link with an end that is no node.
 fn first_without_end(nodes: &[RawNode], links: &[(i64, i64)]) -> Option<usize>
     ensures { result ≡ position (lacks_end (map node_view nodes.now)) links.now }
 {
     links.iter().position(|link| lacks_end(nodes, *link))
 }
 
+/// Whether one end of a link is no node.
 fn lacks_end(nodes: &[RawNode], link: (i64, i64)) -> bool
     ensures { result ≡ lacks_end (map node_view nodes.now) link }
 {
@@ -61,18 +64,21 @@ fn lacks_end(nodes: &[RawNode], link: (i64, i64)) -> bool
     !(is_node(nodes, a) && is_node(nodes, b))
 }
 
+/// Whether an identifier is that of one of the file's nodes.
 fn is_node(nodes: &[RawNode], id: i64) -> bool
     ensures { result ≡ is_node (map node_view nodes.now) id }
 {
     has_id(nodes, id)
 }
 
+/// Whether one of the nodes has this identifier.
 fn has_id(nodes: &[RawNode], id: i64) -> bool
     ensures { result ≡ list_any (λ node. int_eq node.id id) nodes.now }
 {
     nodes.iter().any(|node| node.id == id)
 }
 
+/// The error of the first link whose ends are one node.
 #[tactic(auto, unfolding(crate::specs::Labs::loops_fault))]
 fn loops_fault(links: &[(i64, i64)]) -> Option<LabFault>
     ensures { result ≡ loops_fault links.now }
@@ -83,12 +89,14 @@ fn loops_fault(links: &[(i64, i64)]) -> Option<LabFault>
     }
 }
 
+/// The index of the first link whose ends are one node.
 fn first_loop(links: &[(i64, i64)]) -> Option<usize>
     ensures { result ≡ position is_loop links.now }
 {
     links.iter().position(|link| is_loop(*link))
 }
 
+/// Whether both ends of a link are one node.
 fn is_loop(link: (i64, i64)) -> bool
     ensures { result ≡ is_loop link }
 {
@@ -125,6 +133,7 @@ fn are_near(rows: &[NodeSet], a: Option<Rank>, b: Option<Rank>) -> bool
     }
 }
 
+/// The rank of the node with an identifier, if there is one.
 #[tactic(auto, unfolding(crate::specs::inside::Checks::rank_at))]
 pub(crate) fn rank_at(ids: &IdTable, id: i64) -> Option<Rank>
     ensures rank { result ≡ rank_at ids.now id }

@@ -3,7 +3,7 @@ ghost use Rattle.mml_ids.specs.Gives.{Gives};
 ghost use Rattle.toml.specs.Data.{as_str, as_integer, as_bool, as_table, as_array, get_member};
 ghost use Rattle.toml.specs.View.{view, table_view, array_view};
 ghost use Rattle.mml_lab.specs.Shape.{is_lab_memory, need, needed, of_kind, optional_of, optional, names_of, owner_names, each, account_in, student_of};
-ghost use Rattle.mml_lab.specs.Shape.{node_of, link_of, links_of, teacher_of, students_of, nodes_of, raw_of, two_of, spelled};
+ghost use Rattle.mml_lab.specs.Shape.{node_of, link_of, links_of, teacher_of, raw_of, two_of, spelled};
 ghost use Rattle.mml_lab.specs.inside.Raw.{account_view, node_view, raw_view};
 
 use crate::MAX_OWNERS;
@@ -30,23 +30,32 @@ pub struct RawNode {
     pub m: bool,
 }
 
+/// How many events and connections a file allows.
+#[derive(Clone, Copy)]
+pub struct Bounds {
+    pub events: i64,
+    pub sessions: i64,
+}
+
 /// What the file spells, before its values are compared with one another.
 #[derive(Drop)]
 pub struct RawLab {
-    pub events: i64,
-    pub sessions: i64,
+    pub bounds: Bounds,
     pub teacher: Account,
     pub students: Vec<Account>,
     pub nodes: Vec<RawNode>,
+    /// Of each link the identifiers of its two ends.
     pub links: Vec<(i64, i64)>,
 }
 
+/// What stands under a key of a table, if it has the key.
 fn find<'a>(table: &'a Table, name: &str) -> Option<&'a Value>
     ensures { option_map (λ v. view v.now) result ≡ get_member name.now (table_view table.now) }
 {
     table.get(name)
 }
 
+/// What stands under a key of a table, or the error that the key isn't there.
 fn value_at<'a>(table: &'a Table, name: &str, key: Key) -> Result<&'a Value, LabFault>
     ensures { Gives is_lab_memory (λ v. view v.now) result (need key name.now (table_view table.now)) }
 {
@@ -56,6 +65,7 @@ fn value_at<'a>(table: &'a Table, name: &str, key: Key) -> Result<&'a Value, Lab
     }
 }
 
+/// The integer that a value is, or the error that it is of another kind.
 fn integer(value: &Value, key: Key) -> Result<i64, LabFault>
     ensures { Gives is_lab_memory (λ z. z) result (of_kind key as_integer (view value.now)) }
 {
@@ -65,6 +75,7 @@ fn integer(value: &Value, key: Key) -> Result<i64, LabFault>
     }
 }
 
+/// The truth value that a value is, or the error that it is of another kind.
 fn boolean(value: &Value, key: Key) -> Result<bool, LabFault>
     ensures { Gives is_lab_memory (λ b. b) result (of_kind key as_bool (view value.now)) }
 {
@@ -74,6 +85,7 @@ fn boolean(value: &Value, key: Key) -> Result<bool, LabFault>
     }
 }
 
+/// The string that a value is, or the error that it is of another kind.
 fn text(alloc: Global, value: &Value, key: Key) -> Result<String, LabFault>
     ensures { Gives is_lab_memory string_bytes result (of_kind key as_str (view value.now)) }
 {
@@ -83,6 +95,7 @@ fn text(alloc: Global, value: &Value, key: Key) -> Result<String, LabFault>
     }
 }
 
+/// The table that a value is, or the error that it is of another kind.
 fn table_of(value: &Value, key: Key) -> Result<&Table, LabFault>
     ensures { Gives is_lab_memory (λ t. table_view t.now) result (of_kind key as_table (view value.now)) }
 {
@@ -92,6 +105,7 @@ fn table_of(value: &Value, key: Key) -> Result<&Table, LabFault>
     }
 }
 
+/// The array that a value is, or the error that it is of another kind.
 fn array_of(value: &Value, key: Key) -> Result<&Array, LabFault>
     ensures { Gives is_lab_memory (λ t. array_view t.now) result (of_kind key as_array (view value.now)) }
 {
@@ -101,6 +115,7 @@ fn array_of(value: &Value, key: Key) -> Result<&Array, LabFault>
     }
 }
 
+/// The integer under a key that has to be there.
 fn integer_at(table: &Table, name: &str, key: Key) -> Result<i64, LabFault>
     ensures { Gives is_lab_memory (λ z. z) result
         (needed key name.now as_integer (table_view table.now)) }
@@ -108,6 +123,7 @@ fn integer_at(table: &Table, name: &str, key: Key) -> Result<i64, LabFault>
     integer(value_at(table, name, key)?, key)
 }
 
+/// The string under a key that has to be there.
 fn text_at(alloc: Global, table: &Table, name: &str, key: Key) -> Result<String, LabFault>
     ensures { Gives is_lab_memory string_bytes result
         (needed key name.now as_str (table_view table.now)) }
@@ -115,6 +131,7 @@ fn text_at(alloc: Global, table: &Table, name: &str, key: Key) -> Result<String,
     text(alloc, value_at(table, name, key)?, key)
 }
 
+/// The table under a key that has to be there.
 fn table_at<'a>(table: &'a Table, name: &str, key: Key) -> Result<&'a Table, LabFault>
     ensures { Gives is_lab_memory (λ t. table_view t.now) result
         (needed key name.now as_table (table_view table.now)) }
@@ -122,6 +139,7 @@ fn table_at<'a>(table: &'a Table, name: &str, key: Key) -> Result<&'a Table, Lab
     table_of(value_at(table, name, key)?, key)
 }
 
+/// The array under a key that has to be there.
 fn array_at<'a>(table: &'a Table, name: &str, key: Key) -> Result<&'a Array, LabFault>
     ensures { Gives is_lab_memory (λ t. array_view t.now) result
         (needed key name.now as_array (table_view table.now)) }
@@ -129,6 +147,7 @@ fn array_at<'a>(table: &'a Table, name: &str, key: Key) -> Result<&'a Array, Lab
     array_of(value_at(table, name, key)?, key)
 }
 
+/// The strings under `name` and `key` of a table, with the keys that its errors name.
 #[tactic(auto, unfolding(crate::specs::Shape::account_in))]
 fn account_at(
     alloc: Global,
@@ -144,6 +163,7 @@ fn account_at(
     Ok(Account { name, key })
 }
 
+/// The name and key of an element of `student`.
 #[tactic(auto, unfolding(crate::specs::Shape::student_of))]
 fn student(alloc: Global, value: &Value) -> Result<Account, LabFault>
     ensures { Gives is_lab_memory account_view result (student_of (view value.now)) }
@@ -152,6 +172,7 @@ fn student(alloc: Global, value: &Value) -> Result<Account, LabFault>
     account_at(alloc, table, Key::StudentName, Key::StudentKey)
 }
 
+/// The names and keys of the elements of `student`, in order.
 fn students(alloc: Global, list: &Array) -> Result<Vec<Account>, LabFault>
     ensures { Gives is_lab_memory (λ v. map account_view v.items) result
         (each student_of (array_view list.now)) }
@@ -163,6 +184,7 @@ fn students(alloc: Global, list: &Array) -> Result<Vec<Account>, LabFault>
     Ok(found)
 }
 
+/// The integer under a key that may be left out.
 fn optional_integer(table: &Table, name: &str, key: Key) -> Result<Option<i64>, LabFault>
     ensures { Gives is_lab_memory (λ z. z) result
         (optional_of key as_integer (get_member name.now (table_view table.now))) }
@@ -173,6 +195,7 @@ fn optional_integer(table: &Table, name: &str, key: Key) -> Result<Option<i64>, 
     }
 }
 
+/// The truth value under a key that may be left out.
 fn optional_boolean(table: &Table, name: &str, key: Key) -> Result<Option<bool>, LabFault>
     ensures { Gives is_lab_memory (λ z. z) result
         (optional_of key as_bool (get_member name.now (table_view table.now))) }
@@ -183,6 +206,7 @@ fn optional_boolean(table: &Table, name: &str, key: Key) -> Result<Option<bool>,
     }
 }
 
+/// The string under a key that may be left out.
 fn optional_text(
     alloc: Global,
     table: &Table,
@@ -198,6 +222,7 @@ fn optional_text(
     }
 }
 
+/// The strings of an array, in order.
 fn texts(alloc: Global, list: &Array, key: Key) -> Result<Vec<String>, LabFault>
     ensures { Gives is_lab_memory (λ v. map string_bytes v.items) result
         (each (of_kind key as_str) (array_view list.now)) }
@@ -209,6 +234,7 @@ fn texts(alloc: Global, list: &Array, key: Key) -> Result<Vec<String>, LabFault>
     Ok(found)
 }
 
+/// The names under `owners`: one or two.
 #[tactic(auto, unfolding(crate::specs::Shape::names_of))]
 fn names(alloc: Global, value: &Value) -> Result<Vec<String>, LabFault>
     ensures { Gives is_lab_memory (λ v. map string_bytes v.items) result (names_of (view value.now)) }
@@ -220,6 +246,7 @@ fn names(alloc: Global, value: &Value) -> Result<Vec<String>, LabFault>
     Ok(names)
 }
 
+/// The names under `owners`, where the key is there.
 fn optional_names(alloc: Global, table: &Table) -> Result<Option<Vec<String>>, LabFault>
     ensures { Gives is_lab_memory (option_map (λ v. map string_bytes v.items)) result
         (optional names_of (get_member (codes "owners") (table_view table.now))) }
@@ -230,6 +257,7 @@ fn optional_names(alloc: Global, table: &Table) -> Result<Option<Vec<String>>, L
     }
 }
 
+/// The names under `owners`, or else the one under `owner`; an error where neither key is there.
 fn owner_names(
     alloc: Global,
     owner: Option<String>,
@@ -252,6 +280,7 @@ fn owner_names(
     }
 }
 
+/// A node as an element of `node` spells it.
 #[tactic(auto, unfolding(crate::specs::Shape::node_of))]
 fn node(alloc: Global, value: &Value) -> Result<RawNode, LabFault>
     ensures { Gives is_lab_memory node_view result (node_of (view value.now)) }
@@ -273,6 +302,7 @@ fn node(alloc: Global, value: &Value) -> Result<RawNode, LabFault>
     })
 }
 
+/// The nodes that the elements of `node` spell, in order.
 fn nodes(alloc: Global, list: &Array) -> Result<Vec<RawNode>, LabFault>
     ensures { Gives is_lab_memory (λ v. map node_view v.items) result
         (each node_of (array_view list.now)) }
@@ -284,6 +314,7 @@ fn nodes(alloc: Global, list: &Array) -> Result<Vec<RawNode>, LabFault>
     Ok(found)
 }
 
+/// The two values of an array that has exactly two.
 fn two_of(list: &Array) -> Result<(&Value, &Value), LabFault>
     ensures { Gives is_lab_memory (λ e. (view e.0.now, view e.1.now)) result
         (ok_or (two_of (array_view list.now)) (LabFault.WrongKind Key.Link)) }
@@ -296,6 +327,7 @@ fn two_of(list: &Array) -> Result<(&Value, &Value), LabFault>
     Ok((first, second))
 }
 
+/// The identifiers of the two ends of a link.
 #[tactic(auto, unfolding(crate::specs::Shape::link_of))]
 fn link(value: &Value) -> Result<(i64, i64), LabFault>
     ensures { Gives is_lab_memory (λ e. e) result (link_of (view value.now)) }
@@ -306,6 +338,7 @@ fn link(value: &Value) -> Result<(i64, i64), LabFault>
     Ok((a, b))
 }
 
+/// The ends of the links that the elements of `links` spell, in order.
 fn links(alloc: Global, list: &Array) -> Result<Vec<(i64, i64)>, LabFault>
     ensures { Gives is_lab_memory (λ v. v.items) result (each link_of (array_view list.now)) }
 {
@@ -316,6 +349,7 @@ fn links(alloc: Global, list: &Array) -> Result<Vec<(i64, i64)>, LabFault>
     Ok(found)
 }
 
+/// The links under `links`; none where the key is left out.
 fn links_at(alloc: Global, table: &Table) -> Result<Vec<(i64, i64)>, LabFault>
     ensures { Gives is_lab_memory (λ v. v.items) result
         (links_of (get_member (codes "links") (table_view table.now))) }
@@ -335,40 +369,19 @@ fn teacher_at(alloc: Global, table: &Table) -> Result<Account, LabFault>
     account_at(alloc, teacher, Key::TeacherName, Key::TeacherKey)
 }
 
-/// The names and keys under `student`, in order.
-#[tactic(auto, unfolding(crate::specs::Shape::students_of))]
-fn students_at(alloc: Global, table: &Table) -> Result<Vec<Account>, LabFault>
-    ensures { Gives is_lab_memory (λ v. map account_view v.items) result
-        (students_of (table_view table.now)) }
-{
-    let list = array_at(table, "student", Key::Student)?;
-    students(alloc, list)
-}
-
-/// The nodes under `node`, in order.
-#[tactic(auto, unfolding(crate::specs::Shape::nodes_of))]
-fn nodes_at(alloc: Global, table: &Table) -> Result<Vec<RawNode>, LabFault>
-    ensures { Gives is_lab_memory (λ v. map node_view v.items) result
-        (nodes_of (table_view table.now)) }
-{
-    let list = array_at(table, "node", Key::Node)?;
-    nodes(alloc, list)
-}
-
 /// What a document's table spells. The first key that is missing or of the wrong kind is the error.
-#[tactic(auto, unfolding(crate::specs::Shape::raw_of))]
+#[tactic(auto, unfolding(crate::specs::Shape::raw_of, crate::specs::Shape::students_of, crate::specs::Shape::nodes_of))]
 pub fn read_raw(alloc: Global, table: &Table) -> Result<RawLab, LabFault>
     ensures { Gives is_lab_memory raw_view result (raw_of (table_view table.now)) }
 {
     let events = integer_at(table, "events", Key::Events)?;
     let sessions = integer_at(table, "sessions", Key::Sessions)?;
     let teacher = teacher_at(alloc, table)?;
-    let students = students_at(alloc, table)?;
-    let nodes = nodes_at(alloc, table)?;
+    let students = students(alloc, array_at(table, "student", Key::Student)?)?;
+    let nodes = nodes(alloc, array_at(table, "node", Key::Node)?)?;
     let links = links_at(alloc, table)?;
     Ok(RawLab {
-        events,
-        sessions,
+        bounds: Bounds { events, sessions },
         teacher,
         students,
         nodes,

@@ -1,7 +1,9 @@
 ghost use Rattle.std.specs.Prelude.{◌≡◌, ◌<◌, ◌≤◌, [], ◌∷◌, length, map, position, slice_index_or, string_bytes, Some, None, IfSome, IsTrue, ◌&&◌, ◌||◌};
-ghost use Rattle.std.specs.Prelude.{ℕ, IfOk, IfErr, is_some, bytes_eq};
+ghost use Rattle.std.specs.Prelude.{ℕ, ◌++◌, IfOk, IfErr, OnOk, is_some, bytes_eq};
 ghost use Rattle.std.specs.FinSet as set;
 ghost use Rattle.std.specs.Map.{lookup};
+ghost use Rattle.std.specs.String.{string_eq};
+ghost use Rattle.indexmap.specs.IndexMap.{get};
 ghost use Rattle.mml_ids.specs.Gives.{Gives, unless_fault};
 ghost use Rattle.mml_lab.specs.declared.who.Who.TheVariants.{Student as AStudent};
 ghost use Rattle.mml_lab.specs.declared.TheConstants.{MAX_NAME};
@@ -83,7 +85,11 @@ impl Roster {
         ensures member { IfSome result (IsPrincipal self.now) }
         ensures roster { IsRoster self.now }
     {
-        if has_name_and_key(&self.teacher, name, key) {
+        let Account {
+            name: known,
+            key: secret,
+        } = &self.teacher;
+        if are_both(name, key, known.as_str(), secret.as_str()) {
             return Some(Who::Teacher);
         }
         match student_with(&self.students, name, key) {
@@ -120,7 +126,10 @@ impl Roster {
     {
         match who {
             Who::Teacher => self.teacher.name.as_str(),
-            Who::Student(student) => name_at(&self.students, usize::from(student.index())),
+            Who::Student(student) => match self.students.get_index(usize::from(student.index())) {
+                Some((name, _)) => name.as_str(),
+                None => unreachable!(),
+            },
         }
     }
 
@@ -137,12 +146,13 @@ impl Roster {
     }
 }
 
-/// Whether these are the account's name and key. Both are compared, also where the name is another.
-fn has_name_and_key(account: &Account, name: &str, key: &str) -> bool
-    ensures { result ≡ has_name_and_key name.now key.now (account_view account.now) }
+/// Whether name and key are the known name and its key. Both are compared, also where the name is another.
+fn are_both(name: &str, key: &str, known: &str, secret: &str) -> bool
+    ensures { result ≡
+        has_name_and_key name.now key.now (record { name = known.now; key = secret.now }) }
 {
-    let is_named = name == account.name.as_str();
-    let is_keyed = key == account.key.as_str();
+    let is_named = name == known;
+    let is_keyed = key == secret;
     is_named & is_keyed
 }
 
@@ -169,22 +179,7 @@ fn is_at(students: &IndexMap<String, String>, place: usize, name: &str, key: &st
         (slice_index_or (map entry_account students.now.entries) place no_account) }
 {
     match students.get_index(place) {
-        Some((known, secret)) => {
-            let is_named = name == known.as_str();
-            let is_keyed = key == secret.as_str();
-            is_named & is_keyed
-        }
-        None => unreachable!(),
-    }
-}
-
-fn name_at(students: &IndexMap<String, String>, place: usize) -> &str
-    requires { place < length students.now.entries }
-    ensures { result.now ≡
-        (slice_index_or (map entry_account students.now.entries) place no_account).name }
-{
-    match students.get_index(place) {
-        Some((name, _)) => name.as_str(),
+        Some((known, secret)) => are_both(name, key, known.as_str(), secret.as_str()),
         None => unreachable!(),
     }
 }
@@ -228,7 +223,17 @@ fn fill(
         if is_taken(found, teacher.name.as_str(), name.as_str()) {
             return Err(LabFault::NameTwice(found.len() + 1));
         }
-        found.insert(name, key)?;
+        append(found, name, key)?;
     }
+    Ok(())
+}
+
+/// Puts a name that isn't there yet behind the others, with its key.
+fn append(found: &mut IndexMap<String, String>, name: String, key: String) -> Result<(), LabFault>
+    requires { get string_eq found.old name ≡ None }
+    ensures entries { OnOk result (found.new.entries ≡ found.old.entries ++ (name, key) ∷ []) }
+    ensures err { IfErr result (λ fault. fault ≡ Memory) }
+{
+    found.insert(name, key)?;
     Ok(())
 }

@@ -1,14 +1,11 @@
-ghost use Rattle.std.specs.Prelude.{◌≡◌, ◌≤◌, ◌<◌};
-ghost use Rattle.mml_ids.specs.Search.{count_below};
+ghost use Rattle.std.specs.Prelude.{◌≡◌, ◌≤◌};
 ghost use Rattle.mml_ids.specs.declared.TheConstants.{MAX_NODES};
-ghost use Rattle.mml_lab.specs.Labs.{link_count};
-ghost use Rattle.mml_board.specs.World.{size, configuration};
 ghost use Rattle.mml_convergence.specs.Rounds.{rounds_for};
 ghost use Rattle.mml_bounds.specs.Courtships.{most_courtships};
 ghost use Rattle.mml_tally.specs.Bounds.{bounds_for, bounds_of};
 
 use mml_board::Board;
-use mml_ids::Rank;
+use mml_lab::link_count;
 use mml_rules::Scene;
 
 /// The most that a run takes where no fault, link or cut comes.
@@ -26,7 +23,7 @@ pub struct Bounds {
 pub fn bounds_of(board: &Board) -> Bounds
     ensures { result ≡ bounds_of board.now }
 {
-    bounds_for(board.size(), link_count(board))
+    bounds_for(board.size(), link_count(board.network()))
 }
 
 fn bounds_for(nodes: u64, links: u64) -> Bounds
@@ -55,31 +52,4 @@ fn rounds_for(nodes: u64) -> u64
     ensures { result ≡ rounds_for nodes }
 {
     2 * nodes - nodes % 2
-}
-
-/// How many links there are on a board.
-#[tactic(auto, unfolding(mml_lab::specs::Labs::link_count))]
-fn link_count(board: &Board) -> u64
-    ensures { result ≡ link_count board.now.network }
-{
-    let mut count = 0;
-    for index in 0..board.size() {
-        count += links_below(board, Rank::at(index));
-    }
-    count
-}
-
-/// How many of the nodes below this one are linked to it.
-fn links_below(board: &Board, node: Rank) -> u64
-    requires { node < size board.now }
-    ensures count { result ≡ count_below node ((configuration board.now).linked node) }
-    ensures few { result ≤ node }
-{
-    let mut count = 0;
-    for index in 0..node.index() {
-        if board.linked(node, Rank::at(index)) {
-            count += 1;
-        }
-    }
-    count
 }

@@ -4,7 +4,7 @@ ghost use Rattle.std.specs.Prelude.{◌<◌, length};
 use mml_fakes::labs::boxed_lab;
 use mml_ids::{Memory, Rank};
 use mml_lab::{Lab, Roster, Student, Who};
-use mml_rules::{Network, Scene};
+use mml_rules::Network;
 use std::alloc::{AllocError, Global};
 use std::test::Fail;
 
@@ -12,7 +12,7 @@ use std::test::Fail;
 fn mark(lab: &Lab, node: Rank, other: Rank) -> &'static str
     requires { node < length lab.now.ids }
 {
-    let points = lab.regs(node).p == Some(other);
+    let points = lab.registers(node).p == Some(other);
     match (lab.linked(node, other), points) {
         (true, true) => ">",
         (true, false) => "-",
@@ -45,7 +45,7 @@ fn push_node(text: &mut String, lab: &Lab, node: Rank) -> Result<(), AllocError>
     requires { node < length lab.now.ids }
 {
     let id = lab.ids().id_of(node);
-    let m = lab.regs(node).m;
+    let m = lab.registers(node).m;
     write!(text, "\n{id} {m} ")?;
     push_owners(text, lab, node)?;
     text.push_str(" ")?;

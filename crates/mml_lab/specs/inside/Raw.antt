@@ -6,6 +6,7 @@ use Rattle.mml_lab.specs.declared.raw_lab.RawNode.{RawNode}
 use Rattle.mml_lab.specs.declared.raw_lab.RawLab.{RawLab}
 use Rattle.mml_lab.specs.Shape.{Account, NodeSpec, RawSpec}
 
+-- a name and a key, as bytes
 abbrev pub account_view : KeptAccount → Account
 account_view p = record { name = string_bytes p.name; key = string_bytes p.key }
 
@@ -17,10 +18,11 @@ entry_account e = record { name = string_bytes e.0; key = string_bytes e.1 }
 abbrev pub node_view : RawNode → NodeSpec
 node_view n = record { id = n.id; owners = map string_bytes n.owners.items; both = n.both; p = n.p; m = n.m }
 
+-- what a file spells, with bytes for its texts
 abbrev pub raw_view : RawLab → RawSpec
 raw_view r = record {
-  events = r.events;
-  sessions = r.sessions;
+  events = r.bounds.events;
+  sessions = r.bounds.sessions;
   teacher = account_view r.teacher;
   students = map account_view r.students.items;
   nodes = map node_view r.nodes.items;

@@ -1,7 +1,5 @@
 use Rattle.std.proofs.Common.{◌≡◌, ◌∷◌, [], ◌++◌, ◌∙◌, ap, sym, length, arith, append_assoc}
 use Rattle.std.specs.Vec.Iter.{into_iter_items}
-use Rattle.std.specs.String.{string_eq}
-use Rattle.indexmap.proofs.CallerLemmas.{insert_entry-new}
 use Rattle.mml_lab.proofs.NameTwiceLemmas.{absent, at_start, at_fault, at_next, at_end}
 use Rattle.mml_lab.proofs.roster.fill.Goals as goal
 
@@ -14,40 +12,23 @@ returns-then-is_taken c =
     let parts = ap (λ zs. c.loop-student.yielded ++ zs) (sym c.in-Some.ensures.steps.0) ∙ at.left in
     search (arith, at_fault)
 
+pub append-requires : goal.append-requires
+append-requires c =
+    absent c.as_str.result.now c.loop-student.found.entries c.as_str-in-loop-student.result.now c.in-Some.student.name c.is_taken.result
+    (sym c.as_str-in-loop-student.ensures.value) c.is_taken.ensures c.if-is_taken.false
+
 pub loop-student-preserved : goal.loop-student-preserved
 loop-student-preserved c =
     let at = c.loop-student.invariant in
     let steps : into_iter_items c.loop-student.student-iterator ≡ c.in-Some.student ∷ into_iter_items c.next.new.self = c.in-Some.ensures.steps.0 in
     let parts = ap (λ zs. c.loop-student.yielded ++ zs) (sym steps) ∙ at.left in
-    let new =
-    insert_entry-new string_eq c.loop-student.found c.in-Some.student.name c.in-Some.student.key
-    (absent c.as_str.result.now c.loop-student.found.entries c.as_str-in-loop-student.result.now c.in-Some.student.name c.is_taken.result
-    (sym c.as_str-in-loop-student.ensures.value) c.is_taken.ensures c.if-is_taken.false) in
     record {
       left = append_assoc c.loop-student.yielded (c.in-Some.student ∷ []) (into_iter_items c.next.new.self) ∙ parts;
       counted = let was = at.counted in let gone = c.in-Some.ensures.steps.1 in let short = ap length steps in omega arith;
       so_far = at_next c.args.teacher.now c.args.students.items c.loop-student.yielded (into_iter_items c.next.new.self) c.in-Some.student
           c.loop-student.found.entries c.as_str.result.now c.as_str-in-loop-student.result.now c.is_taken.result
-          c.insert.new.self.entries at.so_far parts
-          (c.in_ok-insert.ensures.entries ∙ new) c.as_str.ensures.value c.as_str-in-loop-student.ensures.value c.is_taken.ensures c.if-is_taken.false;
-    }
-
-pub loop-student-preserved-in_ok-insert : goal.loop-student-preserved-in_ok-insert
-loop-student-preserved-in_ok-insert c =
-    let at = c.loop-student.invariant in
-    let steps : into_iter_items c.loop-student.student-iterator ≡ c.in-Some.student ∷ into_iter_items c.next.new.self = c.in-Some.ensures.steps.0 in
-    let parts = ap (λ zs. c.loop-student.yielded ++ zs) (sym steps) ∙ at.left in
-    let new =
-    insert_entry-new string_eq c.loop-student.found c.in-Some.student.name c.in-Some.student.key
-    (absent c.as_str.result.now c.loop-student.found.entries c.as_str-in-loop-student.result.now c.in-Some.student.name c.is_taken.result
-    (sym c.as_str-in-loop-student.ensures.value) c.is_taken.ensures c.if-is_taken.false) in
-    record {
-      left = append_assoc c.loop-student.yielded (c.in-Some.student ∷ []) (into_iter_items c.next.new.self) ∙ parts;
-      counted = let was = at.counted in let gone = c.in-Some.ensures.steps.1 in let short = ap length steps in omega arith;
-      so_far = at_next c.args.teacher.now c.args.students.items c.loop-student.yielded (into_iter_items c.next.new.self) c.in-Some.student
-          c.loop-student.found.entries c.as_str.result.now c.as_str-in-loop-student.result.now c.is_taken.result
-          c.insert.new.self.entries at.so_far parts
-          (c.in_ok-insert.ensures.entries ∙ new) c.as_str.ensures.value c.as_str-in-loop-student.ensures.value c.is_taken.ensures c.if-is_taken.false;
+          c.append.new.found.entries at.so_far parts
+          c.in_ok-append.ensures.entries c.as_str.ensures.value c.as_str-in-loop-student.ensures.value c.is_taken.ensures c.if-is_taken.false;
     }
 
 pub returns : goal.returns

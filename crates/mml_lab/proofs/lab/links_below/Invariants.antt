@@ -1,10 +1,10 @@
 use Rattle.std.proofs.Common.{◌≡◌, ◌≤◌}
 use Rattle.mml_rules.specs.Network.{configuration_of}
 use Rattle.mml_ids.specs.Search.{count_below}
-use Rattle.mml_lab.proofs.lab.Lab.links_below.Given as goal
+use Rattle.mml_lab.proofs.lab.links_below.Given as goal
 
 abbrev pub invariant-loop-index : goal.invariant-loop-index
 invariant-loop-index l = record {
-  count : l.count ≡ count_below l.index ((configuration_of l.self.network).linked l.node);
+  count : l.count ≡ count_below l.index ((configuration_of l.network).linked l.node);
   few : l.count ≤ l.index;
 }
