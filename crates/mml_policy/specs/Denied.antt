@@ -1,12 +1,22 @@
 -- Why a command is denied, stated as facts: the clauses before hold, and this one doesn't.
-use Rattle.std.specs.Prelude.{◌≡◌, ◌≢◌, ◌⊎◌, ℕ, true, false, List, Option, None, Some}
+use Rattle.std.specs.Prelude.{◌≡◌, ◌≢◌, ◌↔◌, ◌⊎◌, ℕ, true, false, List, Option, None, Some}
 use Rattle.mml_ids.specs.Ids.{rank_in}
 use Rattle.mml_lab.specs.declared.who.Who.{Who}
 use Rattle.mml_lab.specs.declared.who.Who.TheVariants as who
+use Rattle.mml_lab.specs.Rosters.{RosterValue}
+use Rattle.mml_board.specs.declared.event.Event.{Event}
 use Rattle.mml_board.specs.World.{World, configuration, chosen_at}
+use Rattle.mml_policy.specs.declared.command.Command.{Command}
 use Rattle.mml_policy.specs.declared.denial.Denial.{Denial}
 use Rattle.mml_policy.specs.declared.denial.Denial.TheVariants as denial
+use Rattle.mml_policy.specs.declared.verdict.Verdict.TheVariants as verdicts
+use Rattle.mml_policy.specs.Verdicts.{verdict}
 use Rattle.mml_policy.specs.Meaning.{IsNamed, IsRegister}
+
+-- the command of x is granted exactly the events that may come of it, to the teacher, and denied exactly for these causes
+pub record IsDecided (ids : List ℕ) (r : RosterValue) (w : World) (x : Who) (c : Command) (May : Event → Type 0) (Denies : Denial → Type 0) : Type 0 where
+  pub granted : (e : Event) → (verdict ids r w x c ≡ verdicts.Grant e) ↔ ((x ≡ who.Teacher) × May e)
+  pub denied : (d : Denial) → (verdict ids r w x c ≡ verdicts.Deny d) ↔ Denies d
 
 -- the teacher asks, and i is the node with this identifier
 pub record IsAskedOf (ids : List ℕ) (x : Who) (id i : ℕ) : Type 0 where

@@ -77,18 +77,7 @@ DeniesMove ids r w x id asked at denial.NotOwner = (s i : ℕ) → ¬ IsOwner id
 DeniesMove ids r w x id asked at (denial.Stale n) = IsLate ids r w x id at n
 DeniesMove ids r w x id asked at denial.Chosen = IsTaken ids r w x id at
 DeniesMove ids r w x id asked at denial.Guard = IsUnguarded ids r w x id asked at
-DeniesMove ids r w x id asked at denial.NotGreeted = ⊥
-DeniesMove ids r w x id asked at denial.Greeted = ⊥
-DeniesMove ids r w x id asked at denial.Unknown = ⊥
-DeniesMove ids r w x id asked at denial.Hidden = ⊥
-DeniesMove ids r w x id asked at denial.NotTeacher = ⊥
-DeniesMove ids r w x id asked at denial.Empty = ⊥
-DeniesMove ids r w x id asked at denial.NoNode = ⊥
-DeniesMove ids r w x id asked at denial.BadRegister = ⊥
-DeniesMove ids r w x id asked at denial.Loop = ⊥
-DeniesMove ids r w x id asked at denial.Linked = ⊥
-DeniesMove ids r w x id asked at denial.NotLinked = ⊥
-DeniesMove ids r w x id asked at denial.NotChosen = ⊥
+DeniesMove ids r w x id asked at _ = ⊥
 
 -- the node with this identifier is visible
 abbrev pub MaySee : List ℕ → RosterValue → World → Who → ℕ → Type 0

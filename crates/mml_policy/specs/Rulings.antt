@@ -1,5 +1,5 @@
 -- What comes of a command, and what it leaves of the world.
-use Rattle.std.specs.Prelude.{ℕ, ◌<◌, Bool, true, false, nat_le, if◌then◌else◌, List, Option, None, Some, Result, Ok, Err}
+use Rattle.std.specs.Prelude.{ℕ, Bool, true, false, nat_le, if◌then◌else◌, List, Option, None, Some, Result, Ok, Err}
 use Rattle.std.specs.Option.{option_map_or}
 use Rattle.mml_lab.specs.declared.who.Who.{Who}
 use Rattle.mml_lab.specs.Rosters.{RosterValue}
@@ -22,6 +22,7 @@ ruling_on_leave limit is_halted w (Look i) = Looked (look_of w i)
 ruling_on_leave limit is_halted w Report = Reported
 ruling_on_leave limit is_halted w (Grant e) = if nat_le limit w.place then Full else (if is_halted then Journal else Granted e (done_by w e))
 
+-- what comes of clauses: of the leave that they give, or of their denial
 abbrev pub ruled : ℕ → Bool → World → Result Leave Denial → Ruling
 ruled limit is_halted w (Ok l) = ruling_on_leave limit is_halted w l
 ruled limit is_halted w (Err d) = Denied d
@@ -44,19 +45,7 @@ event_of (Granted e d) = Some e
 abbrev pub after_ruling : World → Ruling → World
 after_ruling w r = option_map_or (after w) (event_of r) w
 
--- only a look takes memory here
+-- what a look shows is told: only this ruling takes memory
 abbrev pub is_look : Ruling → Bool
-is_look (Denied d) = false
-is_look (Seen s) = false
 is_look (Looked l) = true
-is_look Reported = false
-is_look Full = false
-is_look Journal = false
-is_look (Granted e d) = false
-
--- the node to be shown is there
-abbrev pub IsThere : ℕ → Leave → Type 0
-IsThere size (See i) = i < size
-IsThere size (Look i) = i < size
-IsThere size Report = Unit {0}
-IsThere size (Grant e) = Unit {0}
+is_look _ = false

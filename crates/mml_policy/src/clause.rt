@@ -2,7 +2,7 @@
 ghost use Rattle.std.specs.Prelude.{◌≡◌, ◌<◌, length, IfOk, IfSome};
 ghost use Rattle.mml_ids.specs.Ids.{rank_in};
 ghost use Rattle.mml_rules.specs.Rules.{IsWithin};
-ghost use Rattle.mml_policy.specs.Clauses.{node, student, rule_of, pointer};
+ghost use Rattle.mml_policy.specs.Clauses.{node, rule_of, pointer};
 
 use crate::command::Asked;
 use crate::denial::Denial;
@@ -10,7 +10,7 @@ use mml_ids::{IdTable, Rank};
 use mml_lab::{Student, Who};
 use mml_rules::Rule;
 
-/// The node with this identifier.
+/// The node with this identifier; the denial where there is none.
 pub(crate) fn node(ids: &IdTable, id: u64, denial: Denial) -> Result<Rank, Denial>
     ensures step { result ≡ node ids.now id denial }
     ensures there { IfOk result (λ i. i < length ids.now) }
@@ -48,17 +48,8 @@ pub(crate) fn asked_for(ids: &IdTable, who: Who, id: u64) -> AskedNode
     }
 }
 
-/// The one who asks is a student.
-pub(crate) fn student(who: Who, denial: Denial) -> Result<Student, Denial>
-    ensures { result ≡ student who denial }
-{
-    match who {
-        Who::Teacher => Err(denial),
-        Who::Student(student) => Ok(student),
-    }
-}
-
-/// The rule, with the partner that it names.
+/// The rule that is asked for, with the node that a marriage names as its partner; the denial where there is no
+/// such node.
 pub(crate) fn rule_of(ids: &IdTable, asked: Asked, denial: Denial) -> Result<Rule, Denial>
     ensures step { result ≡ rule_of ids.now asked denial }
     ensures there { IfOk result (IsWithin (length ids.now)) }
@@ -71,7 +62,7 @@ pub(crate) fn rule_of(ids: &IdTable, asked: Asked, denial: Denial) -> Result<Rul
     }
 }
 
-/// The node that p names, or null.
+/// The node that p names, or null; the denial where it names none.
 pub(crate) fn pointer(ids: &IdTable, p: Option<u64>, denial: Denial) -> Result<Option<Rank>, Denial>
     ensures step { result ≡ pointer ids.now p denial }
     ensures there { IfOk result (λ q. IfSome q (λ j. j < length ids.now)) }

@@ -31,7 +31,7 @@ ghost use Rattle.mml_policy.specs.Rulings.{ruling, event_of, after_ruling};
 ghost use Rattle.mml_policy.specs.Asking.{asker, command_of, id_of, asked_of};
 ghost use Rattle.mml_policy.specs.Alike.{Alike, IsWorldOf};
 ghost use Rattle.mml_policy.specs.Meaning.{MayMove, DeniesMove, MaySee, MayLook, MayClose, MayFault, MayLink, MayCut, MayRelease, ShowsWhatIsVisible};
-ghost use Rattle.mml_policy.specs.Denied.{DeniesClose, DeniesFault, DeniesLink, DeniesCut, DeniesRelease, DeniesReport};
+ghost use Rattle.mml_policy.specs.Denied.{IsDecided, DeniesClose, DeniesFault, DeniesLink, DeniesCut, DeniesRelease, DeniesReport};
 ghost use Rattle.mml_policy.specs.Acts.{is_act};
 ghost use Rattle.mml_policy.specs.Shown.{see_of, look_of};
 
@@ -94,54 +94,36 @@ pub fn a_look_shows_what_is_visible()
 /// A step is closed exactly by the teacher, where some move is chosen; else it is denied by the first of these
 /// that doesn't hold.
 pub fn a_close_takes_a_chosen_node()
-    ensures granted { (ids : List ℕ) (r : RosterValue) (w : World) (x : Who) (e : Event) →
-        (verdict ids r w x command.Close ≡ verdicts.Grant e) ↔
-        ((x ≡ who.Teacher) × MayClose w e) }
-    ensures denied { (ids : List ℕ) (r : RosterValue) (w : World) (x : Who) (d : Denial) →
-        (verdict ids r w x command.Close ≡ verdicts.Deny d) ↔ DeniesClose w x d }
+    ensures { (ids : List ℕ) (r : RosterValue) (w : World) (x : Who) →
+        IsDecided ids r w x command.Close (MayClose w) (DeniesClose w x) }
 {}
 
 /// The registers of a node are set exactly by the teacher, where there is such a node, to a pointer that is null
 /// or a neighbour; else it is denied by the first of these that doesn't hold.
 pub fn a_fault_takes_a_neighbour()
-    ensures granted { (ids : List ℕ) (r : RosterValue) (w : World) (x : Who) (id : ℕ) (p : Option ℕ)
-        (m : Bool) (e : Event) → (verdict ids r w x (command.Fault id p m) ≡ verdicts.Grant e) ↔
-        ((x ≡ who.Teacher) × MayFault ids w id p m e) }
-    ensures denied { (ids : List ℕ) (r : RosterValue) (w : World) (x : Who) (id : ℕ) (p : Option ℕ)
-        (m : Bool) (d : Denial) → (verdict ids r w x (command.Fault id p m) ≡ verdicts.Deny d) ↔
-        DeniesFault ids w x id p d }
+    ensures { (ids : List ℕ) (r : RosterValue) (w : World) (x : Who) (id : ℕ) (p : Option ℕ) (m : Bool) →
+        IsDecided ids r w x (command.Fault id p m) (MayFault ids w id p m) (DeniesFault ids w x id p) }
 {}
 
 /// A link is made exactly by the teacher, where there are both nodes, they differ and they aren't linked; else
 /// it is denied by the first of these that doesn't hold.
 pub fn a_link_takes_two_unlinked_nodes()
-    ensures granted { (ids : List ℕ) (r : RosterValue) (w : World) (x : Who) (first second : ℕ)
-        (e : Event) → (verdict ids r w x (command.Link first second) ≡ verdicts.Grant e) ↔
-        ((x ≡ who.Teacher) × MayLink ids w first second e) }
-    ensures denied { (ids : List ℕ) (r : RosterValue) (w : World) (x : Who) (first second : ℕ)
-        (d : Denial) → (verdict ids r w x (command.Link first second) ≡ verdicts.Deny d) ↔
-        DeniesLink ids w x first second d }
+    ensures { (ids : List ℕ) (r : RosterValue) (w : World) (x : Who) (first second : ℕ) →
+        IsDecided ids r w x (command.Link first second) (MayLink ids w first second) (DeniesLink ids w x first second) }
 {}
 
 /// A link is removed exactly by the teacher, where there are both nodes and they are linked; else it is denied
 /// by the first of these that doesn't hold.
 pub fn a_cut_takes_two_linked_nodes()
-    ensures granted { (ids : List ℕ) (r : RosterValue) (w : World) (x : Who) (first second : ℕ)
-        (e : Event) → (verdict ids r w x (command.Cut first second) ≡ verdicts.Grant e) ↔
-        ((x ≡ who.Teacher) × MayCut ids w first second e) }
-    ensures denied { (ids : List ℕ) (r : RosterValue) (w : World) (x : Who) (first second : ℕ)
-        (d : Denial) → (verdict ids r w x (command.Cut first second) ≡ verdicts.Deny d) ↔
-        DeniesCut ids w x first second d }
+    ensures { (ids : List ℕ) (r : RosterValue) (w : World) (x : Who) (first second : ℕ) →
+        IsDecided ids r w x (command.Cut first second) (MayCut ids w first second) (DeniesCut ids w x first second) }
 {}
 
 /// A chosen move is released exactly by the teacher, where there is such a node and it has one; else it is
 /// denied by the first of these that doesn't hold.
 pub fn a_release_takes_a_chosen_node()
-    ensures granted { (ids : List ℕ) (r : RosterValue) (w : World) (x : Who) (id : ℕ) (e : Event) →
-        (verdict ids r w x (command.Release id) ≡ verdicts.Grant e) ↔
-        ((x ≡ who.Teacher) × MayRelease ids w id e) }
-    ensures denied { (ids : List ℕ) (r : RosterValue) (w : World) (x : Who) (id : ℕ) (d : Denial) →
-        (verdict ids r w x (command.Release id) ≡ verdicts.Deny d) ↔ DeniesRelease ids w x id d }
+    ensures { (ids : List ℕ) (r : RosterValue) (w : World) (x : Who) (id : ℕ) →
+        IsDecided ids r w x (command.Release id) (MayRelease ids w id) (DeniesRelease ids w x id) }
 {}
 
 /// What asks for an event is never shown anything, and what asks to be shown something is granted no event.

@@ -1,7 +1,6 @@
-ghost use Rattle.std.specs.Prelude.{◌≡◌, ◌<◌, length, OnErr, IfOk, true};
+ghost use Rattle.std.specs.Prelude.{◌≡◌, OnErr, IfOk, true};
 ghost use Rattle.mml_policy.specs.Courses.{NamesEachNode, ruling_in};
-ghost use Rattle.mml_policy.specs.Rulings.{ruling_on_leave, event_of, is_look, IsThere};
-ghost use Rattle.mml_policy.specs.declared.verdict.Leave.TheVariants as leaves;
+ghost use Rattle.mml_policy.specs.Rulings.{event_of, is_look};
 
 use crate::command::Command;
 use crate::course::Course;
@@ -9,7 +8,7 @@ use crate::denial::Denial;
 use crate::look::{Look, look_of};
 use crate::see::{See, see_of};
 use crate::verdict::{Leave, clauses};
-use mml_board::{Board, Done, Event};
+use mml_board::{Done, Event};
 use mml_ids::Memory;
 use mml_lab::Who;
 use std::alloc::Global;
@@ -69,42 +68,24 @@ pub fn rule_on(
     ensures memory { OnErr result
         (is_look (ruling_in course.now limit is_halted who command.now) ≡ true) }
 {
-    match clauses(course, who, command) {
-        Ok(leave) => rule_on_leave(alloc, course.board, limit, is_halted, leave),
-        Err(denial) => Ok(Ruling::Denied(denial)),
-    }
-}
-
-/// What comes of a leave.
-fn rule_on_leave(
-    alloc: Global,
-    board: &Board,
-    limit: u64,
-    is_halted: bool,
-    leave: Leave,
-) -> Result<Ruling, Memory>
-    requires { IsThere (length board.now.network.registers) leave }
-    ensures ruling { IfOk result (λ r. r ≡ ruling_on_leave limit is_halted board.now leave) }
-    ensures memory { OnErr result (is_look (ruling_on_leave limit is_halted board.now leave) ≡ true) }
-{
+    let board = course.board;
+    let leave = match clauses(course, who, command) {
+        Ok(leave) => leave,
+        Err(denial) => return Ok(Ruling::Denied(denial)),
+    };
     match leave {
         Leave::See(node) => Ok(Ruling::Seen(see_of(board, node))),
         Leave::Look(node) => Ok(Ruling::Looked(look_of(alloc, board, node)?)),
         Leave::Report => Ok(Ruling::Reported),
-        Leave::Grant(event) => Ok(grant(board, limit, is_halted, event)),
+        Leave::Grant(event) => {
+            if limit <= board.place() {
+                return Ok(Ruling::Full);
+            }
+            if is_halted {
+                return Ok(Ruling::Journal);
+            }
+            let done = board.done(&event);
+            Ok(Ruling::Granted { event, done })
+        }
     }
-}
-
-/// What comes of the leave for an event.
-fn grant(board: &Board, limit: u64, is_halted: bool, event: Event) -> Ruling
-    ensures { result ≡ ruling_on_leave limit is_halted board.now (leaves.Grant event) }
-{
-    if limit <= board.place() {
-        return Ruling::Full;
-    }
-    if is_halted {
-        return Ruling::Journal;
-    }
-    let done = board.done(&event);
-    Ruling::Granted { event, done }
 }

@@ -2,8 +2,5 @@ use Rattle.mml_policy.proofs.CommandMeaningLemmas.{link_means}
 use Rattle.mml_policy.proofs.DeniedLemmas.{link_denied}
 use Rattle.mml_policy.proofs.laws.a_link_takes_two_unlinked_nodes.Goals as goal
 
-pub returns-clause-granted : goal.returns-clause-granted
-returns-clause-granted c = link_means
-
-pub returns-clause-denied : goal.returns-clause-denied
-returns-clause-denied c = link_denied
+pub returns : goal.returns
+returns c ids r w x first second = record { granted = link_means ids r w x first second; denied = link_denied ids r w x first second }
