@@ -9,20 +9,22 @@ use Rattle.mml_policy.specs.declared.look.Look.{Look}
 use Rattle.mml_policy.specs.declared.ruling.Ruling.{Ruling}
 use Rattle.mml_policy.specs.declared.ruling.Ruling.TheVariants.{Denied, Seen, Looked, Reported, Full, Journal, Granted}
 
+-- the node that is shown, and the one that it points at, are the lab's
 pub record IsSeen (ids : List ℕ) (s : See) : Type 0 where
   pub node : s.node < length ids
   pub pointer : IfSome s.regs.p (λ j. j < length ids)
 
+-- a node that is shown with its registers, and the one that it points at, are the lab's
 abbrev pub IsNear : List ℕ → ℕ × Regs → Type 0
 IsNear ids n = (n.0 < length ids) × IfSome n.1.p (λ j. j < length ids)
 
--- the node, the one that it points at, its neighbours and those that they point at are the lab's
+-- the node that is looked at, the one that it points at, its neighbours and those that they point at are the lab's
 pub record IsLookedAt (ids : List ℕ) (l : Look) : Type 0 where
   pub node : l.node < length ids
   pub pointer : IfSome l.regs.p (λ j. j < length ids)
   pub near : All (IsNear ids) l.near
 
--- of an event
+-- the nodes of what an event did are the lab's
 abbrev pub IsDone : List ℕ → Done → Type 0
 IsDone ids (done.Move node kind) = node < length ids
 IsDone ids (done.Close moved) = Unit {0}
@@ -31,7 +33,7 @@ IsDone ids (done.Link a b dropped) = (a < length ids) × (b < length ids)
 IsDone ids (done.Cut a b dropped) = (a < length ids) × (b < length ids)
 IsDone ids (done.Release node) = node < length ids
 
--- of any command
+-- the nodes that a ruling names are the lab's
 abbrev pub IsRuled : List ℕ → Ruling → Type 0
 IsRuled ids (Denied d) = Unit {0}
 IsRuled ids (Seen s) = IsSeen ids s

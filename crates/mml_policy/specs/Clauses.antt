@@ -11,16 +11,16 @@ use Rattle.mml_policy.specs.declared.command.Asked.{Asked}
 use Rattle.mml_policy.specs.declared.command.Asked.TheVariants as asked
 use Rattle.mml_policy.specs.declared.denial.Denial.{Denial}
 
--- the node with this identifier
+-- the node with this identifier; the denial where there is none
 abbrev pub node : List ℕ → ℕ → Denial → Result ℕ Denial
 node ids id d = ok_or (rank_in ids id) d
 
--- the one who asks is a student
+-- the student who asks; the denial where the teacher asks
 abbrev pub student : Who → Denial → Result ℕ Denial
 student who.Teacher d = Err d
 student (who.Student s) d = Ok s
 
--- the rule, with the partner that it names
+-- the rule that is asked for, with the node that a marriage names as its partner; the denial where there is no such node
 abbrev pub rule_of : List ℕ → Asked → Denial → Result Rule Denial
 rule_of ids asked.Update d = Ok rules.Update
 rule_of ids (asked.Marriage id) d = do
@@ -29,7 +29,7 @@ rule_of ids (asked.Marriage id) d = do
 rule_of ids asked.Seduction d = Ok rules.Seduction
 rule_of ids asked.Abandonment d = Ok rules.Abandonment
 
--- the node that p names, or null
+-- the node that p names, or null; the denial where it names none
 abbrev pub pointer : List ℕ → Option ℕ → Denial → Result (Option ℕ) Denial
 pointer ids None d = Ok None
 pointer ids (Some id) d = do

@@ -16,7 +16,7 @@ see_of w i = record { at = w.number; node = i; regs = registers_at w.network.reg
 abbrev pub near_below : World → ℕ → ℕ → List (ℕ × Regs)
 near_below w i n = map (λ j. (j, registers_at w.network.registers j)) (filter ((configuration w).linked i) (range_with_len 0 n))
 
--- the nodes linked to i
+-- the nodes linked to i, in rising order, with their registers
 unfoldable pub near : World → ℕ → List (ℕ × Regs)
 near w i = near_below w i (size w)
 

@@ -70,6 +70,7 @@ clauses ids r w x command.Report = do
   need (is_teacher x) NotTeacher
   Ok Report
 
+-- the verdict of clauses: what they give leave to, or their denial
 abbrev pub settled : Result Leave Denial → Verdict
 settled (Ok (See i)) = verdicts.Show
 settled (Ok (Look i)) = verdicts.Show

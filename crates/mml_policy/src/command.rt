@@ -28,13 +28,14 @@ pub enum Command {
 #[derive(Clone, Copy, Debug, PartialEq, Eq)]
 pub enum Asked {
     Update,
+    /// With the node with this identifier.
     Marriage(u64),
     Seduction,
     Abandonment,
 }
 
 impl Command {
-    /// Whether an event is asked for, and not only to be shown something.
+    /// Whether it asks for an event, and not to be shown something.
     pub fn is_act(&self) -> bool
         ensures { result ≡ is_act self.now }
     {

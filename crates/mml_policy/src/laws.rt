@@ -127,7 +127,7 @@ pub fn a_release_takes_a_chosen_node()
 {}
 
 /// What asks for an event is never shown anything, and what asks to be shown something is granted no event.
-pub fn acts_are_granted_and_views_are_shown()
+pub fn no_act_is_shown_and_no_view_is_granted()
     ensures acts { (ids : List ℕ) (r : RosterValue) (w : World) (x : Who) (c : Command) →
         is_act c ≡ true → verdict ids r w x c ≢ verdicts.Show }
     ensures views { (ids : List ℕ) (r : RosterValue) (w : World) (x : Who) (c : Command) (e : Event) →

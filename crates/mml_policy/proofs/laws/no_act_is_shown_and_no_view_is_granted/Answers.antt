@@ -1,5 +1,5 @@
 use Rattle.mml_policy.proofs.ActsLemmas.{act_not_shown, view_not_granted}
-use Rattle.mml_policy.proofs.laws.acts_are_granted_and_views_are_shown.Goals as goal
+use Rattle.mml_policy.proofs.laws.no_act_is_shown_and_no_view_is_granted.Goals as goal
 
 pub returns-clause-acts : goal.returns-clause-acts
 returns-clause-acts c = act_not_shown
