@@ -14,6 +14,7 @@ abbrev pub each_below : {A : Type 0} → ℕ → (ℕ → List A) → List A
 each_below zero list = []
 each_below (suc n) list = each_below n list ++ list n
 
+-- one thing, where the test holds, or none
 abbrev pub listed_if : {A : Type 0} → Bool → A → List A
 listed_if true x = x ∷ []
 listed_if false x = []
@@ -23,15 +24,19 @@ abbrev pub pair_at : Configuration → ℕ → Option ℕ → List (ℕ × ℕ)
 pair_at c i None = []
 pair_at c i (Some j) = listed_if (nat_lt i j && holds (c.p j) i) (i, j)
 
+-- the nodes that point at each other, the lower one first
 abbrev pub pairs : Configuration → List (ℕ × ℕ)
 pairs c = each_below c.size (λ i. pair_at c i (c.p i))
 
+-- i is in no pair
 abbrev pub is_free : Configuration → ℕ → Bool
 is_free c i = not (is_married c i)
 
+-- the nodes that are in no pair
 abbrev pub free_nodes : Configuration → List ℕ
 free_nodes c = each_below c.size (λ i. listed_if (is_free c i) i)
 
+-- i with the rule that is enabled there, if one is
 abbrev pub privileged_at : ℕ → Option Kind → List (ℕ × Kind)
 privileged_at i None = []
 privileged_at i (Some kind) = (i, kind) ∷ []
@@ -44,6 +49,7 @@ privileged_nodes c = each_below c.size (λ i. privileged_at i (enabled_kind c i)
 abbrev pub is_open : Configuration → ℕ → ℕ → Bool
 is_open c a b = c.linked a b && (nat_lt a b && (is_free c a && is_free c b))
 
+-- a link between two free nodes, with its witness
 abbrev pub open_link : Configuration → ℕ → ℕ → OpenLink
 open_link c a b = record { a = a; b = b; node = (certificate c a b).0; kind = (certificate c a b).1 }
 
@@ -51,6 +57,7 @@ open_link c a b = record { a = a; b = b; node = (certificate c a b).0; kind = (c
 abbrev pub open_links_at : Configuration → ℕ → List OpenLink
 open_links_at c a = each_below c.size (λ b. listed_if (is_open c a b) (open_link c a b))
 
+-- the open links of all nodes
 abbrev pub open_links : Configuration → List OpenLink
 open_links c = each_below c.size (open_links_at c)
 
@@ -58,6 +65,7 @@ open_links c = each_below c.size (open_links_at c)
 abbrev pub is_stable : Configuration → Bool
 is_stable c = not (some_below c.size (is_privileged c))
 
+-- what is told of a world
 abbrev pub report_of : World → Report
 report_of w = record {
   at = w.number;

@@ -28,7 +28,8 @@ pub fn certify(board: &Board, a: Rank, b: Rank) -> (Rank, Kind)
     witness(board, &kinds, a, b)
 }
 
-// The same, with the rules that are enabled at the nodes.
+/// The witness of a link between two free nodes: a privileged node with its rule. The rules that are enabled at the
+/// nodes were found before.
 #[tactic(auto, unfolding(crate::specs::Walk::certificate))]
 pub(crate) fn witness(board: &Board, kinds: &[Option<Kind>], a: Rank, b: Rank) -> (Rank, Kind)
     requires kinds { AreKinds (configuration board.now) kinds.now }
@@ -45,6 +46,8 @@ pub(crate) fn witness(board: &Board, kinds: &[Option<Kind>], a: Rank, b: Rank) -
     }
 }
 
+/// Where the way along the pointers from a node ends, with the rule that is enabled there; none where that is a
+/// seduction, or none is.
 fn walk(board: &Board, kinds: &[Option<Kind>], node: Rank) -> Option<(Rank, Kind)>
     requires kinds { AreKinds (configuration board.now) kinds.now }
     requires node { node < length board.now.network.registers }

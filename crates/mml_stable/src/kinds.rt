@@ -8,7 +8,7 @@ use mml_board::Board;
 use mml_ids::{MAX_NODES, Rank};
 use mml_rules::{Kind, Scene};
 
-/// How many nodes there may be.
+/// How many nodes there may be, as the length of a list.
 pub(crate) const PLACES: usize = MAX_NODES as usize;
 
 /// Finds the rule that is enabled at each node, by rank.

@@ -25,6 +25,7 @@ pub fn report(alloc: Global, board: &Board) -> Result<Report, Memory>
     whole(alloc, board)
 }
 
+/// The report; that it names nodes of the board alone is left to its caller.
 fn whole(alloc: Global, board: &Board) -> Result<Report, Memory>
     ensures { IfOk result (λ report. report ≡ report_of board.now) }
 {
@@ -44,6 +45,7 @@ fn whole(alloc: Global, board: &Board) -> Result<Report, Memory>
     })
 }
 
+/// The nodes that point at each other, the lower one first, in rising order.
 fn pairs(alloc: Global, board: &Board) -> Result<Vec<(Rank, Rank)>, Memory>
     ensures { IfOk result (λ all. all.items ≡ pairs (configuration board.now)) }
 {
@@ -59,7 +61,7 @@ fn pairs(alloc: Global, board: &Board) -> Result<Vec<(Rank, Rank)>, Memory>
     Ok(all)
 }
 
-/// The nodes that are in no pair, as a list and as a set.
+/// The nodes that are in no pair, as a list and, for the open links, as a set.
 #[tactic(auto, unfolding(mml_ids::specs::Sets::those_below))]
 fn free_nodes(alloc: Global, board: &Board) -> Result<(Vec<Rank>, NodeSet), Memory>
     ensures list { IfOk result (λ free. free.0.items ≡ free_nodes (configuration board.now)) }
@@ -146,6 +148,8 @@ fn put_open_links(
     Ok(())
 }
 
+/// The links between two free nodes in rising order, each with its witness. The free nodes and the rules that are
+/// enabled were found before.
 fn open_links(
     alloc: Global,
     board: &Board,
