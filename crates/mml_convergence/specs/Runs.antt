@@ -1,19 +1,15 @@
 -- Runs of steps alone: no fault, no link and no cut.
-use Rattle.std.specs.Prelude.{ℕ, ◌+◌, Bool, true, false, List, [], ◌∷◌, if◌then◌else◌}
+use Rattle.std.specs.Prelude.{ℕ, ◌+◌, Bool, not, ◌||◌, List, [], ◌∷◌, if◌then◌else◌}
 use Rattle.std.specs.Bool.{beq}
 use Rattle.mml_board.specs.declared.event.Event.{Event}
-use Rattle.mml_board.specs.declared.event.Event.TheVariants as event
 use Rattle.mml_board.specs.World.{World, configuration}
 use Rattle.mml_board.specs.Events.{after}
+use Rattle.mml_board.specs.Meaning.{makes_configuration}
+use Rattle.mml_convergence.specs.Moves.{is_close}
 
--- a grant, a release or a close
+-- a grant, a release or a close: it makes no configuration, or is a close
 abbrev pub is_of_step : Event → Bool
-is_of_step (event.Grant s i rule) = true
-is_of_step (event.Release i) = true
-is_of_step event.Close = true
-is_of_step (event.Fault i registers) = false
-is_of_step (event.Link a b) = false
-is_of_step (event.Cut a b) = false
+is_of_step e = not (makes_configuration e) || is_close e
 
 -- how often m changes at i over these events
 abbrev pub changes_of_m : ℕ → World → List Event → ℕ
