@@ -11,7 +11,7 @@ use Rattle.mml_board.specs.declared.event.Event.TheVariants as event
 use Rattle.mml_convergence.specs.Moves.{is_close}
 use Rattle.mml_tally.specs.declared.granted_move.Move.{Move}
 use Rattle.mml_tally.specs.Moves.{fate_of, moves_from, moves}
-use Rattle.mml_tally.specs.Marks.{count_closes}
+use Rattle.mml_tally.specs.Marks.{count_applying_closes}
 use Rattle.mml_tally.specs.inside.Closes.{close_of, count_new}
 use Rattle.mml_tally.proofs.ClosesLemmas.{next_close, IsNext, fate_next, closes_counted}
 use Rattle.std.proofs.lemmas.Bool.Decides.{nat_tests}
@@ -80,5 +80,5 @@ module _ (test : Move → Bool) where
   few last q (event.Cut a b ∷ es) =
       let e = more is_close (event.Cut a b) es in passed last q (event.Cut a b) es refl refl (omega (arith, e)) (few last (q + 1) es)
 
-pub closes_of_run : (test : Move → Bool) (es : List Event) → count_closes (length es) (filter test (moves es)) ≤ count_by is_close es
+pub closes_of_run : (test : Move → Bool) (es : List Event) → count_applying_closes (length es) (filter test (moves es)) ≤ count_by is_close es
 closes_of_run test es = let counted = closes_counted test es in let most = (few test 0 1 es).most in omega (arith, counted, most)

@@ -12,7 +12,7 @@ use Rattle.mml_tally.specs.declared.fate.Fate.{Fate}
 use Rattle.mml_tally.specs.declared.fate.Fate.TheVariants as fate
 use Rattle.mml_tally.specs.declared.granted_move.Move.{Move}
 use Rattle.mml_tally.specs.Moves.{fate_of, moves_from, moves}
-use Rattle.mml_tally.specs.Marks.{is_fate_at, is_applied_at, is_applied, count_closes}
+use Rattle.mml_tally.specs.Marks.{is_fate_at, is_applied_at, is_applied, count_applying_closes}
 use Rattle.mml_tally.specs.inside.Closes.{close_of, count_new}
 use Rattle.mml_tally.proofs.CountsLemmas.{one, count_split, count_one}
 
@@ -123,7 +123,7 @@ counted n last (m ∷ ms) h = go m.fate (counted n (close_of last m.fate) ms h.2
     go fate.Dropped rest le within rising = same _ rest
     go fate.Chosen rest le within rising = same _ rest
 
-pub closes_counted : (test : Move → Bool) (es : List Event) → count_new 0 (filter test (moves es)) ≡ count_closes (length es) (filter test (moves es))
+pub closes_counted : (test : Move → Bool) (es : List Event) → count_new 0 (filter test (moves es)) ≡ count_applying_closes (length es) (filter test (moves es))
 closes_counted test [] = refl
 closes_counted test (e ∷ es) =
     let n = length (e ∷ es) in
@@ -141,7 +141,7 @@ none_applied : (n : ℕ) (ms : List Move) → Rising n 1 ms → count_new 0 ms �
 none_applied n [] h none = refl
 none_applied n (m ∷ ms) h none = grind (arith, nat_tests, (none_applied n ms))
 
-pub no_close : (test : Move → Bool) (es : List Event) → count_closes (length es) (filter test (moves es)) ≡ 0 → filter is_applied (filter test (moves es)) ≡ []
+pub no_close : (test : Move → Bool) (es : List Event) → count_applying_closes (length es) (filter test (moves es)) ≡ 0 → filter is_applied (filter test (moves es)) ≡ []
 no_close test [] none = refl
 no_close test (e ∷ es) none =
     none_applied (length (e ∷ es)) (filter test (moves (e ∷ es)))

@@ -12,11 +12,11 @@ asks_of_others asks = filter (λ a. is_none a.who) asks
 abbrev pub is_denied : Ask → Bool
 is_denied a = is_some a.denied
 
--- of the four clauses together
+-- how many lines the four clauses denied together
 abbrev pub total_denied : Denials → ℕ
 total_denied d = d.first + d.second + d.third + d.fourth
 
--- one of four clauses, or none
+-- the number of one of the four clauses, or none
 abbrev pub is_numbered : Option ℕ → Bool
 is_numbered None = true
 is_numbered (Some c) = c == 1 || (c == 2 || (c == 3 || c == 4))
@@ -26,6 +26,7 @@ abbrev pub IsKnownOf : ℕ → Option ℕ → Option ℕ → Type 0
 IsKnownOf n None denied = Unit {0}
 IsKnownOf n (Some s) denied = (s < n) × (is_numbered denied ≡ true)
 
+-- of so many students, each who is known is one, and is denied by the clauses from 1 to 4 alone
 abbrev pub AreAsksOf : ℕ → List Ask → Type 0
 AreAsksOf n [] = Unit {0}
 AreAsksOf n (a ∷ asks) = IsKnownOf n a.who a.denied × AreAsksOf n asks

@@ -10,6 +10,7 @@ use Rattle.mml_tally.specs.declared.ask.Denials.{Denials}
 use Rattle.mml_tally.specs.declared.marks.ByRule.{ByRule}
 use Rattle.mml_tally.specs.Marks.{is_kind}
 
+-- s is the student who was known, if one was
 abbrev pub is_student : ℕ → Option ℕ → Bool
 is_student s None = false
 is_student s (Some t) = t == s
@@ -23,6 +24,7 @@ abbrev pub is_clause : ℕ → Option ℕ → Bool
 is_clause c None = false
 is_clause c (Some d) = d == c
 
+-- the line is no request
 abbrev pub is_malformed : Line → Bool
 is_malformed line.Malformed = true
 is_malformed (line.Move n k) = false
@@ -44,7 +46,7 @@ denials_in own = record {
   malformed = count_by (λ a. is_malformed a.line) own;
 }
 
--- how many asked for a move of each rule there
+-- how many of the lines asked for a move of each rule at the node with this identifier
 abbrev pub moves_asked : ℕ → List Ask → ByRule
 moves_asked id own = record {
   update = count_by (λ a. is_move id kind.Update a.line) own;
@@ -53,10 +55,10 @@ moves_asked id own = record {
   abandonment = count_by (λ a. is_move id kind.Abandonment a.line) own;
 }
 
--- what was denied to a student
+-- how many lines of a student each clause denied, and how many were no request
 abbrev pub denials_of : List Ask → ℕ → Denials
 denials_of asks s = denials_in (asks_by s asks)
 
--- what a student asked for at a node
-abbrev pub asked_of : List Ask → ℕ → ℕ → ByRule
-asked_of asks id s = moves_asked id (asks_by s asks)
+-- how many moves of each rule a student asked for at the node with this identifier
+abbrev pub moves_asked_by : List Ask → ℕ → ℕ → ByRule
+moves_asked_by asks id s = moves_asked id (asks_by s asks)

@@ -6,9 +6,10 @@ use Rattle.mml_convergence.specs.Rounds.{rounds_for}
 use Rattle.mml_bounds.specs.Most.{most_moves, events_to_rest}
 use Rattle.mml_tally.specs.declared.bounds.Bounds.{Bounds}
 
--- of so many nodes and links
+-- the most that a run takes on so many nodes with so many links
 abbrev pub bounds_for : ℕ → ℕ → Bounds
 bounds_for nodes links = record { moves = most_moves nodes links; rounds = rounds_for nodes; events = events_to_rest nodes links }
 
+-- the most that a run takes from a world on
 abbrev pub bounds_of : World → Bounds
 bounds_of w = bounds_for (size w) (link_count w.network)

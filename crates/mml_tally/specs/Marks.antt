@@ -22,33 +22,37 @@ is_kind kind.Seduction kind.Seduction = true
 is_kind kind.Abandonment kind.Abandonment = true
 is_kind _ _ = false
 
--- the close at place q applied it
+-- it is that the close at place q applied a move
 abbrev pub is_fate_at : ℕ → Fate → Bool
 is_fate_at q (fate.Applied p) = p == q
 is_fate_at q _ = false
 
+-- the close at place q applied the move
 abbrev pub is_applied_at : ℕ → Move → Bool
 is_applied_at q m = is_fate_at q m.fate
 
--- some close applied it
+-- it is that some close applied a move
 abbrev pub is_fate_applied : Fate → Bool
 is_fate_applied (fate.Applied p) = true
 is_fate_applied _ = false
 
+-- some close applied the move
 abbrev pub is_applied : Move → Bool
 is_applied m = is_fate_applied m.fate
 
--- the moves of a student, those at a node, and those that a close applied
+-- the moves of a student
 abbrev pub moves_by : ℕ → List Move → List Move
 moves_by s ms = filter (λ m. m.who == s) ms
 
+-- the moves at a node
 abbrev pub moves_at : ℕ → List Move → List Move
 moves_at i ms = filter (λ m. m.node == i) ms
 
+-- the moves that a close applied
 abbrev pub applied : List Move → List Move
 applied ms = filter is_applied ms
 
--- how many there are of each rule
+-- how many moves there are of each rule
 abbrev pub by_rule : List Move → ByRule
 by_rule ms = record {
   update = count_by (λ m. is_kind kind.Update m.kind) ms;
@@ -58,13 +62,14 @@ by_rule ms = record {
 }
 
 -- at how many of the first n places a close applied one of the moves
-abbrev pub count_closes : ℕ → List Move → ℕ
-count_closes n ms = count_below (n + 1) (λ q. list_any (is_applied_at q) ms)
+abbrev pub count_applying_closes : ℕ → List Move → ℕ
+count_applying_closes n ms = count_below (n + 1) (λ q. list_any (is_applied_at q) ms)
 
--- the place of the first grant, and of the last
+-- the place of the first grant
 abbrev pub first_place : List Move → Option ℕ
 first_place ms = option_map (λ m. m.place) (slice_get ms 0)
 
+-- the place of the last grant
 abbrev pub last_place : List Move → Option ℕ
 last_place ms = option_map (λ m. m.place) (slice_get ms (length ms - 1))
 
@@ -77,7 +82,7 @@ abbrev pub marks_from : RosterValue → ℕ → List Move → Marks
 marks_from r n own = record {
   granted = by_rule own;
   applied = by_rule (applied own);
-  closes = count_closes n own;
+  closes = count_applying_closes n own;
   first = first_place own;
   last = last_place own;
   shared = count_shared r (applied own);

@@ -25,29 +25,34 @@ pub record IsNextClose (i q p : ℕ) (es : List Event) : Type 0 where
   pub leave : list_all (leaves i) between ≡ true
   pub place : p ≡ q + length between
 
--- of all rules together
+-- how many moves there are of all rules together
 abbrev pub total : ByRule → ℕ
 total n = n.update + n.marriage + n.seduction + n.abandonment
 
+-- it is that the teacher released a move
 abbrev pub is_fate_released : Fate → Bool
 is_fate_released fate.Released = true
 is_fate_released _ = false
 
+-- it is that a fault, a link or a cut dropped a move
 abbrev pub is_fate_dropped : Fate → Bool
 is_fate_dropped fate.Dropped = true
 is_fate_dropped _ = false
 
+-- it is that a move is chosen still
 abbrev pub is_fate_left : Fate → Bool
 is_fate_left fate.Chosen = true
 is_fate_left _ = false
 
--- the teacher released it, a fault, a link or a cut dropped it, or it is chosen still
+-- the teacher released the move
 abbrev pub is_released : Move → Bool
 is_released m = is_fate_released m.fate
 
+-- a fault, a link or a cut dropped the move
 abbrev pub is_dropped : Move → Bool
 is_dropped m = is_fate_dropped m.fate
 
+-- the move is chosen still
 abbrev pub is_left : Move → Bool
 is_left m = is_fate_left m.fate
 

@@ -17,8 +17,8 @@ ended_by i q (event.Fault j registers) = Some fate.Dropped
 ended_by i q (event.Link a b) = Some fate.Dropped
 ended_by i q (event.Cut a b) = Some fate.Dropped
 
--- what becomes of it is what the first event makes of it that ends it: the events are those after its grant, and the first of them has
--- place q
+-- what becomes of a move at i is what the first event makes of it that ends it: the events are those after its grant, and the first of
+-- them has place q
 abbrev pub fate_of : ℕ → ℕ → List Event → Fate
 fate_of i q [] = fate.Chosen
 fate_of i q (e ∷ es) = unwrap_or (ended_by i q e) (fate_of i (q + 1) es)
@@ -30,5 +30,6 @@ moves_from q (event.Grant s i rule ∷ es) =
     record { place = q; who = s; node = i; kind = kind_of rule; fate = fate_of i (q + 1) es } ∷ moves_from (q + 1) es
 moves_from q (_ ∷ es) = moves_from (q + 1) es
 
+-- the moves that a list of events grants, in order
 abbrev pub moves : List Event → List Move
 moves es = moves_from 1 es

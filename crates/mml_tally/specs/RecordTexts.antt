@@ -10,10 +10,10 @@ use Rattle.mml_tally.specs.declared.ask.Ask.{Ask}
 use Rattle.mml_tally.specs.declared.ask.Denials.{Denials}
 use Rattle.mml_tally.specs.declared.record_text.Findings.{Findings}
 use Rattle.mml_tally.specs.Owners.{owners_in_order, is_shared}
-use Rattle.mml_tally.specs.Asks.{denials_of, asked_of}
+use Rattle.mml_tally.specs.Asks.{denials_of, moves_asked_by}
 use Rattle.mml_tally.specs.Texts.{numbers_text, owner_text, students_text, nodes_text, ends_text}
 
--- the first four clauses, and malformed lines
+-- the line of a student: how many lines each of the first four clauses denied, and how many were malformed
 abbrev pub denied_line : List ℕ → Denials → List ℕ
 denied_line name d = codes "denied " ++ (name ++ (numbers_text (d.first ∷ d.second ∷ d.third ∷ d.fourth ∷ d.malformed ∷ []) ++ codes "\n"))
 
@@ -24,8 +24,9 @@ denied_text lab asks n = each_below n (λ s. denied_line (name_of lab.roster (wh
 -- each owner, and the moves that it asked for at the node with this identifier
 abbrev pub askers_text : RosterValue → List Ask → ℕ → List ℕ → List ℕ
 askers_text r asks id [] = []
-askers_text r asks id (s ∷ ss) = owner_text (name_of r (who.Student s)) (asked_of asks id s) ++ askers_text r asks id ss
+askers_text r asks id (s ∷ ss) = owner_text (name_of r (who.Student s)) (moves_asked_by asks id s) ++ askers_text r asks id ss
 
+-- the line of a node: the moves that each owner asked for there
 abbrev pub asked_line : LabValue → List Ask → ℕ → List ℕ
 asked_line lab asks i =
     codes "asked" ++ (numbers_text (slice_index lab.ids i ∷ []) ++ (askers_text lab.roster asks (slice_index lab.ids i) (owners_in_order lab.roster i) ++ codes "\n"))
@@ -34,7 +35,7 @@ asked_line lab asks i =
 abbrev pub asked_text : LabValue → List Ask → ℕ → List ℕ
 asked_text lab asks n = each_below n (λ i. if is_shared lab.roster i then asked_line lab asks i else [])
 
--- nothing of what was said is left out of the record
+-- the word for a record that leaves nothing out of what was said, or for one that was cut short
 abbrev pub whole_text : Bool → List ℕ
 whole_text true = codes " whole\n"
 whole_text false = codes " cut\n"
@@ -43,6 +44,7 @@ whole_text false = codes " cut\n"
 abbrev pub record_line : Findings → List ℕ
 record_line f = codes "record" ++ (numbers_text (f.sessions ∷ f.lines ∷ []) ++ whole_text f.whole)
 
+-- what was denied and asked, and what the record comes to
 abbrev pub record_text : LabValue → Findings → List Ask → List ℕ
 record_text lab f asks = denied_text lab asks (length lab.roster.students) ++ (asked_text lab asks (length lab.ids) ++ record_line f)
 

@@ -11,14 +11,17 @@ use Rattle.mml_tally.specs.declared.run.Run.{Run}
 use Rattle.mml_tally.specs.Moves.{moves}
 use Rattle.mml_tally.specs.Marks.{is_applied}
 
+-- the event is a fault
 abbrev pub is_fault : Event → Bool
 is_fault (event.Fault i registers) = true
 is_fault _ = false
 
+-- the event is a link
 abbrev pub is_link : Event → Bool
 is_link (event.Link a b) = true
 is_link _ = false
 
+-- the event is a cut
 abbrev pub is_cut : Event → Bool
 is_cut (event.Cut a b) = true
 is_cut _ = false
@@ -32,11 +35,12 @@ abbrev pub last_change : ℕ → ℕ → List Event → ℕ
 last_change last q [] = last
 last_change last q (e ∷ es) = last_change (if is_change e then q else last) (q + 1) es
 
--- a close after that place applied the move
+-- it is that a close after place k applied a move
 abbrev pub is_fate_after : ℕ → Fate → Bool
 is_fate_after k (fate.Applied p) = nat_lt k p
 is_fate_after k _ = false
 
+-- a close after place k applied the move
 abbrev pub is_applied_after : ℕ → Move → Bool
 is_applied_after k m = is_fate_after k m.fate
 
@@ -52,5 +56,6 @@ run_since since es = record {
   closes_since = count_by is_close (drop since es);
 }
 
+-- what events tell of their run
 abbrev pub run_of : List Event → Run
 run_of es = run_since (last_change 0 1 es) es

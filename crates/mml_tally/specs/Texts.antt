@@ -27,7 +27,7 @@ abbrev pub place_text : Option ℕ → List ℕ
 place_text None = codes " -"
 place_text (Some p) = numbers_text (p ∷ [])
 
--- in the order of the rules
+-- how many moves there are of each rule, in the order of the rules
 abbrev pub rules_text : ByRule → List ℕ
 rules_text n = numbers_text (n.update ∷ n.marriage ∷ n.seduction ∷ n.abandonment ∷ [])
 
@@ -36,6 +36,7 @@ abbrev pub marks_text : Marks → List ℕ
 marks_text m =
     rules_text m.granted ++ (rules_text m.applied ++ (numbers_text (m.closes ∷ []) ++ (place_text m.first ++ (place_text m.last ++ numbers_text (m.shared ∷ [])))))
 
+-- the line of a student, by name and marks
 abbrev pub student_line : List ℕ → Marks → List ℕ
 student_line name m = codes "student " ++ (name ++ (marks_text m ++ codes "\n"))
 
@@ -43,6 +44,7 @@ student_line name m = codes "student " ++ (name ++ (marks_text m ++ codes "\n"))
 abbrev pub owner_text : List ℕ → ByRule → List ℕ
 owner_text name n = codes " " ++ (name ++ rules_text n)
 
+-- owners, each with how many of the moves there were granted to it
 abbrev pub owners_text : RosterValue → List Move → List ℕ → List ℕ
 owners_text r there [] = []
 owners_text r there (s ∷ ss) = owner_text (name_of r (who.Student s)) (by_rule (moves_by s there)) ++ owners_text r there ss
@@ -56,7 +58,7 @@ node_line lab all i =
 abbrev pub bounds_line : Bounds → List ℕ
 bounds_line b = codes "bounds" ++ (numbers_text (b.moves ∷ b.rounds ∷ b.events ∷ []) ++ codes "\n")
 
--- no node is privileged
+-- the word for a configuration without privileged nodes, or for one with some
 abbrev pub stable_text : Bool → List ℕ
 stable_text true = codes " stable"
 stable_text false = codes " unstable"

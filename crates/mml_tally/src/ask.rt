@@ -1,6 +1,6 @@
 ghost use Rattle.std.specs.Prelude.{◌≡◌, ◌++◌, [], ◌∷◌, OnOk, IfOk, count_by};
 ghost use Rattle.mml_tally.specs.Marks.{is_kind};
-ghost use Rattle.mml_tally.specs.Asks.{is_student, asks_by, is_clause, is_malformed, is_move, denials_in, moves_asked, denials_of, asked_of};
+ghost use Rattle.mml_tally.specs.Asks.{is_student, asks_by, is_clause, is_malformed, is_move, denials_in, moves_asked, denials_of, moves_asked_by};
 
 use crate::marks::{ByRule, is_kind};
 use mml_ids::Memory;
@@ -40,7 +40,7 @@ pub struct Denials {
     pub malformed: u64,
 }
 
-/// Puts one more behind those that are there.
+/// Puts an ask behind the others.
 pub fn push_ask(asks: &mut Vec<Ask>, ask: &Ask) -> Result<(), Memory>
     ensures { OnOk result (asks.new.items ≡ asks.old.items ++ (ask.now ∷ [])) }
 {
@@ -48,19 +48,18 @@ pub fn push_ask(asks: &mut Vec<Ask>, ask: &Ask) -> Result<(), Memory>
     Ok(())
 }
 
-// The lines of a student, in order.
+/// The lines that came while the student was known, in order.
 fn asks_by(alloc: Global, asks: &[Ask], student: Student) -> Result<Vec<Ask>, Memory>
     ensures { IfOk result (λ own. own.items ≡ asks_by student asks.now) }
 {
-    let mut own = Vec::new(alloc);
-    for ask in asks {
-        if is_student(student, ask.who) {
-            own.push(*ask)?;
-        }
-    }
-    Ok(own)
+    let own = asks
+        .iter()
+        .copied()
+        .filter(|ask| is_student(student, ask.who));
+    Ok(own.collect(alloc)?)
 }
 
+/// Whether the student is the one who was known, if one was.
 fn is_student(student: Student, who: Option<Student>) -> bool
     ensures { result ≡ is_student student who }
 {
@@ -78,14 +77,20 @@ pub fn denials_of(alloc: Global, asks: &[Ask], student: Student) -> Result<Denia
     Ok(denials_in(&own))
 }
 
-/// What a student asked for at the node with this identifier.
-pub fn asked_of(alloc: Global, asks: &[Ask], node: u64, student: Student) -> Result<ByRule, Memory>
-    ensures { IfOk result (λ asked. asked ≡ asked_of asks.now node student) }
+/// How many moves of each rule a student asked for at the node with this identifier.
+pub fn moves_asked_by(
+    alloc: Global,
+    asks: &[Ask],
+    node: u64,
+    student: Student,
+) -> Result<ByRule, Memory>
+    ensures { IfOk result (λ asked. asked ≡ moves_asked_by asks.now node student) }
 {
     let own = asks_by(alloc, asks, student)?;
     Ok(moves_asked(node, &own))
 }
 
+/// How many of a student's lines each clause denied, and how many were no request.
 fn denials_in(own: &[Ask]) -> Denials
     ensures { result ≡ denials_in own.now }
 {
@@ -98,6 +103,7 @@ fn denials_in(own: &[Ask]) -> Denials
     }
 }
 
+/// How many of the lines the clause with this number denied.
 fn count_clause(own: &[Ask], clause: u8) -> u64
     ensures { result ≡ count_by (λ a. is_clause clause a.denied) own.now }
 {
@@ -106,6 +112,7 @@ fn count_clause(own: &[Ask], clause: u8) -> u64
         .count() as u64
 }
 
+/// Whether the clause with this number is the one that denied a line, if one did.
 fn is_clause(clause: u8, denied: Option<u8>) -> bool
     ensures { result ≡ is_clause clause denied }
 {
@@ -115,12 +122,14 @@ fn is_clause(clause: u8, denied: Option<u8>) -> bool
     }
 }
 
+/// How many of the lines were no request.
 fn count_malformed(own: &[Ask]) -> u64
     ensures { result ≡ count_by (λ a. is_malformed a.line) own.now }
 {
     own.iter().filter(|ask| is_malformed(ask.line)).count() as u64
 }
 
+/// Whether the line is no request.
 fn is_malformed(line: Line) -> bool
     ensures { result ≡ is_malformed line }
 {
@@ -130,6 +139,7 @@ fn is_malformed(line: Line) -> bool
     }
 }
 
+/// How many of a student's lines asked for a move of each rule at the node with this identifier.
 fn moves_asked(node: u64, own: &[Ask]) -> ByRule
     ensures { result ≡ moves_asked node own.now }
 {
@@ -141,6 +151,7 @@ fn moves_asked(node: u64, own: &[Ask]) -> ByRule
     }
 }
 
+/// How many of the lines asked for a move of this rule at the node with this identifier.
 fn count_moves(node: u64, kind: Kind, own: &[Ask]) -> u64
     ensures { result ≡ count_by (λ a. is_move node kind a.line) own.now }
 {
@@ -149,6 +160,7 @@ fn count_moves(node: u64, kind: Kind, own: &[Ask]) -> u64
         .count() as u64
 }
 
+/// Whether the line asks for a move of this rule at the node with this identifier.
 fn is_move(node: u64, kind: Kind, line: Line) -> bool
     ensures { result ≡ is_move node kind line }
 {

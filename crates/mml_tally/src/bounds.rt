@@ -26,6 +26,7 @@ pub fn bounds_of(board: &Board) -> Bounds
     bounds_for(board.size(), link_count(board.network()))
 }
 
+/// The most that a run takes on so many nodes with so many links.
 fn bounds_for(nodes: u64, links: u64) -> Bounds
     requires { nodes ≤ MAX_NODES }
     ensures { result ≡ bounds_for nodes links }
@@ -38,6 +39,7 @@ fn bounds_for(nodes: u64, links: u64) -> Bounds
     }
 }
 
+/// The most courtships among so many nodes, n²/4 rounded down, in one step.
 fn most_courtships(nodes: u64) -> u64
     requires { nodes ≤ MAX_NODES }
     ensures exact { result ≡ most_courtships nodes }
@@ -47,6 +49,7 @@ fn most_courtships(nodes: u64) -> u64
     half * (nodes - half)
 }
 
+/// The most rounds among so many nodes: two for each, less one where their number is odd.
 fn rounds_for(nodes: u64) -> u64
     requires { nodes ≤ MAX_NODES }
     ensures { result ≡ rounds_for nodes }

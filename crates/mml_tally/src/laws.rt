@@ -12,7 +12,7 @@ ghost use Rattle.mml_tally.specs.Moves.{fate_of, moves};
 ghost use Rattle.mml_tally.specs.Marks.{moves_by, marks_of};
 ghost use Rattle.mml_tally.specs.Runs.{run_of};
 ghost use Rattle.mml_tally.specs.declared.ask.Ask.{Ask};
-ghost use Rattle.mml_tally.specs.Asks.{denials_of, asked_of, is_malformed};
+ghost use Rattle.mml_tally.specs.Asks.{denials_of, moves_asked_by, is_malformed};
 ghost use Rattle.mml_tally.specs.AskMeaning.{asks_of_others, is_denied, total_denied, AreAsksOf, asked_under};
 ghost use Rattle.mml_tally.specs.Meaning.{IsNextClose, total, is_released, is_dropped, is_left, asked_as};
 
@@ -82,5 +82,5 @@ pub fn asks_depend_on_no_other_name()
     ensures denied { (asks : List Ask) (s : ℕ) (f : ℕ → ℕ) → ((t : ℕ) → (f t ≡ s) ↔ (t ≡ s)) →
         denials_of (map (asked_under f) asks) s ≡ denials_of asks s }
     ensures asked { (asks : List Ask) (id s : ℕ) (f : ℕ → ℕ) → ((t : ℕ) → (f t ≡ s) ↔ (t ≡ s)) →
-        asked_of (map (asked_under f) asks) id s ≡ asked_of asks id s }
+        moves_asked_by (map (asked_under f) asks) id s ≡ moves_asked_by asks id s }
 {}

@@ -13,7 +13,7 @@ mod record_text;
 mod run;
 mod text;
 
-pub use ask::{Ask, Denials, Line, asked_of, denials_of, push_ask};
+pub use ask::{Ask, Denials, Line, denials_of, moves_asked_by, push_ask};
 pub use bounds::{Bounds, bounds_of};
 pub use fate::{Fate, ended_by, fate_of};
 pub use granted_move::{Move, moves_of};

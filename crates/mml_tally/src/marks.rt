@@ -26,18 +26,19 @@ pub struct ByRule {
 pub struct Marks {
     /// The moves that were granted.
     pub granted: ByRule,
-    /// Those of them that a close applied.
+    /// The granted moves that a close applied.
     pub applied: ByRule,
-    /// How many closes applied one.
+    /// How many closes applied a move of the student's.
     pub closes: u64,
-    /// The places of the first and of the last grant.
+    /// The place of the first grant, if there is one.
     pub first: Option<u64>,
+    /// The place of the last grant, if there is one.
     pub last: Option<u64>,
     /// The applied moves at nodes that others own too.
     pub shared: u64,
 }
 
-/// What a run tells of a student. The moves are those that its events grant.
+/// What a run tells of a student. The moves are all that the run's events grant.
 pub fn marks_of(
     alloc: Global,
     roster: &Roster,
@@ -52,7 +53,7 @@ pub fn marks_of(
     Ok(Marks {
         granted: by_rule(&own),
         applied: by_rule(&applied),
-        closes: count_closes(&own),
+        closes: count_applying_closes(&own),
         first: first_place(&own),
         last: last_place(&own),
         shared: count_shared(roster, &applied),
@@ -63,39 +64,24 @@ pub fn marks_of(
 pub fn moves_by(alloc: Global, all: &[Move], student: Student) -> Result<Vec<Move>, Memory>
     ensures { IfOk result (λ own. own.items ≡ moves_by student all.now) }
 {
-    let mut own = Vec::new(alloc);
-    for granted in all {
-        if granted.who == student {
-            own.push(*granted)?;
-        }
-    }
-    Ok(own)
+    let own = all.iter().copied().filter(|granted| granted.who == student);
+    Ok(own.collect(alloc)?)
 }
 
 /// The moves at a node, in order.
 pub fn moves_at(alloc: Global, all: &[Move], node: Rank) -> Result<Vec<Move>, Memory>
     ensures { IfOk result (λ there. there.items ≡ moves_at node all.now) }
 {
-    let mut there = Vec::new(alloc);
-    for granted in all {
-        if granted.node == node {
-            there.push(*granted)?;
-        }
-    }
-    Ok(there)
+    let there = all.iter().copied().filter(|granted| granted.node == node);
+    Ok(there.collect(alloc)?)
 }
 
 /// The moves that a close applied, in order.
 fn applied(alloc: Global, all: &[Move]) -> Result<Vec<Move>, Memory>
     ensures { IfOk result (λ some. some.items ≡ applied all.now) }
 {
-    let mut some = Vec::new(alloc);
-    for granted in all {
-        if is_applied(granted) {
-            some.push(*granted)?;
-        }
-    }
-    Ok(some)
+    let some = all.iter().copied().filter(|granted| is_applied(granted));
+    Ok(some.collect(alloc)?)
 }
 
 /// Whether a close applied the move.
@@ -120,6 +106,7 @@ pub fn by_rule(all: &[Move]) -> ByRule
     }
 }
 
+/// How many of the moves are of this rule.
 fn count_kind(all: &[Move], kind: Kind) -> u64
     ensures { result ≡ count_by (λ m. is_kind kind m.kind) all.now }
 {
@@ -128,6 +115,7 @@ fn count_kind(all: &[Move], kind: Kind) -> u64
         .count() as u64
 }
 
+/// Whether both are the same rule.
 pub(crate) fn is_kind(asked: Kind, kind: Kind) -> bool
     ensures { result ≡ is_kind asked kind }
 {
@@ -140,9 +128,9 @@ pub(crate) fn is_kind(asked: Kind, kind: Kind) -> bool
     }
 }
 
-// The moves come in the order of the closes that applied them, so a close that differs from the one before
-// is a new one.
-fn count_closes(own: &[Move]) -> u64
+/// How many closes applied one of a student's moves. These come in the order of the closes that applied them, so a
+/// close that differs from the one before is a new one.
+fn count_applying_closes(own: &[Move]) -> u64
     ensures { result ≡ count_new 0 own.now }
 {
     let mut last = 0;
@@ -157,6 +145,7 @@ fn count_closes(own: &[Move]) -> u64
     closes
 }
 
+/// The place of the close that applied a move; where none did, that of the last close so far.
 fn close_of(last: u64, fate: Fate) -> u64
     ensures { result ≡ close_of last fate }
 {
@@ -166,6 +155,7 @@ fn close_of(last: u64, fate: Fate) -> u64
     }
 }
 
+/// The place of the first grant, if there is one.
 fn first_place(all: &[Move]) -> Option<u64>
     ensures { result ≡ first_place all.now }
 {
@@ -173,6 +163,7 @@ fn first_place(all: &[Move]) -> Option<u64>
     Some(first.place)
 }
 
+/// The place of the last grant, if there is one.
 fn last_place(all: &[Move]) -> Option<u64>
     ensures { result ≡ last_place all.now }
 {
@@ -180,6 +171,7 @@ fn last_place(all: &[Move]) -> Option<u64>
     Some(last.place)
 }
 
+/// How many of the moves are at nodes that several own.
 fn count_shared(roster: &Roster, all: &[Move]) -> u64
     ensures { result ≡ count_shared roster.now all.now }
 {

@@ -1,7 +1,7 @@
 ghost use Rattle.std.specs.Prelude.{◌≡◌, ◌<◌, ◌++◌, All, length, OnOk};
 ghost use Rattle.mml_tally.specs.RecordTexts.{denied_line, denied_text, askers_text, asked_line, asked_text, whole_text, record_line, record_text, recorded_text};
 
-use crate::ask::{Ask, Denials, asked_of, denials_of};
+use crate::ask::{Ask, Denials, denials_of, moves_asked_by};
 use crate::granted_move::moves_of;
 use crate::owners::{is_shared, owners_of};
 use crate::text::{put_ends, put_granted, put_numbers, put_owner};
@@ -42,6 +42,7 @@ pub fn put_recorded_tally(
     put_ends(out, board, events, &all)
 }
 
+/// Puts the lines of a record: what was denied, what was asked for at nodes that several own, and what it comes to.
 fn put_record(
     out: &mut Vec<u8>,
     alloc: Global,
@@ -57,6 +58,7 @@ fn put_record(
     put_findings(out, findings)
 }
 
+/// Puts a line for each student, in the lab's order: how many lines each clause denied.
 fn put_denied(out: &mut Vec<u8>, alloc: Global, lab: &Lab, asks: &[Ask]) -> Result<(), Memory>
     ensures { OnOk result (out.new.items
         ≡ out.old.items ++ denied_text lab.now asks.now (length lab.now.roster.students)) }
@@ -70,6 +72,7 @@ fn put_denied(out: &mut Vec<u8>, alloc: Global, lab: &Lab, asks: &[Ask]) -> Resu
     Ok(())
 }
 
+/// Puts the line of one student: how many lines each clause denied.
 fn put_denials(out: &mut Vec<u8>, name: &str, denied: &Denials) -> Result<(), Memory>
     ensures { OnOk result (out.new.items ≡ out.old.items ++ denied_line name.now denied.now) }
 {
@@ -85,6 +88,7 @@ fn put_denials(out: &mut Vec<u8>, name: &str, denied: &Denials) -> Result<(), Me
     put(out, &[Piece::Text("\n")])
 }
 
+/// Puts a line for each node that several own: the moves that each owner asked for there.
 fn put_asked(out: &mut Vec<u8>, alloc: Global, lab: &Lab, asks: &[Ask]) -> Result<(), Memory>
     ensures { OnOk result (out.new.items
         ≡ out.old.items ++ asked_text lab.now asks.now (length lab.now.ids)) }
@@ -98,6 +102,7 @@ fn put_asked(out: &mut Vec<u8>, alloc: Global, lab: &Lab, asks: &[Ask]) -> Resul
     Ok(())
 }
 
+/// Puts the line of one node: the moves that each owner asked for there.
 fn put_asked_at(
     out: &mut Vec<u8>,
     alloc: Global,
@@ -116,6 +121,7 @@ fn put_asked_at(
     put(out, &[Piece::Text("\n")])
 }
 
+/// Puts the owners of a node, each with the moves that they asked for there.
 fn put_askers(
     out: &mut Vec<u8>,
     alloc: Global,
@@ -130,12 +136,13 @@ fn put_askers(
 {
     for owner in owners {
         let owner = *owner;
-        let asked = asked_of(alloc, asks, id, owner)?;
+        let asked = moves_asked_by(alloc, asks, id, owner)?;
         put_owner(out, roster.name_of(Who::Student(owner)), &asked)?;
     }
     Ok(())
 }
 
+/// Puts the line of what a record comes to.
 fn put_findings(out: &mut Vec<u8>, findings: &Findings) -> Result<(), Memory>
     ensures { OnOk result (out.new.items ≡ out.old.items ++ record_line findings.now) }
 {
@@ -144,6 +151,7 @@ fn put_findings(out: &mut Vec<u8>, findings: &Findings) -> Result<(), Memory>
     put(out, &[Piece::Text(whole_text(findings.whole))])
 }
 
+/// The word for a record that leaves nothing out, or for one that was cut short.
 fn whole_text(is_whole: bool) -> &'static str
     ensures { result.now ≡ whole_text is_whole }
 {

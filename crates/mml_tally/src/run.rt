@@ -18,13 +18,13 @@ pub struct Run {
     pub cuts: u64,
     /// The moves that closes applied.
     pub moves: u64,
-    /// Those since the last fault, link or cut.
+    /// The moves that closes applied since the last fault, link or cut.
     pub moves_since: u64,
-    /// The closes since then.
+    /// The closes since the last fault, link or cut.
     pub closes_since: u64,
 }
 
-/// What a list of events tells of its run: beside it come the moves that it grants.
+/// What a list of events tells of its run; beside the list come the moves that it grants.
 pub fn run_of(events: &[Event], granted: &[Move]) -> Run
     requires { granted.now ≡ moves events.now }
     ensures { result ≡ run_of events.now }
@@ -78,6 +78,7 @@ fn count_cuts(events: &[Event]) -> u64
         .count() as u64
 }
 
+/// Whether the event is a fault, a link or a cut.
 fn is_change(event: &Event) -> bool
     ensures { result ≡ is_change event.now }
 {
@@ -101,12 +102,14 @@ fn last_change(events: &[Event]) -> usize
     last
 }
 
+/// How many of the moves a close applied.
 fn count_applied(moves: &[Move]) -> u64
     ensures { result ≡ count_by is_applied moves.now }
 {
     moves.iter().filter(|granted| is_applied(granted)).count() as u64
 }
 
+/// Whether a close after this place applied the move.
 fn is_applied_after(granted: &Move, since: u64) -> bool
     ensures { result ≡ is_applied_after since granted.now }
 {
@@ -116,6 +119,7 @@ fn is_applied_after(granted: &Move, since: u64) -> bool
     }
 }
 
+/// How many of the moves a close after this place applied.
 fn count_applied_after(moves: &[Move], since: u64) -> u64
     ensures { result ≡ count_by (is_applied_after since) moves.now }
 {

@@ -46,7 +46,7 @@ pub(crate) fn put_granted(
     put_nodes(out, alloc, lab, all)
 }
 
-/// Puts the two lines of the run.
+/// Puts the last two lines: the most that may follow, and the run.
 pub(crate) fn put_ends(
     out: &mut Vec<u8>,
     board: &Board,
@@ -60,6 +60,7 @@ pub(crate) fn put_ends(
     put_run(out, board, &run_of(events, all))
 }
 
+/// Puts a line for each student, in the lab's order.
 fn put_students(out: &mut Vec<u8>, alloc: Global, lab: &Lab, all: &[Move]) -> Result<(), Memory>
     ensures { OnOk result ((es : List Event) → all.now ≡ moves es →
         out.new.items ≡ out.old.items ++ students_text lab.now es (length lab.now.roster.students)) }
@@ -73,6 +74,7 @@ fn put_students(out: &mut Vec<u8>, alloc: Global, lab: &Lab, all: &[Move]) -> Re
     Ok(())
 }
 
+/// Puts the line of one student, by name and marks.
 fn put_student(out: &mut Vec<u8>, name: &str, marks: &Marks) -> Result<(), Memory>
     ensures { OnOk result (out.new.items ≡ out.old.items ++ student_line name.now marks.now) }
 {
@@ -81,6 +83,7 @@ fn put_student(out: &mut Vec<u8>, name: &str, marks: &Marks) -> Result<(), Memor
     put(out, &[Piece::Text("\n")])
 }
 
+/// Puts what a run tells of a student, as numbers.
 fn put_marks(out: &mut Vec<u8>, marks: &Marks) -> Result<(), Memory>
     ensures { OnOk result (out.new.items ≡ out.old.items ++ marks_text marks.now) }
 {
@@ -92,6 +95,7 @@ fn put_marks(out: &mut Vec<u8>, marks: &Marks) -> Result<(), Memory>
     put_numbers(out, &[marks.shared])
 }
 
+/// Puts how many moves there are of each rule, in the order of the rules.
 fn put_rules(out: &mut Vec<u8>, counts: &ByRule) -> Result<(), Memory>
     ensures { OnOk result (out.new.items ≡ out.old.items ++ rules_text counts.now) }
 {
@@ -104,6 +108,7 @@ fn put_rules(out: &mut Vec<u8>, counts: &ByRule) -> Result<(), Memory>
     put_numbers(out, &numbers)
 }
 
+/// Puts a place, or - where there is none.
 fn put_place(out: &mut Vec<u8>, place: Option<u64>) -> Result<(), Memory>
     ensures { OnOk result (out.new.items ≡ out.old.items ++ place_text place) }
 {
@@ -113,6 +118,7 @@ fn put_place(out: &mut Vec<u8>, place: Option<u64>) -> Result<(), Memory>
     }
 }
 
+/// Puts each number, with a space before it.
 pub(crate) fn put_numbers(out: &mut Vec<u8>, numbers: &[u64]) -> Result<(), Memory>
     ensures { OnOk result (out.new.items ≡ out.old.items ++ numbers_text numbers.now) }
 {
@@ -122,6 +128,7 @@ pub(crate) fn put_numbers(out: &mut Vec<u8>, numbers: &[u64]) -> Result<(), Memo
     Ok(())
 }
 
+/// Puts a line for each node that several own: the moves that each owner was granted there.
 fn put_nodes(out: &mut Vec<u8>, alloc: Global, lab: &Lab, all: &[Move]) -> Result<(), Memory>
     ensures { OnOk result ((es : List Event) → all.now ≡ moves es →
         out.new.items ≡ out.old.items ++ nodes_text lab.now es (length lab.now.ids)) }
@@ -135,6 +142,7 @@ fn put_nodes(out: &mut Vec<u8>, alloc: Global, lab: &Lab, all: &[Move]) -> Resul
     Ok(())
 }
 
+/// Puts the line of one node: the moves that each owner was granted there.
 fn put_node(
     out: &mut Vec<u8>,
     alloc: Global,
@@ -153,6 +161,7 @@ fn put_node(
     put(out, &[Piece::Text("\n")])
 }
 
+/// Puts the owners of a node, each with the moves that they were granted there.
 fn put_owners(
     out: &mut Vec<u8>,
     alloc: Global,
@@ -172,6 +181,7 @@ fn put_owners(
     Ok(())
 }
 
+/// Puts the name of an owner, with how many moves there are of each rule.
 pub(crate) fn put_owner(out: &mut Vec<u8>, name: &str, counts: &ByRule) -> Result<(), Memory>
     ensures { OnOk result (out.new.items ≡ out.old.items ++ owner_text name.now counts.now) }
 {
@@ -179,6 +189,7 @@ pub(crate) fn put_owner(out: &mut Vec<u8>, name: &str, counts: &ByRule) -> Resul
     put_rules(out, counts)
 }
 
+/// Puts the line of the most that may follow.
 fn put_bounds(out: &mut Vec<u8>, bounds: &Bounds) -> Result<(), Memory>
     ensures { OnOk result (out.new.items ≡ out.old.items ++ bounds_line bounds.now) }
 {
@@ -187,6 +198,7 @@ fn put_bounds(out: &mut Vec<u8>, bounds: &Bounds) -> Result<(), Memory>
     put(out, &[Piece::Text("\n")])
 }
 
+/// Puts the line of the run: events, configuration, whether it is stable, and its counts.
 fn put_run(out: &mut Vec<u8>, board: &Board, run: &Run) -> Result<(), Memory>
     ensures { OnOk result (out.new.items ≡ out.old.items ++ run_line board.now run.now) }
 {
@@ -206,6 +218,7 @@ fn put_run(out: &mut Vec<u8>, board: &Board, run: &Run) -> Result<(), Memory>
     put(out, &[Piece::Text("\n")])
 }
 
+/// The word for a configuration without privileged nodes, or for one with some.
 fn stable_text(board: &Board) -> &'static str
     ensures { result.now ≡ stable_text (privileged_count (configuration board.now) == 0) }
 {

@@ -1,6 +1,6 @@
 use Rattle.std.proofs.Common.{◌≡◌, ◌+◌, ◌≤◌, drop}
 use Rattle.mml_tally.specs.inside.Closes.{count_new}
-use Rattle.mml_tally.proofs.marks.count_closes.Given as goal
+use Rattle.mml_tally.proofs.marks.count_applying_closes.Given as goal
 
 abbrev pub invariant-loop-granted : goal.invariant-loop-granted
 invariant-loop-granted l = record {
