@@ -56,67 +56,45 @@ module _ (c : Configuration) (chosen : ℕ → Option Rule) (l : IsLawful c) (h 
   seducing : (i : ℕ) → (e : chosen i ≡ Some Rule.Seduction) → Seduces c i (seduced c i (h i Rule.Seduction e)).0
   seducing i e = let some = seduced c i (h i Rule.Seduction e) in seduces c i some.0 (h i Rule.Seduction e) some.1
 
+  wed_after : (i : ℕ) → is_married c i ≡ true → node_part next i ≡ cond (next.m i) 0 1
+  wed_after i a = wed_part next i (step-married c chosen l h i a)
+
   pub wed_pays : (i : ℕ) (o : Option Rule) → chosen i ≡ o → is_married c i ≡ true → node_part next i + cond (is_some o) 1 0 ≤ node_part c i
-  wed_pays i o e a = go o e
-    where
-      before : node_part c i ≡ cond (c.m i) 0 1
-      before = wed_part c i a
-
-      after : node_part next i ≡ cond (next.m i) 0 1
-      after = wed_part next i (step-married c chosen l h i a)
-
-      go : (o : Option Rule) → chosen i ≡ o → node_part next i + cond (is_some o) 1 0 ≤ node_part c i
-      go None e = grind (arith, before, after, m_after i None e)
-      go (Some Rule.Update) e = grind (arith, before, after, a, updates c i (h i Rule.Update e), m_after i (Some Rule.Update) e)
-      go (Some (Rule.Marriage j)) e = absurd (both_ways (is_married c i) (married-null c i (marries c i j (h i (Rule.Marriage j) e)).null) a)
-      go (Some Rule.Seduction) e = absurd (both_ways (is_married c i) (married-null c i (seducing i e).null) a)
-      go (Some Rule.Abandonment) e =
-          let some = abandoned c i (h i Rule.Abandonment e) in
-          let g = abandons c i some.0 (h i Rule.Abandonment e) some.1 in
-          absurd (both_ways (is_married c i) (married-at c i some.0 l some.1 ∙ g.unanswered) a)
+  wed_pays i None e a = grind (arith, wed_part c i a, wed_after i a, m_after i None e)
+  wed_pays i (Some Rule.Update) e a = grind (arith, wed_part c i a, wed_after i a, a, updates c i (h i Rule.Update e), m_after i (Some Rule.Update) e)
+  wed_pays i (Some (Rule.Marriage j)) e a = absurd (both_ways (is_married c i) (married-null c i (marries c i j (h i (Rule.Marriage j) e)).null) a)
+  wed_pays i (Some Rule.Seduction) e a = absurd (both_ways (is_married c i) (married-null c i (seducing i e).null) a)
+  wed_pays i (Some Rule.Abandonment) e a =
+      let some = abandoned c i (h i Rule.Abandonment e) in
+      let g = abandons c i some.0 (h i Rule.Abandonment e) some.1 in
+      absurd (both_ways (is_married c i) (married-at c i some.0 l some.1 ∙ g.unanswered) a)
 
   -- ---- a node that is newly married
 
   pub newly_pays : (i : ℕ) (o : Option Rule) → chosen i ≡ o → is_married c i ≡ false → is_married next i ≡ true
       → node_part next i + cond (is_some o) 1 0 ≤ node_part c i + 1
-  newly_pays i o e a b = go o e
-    where
-      before : node_part c i ≡ cond (c.m i) 1 0 + pointer_part c i
-      before = free_part c i a
-
-      after : node_part next i ≡ cond (next.m i) 0 1
-      after = wed_part next i b
-
-      go : (o : Option Rule) → chosen i ≡ o → node_part next i + cond (is_some o) 1 0 ≤ node_part c i + 1
-      go None e = grind (arith, before, after)
-      go (Some Rule.Update) e = grind (arith, before, after, a, updates c i (h i Rule.Update e))
-      go (Some (Rule.Marriage j)) e = grind (arith, before, after, null_part c i (marries c i j (h i (Rule.Marriage j) e)).null)
-      go (Some Rule.Seduction) e = grind (arith, before, after, null_part c i (seducing i e).null)
-      go (Some Rule.Abandonment) e = absurd (both_ways (is_married next i) (married-null next i (p_after i (Some Rule.Abandonment) e)) b)
+  newly_pays i None e a b = grind (arith, free_part c i a, wed_part next i b)
+  newly_pays i (Some Rule.Update) e a b = grind (arith, free_part c i a, wed_part next i b, a, updates c i (h i Rule.Update e))
+  newly_pays i (Some (Rule.Marriage j)) e a b =
+      grind (arith, free_part c i a, wed_part next i b, null_part c i (marries c i j (h i (Rule.Marriage j) e)).null)
+  newly_pays i (Some Rule.Seduction) e a b = grind (arith, free_part c i a, wed_part next i b, null_part c i (seducing i e).null)
+  newly_pays i (Some Rule.Abandonment) e a b = absurd (both_ways (is_married next i) (married-null next i (p_after i (Some Rule.Abandonment) e)) b)
 
   -- ---- a node that isn't married after the step
 
   pub free_pays : (i : ℕ) (o : Option Rule) → chosen i ≡ o → is_married c i ≡ false → is_married next i ≡ false
       → node_part next i + cond (is_some o) 1 0 ≤ node_part c i + 2
-  free_pays i o e a b = go o e
-    where
-      before : node_part c i ≡ cond (c.m i) 1 0 + pointer_part c i
-      before = free_part c i a
-
-      after : node_part next i ≡ cond (next.m i) 1 0 + pointer_part next i
-      after = free_part next i b
-
-      small : pointer_part next i ≤ 2
-      small = pointer_most next i
-
-      go : (o : Option Rule) → chosen i ≡ o → node_part next i + cond (is_some o) 1 0 ≤ node_part c i + 2
-      go None e = grind (arith, before, after, small, m_after i None e)
-      go (Some Rule.Update) e = grind (arith, before, after, small, a, updates c i (h i Rule.Update e), m_after i (Some Rule.Update) e)
-      go (Some (Rule.Marriage j)) e =
-          grind (arith, before, after, small, null_part c i (marries c i j (h i (Rule.Marriage j) e)).null, m_after i (Some (Rule.Marriage j)) e)
-      go (Some Rule.Seduction) e = grind (arith, before, after, small, null_part c i (seducing i e).null, m_after i (Some Rule.Seduction) e)
-      go (Some Rule.Abandonment) e =
-          grind (arith, before, after, null_part next i (p_after i (Some Rule.Abandonment) e), m_after i (Some Rule.Abandonment) e)
+  free_pays i None e a b = grind (arith, free_part c i a, free_part next i b, pointer_most next i, m_after i None e)
+  free_pays i (Some Rule.Update) e a b =
+      grind (arith, free_part c i a, free_part next i b, pointer_most next i, a, updates c i (h i Rule.Update e), m_after i (Some Rule.Update) e)
+  free_pays i (Some (Rule.Marriage j)) e a b =
+      let null = null_part c i (marries c i j (h i (Rule.Marriage j) e)).null in
+      grind (arith, free_part c i a, free_part next i b, pointer_most next i, null, m_after i (Some (Rule.Marriage j)) e)
+  free_pays i (Some Rule.Seduction) e a b =
+      grind (arith, free_part c i a, free_part next i b, pointer_most next i, null_part c i (seducing i e).null, m_after i (Some Rule.Seduction) e)
+  free_pays i (Some Rule.Abandonment) e a b =
+      let null = null_part next i (p_after i (Some Rule.Abandonment) e) in
+      grind (arith, free_part c i a, free_part next i b, null, m_after i (Some Rule.Abandonment) e)
 
   -- ---- where no node is newly married
 
@@ -127,6 +105,9 @@ module _ (c : Configuration) (chosen : ℕ → Option Rule) (l : IsLawful c) (h 
     stays_off : (j : ℕ) → is_married c j ≡ false → c.m j ≡ false → next.m j ≡ false
     stays_off j a off = elim (moved-m c j (chosen j) (h j)) [ inl same ↦ same ∙ off | inr changed ↦ changed.0 ∙ a ]
 
+    after_free : (i : ℕ) → is_married c i ≡ false → node_part next i ≡ cond (next.m i) 1 0 + pointer_part next i
+    after_free i a = free_part next i (stays_free i a)
+
     -- who points at such a node courts it after the step
     courts_then : (i j : ℕ) → next.p i ≡ Some j → i < j → is_married c j ≡ false → c.m j ≡ false → pointer_part next i ≡ 0
     courts_then i j e lt a off = court next i j e lt (stays_off j a off) (stays_free j a)
@@ -136,47 +117,38 @@ module _ (c : Configuration) (chosen : ℕ → Option Rule) (l : IsLawful c) (h 
     pointer_kept i same = grind (arith, nat_tests, null_part, courts_then, vain_part, pointer_most)
 
     calm_free : (i : ℕ) (o : Option Rule) → chosen i ≡ o → is_married c i ≡ false → node_part next i + cond (is_some o) 1 0 ≤ node_part c i
-    calm_free i o e a = go o e
-      where
-        before : node_part c i ≡ cond (c.m i) 1 0 + pointer_part c i
-        before = free_part c i a
-
-        after : node_part next i ≡ cond (next.m i) 1 0 + pointer_part next i
-        after = free_part next i (stays_free i a)
-
-        go : (o : Option Rule) → chosen i ≡ o → node_part next i + cond (is_some o) 1 0 ≤ node_part c i
-        go None e = grind (arith, before, after, m_after i None e, pointer_kept i (p_after i None e))
-        go (Some Rule.Update) e =
-            let kept = pointer_kept i (p_after i (Some Rule.Update) e) in
-            grind (arith, before, after, a, updates c i (h i Rule.Update e), m_after i (Some Rule.Update) e, kept)
-        go (Some (Rule.Marriage j)) e =
-            let g = marries c i j (h i (Rule.Marriage j) e) in
-            let null = null_part c i g.null in
-            let to : next.p i ≡ Some j = p_after i (Some (Rule.Marriage j)) e in
-            let gone : holds (next.p j) i ≡ false = false_from_ne_true (holds (next.p j) i) (λ back.
-            both_ways (is_married next i) (stays_free i a) (married-from next i j lawful to (holds-true (next.p j) i back))) in
-            let left = drops c j i (chosen j) (h j) g.suitor gone in
-            let alone : is_married c j ≡ false = married-at c j i l g.suitor ∙ ap (λ o. holds o j) g.null in
-            let lt : i < j = elim left.0.vain [ inl m ↦ absurd (both_ways (c.m i) (g.right ∙ a) m) | inr lt ↦ lt ] in
-            let court = courts_then i j to lt alone (left.0.right ∙ alone) in
-            grind (arith, before, after, null, court, m_after i (Some (Rule.Marriage j)) e ∙ g.right ∙ a)
-        go (Some Rule.Seduction) e =
-            let g = seducing i e in
-            let to = p_after i (Some Rule.Seduction) e ∙ (seduced c i (h i Rule.Seduction e)).1 in
-            grind (arith, before, after, null_part c i g.null, courts_then i _ to g.higher (married-null c _ g.free) g.m, m_after i (Some Rule.Seduction) e ∙ g.right ∙ a)
-        go (Some Rule.Abandonment) e =
-            let some = abandoned c i (h i Rule.Abandonment e) in
-            let j = some.0 in
-            let g = abandons c i j (h i Rule.Abandonment e) some.1 in
-            let vain : nat_lt i j && (not (c.m j) && not (is_married c j)) ≡ false = false_from_ne_true _ (λ on.
-            let x = and_parts (nat_lt i j) (not (c.m j) && not (is_married c j)) on in
-            elim g.vain [
-              | inl m ↦ both_ways (c.m j) (not-true _ (and_parts (not (c.m j)) (not (is_married c j)) x.1).0) m
-              | inr lt ↦ let gt = ltb-true i j x.0 in omega (arith, lt, gt)
-            ]) in
-            let two = vain_part c i j some.1 vain in
-            let null = null_part next i (p_after i (Some Rule.Abandonment) e) in
-            grind (arith, before, after, two, null, m_after i (Some Rule.Abandonment) e)
+    calm_free i None e a = grind (arith, free_part c i a, after_free i a, m_after i None e, pointer_kept i (p_after i None e))
+    calm_free i (Some Rule.Update) e a =
+        let kept = pointer_kept i (p_after i (Some Rule.Update) e) in
+        grind (arith, free_part c i a, after_free i a, a, updates c i (h i Rule.Update e), m_after i (Some Rule.Update) e, kept)
+    calm_free i (Some (Rule.Marriage j)) e a =
+        let g = marries c i j (h i (Rule.Marriage j) e) in
+        let null = null_part c i g.null in
+        let to : next.p i ≡ Some j = p_after i (Some (Rule.Marriage j)) e in
+        let gone : holds (next.p j) i ≡ false = false_from_ne_true (holds (next.p j) i) (λ back.
+        both_ways (is_married next i) (stays_free i a) (married-from next i j lawful to (holds-true (next.p j) i back))) in
+        let left = drops c j i (chosen j) (h j) g.suitor gone in
+        let alone : is_married c j ≡ false = married-at c j i l g.suitor ∙ ap (λ o. holds o j) g.null in
+        let lt : i < j = elim left.0.vain [ inl m ↦ absurd (both_ways (c.m i) (g.right ∙ a) m) | inr lt ↦ lt ] in
+        let court = courts_then i j to lt alone (left.0.right ∙ alone) in
+        grind (arith, free_part c i a, after_free i a, null, court, m_after i (Some (Rule.Marriage j)) e ∙ g.right ∙ a)
+    calm_free i (Some Rule.Seduction) e a =
+        let g = seducing i e in
+        let to = p_after i (Some Rule.Seduction) e ∙ (seduced c i (h i Rule.Seduction e)).1 in
+        grind (arith, free_part c i a, after_free i a, null_part c i g.null, courts_then i _ to g.higher (married-null c _ g.free) g.m, m_after i (Some Rule.Seduction) e ∙ g.right ∙ a)
+    calm_free i (Some Rule.Abandonment) e a =
+        let some = abandoned c i (h i Rule.Abandonment e) in
+        let j = some.0 in
+        let g = abandons c i j (h i Rule.Abandonment e) some.1 in
+        let vain : nat_lt i j && (not (c.m j) && not (is_married c j)) ≡ false = false_from_ne_true _ (λ on.
+        let x = and_parts (nat_lt i j) (not (c.m j) && not (is_married c j)) on in
+        elim g.vain [
+          | inl m ↦ both_ways (c.m j) (not-true _ (and_parts (not (c.m j)) (not (is_married c j)) x.1).0) m
+          | inr lt ↦ let gt = ltb-true i j x.0 in omega (arith, lt, gt)
+        ]) in
+        let two = vain_part c i j some.1 vain in
+        let null = null_part next i (p_after i (Some Rule.Abandonment) e) in
+        grind (arith, free_part c i a, after_free i a, two, null, m_after i (Some Rule.Abandonment) e)
 
     -- each node pays for its own move
     pub calm_pays : (i : ℕ) → node_part next i + cond (is_some (chosen i)) 1 0 ≤ node_part c i
