@@ -244,6 +244,22 @@ module _ (n : ℕ) (low : ℕ → Bool) (r b : ℕ) (sum : r + b + 1 ≡ n) (roo
       at_b f (inl null) = cc
       at_b f (inr to) = let same = some_same r i (sym to ∙ f) in both_ways (low i) high (subst (λ z. low z ≡ true) same (low_r s))
 
+  -- once b is courted, whoever isn't b is idle, if those who court b are
+  others_idle : (c : Configuration) → Shape n low c → Couples n r c → Between r b low true (Some b) c → Between r b low false None c
+      → ((c.p b ≡ None) ⊎ (c.p b ≡ Some r)) → (i : ℕ) → i < c.size → (i ≡ b → ⊥)
+      → (i < b → (c.p i ≡ Some b) × (c.m i ≡ false) → is_privileged c i ≡ false) → is_privileged c i ≡ false
+  others_idle c s couples courting rest bride i lt other courter = elim (class n r i (omega (arith, lt, s.size))) [
+    | inl x ↦ couple_idle n r low c s couples i x.0 x.1 x.2
+    | inr x ↦
+        let below : i < b = omega (arith, x, other, sum) in
+        elim (cases_Bool (low i)) [
+          | inl on ↦ courter below (courting i x.0 below on)
+          | inr high ↦
+              let y = rest i x.0 below high in
+              high_idle n low c s i high y.0 y.1 (λ j. nobody c s couples courting rest bride i j x.0 below high)
+        ]
+  ]
+
   -- ---- the step from Courted
 
   pub marriage_holds : (c : Configuration) → Courted c → (i : ℕ) → i < c.size → marries_now i ≡ true → guard c i (Rule.Marriage r) ≡ true
@@ -255,23 +271,9 @@ module _ (n : ℕ) (low : ℕ → Bool) (r b : ℕ) (sum : r + b + 1 ≡ n) (roo
           may_marry c k.shape.lawful b r k.bride.0 k.bride.1 (k.shape.joined r b r sum room (omega arith) (omega (arith, room, sum)) (low_r k.shape)).1 y.0
 
   pub courted_others : (c : Configuration) → Courted c → (i : ℕ) → i < c.size → marries_now i ≡ false → is_privileged c i ≡ false
-  courted_others c k i lt off = elim (class n r i (omega (arith, lt, k.shape.size))) [
-    | inl x ↦ couple_idle n r low c k.shape k.couples i x.0 x.1 x.2
-    | inr x ↦
-        let below : i < b = other x (cases_eq i b) in
-        elim (cases_Bool (low i)) [
-          | inl on ↦
-              let y = k.courting i x.0 below on in
-              waiting c k.shape.lawful i b y.0 (ap (λ o. holds o i) k.bride.0) y.1 k.bride.1 below
-          | inr high ↦
-              let y = k.rest i x.0 below high in
-              high_idle n low c k.shape i high y.0 y.1 (λ j. nobody c k.shape k.couples k.courting k.rest (inl k.bride.0) i j x.0 below high)
-        ]
-  ]
-    where
-      other : (r ≤ i) × (i + r < n) → (i ≡ b) ⊎ (i ≡ b → ⊥) → i < b
-      other x (inl e) = absurd (both_ways (marries_now i) off (eq-eqb i b e))
-      other x (inr ne) = omega (arith, x, ne, sum)
+  courted_others c k i lt off =
+      others_idle c k.shape k.couples k.courting k.rest (inl k.bride.0) i lt (λ e. both_ways (marries_now i) off (eq-eqb i b e))
+      (λ below y. waiting c k.shape.lawful i b y.0 (ap (λ o. holds o i) k.bride.0) y.1 k.bride.1 below)
 
   not_b : (i : ℕ) → i < b → marries_now i ≡ false
   not_b i below = ne_eqb i b (λ same. omega (arith, same, below))
@@ -312,24 +314,10 @@ module _ (n : ℕ) (low : ℕ → Bool) (r b : ℕ) (sum : r + b + 1 ≡ n) (roo
   unequal i off (inr e) = both_ways (learns i) off (or_right (i == b) (i == r) (eq-eqb i r e))
 
   pub engaged_others : (c : Configuration) → Engaged c → (i : ℕ) → i < c.size → learns i ≡ false → is_privileged c i ≡ false
-  engaged_others c k i lt off = elim (class n r i (omega (arith, lt, k.shape.size))) [
-    | inl x ↦ couple_idle n r low c k.shape k.couples i x.0 x.1 x.2
-    | inr x ↦
-        let below : i < b = other x (cases_eq i b) in
-        elim (cases_Bool (low i)) [
-          | inl on ↦
-              let y = k.courting i x.0 below on in
-              let gone : holds (c.p b) i ≡ false = ap (λ o. holds o i) k.bride.0 ∙ ne_eqb r i (λ e. unequal i off (inr (sym e))) in
-              waiting c k.shape.lawful i b y.0 gone y.1 k.bride.1 below
-          | inr high ↦
-              let y = k.rest i x.0 below high in
-              high_idle n low c k.shape i high y.0 y.1 (λ j. nobody c k.shape k.couples k.courting k.rest (inr k.bride.0) i j x.0 below high)
-        ]
-  ]
-    where
-      other : (r ≤ i) × (i + r < n) → (i ≡ b) ⊎ (i ≡ b → ⊥) → i < b
-      other x (inl e) = absurd (unequal i off (inl e))
-      other x (inr ne) = omega (arith, x, ne, sum)
+  engaged_others c k i lt off =
+      let gone : holds (c.p b) i ≡ false = ap (λ o. holds o i) k.bride.0 ∙ ne_eqb r i (λ e. unequal i off (inr (sym e))) in
+      others_idle c k.shape k.couples k.courting k.rest (inr k.bride.0) i lt (λ e. unequal i off (inl e))
+      (λ below y. waiting c k.shape.lawful i b y.0 gone y.1 k.bride.1 below)
 
   learns_not : (i : ℕ) → (i ≡ b → ⊥) → (i ≡ r → ⊥) → learns i ≡ false
   learns_not i x y = or_from (i == b) (i == r) (ne_eqb i b x) (ne_eqb i r y)
