@@ -9,6 +9,7 @@ use Rattle.mml_board.specs.World.{World, opening_of}
 abbrev pub joins_halves : ℕ → ℕ → ℕ → Bool
 joins_halves n i j = nat_lt (2 * i) n && (nat_le n (2 * j) && (nat_lt j n && nat_le n (i + j + 1)))
 
+-- the two are in different halves, and close enough
 abbrev pub is_joined : ℕ → ℕ → ℕ → Bool
 is_joined n i j = joins_halves n i j || joins_halves n j i
 

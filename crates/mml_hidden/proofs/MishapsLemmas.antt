@@ -1,14 +1,14 @@
 -- Scripts whose turns may meet mishaps, the same in both runs.
 use Rattle.std.proofs.Common.{◌≡◌, ℕ, Bool, true, false, List, [], ◌∷◌, ◌++◌, refl, sym, ap, ◌∙◌, arith}
-use Rattle.mml_lab.specs.Labs.{LabValue, IsLab}
-use Rattle.mml_board.specs.World.{opening_of}
+use Rattle.mml_lab.specs.Labs.{LabValue}
 use Rattle.mml_policy.specs.Alike.{Alike}
 use Rattle.mml_codec.specs.declared.reply.Reply.{Reply}
 use Rattle.mml_hall.specs.Turns.{State, Outcome, Run, RequestLine, known_on, opening}
 use Rattle.mml_hall.specs.Transcripts.{Transcript, output_line}
 use Rattle.mml_hidden.specs.Twins.{AreTwins, StatesAlike, is_hers}
-use Rattle.mml_hidden.specs.Mishaps.{BefallenLine, turn_with, lines_in, replies_with, end_with, StayAlikeWith, written_on_any, AreHersThroughout, Befalls}
-use Rattle.mml_hidden.specs.Mishaps.{Befell}
+use Rattle.mml_hidden.specs.Mishaps.{BefallenLine, turn_with, lines_in, replies_with, end_with, StayAlikeWith, AreHersThroughout, Befalls}
+use Rattle.mml_hidden.specs.Mishaps.{RunAlikeWith}
+use Rattle.mml_hidden.specs.Scripted.{written_on_any}
 use Rattle.mml_hidden.proofs.TwinsLemmas.{twin_next, twin_line}
 use Rattle.mml_hidden.proofs.ScriptedLemmas.{if_same, openings_alike}
 use Rattle.std.proofs.lemmas.Bool.Decides.{nat_tests}
@@ -65,11 +65,9 @@ run_befalls lab st (line ∷ lines) (r ∷ rs) end (next, (m, e), run) =
 
 -- the same lines and mishaps have the same output on the student's connections, while the worlds stay alike
 pub same_transcripts_with : (lab other : LabValue) (s : ℕ) (some : ℕ → Bool) (t : Transcript lab) (u : Transcript other) (bs : List BefallenLine)
-    → AreTwins lab other → IsLab lab → IsLab other
-    → Alike lab.roster s (opening_of lab.network) (opening_of other.network) → Befell lab t bs → Befell other u bs
-    → StayAlikeWith lab other s (opening lab) (opening other) bs → AreHersThroughout lab s some (opening lab) bs
+    → RunAlikeWith lab other s some t u bs
     → written_on_any lab some t.lines t.replies ≡ written_on_any other some u.lines u.replies
-same_transcripts_with lab other s some t u bs twins is other_is a here there stay hers =
-    (λ z. written_on_any lab some (sym here.lines_are z) (here.replies_are z))
-    ∙ same_written_with lab other twins s (opening lab) (opening other) some bs (openings_alike lab other s twins is other_is a) stay hers
-    ∙ (λ z. written_on_any other some (there.lines_are z) (sym there.replies_are z))
+same_transcripts_with lab other s some t u bs alike =
+    (λ z. written_on_any lab some (sym alike.first.lines_are z) (alike.first.replies_are z))
+    ∙ same_written_with lab other alike.labs.twins s (opening lab) (opening other) some bs (openings_alike lab other s alike.labs) alike.worlds alike.hers
+    ∙ (λ z. written_on_any other some (alike.second.lines_are z) (sym alike.second.replies_are z))

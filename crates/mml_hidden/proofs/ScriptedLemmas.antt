@@ -1,14 +1,13 @@
 -- Scripts in two labs between which a student can't tell.
-use Rattle.std.proofs.Common.{◌≡◌, ◌≢◌, ℕ, ◌-◌, ◌==◌, Bool, true, false, cond, List, [], ◌∷◌, ◌++◌, Option, None, Result, Ok, All, refl, sym, ap, ◌∙◌, subst}
+use Rattle.std.proofs.Common.{◌≡◌, ◌≢◌, ℕ, ◌-◌, ◌==◌, Bool, true, false, cond, List, [], ◌∷◌, ◌++◌, Option, None, Result, Ok, All, refl, sym, ap, ◌∙◌}
 use Rattle.std.specs.List.{concat}
 use Rattle.std.specs.Prelude.{slice_index_or, decimal}
-use Rattle.std.proofs.lemmas.Bool.{eqb-true, cases_lt}
+use Rattle.std.proofs.lemmas.Bool.{cases_lt}
 use Rattle.std.proofs.lemmas.List.Elements.{All-set, All-replicate}
 use Rattle.std.proofs.lemmas.List.{get_or_past}
 use Rattle.mml_lab.specs.declared.who.Who.{Who}
-use Rattle.mml_lab.specs.Labs.{LabValue, IsLab}
+use Rattle.mml_lab.specs.Labs.{LabValue}
 use Rattle.mml_lab.specs.Rosters.{principal}
-use Rattle.mml_board.specs.World.{opening_of}
 use Rattle.mml_policy.specs.Alike.{Alike}
 use Rattle.mml_codec.specs.declared.request.LineFault.{LineFault}
 use Rattle.mml_codec.specs.declared.request.Request.{Request}
@@ -22,9 +21,9 @@ use Rattle.mml_hall.specs.Turns.{State, Outcome, Turn, Run, RequestLine, nothing
 use Rattle.mml_hall.proofs.TurnsLemmas.{by_turn}
 use Rattle.mml_hall.specs.Transcripts.{Transcript, output_line, output_lines, bytes_written}
 use Rattle.mml_audit.proofs.AuditMeaningLemmas.{reached_first}
-use Rattle.mml_hidden.specs.Twins.{AreTwins, StatesAlike, is_hers}
+use Rattle.mml_hidden.specs.Twins.{AreTwins, BeginAlike, StatesAlike, is_hers}
 use Rattle.mml_hidden.specs.Scripted.{turn_of, replies_to, end_of, written_to, StayAlike, written_on, IsHersThroughout, OnlySheGreets, OnlySheIsKnown}
-use Rattle.mml_hidden.specs.Scripted.{AreUnhindered}
+use Rattle.mml_hidden.specs.Scripted.{AreUnhindered, RunAlike}
 use Rattle.mml_hidden.proofs.TwinsLemmas.{twin_turn, twin_line, twin_next, twin_halted, entered_is}
 use Rattle.std.proofs.lemmas.Bool.Decides.{nat_tests}
 use Rattle.std.proofs.Common.{arith}
@@ -66,16 +65,10 @@ module _ (lab other : LabValue) (t : AreTwins lab other) (s : ℕ) where
       → written_on lab k lines (replies_to lab st lines) ≡ written_on other k lines (replies_to other su lines)
   same_written_on st su k [] a stay hers = refl
   same_written_on st su k (line ∷ lines) a stay hers =
-      let first = if_same (line.connection == k) (output_line lab k (turn_of lab st line).reply ∷ []) (output_line other k (turn_of other su line).reply ∷ [])
-      (λ h. ap (λ (x : List ℕ). x ∷ []) (on_hers st su a k line (eqb-true line.connection k h) (hers.0 h))) in
+      let first = if_same (line.connection == k) (output_line lab line.connection (turn_of lab st line).reply ∷ []) (output_line other line.connection (turn_of other su line).reply ∷ [])
+      (λ h. ap (λ (x : List ℕ). x ∷ []) (same_output st su a line (hers.0 h))) in
       let rest = same_written_on (turn_of lab st line).state (turn_of other su line).state k lines (next_alike st su a line stay.0) stay.1 hers.1 in
       λ z. first z ++ rest z
-    where
-      on_hers : (x y : State) → StatesAlike lab s x y → (k : ℕ) (line : RequestLine) → line.connection ≡ k → is_hers s (known_on x k) ≡ true
-          → output_line lab k (turn_of lab x line).reply ≡ output_line other k (turn_of other y line).reply
-      on_hers x y b k line e h =
-          subst (λ (n : ℕ). output_line lab n (turn_of lab x line).reply ≡ output_line other n (turn_of other y line).reply) e
-          (same_output x y b line (subst (λ (n : ℕ). is_hers s (known_on x n) ≡ true) (sym e) h))
 
 -- ---- where she alone is known
 
@@ -132,10 +125,8 @@ module _ (lab other : LabValue) (t : AreTwins lab other) (s : ℕ) where
 -- ---- at the beginning
 
 -- halls of twin labs, whose networks are alike for the student, begin alike
-pub openings_alike : (lab other : LabValue) (s : ℕ) → AreTwins lab other → IsLab lab → IsLab other
-    → Alike lab.roster s (opening_of lab.network) (opening_of other.network)
-    → StatesAlike lab s (opening lab) (opening other)
-openings_alike lab other s t is other_is a = grind (arith, nat_tests, reached_first)
+pub openings_alike : (lab other : LabValue) (s : ℕ) → BeginAlike lab other s → StatesAlike lab s (opening lab) (opening other)
+openings_alike lab other s labs = grind (arith, nat_tests, reached_first)
 
 -- at the beginning nobody but the student is known, since nobody is
 pub opening_hers : (lab : LabValue) (s : ℕ) → OnlySheIsKnown s (opening lab)
@@ -157,23 +148,20 @@ plain_run lab st (line ∷ lines) [] end run free = absurd run
 plain_run lab st (line ∷ lines) (r ∷ rs) end (next, here, run) (now, free) = grind (arith, nat_tests, plain_there, (plain_run lab next lines rs end run free))
 
 -- where only the student greets, the same lines are answered by the same bytes in both labs
-pub same_transcripts : (lab other : LabValue) (s : ℕ) (t : Transcript lab) (u : Transcript other) → AreTwins lab other → IsLab lab → IsLab other
-    → Alike lab.roster s (opening_of lab.network) (opening_of other.network) → u.lines ≡ t.lines → OnlySheGreets lab s t.lines → AreUnhindered t.replies
-    → AreUnhindered u.replies
+pub same_transcripts : (lab other : LabValue) (s : ℕ) (t : Transcript lab) (u : Transcript other) → BeginAlike lab other s → u.lines ≡ t.lines
+    → OnlySheGreets lab s t.lines → AreUnhindered t.replies → AreUnhindered u.replies
     → bytes_written t ≡ bytes_written u
-same_transcripts lab other s t u twins is other_is a lines greets free other_free =
+same_transcripts lab other s t u labs lines greets free other_free =
     ap (λ (rs : List Reply). concat (output_lines lab t.lines rs)) (plain_run lab (opening lab) t.lines t.replies t.end t.run free).0
-    ∙ same_bytes lab other twins s (opening lab) (opening other) t.lines (openings_alike lab other s twins is other_is a) (opening_hers lab s) greets
+    ∙ same_bytes lab other labs.twins s (opening lab) (opening other) t.lines (openings_alike lab other s labs) (opening_hers lab s) greets
     ∙ ap (λ (ls : List RequestLine). concat (output_lines other ls (replies_to other (opening other) ls))) (sym lines)
     ∙ ap (λ (rs : List Reply). concat (output_lines other u.lines rs)) (sym (plain_run other (opening other) u.lines u.replies u.end u.run other_free).0)
 
 -- on a connection of the student, the same lines have the same output while the worlds stay alike
-pub same_on_connection : (lab other : LabValue) (s k : ℕ) (t : Transcript lab) (u : Transcript other) → AreTwins lab other → IsLab lab → IsLab other
-    → Alike lab.roster s (opening_of lab.network) (opening_of other.network) → u.lines ≡ t.lines → StayAlike lab other s (opening lab) (opening other) t.lines
-    → IsHersThroughout lab s k (opening lab) t.lines → AreUnhindered t.replies → AreUnhindered u.replies
+pub same_on_connection : (lab other : LabValue) (s k : ℕ) (t : Transcript lab) (u : Transcript other) → RunAlike lab other s k t u
     → written_on lab k t.lines t.replies ≡ written_on other k u.lines u.replies
-same_on_connection lab other s k t u twins is other_is a lines stay hers free other_free =
-    ap (λ (rs : List Reply). written_on lab k t.lines rs) (plain_run lab (opening lab) t.lines t.replies t.end t.run free).0
-    ∙ same_written_on lab other twins s (opening lab) (opening other) k t.lines (openings_alike lab other s twins is other_is a) stay hers
-    ∙ ap (λ (ls : List RequestLine). written_on other k ls (replies_to other (opening other) ls)) (sym lines)
-    ∙ ap (λ (rs : List Reply). written_on other k u.lines rs) (sym (plain_run other (opening other) u.lines u.replies u.end u.run other_free).0)
+same_on_connection lab other s k t u alike =
+    ap (λ (rs : List Reply). written_on lab k t.lines rs) (plain_run lab (opening lab) t.lines t.replies t.end t.run alike.first).0
+    ∙ same_written_on lab other alike.labs.twins s (opening lab) (opening other) k t.lines (openings_alike lab other s alike.labs) alike.worlds alike.hers
+    ∙ ap (λ (ls : List RequestLine). written_on other k ls (replies_to other (opening other) ls)) (sym alike.lines)
+    ∙ ap (λ (rs : List Reply). written_on other k u.lines rs) (sym (plain_run other (opening other) u.lines u.replies u.end u.run alike.second).0)

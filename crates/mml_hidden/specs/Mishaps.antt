@@ -1,11 +1,12 @@
 -- Turns of the lines of a script, whatever befell them, and what of them goes to connections of one student.
-use Rattle.std.specs.Prelude.{◌≡◌, ℕ, Bool, true, false, List, [], ◌∷◌, ◌++◌, map, if◌then◌else◌}
+use Rattle.std.specs.Prelude.{◌≡◌, ℕ, Bool, true, false, List, [], ◌∷◌, map}
 use Rattle.mml_lab.specs.Labs.{LabValue}
 use Rattle.mml_policy.specs.Alike.{Alike}
 use Rattle.mml_codec.specs.declared.reply.Reply.{Reply}
 use Rattle.mml_hall.specs.Turns.{State, Outcome, Mishap, RequestLine, turn, known_on, opening}
-use Rattle.mml_hall.specs.Transcripts.{Transcript, output_line}
-use Rattle.mml_hidden.specs.Twins.{is_hers}
+use Rattle.mml_hall.specs.Transcripts.{Transcript}
+use Rattle.mml_hidden.specs.Twins.{BeginAlike, is_hers}
+use Rattle.mml_hidden.specs.Scripted.{replies_by, end_by}
 
 -- a line of a script, and what befell its turn
 pub record BefallenLine : Type 0 where
@@ -22,13 +23,11 @@ lines_in bs = map (λ b. b.line) bs
 
 -- the replies of the turns of lines by what befell them
 abbrev pub replies_with : LabValue → State → List BefallenLine → List Reply
-replies_with lab st [] = []
-replies_with lab st (b ∷ bs) = (turn_with lab st b).reply ∷ replies_with lab (turn_with lab st b).state bs
+replies_with lab st bs = replies_by (turn_with lab) st bs
 
 -- the state to which the turns of lines lead by what befell them
 abbrev pub end_with : LabValue → State → List BefallenLine → State
-end_with lab st [] = st
-end_with lab st (b ∷ bs) = end_with lab (turn_with lab st b).state bs
+end_with lab st bs = end_by (turn_with lab) st bs
 
 -- after each line of another the worlds of the two runs are alike for student s, and halted the same
 abbrev pub StayAlikeWith : LabValue → LabValue → ℕ → State → State → List BefallenLine → Type 0
@@ -38,13 +37,6 @@ StayAlikeWith lab other s st su (b ∷ bs) =
     → Alike lab.roster s (turn_with lab st b).state.world (turn_with other su b).state.world
     × ((turn_with lab st b).state.halted ≡ (turn_with other su b).state.halted))
     × StayAlikeWith lab other s (turn_with lab st b).state (turn_with other su b).state bs
-
--- of lines and the replies to them, the output lines on some of the connections
-abbrev pub written_on_any : LabValue → (ℕ → Bool) → List RequestLine → List Reply → List (List ℕ)
-written_on_any lab some [] rs = []
-written_on_any lab some (line ∷ lines) [] = []
-written_on_any lab some (line ∷ lines) (r ∷ rs) =
-    (if some line.connection then output_line lab line.connection r ∷ [] else []) ++ written_on_any lab some lines rs
 
 -- each line on one of some connections comes while its connection is known as student s, or as nobody yet
 abbrev pub AreHersThroughout : LabValue → ℕ → (ℕ → Bool) → State → List BefallenLine → Type 0
@@ -63,3 +55,12 @@ pub record Befalls (lab : LabValue) (st : State) (lines : List RequestLine) (rs 
 pub record Befell (lab : LabValue) (t : Transcript lab) (bs : List BefallenLine) : Type 0 where
   pub lines_are : lines_in bs ≡ t.lines
   pub replies_are : t.replies ≡ replies_with lab (opening lab) bs
+
+-- two runs of one script in labs that begin alike for student s: the same mishaps befall the same lines, the worlds stay alike and are halted the
+-- same at each line of another's, and some connections are hers throughout
+pub record RunAlikeWith (lab other : LabValue) (s : ℕ) (some : ℕ → Bool) (t : Transcript lab) (u : Transcript other) (bs : List BefallenLine) : Type 0 where
+  pub labs : BeginAlike lab other s
+  pub first : Befell lab t bs
+  pub second : Befell other u bs
+  pub worlds : StayAlikeWith lab other s (opening lab) (opening other) bs
+  pub hers : AreHersThroughout lab s some (opening lab) bs

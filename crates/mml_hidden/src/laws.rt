@@ -18,14 +18,14 @@ ghost use Rattle.mml_codec.specs.Replies.{reply_line};
 ghost use Rattle.mml_codec.specs.declared.reply.Reply.{Reply};
 ghost use Rattle.mml_hall.specs.Turns.{State, Outcome, Mishap, RequestLine, Run, Turn, opening, turn, plain_turn, known_on, is_grant};
 ghost use Rattle.mml_hall.specs.Transcripts.{Transcript, output_lines, bytes_written};
-ghost use Rattle.mml_hidden.specs.Scripted.{replies_to, end_of, written_to, written_on, StayAlike, IsHersThroughout, OnlySheGreets, OnlySheIsKnown};
-ghost use Rattle.mml_hidden.specs.Scripted.{AreUnhindered};
+ghost use Rattle.mml_hidden.specs.Scripted.{replies_to, end_of, written_to, written_on, written_on_any, StayAlike, IsHersThroughout, OnlySheGreets, OnlySheIsKnown};
+ghost use Rattle.mml_hidden.specs.Scripted.{AreUnhindered, RunAlike};
 ghost use Rattle.mml_hidden.specs.CommandReplies.{world_left, reply_to, line_to};
-ghost use Rattle.mml_hidden.specs.Mishaps.{BefallenLine, Befalls, Befell, lines_in, replies_with, end_with, StayAlikeWith, written_on_any, AreHersThroughout};
+ghost use Rattle.mml_hidden.specs.Mishaps.{BefallenLine, Befalls, lines_in, replies_with, end_with, StayAlikeWith, AreHersThroughout, RunAlikeWith};
 ghost use Rattle.mml_session.specs.Turns.{Standing, Run as SessionRun};
 ghost use Rattle.mml_hidden.specs.Sessions.{AreToldAlike};
 ghost use Rattle.mml_hidden.specs.Sight.{ShowsTheSame, MoveAlike, IsUntouched, IsOutOfSight};
-ghost use Rattle.mml_hidden.specs.Twins.{AreTwins, StatesAlike, is_hers};
+ghost use Rattle.mml_hidden.specs.Twins.{AreTwins, BeginAlike, StatesAlike, is_hers};
 
 /// In worlds that are alike for a student each command of hers has the same reply, so the same bytes,
 /// and the worlds afterwards are alike again.
@@ -95,11 +95,7 @@ pub fn hidden_values_change_no_script()
         written_on lab k lines (replies_to lab st lines)
         ≡ written_on other k lines (replies_to other su lines) }
     ensures transcripts { (lab other : LabValue) (s k : ℕ) (t : Transcript lab)
-        (u : Transcript other) → AreTwins lab other → IsLab lab → IsLab other →
-        Alike lab.roster s (opening_of lab.network) (opening_of other.network) →
-        u.lines ≡ t.lines → StayAlike lab other s (opening lab) (opening other) t.lines →
-        IsHersThroughout lab s k (opening lab) t.lines → AreUnhindered t.replies →
-        AreUnhindered u.replies →
+        (u : Transcript other) → RunAlike lab other s k t u →
         written_on lab k t.lines t.replies ≡ written_on other k u.lines u.replies }
     ensures end { (lab other : LabValue) (s : ℕ) (st su : State) (lines : List RequestLine) →
         AreTwins lab other → StatesAlike lab s st su → StayAlike lab other s st su lines →
@@ -116,11 +112,7 @@ pub fn hidden_values_change_no_script_with_mishaps()
         written_on_any lab some (lines_in bs) (replies_with lab st bs)
         ≡ written_on_any other some (lines_in bs) (replies_with other su bs) }
     ensures transcripts { (lab other : LabValue) (s : ℕ) (some : ℕ → Bool) (t : Transcript lab)
-        (u : Transcript other) (bs : List BefallenLine) → AreTwins lab other → IsLab lab →
-        IsLab other → Alike lab.roster s (opening_of lab.network) (opening_of other.network) →
-        Befell lab t bs → Befell other u bs →
-        StayAlikeWith lab other s (opening lab) (opening other) bs →
-        AreHersThroughout lab s some (opening lab) bs →
+        (u : Transcript other) (bs : List BefallenLine) → RunAlikeWith lab other s some t u bs →
         written_on_any lab some t.lines t.replies ≡ written_on_any other some u.lines u.replies }
     ensures end { (lab other : LabValue) (s : ℕ) (st su : State) (bs : List BefallenLine) →
         AreTwins lab other → StatesAlike lab s st su → StayAlikeWith lab other s st su bs →
@@ -144,16 +136,13 @@ pub fn one_who_is_alone_can_not_tell()
         OnlySheGreets lab s lines → concat (output_lines lab lines (replies_to lab st lines))
         ≡ concat (output_lines other lines (replies_to other su lines)) }
     ensures transcripts { (lab other : LabValue) (s : ℕ) (t : Transcript lab)
-        (u : Transcript other) → AreTwins lab other → IsLab lab → IsLab other →
-        Alike lab.roster s (opening_of lab.network) (opening_of other.network) →
-        u.lines ≡ t.lines → OnlySheGreets lab s t.lines → AreUnhindered t.replies →
+        (u : Transcript other) → BeginAlike lab other s → u.lines ≡ t.lines → OnlySheGreets lab s t.lines → AreUnhindered t.replies →
         AreUnhindered u.replies → bytes_written t ≡ bytes_written u }
 {}
 
 /// Where runs begin the states are alike for a student if the labs' networks are, and nobody is known.
 pub fn runs_begin_alike()
-    ensures states { (lab other : LabValue) (s : ℕ) → AreTwins lab other → IsLab lab →
-        IsLab other → Alike lab.roster s (opening_of lab.network) (opening_of other.network) →
+    ensures states { (lab other : LabValue) (s : ℕ) → BeginAlike lab other s →
         StatesAlike lab s (opening lab) (opening other) }
     ensures known { (lab : LabValue) (s : ℕ) → OnlySheIsKnown s (opening lab) }
 {}
