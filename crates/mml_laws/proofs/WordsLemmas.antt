@@ -1,5 +1,5 @@
--- What a reader finds in a reply, and which replies tell registers.
-use Rattle.std.proofs.Common.{◌≡◌, ℕ, Bool, false, List, Option, Some, arith}
+-- What asks each request, what a reader finds in a reply, and which replies tell registers.
+use Rattle.std.proofs.Common.{◌≡◌, ◌↔◌, ℕ, Bool, false, List, Option, Some, subst, arith}
 use Rattle.std.specs.List.{list_any}
 use Rattle.std.proofs.lemmas.Bool.{false≢true}
 use Rattle.serde_json.specs.Data.{Data}
@@ -10,20 +10,30 @@ use Rattle.mml_rules.specs.declared.rule.Kind.{Kind}
 use Rattle.mml_lab.specs.Rosters.{RosterValue, IsRoster}
 use Rattle.mml_policy.specs.declared.look.Look.{Look}
 use Rattle.mml_policy.specs.declared.denial.Denial.{Denial}
+use Rattle.mml_codec.specs.declared.request.Request.{Request}
 use Rattle.mml_codec.specs.declared.reply.Refused.{Refused}
 use Rattle.mml_codec.specs.declared.reply.Reply.{Reply}
 use Rattle.mml_codec.specs.declared.reply.Reply.TheVariants as reply
 use Rattle.mml_codec.specs.Facts.{kind_or_null_value, pointer_value}
 use Rattle.mml_codec.specs.Fields.{Has, HasEach}
+use Rattle.mml_codec.specs.Requests.{fields_of, request}
 use Rattle.mml_codec.specs.Replies as written
 use Rattle.mml_codec.specs.Replies.{IsAbout}
 use Rattle.mml_codec.specs.ReplyValues.{reply_value, AreWritableCounts}
+use Rattle.mml_codec.proofs.RequestsLemmas.{asked_there, there_asked}
 use Rattle.mml_codec.proofs.ReplyValuesLemmas.{read-reply}
-use Rattle.mml_laws.specs.Words.{rule_field, register_field, read_fields, tells_registers, is_view}
+use Rattle.mml_laws.specs.Words.{asked_fields, rule_field, register_field, read_fields, tells_registers, is_view}
 use Rattle.std.proofs.lemmas.Bool.Decides.{nat_tests}
 
 some_same : {A : Type 0} (x y : A) → Some x ≡ Some y → x ≡ y
 some_same x y h = cc
+
+-- the words are those by which the codec writes the request
+spelt : (r : Request) → fields_of r ≡ asked_fields r
+spelt r = grind (arith, nat_tests)
+
+pub asks_each : (d : Data) (r : Request) → (request d ≡ Some r) ↔ HasEach d (asked_fields r)
+asks_each d r = subst (λ fs. (request d ≡ Some r) ↔ HasEach d fs) (spelt r) (asked_there d r, there_asked d r)
 
 module _ (ids : List ℕ) (roster : RosterValue) where
   has_seen : (at i : ℕ) (p : Option ℕ) (m : Bool) → HasEach (reply_value ids roster (reply.See (record { at = at; node = i; regs = record { p = p; m = m } })))

@@ -3,9 +3,14 @@ use Rattle.std.specs.Prelude.{◌≡◌, ℕ, Bool, true, false, List, [], ◌�
 use Rattle.mml_rules.specs.declared.rule.Kind.{Kind}
 use Rattle.mml_rules.specs.declared.rule.Kind.TheVariants as kind
 use Rattle.mml_lab.specs.Rosters.{RosterValue, name_of}
+use Rattle.mml_policy.specs.declared.command.Asked.{Asked}
+use Rattle.mml_policy.specs.declared.command.Asked.TheVariants as asked
+use Rattle.mml_policy.specs.declared.command.Command.TheVariants as command
 use Rattle.mml_policy.specs.declared.denial.Denial.{Denial}
 use Rattle.mml_policy.specs.declared.denial.Denial.TheVariants as denial
 use Rattle.mml_policy.specs.Denials.{clause_of, denial_name, text_of}
+use Rattle.mml_codec.specs.declared.request.Request.{Request}
+use Rattle.mml_codec.specs.declared.request.Request.TheVariants as requests
 use Rattle.mml_codec.specs.declared.reply.Refused.{Refused}
 use Rattle.mml_codec.specs.declared.reply.Refused.TheVariants as refused
 use Rattle.mml_codec.specs.declared.reply.Reply.{Reply}
@@ -13,19 +18,43 @@ use Rattle.mml_codec.specs.declared.reply.Reply.TheVariants as reply
 use Rattle.mml_codec.specs.Facts as fact
 use Rattle.mml_codec.specs.Facts.{Fact}
 use Rattle.mml_codec.specs.Fields.{Field, number, word, text, truth, null}
+use Rattle.mml_codec.specs.Requests.{register}
 
--- the denial has this clause, name and text
-pub record IsDenial (d : Denial) (clause : ℕ) (name said : List ℕ) : Type 0 where
-  pub clause_is : clause_of d ≡ clause
-  pub name_is : denial_name d ≡ name
-  pub text_is : text_of d ≡ said
+-- a denial with its clause, its name and its text: these are what it is told with
+abbrev pub IsDenial : Denial × ℕ × List ℕ × List ℕ → Type 0
+IsDenial (d, clause, name, said) = (clause_of d ≡ clause) × (denial_name d ≡ name) × (text_of d ≡ said)
+
+-- ---- a request by its keys, as its writer has them
 
 -- what a request asks, by its word
 abbrev pub does : List ℕ → List ℕ × Field
 does w = (codes "do", word w)
 
+-- what a move of this rule asks, each with the node and the number of the configuration
+abbrev pub move_fields : Asked → List (List ℕ × Field)
+move_fields asked.Update = (codes "rule", word (codes "update")) ∷ []
+move_fields (asked.Marriage partner) = (codes "rule", word (codes "marriage")) ∷ (codes "with", number partner) ∷ []
+move_fields asked.Seduction = (codes "rule", word (codes "seduction")) ∷ []
+move_fields asked.Abandonment = (codes "rule", word (codes "abandonment")) ∷ []
+
+-- what asks a request, by which key: each number, word, text, truth value and register
+abbrev pub asked_fields : Request → List (List ℕ × Field)
+asked_fields (requests.Hello name key) = does (codes "hello") ∷ (codes "key", text key) ∷ (codes "name", text name) ∷ []
+asked_fields requests.Bye = does (codes "bye") ∷ []
+asked_fields (requests.Do (command.See node)) = does (codes "see") ∷ (codes "node", number node) ∷ []
+asked_fields (requests.Do (command.Look node)) = does (codes "look") ∷ (codes "node", number node) ∷ []
+asked_fields (requests.Do (command.Move node rule at)) = (codes "at", number at) ∷ does (codes "move") ∷ (codes "node", number node) ∷ move_fields rule
+asked_fields (requests.Do command.Close) = does (codes "close") ∷ []
+asked_fields (requests.Do (command.Fault node p m)) =
+    does (codes "fault") ∷ (codes "m", truth m) ∷ (codes "node", number node) ∷ (codes "p", register p) ∷ []
+asked_fields (requests.Do (command.Link a b)) = (codes "a", number a) ∷ (codes "b", number b) ∷ does (codes "link") ∷ []
+asked_fields (requests.Do (command.Cut a b)) = (codes "a", number a) ∷ (codes "b", number b) ∷ does (codes "cut") ∷ []
+asked_fields (requests.Do (command.Release node)) = does (codes "release") ∷ (codes "node", number node) ∷ []
+asked_fields (requests.Do command.Report) = does (codes "report") ∷ []
+
 -- ---- a reply by its keys, as its reader has them
 
+-- the word of a rule
 abbrev pub kind_word : Kind → List ℕ
 kind_word kind.Update = codes "update"
 kind_word kind.Marriage = codes "marriage"
@@ -54,6 +83,7 @@ granted_fields told at place = (codes "ok", word told) ∷ (codes "at", number a
 abbrev pub register_fields : List ℕ → ℕ → Option ℕ → Bool → List (List ℕ × Field)
 register_fields ids i p m = (codes "node", node_field ids i) ∷ (codes "p", register_field ids p) ∷ (codes "m", truth m) ∷ []
 
+-- the word of a refusal
 abbrev pub refused_word : Refused → List ℕ
 refused_word refused.Malformed = codes "malformed"
 refused_word refused.Full = codes "full"
@@ -65,6 +95,7 @@ abbrev pub late_fields : Denial → List (List ℕ × Field)
 late_fields (denial.Stale at) = (codes "at", number at) ∷ []
 late_fields _ = []
 
+-- what a denial is told with
 abbrev pub denied_fields : Denial → List (List ℕ × Field)
 denied_fields d = (codes "deny", word (denial_name d)) ∷ (codes "clause", number (clause_of d)) ∷ (codes "text", word (text_of d)) ∷ late_fields d
 
