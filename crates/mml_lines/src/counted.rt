@@ -1,12 +1,10 @@
 //! Reads that are counted. The lines of a reader come by no other call.
 ghost use Rattle.std.specs.Prelude.{◌≡◌, [], ◌+◌, ◌<◌, ◌≤◌, ◌⊎◌, take, vec_len, IfErr};
 ghost use Rattle.std.specs.Vec.{vec_capacity};
-ghost use Rattle.std.specs.Io.{ReadsAtMost};
-ghost use Rattle.std.specs.Io.KnownBytes.{Consumes, IsAtEnd, ReadConsumes, prepend_known};
+ghost use Rattle.std.specs.Io.KnownBytes.{Consumes, IsAtEnd, prepend_known};
 ghost use Rattle.mml_ids.specs.Lines.{IsUnbroken};
 
 use crate::lines::{MAX_READS, READ_SIZE, Step};
-use std::io;
 use std::io::Read;
 
 /// A reader that nobody else reads meanwhile, and how often it was read.
@@ -44,7 +42,8 @@ impl<'a, R: Read> Counted<'a, R> {
         self.reads
     }
 
-    /// One read onto what is held, where that is the front of a line, or the ending that it found.
+    /// One read onto what is held, where that is the front of a line, or the ending that it found. No
+    /// other call reads.
     pub(crate) fn read_onto(&mut self, held: &mut Vec<u8>, chunk: &mut Vec<u8>) -> Result<(), Step>
         requires needed { IsUnbroken held.old.items }
         requires few { self.old.reads < MAX_READS }
@@ -62,7 +61,8 @@ impl<'a, R: Read> Counted<'a, R> {
             × ((step ≡ Step.End) × IsAtEnd (R.remaining self.new.reader.now)
             ⊎ (step ≡ Step.ReadFault))) }
     {
-        match self.read(chunk) {
+        self.reads += 1;
+        match self.reader.read(chunk) {
             Ok(0) => Err(Step::End),
             Ok(n) => {
                 held.extend_from_slice(&chunk[..n]).unwrap();
@@ -70,18 +70,5 @@ impl<'a, R: Read> Counted<'a, R> {
             }
             Err(_) => Err(Step::ReadFault),
         }
-    }
-
-    // The one call that reads.
-    fn read(&mut self, chunk: &mut [u8]) -> io::Result<usize>
-        requires few { self.old.reads < MAX_READS }
-        ensures counted { self.new.reads ≡ self.old.reads + 1 }
-        ensures same_reader { self.new.reader.ghost_name ≡ self.old.reader.ghost_name }
-        ensures bound { ReadsAtMost result chunk.new }
-        ensures bytes { ReadConsumes (R.remaining self.old.reader.now)
-            (R.remaining self.new.reader.now) result chunk.new }
-    {
-        self.reads += 1;
-        self.reader.read(chunk)
     }
 }

@@ -89,6 +89,7 @@ impl Outgoing {
         }
     }
 
+    // Writes all that is held, which is then let go. Nothing is flushed.
     fn write_out<W: Write>(&mut self, writer: &mut W) -> Result<(), WriteFault>
         ensures empty { OnOk result (self.new ≡ []) }
         ensures ok { OnOk result (Sends (W.contents writer.old) (W.contents writer.new) self.old []) }
