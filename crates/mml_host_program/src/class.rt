@@ -3,10 +3,9 @@ ghost use Rattle.std.specs.Prelude.{◌≡◌, ◌+◌, length};
 ghost use Rattle.std.specs.Thread.{IsSync, IsSend};
 
 use crate::fault::{Fault, of_record};
-use crate::limited_sink::LimitedSink;
 use crate::system::System;
 use mml_ends::Retrying;
-use mml_files::{BegunJournal, OldJournal};
+use mml_files::{BegunJournal, OldJournal, file_size_limit};
 use mml_hosting::{Recorders, no_recorders};
 use mml_journal::{FileSink, NullSink};
 use mml_lab::Lab;
@@ -162,7 +161,7 @@ fn serve_journaled<
     match journal {
         Journal::New(None) => ready.begin(rt, NullSink::new(), writer),
         Journal::New(Some(BegunJournal::Plain(file))) => {
-            ready.begin(rt, LimitedSink::new(file, 0), writer)
+            ready.begin(rt, FileSink::synced(file, 0, file_size_limit()), writer)
         }
         Journal::New(Some(BegunJournal::Other(file))) => {
             ready.begin(rt, FileSink::new(file), writer)

@@ -5,7 +5,6 @@ mod beginning;
 mod class;
 mod fault;
 mod going_on;
-mod limited_sink;
 mod limits;
 mod old_file;
 mod resumed;
@@ -15,7 +14,6 @@ mod words;
 
 pub use beginning::write_listening;
 pub use fault::Fault;
-pub use limited_sink::LimitedSink;
 pub use old_file::OldFile;
 pub use system::System;
 pub use task::run;
