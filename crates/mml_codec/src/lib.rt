@@ -15,7 +15,9 @@ mod ruling_reply;
 
 pub use greeting::{Greeted, Greeting, greet, greet_into};
 pub use mml_plain::LineScratch;
-pub use reply::{FULL_LINE, JOURNAL_LINE, MALFORMED_LINE, MEMORY_LINE, REPLY_ROOM, Refused, Reply};
+pub use reply::{
+    FULL_LINE, JOURNAL_LINE, MALFORMED_LINE, MEMORY_LINE, REPLY_ROOM, Refused, Reply, put_in,
+};
 pub use reply_writing::{append_reply, tell_reply, write_reply};
 pub use request::{LineFault, Request};
 pub use request_reading::{read_request, read_request_with};

@@ -1,3 +1,5 @@
+ghost use Rattle.std.specs.Prelude.{◌≡◌};
+
 use mml_ids::{NodeSet, Rank};
 use mml_lab::Who;
 use mml_policy::{Denial, Look, Refusal, See};
@@ -33,7 +35,6 @@ pub enum Refused {
 }
 
 impl From<Refusal> for Refused {
-    ghost use Rattle.std.specs.Prelude.{◌≡◌};
     ghost use Rattle.mml_codec.specs.Rulings.{refusal_for};
 
     ghost from_gives = { λ refusal refused. refused ≡ refusal_for refusal };
@@ -107,4 +108,12 @@ pub enum Reply {
     Deny(Denial),
     /// The request was refused.
     Refuse(Refused),
+}
+
+/// Puts a reply in the place of another, where it stays, since it is large to hand on.
+#[inline(always)]
+pub fn put_in(place: &mut Reply, reply: Reply)
+    ensures { place.new ≡ reply }
+{
+    *place = reply;
 }
