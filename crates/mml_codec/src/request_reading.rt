@@ -40,31 +40,14 @@ pub fn read_request_with(
     }
 }
 
-#[tactic(auto, unfolding(crate::specs::Requests::request))]
+// The request that the fields of a line ask, of which only a hello takes memory.
+#[tactic(auto, unfolding(crate::specs::Requests::request, crate::specs::Requests::by_word))]
 fn request(alloc: Global, fields: &Fields<'_>) -> Result<Request, LineFault>
     ensures { Reads request fields.now result }
 {
-    let word = fields.word.ok_or(LineFault::Malformed)?;
-    by_word(alloc, word, fields)
-}
-
-#[tactic(auto, unfolding(crate::specs::Requests::by_word))]
-fn by_word(alloc: Global, word: &str, fields: &Fields<'_>) -> Result<Request, LineFault>
-    ensures { Reads (by_word word.now) fields.now result }
-{
-    match word {
+    match fields.word.ok_or(LineFault::Malformed)? {
         "hello" => hello_of(alloc, fields),
-        _ => well_formed(by_other_word(word, fields)),
-    }
-}
-
-fn well_formed(request: Option<Request>) -> Result<Request, LineFault>
-    ensures request { result ≡ ok_or request LineFault.Malformed }
-    ensures memory { result ≢ Err LineFault.Memory }
-{
-    match request {
-        Some(request) => Ok(request),
-        None => Err(LineFault::Malformed),
+        word => by_other_word(word, fields).ok_or(LineFault::Malformed),
     }
 }
 

@@ -123,8 +123,7 @@ module _ (lab : LabValue) (st : State) (k : ℕ) where
 
 -- the reply to a grant is no refusal
 granted_not_refused : (at place : ℕ) (d : Done) → IsRefusal (reply_of_done at place d) → ⊥
-granted_not_refused at place (done.Move node kind) h = h
-granted_not_refused at place _ h = h
+granted_not_refused at place d h = h
 
 -- ---- what a turn leaves as it was
 

@@ -401,12 +401,7 @@ fn count_places(reply: &Reply) -> u64
     ensures { result ≡ length (places_in reply.now) }
 {
     match reply {
-        Reply::Move { .. }
-        | Reply::Close { .. }
-        | Reply::Fault { .. }
-        | Reply::Link { .. }
-        | Reply::Cut { .. }
-        | Reply::Release { .. } => 1,
+        Reply::Granted { .. } => 1,
         _ => 0,
     }
 }
