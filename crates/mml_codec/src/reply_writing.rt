@@ -102,7 +102,8 @@ fn tell_want_of_memory(alloc: Global, ids: &IdTable, roster: &Roster, out: &mut 
     told
 }
 
-// Puts the line of a reply behind what the vector holds.
+// Puts the line of a reply behind what the vector holds, a short one's in the room that is enough for any
+// such.
 fn put_line(ids: &IdTable, roster: &Roster, reply: &Reply, out: &mut Vec<u8>) -> Result<(), Memory>
     requires { IsAbout ids.now roster.now reply.now }
     ensures line { OnOk result
@@ -118,7 +119,14 @@ fn put_line(ids: &IdTable, roster: &Roster, reply: &Reply, out: &mut Vec<u8>) ->
     ensures counts { AreWritableCounts roster.now reply.now }
 {
     know_counts(reply);
-    put_text(ids, roster, reply, out)?;
+    match reply {
+        Reply::Look(look) => put_look(ids, look, out)?,
+        Reply::Report(report) => put_report(ids, report, out)?,
+        _ => {
+            make_room(out, TEXT_ROOM)?;
+            *out = with_short(taken(out), ids, roster, reply);
+        }
+    }
     make_room(out, 1)?;
     out.push_reserved(b'\n');
     Ok(())
@@ -156,31 +164,6 @@ fn know_counts_of(at: u64, place: u64, done: &Done)
 fn know_count(count: u64)
     ensures { count < 2 ^ 64 }
 {}
-
-// Puts the text of a reply, a short one's in the room that is enough for any such.
-fn put_text(ids: &IdTable, roster: &Roster, reply: &Reply, out: &mut Vec<u8>) -> Result<(), Memory>
-    requires { IsAbout ids.now roster.now reply.now }
-    ensures text { OnOk result
-        (out.new.items ≡ out.old.items ++ text ids.now roster.now reply.now) }
-    ensures capacity { vec_capacity out.old ≤ vec_capacity out.new }
-    ensures grows { is_short reply.now ≡ true →
-        OnOk result (length out.new.items ≤ length out.old.items + TEXT_ROOM) }
-    ensures room { is_short reply.now ≡ true →
-        OnErr result (vec_capacity out.old < length out.old.items + TEXT_ROOM) }
-    ensures kept { is_short reply.now ≡ true →
-        length out.old.items + TEXT_ROOM ≤ vec_capacity out.old →
-        vec_capacity out.new ≡ vec_capacity out.old }
-{
-    match reply {
-        Reply::Look(look) => put_look(ids, look, out),
-        Reply::Report(report) => put_report(ids, report, out),
-        _ => {
-            make_room(out, TEXT_ROOM)?;
-            *out = with_short(taken(out), ids, roster, reply);
-            Ok(())
-        }
-    }
-}
 
 // The text of a short reply by literals: by pieces a hello and its bye took 294 instructions more.
 #[inline(always)]
