@@ -32,43 +32,15 @@ pub fn greet(roster: &Roster, known: Option<Who>, request: Request) -> Greeting
     ensures greeting { result ≡ greeting roster.now known request }
     ensures about { TakesPart roster.now result }
 {
-    match (known, request) {
-        (None, Request::Hello { name, key }) => admit(roster.hello(name.as_str(), key.as_str())),
-        (Some(who), Request::Hello { .. }) => denied(Denial::Greeted, Some(who)),
-        (_, Request::Bye) => Greeting::Answered {
-            reply: Reply::Bye,
-            known: None,
-        },
-        (None, Request::Do(_)) => denied(Denial::NotGreeted, None),
-        (Some(who), Request::Do(command)) => Greeting::LeftToJudge { who, command },
+    let mut reply = Reply::Bye;
+    match greet_into(roster, known, &request, &mut reply) {
+        Greeted::Known(known) => Greeting::Answered { reply, known },
+        Greeted::LeftToJudge { who, command } => Greeting::LeftToJudge { who, command },
     }
 }
 
-fn admit(found: Option<Who>) -> Greeting
-    ensures { result ≡ admitted found }
-{
-    match found {
-        Some(who) => {
-            let who = &who;
-            Greeting::Answered {
-                reply: Reply::Hello(*who),
-                known: Some(*who),
-            }
-        }
-        None => denied(Denial::Unknown, None),
-    }
-}
-
-fn denied(denial: Denial, known: Option<Who>) -> Greeting
-    ensures { result ≡ denied denial known }
-{
-    Greeting::Answered {
-        reply: Reply::Deny(denial),
-        known,
-    }
-}
-
-/// As `greet`, of a request that is lent, with the reply put where it stays: both are large to hand on.
+/// As `greet`, of a request that is lent, with the reply put where it stays, since both are large to hand on.
+/// Where a command is left to judge, the reply stays as it was.
 pub fn greet_into(
     roster: &Roster,
     known: Option<Who>,
@@ -96,6 +68,7 @@ pub fn greet_into(
     }
 }
 
+// What comes of a hello, by whose name and key those are.
 fn admit_into(found: Option<Who>, reply: &mut Reply) -> Greeted
     ensures { greeting_with result reply.new ≡ admitted found }
 {
@@ -109,6 +82,7 @@ fn admit_into(found: Option<Who>, reply: &mut Reply) -> Greeted
     }
 }
 
+// A denial, after which the connection is known as before.
 fn deny_into(denial: Denial, known: Option<Who>, reply: &mut Reply) -> Greeted
     ensures { greeting_with result reply.new ≡ denied denial known }
 {

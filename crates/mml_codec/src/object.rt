@@ -36,6 +36,7 @@ pub(crate) fn object_text(
     Ok(writer.into_inner())
 }
 
+// Puts a key and what it holds.
 fn put_member(writer: &mut Writer, member: &(&'static str, Field<'_>)) -> Result<(), AllocError>
     ensures before { writer.new.before ≡ writer.old.before }
     ensures tokens { OnOk result
@@ -45,6 +46,7 @@ fn put_member(writer: &mut Writer, member: &(&'static str, Field<'_>)) -> Result
     put_field(writer, member.1)
 }
 
+// Puts what a key holds.
 fn put_field(writer: &mut Writer, field: Field<'_>) -> Result<(), AllocError>
     ensures before { writer.new.before ≡ writer.old.before }
     ensures tokens { OnOk result (writer.new.tokens ≡

@@ -51,6 +51,7 @@ fn request(alloc: Global, fields: &Fields<'_>) -> Result<Request, LineFault>
     }
 }
 
+// The hello that the fields ask, if name and key are there: of those it keeps a copy.
 #[tactic(auto, unfolding(crate::specs::Requests::hello_of))]
 fn hello_of(alloc: Global, fields: &Fields<'_>) -> Result<Request, LineFault>
     ensures { Reads hello_of fields.now result }
@@ -84,6 +85,7 @@ fn by_other_word(word: &str, fields: &Fields<'_>) -> Option<Request>
     }
 }
 
+// The see that the fields ask, if its node is there.
 fn see_of(fields: &Fields<'_>) -> Option<Request>
     ensures { (d : Data) → Holds fields.now d → result ≡ node_of command.See d }
 {
@@ -91,6 +93,7 @@ fn see_of(fields: &Fields<'_>) -> Option<Request>
     Some(Request::Do(Command::See { node }))
 }
 
+// The look that the fields ask, if its node is there.
 fn look_of(fields: &Fields<'_>) -> Option<Request>
     ensures { (d : Data) → Holds fields.now d → result ≡ node_of command.Look d }
 {
@@ -98,6 +101,7 @@ fn look_of(fields: &Fields<'_>) -> Option<Request>
     Some(Request::Do(Command::Look { node }))
 }
 
+// The link that the fields ask, if both nodes are there.
 fn link_of(fields: &Fields<'_>) -> Option<Request>
     ensures { (d : Data) → Holds fields.now d → result ≡ ends_of command.Link d }
 {
@@ -106,6 +110,7 @@ fn link_of(fields: &Fields<'_>) -> Option<Request>
     Some(Request::Do(Command::Link { a, b }))
 }
 
+// The cut that the fields ask, if both nodes are there.
 fn cut_of(fields: &Fields<'_>) -> Option<Request>
     ensures { (d : Data) → Holds fields.now d → result ≡ ends_of command.Cut d }
 {
@@ -114,6 +119,7 @@ fn cut_of(fields: &Fields<'_>) -> Option<Request>
     Some(Request::Do(Command::Cut { a, b }))
 }
 
+// The release that the fields ask, if its node is there.
 fn release_of(fields: &Fields<'_>) -> Option<Request>
     ensures { (d : Data) → Holds fields.now d → result ≡ node_of command.Release d }
 {
@@ -121,6 +127,7 @@ fn release_of(fields: &Fields<'_>) -> Option<Request>
     Some(Request::Do(Command::Release { node }))
 }
 
+// The move that the fields ask, if node, number and rule are there.
 #[tactic(auto, unfolding(crate::specs::Requests::move_of))]
 fn move_of(fields: &Fields<'_>) -> Option<Request>
     ensures { (d : Data) → Holds fields.now d → result ≡ move_of d }
@@ -131,6 +138,7 @@ fn move_of(fields: &Fields<'_>) -> Option<Request>
     Some(Request::Do(Command::Move { node, rule, at }))
 }
 
+// The rule that a move asks for, by its word, and for a marriage the partner.
 #[tactic(auto, unfolding(crate::specs::Requests::asked_at))]
 fn asked_at(fields: &Fields<'_>) -> Option<Asked>
     ensures { (d : Data) → Holds fields.now d → result ≡ asked_at d }
@@ -144,7 +152,7 @@ fn asked_at(fields: &Fields<'_>) -> Option<Asked>
     }
 }
 
-/// The request for a fault that the fields ask, if those that it wants are there.
+// The fault that the fields ask, if its node and both registers are there.
 #[tactic(auto, unfolding(crate::specs::Requests::fault_of))]
 fn fault_of(fields: &Fields<'_>) -> Option<Request>
     ensures { (d : Data) → Holds fields.now d → result ≡ fault_of d }

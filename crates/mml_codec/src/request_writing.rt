@@ -27,6 +27,7 @@ pub fn write_request(alloc: Global, request: &Request, out: &mut Vec<u8>) -> Res
     Ok(())
 }
 
+// The text of a request, without its newline.
 #[tactic(auto, unfolding(crate::specs::Canonical::canonical))]
 fn text_of(alloc: Global, request: &Request) -> Result<Vec<u8>, AllocError>
     ensures writable { IsWritable request.now }
@@ -46,6 +47,7 @@ fn text_of(alloc: Global, request: &Request) -> Result<Vec<u8>, AllocError>
     }
 }
 
+// The text of the request for a command.
 fn command_text(alloc: Global, command: Command) -> Result<Vec<u8>, AllocError>
     ensures writable { AreWritable (command_fields command) }
     ensures text { IfOk result (λ text. text.items ≡
@@ -64,6 +66,7 @@ fn command_text(alloc: Global, command: Command) -> Result<Vec<u8>, AllocError>
     }
 }
 
+// The text of a command that names one node.
 fn node_text(alloc: Global, verb: &'static str, node: u64) -> Result<Vec<u8>, AllocError>
     ensures { IfOk result (λ text. text.items ≡ compact_text (object_of
         ((codes "do", word verb.now) ∷ (codes "node", number node) ∷ []))) }
@@ -71,6 +74,7 @@ fn node_text(alloc: Global, verb: &'static str, node: u64) -> Result<Vec<u8>, Al
     object_text(alloc, &[("do", Word(verb)), ("node", Number(node))])
 }
 
+// The text of a command that names two nodes.
 fn ends_text(alloc: Global, verb: &'static str, a: u64, b: u64) -> Result<Vec<u8>, AllocError>
     ensures { IfOk result (λ text. text.items ≡ compact_text (object_of
         ((codes "a", number a) ∷ (codes "b", number b) ∷ (codes "do", word verb.now) ∷ []))) }
@@ -81,6 +85,7 @@ fn ends_text(alloc: Global, verb: &'static str, a: u64, b: u64) -> Result<Vec<u8
     )
 }
 
+// The text of a move.
 fn move_text(alloc: Global, node: u64, rule: Asked, at: u64) -> Result<Vec<u8>, AllocError>
     ensures { IfOk result (λ text. text.items ≡ compact_text (object_of
         (command_fields (command.Move node rule at)))) }
@@ -102,6 +107,7 @@ fn move_text(alloc: Global, node: u64, rule: Asked, at: u64) -> Result<Vec<u8>, 
     }
 }
 
+// The text of a move whose rule names no partner.
 fn plain_move_text(
     alloc: Global,
     rule: &'static str,
@@ -123,6 +129,7 @@ fn plain_move_text(
     )
 }
 
+// The text of a fault.
 fn fault_text(alloc: Global, node: u64, p: Option<u64>, m: bool) -> Result<Vec<u8>, AllocError>
     ensures { IfOk result (λ text. text.items ≡ compact_text (object_of
         (command_fields (command.Fault node p m)))) }
@@ -138,6 +145,7 @@ fn fault_text(alloc: Global, node: u64, p: Option<u64>, m: bool) -> Result<Vec<u
     )
 }
 
+// What a register points at: a node's identifier, or null.
 fn register(p: Option<u64>) -> Field<'static>
     ensures { field_view result ≡ register p }
 {

@@ -331,6 +331,7 @@ fn bare_end(text: &[u8]) -> Option<usize>
     None
 }
 
+/// Whether the byte stands for itself in a string: printable ASCII but a quotation mark and a backslash.
 #[inline(always)]
 fn is_bare_byte(byte: u8) -> bool
     ensures { result ≡ is_bare_byte byte }
@@ -339,6 +340,7 @@ fn is_bare_byte(byte: u8) -> bool
     (b'\\' < byte && byte < 128) || (31 < byte && byte < b'\\' && byte != b'"')
 }
 
+/// Bytes that stand for themselves, which are ASCII, as a text.
 #[inline(always)]
 fn bare_text<'a>(word: &'a [u8]) -> &'a str
     requires { is_bare word.now ≡ true }
@@ -369,6 +371,7 @@ fn digits(text: &[u8]) -> Option<(u64, usize)>
     let mut number = first;
     let mut end = 1usize;
     'number: while let Some(next) = digit(text, end) {
+        // Another digit could go beyond 64 bits.
         if number >= 1_000_000_000_000_000_000 {
             return None;
         }

@@ -9,6 +9,7 @@ use crate::member_value::MemberValue;
 /// of value, names nothing.
 #[derive(Clone, Copy, Debug, Drop)]
 pub struct Fields<'a> {
+    /// What is asked, by the key `do`.
     pub word: Option<&'a str>,
     pub name: Option<&'a str>,
     pub key: Option<&'a str>,
@@ -16,6 +17,7 @@ pub struct Fields<'a> {
     pub rule: Option<&'a str>,
     pub with: Option<u64>,
     pub at: Option<u64>,
+    /// A node's identifier, or null.
     pub p: Option<Option<u64>>,
     pub m: Option<bool>,
     pub a: Option<u64>,

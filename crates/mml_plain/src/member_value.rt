@@ -31,6 +31,7 @@ impl<'a> MemberValue<'a> {
         }
     }
 
+    /// The text that it is, if it is one.
     #[inline(always)]
     pub(crate) fn text(&self) -> Option<&'a str>
         ensures { result ≡ text_in self.now }
@@ -41,6 +42,7 @@ impl<'a> MemberValue<'a> {
         }
     }
 
+    /// The number of 64 bits that it is, if it is one.
     #[inline(always)]
     pub(crate) fn number(&self) -> Option<u64>
         ensures { result ≡ number_in self.now }
@@ -51,6 +53,7 @@ impl<'a> MemberValue<'a> {
         }
     }
 
+    /// The truth value that it is, if it is one.
     #[inline(always)]
     pub(crate) fn truth(&self) -> Option<bool>
         ensures { result ≡ truth_in self.now }
@@ -61,7 +64,7 @@ impl<'a> MemberValue<'a> {
         }
     }
 
-    /// A number, or null.
+    /// What it says of a register, if it does: a number, or null, which is told as `Some(None)`.
     #[inline(always)]
     pub(crate) fn register(&self) -> Option<Option<u64>>
         ensures { result ≡ register_in self.now }
@@ -74,8 +77,8 @@ impl<'a> MemberValue<'a> {
     }
 }
 
-/// Whether a token's number is one that is read, and then the 64 bits that it is, where it is written
-/// without a sign, a point and an exponent.
+/// Whether a token's number is one that is read, which is told by the outer `Some`, and then the 64 bits
+/// that it is, where it is written without a sign, a point and an exponent.
 #[inline(always)]
 pub(crate) fn read_number(text: &str) -> Option<Option<u64>>
     ensures { result ≡ option_map as_u64 (number_of text.now) }
@@ -88,6 +91,7 @@ pub(crate) fn read_number(text: &str) -> Option<Option<u64>>
     }
 }
 
+// As `read_number`, where no minus stands at the front.
 #[inline(always)]
 fn unsigned(numeral: &Numeral<'_>) -> Option<Option<u64>>
     ensures { result ≡ option_map as_u64 (number_from false numeral.now) }
@@ -98,6 +102,7 @@ fn unsigned(numeral: &Numeral<'_>) -> Option<Option<u64>>
     }
 }
 
+// As `read_number`, of what stands behind a minus: no request asks for such a number.
 #[inline(never)]
 fn below_zero(numeral: &Numeral<'_>) -> Option<Option<u64>>
     ensures { result ≡ option_map as_u64 (number_from true numeral.now) }
@@ -119,6 +124,7 @@ fn float(negative: bool, numeral: &Numeral<'_>) -> Option<Option<u64>>
     if float.is_finite() { Some(None) } else { None }
 }
 
+// Whether a minus stands at the front.
 #[inline(always)]
 fn has_minus(bytes: &[u8]) -> bool
     ensures { result ≡ (slice_index bytes.now 0 == 45) }

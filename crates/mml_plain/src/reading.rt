@@ -54,6 +54,7 @@ fn read_tokens<'a>(
     Ok(read_object(&mut reader, fields))
 }
 
+/// Reads the fields of the object that the tokens are. Whether they are one, with nothing behind it.
 #[inline(always)]
 fn read_object<'a>(reader: &mut Reader<'a>, fields: &mut Fields<'a>) -> bool
     requires { Holds fields.old (object no_members) }
@@ -66,6 +67,7 @@ fn read_object<'a>(reader: &mut Reader<'a>, fields: &mut Fields<'a>) -> bool
     }
 }
 
+/// Reads the fields of the members up to the end of the object, behind which nothing may follow.
 #[inline(always)]
 fn read_members<'a>(reader: &mut Reader<'a>, fields: &mut Fields<'a>) -> bool
     requires { Holds fields.old (object no_members) }
@@ -97,7 +99,7 @@ fn is_over(reader: &mut Reader<'_>) -> bool
     reader.next().is_none()
 }
 
-/// The next value.
+/// The next value, of which arrays and objects in it nest no deeper than that.
 #[cycle(nested)]
 #[inline(always)]
 fn read_value<'a>(reader: &mut Reader<'a>, depth: usize) -> Option<MemberValue<'a>>
