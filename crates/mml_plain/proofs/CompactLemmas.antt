@@ -274,6 +274,11 @@ digit_next xs i d n digit h was here one some few = grind (arith, common_steps, 
 pub digit_first : (xs : List ℕ) (d digit : ℕ) → 0 < length xs → get_or xs 0 d ≡ 48 + digit → digit < 10 → take 1 xs ≡ decimal digit
 digit_first xs d digit h here one = take_more xs 0 d h ∙ ap (λ b. b ∷ []) here ∙ sym (decimal_digit digit one)
 
+-- a digit alone, and what follows it
+pub digit_off : (xs : List ℕ) (d digit : ℕ) → 0 < length xs → get_or xs 0 d ≡ 48 + digit → digit < 10 → xs ≡ decimal digit ++ take (length xs - 1) (drop 1 xs)
+digit_off [] d digit h here small = elim h [ ]
+digit_off (x ∷ xs) d digit h here small = grind (arith, decimal_digit, take_all)
+
 -- ---- values
 
 -- a text that begins with tokens of which a value is read begins with that value

@@ -36,10 +36,6 @@ pub record BeginsQuoted (text : List ℕ) (rest : List ℕ) : Type 0 where
   pub spaced : Spaced text at_quote
   pub quote : at_quote ≡ 34 ∷ rest
 
--- this holds where something follows
-abbrev pub IsEmptyOr : List ℕ → Type 0 → Type 0
-IsEmptyOr rest P = (b : ℕ) (bs : List ℕ) → rest ≡ b ∷ bs → P
-
 -- the text begins with a value, before the rest
 pub record BeginsValue (text : List ℕ) (v : MemberValue) (rest : List ℕ) : Type 0 where
   pub first : Token

@@ -1,12 +1,12 @@
 //! Objects whose strings have no escape, read from front to back, of a known key four bytes at once.
 //! Spaces stand only behind braces, commas and colons, where a hand types them.
-ghost use Rattle.std.specs.Prelude.{◌≡◌, ◌≤◌, ◌<◌, ◌^◌, ◌++◌, ◌∷◌, ◌+◌, [], Some, IfSome, None, true, length, take, drop, decimal, slice_index, IsUtf8};
+ghost use Rattle.std.specs.Prelude.{◌≡◌, ◌<◌, ◌^◌, ◌++◌, ◌∷◌, ◌+◌, ℕ, List, [], Some, IfSome, None, true, length, decimal, slice_index, IsUtf8};
 ghost use Rattle.std.specs.Int.{w32, to_be_bytes};
 ghost use Rattle.json.specs.Lex.{tokens};
 ghost use Rattle.serde_json.specs.Data.{Members, object, no_members};
 ghost use Rattle.mml_plain.specs.Reading.{object_at};
 ghost use Rattle.mml_plain.specs.Holds.{Holds};
-ghost use Rattle.mml_plain.specs.Compact.{is_bare_byte, is_bare, BeginsValue, BeginsMember, BeginsAfter, BeginsQuoted, IsEmptyOr, PutsKnown, PutsMember, Spaced};
+ghost use Rattle.mml_plain.specs.Compact.{is_bare_byte, is_bare, BeginsValue, BeginsAfter, BeginsQuoted, PutsKnown, PutsMember, Spaced};
 ghost use Rattle.mml_plain.specs.declared.member_value.MemberValue.TheVariants.{Text, Number};
 
 use crate::fields::Fields;
@@ -39,7 +39,9 @@ pub(crate) fn read_compact<'a>(line: &'a [u8], fields: &mut Fields<'a>) -> bool
         return false;
     };
     'members: loop {
-        let more = next_member(rest, fields);
+        let Some(more) = member(rest, fields) else {
+            return false;
+        };
         let Some(next) = behind(more, b',') else {
             return is_end(more);
         };
@@ -47,41 +49,29 @@ pub(crate) fn read_compact<'a>(line: &'a [u8], fields: &mut Fields<'a>) -> bool
     }
 }
 
-/// Puts the next member into the fields; what follows it, or nothing where there is no member.
+/// Puts the next member into the fields, and gives what follows it.
 #[inline(always)]
-fn next_member<'a>(text: &'a [u8], fields: &mut Fields<'a>) -> &'a [u8]
-    ensures { IsEmptyOr result.now (PutsMember text.now result.now fields.old fields.new) }
-{
-    if let Some(rest) = known_member(text, fields) {
-        return rest;
-    }
-    any_member(text, fields)
-}
-
-/// Puts a member into the fields whose key most requests have, with the kind of value that it names, where at
-/// least eight bytes follow its quotation mark; and gives what follows it. Where the member is no such one, the
-/// fields stay.
-#[inline(always)]
-fn known_member<'a>(text: &'a [u8], fields: &mut Fields<'a>) -> Option<&'a [u8]>
-    ensures member { IfSome result (λ rest. PutsMember text.now rest.now fields.old fields.new) }
-    ensures other { result ≡ None → fields.new ≡ fields.old }
+fn member<'a>(text: &'a [u8], fields: &mut Fields<'a>) -> Option<&'a [u8]>
+    ensures { IfSome result (λ rest. PutsMember text.now rest.now fields.old fields.new) }
 {
     let in_key = in_quotes(text)?;
-    // Each member has so many but one that ends the line, and then no bound below is tested in vain.
+    // Each member has so many but one that ends the line, and then no bound is tested in vain.
     if in_key.len() < 8 {
-        return None;
-    }
-    let (front, text) = four_bytes(in_key)?;
-    if let Some(rest) = known_number(front, text, fields) {
+        let rest = any_member(in_key, fields)?;
         return Some(rest);
     }
-    let rest = known_text(front, text, fields)?;
+    let front = u32::from_be_bytes([in_key[0], in_key[1], in_key[2], in_key[3]]);
+    if let Some(rest) = known_value(front, &in_key[4..], fields) {
+        return Some(rest);
+    }
+    let rest = any_member(in_key, fields)?;
     Some(rest)
 }
 
-/// Puts the number that follows a key with these four bytes into the fields.
+/// Puts a member into the fields whose key begins with these four bytes, and gives what follows it. Where it is
+/// none of the known keys with a value of its kind, the fields stay.
 #[inline(always)]
-fn known_number<'a>(front: u32, text: &'a [u8], fields: &mut Fields<'a>) -> Option<&'a [u8]>
+fn known_value<'a>(front: u32, text: &'a [u8], fields: &mut Fields<'a>) -> Option<&'a [u8]>
     ensures member { IfSome result (λ rest. PutsKnown (to_be_bytes w32 front ++ text.now) rest.now fields.old fields.new) }
     ensures other { result ≡ None → fields.new ≡ fields.old }
 {
@@ -100,16 +90,6 @@ fn known_number<'a>(front: u32, text: &'a [u8], fields: &mut Fields<'a>) -> Opti
         fields.with = Some(partner);
         return Some(rest);
     }
-    None
-}
-
-/// Puts a member into the fields whose key begins with these four bytes and names a text, and gives what
-/// follows it. Where the member is no such one, the fields stay.
-#[inline(always)]
-fn known_text<'a>(front: u32, text: &'a [u8], fields: &mut Fields<'a>) -> Option<&'a [u8]>
-    ensures member { IfSome result (λ rest. PutsKnown (to_be_bytes w32 front ++ text.now) rest.now fields.old fields.new) }
-    ensures other { result ≡ None → fields.new ≡ fields.old }
-{
     if front == DO {
         let (word, rest) = text_value(text)?;
         fields.word = Some(word);
@@ -133,16 +113,19 @@ fn known_text<'a>(front: u32, text: &'a [u8], fields: &mut Fields<'a>) -> Option
     None
 }
 
-/// Puts any member into the fields; what follows it, or nothing where there is none.
+/// Puts a member of any key into the fields, of which the text begins behind its quotation mark, and gives what
+/// follows it.
 #[inline(never)]
-fn any_member<'a>(text: &'a [u8], fields: &mut Fields<'a>) -> &'a [u8]
-    ensures { IsEmptyOr result.now (PutsMember text.now result.now fields.old fields.new) }
+fn any_member<'a>(text: &'a [u8], fields: &mut Fields<'a>) -> Option<&'a [u8]>
+    ensures { IfSome result (λ rest. (whole : List ℕ) → BeginsQuoted whole text.now →
+        PutsMember whole rest.now fields.old fields.new) }
 {
-    let Some((key, value, rest)) = member(text) else {
-        return &text[..0];
-    };
+    let (key, behind_key) = bare_word(text)?;
+    let after_key = behind(behind_key, b':')?;
+    let at_value = unspaced(after_key);
+    let (value, rest) = member_value(at_value)?;
     fields.put(key, &value);
-    rest
+    Some(rest)
 }
 
 /// What follows the spaces and the quotation mark at the front.
@@ -188,18 +171,6 @@ fn number_value<'a>(text: &'a [u8]) -> Option<(u64, &'a [u8])>
     Some((number, rest))
 }
 
-/// The four bytes at the front, as one number, and what follows them.
-#[inline(always)]
-fn four_bytes<'a>(text: &'a [u8]) -> Option<(u32, &'a [u8])>
-    ensures { IfSome result (λ r. text.now ≡ to_be_bytes w32 r.0 ++ r.1.now) }
-{
-    if text.len() < 4 {
-        return None;
-    }
-    let bytes = [text[0], text[1], text[2], text[3]];
-    Some((u32::from_be_bytes(bytes), &text[4..]))
-}
-
 /// Whether the brace that ends the text is all there is.
 #[inline(always)]
 fn is_end(text: &[u8]) -> bool
@@ -243,19 +214,6 @@ fn past_spaces<'a>(text: &'a [u8]) -> &'a [u8]
         rest = next;
     }
     rest
-}
-
-/// A member and what follows it.
-#[inline(always)]
-fn member<'a>(text: &'a [u8]) -> Option<(&'a str, MemberValue<'a>, &'a [u8])>
-    ensures { IfSome result (λ r. BeginsMember text.now r.0.now r.1 r.2.now) }
-{
-    let in_key = in_quotes(text)?;
-    let (key, behind_key) = bare_word(in_key)?;
-    let after_key = behind(behind_key, b':')?;
-    let at_value = unspaced(after_key);
-    let (value, rest) = member_value(at_value)?;
-    Some((key, value, rest))
 }
 
 /// A value and what follows it.
@@ -305,30 +263,15 @@ fn bare_word<'a>(text: &'a [u8]) -> Option<(&'a str, &'a [u8])>
     ensures { IfSome result (λ r. (text.now ≡ r.0.now ++ 34 ∷ r.1.now)
         × (is_bare r.0.now ≡ true)) }
 {
-    let end = bare_end(text)?;
-    let word = &text[..end];
-    Some((bare_text(word), &text[end + 1..]))
-}
-
-/// Where the quotation mark stands behind bytes that stand for themselves.
-#[inline(always)]
-fn bare_end(text: &[u8]) -> Option<usize>
-    ensures { IfSome result (λ end. (end < length text.now)
-        × (take end text.now ++ 34 ∷ drop (end + 1) text.now ≡ text.now)
-        × (is_bare (take end text.now) ≡ true)) }
-{
     let mut end = 0usize;
-    'word: while end < text.len() {
-        let byte = text[end];
-        if is_bare_byte(byte) {
-            end += 1;
-        } else if byte == b'"' {
-            return Some(end);
-        } else {
-            return None;
-        }
+    'word: while end < text.len() && is_bare_byte(text[end]) {
+        end += 1;
     }
-    None
+    if end == text.len() || text[end] != b'"' {
+        return None;
+    }
+    let word = unsafe { std::str::from_utf8_unchecked(&text[..end]) };
+    Some((word, &text[end + 1..]))
 }
 
 /// Whether the byte stands for itself in a string: printable ASCII but a quotation mark and a backslash.
@@ -340,33 +283,14 @@ fn is_bare_byte(byte: u8) -> bool
     (b'\\' < byte && byte < 128) || (31 < byte && byte < b'\\' && byte != b'"')
 }
 
-/// Bytes that stand for themselves, which are ASCII, as a text.
-#[inline(always)]
-fn bare_text<'a>(word: &'a [u8]) -> &'a str
-    requires { is_bare word.now ≡ true }
-    ensures { result.now ≡ word.now }
-{
-    unsafe { std::str::from_utf8_unchecked(word) }
-}
-
 /// A number in decimal digits with no nought before them, and what follows it.
 #[inline(always)]
 fn whole_number<'a>(text: &'a [u8]) -> Option<(u64, &'a [u8])>
     ensures { IfSome result (λ r. (text.now ≡ decimal r.0 ++ r.1.now) × (r.0 < 2 ^ 64)) }
 {
-    let (number, end) = digits(text)?;
-    Some((number, &text[end..]))
-}
-
-/// A number in decimal digits, and where they end.
-#[inline(always)]
-fn digits(text: &[u8]) -> Option<(u64, usize)>
-    ensures { IfSome result (λ r. (r.1 ≤ length text.now)
-        × (take r.1 text.now ≡ decimal r.0) × (r.0 < 2 ^ 64)) }
-{
     let first = digit(text, 0)?;
     if first == 0 {
-        return Some((0, 1));
+        return Some((first, &text[1..]));
     }
     let mut number = first;
     let mut end = 1usize;
@@ -378,7 +302,7 @@ fn digits(text: &[u8]) -> Option<(u64, usize)>
         number = number * 10 + next;
         end += 1;
     }
-    Some((number, end))
+    Some((number, &text[end..]))
 }
 
 /// The digit at a place.

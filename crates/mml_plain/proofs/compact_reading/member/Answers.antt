@@ -1,16 +1,19 @@
-use Rattle.mml_plain.proofs.CompactLemmas.{key_is, bare_utf8}
+use Rattle.std.proofs.Common.{arith, rules, sym, subst, refl}
+use Rattle.mml_plain.specs.Compact.{PutsKnown, PutsMember}
+use Rattle.mml_plain.proofs.CompactLemmas.{known_key, four_first}
 use Rattle.mml_plain.proofs.compact_reading.member.Goals as goal
 
+pub returns-in-Some : goal.returns-in-Some
+returns-in-Some c =
+    let old = c.args.fields.now in
+    let new = c.known_value.new.fields in
+    let rest = c.in-Some.rest.now in
+    let in_key = c.in_ok-in_key.in_key.now in
+    known_key c.args.text.now in_key rest old new c.in_ok-in_key.ensures
+    (subst (λ t. PutsKnown t rest old new) (sym (four_first in_key c.from_be_bytes-front.result (omega (arith, c.if-in_key-lt8.false)) (search rules) c.from_be_bytes-front.ensures)) c.in-Some.ensures.member)
+
+pub returns-then-in_key-lt8 : goal.returns-then-in_key-lt8
+returns-then-in_key-lt8 c = c.in_ok-rest.ensures c.args.text.now c.in_ok-in_key.ensures
+
 pub returns : goal.returns
-returns c = record {
-  at_key = c.in_ok-in_key.ensures.at_quote;
-  spaced = c.in_ok-in_key.ensures.spaced;
-  key_utf8 = bare_utf8 c.in_ok-key.key.now c.in_ok-key.ensures.1;
-  after_key = c.in_ok-after_key.after_key.now;
-  key =
-      key_is c.in_ok-in_key.ensures.at_quote c.in_ok-in_key.in_key.now c.in_ok-key.behind_key.now c.in_ok-key.key.now c.in_ok-after_key.after_key.now
-      c.in_ok-in_key.ensures.quote c.in_ok-key.ensures.0 c.in_ok-key.ensures.1 c.in_ok-after_key.ensures;
-  at_value = c.unspaced-at_value.result.now;
-  spaced_value = c.unspaced-at_value.ensures;
-  value = c.in_ok-value.ensures;
-}
+returns c = subst (λ old. PutsMember c.args.text.now c.in_ok-rest-2.rest.now old c.any_member-2.new.fields) (c.in_default.ensures.other refl) (c.in_ok-rest-2.ensures c.args.text.now c.in_ok-in_key.ensures)

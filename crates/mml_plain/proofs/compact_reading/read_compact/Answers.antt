@@ -1,4 +1,4 @@
-use Rattle.std.proofs.Common.{ℕ, List, []}
+use Rattle.std.proofs.Common.{ℕ, List}
 use Rattle.serde_json.specs.Data.{Members, object, no_members, put}
 use Rattle.mml_plain.specs.declared.fields.Fields.{Fields}
 use Rattle.mml_plain.specs.Compact.{PutsMember}
@@ -19,12 +19,12 @@ one_more line rest more found old new before holds p =
 pub returns-in_default-behind : goal.returns-in_default-behind
 returns-in_default-behind c = λ e.
     let l = c.members in
-    let s = one_more c.args.line.now l.rest.now _ l.invariant.0 l.fields _ l.invariant.1 l.invariant.2 (c.next_member-more.ensures 125 [] (c.is_end.ensures e)) in
+    let s = one_more c.args.line.now l.rest.now _ l.invariant.0 l.fields _ l.invariant.1 l.invariant.2 c.in-Some-member.ensures in
     (s.0, over_utf8 _ _ s.0 (c.is_end.ensures e) s.1, over _ _ s.0 (c.is_end.ensures e) s.1, s.2)
 
 pub members-preserved : goal.members-preserved
 members-preserved c =
     let l = c.members in
     let s = one_more c.args.line.now l.rest.now _ l.invariant.0 l.fields _ l.invariant.1 l.invariant.2
-    (c.next_member-more.ensures 44 c.in-Some-behind.next.now c.in-Some-behind.ensures) in
+    c.in-Some-member.ensures in
     (s.0, comma _ _ _ s.0 c.in-Some-behind.ensures s.1, s.2)

@@ -1,5 +1,5 @@
 use Rattle.std.proofs.Common.{◌≡◌, ◌≤◌, ◌<◌, ◌-◌, length, take, decimal}
-use Rattle.mml_plain.proofs.compact_reading.digits.Given as goal
+use Rattle.mml_plain.proofs.compact_reading.whole_number.Given as goal
 
 abbrev pub invariant-number : goal.invariant-number
 invariant-number l = record {

@@ -1,6 +1,6 @@
 use Rattle.std.proofs.Common.{◌≡◌, ◌≤◌, ◌-◌, length, take, true}
 use Rattle.mml_plain.specs.Compact.{is_bare}
-use Rattle.mml_plain.proofs.compact_reading.bare_end.Given as goal
+use Rattle.mml_plain.proofs.compact_reading.bare_word.Given as goal
 
 abbrev pub invariant-word : goal.invariant-word
 invariant-word l = record {
