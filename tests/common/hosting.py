@@ -14,19 +14,11 @@ from pathlib import Path
 from types import TracebackType
 from typing import Optional
 
+from tests.common.lines import BID, BUSY, BYE
 from tests.common.preload import LIMIT, TOP, Ended, built_in, fail, good
 
 HOST = Path(os.environ.get("MML_HOST") or TOP / "crates/mml_host/out/mml_host")
 LISTENS = re.compile(rb"listening on port (\d+), desk on port (\d+)\n")
-BUSY = b'{"refuse":"busy"}\n'
-LATE = b'{"refuse":"late"}\n'
-LONG = b'{"refuse":"long"}\n'
-OVER = b'{"refuse":"over"}\n'
-UNKNOWN = b'{"clause":2,"deny":"unknown","text":"name and key do not match"}\n'
-BYE = b'{"do":"bye"}\n'
-BID = b'{"ok":"bye"}\n'
-KEYS = {"ana": "a-key", "ben": "b-key", "cyd": "c-key", "tess": "chalk"}
-NODES = {"ana": 1, "ben": 2, "cyd": 3}
 # Asks each line of its words at a port, prints the replies, sends half a line, says so, and waits for its end.
 BOT = """
 import socket, sys
@@ -38,16 +30,6 @@ with socket.create_connection(("127.0.0.1", int(sys.argv[1]))) as it, it.makefil
     print("half", flush=True)
     replies.read()
 """
-
-
-def hello(name: str) -> bytes:
-    """A greeting of one who takes part in the lab that is built into the program."""
-    return b'{"do":"hello","key":"%s","name":"%s"}\n' % (KEYS[name].encode(), name.encode())
-
-
-def look(name: str) -> bytes:
-    """A look at a student's node."""
-    return b'{"do":"look","node":%d}\n' % NODES[name]
 
 
 def lab_of(room: Path, sessions: int, events: int = 1000) -> Path:

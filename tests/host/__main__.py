@@ -10,29 +10,21 @@ import threading
 import time
 from pathlib import Path
 
-from tests.common.hosting import (
-    BID, BUSY, BYE, LATE, NODES, OVER, Bot, Caller, Host, Talk, audit, called, hello, lab_of, let_in, look
-)
+from tests.common.hosting import Bot, Caller, Host, Talk, audit, called, lab_of, let_in
+from tests.common.lines import BID, BUSY, BYE, CLOSE, LATE, NODES, OVER, REPORT, fault, hello, look, move, see, welcome
 from tests.common.preload import Ended, fail, good
 from tests.common.side_by_side import Test, try_all
 
 NOT_LISTENING = Ended(4, b"", b"host: cannot listen\n")
 NONE = Ended(0, b"done: 0 events, configuration 0\n", b"")
-CLOSE = b'{"do":"close"}\n'
-REPORT = b'{"do":"report"}\n'
-
-
-def move(at: int, node: int, rule: str) -> bytes:
-    """A move by that number."""
-    return b'{"at":%d,"do":"move","node":%d,"rule":"%s"}\n' % (at, node, rule.encode())
 
 
 def acts(talk: Talk, student: Caller, teacher: Caller, turn: int) -> None:
     """A move of ana's, its close, and a fault by which it may be made again: three events, two numbers."""
-    talk.ask(student, move(2 * turn, 1, "seduction"))
+    talk.ask(student, move(2 * turn, 1))
     talk.ask(teacher, CLOSE)
     talk.ask(student, look("ana"))
-    talk.ask(teacher, b'{"do":"fault","m":false,"node":1,"p":null}\n')
+    talk.ask(teacher, fault(1))
 
 
 def goes_on(talk: Talk, student: Caller, teacher: Caller, turn: int) -> None:
@@ -53,8 +45,7 @@ def one_after_another(room: Path) -> None:
         for turn in range(200):
             name = list(NODES)[turn % 3]
             caller = talk.comes(host.port, hello(name))
-            see = b'{"do":"see","node":%d}\n' % (turn % 4)
-            for line in (look(name), see, b'{"do":"dance"}\n', hello("ben"), REPORT):
+            for line in (look(name), see(turn % 4), b'{"do":"dance"}\n', hello("ben"), REPORT):
                 talk.ask(caller, line)
             if name == "ana":
                 acts(talk, caller, teacher, turn // 3)
@@ -94,7 +85,7 @@ def killed_in_a_line(room: Path) -> None:
     with Host(lab, 0, 0, journal) as host:
         talk = Talk(lab, 2, room)
         teacher = Bot(talk, host.desk, [hello("tess"), REPORT])
-        bot = Bot(talk, host.port, [hello("ana"), look("ana"), move(0, 1, "seduction"), look("ana")])
+        bot = Bot(talk, host.port, [hello("ana"), look("ana"), move(0, 1), look("ana")])
         bot.killed()
         student = talk.comes(host.port, hello("ana"))
         talk.ask(student, look("ana"))
@@ -103,8 +94,8 @@ def killed_in_a_line(room: Path) -> None:
         for turn in range(3):
             talk.ask(again, CLOSE)
             talk.ask(student, look("ana"))
-            talk.ask(again, b'{"do":"fault","m":false,"node":1,"p":null}\n')
-            talk.ask(student, move(2 * turn + 2, 1, "seduction"))
+            talk.ask(again, fault(1))
+            talk.ask(student, move(2 * turn + 2, 1))
         ended = host.dismissed(again)
     talk.heard(again, BYE, BID)
     if ended != Ended(0, b"done: 10 events, configuration 6\n", b""):
@@ -230,7 +221,7 @@ def says_busy(room: Path) -> None:
         if (ana.ask(BYE), ana.line()) != (BID, b""):
             fail("host: no end after a bye")
         cyd, reply = let_in(host.port, hello("cyd"))
-        if reply != b'{"ok":"hello","who":"cyd"}\n' or not ben.ask(look("ben")).startswith(b'{"at":0'):
+        if reply != welcome("cyd") or not ben.ask(look("ben")).startswith(b'{"at":0'):
             fail("host: a place that was left isn't given to the next")
         told_busy(host.port)
         if host.dismissed(tess) != NONE or (ben.line(), ben.line(), cyd.line()) != (OVER, b"", OVER):
@@ -249,7 +240,7 @@ def two_of_one_name(room: Path) -> None:
         talk = Talk(lab, 3, room)
         one, two = (talk.comes(host.port, hello("ana")) for _ in range(2))
         teacher = talk.comes(host.desk, hello("tess"))
-        for line in (look("ana"), move(0, 1, "seduction"), look("ana")):
+        for line in (look("ana"), move(0, 1), look("ana")):
             talk.ask(two, line)
             talk.ask(one, line)
         talk.ask(teacher, CLOSE)
@@ -271,12 +262,12 @@ def raced(room: Path) -> None:
             if turn % 20 == 0:
                 ana, ben = (let_in(host.port, hello(name))[0] for name in ("ana", "ben"))
             at = int(ana.ask(look("ana"))[6:].split(b",", 1)[0])
-            three = [(ana, move(at, 1, "seduction")), (ben, move(at, 2, "seduction")), (tess, CLOSE)]
+            three = [(ana, move(at, 1)), (ben, move(at, 2)), (tess, CLOSE)]
             for caller, line in three[turn % 3:] + three[:turn % 3]:
                 caller.send(line)
             told += [caller.line() for caller, _ in three]
             told.append(tess.ask(CLOSE))
-            told += [tess.ask(b'{"do":"fault","m":false,"node":%d,"p":null}\n' % node) for node in (1, 2)]
+            told += [tess.ask(fault(node)) for node in (1, 2)]
             if turn % 20 == 19:
                 for caller in (ana, ben):
                     caller.close()
@@ -296,7 +287,7 @@ def byes_that_end_nothing(room: Path) -> None:
     with Host(lab, 0, 0, journal) as host:
         talk = Talk(lab, 4, room)
         student = talk.comes(host.port, hello("ana"))
-        unknown = b'{"do":"hello","key":"chalk-","name":"tess"}\n'
+        unknown = hello("tess", "chalk-")
         said: list[tuple[int, list[bytes]]] = [
             (host.desk, []), (host.desk, [hello("ana")]), (host.desk, [unknown]),
             (host.desk, [hello("ana"), hello("tess")]),
@@ -319,7 +310,7 @@ def byes_that_end_nothing(room: Path) -> None:
             fallen = talk.comes(host.desk, hello("tess"))
             leave(fallen)
             talk.gone(fallen)
-        talk.ask(student, move(0, 1, "seduction"))
+        talk.ask(student, move(0, 1))
         teacher = talk.comes(host.desk, hello("tess"))
         if not host.runs() or host.dismissed(teacher) != Ended(0, b"done: 1 events, configuration 0\n", b""):
             fail("host: another end after byes that end nothing")
@@ -336,7 +327,7 @@ def asks_on(port: int, name: str, asked: threading.Semaphore, wrong: list[str]) 
     while True:
         reply = caller.ask(look(name))
         if reply not in (b"", OVER):
-            reply = caller.ask(move(at, NODES[name], "seduction"))
+            reply = caller.ask(move(at, NODES[name]))
         if reply in (b"", OVER):
             return
         if b'"stale"' in reply:
@@ -368,7 +359,7 @@ def ended_while_asked(room: Path) -> None:
             for _ in range(20):
                 asked.acquire()
             teacher.ask(CLOSE)
-            teacher.ask(b'{"do":"fault","m":false,"node":1,"p":null}\n')
+            teacher.ask(fault(1))
         said, looks = [teacher.ask(BYE), teacher.line()], 0
         while host.runs() and looks < 160:
             time.sleep(0.05)
@@ -416,7 +407,7 @@ def ports(room: Path) -> None:
     # Two at once on one journal: the second changes nothing.
     with Host(lab, 0, 0, journal) as first:
         student, _ = let_in(first.port, hello("ana"))
-        student.ask(move(0, 1, "seduction"))
+        student.ask(move(0, 1))
         with Host(lab, 0, 0, journal) as second:
             if second.listens or second.end() != Ended(4, b"", b"journal fault\n"):
                 fail("host: two write one journal")

@@ -18,7 +18,8 @@ from collections.abc import Callable
 from concurrent.futures import Future, ProcessPoolExecutor
 from pathlib import Path
 
-from tests.common.hosting import BID, BYE, HOST, LONG, Host, hello, let_in
+from tests.common.hosting import HOST, Host, let_in
+from tests.common.lines import BID, BYE, CLOSE, LONG, MALFORMED, REPORT, denied, fault, hello, look, move, see
 from tests.common.preload import LIMIT, Client, Ended, Server, Story, built_in, fail, in_room
 
 SECONDS = 20.0
@@ -28,12 +29,9 @@ UNREAD = 10.0
 OVER_HOST = "host" in sys.argv[1:]
 MOST_LINES = 18_000
 PAUSE = 0.001
-SEE = b'{"do":"see","node":99}\n'
-NOT_GREETED = b'{"clause":0,"deny":"not-greeted","text":"say hello first"}\n'
-HIDDEN = b'{"clause":1,"deny":"hidden","text":"this node is not shown to you"}\n'
+SEE = see(99)
 # A host lets nobody stay who doesn't greet.
-DENIED = HIDDEN if OVER_HOST else NOT_GREETED
-MALFORMED = b'{"refuse":"malformed"}\n'
+DENIED = denied("hidden" if OVER_HOST else "not-greeted")
 Program = Server | Host
 # A hostile client: a port, the time to end at, and what it draws from. It answers what is wrong with its replies.
 Hostile = Callable[[int, float, random.Random], str]
@@ -166,17 +164,13 @@ ALL: list[Hostile] = [noise, long_line, half_line, byte_by_byte, reset, flood, g
 
 def honest_lines() -> bytes:
     """What two honest clients ask in turn: views and denials, and now and then a move and its close."""
-    lines = ['1 {"do":"hello","key":"a-key","name":"ana"}', '2 {"do":"hello","key":"chalk","name":"tess"}']
+    lines = [b"1 " + hello("ana"), b"2 " + hello("tess")]
     number = 0
     while len(lines) < MOST_LINES:
-        lines += ['1 {"do":"look","node":1}', '2 {"do":"report"}', '1 {"do":"report"}', '2 {"do":"close"}'] * 50
-        lines += [
-            '1 {"at":%d,"do":"move","node":1,"rule":"seduction"}' % number,
-            '2 {"do":"close"}',
-            '2 {"do":"fault","m":false,"node":1,"p":null}',
-        ]
+        lines += [b"1 " + look("ana"), b"2 " + REPORT, b"1 " + REPORT, b"2 " + CLOSE] * 50
+        lines += [b"1 " + move(number, 1), b"2 " + CLOSE, b"2 " + fault(1)]
         number += 2
-    return "".join(line + "\n" for line in lines).encode()
+    return b"".join(lines)
 
 
 def kilobytes(server: Program) -> int:
@@ -315,7 +309,7 @@ class Silent:
         time.sleep(max(0.0, self.until - time.monotonic()))
         with self.open as it, it.makefile("rb") as replies:
             it.sendall(SEE)
-            if replies.readline() != NOT_GREETED:
+            if replies.readline() != denied("not-greeted"):
                 fail("hostile: a client that was silent for a minute isn't answered")
         if self.server.end() != Ended(0, b"done: 0 events, configuration 0\n", b""):
             fail("hostile: the server of a silent client ended otherwise")

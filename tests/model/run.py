@@ -21,6 +21,13 @@ def text_of(values: dict[str, Any]) -> str:
     return json.dumps(values, sort_keys=True, separators=(",", ":"))
 
 
+def denial_of(name: str, at: int) -> str:
+    """The reply that denies so in the configuration with a number, which a stale move is told."""
+    clause, text = DENIALS[name]
+    number = {"at": at} if name == "stale" else {}
+    return text_of({"clause": clause, "deny": name, "text": text, **number})
+
+
 class Model:
     """The state of a run over a lab: its world, who has greeted on which connection, and the journal's lines."""
 
@@ -45,9 +52,7 @@ class Model:
         return self._obey(self.names[connection], asked)
 
     def _denied(self, name: str) -> str:
-        clause, text = DENIALS[name]
-        number = {"at": self.world.number} if name == "stale" else {}
-        return text_of({"clause": clause, "deny": name, "text": text, **number})
+        return denial_of(name, self.world.number)
 
     def _hello(self, connection: int, asked: Request) -> str:
         if connection in self.names:

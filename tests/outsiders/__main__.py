@@ -12,19 +12,19 @@ import time
 from collections.abc import Callable
 from pathlib import Path
 
-from tests.common.hosting import (
-    BID, BUSY, BYE, HOST, LATE, LONG, NODES, OVER, UNKNOWN, Caller, Host, audit, hello, lab_of, let_in, look
+from tests.common.hosting import HOST, Caller, Host, audit, lab_of, let_in
+from tests.common.lines import (
+    BID, BUSY, BYE, CLOSE, HALT, LATE, LONG, MALFORMED, NODES, OVER, denied, fault, hello, look, move
 )
 from tests.common.preload import LIMIT, PROGRAM, TOP, Ended, Preloaded, Server, fail
 from tests.common.side_by_side import Test, try_all
 
 NONE = Ended(0, b"done: 0 events, configuration 0\n", b"")
 FAULT = Ended(4, b"", b"journal fault\n")
-MALFORMED = b'{"refuse":"malformed"}\n'
 EAGAIN = 11
 LOOKS = 3  # threads that a host starts before it listens, to see whether it may
-MOVE = b'{"at":0,"do":"move","node":1,"rule":"seduction"}\n'
-WRONG = b'{"do":"hello","key":"a-kez","name":"ana"}\n'
+WRONG = hello("ana", "a-kez")
+UNKNOWN = denied("unknown")
 FREE = ["setpriv", "--reuid", "65534", "--regid", "65534", "--clear-groups"] if os.geteuid() == 0 else []
 
 
@@ -78,7 +78,7 @@ def asks_after_the_bye(room: Path) -> None:
         for name in ("tess", "cyd"):
             if let_in(host.port, hello(name))[0].ask(BYE) != BID or b'"ok":"look"' not in students[0].ask(look("ana")):
                 fail(f"outsiders: a bye of {name} at the students' port ends the class")
-        moves = [MOVE.replace(b'"node":1', b'"node":%d' % node) for node in NODES.values()]
+        moves = [move(0, node) for node in NODES.values()]
         if b'"place":1' not in students[0].ask(moves[0]):
             fail("outsiders: a move before the bye isn't granted")
         if teacher.ask(BYE) != BID:
@@ -461,7 +461,7 @@ def journals(room: Path) -> None:
             journal.chmod(mode)
         with Host(lab, 0, 0, journal) as host:
             student = let_in(host.port, hello("ana"))[0]
-            student.ask(MOVE)
+            student.ask(move(0, 1))
             ends(host, let_in(host.desk, hello("tess"))[0], Ended(0, b"done: 1 events, configuration 0\n", b""))
         if journal.stat().st_mode & 0o777 != mode:
             fail(f"outsiders: a journal's mode is {journal.stat().st_mode:o} after {mode:o}")
@@ -476,10 +476,8 @@ def limits_of_files(room: Path) -> None:
         with Host(lab, 0, 0, room / f"{name}.journal", before=words) as host:
             teacher, student = let_in(host.desk, hello("tess"))[0], let_in(host.port, hello("ana"))[0]
             for turn in range(100):
-                move = MOVE.replace(b'"at":0', b'"at":%d' % (2 * turn))
-                said = [student.ask(move), teacher.ask(b'{"do":"close"}\n'),
-                        teacher.ask(b'{"do":"fault","m":false,"node":1,"p":null}\n')]
-                if b'{"refuse":"journal"}\n' in said:
+                said = [student.ask(move(2 * turn, 1)), teacher.ask(CLOSE), teacher.ask(fault(1))]
+                if HALT in said:
                     break
             else:
                 fail(f"outsiders: a host whose journal can't grow says {said}")
@@ -489,11 +487,11 @@ def limits_of_files(room: Path) -> None:
             if ended != Ended(4, b"", b"journal fault\n"):
                 fail(f"outsiders: a host whose journal can't grow ends with {ended}")
     # What looks at no limit is ended by the signal, unless `./mml` ignores it.
-    script, fault = room / "script", b'1 {"do":"fault","m":false,"node":1,"p":null}\n'
-    script.write_bytes(b"1 " + hello("tess") + fault * 100)
+    script = room / "script"
+    script.write_bytes(b"1 " + hello("tess") + (b"1 " + fault(1)) * 100)
     words = ["bash", "-c", 'ulimit -f 1 && exec "$@"', "bash", str(TOP / "mml"), "script", str(lab), str(script), str(room / "script.journal")]
     done = ended_soon([*words])
-    if (done.status, done.error) != (4, b"journal fault\n") or not done.out.endswith(b'1 {"refuse":"journal"}\n'):
+    if (done.status, done.error) != (4, b"journal fault\n") or not done.out.endswith(b"1 " + HALT):
         fail(f"outsiders: a script whose journal can't grow ends with {done.status}, {done.error!r}")
 
 

@@ -19,15 +19,17 @@ from dataclasses import dataclass
 from pathlib import Path
 
 from classroom.folders import RECORD, Record
-from tests.common.hosting import BYE, HOST, NODES, Caller, hello, lab_of, let_in, look
+from tests.common.hosting import HOST, Caller, lab_of, let_in
+from tests.common.lines import BYE, NODES, hello, look
 from tests.common.preload import LIMIT, PROGRAM, TOP, fail
+from tests.resume.players import asked
 
 SECONDS = 3600.0
 ROUND = 60.0
 COMING = 12  # clients at a time
 PAUSE = 0.02
 MORE = 6144  # kilobytes that the events of an hour may add
-WRONG = b'{"do":"hello","key":"a-kez","name":"ana"}\n'
+WRONG = hello("ana", "a-kez")
 FORM = b"POST / HTTP/1.1\r\nContent-Type: text/plain\r\n\r\n"
 
 
@@ -128,11 +130,8 @@ class Comings:
         name = draw.choice([*NODES])
         caller, _ = let_in(self.port, hello(name))
         seen = json.loads(caller.ask(look(name)) or b"{}")
-        if seen.get("rule") not in (None, "marriage"):
-            caller.ask(b'{"at":%d,"do":"move","node":%d,"rule":"%s"}\n' % (seen["at"], NODES[name], seen["rule"].encode()))
-        elif seen.get("rule"):
-            other = next(each["node"] for each in seen["near"] if each["p"] == NODES[name])
-            caller.ask(b'{"at":%d,"do":"move","node":%d,"rule":"marriage","with":%d}\n' % (seen["at"], NODES[name], other))
+        if seen.get("rule"):
+            caller.ask(asked(seen, NODES[name]))
         caller.close()
 
     def is_no_one(self, draw: random.Random) -> None:

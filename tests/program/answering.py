@@ -8,10 +8,11 @@ import threading
 from pathlib import Path
 
 from tests.common.hosting import HOST
+from tests.common.lines import FULL, hello
 from tests.common.preload import LIMIT, TOP, Ended, built_in, fail, in_room
 from tests.program.lines import ROWS
 
-HELLO = b'1 {"do":"hello","name":"tess","key":"chalk"}\n'
+HELLO = b"1 " + hello("tess")
 FAULTS = 5000
 
 
@@ -85,8 +86,8 @@ def ends(room: Path) -> int:
     large = room / "large.toml"
     large.write_text(Path(lab).read_text(encoding="utf-8").replace("events = 100", f"events = {FAULTS}"), encoding="utf-8")
     found = answered(["answer", str(large)], HELLO + b'1 {"do":"fault","node":1,"p":2,"m":true}\n' * (FAULTS + 1))
-    *_, last, over = found.out.splitlines()
-    if json.loads(last[2:])["place"] != FAULTS or over != b'1 {"refuse":"full"}':
+    *_, last, over = found.out.splitlines(keepends=True)
+    if json.loads(last[2:])["place"] != FAULTS or over != b"1 " + FULL:
         fail(f"the last of {FAULTS} events is answered by {last!r}, the next by {over!r}")
     return len(ROWS) + len(words) + 2
 
