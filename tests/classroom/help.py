@@ -22,6 +22,7 @@ from collections.abc import Iterator
 from contextlib import contextmanager
 from pathlib import Path
 
+from classroom.client import Client
 from classroom.lab import read
 from classroom.program import TOP, call
 
@@ -144,6 +145,13 @@ class Going:
             pass
         return self.process.wait(LIMIT)
 
+    def end(self, status: int = 0) -> None:
+        """Types that the run is to end, and says so once more, and wants it to end with this status."""
+        self.type("end\nend")
+        found = self.ends()
+        if found != status:
+            raise AssertionError(f"it ends with {found}: {self.lines}")
+
     def server(self) -> int:
         """The process of the server."""
         children = Path(f"/proc/{self.process.pid}/task/{self.process.pid}/children").read_text(encoding="ascii").split()
@@ -161,6 +169,12 @@ class Going:
                     pipe.close()
                 except OSError:
                     pass
+
+
+def gus_moves(going: Going, node: int = 4) -> None:
+    """Gus greets, asks for the move that is enabled at a node of his, and goes."""
+    with Client(going.port, "gus", KEYS["gus"]) as gus:
+        gus.move(gus.look(node))
 
 
 class InTerminal:

@@ -262,11 +262,9 @@ class Late(Cycle):
         self.assertEqual(len(list((self.room / "runs").iterdir())), 1)
         beside = Going(self, CYCLE, "--close", "by-hand", "--beside")
         for run in (beside, going):
-            run.type("end\nend")
-            self.assertEqual(run.ends(), 0)
+            run.end()
         third = Going(self, CYCLE, "--close", "by-hand")
-        third.type("end\nend")
-        self.assertEqual(third.ends(), 0)
+        third.end()
 
 
 class Kept(InRoom):

@@ -104,8 +104,7 @@ class Bots(Cycle):
         all_are_in = f"connected: gus, {len(playing)} connections" if len(playing) > 1 else "connected: gus"
         if all_are_in not in again.lines:
             again.until(f"^{all_are_in}$")
-        again.type("end\nend")
-        self.assertEqual(again.ends(), 0, again.lines)
+        again.end()
         self.are_ended(playing, 0, "the run is over")
 
     def test_a_connection_that_stays_lost_is_no_end_of_the_run(self) -> None:
