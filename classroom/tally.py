@@ -9,6 +9,9 @@ from classroom.journal import RULES
 from classroom.program import Fault, host_call
 
 
+NUMBERS = ("steps", "first", "last", "shared")  # the columns of a student behind those of the moves
+
+
 @dataclass
 class Marks:
     """What a journal tells of a student."""
@@ -20,6 +23,10 @@ class Marks:
     last: int | None = None
     shared: int = 0
 
+    def numbers(self) -> dict[str, int | None]:
+        """What stands in the columns behind those of the moves."""
+        return {name: getattr(self, name) for name in NUMBERS}
+
 
 @dataclass(frozen=True)
 class Bounds:
@@ -30,7 +37,8 @@ class Bounds:
     events: int
 
 
-DENIED = ("clause1", "clause2", "clause3", "clause4", "malformed")
+# The columns of who was denied: the clauses that a student's line can break, and the lines that were no request.
+DENIED = (*(f"clause{number}" for number in range(1, 5)), "malformed")
 
 
 @dataclass

@@ -26,17 +26,6 @@ impl<'a> FakeReader<'a> {
             reads: 0,
         }
     }
-
-    /// Fails at once, with an error of that kind.
-    pub fn failing_with(kind: ErrorKind) -> FakeReader<'a> {
-        FakeReader {
-            rest: b"".as_slice(),
-            step: 1,
-            good: 0,
-            kind,
-            reads: 0,
-        }
-    }
 }
 
 impl<'a> Read for FakeReader<'a> {

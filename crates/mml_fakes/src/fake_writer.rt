@@ -41,17 +41,6 @@ impl FakeWriter {
             good_flushes: usize::MAX,
         }
     }
-
-    /// Fails at once, a flush too, with an error of that kind.
-    pub fn failing_with(kind: ErrorKind, alloc: Global) -> FakeWriter {
-        FakeWriter {
-            taken: Vec::new(alloc),
-            step: usize::MAX,
-            good: 0,
-            refusal: Refusal::Fails(kind),
-            good_flushes: 0,
-        }
-    }
 }
 
 impl Write for FakeWriter {

@@ -10,7 +10,7 @@ pub fn boxed_lab(alloc: Global, document: &str) -> Result<Box<Lab>, Fail> {
     Ok(Box::new(alloc, read_lab(alloc, document.as_bytes())?)?)
 }
 
-/// The board at the beginning of a run, in a box for the same reason.
+/// The board at the beginning of a run, in a box, so that a way out of what holds it drops one thing.
 pub fn boxed_board(alloc: Global, lab: &Lab) -> Result<Box<Board>, Fail> {
     Ok(Box::new(alloc, Board::new(alloc, lab)?)?)
 }

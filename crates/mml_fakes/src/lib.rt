@@ -1,5 +1,5 @@
 //! For tests alone: readers, writers and sinks that fail where they are told, threads that wait for each
-//! other, numbers that look drawn, and the labs and scripts that several tests speak of. Nothing of the
+//! other, numbers that look drawn, and the labs, lines and scripts that several tests speak of. Nothing of the
 //! program stands on it.
 #![tactic(auto)]
 
@@ -8,6 +8,7 @@ mod drip;
 mod fake_reader;
 mod fake_writer;
 pub mod labs;
+mod lines;
 pub mod meeting;
 mod numbers;
 pub mod scripts;

@@ -1,4 +1,5 @@
 //! Scripts that several tests speak of, with their replies.
+use crate::lines;
 
 /// The first lines of a text, so many.
 pub fn first_lines(text: &str, count: u64) -> &str {
@@ -12,30 +13,37 @@ pub fn first_lines(text: &str, count: u64) -> &str {
     text.strip_suffix(rest).unwrap_or(text)
 }
 
+/// How many lines end in a text.
+pub fn ended_lines(text: &[u8]) -> usize {
+    text.iter().filter(|byte| **byte == b'\n').count()
+}
+
 /// One connection's greeting of a student over `labs::PATH_OF_THREE`, and a move of her node.
-pub const ANA_MOVES: &str = r#"{"do":"hello","key":"a-key","name":"ana"}
-{"at":0,"do":"move","node":1,"rule":"seduction"}
-"#;
+pub const ANA_MOVES: &str = lines!(hello("ana", "a-key"), seduction(1));
 
-/// What is answered to her greeting.
-pub const ANA_WELCOME: &str = r#"{"ok":"hello","who":"ana"}
-"#;
+/// What is answered to the greeting in `ANA_MOVES`.
+pub const ANA_WELCOME: &str = lines!(welcome("ana"));
 
-/// What is answered to a move of node 1 that is the first event.
-pub const GRANTED: &str = r#"{"at":0,"node":1,"ok":"move","place":1,"rule":"seduction"}
-"#;
+/// What is answered to `ANA_MOVES` where the move is the first event.
+pub const ANA_GRANTED: &str = lines!(welcome("ana"), granted(1, 1));
 
-/// What is answered to it where the node is chosen.
-pub const CHOSEN: &str = r#"{"clause":3,"deny":"chosen","text":"this node is already chosen"}
-"#;
+/// The journal once the move of `ANA_MOVES` is granted.
+pub const ANA_JOURNAL: &str = "1 0 grant ana 1 seduction\n";
 
-/// What is answered to a close that applies that move.
-pub const CLOSED: &str = r#"{"at":1,"moved":[1],"ok":"close","place":2}
-"#;
+/// The journal once a close applies the move of `ANA_MOVES`.
+pub const CLOSED_JOURNAL: &str = "1 0 grant ana 1 seduction\n2 0 close\n";
 
-/// What is answered to a close where no node is chosen.
-pub const EMPTY: &str = r#"{"clause":2,"deny":"empty","text":"no node is chosen"}
-"#;
+/// The last line of a house whose journal is `CLOSED_JOURNAL`.
+pub const ONE_CLOSED: &str = "done: 2 events, configuration 1\n";
+
+/// A student's move of node 2.
+pub const BEN_MOVES: &str = lines!(hello("ben", "b-key"), seduction(2), bye);
+
+/// The teacher's close of a step.
+pub const TESS_CLOSES: &str = lines!(hello("tess", "chalk"), close, bye);
+
+/// What is answered to `TESS_CLOSES` where no node is chosen.
+pub const NOTHING_CLOSED: &str = lines!(welcome("tess"), empty, left);
 
 /// Greetings on two connections, and what is asked before and after them.
 pub const GREETING: &str = r#"1 {"do":"see","node":1}
@@ -65,24 +73,22 @@ pub const FIRST_LOOK: &str = r#"1 {"do":"hello","key":"a-key","name":"ana"}
 "#;
 
 /// What is answered to `FIRST_LOOK` over `labs::PATH_OF_THREE`.
-pub const FIRST_LOOK_REPLIES: &str = r#"1 {"ok":"hello","who":"ana"}
-1 {"at":0,"m":false,"node":2,"ok":"see","p":null}
-1 {"clause":1,"deny":"hidden","text":"this node is not shown to you"}
-1 {"clause":1,"deny":"hidden","text":"this node is not shown to you"}
-"#;
+pub const FIRST_LOOK_REPLIES: &str = lines!(
+    "1 ",
+    welcome("ana"),
+    "1 ",
+    seen(0, false, 2, "null"),
+    "1 ",
+    hidden,
+    "1 ",
+    hidden
+);
 
 /// The greetings of all four over `labs::PATH_OF_THREE`.
 pub const GREETINGS: &str = r#"1 {"do":"hello","key":"a-key","name":"ana"}
 2 {"do":"hello","key":"b-key","name":"ben"}
 3 {"do":"hello","key":"c-key","name":"cyd"}
 4 {"do":"hello","key":"chalk","name":"tess"}
-"#;
-
-/// What is answered to `GREETINGS`.
-pub const WELCOMES: &str = r#"1 {"ok":"hello","who":"ana"}
-2 {"ok":"hello","who":"ben"}
-3 {"ok":"hello","who":"cyd"}
-4 {"ok":"hello","who":"tess"}
 "#;
 
 /// Ten acts that are granted after `GREETINGS`, whose journal is `TEN_LINES`.
@@ -96,19 +102,6 @@ pub const TEN_ACTS: &str = r#"1 {"at":0,"do":"move","node":1,"rule":"seduction"}
 4 {"do":"close"}
 1 {"at":3,"do":"move","node":1,"rule":"abandonment"}
 4 {"do":"close"}
-"#;
-
-/// What is answered to `TEN_ACTS`.
-pub const TEN_GRANTS: &str = r#"1 {"at":0,"node":1,"ok":"move","place":1,"rule":"seduction"}
-2 {"at":0,"node":2,"ok":"move","place":2,"rule":"seduction"}
-4 {"at":1,"moved":[1,2],"ok":"close","place":3}
-3 {"at":1,"node":3,"ok":"move","place":4,"rule":"marriage"}
-4 {"at":2,"moved":[3],"ok":"close","place":5}
-2 {"at":2,"node":2,"ok":"move","place":6,"rule":"update"}
-3 {"at":2,"node":3,"ok":"move","place":7,"rule":"update"}
-4 {"at":3,"moved":[2,3],"ok":"close","place":8}
-1 {"at":3,"node":1,"ok":"move","place":9,"rule":"abandonment"}
-4 {"at":4,"moved":[1],"ok":"close","place":10}
 "#;
 
 /// The journal of ten acts over `labs::PATH_OF_THREE`, up to a pair that holds.

@@ -13,7 +13,7 @@ pub fn student(place: u16) -> Who {
     Who::Student(Student::new(place))
 }
 
-/// A seduction at a node.
+/// A move of a node by Seduction, asked for in the configuration with this number.
 pub fn seduction(node: u64, at: u64) -> Command
     ensures { is_act result ≡ true }
 {
@@ -24,7 +24,7 @@ pub fn seduction(node: u64, at: u64) -> Command
     }
 }
 
-/// Whether that is the second event, and applies the move of node 1.
+/// Whether an answer grants the first close as the second event, which applies the move of node 1 alone.
 pub fn is_first_close(answer: &Answer) -> bool {
     match answer {
         Answer::Granted {

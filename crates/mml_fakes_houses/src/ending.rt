@@ -11,6 +11,7 @@ pub enum Ending {
         number: u64,
         halted: bool,
     },
+    /// Windows were left out.
     Astray(Astray),
 }
 

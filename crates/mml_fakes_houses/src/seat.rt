@@ -52,7 +52,7 @@ pub struct Pair<'a, S: Sink, H: House, R: Wait> {
 }
 
 impl<'a, S: Sink + Drop, H: House, R: Wait> Pair<'a, S, H, R> {
-    /// Seats at these two windows.
+    /// Seats at these two windows, in their order.
     pub fn new(
         rt: &'a R,
         alloc: Global,
@@ -76,7 +76,7 @@ impl<'a, S: Sink + Drop, H: House, R: Wait> Pair<'a, S, H, R> {
         }
     }
 
-    /// The two windows.
+    /// The windows of the first and the second seat.
     pub fn into_windows(self) -> (Window<H>, Window<H>) {
         let Pair { one, two } = self;
         let Seat { window: first, .. } = one;

@@ -9,6 +9,7 @@ use mml_policy::{Asked, Command};
 /// How many acts there are.
 pub const ACTS: u64 = 10;
 
+/// A move of a node by this rule, asked for in the configuration with this number.
 fn play(node: u64, rule: Asked, at: u64) -> Command
     ensures { is_act result ≡ true }
 {
@@ -30,7 +31,7 @@ pub fn act(place: u64) -> Command
     }
 }
 
-/// Who asks for it.
+/// Who asks for the act at this place.
 pub fn asker(place: u64) -> Who {
     match place {
         1 | 9 => student(0),
@@ -40,7 +41,7 @@ pub fn asker(place: u64) -> Who {
     }
 }
 
-/// The number of the configuration before that act.
+/// The number of the configuration in which the act at this place is asked for.
 pub fn number_before(place: u64) -> u64 {
     match place {
         0..=3 => 0,

@@ -26,14 +26,14 @@ pub fn open_path<R: Wait>(
 
 /// What is done at two seats of a house.
 pub trait Visit<S: Sink> {
-    /// What is told of it.
+    /// What the visit tells.
     type Told: Drop;
 
-    /// Does it.
+    /// Makes the visit at these seats.
     fn visit<H: House, R: Wait>(self, seats: &mut Pair<'_, S, H, R>) -> Self::Told;
 }
 
-/// Does it at two of these windows, which come back; tells nothing where there were fewer.
+/// Visits a house through two of these windows, which come back; tells nothing where there were fewer.
 pub fn visit_windows<V: Visit<S> + Drop, S: Sink + Drop, H: House, R: Wait>(
     rt: &R,
     alloc: Global,

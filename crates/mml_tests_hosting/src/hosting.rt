@@ -1,81 +1,49 @@
 //! A house whose connections come and go, one after another.
-use crate::texts::{Count, NumberedWriter, Texts, Timed, lab_of, sent_to};
-use mml_hosting::{HostFault, Hosted, ServedSession, no_recorders, serve_host};
+use crate::texts::{Count, Left, Texts, Timed, lab_of, sent_to};
+use mml_fakes::lines;
+use mml_fakes::scripts::{CLOSED_JOURNAL, NOTHING_CLOSED, ONE_CLOSED, TESS_CLOSES};
+use mml_hosting::{HostFault, no_recorders, serve_host};
 use mml_journal::MemorySink;
 use mml_lab::Lab;
-use mml_session::{NoGate, NoRecorder};
+use mml_session::NoGate;
 use std::alloc::{AllocError, Global};
-use std::collections::VecDeque;
 use std::sync::Wait;
 use std::test::Fail;
 use std::thread::Threads;
 
-type Left = Hosted<MemorySink, ServedSession<VecDeque<u8>, NumberedWriter>, NoRecorder>;
-
-/// Who says what where, at the desk or at the port, and what that is answered.
+/// Whether a connection comes to the desk, else to the port, what is said there, and what that is answered.
 type Talk = (bool, &'static str, &'static str);
 
-const ANA_MOVES: &str = r#"{"do":"hello","key":"a-key","name":"ana"}
-{"at":0,"do":"move","node":1,"rule":"seduction"}
-{"do":"see","node":1}
-{"do":"bye"}
-"#;
+const ANA_MOVES: &str = lines!(hello("ana", "a-key"), seduction(1), see(1), bye);
 
 /// Moves node 1.
 const ANA: Talk = (
     false,
     ANA_MOVES,
-    r#"{"ok":"hello","who":"ana"}
-{"at":0,"node":1,"ok":"move","place":1,"rule":"seduction"}
-{"at":0,"m":false,"node":1,"ok":"see","p":null}
-{"ok":"bye"}
-"#,
+    lines!(
+        welcome("ana"),
+        granted(1, 1),
+        seen(0, false, 1, "null"),
+        left
+    ),
 );
 
 /// Goes without a bye. No neighbour of node 6 has a greater identifier.
 const BEN: Talk = (
     false,
-    r#"{"do":"hello","key":"b-key","name":"ben"}
-{"do":"see","node":6}
-{"at":0,"do":"move","node":6,"rule":"seduction"}
-"#,
-    r#"{"ok":"hello","who":"ben"}
-{"at":0,"m":false,"node":6,"ok":"see","p":null}
-{"clause":4,"deny":"guard","text":"the guard of this rule does not hold"}
-"#,
+    lines!(hello("ben", "b-key"), see(6), seduction(6)),
+    lines!(welcome("ben"), seen(0, false, 6, "null"), guard),
 );
 
 /// A bye that ends nothing: nobody is known.
-const NOBODY: Talk = (
-    true,
-    r#"{"do":"close"}
-{"do":"bye"}
-"#,
-    r#"{"clause":0,"deny":"not-greeted","text":"say hello first"}
-{"ok":"bye"}
-"#,
-);
+const NOBODY: Talk = (true, lines!(close, bye), lines!(not_greeted, left));
 
 /// The teacher falls in a line.
 const FALLEN: Talk = (
     true,
-    r#"{"do":"hello","key":"chalk","name":"tess"}
-{"do":"close"}
-{"do":"cl"#,
-    r#"{"ok":"hello","who":"tess"}
-{"at":1,"moved":[1],"ok":"close","place":2}
-"#,
+    lines!(hello("tess", "chalk"), close, "{\"do\":\"cl"),
+    lines!(welcome("tess"), closed),
 );
-
-const TESS_CLOSES: &str = r#"{"do":"hello","key":"chalk","name":"tess"}
-{"do":"close"}
-{"do":"bye"}
-"#;
-
-const NOTHING_CLOSED: &str = r#"{"ok":"hello","who":"tess"}
-{"clause":2,"deny":"empty","text":"no node is chosen"}
-{"ok":"bye"}
-"#;
 
 /// The teacher's bye at a student's port ends nothing.
 const ELSEWHERE: Talk = (false, TESS_CLOSES, NOTHING_CLOSED);
@@ -87,16 +55,10 @@ const TESS: Talk = (true, TESS_CLOSES, NOTHING_CLOSED);
 const AGAIN: Talk = (
     false,
     ANA_MOVES,
-    r#"{"ok":"hello","who":"ana"}
-{"at":1,"clause":2,"deny":"stale","text":"this is not the current configuration"}
-{"at":1,"m":false,"node":1,"ok":"see","p":6}
-{"ok":"bye"}
-"#,
+    lines!(welcome("ana"), stale(1), seen(1, false, 1, 6), left),
 );
 
 const TALKS: &[Talk] = &[ANA, BEN, NOBODY, FALLEN, ELSEWHERE, AGAIN, AGAIN, TESS];
-
-const JOURNAL: &[u8] = b"1 0 grant ana 1 seduction\n2 0 close\n";
 
 /// What is said at the desk, or else at the port: each talk once the one before has ended.
 fn texts_of<'a>(
@@ -120,7 +82,7 @@ fn texts_of<'a>(
     Texts::of(alloc, &said, count)
 }
 
-/// Hosts these talks over three windows.
+/// Hosts these talks over a cycle of six nodes.
 fn host<R: Threads + Wait + Sync>(
     rt: &R,
     alloc: Global,
@@ -154,7 +116,7 @@ fn host_in_memory<R: Threads + Wait + Sync>(
     )
 }
 
-/// Whether each of these talks was answered so.
+/// Whether each of these talks was answered as it says.
 fn are_answered(left: &Left, talks: &[Talk]) -> bool {
     let mut number = 0u64;
     for (_, _, replies) in talks {
@@ -166,13 +128,14 @@ fn are_answered(left: &Left, talks: &[Talk]) -> bool {
     true
 }
 
-/// Whether the talks were answered so, and the journal and the last line are so.
+/// Whether the talks are answered as they say, whether the journal is a move and its close, and whether the last line
+/// tells both.
 fn told_of_talks<R: Threads + Wait + Sync>(rt: &R, alloc: Global) -> Result<[bool; 3], Fail> {
     let mut out = Vec::new(alloc);
     match host(rt, alloc, TALKS, &mut out)? {
         Ok(left) => {
-            let is_journal = left.log.sink.bytes() == JOURNAL;
-            let is_last = out.as_slice() == b"done: 2 events, configuration 1\n".as_slice();
+            let is_journal = left.log.sink.bytes() == CLOSED_JOURNAL.as_bytes();
+            let is_last = out.as_slice() == ONE_CLOSED.as_bytes();
             Ok([are_answered(&left, TALKS), is_journal, is_last])
         }
         Err(_) => Err(Fail::from("a fault")),

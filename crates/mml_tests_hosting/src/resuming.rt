@@ -1,15 +1,17 @@
+//! Classes that go on from a journal, or don't.
 ghost use Rattle.std.specs.Prelude.{◌≡◌, ◌<◌, ◌-◌, ◌^◌, IfSome};
 
-use crate::texts::{Count, NumberedWriter, Texts, Timed, lab_of, sent_to};
+use crate::texts::{Count, Left, Texts, Timed, lab_of, sent_to};
 use mml_audit::AuditFault;
-use mml_hosting::{Hosted, ServedSession, no_recorders};
+use mml_fakes::lines;
+use mml_fakes::scripts::CLOSED_JOURNAL;
+use mml_hosting::no_recorders;
 use mml_journal::{MemorySink, Sink};
 use mml_lab::Lab;
 use mml_policy::Denial;
 use mml_resuming::{ResumeFault, Store, resume_class};
-use mml_session::{NoGate, NoRecorder};
+use mml_session::NoGate;
 use std::alloc::Global;
-use std::collections::VecDeque;
 use std::sync::Wait;
 use std::test::Fail;
 use std::thread::Threads;
@@ -18,29 +20,25 @@ use std::thread::Threads;
 const OLD: &str = "1 0 grant ana 1 seduction\n2 0 gra";
 
 /// Ana, who comes again, asks for what stands, and for what is stale.
-const ANA: &str = r#"{"do":"hello","key":"a-key","name":"ana"}
-{"at":0,"do":"move","node":1,"rule":"seduction"}
-{"at":7,"do":"move","node":1,"rule":"seduction"}
+const ANA: &str = lines!(
+    hello("ana", "a-key"),
+    seduction(1),
+    r#"{"at":7,"do":"move","node":1,"rule":"seduction"}
 {"do":"look","node":1}
-"#;
+"#
+);
 
-const ANA_IS_TOLD: &str = r#"{"ok":"hello","who":"ana"}
-{"clause":3,"deny":"chosen","text":"this node is already chosen"}
-{"at":0,"clause":2,"deny":"stale","text":"this is not the current configuration"}
-{"at":0,"chosen":"seduction","m":false,"near":[{"m":false,"node":2,"p":null},{"m":false,"node":6,"p":null}],"node":1,"ok":"look","p":null,"rule":"seduction"}
-"#;
+const ANA_IS_TOLD: &str = lines!(
+    welcome("ana"),
+    chosen,
+    stale(0),
+    r#"{"at":0,"chosen":"seduction","m":false,"near":[{"m":false,"node":2,"p":null},{"m":false,"node":6,"p":null}],"node":1,"ok":"look","p":null,"rule":"seduction"}
+"#
+);
 
-const TESS: &str = r#"{"do":"hello","key":"chalk","name":"tess"}
-{"do":"close"}
-{"do":"close"}
-{"do":"bye"}
-"#;
+const TESS: &str = lines!(hello("tess", "chalk"), close, close, bye);
 
-const TESS_IS_TOLD: &str = r#"{"ok":"hello","who":"tess"}
-{"at":1,"moved":[1],"ok":"close","place":2}
-{"clause":2,"deny":"empty","text":"no node is chosen"}
-{"ok":"bye"}
-"#;
+const TESS_IS_TOLD: &str = lines!(welcome("tess"), closed, empty, left);
 
 /// What is told before all else.
 const FIRST: &str = "listening\n";
@@ -53,8 +51,6 @@ done: 2 events, configuration 1
 /// More than what is left of one line.
 const LONG: &str = "1 0 grant ana 1 seduction
 2 0 close and more and more and more and more and more and more and more and more and more and more and more.";
-
-const NEW: &str = "1 0 grant ana 1 seduction\n2 0 close\n";
 
 /// Keeps a journal in memory.
 #[derive(Drop)]
@@ -76,8 +72,7 @@ impl Store<MemorySink> for Shelf {
     }
 }
 
-type Left = Hosted<MemorySink, ServedSession<VecDeque<u8>, NumberedWriter>, NoRecorder>;
-
+/// Goes on from an old journal over a cycle of six nodes, where ana comes and, once she has gone, the teacher.
 fn resume<R: Threads + Wait + Sync>(
     rt: &R,
     alloc: Global,
@@ -102,7 +97,7 @@ fn resume<R: Threads + Wait + Sync>(
     Ok(resume_in(rt, alloc, lab, old, at_desk, at_port, &count, out))
 }
 
-/// Goes on in this lab with what comes.
+/// Goes on from an old journal over this lab, with what comes to the desk and to the port; nothing is recorded.
 fn resume_in<R: Threads + Wait + Sync>(
     rt: &R,
     alloc: Global,
@@ -144,14 +139,15 @@ fn refused<R: Threads + Wait + Sync>(
     Ok((fault, out.is_empty()))
 }
 
-/// Whether ana and tess are told that, and the journal and what is told are so.
+/// Whether ana and tess are told what they should be, and whether the journal and the class's own lines are as they
+/// should be.
 fn told_of_a_class<R: Threads + Wait + Sync>(rt: &R, alloc: Global) -> Result<[bool; 4], Fail> {
     let mut out = Vec::new(alloc);
     match resume(rt, alloc, 100, OLD, &mut out)? {
         Ok(left) => {
             let is_ana_told = sent_to(&left, 1) == Some(ANA_IS_TOLD.as_bytes());
             let is_tess_told = sent_to(&left, 0) == Some(TESS_IS_TOLD.as_bytes());
-            let is_journal = left.log.sink.bytes() == NEW.as_bytes();
+            let is_journal = left.log.sink.bytes() == CLOSED_JOURNAL.as_bytes();
             let is_told = out.as_slice() == TOLD.as_bytes();
             Ok([is_ana_told, is_tess_told, is_journal, is_told])
         }
@@ -176,11 +172,11 @@ fn is_refused<R: Threads + Wait + Sync>(
     Ok(refused(rt, alloc, events, old)? == (Some(ResumeFault::Refused(wanted)), true))
 }
 
-/// Whether what is illegal, too long and torn is refused so.
+/// Whether journals are refused that are illegal, too long, and torn.
 fn are_refused<R: Threads + Wait + Sync>(rt: &R, alloc: Global) -> Result<[bool; 3], Fail> {
     let illegal = AuditFault::Illegal(1, Denial::Empty);
     let is_empty = is_refused(rt, alloc, 100, "1 0 close\n", illegal)?;
-    let is_long = is_refused(rt, alloc, 1, NEW, AuditFault::Full(2))?;
+    let is_long = is_refused(rt, alloc, 1, CLOSED_JOURNAL, AuditFault::Full(2))?;
     let is_torn = is_refused(rt, alloc, 100, LONG, AuditFault::Torn(2))?;
     Ok([is_empty, is_long, is_torn])
 }

@@ -23,6 +23,7 @@ use std::vec::IntoIter;
 pub struct Count(AtomicU64);
 
 impl Count {
+    /// None has ended yet.
     pub fn new() -> Count {
         Count(AtomicU64::new(0))
     }
@@ -68,7 +69,7 @@ impl CutOff for Nothing {
 /// What a connection sends, and what it is sent.
 pub type TextEnds = (VecDeque<u8>, NumberedWriter);
 
-/// A text that is sent once so many sessions have ended.
+/// A text that the connection with this number sends once so many sessions have ended.
 #[derive(Drop)]
 pub struct Timed<'a> {
     pub after: u64,
@@ -85,6 +86,7 @@ pub struct Texts<'a> {
 }
 
 impl<'a> Texts<'a> {
+    /// Connections that send these texts, each at its time.
     pub fn of(
         alloc: Global,
         timed: &[Timed<'_>],
@@ -104,6 +106,7 @@ impl<'a> Texts<'a> {
     }
 }
 
+/// A connection that sends a text, and keeps what it is sent.
 fn ends_of(alloc: Global, timed: &Timed<'_>) -> Result<TextEnds, AllocError> {
     let mut bytes = VecDeque::new(alloc);
     for byte in timed.text.as_bytes() {
@@ -139,11 +142,11 @@ pub fn lab_of(alloc: Global, events: u64) -> Result<Lab, Fail> {
     Ok(read_lab(alloc, text.as_bytes())?)
 }
 
-/// What the connection with the number was sent, if it was served.
-pub fn sent_to(
-    left: &Hosted<MemorySink, ServedSession<VecDeque<u8>, NumberedWriter>, NoRecorder>,
-    number: u64,
-) -> Option<&[u8]> {
+/// What is left of a house over such connections, with a journal in memory and no record.
+pub type Left = Hosted<MemorySink, ServedSession<VecDeque<u8>, NumberedWriter>, NoRecorder>;
+
+/// What the connection with this number was sent, if it was served.
+pub fn sent_to(left: &Left, number: u64) -> Option<&[u8]> {
     for record in left.desk.iter().chain(left.others.iter()) {
         for session in record.sessions.iter() {
             if session.writer.number == number {

@@ -20,7 +20,7 @@ const HIGHER_POINTS: &str = lab!(
     [(5, "ana", "p = 3\n"), (3, "ana", "")]
 );
 
-/// The first student's request for a move.
+/// The first student's move, by this rule, of the node with this rank.
 fn grant(index: u64, rule: Rule) -> Option<Event> {
     let node = Rank::new(index)?;
     Some(Event::Grant {
@@ -30,7 +30,7 @@ fn grant(index: u64, rule: Rule) -> Option<Event> {
     })
 }
 
-/// A node's registers, and the rule that is enabled there.
+/// Adds a node's registers, and the rule that is enabled there.
 fn push_node(text: &mut String, board: &Board, node: Rank) -> Result<(), AllocError>
     requires { node < length board.now.network.registers }
 {
@@ -40,7 +40,7 @@ fn push_node(text: &mut String, board: &Board, node: Rank) -> Result<(), AllocEr
     write!(text, "; {p:?} {} {kind:?}", regs.m)
 }
 
-/// Whether nothing is chosen for a node, and its links.
+/// Adds whether nothing is chosen for a node, and its links.
 fn push_links(text: &mut String, board: &Board, node: Rank) -> Result<(), AllocError>
     requires { node < length board.now.network.registers }
 {
@@ -76,11 +76,13 @@ fn board_text(alloc: Global, board: &Board, with_links: bool) -> Result<String, 
 const OPENING: &str =
     "0 0 2 0; None false Some(Marriage) true .-; Some(0) false Some(Abandonment) true -.";
 
+/// Whether a board is told as `OPENING`.
 fn is_opening(alloc: Global, board: &Board) -> Result<bool, Fail> {
     let told = board_text(alloc, board, true)?;
     Ok(told.as_str() == OPENING)
 }
 
+/// Whether a board's copy is told as `OPENING`.
 fn is_copy_opening(alloc: Global, board: &Board) -> Result<bool, Fail> {
     let copy = board.try_copy(alloc)?;
     is_opening(alloc, &copy)
@@ -101,6 +103,7 @@ fn look_at_the_first(alloc: Global, board: &Board) -> Result<String, Fail> {
     Ok(shown(alloc, &look)?)
 }
 
+/// What a look shows, as text.
 fn shown(alloc: Global, look: &Look) -> Result<String, AllocError> {
     let (p, chosen, enabled) = (look.regs.p, look.chosen, look.enabled);
     let mut text = format!(in alloc; "{} {p:?} {chosen:?} {enabled:?}", look.at)?;
@@ -108,7 +111,7 @@ fn shown(alloc: Global, look: &Look) -> Result<String, AllocError> {
     Ok(text)
 }
 
-/// The nodes near to it, with their registers.
+/// Adds the nodes that are near, with their registers.
 fn push_near(text: &mut String, near: &[(Rank, Regs)]) -> Result<(), AllocError> {
     for (other, regs) in near {
         let (index, p) = (other.index(), regs.p.map(Rank::index));
@@ -222,42 +225,42 @@ fn changes() -> [Part; 5] {
     ]
 }
 
-/// Whether what is told after each event is as it should be.
-fn follows(alloc: Global, board: &mut Board, story: &[Part]) -> Result<bool, AllocError> {
-    let mut follows = true;
+/// Whether a board is told as it should be after each event of a story.
+fn is_story_told(alloc: Global, board: &mut Board, story: &[Part]) -> Result<bool, AllocError> {
+    let mut is_told = true;
     for (event, expected) in story {
         if let Some(event) = event {
             board.absorb_event(event);
         }
         let told = board_text(alloc, board, false)?;
         if told.as_str() != *expected {
-            follows = false;
+            is_told = false;
         }
     }
-    Ok(follows)
+    Ok(is_told)
 }
 
-/// Whether the moves are told so, and then the changes.
-fn follow(alloc: Global, board: &mut Board) -> Result<(bool, bool), Fail> {
-    let moved = follows(alloc, board, &moves())?;
-    let changed = follows(alloc, board, &changes())?;
+/// Whether a board is told as it should be after the moves, and whether after the changes.
+fn are_stories_told(alloc: Global, board: &mut Board) -> Result<(bool, bool), Fail> {
+    let moved = is_story_told(alloc, board, &moves())?;
+    let changed = is_story_told(alloc, board, &changes())?;
     Ok((moved, changed))
 }
 
-/// Whether moves and changes are told so from the beginning of a run over a lab.
-fn follow_over(alloc: Global, lab: &Lab) -> Result<(bool, bool), Fail> {
+/// Whether a lab's board is told as it should be after the moves, and whether after the changes.
+fn are_stories_of_lab_told(alloc: Global, lab: &Lab) -> Result<(bool, bool), Fail> {
     let mut board = boxed_board(alloc, lab)?;
-    follow(alloc, &mut board)
+    are_stories_told(alloc, &mut board)
 }
 
-/// Whether moves and changes are told so from the beginning of a run over the path of three.
-fn are_told(alloc: Global) -> Result<(bool, bool), Fail> {
+/// Whether the path of three is told as it should be after the moves, and whether after the changes.
+fn are_stories_of_path_told(alloc: Global) -> Result<(bool, bool), Fail> {
     let lab = boxed_lab(alloc, PATH_OF_THREE)?;
-    follow_over(alloc, &lab)
+    are_stories_of_lab_told(alloc, &lab)
 }
 
 #[test]
 fn events_in_a_row_of_three(rt: HostRuntime) -> Result<(), Fail> {
-    assert_eq!(rt; are_told(rt.alloc())?, (true, true));
+    assert_eq!(rt; are_stories_of_path_told(rt.alloc())?, (true, true));
     Ok(())
 }

@@ -74,7 +74,7 @@ fn rule_at(board: &Board, node: Rank, partner: Rank) -> Rule {
     }
 }
 
-/// A move of that node, mostly for its owner.
+/// A move of a node by the rule that is enabled there, mostly for its owner.
 fn grant(board: &Board, numbers: &mut Numbers, node: Rank, partner: Rank) -> Event {
     let is_ana = (node.index() < board.size() / 2) != (numbers.below(8) == 0);
     Event::Grant {
@@ -154,14 +154,14 @@ fn are_letters(alloc: Global, nodes: u64, wanted: &str) -> Result<bool, Fail> {
     Ok(letters_over(alloc, &lab)?.as_slice() == wanted.as_bytes())
 }
 
-/// Whether both rows of letters are so.
-fn are_told(alloc: Global) -> Result<(bool, bool), Fail> {
+/// Whether the letters over each of the two cycles are those of the plain model.
+fn are_both_letters(alloc: Global) -> Result<(bool, bool), Fail> {
     let of_64 = are_letters(alloc, 64, OF_64)?;
     Ok((of_64, are_letters(alloc, 256, OF_256)?))
 }
 
 #[test]
 fn drawn_events_are_legal_or_not(rt: HostRuntime) -> Result<(), Fail> {
-    assert_eq!(rt; are_told(rt.alloc())?, (true, true));
+    assert_eq!(rt; are_both_letters(rt.alloc())?, (true, true));
     Ok(())
 }

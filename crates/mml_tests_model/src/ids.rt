@@ -5,6 +5,7 @@ use mml_ids::{
 use std::alloc::{AllocError, Global};
 use std::test::Fail;
 
+/// The rank of an identifier, if it stands in the table.
 fn index_of(table: &IdTable, id: u64) -> Option<u64> {
     Some(table.rank_of(id)?.index())
 }
@@ -43,10 +44,12 @@ fn told_of_ranks(alloc: Global) -> Result<(u64, Option<u64>), IdFault> {
     Ok((table.len(), first_other_rank(&table)))
 }
 
+/// The number itself, where it is an identifier.
 fn identifier(id: u64) -> Option<u64> {
     Some(NodeId::new(id)?.get())
 }
 
+/// The number itself, where it is a rank.
 fn rank(index: u64) -> Option<u64> {
     Some(Rank::new(index)?.index())
 }
@@ -81,11 +84,13 @@ fn identifiers_have_ranks(rt: HostRuntime) {
     );
 }
 
+/// Whether a list is kept as it was given.
 fn keeps_a_list(alloc: Global) -> Result<bool, AllocError> {
     let items = Items::of(vec![in alloc; 3u8, 1, 2]?);
     Ok(items.as_slice() == [3u8, 1, 2].as_slice() && items.into_vec().len() == 3)
 }
 
+/// Whether a word is kept as it was given.
 fn keeps_a_word(alloc: Global) -> Result<bool, AllocError> {
     let word = Word::of(String::from_str(alloc, "ana")?);
     Ok(word.as_str() == "ana")

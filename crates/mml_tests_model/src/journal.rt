@@ -10,6 +10,7 @@ use mml_rules::{Regs, Rule};
 use std::alloc::Global;
 use std::test::Fail;
 
+/// A student's move, which need not be his to make.
 fn grant(who: u16, node: Rank, rule: Rule) -> Event {
     Event::Grant {
         who: Student::new(who),
@@ -18,6 +19,7 @@ fn grant(who: u16, node: Rank, rule: Rule) -> Event {
     }
 }
 
+/// Why a line says no event of this lab, if it says none.
 fn fault_of(lab: &Lab, line: &[u8]) -> Option<JournalFault> {
     match read_event(line, lab.ids(), lab.roster()) {
         Ok(_) => None,
@@ -77,7 +79,7 @@ const OTHERS: [&[u8]; 6] = [
     b"1 0 grant ana 3 update",
 ];
 
-/// What they say.
+/// What the lines of `OTHERS` say.
 fn other_events() -> [Event; 6] {
     let (first, second, third) = (Rank::at(0), Rank::at(1), Rank::at(2));
     [
@@ -99,7 +101,7 @@ fn other_events() -> [Event; 6] {
     ]
 }
 
-/// What the line says, and whether it is the text of that; nothing, where it says nothing.
+/// The event that a line says, and whether the line is that event's text; nothing, where it says none.
 fn read_and_written(
     alloc: Global,
     lab: &Lab,
@@ -112,11 +114,12 @@ fn read_and_written(
     Ok(Some((found, text.as_slice() == line)))
 }
 
-/// Whether the line says just that.
+/// Whether a line says just this event, and is its text.
 fn is_line_of(alloc: Global, lab: &Lab, line: &[u8], event: &Event) -> Result<bool, Memory> {
     Ok(read_and_written(alloc, lab, line)? == Some((*event, true)))
 }
 
+/// Whether each line of `OTHERS` says its event, and is that one's text.
 fn are_read_and_written(alloc: Global, lab: &Lab) -> Result<bool, Fail> {
     for (line, event) in OTHERS.iter().zip(other_events().iter()) {
         if !is_line_of(alloc, lab, line, event)? {

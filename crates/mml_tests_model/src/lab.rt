@@ -8,7 +8,8 @@ use mml_rules::Network;
 use std::alloc::{AllocError, Global};
 use std::test::Fail;
 
-/// How a node stands to another: `-` where they are linked, `>` where it points at the other too.
+/// How a node stands to another: `-` where they are linked, `>` where it points at the other too, `!` where it points
+/// at one that it isn't linked to.
 fn mark(lab: &Lab, node: Rank, other: Rank) -> &'static str
     requires { node < length lab.now.ids }
 {
@@ -21,6 +22,7 @@ fn mark(lab: &Lab, node: Rank, other: Rank) -> &'static str
     }
 }
 
+/// Adds the names of a node's owners.
 fn push_owners(text: &mut String, lab: &Lab, node: Rank) -> Result<(), AllocError> {
     let roster = lab.roster();
     for place in 0..roster.student_count() {
@@ -32,6 +34,7 @@ fn push_owners(text: &mut String, lab: &Lab, node: Rank) -> Result<(), AllocErro
     Ok(())
 }
 
+/// Adds how a node stands to each node.
 fn push_marks(text: &mut String, lab: &Lab, node: Rank) -> Result<(), AllocError>
     requires { node < length lab.now.ids }
 {
@@ -41,6 +44,7 @@ fn push_marks(text: &mut String, lab: &Lab, node: Rank) -> Result<(), AllocError
     Ok(())
 }
 
+/// Adds a node's line: its identifier, m, its owners, and how it stands to each node.
 fn push_node(text: &mut String, lab: &Lab, node: Rank) -> Result<(), AllocError>
     requires { node < length lab.now.ids }
 {
@@ -52,8 +56,7 @@ fn push_node(text: &mut String, lab: &Lab, node: Rank) -> Result<(), AllocError>
     push_marks(text, lab, node)
 }
 
-/// The counts of a lab on a line, and a line for each node: its identifier, m, its owners, and how
-/// it stands to each node.
+/// The counts of a lab on a line, and a line for each node.
 fn shown(alloc: Global, lab: &Lab) -> Result<String, AllocError> {
     let mut text = String::new(alloc);
     for count in [

@@ -8,6 +8,7 @@ use mml_rules::Scene;
 use std::alloc::Global;
 use std::test::Fail;
 
+/// The name of what is ruled.
 fn ruling_name(ruling: &Ruling) -> &'static str {
     match ruling {
         Ruling::Denied(_) => "denied",
@@ -41,7 +42,7 @@ fn ruled(
     Ok(ruling_name(&ruling))
 }
 
-/// What comes of each of these of ana, in a row.
+/// What comes of ana's command in each of these cases, in a row.
 fn rulings(alloc: Global, lab: &Lab, board: &Board, cases: &[Case]) -> Result<String, Fail> {
     let mut text = String::new(alloc);
     for case in cases {
@@ -66,6 +67,7 @@ fn rulings_over_the_path(alloc: Global, cases: &[Case]) -> Result<String, Fail> 
     first_rulings(alloc, &lab, cases)
 }
 
+/// A move by Seduction in configuration 0.
 fn seduction(node: u64) -> Command {
     Command::Move {
         node,

@@ -14,6 +14,7 @@ fn report_text(alloc: Global, report: &Report) -> Result<String, Fail> {
     Ok(text)
 }
 
+/// Adds the four lists of a report.
 fn push_lists(text: &mut String, report: &Report) -> Result<(), AllocError> {
     push_pairs(text, report.pairs.as_slice())?;
     push_free(text, report.free.as_slice())?;
@@ -24,6 +25,7 @@ fn push_lists(text: &mut String, report: &Report) -> Result<(), AllocError> {
     Ok(())
 }
 
+/// Adds the pairs.
 fn push_pairs(text: &mut String, pairs: &[(Rank, Rank)]) -> Result<(), AllocError> {
     for (lower, greater) in pairs {
         write!(text, " {}={}", lower.index(), greater.index())?;
@@ -31,6 +33,7 @@ fn push_pairs(text: &mut String, pairs: &[(Rank, Rank)]) -> Result<(), AllocErro
     text.push_str(";")
 }
 
+/// Adds the nodes of no pair.
 fn push_free(text: &mut String, nodes: &[Rank]) -> Result<(), AllocError> {
     for node in nodes {
         write!(text, " {}", node.index())?;
@@ -38,6 +41,7 @@ fn push_free(text: &mut String, nodes: &[Rank]) -> Result<(), AllocError> {
     text.push_str(";")
 }
 
+/// Adds the privileged nodes, each with its rule.
 fn push_privileged(text: &mut String, nodes: &[(Rank, Kind)]) -> Result<(), AllocError> {
     for (node, kind) in nodes {
         write!(text, " {} {kind:?}", node.index())?;
@@ -45,6 +49,7 @@ fn push_privileged(text: &mut String, nodes: &[(Rank, Kind)]) -> Result<(), Allo
     text.push_str(";")
 }
 
+/// Adds an open link, with a privileged node that shows it.
 fn push_link(text: &mut String, link: &OpenLink) -> Result<(), AllocError> {
     let [a, b, node] = [link.a.index(), link.b.index(), link.node.index()];
     write!(text, " {a}-{b} {node} {:?}", link.kind)

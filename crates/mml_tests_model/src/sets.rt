@@ -20,20 +20,14 @@ fn taken(left: &mut NodeSet) -> Option<u64> {
 /// Whether a set has these ranks, of which the first is the least and the last the greatest, and no
 /// other.
 fn has_only(set: NodeSet, ranks: &[u64]) -> bool {
-    let least = least_of(set);
-    let greatest = set.greatest().map(Rank::index);
-    let has_all = ranks.iter().all(|index| match Rank::new(*index) {
-        Some(rank) => set.has(rank),
-        None => false,
-    });
-    has_all
+    ranks.iter().all(|index| has(set, *index))
         && set.len() == ranks.len() as u64
-        && least == ranks.first().copied()
-        && greatest == ranks.last().copied()
+        && least_of(set) == ranks.first().copied()
+        && greatest_of(set) == ranks.last().copied()
         && gives_in_order(set, ranks)
 }
 
-/// The first row of sets with other ranks, and how many ranks are above 63.
+/// The place of the first set of a table that has other ranks, and how many ranks are above 63.
 fn told_of_sets() -> (Option<usize>, u64) {
     let none = NodeSet::empty();
     let some = none
@@ -62,6 +56,7 @@ fn is_drawn(seed: u64, index: u64) -> bool {
     spread % 16 < 1 + (index / 64).wrapping_mul(seed) % 16
 }
 
+/// The set drawn by a seed.
 fn drawn_set(seed: u64) -> NodeSet {
     let mut set = NodeSet::empty();
     for index in 0..MAX_NODES {
@@ -72,6 +67,7 @@ fn drawn_set(seed: u64) -> NodeSet {
     set
 }
 
+/// Whether a rank is in a set.
 fn has(set: NodeSet, index: u64) -> bool {
     match Rank::new(index) {
         Some(rank) => set.has(rank),
@@ -79,16 +75,18 @@ fn has(set: NodeSet, index: u64) -> bool {
     }
 }
 
+/// The least rank of a set.
 fn least_of(set: NodeSet) -> Option<u64> {
     let mut left = set;
     taken(&mut left)
 }
 
+/// The greatest rank of a set.
 fn greatest_of(set: NodeSet) -> Option<u64> {
     Some(set.greatest()?.index())
 }
 
-/// The set has the ranks whose places are true in the list, and no others.
+/// Whether a set has the ranks whose places are true in a list, and no others.
 fn is_list(set: NodeSet, list: &[bool]) -> bool {
     let (mut count, mut least, mut greatest) = (0u64, None, None);
     for (index, there) in list.iter().enumerate() {
@@ -104,8 +102,8 @@ fn is_list(set: NodeSet, list: &[bool]) -> bool {
     (set.len(), least_of(set), greatest_of(set)) == (count, least, greatest)
 }
 
-/// The first two sets, what both have, what only the first has, and the ranks above one are as in plain
-/// lists.
+/// Whether the first of two drawn sets, what both have, what only the first has, and the ranks above one are as
+/// in plain lists.
 fn sets_are_lists(a: u64, b: u64, rank: Rank) -> bool {
     let mut first = [false; 256];
     let mut both = [false; 256];

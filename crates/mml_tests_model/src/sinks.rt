@@ -1,36 +1,12 @@
 //! Sinks that fail at each put, and at each byte.
-ghost use Rattle.std.specs.Prelude.{◌-◌, Some};
-
+use mml_fakes::Drip;
 use mml_fakes::labs::{PATH_OF_THREE, boxed_lab};
-use mml_fakes::scripts::TEN_LINES;
+use mml_fakes::scripts::{TEN_LINES, first_lines};
 use mml_ids::Memory;
-use mml_journal::{Journal, MemorySink, Sink, SinkFault, event_text, read_event};
+use mml_journal::{Journal, MemorySink, Sink, event_text, read_event};
 use mml_lab::Lab;
-use std::alloc::{AllocError, Global};
+use std::alloc::Global;
 use std::test::Fail;
-
-/// Takes one byte a put, and fails for good after so many.
-#[derive(Drop)]
-struct ByteSink {
-    taken: Vec<u8>,
-    left: usize,
-    failures: u64,
-}
-
-impl Sink for ByteSink {
-    ghost contents = { λ s. Some s.taken.items };
-
-    ghost failures = { λ s. s.failures };
-
-    fn put(&mut self, bytes: &[u8]) -> Result<usize, SinkFault> {
-        if self.left == 0 || self.taken.push(bytes[0]).is_err() {
-            self.failures += 1;
-            return Err(SinkFault);
-        }
-        self.left -= 1;
-        Ok(1)
-    }
-}
 
 /// Puts the line of an event, and tells whether it was taken.
 fn put_line<S: Sink>(
@@ -56,20 +32,10 @@ fn put_lines<S: Sink>(alloc: Global, lab: &Lab, journal: &mut Journal<S>) -> Res
     Ok(count)
 }
 
-/// The first lines, so many.
-fn first_lines(alloc: Global, count: usize) -> Result<String, AllocError> {
-    let mut text = String::new(alloc);
-    for line in TEN_LINES.lines().take(count) {
-        text.push_str(line)?;
-        text.push('\n')?;
-    }
-    Ok(text)
-}
-
-/// Whether the sink has exactly that many lines, with what is left of the journal unless it fails
-/// there.
+/// Whether a sink that fails from that put on has exactly so many lines of the ten, and the journal is then halted
+/// unless these are all.
 fn takes_lines(alloc: Global, lab: &Lab, fail_at: Option<u64>, lines: usize) -> Result<bool, Fail> {
-    let text = first_lines(alloc, lines)?;
+    let text = first_lines(TEN_LINES, lines as u64);
     let mut journal = Journal::new(MemorySink::new(alloc, fail_at));
     let count = put_lines(alloc, lab, &mut journal)?;
     let is_halted = journal.halted() == (lines < 10);
@@ -97,18 +63,14 @@ fn lines_taken(alloc: Global, lab: &Lab) -> Result<(usize, bool, bool), Fail> {
 
 /// Whether the sink has exactly that many bytes of the text, and the journal is then halted.
 fn takes_bytes(alloc: Global, lab: &Lab, text: &[u8], left: usize) -> Result<bool, Memory> {
-    let sink = ByteSink {
-        taken: Vec::new(alloc),
-        left,
-        failures: 0,
-    };
-    let mut journal = Journal::new(sink);
+    let mut journal = Journal::new(Drip::failing_after(left, alloc));
     put_lines(alloc, lab, &mut journal)?;
     let is_halted = journal.halted() == (left < text.len());
-    let taken = &journal.sink().taken;
+    let taken = &journal.sink().bytes;
     Ok(is_halted && taken.len() == left.min(text.len()) && text.starts_with(taken.as_slice()))
 }
 
+/// Whether a sink that fails after any number of bytes has just these.
 fn takes_each_number_of_bytes(alloc: Global, lab: &Lab) -> Result<bool, Fail> {
     let text = TEN_LINES.as_bytes();
     for left in 0..=text.len() {

@@ -1,7 +1,7 @@
 //! A sink that takes one byte a put, and fails after each number of them: a house over it, asked for the
 //! acts of a stored run.
 use mml_fakes::Drip;
-use mml_fakes::scripts::TEN_LINES;
+use mml_fakes::scripts::{TEN_LINES, ended_lines};
 use mml_fakes_houses::ten_acts::{ACTS, act, asker, number_before};
 use mml_fakes_houses::{Ending, Pair, Seat, Visit, ending_of, visit_path};
 use mml_window::{Answer, Astray, House, Log, Refusal};
@@ -64,16 +64,11 @@ fn has_dripped(end: &Result<Log<Drip>, Astray>, wanted: &[u8]) -> bool {
     }
 }
 
-/// How many lines end in these bytes of a journal.
-fn ended_lines(bytes: &[u8]) -> u64 {
-    bytes.iter().filter(|byte| **byte == b'\n').count() as u64
-}
-
 /// Whether a house over a sink that takes so many bytes ends with these, its events those of the whole
 /// lines.
 fn drips<R: Wait>(rt: &R, alloc: Global, puts: usize) -> Result<bool, Fail> {
     let (wanted, _) = TEN_LINES.as_bytes().split_at(puts.min(TEN_LINES.len()));
-    let last = ended_lines(wanted).saturating_add(1);
+    let last = (ended_lines(wanted) as u64).saturating_add(1);
     let (plays, end) = visit_path(rt, alloc, Drip::failing_after(puts, alloc), Acts { last })?;
     Ok(plays == Some(true) && ending_of(&end) == ending_at(last) && has_dripped(&end, wanted))
 }

@@ -9,6 +9,10 @@ ghost use Rattle.mml_journal.specs.Taken.{IsFresh};
 
 use bytewise::Bytewise;
 use mml_fakes::labs::PATH_OF_THREE;
+use mml_fakes::lines;
+use mml_fakes::scripts::{
+    ANA_JOURNAL, BEN_MOVES, CLOSED_JOURNAL, NOTHING_CLOSED, ONE_CLOSED, TESS_CLOSES,
+};
 use mml_journal::{MemorySink, Sink};
 use mml_lab::{Lab, read_lab};
 use mml_serving::{ServeFault, ServedHouse, serve_arrivals};
@@ -20,11 +24,13 @@ use std::thread::Threads;
 use std::vec::IntoIter;
 use steps::{Holds, Steps};
 
+/// What a connection sends, and what it is sent.
 type Ends<'a> = (Bytewise<'a>, Vec<u8>);
 
+/// A house whose sessions have ended, or why there is none.
 type Ended<'a, S> = Result<ServedHouse<S, Bytewise<'a>, Vec<u8>>, ServeFault>;
 
-/// Connections that send these texts, in their order.
+/// Connections that send these scripts, in their order.
 fn arrivals_of<'a>(alloc: Global, scripts: &[&'a str]) -> Result<IntoIter<Ends<'a>>, AllocError> {
     let mut coming = Vec::new(alloc);
     for script in scripts {
@@ -42,6 +48,7 @@ fn document_of_sixteen(alloc: Global) -> Result<String, AllocError> {
     file.replacen(alloc, "owner = \"ben\"", "owners = [\"ben\", \"ana\"]", 1)
 }
 
+/// The path of three with as many sessions as there may be.
 fn lab_of_sixteen(alloc: Global) -> Result<Lab, Fail> {
     let file = document_of_sixteen(alloc)?;
     Ok(read_lab(alloc, file.as_bytes())?)
@@ -95,6 +102,7 @@ type Race = (
     &'static [Outcome],
 );
 
+/// Whether this outcome came of the sessions of a house.
 fn is_outcome(
     house: &ServedHouse<MemorySink, Bytewise<'_>, Vec<u8>>,
     out: &[u8],
@@ -106,6 +114,7 @@ fn is_outcome(
         && are_answered(house, replies)
 }
 
+/// Whether one of these outcomes came of the sessions of a house.
 fn is_some_outcome(
     house: &ServedHouse<MemorySink, Bytewise<'_>, Vec<u8>>,
     out: &[u8],
@@ -132,84 +141,36 @@ fn is_run<R: Threads + Wait + Sync>(rt: &R, alloc: Global, race: &Race) -> Resul
     Ok(is_some_outcome(&house, &out, outcomes) && gate.were_kept(*steps))
 }
 
-const ANA_MOVES: &str = r#"{"do":"hello","key":"a-key","name":"ana"}
-{"at":0,"do":"move","node":1,"rule":"seduction"}
-{"do":"bye"}
-"#;
+const ANA_MOVES: &str = lines!(hello("ana", "a-key"), seduction(1), bye);
 
-const ANA_GRANTED: &str = r#"{"ok":"hello","who":"ana"}
-{"at":0,"node":1,"ok":"move","place":1,"rule":"seduction"}
-{"ok":"bye"}
-"#;
+const ANA_GRANTED: &str = lines!(welcome("ana"), granted(1, 1), left);
 
-const ANA_DENIED: &str = r#"{"ok":"hello","who":"ana"}
-{"clause":3,"deny":"chosen","text":"this node is already chosen"}
-{"ok":"bye"}
-"#;
-
-const ANA_JOURNAL: &str = "1 0 grant ana 1 seduction\n";
+const ANA_DENIED: &str = lines!(welcome("ana"), chosen, left);
 
 const ONE_MOVED: &str = "done: 1 events, configuration 0\n";
 
-const ANA_MOVES_THE_SECOND: &str = r#"{"do":"hello","key":"a-key","name":"ana"}
-{"at":0,"do":"move","node":2,"rule":"seduction"}
-{"do":"bye"}
-"#;
+const ANA_MOVES_THE_SECOND: &str = lines!(hello("ana", "a-key"), seduction(2), bye);
 
-const ANA_MOVED_THE_SECOND: &str = r#"{"ok":"hello","who":"ana"}
-{"at":0,"node":2,"ok":"move","place":1,"rule":"seduction"}
-{"ok":"bye"}
-"#;
+const ANA_MOVED_THE_SECOND: &str = lines!(welcome("ana"), granted(2, 1), left);
 
-const BEN_MOVES_THE_SECOND: &str = r#"{"do":"hello","key":"b-key","name":"ben"}
-{"at":0,"do":"move","node":2,"rule":"seduction"}
-{"do":"bye"}
-"#;
+const BEN_MOVED: &str = lines!(welcome("ben"), granted(2, 1), left);
 
-const BEN_MOVED_THE_SECOND: &str = r#"{"ok":"hello","who":"ben"}
-{"at":0,"node":2,"ok":"move","place":1,"rule":"seduction"}
-{"ok":"bye"}
-"#;
+const BEN_DENIED: &str = lines!(welcome("ben"), chosen, left);
 
-const BEN_DENIED: &str = r#"{"ok":"hello","who":"ben"}
-{"clause":3,"deny":"chosen","text":"this node is already chosen"}
-{"ok":"bye"}
-"#;
+const TESS_CLOSED: &str = lines!(welcome("tess"), closed, left);
 
-const TESS_CLOSES: &str = r#"{"do":"hello","key":"chalk","name":"tess"}
-{"do":"close"}
-{"do":"bye"}
-"#;
+const LOOKS: &str = lines!(hello("ana", "a-key"), see(2), see(3), see(99));
 
-const TESS_CLOSED: &str = r#"{"ok":"hello","who":"tess"}
-{"at":1,"moved":[1],"ok":"close","place":2}
-{"ok":"bye"}
-"#;
+const LOOKED: &str = lines!(
+    welcome("ana"),
+    seen(0, false, 2, "null"),
+    seen(0, false, 3, "null"),
+    hidden
+);
 
-const TESS_DENIED: &str = r#"{"ok":"hello","who":"tess"}
-{"clause":2,"deny":"empty","text":"no node is chosen"}
-{"ok":"bye"}
-"#;
+const HELLO: &str = lines!(hello("tess", "chalk"));
 
-const CLOSE_JOURNAL: &str = "1 0 grant ana 1 seduction\n2 0 close\n";
-
-const ONE_CLOSED: &str = "done: 2 events, configuration 1\n";
-
-const LOOKS: &str = r#"{"do":"hello","key":"a-key","name":"ana"}
-{"do":"see","node":2}
-{"do":"see","node":3}
-{"do":"see","node":99}
-"#;
-
-const LOOKED: &str = r#"{"ok":"hello","who":"ana"}
-{"at":0,"m":false,"node":2,"ok":"see","p":null}
-{"at":0,"m":false,"node":3,"ok":"see","p":null}
-{"clause":1,"deny":"hidden","text":"this node is not shown to you"}
-"#;
-
-const HELLO: &str = "{\"do\":\"hello\",\"key\":\"chalk\",\"name\":\"tess\"}\n";
-
-const WELCOME: &str = "{\"ok\":\"hello\",\"who\":\"tess\"}\n";
+const WELCOME: &str = lines!(welcome("tess"));
 
 const NOTHING_DONE: &str = "done: 0 events, configuration 0\n";
 
@@ -252,7 +213,7 @@ const RACES: &[Race] = &[
     ),
     // One of two owners, whom the journal names.
     (
-        &[ANA_MOVES_THE_SECOND, BEN_MOVES_THE_SECOND],
+        &[ANA_MOVES_THE_SECOND, BEN_MOVES],
         Holds::Together,
         6,
         &[
@@ -262,7 +223,7 @@ const RACES: &[Race] = &[
                 ONE_MOVED,
             ),
             (
-                &[ANA_DENIED, BEN_MOVED_THE_SECOND],
+                &[ANA_DENIED, BEN_MOVED],
                 "1 0 grant ben 2 seduction\n",
                 ONE_MOVED,
             ),
@@ -275,13 +236,13 @@ const RACES: &[Race] = &[
         6,
         &[
             (
-                &[ANA_GRANTED, TESS_CLOSED, TESS_DENIED],
-                CLOSE_JOURNAL,
+                &[ANA_GRANTED, TESS_CLOSED, NOTHING_CLOSED],
+                CLOSED_JOURNAL,
                 ONE_CLOSED,
             ),
             (
-                &[ANA_GRANTED, TESS_DENIED, TESS_CLOSED],
-                CLOSE_JOURNAL,
+                &[ANA_GRANTED, NOTHING_CLOSED, TESS_CLOSED],
+                CLOSED_JOURNAL,
                 ONE_CLOSED,
             ),
         ],
@@ -291,7 +252,7 @@ const RACES: &[Race] = &[
         &[ANA_MOVES, TESS_CLOSES],
         Holds::Each(IN_ORDER),
         6,
-        &[(&[ANA_GRANTED, TESS_CLOSED], CLOSE_JOURNAL, ONE_CLOSED)],
+        &[(&[ANA_GRANTED, TESS_CLOSED], CLOSED_JOURNAL, ONE_CLOSED)],
     ),
     // Sixteen of one name.
     (
@@ -318,14 +279,12 @@ fn held_sessions_are_answered_one_by_one(rt: HostRuntime) -> Result<(), Fail> {
     Ok(())
 }
 
-const BYE: &str = "{\"do\":\"bye\"}\n";
-
 /// Whether of three connections the first two are served and left in their order.
 fn are_two_left<R: Threads + Wait + Sync>(rt: &R, alloc: Global) -> Result<bool, Fail> {
     let mut out = Vec::new(alloc);
     let sink = MemorySink::new(alloc, None);
-    let scripts = [ANA_MOVES, BYE, BYE];
-    let wanted: Outcome = (&[ANA_GRANTED, "{\"ok\":\"bye\"}\n"], ANA_JOURNAL, ONE_MOVED);
+    let scripts = [ANA_MOVES, lines!(bye), lines!(bye)];
+    let wanted: Outcome = (&[ANA_GRANTED, lines!(left)], ANA_JOURNAL, ONE_MOVED);
     match serve(rt, alloc, sink, &scripts, 2, &NoGate, &mut out)? {
         Ok(house) => Ok(is_outcome(&house, &out, &wanted)),
         Err(_) => Ok(false),
@@ -340,6 +299,7 @@ fn is_lack_told<R: Threads + Wait + Sync>(rt: &R, alloc: Global) -> Result<bool,
     Ok(matches!(one, Err(ServeFault::Accept)) && out.is_empty())
 }
 
+/// Whether connections are left in their order, and whether too few of them are an error.
 fn told_of_arrivals<R: Threads + Wait + Sync>(rt: &R, alloc: Global) -> Result<(bool, bool), Fail> {
     Ok((are_two_left(rt, alloc)?, is_lack_told(rt, alloc)?))
 }

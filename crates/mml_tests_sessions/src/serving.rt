@@ -2,7 +2,9 @@
 //! Clients connect and send before the server accepts: the system holds what they sent, and what they are
 //! answered.
 use mml_fakes::labs::PATH_OF_THREE;
+use mml_fakes::lines;
 use mml_fakes::meeting::wait_for;
+use mml_fakes::scripts::{ANA_GRANTED, ANA_MOVES, ONE_CLOSED};
 use mml_journal::MemorySink;
 use mml_lab::read_lab;
 use mml_serving::serve_on;
@@ -74,37 +76,21 @@ fn is_answered(alloc: Global, stream: TcpStream, replies: &str) -> io::Result<bo
     Ok(found.as_str() == replies)
 }
 
-const MOVE: &str = "{\"do\":\"hello\",\"key\":\"a-key\",\"name\":\"ana\"}
-{\"at\":0,\"do\":\"move\",\"node\":1,\"rule\":\"seduction\"}
-";
+const STEP: &str = lines!(hello("tess", "chalk"), close);
 
-const GRANTED: &str = "{\"ok\":\"hello\",\"who\":\"ana\"}
-{\"at\":0,\"node\":1,\"ok\":\"move\",\"place\":1,\"rule\":\"seduction\"}
-";
+const STEP_REPLIES: &str = lines!(welcome("tess"), closed);
 
-const STEP: &str = "{\"do\":\"hello\",\"key\":\"chalk\",\"name\":\"tess\"}
-{\"do\":\"close\"}
-";
-
-const STEP_REPLIES: &str = "{\"ok\":\"hello\",\"who\":\"tess\"}
-{\"at\":1,\"moved\":[1],\"ok\":\"close\",\"place\":2}
-";
-
-/// Whether the second of two clients closes a step once the first one's move was answered.
+/// Of two clients the second closes a step once the first one's move was answered: whether they are served well, and
+/// whether the first and the second are answered as they should be.
 fn told_of_two<
     R: Net<Listener = TcpListener, Stream = TcpStream> + Threads + Wait + Sync + AllocGlobal,
 >(rt: &R) -> Result<(bool, bool, bool), Fail> {
     let listener = TcpListener::bind(rt, SocketAddr::from((Ipv4Addr::LOCALHOST, 0)))?;
     let address = listener.local_addr()?;
-    let first = client(rt, address, MOVE)?;
+    let first = client(rt, address, ANA_MOVES)?;
     let second = client(rt, address, STEP)?;
-    let is_served = is_served(
-        rt,
-        rt.alloc(),
-        listener,
-        "done: 2 events, configuration 1\n",
-    )?;
-    let is_granted = is_answered(rt.alloc(), first, GRANTED)?;
+    let is_served = is_served(rt, rt.alloc(), listener, ONE_CLOSED)?;
+    let is_granted = is_answered(rt.alloc(), first, ANA_GRANTED)?;
     let is_closed = is_answered(rt.alloc(), second, STEP_REPLIES)?;
     Ok((is_served, is_granted, is_closed))
 }

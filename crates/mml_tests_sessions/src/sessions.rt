@@ -1,6 +1,6 @@
 //! One session: how it ends at its reader and its writer, and what stands then.
-use mml_fakes::scripts::{ANA_MOVES, ANA_WELCOME};
-use mml_fakes::{FakeReader, FakeWriter};
+use mml_fakes::scripts::{ANA_GRANTED, ANA_MOVES, ANA_WELCOME};
+use mml_fakes::{FakeReader, FakeWriter, line, lines};
 use mml_fakes_houses::{Ending, Pair, Visit, ending_of, is_first_close, visit_path};
 use mml_journal::MemorySink;
 use mml_lab::Who;
@@ -8,13 +8,8 @@ use mml_policy::Command;
 use mml_session::SessionEnd;
 use mml_window::House;
 use std::alloc::{AllocError, Global};
-use std::io::ErrorKind;
 use std::sync::Wait;
 use std::test::Fail;
-
-const REPLIES: &str = r#"{"ok":"hello","who":"ana"}
-{"at":0,"node":1,"ok":"move","place":1,"rule":"seduction"}
-"#;
 
 /// A session between a reader and a writer.
 #[derive(Drop)]
@@ -71,7 +66,7 @@ fn serve<'a, R: Wait>(
     }
 }
 
-/// The end of a house with a move and its close, or with no event.
+/// The end of a house with a move and its close, or else with no event.
 fn ending_after(is_closed: bool) -> Ending {
     Ending::Log {
         events: if is_closed { 2 } else { 0 },
@@ -82,7 +77,7 @@ fn ending_after(is_closed: bool) -> Ending {
 
 /// A bye with so many spaces behind it, and then these bytes.
 fn bye(alloc: Global, spaces: usize, end: &str) -> Result<Vec<u8>, AllocError> {
-    let mut line = b"{\"do\":\"bye\"}".to_vec(alloc)?;
+    let mut line = line!(bye).as_bytes().to_vec(alloc)?;
     for _ in 0..spaces {
         line.push(b' ')?;
     }
@@ -90,18 +85,18 @@ fn bye(alloc: Global, spaces: usize, end: &str) -> Result<Vec<u8>, AllocError> {
     Ok(line)
 }
 
-const BYE: &str = "{\"ok\":\"bye\"}\n";
+const LEFT: &str = lines!(left);
 
 /// How many spaces are behind a bye, and what ends its line and follows, all of which is read byte by
 /// byte; how the session ends, what it writes, how many reads it makes, and how many bytes it leaves.
 type Row = (usize, &'static str, SessionEnd, &'static str, usize, usize);
 
 const BYES: &[Row] = &[
-    (4084, "\n", SessionEnd::Bye, BYE, 4097, 0),
+    (4084, "\n", SessionEnd::Bye, LEFT, 4097, 0),
     (4085, "\n", SessionEnd::TooLong, "", 4097, 1),
     (0, "", SessionEnd::End, "", 13, 0),
     (4084, "", SessionEnd::End, "", 4097, 0),
-    (0, "\n{\"do\":\"bye\"}\n", SessionEnd::Bye, BYE, 13, 13),
+    (0, "\n{\"do\":\"bye\"}\n", SessionEnd::Bye, LEFT, 13, 13),
 ];
 
 /// Whether a session over the line of a row ends, writes and reads as the row says.
@@ -118,7 +113,7 @@ fn ends_as_in<R: Wait>(rt: &R, alloc: Global, row: &Row) -> Result<bool, Fail> {
     )
 }
 
-/// The first row of these that ends otherwise.
+/// The first row of `BYES` that ends otherwise.
 fn first_row_told_otherwise<R: Wait>(rt: &R, alloc: Global) -> Result<Option<usize>, Fail> {
     for (number, row) in BYES.iter().enumerate() {
         if !ends_as_in(rt, alloc, row)? {
@@ -134,20 +129,21 @@ fn lines_have_limits_and_nothing_is_read_after_a_bye(rt: HostRuntime) -> Result<
     Ok(())
 }
 
+/// A reader that gives `ANA_MOVES`, so many bytes at a time.
+fn all_at(step: usize) -> FakeReader<'static> {
+    let mut reader = FakeReader::failing_after(usize::MAX, ANA_MOVES.as_bytes());
+    reader.step = step;
+    reader
+}
+
 /// Whether a writer that fails after so many bytes ends the session, and has the beginning of what is
 /// wanted, while a granted event stands though no reply could be written, so that the close applies it.
 fn tells_a_write<R: Wait>(rt: &R, alloc: Global, good: usize) -> Result<bool, Fail> {
-    let reader = FakeReader {
-        rest: ANA_MOVES.as_bytes(),
-        step: usize::MAX,
-        good: usize::MAX,
-        kind: ErrorKind::Other,
-        reads: 0,
-    };
+    let reader = all_at(usize::MAX);
     let mut writer = FakeWriter::failing_after(good, alloc);
     writer.step = 1;
     let (served, is_ended) = serve(rt, alloc, reader, writer)?;
-    let (out, rest) = REPLIES.as_bytes().split_at(good.min(REPLIES.len()));
+    let (out, rest) = ANA_GRANTED.as_bytes().split_at(good.min(ANA_GRANTED.len()));
     let wanted = if rest.is_empty() {
         SessionEnd::End
     } else {
@@ -163,7 +159,7 @@ fn tells_a_write<R: Wait>(rt: &R, alloc: Global, good: usize) -> Result<bool, Fa
 
 /// The first number of good writes after which something else is told.
 fn first_untold_write<R: Wait>(rt: &R, alloc: Global) -> Result<Option<usize>, Fail> {
-    for good in 0..=REPLIES.len() {
+    for good in 0..=ANA_GRANTED.len() {
         if !tells_a_write(rt, alloc, good)? {
             return Ok(Some(good));
         }
@@ -180,7 +176,7 @@ fn failed_writes_are_told(rt: HostRuntime) -> Result<(), Fail> {
 /// What is answered to the whole lines among so many bytes.
 fn answered(good: usize) -> &'static str {
     if good == ANA_MOVES.len() {
-        REPLIES
+        ANA_GRANTED
     } else if good > 41 {
         ANA_WELCOME
     } else {
@@ -219,15 +215,9 @@ fn failed_reads_are_told(rt: HostRuntime) -> Result<(), Fail> {
 
 /// How many writes a session takes whose reader gives so many bytes at a time, where all is answered well.
 fn writes_at<R: Wait>(rt: &R, alloc: Global, step: usize) -> Result<Option<usize>, Fail> {
-    let reader = FakeReader {
-        rest: ANA_MOVES.as_bytes(),
-        step,
-        good: usize::MAX,
-        kind: ErrorKind::Other,
-        reads: 0,
-    };
+    let reader = all_at(step);
     let (served, is_ended) = serve(rt, alloc, reader, FakeWriter::patient(alloc))?;
-    let is_well = is_ended && served.writer.taken.as_slice() == REPLIES.as_bytes();
+    let is_well = is_ended && served.writer.taken.as_slice() == ANA_GRANTED.as_bytes();
     Ok(is_well.then_some(usize::MAX - served.writer.good))
 }
 

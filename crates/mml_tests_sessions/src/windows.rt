@@ -3,6 +3,7 @@ ghost use Rattle.std.specs.Prelude.{◌≡◌, length};
 ghost use Rattle.mml_window.specs.Houses.{house_of};
 
 use mml_board::Done;
+use mml_fakes::scripts::CLOSED_JOURNAL;
 use mml_fakes_houses::{
     Ending, Pair, Seat, Visit, ending_of, has_journal, is_first_close, open_path, seduction,
     student, visit_windows,
@@ -24,6 +25,7 @@ fn plays<H: House, R: Wait>(seats: &mut Pair<'_, MemorySink, H, R>) -> bool {
     is_first_move(&granted) && is_first_close(&closed)
 }
 
+/// Whether an answer grants the move of node 1 as the first event.
 fn is_first_move(answer: &Answer) -> bool {
     match answer {
         Answer::Granted {
@@ -85,8 +87,6 @@ fn are_at<H: House>(windows: &mut [Window<H>], number: u64) -> bool {
     count == 4
 }
 
-const JOURNAL: &str = "1 0 grant ana 1 seduction\n2 0 close\n";
-
 /// What is told of a house whose windows are all visited, or only view.
 #[derive(Clone, Copy, Debug, PartialEq, Eq)]
 struct Told {
@@ -119,16 +119,17 @@ fn in_house<H: House, R: Wait>(
         is_visited: visited == Some(true),
         are_shown: is_before && is_after,
         ending: ending_of(&end),
-        has_journal: has_journal(&end, JOURNAL),
+        has_journal: has_journal(&end, CLOSED_JOURNAL),
     })
 }
 
+/// What is told of a house over the path of three that ends with all windows or all but ana's.
 fn ended_with<R: Wait>(rt: &R, alloc: Global, with_both: bool) -> Result<Told, Fail> {
     let blank = open_path(rt, alloc, None)?;
     Ok(in_house::<Brand, _>(rt, alloc, blank, with_both)?)
 }
 
-/// What is told where all went well, and the house ended so.
+/// What is told of a house where all went well, which ended so.
 fn good(ending: Ending, has_journal: bool) -> Told {
     Told {
         is_visited: true,
@@ -207,7 +208,7 @@ fn refuses_the_second<H: House, R: Wait>(
         && book.events().len() == 1
 }
 
-/// Whether a house's book decides so, of which no window keeps a place, and how the house ends.
+/// Whether a house's book refuses the second move as it should, and how the house ends, whose windows keep no place.
 fn decides_alone<H: House, R: Wait>(
     rt: &R,
     alloc: Global,

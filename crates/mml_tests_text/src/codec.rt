@@ -73,7 +73,7 @@ const LINES: &[(&[u8], &str)] = &[
     (b"[1]", "Malformed"),
 ];
 
-/// Whether a line is read as that, with memory of its own or kept memory.
+/// Whether a line is read as it should be, both with memory of its own and with kept memory.
 fn is_read_as(
     alloc: Global,
     scratch: &mut LineScratch,
@@ -85,7 +85,7 @@ fn is_read_as(
     Ok(own.as_str() == wanted && kept.as_str() == wanted)
 }
 
-/// The first row of these that is read as something else.
+/// The first row of `LINES` that is read as something else.
 fn first_line_read_otherwise(
     alloc: Global,
     scratch: &mut LineScratch,
@@ -98,25 +98,19 @@ fn first_line_read_otherwise(
     Ok(None)
 }
 
-/// A part of a name, how it is written, and how often it stands; the same of the key; and how long the
-/// text of the greeting is.
-type Hello = (
-    &'static str,
-    &'static str,
-    usize,
-    &'static str,
-    &'static str,
-    usize,
-    usize,
-);
+/// A text, how it is written in a line, and how often it stands there.
+type Repeated = (&'static str, &'static str, usize);
+
+/// A name, a key, and how long the text of the greeting with them is.
+type Hello = (Repeated, Repeated, usize);
 
 const HELLOS: &[Hello] = &[
-    ("ana", "ana", 1, "a-key", "a-key", 1, 41),
-    ("\"\n", r#"\"\n"#, 1, "\\", r"\\", 1, 39),
-    ("n", "n", 2000, "k", "k", 2000, 4033),
-    ("n", "n", 4000, "k", "k", 0, 4033),
-    ("n", "n", 0, "k", "k", 4000, 4033),
-    ("\"", r#"\""#, 983, "k", "k", 2001, 4000),
+    (("ana", "ana", 1), ("a-key", "a-key", 1), 41),
+    (("\"\n", r#"\"\n"#, 1), ("\\", r"\\", 1), 39),
+    (("n", "n", 2000), ("k", "k", 2000), 4033),
+    (("n", "n", 4000), ("k", "k", 0), 4033),
+    (("n", "n", 0), ("k", "k", 4000), 4033),
+    (("\"", r#"\""#, 983), ("k", "k", 2001), 4000),
 ];
 
 /// Whether a greeting is written so, and read as its own text.
@@ -132,28 +126,30 @@ fn is_hello(
     Ok(written.as_str() == text && is_read_as(alloc, scratch, text.as_bytes(), text)?)
 }
 
-/// The text of a greeting by a row of these.
-fn shown_hello(alloc: Global, row: &Hello) -> Result<String, AllocError> {
-    let name = row.1.repeat(alloc, row.2)?;
-    let key = row.4.repeat(alloc, row.5)?;
+/// The text of the greeting of a row.
+fn hello_text(alloc: Global, row: &Hello) -> Result<String, AllocError> {
+    let ((_, name, names), (_, key, keys), _) = row;
+    let name = name.repeat(alloc, *names)?;
+    let key = key.repeat(alloc, *keys)?;
     format!(in alloc; "{{\"do\":\"hello\",\"key\":\"{key}\",\"name\":\"{name}\"}}")
 }
 
-/// Whether that is written and read so, and as long.
-fn is_row_told(alloc: Global, scratch: &mut LineScratch, row: &Hello) -> Result<bool, Fail> {
-    let text = shown_hello(alloc, row)?;
-    let name = row.0.repeat(alloc, row.2)?;
-    let key = row.3.repeat(alloc, row.5)?;
-    Ok(text.len() == row.6 && is_hello(alloc, scratch, name, key, text.as_str())?)
+/// Whether the greeting of a row is written and read as its text, which is as long as the row says.
+fn is_hello_told(alloc: Global, scratch: &mut LineScratch, row: &Hello) -> Result<bool, Fail> {
+    let text = hello_text(alloc, row)?;
+    let ((name, _, names), (key, _, keys), length) = row;
+    let name = name.repeat(alloc, *names)?;
+    let key = key.repeat(alloc, *keys)?;
+    Ok(text.len() == *length && is_hello(alloc, scratch, name, key, text.as_str())?)
 }
 
-/// The first row of these that is written or read otherwise.
+/// The first row of `HELLOS` that is written or read otherwise.
 fn first_hello_told_otherwise(
     alloc: Global,
     scratch: &mut LineScratch,
 ) -> Result<Option<usize>, Fail> {
     for (number, row) in HELLOS.iter().enumerate() {
-        if !is_row_told(alloc, scratch, row)? {
+        if !is_hello_told(alloc, scratch, row)? {
             return Ok(Some(number));
         }
     }
@@ -172,6 +168,7 @@ fn named_node(scratch: &mut LineScratch, line: &[u8]) -> Result<Option<u64>, Fai
 /// The first line and the first greeting that are told otherwise, and the nodes of three lines.
 type Told = (Option<usize>, Option<usize>, [Option<u64>; 3]);
 
+/// What is told of lines, greetings and nodes, read with kept memory.
 fn told_with(alloc: Global, scratch: &mut LineScratch) -> Result<Told, Fail> {
     let line = first_line_read_otherwise(alloc, scratch)?;
     let hello = first_hello_told_otherwise(alloc, scratch)?;

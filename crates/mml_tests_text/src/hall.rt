@@ -13,7 +13,7 @@ use std::alloc::Global;
 use std::io::{Read, Write};
 use std::test::Fail;
 
-/// What came of a script.
+/// The error that a script over the path of three ends with, if it does.
 fn fault_of<R: Read, W: Write>(
     alloc: Global,
     reader: &mut R,

@@ -93,7 +93,7 @@ fn wanted(alloc: Global, line: &str, is_line: bool, last: &str) -> Result<String
     }
 }
 
-/// Whether that is told of a row.
+/// Whether a line of a row's length is told as the row says.
 fn is_length_told(alloc: Global, row: &Length) -> Result<bool, Fail> {
     let (limit, len, end, is_line, last) = row;
     let line = digits(alloc, *len)?;
@@ -101,7 +101,7 @@ fn is_length_told(alloc: Global, row: &Length) -> Result<bool, Fail> {
     are_steps(alloc, *limit, line.as_str(), end, wanted.as_str())
 }
 
-/// The first row of these of which something else is told.
+/// The first row of `LENGTHS` of which something else is told.
 fn first_length_told_otherwise(alloc: Global) -> Result<Option<usize>, Fail> {
     for (number, row) in LENGTHS.iter().enumerate() {
         if !is_length_told(alloc, row)? {
@@ -117,7 +117,7 @@ fn a_line_is_as_long_as_the_limit(rt: HostRuntime) -> Result<(), Fail> {
     Ok(())
 }
 
-/// Whether the same is told of two parts, of which the second comes in reads of so many bytes.
+/// Whether `TEXT` in two parts, of which the second comes in reads of so many bytes, is told as `TOLD` says.
 fn is_told_in_parts(alloc: Global, cut: usize, step: usize) -> Result<bool, Fail> {
     let (first, second) = TEXT.split_at(cut.min(TEXT.len()));
     let mut reader = Parts {
@@ -156,7 +156,7 @@ const READS: &[Reads] = &[
     (100, 1, "Line ab\nLine \nLine cd\nReadFault \n", 2),
 ];
 
-/// Whether that is told of a row.
+/// Whether what a row's reader gives is told as the row says, after as many reads.
 fn are_reads_told(alloc: Global, row: &Reads) -> Result<bool, Fail> {
     let (step, good, wanted, reads) = row;
     let mut reader = FakeReader::failing_after(*good, TEXT);
@@ -165,7 +165,7 @@ fn are_reads_told(alloc: Global, row: &Reads) -> Result<bool, Fail> {
     Ok(told.as_str() == *wanted && reader.reads == *reads)
 }
 
-/// The first row of these of which something else is told.
+/// The first row of `READS` of which something else is told.
 fn first_reads_told_otherwise(alloc: Global) -> Result<Option<usize>, Fail> {
     for (number, row) in READS.iter().enumerate() {
         if !are_reads_told(alloc, row)? {
@@ -199,8 +199,8 @@ fn count_lines(lines: &mut Lines, reader: &mut FakeReader) -> (u32, Step) {
     (u32::MAX, Step::Line)
 }
 
-/// How many lines come of a byte each read, one more than the reads that there may be, what ends them,
-/// and how many bytes are left.
+/// Of one line end more than there may be reads, a byte a read: how many lines come, what ends them, and how many
+/// bytes are left.
 fn counted(alloc: Global) -> Result<(u32, Step, usize), Fail> {
     let breaks = vec![in alloc; b'\n'; MAX_READS as usize + 1]?;
     counted_in(alloc, breaks.as_slice())
@@ -235,6 +235,7 @@ fn line_comes_by_bytes(alloc: Global, text: &[u8]) -> Result<(bool, usize), Fail
 /// What is counted, and what comes by bytes.
 type Counts = ((u32, Step, usize), (bool, usize));
 
+/// What is told of many short lines, and of one long one.
 fn counts(alloc: Global) -> Result<Counts, Fail> {
     Ok((counted(alloc)?, comes_by_bytes(alloc)?))
 }

@@ -5,6 +5,7 @@ use super::library::{is_there, refuse, was_none_refused};
 use mml_codec::{JOURNAL_LINE, MEMORY_LINE, write_reply};
 use mml_fakes::labs::PATH_OF_THREE;
 use mml_fakes::scripts::{TEN_LINES, first_lines};
+use mml_fakes::{line, lines};
 use mml_hall::Hall;
 use mml_journal::MemorySink;
 use mml_lab::read_lab;
@@ -32,11 +33,11 @@ fn answered(
     Some((out, was_none))
 }
 
-const HELLO: &str = r#"{"do":"hello","key":"a-key","name":"ana"}"#;
+const HELLO: &str = line!(hello("ana", "a-key"));
 
-const MOVE: &str = r#"{"at":0,"do":"move","node":1,"rule":"seduction"}"#;
+const MOVE: &str = line!(seduction(1));
 
-const GRANTED: &str = "{\"at\":0,\"node\":1,\"ok\":\"move\",\"place\":1,\"rule\":\"seduction\"}\n";
+const GRANTED: &str = lines!(granted(1, 1));
 
 /// What became of a grant over a sink in memory.
 #[derive(Clone, Copy, Debug, PartialEq, Eq)]

@@ -2,14 +2,19 @@
 //! A test speaks to it by requests of more bytes than there are; without it these are just refused.
 use std::alloc::Global;
 
+/// Arms the library to refuse the request with the number that is added, or none for 0.
 const ARM: usize = 0x11 << 56;
 
+/// Arms the library to refuse each request from the one on whose number is added.
 const FROM: usize = 0x12 << 56;
 
+/// Granted exactly where no request was made since.
 const MADE: usize = 0x13 << 56;
 
+/// Granted exactly where no request was refused since.
 const MET: usize = 0x14 << 56;
 
+/// Whether a request for so many bytes is granted.
 fn is_granted(alloc: Global, bytes: usize) -> bool {
     let block: Result<Vec<u8>, _> = Vec::with_capacity(alloc, bytes);
     block.is_ok()
@@ -26,7 +31,7 @@ pub fn refuse_all(alloc: Global) {
     is_granted(alloc, FROM.saturating_add(1));
 }
 
-/// Whether no request was made since then.
+/// Whether no request for memory was made since `refuse` was called.
 pub fn was_none_made(alloc: Global) -> bool {
     is_granted(alloc, MADE)
 }
@@ -37,7 +42,7 @@ pub fn is_there(alloc: Global) -> bool {
     was_none_made(alloc)
 }
 
-/// Whether none was refused since then, the library being there or not. From here on none is.
+/// Whether no request was refused since `refuse` was called, the library being there or not. From here on none is.
 pub fn was_none_refused(alloc: Global, is_there: bool) -> bool {
     let was_none = !is_there || is_granted(alloc, MET);
     refuse(alloc, 0);

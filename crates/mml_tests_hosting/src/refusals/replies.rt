@@ -1,6 +1,7 @@
 //! Replies over a row of 256 nodes, written into room for a reply while each request for memory is refused.
 use super::library::{is_there, refuse, refuse_all};
 use mml_codec::{REPLY_ROOM, write_reply};
+use mml_fakes::line;
 use mml_hall::Hall;
 use mml_ids::Memory;
 use mml_journal::NullSink;
@@ -27,37 +28,21 @@ fn row_of_256(alloc: Global) -> Result<String, AllocError> {
     Ok(text)
 }
 
-// A connection, its request, and the reply.
+// What is asked before the moves: a connection, its request, and the reply.
 const BEFORE: &[(u8, &str, &str)] = &[
-    (
-        1,
-        r#"{"do":"see","node":65280}"#,
-        r#"{"clause":0,"deny":"not-greeted","text":"say hello first"}"#,
-    ),
-    (
-        1,
-        r#"{"do":"hello","key":"a-key","name":"ana"}"#,
-        r#"{"ok":"hello","who":"ana"}"#,
-    ),
-    (
-        2,
-        r#"{"do":"hello","key":"chalk","name":"tess"}"#,
-        r#"{"ok":"hello","who":"tess"}"#,
-    ),
-    (
-        1,
-        r#"{"do":"see","node":65535}"#,
-        r#"{"at":0,"m":false,"node":65535,"ok":"see","p":null}"#,
-    ),
+    (1, line!(see(65280)), line!(not_greeted)),
+    (1, line!(hello("ana", "a-key")), line!(welcome("ana"))),
+    (2, line!(hello("tess", "chalk")), line!(welcome("tess"))),
+    (1, line!(see(65535)), line!(seen(0, false, 65535, "null"))),
     (
         1,
         r#"{"at":7,"do":"move","node":65280,"rule":"seduction"}"#,
-        r#"{"at":0,"clause":2,"deny":"stale","text":"this is not the current configuration"}"#,
+        line!(stale(0)),
     ),
     (1, "{", r#"{"refuse":"malformed"}"#),
 ];
 
-// After the close.
+// What is asked after the close: a connection, its request, and the reply.
 const AFTER: &[(u8, &str, &str)] = &[
     (
         2,
@@ -89,11 +74,11 @@ const AFTER: &[(u8, &str, &str)] = &[
         r#"{"a":65280,"b":65535,"do":"link"}"#,
         r#"{"refuse":"full"}"#,
     ),
-    (1, r#"{"do":"bye"}"#, r#"{"ok":"bye"}"#),
+    (1, line!(bye), line!(left)),
 ];
 
-/// The reply line to a request, written into that room while each request for memory is refused, or that
-/// one was wanted.
+/// Writes the reply line to a connection's request into `out` while each request for memory is refused; an error
+/// where memory was wanted.
 fn written(
     alloc: Global,
     hall: &mut Hall<NullSink>,
@@ -111,7 +96,7 @@ fn written(
     told
 }
 
-/// Whether this is written.
+/// Whether the wanted reply to a connection's request is written without memory.
 fn is_written(
     alloc: Global,
     hall: &mut Hall<NullSink>,
@@ -124,7 +109,7 @@ fn is_written(
     told.is_ok() && out.strip_suffix(b"\n") == Some(wanted.as_bytes())
 }
 
-/// Whether all of these are.
+/// Whether the reply of each row is written without memory.
 fn are_written(
     alloc: Global,
     hall: &mut Hall<NullSink>,
@@ -139,7 +124,7 @@ fn are_written(
     true
 }
 
-/// Whether the replies to a move of each node but the last are written.
+/// Whether the replies to a move of each node but the last are written without memory.
 fn are_moves_written(
     alloc: Global,
     hall: &mut Hall<NullSink>,
@@ -160,7 +145,7 @@ fn are_moves_written(
     Ok(true)
 }
 
-/// The reply to the close that applies them all.
+/// The reply to the close that applies the moves of all nodes but the last.
 fn closed(alloc: Global) -> Result<String, AllocError> {
     let mut text = String::from_str(alloc, "{\"at\":1,\"moved\":[65280")?;
     for id in 65281..65535u64 {
@@ -170,7 +155,7 @@ fn closed(alloc: Global) -> Result<String, AllocError> {
     Ok(text)
 }
 
-/// A hall of that row.
+/// A hall over the row of 256 nodes.
 fn hall_of_256(alloc: Global) -> Result<Box<Hall<NullSink>>, Fail> {
     let file = row_of_256(alloc)?;
     let lab = read_lab(alloc, file.as_bytes())?;
@@ -178,14 +163,14 @@ fn hall_of_256(alloc: Global) -> Result<Box<Hall<NullSink>>, Fail> {
     Ok(Box::new(alloc, hall)?)
 }
 
-/// Whether each kind of reply but a look and a report is written, and whether a report of all nodes is.
+/// Whether each kind of reply but a look and a report is written without memory, and whether a report of all nodes is.
 fn told_of_replies(alloc: Global) -> Result<(bool, bool), Fail> {
     let closed = closed(alloc)?;
     let out = &mut Vec::with_capacity(alloc, REPLY_ROOM)?;
     let hall = &mut *hall_of_256(alloc)?;
     let is_before = are_written(alloc, hall, out, BEFORE);
     let is_moved = are_moves_written(alloc, hall, out)?;
-    let is_closed = is_written(alloc, hall, out, 2, r#"{"do":"close"}"#, closed.as_str());
+    let is_closed = is_written(alloc, hall, out, 2, line!(close), closed.as_str());
     let is_after = are_written(alloc, hall, out, AFTER);
     let is_reported = written(alloc, hall, out, 2, r#"{"do":"report"}"#).is_ok();
     Ok((is_before && is_moved && is_closed && is_after, is_reported))

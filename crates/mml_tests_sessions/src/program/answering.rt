@@ -1,7 +1,7 @@
 //! What `check`, `audit` and `script` write, over writers that fail after so many writes or flushes.
-use mml_fakes::FakeWriter;
 use mml_fakes::labs::{PATH_OF_THREE, boxed_lab};
 use mml_fakes::scripts::{FIRST_LOOK, FIRST_LOOK_REPLIES, TEN_LINES};
+use mml_fakes::{FakeWriter, lines};
 use mml_journal::NullSink;
 use mml_lab::{Lab, read_lab};
 use mml_program::{BUILT_IN, Fault, answer_script, write_audit, write_size};
@@ -44,6 +44,7 @@ fn are_lines_told(alloc: Global, lab: &Lab) -> bool {
         && has_written(is_failed, &failing, Some(Fault::Write), b"")
 }
 
+/// Whether the lines of a server, of a lab and of a journal are told as they should be.
 fn told_of_lines(alloc: Global) -> Result<bool, Fail> {
     let lab = boxed_lab(alloc, BUILT_IN)?;
     Ok(is_listening_told(alloc) && are_lines_told(alloc, &lab))
@@ -57,11 +58,11 @@ fn lines_go_out_in_one_write(rt: HostRuntime) -> Result<(), Fail> {
     Ok(())
 }
 
-const BYE: &str = "1 {\"do\":\"bye\"}\n";
+const BYE: &str = lines!("1 ", bye);
 
-const LEFT: &str = "1 {\"ok\":\"bye\"}\n";
+const LEFT: &str = lines!("1 ", left);
 
-const BAD_SECOND_LINE: &str = "1 {\"do\":\"bye\"}\n5 {\"do\":\"bye\"}\n";
+const BAD_SECOND_LINE: &str = lines!("1 ", bye, "5 ", bye);
 
 /// A script and how often it stands there, after how many writes and flushes its writer fails, what is told
 /// at the end, and what was written: a text, so many times.
@@ -105,7 +106,7 @@ fn fault_of(alloc: Global, script: &str, writer: &mut FakeWriter) -> Result<Opti
     Ok(answer_script(alloc, lab, &mut reader, writer, NullSink::new()).err())
 }
 
-/// Whether that comes of a script.
+/// Whether what a row says comes of its script.
 fn is_answered(alloc: Global, row: &Row) -> Result<bool, Fail> {
     let (script, times, writes, flushes, wanted, replies, count) = row;
     let mut writer = FakeWriter::failing_after(*writes, alloc);
@@ -116,7 +117,7 @@ fn is_answered(alloc: Global, row: &Row) -> Result<bool, Fail> {
     Ok(fault == *wanted && writer.taken.as_slice() == replies.as_bytes())
 }
 
-/// The first row of which something else comes.
+/// The first row of `ROWS` of which something else comes.
 fn first_other(alloc: Global) -> Result<Option<usize>, Fail> {
     for (number, row) in ROWS.iter().enumerate() {
         if !is_answered(alloc, row)? {

@@ -1,13 +1,12 @@
 //! The words that were given, files that are read whole, and a journal's file that is begun.
 use mml_ends::hold_streams;
+use mml_fakes::scripts::ANA_JOURNAL;
 use mml_files::OpenJournal;
 use mml_journal::Sink;
 use mml_program::{BUILT_IN, Fault, begin_journal_with, lab_of, read_file, read_journal, words_of};
 use std::path::{Path, PathBuf};
 use std::test::Fail;
 use std::{env, fs, process};
-
-const LINE: &[u8] = b"1 0 grant ana 1 seduction\n";
 
 /// A path of this process alone, with this end.
 fn path_of_process(rt: &HostRuntime, end: &str) -> Result<PathBuf, Fail> {
@@ -32,7 +31,8 @@ fn is_begun(rt: &HostRuntime, path: &str) -> bool {
     };
     let needed: Result<u64, Fault> = Ok(7);
     match begin_journal_with(rt, journal, needed) {
-        Ok((needed, mut sink)) => needed == 7 && sink.put(LINE) == Ok(LINE.len()),
+        Ok((needed, mut sink)) => needed == 7
+            && sink.put(ANA_JOURNAL.as_bytes()) == Ok(ANA_JOURNAL.len()),
         Err(_) => false,
     }
 }
@@ -42,7 +42,7 @@ fn is_begun(rt: &HostRuntime, path: &str) -> bool {
 fn is_kept(rt: &HostRuntime, path: &str, kept: &str) -> bool {
     let old = lab_of(rt, path).is_ok_and(|lab| lab.node_count() == 3);
     let is_begun = is_begun(rt, path);
-    let new = is_read(read_journal(rt, path), Ok(LINE));
+    let new = is_read(read_journal(rt, path), Ok(ANA_JOURNAL.as_bytes()));
     let kept = is_read(
         read_file(rt, kept, Fault::ReadScript),
         Ok(BUILT_IN.as_bytes()),

@@ -59,7 +59,7 @@ const FORMS: &[(&str, &str)] = &[
     ),
 ];
 
-/// Whether that is what words ask for.
+/// Whether words ask for the wanted task.
 fn is_asked(alloc: Global, words: &[String], wanted: &str) -> Result<bool, Fail> {
     let task = read_words(alloc, words)?;
     let found = format!(in alloc; "{task:?}")?;

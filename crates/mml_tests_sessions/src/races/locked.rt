@@ -1,6 +1,8 @@
 //! A put that goes on, under the lock, until another session has come for the lock and a third was answered.
 use super::steps::{Hold, Holds, Steps};
 use super::{ANA_GRANTED, ANA_MOVES, are_answered, serve};
+use mml_fakes::lines;
+use mml_fakes::scripts::BEN_MOVES;
 use mml_journal::{Sink, SinkFault};
 use mml_session::Point;
 use std::alloc::Global;
@@ -54,25 +56,11 @@ impl<'a> Sink for Slow<'a> {
     }
 }
 
-const BEN_MOVES: &str = r#"{"do":"hello","key":"b-key","name":"ben"}
-{"at":0,"do":"move","node":2,"rule":"seduction"}
-{"do":"bye"}
-"#;
+const CYD_LOOKS: &str = lines!(hello("cyd", "c-key"), see(2), bye);
 
-const CYD_LOOKS: &str = r#"{"do":"hello","key":"c-key","name":"cyd"}
-{"do":"see","node":2}
-{"do":"bye"}
-"#;
+const BEN: &str = lines!(welcome("ben"), granted(2, 2), left);
 
-const BEN: &str = r#"{"ok":"hello","who":"ben"}
-{"at":0,"node":2,"ok":"move","place":2,"rule":"seduction"}
-{"ok":"bye"}
-"#;
-
-const CYD: &str = r#"{"ok":"hello","who":"cyd"}
-{"at":0,"m":false,"node":2,"ok":"see","p":null}
-{"ok":"bye"}
-"#;
+const CYD: &str = lines!(welcome("cyd"), seen(0, false, 2, "null"), left);
 
 const JOURNAL: &str = "1 0 grant ana 1 seduction\n2 0 grant ben 2 seduction\n";
 

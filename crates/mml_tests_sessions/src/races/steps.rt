@@ -21,8 +21,11 @@ pub enum Holds<'a> {
 #[derive(Drop)]
 pub struct Steps<'a> {
     holds: Holds<'a>,
+    /// How many steps each connection has come to.
     steps: Vec<AtomicU64>,
+    /// How often one gave up waiting.
     given_up: AtomicU64,
+    /// How often a line came in the place of a reply, or a reply in that of a line.
     misled: AtomicU64,
 }
 
@@ -41,10 +44,12 @@ impl<'a> Steps<'a> {
         })
     }
 
+    /// How many steps a connection has come to.
     fn come_of(&self, connection: u8) -> Option<&AtomicU64> {
         self.steps.get(usize::from(connection.saturating_sub(1)))
     }
 
+    /// Waits until a connection has come to so many steps, and counts that it gave up where it hasn't.
     fn wait_until(&self, come: Option<&AtomicU64>, wanted: u64) {
         let has_come = match come {
             Some(come) => wait_for(come, wanted),
@@ -55,12 +60,14 @@ impl<'a> Steps<'a> {
         }
     }
 
+    /// Waits at a step until all connections have come to it.
     fn hold_together(&self, step: u64) {
         for come in self.steps.iter() {
             self.wait_until(Some(come), step.saturating_add(1));
         }
     }
 
+    /// Waits at a step of a connection as the holds say that are for it.
     fn hold_each(&self, holds: &[Hold], connection: u8, step: u64) {
         for (held, at, other, wanted) in holds.iter() {
             if *held == connection && *at == step {
@@ -69,6 +76,7 @@ impl<'a> Steps<'a> {
         }
     }
 
+    /// Waits at a step of a connection as long as it is held there.
     fn hold(&self, connection: u8, step: u64) {
         match self.holds {
             Holds::Together => self.hold_together(step),

@@ -4,6 +4,7 @@ ghost use Rattle.mml_codec.specs.Replies.{IsAbout};
 use mml_board::Board;
 use mml_codec::{REPLY_ROOM, Reply, reply_of, write_reply};
 use mml_fakes::labs::{FAR_APART, boxed_board, boxed_lab};
+use mml_fakes::lines;
 use mml_lab::Lab;
 use mml_policy::{Denial, Ruling, See};
 use mml_rules::{Regs, Scene};
@@ -86,7 +87,7 @@ fn replies_far_apart(alloc: Global) -> Result<(String, String, bool), Fail> {
 fn replies_are_written(rt: HostRuntime) -> Result<(), Fail> {
     let (sight, report, stays) = replies_far_apart(rt.alloc())?;
     let wanted = (
-        "{\"at\":18446744073709551615,\"m\":true,\"node\":65535,\"ok\":\"see\",\"p\":7}\n",
+        lines!(seen(18446744073709551615, true, 65535, 7)),
         "{\"at\":0,\"free\":[7,65535],\"ok\":\"report\",\"open\":[],\"pairs\":[],\"privileged\":[],\"stable\":true}\n",
         true,
     );

@@ -1,7 +1,7 @@
 //! A sink in which each byte may be the last: what it has then, and what the hall and audits say of it.
 use mml_audit::{audit, audit_events};
 use mml_fakes::labs::PATH_OF_THREE;
-use mml_fakes::scripts::{GREETINGS, TEN_ACTS, TEN_LINES};
+use mml_fakes::scripts::{GREETINGS, TEN_ACTS, TEN_LINES, ended_lines};
 use mml_fakes::{Drip, FakeWriter};
 use mml_hall::{Hall, run_script};
 use mml_lab::read_lab;
@@ -12,7 +12,7 @@ use std::test::Fail;
 /// and is halted by one failed put unless these are all.
 fn has_dripped(hall: &Hall<Drip>, puts: usize) -> bool {
     let (wanted, _) = TEN_LINES.as_bytes().split_at(puts.min(TEN_LINES.len()));
-    let lines = wanted.iter().filter(|byte| **byte == b'\n').count();
+    let lines = ended_lines(wanted);
     hall.sink().bytes.as_slice() == wanted
         && hall.halted() == (puts < TEN_LINES.len())
         && hall.sink().failures == u64::from(hall.halted())
@@ -57,7 +57,8 @@ fn hall_of(alloc: Global, script: &str, puts: usize) -> Result<Box<Hall<Drip>>, 
     Ok(Box::new(alloc, hall)?)
 }
 
-/// Whether a script leaves such a hall.
+/// Whether a script over a sink that fails after so many bytes leaves a hall with just these, which audits pass if they
+/// are whole lines.
 fn drips(alloc: Global, script: &str, puts: usize) -> Result<bool, Fail> {
     let hall = hall_of(alloc, script, puts)?;
     Ok(has_dripped(&hall, puts) && is_audited(alloc, &hall))

@@ -1,8 +1,10 @@
 //! Each read of a script is made once, and none after its end: what is told of one that fails, and how
 //! far the replies go then.
 use super::fault_of;
-use mml_fakes::scripts::{FIRST_LOOK, FIRST_LOOK_REPLIES, GREETING, GREETING_REPLIES, first_lines};
-use mml_fakes::{FakeReader, FakeWriter};
+use mml_fakes::scripts::{
+    FIRST_LOOK, FIRST_LOOK_REPLIES, GREETING, GREETING_REPLIES, ended_lines, first_lines,
+};
+use mml_fakes::{FakeReader, FakeWriter, lines};
 use mml_hall::ScriptFault;
 use std::alloc::{AllocError, Global};
 use std::test::Fail;
@@ -41,17 +43,13 @@ fn is_read_once(alloc: Global, script: &str, replies: &str) -> Result<bool, Fail
     Ok(is_read_by_bytes && is_read_at_once)
 }
 
-fn line_ends(bytes: &[u8]) -> usize {
-    bytes.iter().filter(|byte| **byte == b'\n').count()
-}
-
 /// The first number of good reads of a byte after which the error isn't told, or other lines are
 /// answered than those that came whole.
 fn first_untold_read(alloc: Global) -> Result<Option<usize>, Fail> {
     let script = GREETING.as_bytes();
     for good in 0..=script.len() {
         let (given, rest) = script.split_at(good.min(script.len()));
-        let replies = first_lines(GREETING_REPLIES, line_ends(given) as u64);
+        let replies = first_lines(GREETING_REPLIES, ended_lines(given) as u64);
         if !is_script_answered(alloc, GREETING, replies, 1, (good, FAILED, rest.len()))? {
             return Ok(Some(good));
         }
@@ -68,11 +66,11 @@ const BUFFERS: [(usize, End); 5] = [
     (600, (4, None, 0)),
 ];
 
-/// The first row of these of which something else is told.
+/// The first row of `BUFFERS` of which something else is told.
 fn first_other_buffer(alloc: Global) -> Result<Option<usize>, Fail> {
-    let script = "2 {\"do\":\"bye\"}\n".repeat(alloc, 600)?;
+    let script = lines!("2 ", bye).repeat(alloc, 600)?;
     for (row, (answered, end)) in BUFFERS.iter().enumerate() {
-        let replies = "2 {\"ok\":\"bye\"}\n".repeat(alloc, *answered)?;
+        let replies = lines!("2 ", left).repeat(alloc, *answered)?;
         if !is_script_answered(alloc, script.as_str(), replies.as_str(), usize::MAX, *end)? {
             return Ok(Some(row));
         }
@@ -89,7 +87,7 @@ fn long_greeting(alloc: Global) -> Result<String, AllocError> {
 const UNKNOWN: &str =
     "1 {\"clause\":2,\"deny\":\"unknown\",\"text\":\"name and key do not match\"}\n";
 
-/// Whether such a greeting is answered by one read, and one that finds the end.
+/// Whether a greeting of 4,036 bytes is answered after one read and one more that finds the end.
 fn is_long_greeting_answered(alloc: Global) -> Result<bool, Fail> {
     let script = long_greeting(alloc)?;
     let is_told = is_script_answered(alloc, script.as_str(), UNKNOWN, usize::MAX, (2, None, 0))?;
@@ -98,9 +96,9 @@ fn is_long_greeting_answered(alloc: Global) -> Result<bool, Fail> {
 
 /// Whether nothing is read after a bad line.
 fn is_bad_line_told(alloc: Global) -> Result<bool, Fail> {
-    let script = "2 {\"do\":\"bye\"}\n\n2 {\"do\":\"bye\"}\n";
+    let script = lines!("2 ", bye, "\n2 ", bye);
     let end = (16, Some(ScriptFault::BadLine(2)), 15);
-    is_script_answered(alloc, script, "2 {\"ok\":\"bye\"}\n", 1, end)
+    is_script_answered(alloc, script, lines!("2 ", left), 1, end)
 }
 
 /// Whether two scripts, a long greeting and a bad line are each read once.

@@ -1,6 +1,6 @@
 //! Replies wait for no line: all of them are out and flushed before each read, many in one write.
 use super::fault_of;
-use mml_fakes::scripts::{FIRST_LOOK, FIRST_LOOK_REPLIES, GREETING, GREETING_REPLIES};
+use mml_fakes::scripts::{FIRST_LOOK, FIRST_LOOK_REPLIES, GREETING, GREETING_REPLIES, ended_lines};
 use mml_fakes::{FakeWriter, Parts};
 use std::alloc::Global;
 use std::cell::Cell;
@@ -37,6 +37,7 @@ impl<'a> Read for Asker<'a> {
     }
 }
 
+/// Keeps what it is given, and counts it.
 #[derive(Drop)]
 struct Answered<'a> {
     taken: Vec<u8>,
@@ -46,9 +47,8 @@ struct Answered<'a> {
 impl<'a> Write for Answered<'a> {
     fn write(&mut self, buf: &[u8]) -> io::Result<usize> {
         self.taken.extend_from_slice(buf)?;
-        let ends = buf.iter().filter(|byte| **byte == b'\n').count();
         let replies = &self.line.replies;
-        replies.set(replies.get().saturating_add(ends));
+        replies.set(replies.get().saturating_add(ended_lines(buf)));
         let unflushed = &self.line.unflushed;
         unflushed.set(unflushed.get().saturating_add(buf.len()));
         Ok(buf.len())
@@ -122,6 +122,7 @@ fn first_cut_that_changes(alloc: Global) -> Result<Option<usize>, Fail> {
 /// Whether looks, and greetings, are answered, after how many writes, and the first cut that changes something.
 type Writes = ((bool, usize), (bool, usize), Option<usize>);
 
+/// What is told of looks, of greetings, and of a pipe that is cut.
 fn writes_before_reads(alloc: Global) -> Result<Writes, Fail> {
     let looks = asked(alloc, FIRST_LOOK, FIRST_LOOK_REPLIES)?;
     let greets = asked(alloc, GREETING, GREETING_REPLIES)?;

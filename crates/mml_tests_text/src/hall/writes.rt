@@ -75,6 +75,7 @@ fn first_untold_flush(alloc: Global) -> Result<Option<usize>, Fail> {
 /// The first write and the first flush that aren't told.
 type Untold = (Option<(usize, usize)>, Option<usize>);
 
+/// What isn't told of failed writes and flushes.
 fn first_untold(alloc: Global) -> Result<Untold, Fail> {
     Ok((first_untold_write(alloc)?, first_untold_flush(alloc)?))
 }

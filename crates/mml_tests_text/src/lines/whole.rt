@@ -34,7 +34,7 @@ const INPUTS: &[(&str, usize, ErrorKind, &str)] = &[
     ("abc", 1, ErrorKind::OutOfMemory, "Memory"),
 ];
 
-/// The first row of these of which something else is told.
+/// The first row of `INPUTS` of which something else is told.
 fn first_told_otherwise(alloc: Global) -> Result<Option<usize>, Fail> {
     for (row, (input, good, kind, wanted)) in INPUTS.iter().enumerate() {
         if bytes_or_fault(alloc, input.as_bytes(), *good, *kind)?.as_str() != *wanted {
@@ -91,7 +91,7 @@ const PUTS: &[(usize, usize, usize)] = &[
     (200, 7, 2001),
 ];
 
-/// The first row of these of which something else is told, over writers that refuse so.
+/// The first row of `PUTS` of which something else is told, over writers that refuse so.
 fn first_other_put(alloc: Global, refusal: Refusal) -> Result<Option<usize>, Fail> {
     for (row, (times, step, good)) in PUTS.iter().enumerate() {
         let text = "0123456789".repeat(alloc, *times)?;
@@ -121,6 +121,7 @@ fn sent(alloc: Global) -> Result<[usize; 3], Fail> {
 /// The first other rows over writers that fail and that take nothing, and what was sent.
 type Written = (Option<usize>, Option<usize>, [usize; 3]);
 
+/// What is told over writers that fail, that take nothing, and that take all.
 fn told_of_writes(alloc: Global) -> Result<Written, Fail> {
     let failed = first_other_put(alloc, Refusal::Fails(ErrorKind::Other))?;
     let refused = first_other_put(alloc, Refusal::TakesNothing)?;
