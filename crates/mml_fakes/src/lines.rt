@@ -1,0 +1,72 @@
+//! Lines that are sent and answered, each spelled once: tests make their texts of words.
+
+/// The text of these lines, each with its end: a line is a word, with what stands in it behind it. A text between
+/// them, as the number of a script's connection, is taken as it is.
+///
+/// Requests are `hello`, `see`, `seduction` (of a node, in configuration 0), `close` and `bye`. What they are
+/// answered: `welcome`, `seen` (in a configuration, m, of a node, and p), `granted` (such a seduction, and its
+/// place), `closed` (the second event, which applies the move of node 1), `left`, and what is denied.
+#[macro_export]
+macro_rules! lines {
+    // Behind `@` stand the end of a line and all pieces so far, then those of one more line, then the words that are
+    // left. `concat!` takes no macros, so the pieces are put together one by one.
+    (@ [$end:literal $($so_far:literal)*]) => { concat!($($so_far),*) };
+    (@ [$end:literal $($so_far:literal)*] [$($piece:literal)*] $($left:tt)*) => {
+        $crate::lines!(@ [$end $($so_far)* $($piece)* $end] $($left)*)
+    };
+    (@ [$($so_far:literal)*], $text:literal $($left:tt)*) => { $crate::lines!(@ [$($so_far)* $text] $($left)*) };
+    (@ $so_far:tt, hello($name:literal, $key:literal) $($left:tt)*) => {
+        $crate::lines!(@ $so_far [r#"{"do":"hello","key":""# $key r#"","name":""# $name r#""}"#] $($left)*)
+    };
+    (@ $so_far:tt, see($node:literal) $($left:tt)*) => {
+        $crate::lines!(@ $so_far [r#"{"do":"see","node":"# $node "}"] $($left)*)
+    };
+    (@ $so_far:tt, seduction($node:literal) $($left:tt)*) => {
+        $crate::lines!(@ $so_far [r#"{"at":0,"do":"move","node":"# $node r#","rule":"seduction"}"#] $($left)*)
+    };
+    (@ $so_far:tt, close $($left:tt)*) => { $crate::lines!(@ $so_far [r#"{"do":"close"}"#] $($left)*) };
+    (@ $so_far:tt, bye $($left:tt)*) => { $crate::lines!(@ $so_far [r#"{"do":"bye"}"#] $($left)*) };
+    (@ $so_far:tt, welcome($name:literal) $($left:tt)*) => {
+        $crate::lines!(@ $so_far [r#"{"ok":"hello","who":""# $name r#""}"#] $($left)*)
+    };
+    (@ $so_far:tt, seen($at:literal, $m:literal, $node:literal, $p:literal) $($left:tt)*) => {
+        $crate::lines!(@ $so_far
+            [r#"{"at":"# $at r#","m":"# $m r#","node":"# $node r#","ok":"see","p":"# $p "}"] $($left)*)
+    };
+    (@ $so_far:tt, granted($node:literal, $place:literal) $($left:tt)*) => {
+        $crate::lines!(@ $so_far
+            [r#"{"at":0,"node":"# $node r#","ok":"move","place":"# $place r#","rule":"seduction"}"#] $($left)*)
+    };
+    (@ $so_far:tt, closed $($left:tt)*) => {
+        $crate::lines!(@ $so_far [r#"{"at":1,"moved":[1],"ok":"close","place":2}"#] $($left)*)
+    };
+    (@ $so_far:tt, left $($left:tt)*) => { $crate::lines!(@ $so_far [r#"{"ok":"bye"}"#] $($left)*) };
+    (@ $so_far:tt, denied($clause:literal, $name:literal, $text:literal) $($left:tt)*) => {
+        $crate::lines!(@ $so_far
+            [r#"{"clause":"# $clause r#","deny":""# $name r#"","text":""# $text r#""}"#] $($left)*)
+    };
+    (@ $so_far:tt, stale($at:literal) $($left:tt)*) => {
+        $crate::lines!(@ $so_far
+            [r#"{"at":"# $at r#","clause":2,"deny":"stale","text":"this is not the current configuration"}"#] $($left)*)
+    };
+    (@ $so_far:tt, chosen $($left:tt)*) => {
+        $crate::lines!(@ $so_far, denied(3, "chosen", "this node is already chosen") $($left)*)
+    };
+    (@ $so_far:tt, empty $($left:tt)*) => { $crate::lines!(@ $so_far, denied(2, "empty", "no node is chosen") $($left)*) };
+    (@ $so_far:tt, guard $($left:tt)*) => {
+        $crate::lines!(@ $so_far, denied(4, "guard", "the guard of this rule does not hold") $($left)*)
+    };
+    (@ $so_far:tt, hidden $($left:tt)*) => {
+        $crate::lines!(@ $so_far, denied(1, "hidden", "this node is not shown to you") $($left)*)
+    };
+    (@ $so_far:tt, not_greeted $($left:tt)*) => {
+        $crate::lines!(@ $so_far, denied(0, "not-greeted", "say hello first") $($left)*)
+    };
+    ($($line:tt)*) => { $crate::lines!(@ ["\n"], $($line)*) };
+}
+
+/// One line of these, without its end.
+#[macro_export]
+macro_rules! line {
+    ($($word:tt)*) => { $crate::lines!(@ [""], $($word)*) };
+}
