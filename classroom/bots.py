@@ -83,7 +83,7 @@ class Kept:
     """A bot that runs, kept within limits."""
 
     def __init__(self, bot: Bot, slip: Path, folder: Path, seconds: float | None, megabytes: int) -> None:
-        """It runs in `folder`, where its slip and its output are; without a limit of seconds it is at home: its output is
+        """The bot runs in `folder`, where its slip and its output are; without a limit of seconds it is at home: its output is
         this process's."""
         self.folder, self.output = folder, folder / "output.txt"
         self.how = ""
@@ -124,7 +124,7 @@ class Kept:
         return self.ended()
 
     def printed(self) -> str:
-        """What it printed last."""
+        """The last line that the bot printed."""
         try:
             with self.output.open("rb") as it:
                 it.seek(max(0, self.output.stat().st_size - SHOWN))

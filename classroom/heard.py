@@ -42,7 +42,7 @@ class Seat:
 
 
 def counted(count: int, what: str) -> str:
-    """So many of them."""
+    """A count of things, of which more than one have an s."""
     return f"{count} {what}{'' if count == 1 else 's'}"
 
 
@@ -91,7 +91,7 @@ class Heard:
         return self.look(step, now) if now >= self.due else []
 
     def look(self, step: int, now: float) -> list[str]:
-        """The same at this moment."""
+        """Lines of what is new since the last look, at this moment."""
         seconds = max(now - self.last, PAUSE)
         self.last, self.due = now, now + PAUSE
         self.read()
@@ -174,7 +174,7 @@ class Heard:
         return [(name, word, at.total()) for (name, word), at in self.vain.items() if at.total()]
 
     def in_vain(self) -> list[str]:
-        """The same as lines, as often as the number has doubled."""
+        """Lines of who asked in vain since the last step, as often as the number has doubled."""
         return [f"{name}: {told_so(word)} {counted(count, 'time')} since the last step"
                 for name, word, count in self.denied() if self.is_news((name, word), count, VAIN)]
 

@@ -115,7 +115,7 @@ class Going:
         raise AssertionError(f"no {pattern} in {self.lines}")
 
     def until_each(self, *patterns: str) -> None:
-        """The same, until each pattern was in one, in whichever order."""
+        """Reads lines until each pattern was in one, in whichever order."""
         left = list(patterns)
         while left:
             line = self.until("|".join(left))

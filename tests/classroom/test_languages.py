@@ -55,7 +55,7 @@ class Languages(unittest.TestCase):
 
 
 class Bots(Cycle):
-    """What they do at a run."""
+    """What the bots of each language do at a run."""
 
     def test_all_in_one_run(self) -> None:
         going = Going(self, CYCLE, "--close", "when-idle:0.5", "--until", "stable")
@@ -141,7 +141,7 @@ class Reset(InRoom):
 
 
 class Graded(InRoom):
-    """What they are worth."""
+    """What the bots of each language are worth."""
 
     def test_each_passes_all_of_small(self) -> None:
         given = [command[-1] for name, command in bots().items() if name != "Bot.java"]  # That one is graded in test_grade.py.

@@ -101,7 +101,7 @@ class Resume(Cycle):
         return dict(applied)
 
     def marks(self, folder: Path) -> dict[str, int]:
-        """The same by the folder's marks."""
+        """How many moves of each student were applied, by the folder's marks."""
         students = json.loads((folder / "marks.json").read_text(encoding="utf-8"))["runs"][0]["students"]
         return {name: total for name, it in students.items() if (total := sum(it["applied"].values()))}
 

@@ -69,13 +69,13 @@ class Host:
         self.process.communicate()
 
     def killed(self) -> Ended:
-        """Kills it; answers what it wrote after its first line."""
+        """Kills the host; answers what it wrote after its first line."""
         self.process.kill()
         out, error = self.process.communicate()
         return Ended(self.process.returncode, out, error)
 
     def runs(self) -> bool:
-        """Whether it hasn't ended."""
+        """Whether the host hasn't ended."""
         return self.process.poll() is None
 
     def end(self, seconds: float = LIMIT) -> Ended:
@@ -87,22 +87,22 @@ class Host:
         return Ended(self.process.returncode, out, error)
 
     def dismissed(self, teacher: "Caller", seconds: float = LIMIT) -> Ended:
-        """The same after the teacher's bye at the desk, who has greeted there."""
+        """How the host ends after the bye of the teacher, who has greeted at the desk, and what it writes after its first line."""
         if (teacher.ask(BYE), teacher.line()) != (BID, b""):
             fail("host: another reply to the teacher's bye at the desk, or none")
         return self.end(seconds)
 
     def kilobytes(self) -> int:
-        """What it holds of memory."""
+        """How many kilobytes of memory the host holds."""
         status = Path(f"/proc/{self.process.pid}/status").read_text(encoding="ascii")
         return int(status.split("VmRSS:", 1)[1].split()[0])
 
     def threads(self) -> int:
-        """How many threads it has."""
+        """How many threads the host has."""
         return len(list(Path(f"/proc/{self.process.pid}/task").iterdir()))
 
     def files(self) -> int:
-        """How many files it has open."""
+        """How many files the host has open."""
         return len(list(Path(f"/proc/{self.process.pid}/fd").iterdir()))
 
     def settles(self, threads: int, files: int, when: str) -> None:
@@ -149,7 +149,7 @@ class Caller:
         self.socket.close()
 
     def reset(self) -> None:
-        """Ends it so that the host's next read or write fails."""
+        """Ends the connection so that the host's next read or write fails."""
         self.socket.setsockopt(socket.SOL_SOCKET, socket.SO_LINGER, struct.pack("ii", 1, 0))
         self.close()
 
@@ -268,7 +268,7 @@ class Bot:
             fail("host: a bot doesn't come to its half line")
 
     def killed(self) -> None:
-        """Kills it."""
+        """Kills the program, and notes that its connection has ended."""
         self.process.kill()
         self.process.communicate()
         self.talk.gone(self)

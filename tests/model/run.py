@@ -52,9 +52,11 @@ class Model:
         return self._obey(self.names[connection], asked)
 
     def _denied(self, name: str) -> str:
+        """The reply that denies so now."""
         return denial_of(name, self.world.number)
 
     def _hello(self, connection: int, asked: Request) -> str:
+        """The reply to a greeting."""
         if connection in self.names:
             return self._denied("greeted")
         if self.lab.keys.get(asked.name) != asked.key:
@@ -63,6 +65,7 @@ class Model:
         return text_of({"ok": "hello", "who": asked.name})
 
     def _obey(self, who: str, asked: Request) -> str:
+        """The reply to what one asks who takes part: it is denied, shown, or happens."""
         name = denial(self.lab, self.world, who, asked)
         if name is not None:
             return self._denied(name)
@@ -80,6 +83,7 @@ class Model:
         return self._shown(asked, {"place": self.world.place, **told})
 
     def _shown(self, asked: Request, told: dict[str, Any]) -> str:
+        """The reply that grants a request, with what it tells."""
         return text_of({"ok": asked.do, "at": self.world.number, **told})
 
 

@@ -49,7 +49,7 @@ class Held:
         return cls(len(list((root / "task").iterdir())), len(list((root / "fd").iterdir())), size)
 
     def is_as(self, first: "Held") -> bool:
-        """Whether that is what was held before, but for the memory of a few events."""
+        """Whether a process holds now what it held first, but for the memory of a few events."""
         return (self.threads, self.files) == (first.threads, first.files) and self.kilobytes <= first.kilobytes * 1.1 + MORE
 
     def __str__(self) -> str:

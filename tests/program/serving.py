@@ -144,7 +144,7 @@ def races(room: Path) -> None:
 
 
 def lab_of_more(lab: Path) -> Path:
-    """The same lab with more events."""
+    """A lab with more events, in its own file."""
     lab.write_text(lab.read_text(encoding="utf-8").replace("events = 100\n", "events = 10000\n"), encoding="utf-8")
     return lab
 

@@ -24,7 +24,7 @@ class Session:
     marks: list[bytes]
 
     def is_of(self, name: str) -> bool:
-        """Whether it begins with somebody's hello."""
+        """Whether the session begins with this one's hello."""
         return bool(self.said) and b'"ok":"hello","who":"%s"' % name.encode() in self.said[1]
 
     def size(self) -> int:
