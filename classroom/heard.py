@@ -51,6 +51,18 @@ def told_so(word: str) -> str:
     return f"refused {word}" if word == MALFORMED else f"denied {word}"
 
 
+@dataclass(frozen=True)
+class Vain:
+    """Who asked in vain, how the lines were answered, and how many they were."""
+
+    name: str
+    word: str
+    count: int
+
+    def __str__(self) -> str:
+        return f"{self.name}: {told_so(self.word)} {counted(self.count, 'time')}"
+
+
 class Heard:
     """Follows a record. Whoever is named took part, and no line of theirs is shown."""
 
@@ -169,14 +181,13 @@ class Heard:
         return [f"{counted(count, 'wrong key')} for {name}" for name, count in self.wrong.items()
                 if self.is_news(("wrong", name), count, 1)]
 
-    def denied(self) -> list[tuple[str, str, int]]:
-        """Who asked in vain since the last step: whom, what was told, how often."""
-        return [(name, word, at.total()) for (name, word), at in self.vain.items() if at.total()]
+    def denied(self) -> list[Vain]:
+        """Who asked in vain since the last step."""
+        return [Vain(name, word, at.total()) for (name, word), at in self.vain.items() if at.total()]
 
     def in_vain(self) -> list[str]:
         """Lines of who asked in vain since the last step, as often as the number has doubled."""
-        return [f"{name}: {told_so(word)} {counted(count, 'time')} since the last step"
-                for name, word, count in self.denied() if self.is_news((name, word), count, VAIN)]
+        return [f"{it} since the last step" for it in self.denied() if self.is_news((it.name, it.word), it.count, VAIN)]
 
     def flooding(self, seconds: float) -> list[str]:
         """Who began to flood, and who ceased."""
@@ -206,7 +217,7 @@ class Heard:
     def amiss(self) -> list[str]:
         """What there is to list of those who do otherwise than they should."""
         wrong = ", ".join(f"{count} for {name}" for name, count in self.wrong.items())
-        vain = [f"{name}: {told_so(word)} {counted(count, 'time')}" for name, word, count in self.denied()]
+        vain = [str(it) for it in self.denied()]
         floods = ", ".join(f"{name}, {rate} lines a second" for name, rate in self.floods.items())
         told = (f"wrong keys: {wrong}" if wrong else "", f"since the last step {'; '.join(vain)}" if vain else "",
                 f"a flood of {floods}" if floods else "")

@@ -11,6 +11,7 @@ import threading
 import time
 from collections.abc import Callable
 from pathlib import Path
+from typing import NamedTuple
 
 from tests.common.hosting import HOST, Caller, Host, audit, lab_of, let_in
 from tests.common.lines import (
@@ -305,18 +306,25 @@ def nobody_behind(room: Path) -> None:
         ends(host, let_in(host.desk, hello("tess"))[0])
 
 
-def guesses(host: Host, quiet: float) -> tuple[int, int, float]:
+class Guesses(NamedTuple):
+    """How many guesses of keys were denied, how many who guess were told something else, and how many seconds it took."""
+
+    denied: int
+    others: int
+    seconds: float
+
+
+def guesses(host: Host, quiet: float) -> Guesses:
     """Beside those who guess keys, fifteen at the students' port and then fourteen at the desk too, honest hellos at both
-    are told within a tenth of a second. Answers how many guesses were denied, how many who guess were told something
-    else, and how many seconds it took."""
-    stop, denied, others = threading.Event(), [0] * 29, [0] * 29
+    are told within a tenth of a second. Answers what became of the guesses."""
+    stop, wrong, others = threading.Event(), [0] * 29, [0] * 29
 
     def guess(at: int) -> None:
         port = host.port if at < 15 else host.desk
         with socket.create_connection(("127.0.0.1", port), LIMIT) as it, it.makefile("rb") as replies:
             it.sendall(WRONG * 10)
             told = [*replies]
-            denied[at] += told.count(UNKNOWN)
+            wrong[at] += told.count(UNKNOWN)
             others[at] += UNKNOWN not in told
 
     begun = time.monotonic()
@@ -327,27 +335,27 @@ def guesses(host: Host, quiet: float) -> tuple[int, int, float]:
             taken: list[float] = []
             for _ in range(20):
                 caller = comes(port, hello(name), taken)
-                if b'"ok":"look"' not in caller.ask(b'{"do":"look","node":1}\n'):
+                if b'"ok":"look"' not in caller.ask(look("ana")):
                     fail(f"outsiders: {name} loses a place to those who guess")
                 caller.close()
             waits_little(taken, quiet, 0.1)
-    while sum(denied) < 100 and time.monotonic() - begun < LIMIT:
+    while sum(wrong) < 100 and time.monotonic() - begun < LIMIT:
         time.sleep(0.05)
     stop.set()
     for thread in threads:
         thread.join()
-    return sum(denied), sum(others), time.monotonic() - begun
+    return Guesses(sum(wrong), sum(others), time.monotonic() - begun)
 
 
 def guessed_keys(room: Path) -> None:
     """Those who guess keys have less than a hundred denials a second in all, and are told most of them; the teacher's
     program is told of the guesses."""
     with Host(lab_of(room, 16), 0, 0) as host:
-        denied, others, seconds = guesses(host, alone(host))
-        if denied / seconds > 100 or denied < 100:
-            fail(f"outsiders: {denied} keys are guessed in {seconds} seconds")
-        if others * 4 > denied:
-            fail(f"outsiders: {others} who guess aren't told that they are wrong, and {denied} are")
+        found = guesses(host, alone(host))
+        if found.denied / found.seconds > 100 or found.denied < 100:
+            fail(f"outsiders: {found.denied} keys are guessed in {found.seconds} seconds")
+        if found.others * 4 > found.denied:
+            fail(f"outsiders: {found.others} who guess aren't told that they are wrong, and {found.denied} are")
         ended = host.dismissed(let_in(host.desk, hello("tess"))[0])
         if ended.out != NONE.out or b"hellos had no right key" not in ended.error:
             fail(f"outsiders: nobody is told of guesses: {ended}")

@@ -97,7 +97,7 @@ class Replay:
             return False
         read = read_line(self.journal[world.place].encode(), self.lab)
         assert read is not None
-        grant(world, read[3])
+        grant(world, read.asked)
         return True
 
     def tells(self, line: bytes, reply: bytes) -> bool:

@@ -73,7 +73,7 @@ def begin(host: Host) -> tuple[Caller, Caller]:
 
 
 def whole_class(room: Path) -> tuple[Path, Path, Path]:
-    """A class from its beginning to its end is recorded but for what was shown; answers its files."""
+    """A class from its beginning to its end is recorded but for what was shown; answers its lab, journal and record."""
     lab, journal, record = lab_of(room, SEATS), room / "whole.journal", room / "whole record"
     with Host(lab, 0, 0, journal, record) as host:
         tess, _ = let_in(host.desk, hello("tess"))

@@ -4,6 +4,7 @@ from __future__ import annotations
 import subprocess
 from pathlib import Path
 from random import Random
+from typing import NamedTuple
 
 from tests.common.hosting import HOST
 from tests.common.preload import LIMIT, fail
@@ -43,6 +44,20 @@ record 3 21 whole
 """
 
 
+class Told(NamedTuple):
+    """How the word `tally` ends: its status, its output, and its error line."""
+
+    status: int
+    output: str
+    error: str
+
+
+def told(*files: Path) -> Told:
+    """How the word ends over a lab, a journal, and a record if there is one."""
+    done = subprocess.run([HOST, "tally", *files], stdin=subprocess.DEVNULL, capture_output=True, timeout=LIMIT, check=False)
+    return Told(done.returncode, done.stdout.decode(), done.stderr.decode())
+
+
 class Files:
     """A lab, a journal and a record in a folder."""
 
@@ -57,11 +72,9 @@ class Files:
         for seat, text in run.texts.items():
             (self.folder / f"{seat}.record").write_bytes(text)
 
-    def told(self) -> tuple[int, str, str]:
+    def told(self) -> Told:
         """How the word ends over them."""
-        call: list[str | Path] = [HOST, "tally", self.lab, self.journal, self.folder]
-        done = subprocess.run(call, stdin=subprocess.DEVNULL, capture_output=True, timeout=LIMIT, check=False)
-        return done.returncode, done.stdout.decode(), done.stderr.decode()
+        return told(self.lab, self.journal, self.folder)
 
 
 def with_record(tally: str, told: str) -> str:
@@ -118,11 +131,10 @@ def drawn(room: Path, seed: int) -> bool:
     if rng.random() < 0.2:
         run.cut(1)
         run.leave(1)
-    told = asked(lab, run.texts)
-    files = Files(room, document, run)
-    status, text, error = files.told()
+    lines = asked(lab, run.texts)
+    found = Files(room, document, run).told()
     stable = not audit(lab, run.journal).endswith("not stable")
-    wanted = with_record(plain.tally(lab, run.journal.decode(), stable), told)
-    if (status, text, error) != (0, wanted, ""):
-        fail(f"seed {seed}, with a record: {(status, text, error)}, not {wanted!r}")
-    return any(line.startswith("denied ") and not line.endswith(" 0" * len(COLUMNS)) for line in told.splitlines())
+    wanted = with_record(plain.tally(lab, run.journal.decode(), stable), lines)
+    if found != (0, wanted, ""):
+        fail(f"seed {seed}, with a record: {found}, not {wanted!r}")
+    return any(line.startswith("denied ") and not line.endswith(" 0" * len(COLUMNS)) for line in lines.splitlines())
