@@ -9,6 +9,7 @@ from pathlib import Path
 
 from classroom.lab import Lab
 from classroom.record import CUT, ENDED, Entry, Reader, seats
+from classroom.rounds import plural
 
 PAUSE = 1.0  # seconds between two looks
 MOST = 1 << 20  # bytes of a seat that are read at one look
@@ -41,11 +42,6 @@ class Seat:
         return found
 
 
-def counted(count: int, what: str) -> str:
-    """A count of things, of which more than one have an s."""
-    return f"{count} {what}{'' if count == 1 else 's'}"
-
-
 def told_so(word: str) -> str:
     """How a line was answered."""
     return f"refused {word}" if word == MALFORMED else f"denied {word}"
@@ -60,7 +56,7 @@ class Vain:
     count: int
 
     def __str__(self) -> str:
-        return f"{self.name}: {told_so(self.word)} {counted(self.count, 'time')}"
+        return f"{self.name}: {told_so(self.word)} {plural(self.count, 'time')}"
 
 
 class Heard:
@@ -164,9 +160,9 @@ class Heard:
         """Whose connections have become more or fewer."""
         before, now = self.shown, self.connected()
         self.shown = now
-        come = [f"connected: {name}" + (f", {counted(now[name], 'connection')}" if now[name] > 1 else "")
+        come = [f"connected: {name}" + (f", {plural(now[name], 'connection')}" if now[name] > 1 else "")
                 for name in sorted(now) if now[name] > before[name]]
-        return come + [f"gone: {name}" + (f", {counted(now[name], 'connection')} left" if now[name] else "")
+        return come + [f"gone: {name}" + (f", {plural(now[name], 'connection')} left" if now[name] else "")
                        for name in sorted(before) if now[name] < before[name]]
 
     def is_news(self, key: tuple[str, str], count: int, least: int) -> bool:
@@ -178,7 +174,7 @@ class Heard:
 
     def wrong_keys(self) -> list[str]:
         """Wrong keys, as often as their number has doubled."""
-        return [f"{counted(count, 'wrong key')} for {name}" for name, count in self.wrong.items()
+        return [f"{plural(count, 'wrong key')} for {name}" for name, count in self.wrong.items()
                 if self.is_news(("wrong", name), count, 1)]
 
     def denied(self) -> list[Vain]:
