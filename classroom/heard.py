@@ -47,16 +47,9 @@ def told_so(word: str) -> str:
     return f"refused {word}" if word == MALFORMED else f"denied {word}"
 
 
-@dataclass(frozen=True)
-class Vain:
-    """Who asked in vain, how the lines were answered, and how many they were."""
-
-    name: str
-    word: str
-    count: int
-
-    def __str__(self) -> str:
-        return f"{self.name}: {told_so(self.word)} {plural(self.count, 'time')}"
+def asked_in_vain(name: str, word: str, count: int) -> str:
+    """How often somebody's lines were answered so."""
+    return f"{name}: {told_so(word)} {plural(count, 'time')}"
 
 
 class Heard:
@@ -177,13 +170,13 @@ class Heard:
         return [f"{plural(count, 'wrong key')} for {name}" for name, count in self.wrong.items()
                 if self.is_news(("wrong", name), count, 1)]
 
-    def denied(self) -> list[Vain]:
-        """Who asked in vain since the last step."""
-        return [Vain(name, word, at.total()) for (name, word), at in self.vain.items() if at.total()]
+    def denied(self) -> dict[tuple[str, str], int]:
+        """How often lines were answered in vain since the last step, by whose they were and how."""
+        return {key: at.total() for key, at in self.vain.items() if at.total()}
 
     def in_vain(self) -> list[str]:
         """Lines of who asked in vain since the last step, as often as the number has doubled."""
-        return [f"{it} since the last step" for it in self.denied() if self.is_news((it.name, it.word), it.count, VAIN)]
+        return [f"{asked_in_vain(*key, count)} since the last step" for key, count in self.denied().items() if self.is_news(key, count, VAIN)]
 
     def flooding(self, seconds: float) -> list[str]:
         """Who began to flood, and who ceased."""
@@ -213,7 +206,7 @@ class Heard:
     def amiss(self) -> list[str]:
         """What there is to list of those who do otherwise than they should."""
         wrong = ", ".join(f"{count} for {name}" for name, count in self.wrong.items())
-        vain = [str(it) for it in self.denied()]
+        vain = [asked_in_vain(*key, count) for key, count in self.denied().items()]
         floods = ", ".join(f"{name}, {rate} lines a second" for name, rate in self.floods.items())
         told = (f"wrong keys: {wrong}" if wrong else "", f"since the last step {'; '.join(vain)}" if vain else "",
                 f"a flood of {floods}" if floods else "")

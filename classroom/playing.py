@@ -4,7 +4,6 @@ What is granted, denied, shown and reported is the program's answer, line by lin
 """
 from __future__ import annotations
 
-import json
 import random
 import time
 from collections import Counter, deque
@@ -20,6 +19,7 @@ from classroom.answering import Answering
 from classroom.bench import network
 from classroom.client import Denied, reply_of, wrong
 from classroom.daemons import Daemon, Sight, applied
+from classroom.record import json_object
 from classroom.relay import Relay
 
 TEACHER, HOUSE, FIRST = 1, 2, 3  # connections of the script; from the third on programs have them
@@ -74,15 +74,6 @@ def number_of(value: object) -> int:
     return value if isinstance(value, int) and not isinstance(value, bool) else 0
 
 
-def request_of(line: bytes) -> dict[str, Any]:
-    """What a line asks, as far as it can be read."""
-    try:
-        asked = json.loads(line)
-    except (ValueError, RecursionError):
-        return {}
-    return asked if isinstance(asked, dict) else {}
-
-
 class Playing:
     """A lab that is played."""
 
@@ -122,7 +113,7 @@ class Playing:
             self.heard.setdefault(told["who"], Heard()).greeted += 1
         who = self.names.get(connection, self.programs[0])
         self.heard[who].pauses.append(paused)
-        self.count(who, request_of(line), line, told)
+        self.count(who, json_object(line), line, told)
         if told.get("ok") == "bye":
             self.names.pop(connection, None)
         return reply

@@ -14,6 +14,7 @@ from pathlib import Path
 from types import TracebackType
 from typing import Optional
 
+from tests.common.held import Held, settles
 from tests.common.lines import BID, BUSY, BYE
 from tests.common.preload import LIMIT, TOP, Ended, built_in, fail, good
 
@@ -92,26 +93,13 @@ class Host:
             fail("host: another reply to the teacher's bye at the desk, or none")
         return self.end(seconds)
 
-    def kilobytes(self) -> int:
-        """How many kilobytes of memory the host holds."""
-        status = Path(f"/proc/{self.process.pid}/status").read_text(encoding="ascii")
-        return int(status.split("VmRSS:", 1)[1].split()[0])
+    def held(self) -> Held:
+        """What the host holds now."""
+        return Held.of(self.process.pid)
 
-    def threads(self) -> int:
-        """How many threads the host has."""
-        return len(list(Path(f"/proc/{self.process.pid}/task").iterdir()))
-
-    def files(self) -> int:
-        """How many files the host has open."""
-        return len(list(Path(f"/proc/{self.process.pid}/fd").iterdir()))
-
-    def settles(self, threads: int, files: int, when: str) -> None:
-        """Wants so many threads and files, as soon as what ends has ended."""
-        for _ in range(int(LIMIT / 0.05)):
-            if (self.threads(), self.files()) == (threads, files):
-                return
-            time.sleep(0.05)
-        fail(f"host: {self.threads()} threads and {self.files()} files, not {threads} and {files}, {when}")
+    def settles(self, wanted: Held, when: str) -> None:
+        """Wants as many threads and files as there were, as soon as what ends has ended."""
+        settles(self.process.pid, lambda it: (it.threads, it.files) == (wanted.threads, wanted.files), f"host: not as before, {when}")
 
 
 class Caller:

@@ -121,8 +121,8 @@ def connect_and_close(room: Path) -> None:
     with Host(lab, 0, 0, journal) as host:
         talk = Talk(lab, 4, room)
         teacher, student = talk.comes(host.desk, hello("tess")), talk.comes(host.port, hello("ana"))
-        threads, files = host.threads(), host.files()
-        turns, held = 0, [0, host.kilobytes()]
+        first = host.held()
+        turns, held = 0, [0, first.kilobytes]
         while (held[-1] - held[-2]) * 50 > held[-1] and len(held) < 30:
             loop = threading.Thread(target=knocks, args=[host.port, 2000])
             loop.start()
@@ -131,8 +131,8 @@ def connect_and_close(room: Path) -> None:
                 goes_on(talk, student, teacher, turns)
                 turns += 1
             loop.join()
-            host.settles(threads, files, "after 2000 connections")
-            held.append(host.kilobytes())
+            host.settles(first, "after 2000 connections")
+            held.append(host.held().kilobytes)
         if len(held) == 30:
             fail(f"host: each 2000 connections take memory: it holds {held} kB")
         talk.leaves(talk.comes(host.port, hello("ben")))

@@ -18,6 +18,7 @@ from collections.abc import Callable
 from concurrent.futures import Future, ProcessPoolExecutor
 from pathlib import Path
 
+from tests.common.held import Held, settles
 from tests.common.hosting import HOST, Host, let_in
 from tests.common.lines import BID, BYE, CLOSE, LONG, MALFORMED, REPORT, denied, fault, hello, look, move, see
 from tests.common.preload import LIMIT, Client, Ended, Server, Story, built_in, fail, in_room
@@ -173,17 +174,6 @@ def honest_lines() -> bytes:
     return b"".join(lines)
 
 
-def kilobytes(server: Program) -> int:
-    """What the server holds of memory."""
-    status = Path(f"/proc/{server.process.pid}/status").read_text(encoding="ascii")
-    return int(status.split("VmRSS:", 1)[1].split()[0])
-
-
-def threads(server: Program) -> int:
-    """How many threads the server has."""
-    return len(list(Path(f"/proc/{server.process.pid}/task").iterdir()))
-
-
 class Honest:
     """Two clients, who ask one line after the other: a student, and the teacher, who is at a host's desk."""
 
@@ -255,29 +245,6 @@ def answered(futures: list[Future[str]]) -> None:
             fail(f"hostile: {future.result()}")
 
 
-def wait_for_threads(server: Program, wanted: int, when: str) -> None:
-    """Wants so many threads: one for each connection that is open, beside those that there always are."""
-    for _ in range(int(LIMIT / 0.05)):
-        if threads(server) == wanted:
-            return
-        time.sleep(0.05)
-    fail(f"hostile: {threads(server)} threads, not {wanted}, {when}")
-
-
-def handles(server: Program) -> int:
-    """How many files the server has open."""
-    return len(list(Path(f"/proc/{server.process.pid}/fd").iterdir()))
-
-
-def wait_for_handles(server: Program, wanted: int, when: str) -> None:
-    """Wants so many open files."""
-    for _ in range(int(LIMIT / 0.05)):
-        if handles(server) == wanted:
-            return
-        time.sleep(0.05)
-    fail(f"hostile: {handles(server)} files are open, not {wanted}, {when}")
-
-
 def late(lab: Path) -> None:
     """Clients that send more after a bye, or too much for a line, and read late: all replies arrive, and the end."""
     server = serving(lab, 16)
@@ -318,7 +285,8 @@ class Silent:
 def resting(server: Program) -> tuple[int, int]:
     """How many threads and open files a server has with its two honest clients alone, once it takes no others:
     the main thread, two more, the standard streams, and two files for each. A host always takes others."""
-    return (threads(server), handles(server)) if isinstance(server, Host) else (3, 7)
+    held = Held.of(server.process.pid)
+    return (held.threads, held.files) if isinstance(server, Host) else (3, 7)
 
 
 def work(room: Path) -> str:
@@ -349,14 +317,13 @@ def work(room: Path) -> str:
         futures = [
             pool.submit(client, server.port, until, random.Random(seed)) for seed, client in enumerate(ALL)
         ]
-        wait_for_threads(server, rest[0] + len(ALL), "once all are there")
+        settles(server.process.pid, lambda it: it.threads == rest[0] + len(ALL), "hostile: not a thread each once all are there")
         times = honest.play(100, 10 * PAUSE)
-        held = kilobytes(server)
+        held = Held.of(server.process.pid).kilobytes
         times += honest.play(MOST_LINES, max(PAUSE, seconds / MOST_LINES), until)
         answered(futures)
-    wait_for_threads(server, rest[0], "once the hostile clients have gone")
-    wait_for_handles(server, rest[1], "once the hostile clients have gone")
-    holds = kilobytes(server)
+    settles(server.process.pid, lambda it: (it.threads, it.files) == rest, f"hostile: not {rest} once the hostile clients have gone")
+    holds = Held.of(server.process.pid).kilobytes
     # A host gives back what the threads of those connections held, which may be more than a tenth.
     if holds * 10 > held * 11 or isinstance(server, Server) and holds * 10 < held * 9:
         fail(f"hostile: the server holds {holds} kB, not {held} kB as after a hundred lines")

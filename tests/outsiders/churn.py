@@ -15,10 +15,10 @@ import tempfile
 import threading
 import time
 from collections.abc import Callable
-from dataclasses import dataclass
 from pathlib import Path
 
 from classroom.folders import RECORD, Record
+from tests.common.held import Held
 from tests.common.hosting import HOST, Caller, lab_of, let_in
 from tests.common.lines import BYE, NODES, hello, look
 from tests.common.preload import LIMIT, PROGRAM, TOP, fail
@@ -33,27 +33,9 @@ WRONG = hello("ana", "a-kez")
 FORM = b"POST / HTTP/1.1\r\nContent-Type: text/plain\r\n\r\n"
 
 
-@dataclass(frozen=True)
-class Held:
-    """What a process holds."""
-
-    threads: int
-    files: int
-    kilobytes: int
-
-    @classmethod
-    def of(cls, number: int) -> "Held":
-        """What the process with that number holds now."""
-        root = Path(f"/proc/{number}")
-        size = int((root / "status").read_text(encoding="ascii").split("VmRSS:", 1)[1].split()[0])
-        return cls(len(list((root / "task").iterdir())), len(list((root / "fd").iterdir())), size)
-
-    def is_as(self, first: "Held") -> bool:
-        """Whether a process holds now what it held first, but for the memory of a few events."""
-        return (self.threads, self.files) == (first.threads, first.files) and self.kilobytes <= first.kilobytes * 1.1 + MORE
-
-    def __str__(self) -> str:
-        return f"{self.threads} threads, {self.files} files, {self.kilobytes} kB"
+def is_as(held: Held, first: Held) -> bool:
+    """Whether a process holds what it held first, but for the memory of a few events."""
+    return (held.threads, held.files) == (first.threads, first.files) and held.kilobytes <= first.kilobytes * 1.1 + MORE
 
 
 def waited(find: Callable[[], object]) -> None:
@@ -200,7 +182,7 @@ def comes_to_rest(of: Callable[[], Held], first: Held | None) -> Held:
         held, again = of(), of()
         if first is None and time.monotonic() > end - 15 and held.threads == again.threads:
             return held
-        if first is not None and (held.is_as(first) or time.monotonic() > end):
+        if first is not None and (is_as(held, first) or time.monotonic() > end):
             return held
 
 
@@ -224,7 +206,7 @@ def churn(room: Path, seconds: float) -> None:
         seed += 1
         print(f"{seed}: {comings.count} clients; host {host}; class {page}", flush=True)
     it.end()
-    if first is None or not host.is_as(first[0]) or not page.is_as(first[1]):
+    if first is None or not is_as(host, first[0]) or not is_as(page, first[1]):
         fail(f"churn: at the end they hold {host}, and {page}; first {first}")
     print(f"churn: {comings.count} clients in {seconds:.0f} seconds; host {host}; class {page}")
 

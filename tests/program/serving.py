@@ -6,6 +6,7 @@ import socket
 import time
 from pathlib import Path
 
+from tests.common.held import settles
 from tests.common.lines import BID, BYE, CLOSE, closed, denied, fault, granted, hello, move, welcome
 from tests.common.preload import LIMIT, TOP, Client, Ended, Server, built_in, fail, in_room
 
@@ -89,12 +90,7 @@ def sixteen(room: Path) -> None:
     clients = [opened(server) for _ in range(16)]
     for client in clients:
         client.sendall(lines[:10])
-    threads = Path(f"/proc/{server.process.pid}/task")
-    begun = time.monotonic()
-    while len(list(threads.iterdir())) != 17:
-        if time.monotonic() - begun > LIMIT:
-            fail("serving: sixteen clients haven't a thread each")
-        time.sleep(0.01)
+    settles(server.process.pid, lambda it: it.threads == 17, "serving: sixteen clients haven't a thread each")
     for client in clients:
         client.sendall(lines[10:])
         client.shutdown(socket.SHUT_WR)
