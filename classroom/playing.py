@@ -19,6 +19,7 @@ from classroom.answering import Answering
 from classroom.bench import network
 from classroom.client import Denied, reply_of, wrong
 from classroom.daemons import Daemon, Sight, applied
+from classroom.present import Moved
 from classroom.record import json_object
 from classroom.relay import Relay
 
@@ -65,7 +66,7 @@ class Step:
     """A step that was closed: its number, who moved by which rule, and what the report says."""
 
     at: int
-    moved: list[tuple[int, str, str]]
+    moved: list[Moved]
     report: dict[str, Any]
 
 
@@ -195,8 +196,8 @@ class Playing:
         for node in self.chosen.keys() - set(nodes):
             self.program.ask(TEACHER, do="release", node=node)
         told = self.program.ask(TEACHER, do="close")
-        moved = [(node, *self.chosen[node]) for node in told["moved"]]
-        for _, who, _ in moved:
+        moved = [Moved(node, *self.chosen[node]) for node in told["moved"]]
+        for who in [it.name for it in moved]:
             if who in self.heard:
                 self.heard[who].moved += 1
         self.closes, self.moves, self.since_moves = self.closes + 1, self.moves + len(moved), self.since_moves + len(moved)

@@ -128,8 +128,8 @@ class Practice:
     def step(self, step: Step) -> None:
         """A step as a line."""
         privileged = [node for node, _ in step.report["privileged"]]
-        self.recovery.step([node for node, _, _ in step.moved], privileged)
-        moved = ", ".join(f"{node} ({who}) {rule}" for node, who, rule in step.moved)
+        self.recovery.step([it.node for it in step.moved], privileged)
+        moved = ", ".join(map(str, step.moved))
         left = f"{len(privileged)} privileged" if privileged else "stable"
         self.tell(f"configuration {step.at}: {moved}; {left}, {self.recovery.moves} of at most {self.most} moves")
         self.told = ""
