@@ -197,9 +197,9 @@ class Playing:
             self.program.ask(TEACHER, do="release", node=node)
         told = self.program.ask(TEACHER, do="close")
         moved = [Moved(node, *self.chosen[node]) for node in told["moved"]]
-        for who in [it.name for it in moved]:
-            if who in self.heard:
-                self.heard[who].moved += 1
+        for it in moved:
+            if it.name in self.heard:
+                self.heard[it.name].moved += 1
         self.closes, self.moves, self.since_moves = self.closes + 1, self.moves + len(moved), self.since_moves + len(moved)
         self.changed()
         self.news = self.closed = time.monotonic()
