@@ -10,7 +10,8 @@ mod paths;
 mod pipe;
 
 pub use file_fault::FileFault;
+pub use lab_copy::LabFile;
 pub use limits::{file_size_limit, has_small_stacks};
 pub use old_journal::OldJournal;
-pub use open_journal::{BegunJournal, LabFile, OpenJournal};
+pub use open_journal::{BegunJournal, OpenJournal};
 pub use paths::{is_there, sync_folder};

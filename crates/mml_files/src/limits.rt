@@ -2,9 +2,10 @@
 use libc::getrlimit;
 use libc::types::rlimit;
 
-// What the system is asked for: how large a file may be, and a stack.
+// By this number the system is asked how large a file may become.
 const FILE_SIZE: i32 = 1;
 
+// By this number the system is asked how large a stack may become.
 const STACK: i32 = 3;
 
 // How many bytes of stack a program needs: twice what the deepest request takes.
@@ -20,6 +21,7 @@ pub fn has_small_stacks() -> bool {
     limit_of(STACK) < NEEDED
 }
 
+// The limit of what the number stands for. Where it isn't known there is none.
 fn limit_of(what: i32) -> u64 {
     let mut limit = rlimit {
         rlim_cur: u64::MAX,
