@@ -25,11 +25,12 @@ pub record IsSameNode (a b : LabValue) (i : ℕ) : Type 0 where
   pub links : HasSameLinks a b i
   pub owners : HasSameOwners a.roster b.roster i
 
+-- the labs have the same identifiers and names, and each node is the same in both
 pub record IsSameLab (a b : LabValue) : Type 0 where
   pub ids : a.ids ≡ b.ids
   pub names : HasSameNames a.roster b.roster
   pub nodes : (i : ℕ) → i < length a.ids → IsSameNode a b i
 
--- the bytes spell such a lab
+-- the bytes spell a lab that is the same
 abbrev pub SpellsSame : LabValue → List ℕ → Type 0
 SpellsSame lab bytes = (other : LabValue) × (lab_of bytes ≡ Ok other) × IsSameLab lab other

@@ -1,3 +1,4 @@
+//! Whether two labs are the same, part by part.
 ghost use Rattle.std.specs.Prelude.{◌≡◌, ◌↔◌, ◌<◌, IsTrue, IfOk, length};
 ghost use Rattle.mml_same_lab.specs.Sameness.{HasSameLinks, HasSameOwners, HasSameNames, IsSameNode, IsSameLab, SpellsSame};
 
@@ -34,6 +35,7 @@ pub fn is_same_lab(a: &Lab, b: &Lab) -> bool
     true
 }
 
+// Whether both have the same identifiers, in the same order.
 fn has_same_ids(a: &IdTable, b: &IdTable) -> bool
     ensures { IsTrue result ↔ (a.now ≡ b.now) }
 {
@@ -48,6 +50,7 @@ fn has_same_ids(a: &IdTable, b: &IdTable) -> bool
     true
 }
 
+// Whether both have the same names: the teacher's, and the students' in the same order.
 fn has_same_names(a: &Roster, b: &Roster) -> bool
     ensures { IsTrue result ↔ HasSameNames a.now b.now }
 {
@@ -65,6 +68,7 @@ fn has_same_names(a: &Roster, b: &Roster) -> bool
     true
 }
 
+// Whether the node of this rank has the same registers, links and owners in both labs.
 fn is_same_node(a: &Lab, b: &Lab, node: Rank) -> bool
     requires here { node < length a.now.ids }
     requires ids { length a.now.ids ≡ length b.now.ids }
@@ -77,6 +81,7 @@ fn is_same_node(a: &Lab, b: &Lab, node: Rank) -> bool
     has_same_links(a, b, node) && has_same_owners(a.roster(), b.roster(), node)
 }
 
+// Whether the node of this rank has the same links in both labs.
 fn has_same_links(a: &Lab, b: &Lab, node: Rank) -> bool
     requires here { node < length a.now.ids }
     requires ids { length a.now.ids ≡ length b.now.ids }
@@ -91,7 +96,7 @@ fn has_same_links(a: &Lab, b: &Lab, node: Rank) -> bool
     true
 }
 
-// Whether the same students own a node.
+// Whether the same students own the node of this rank.
 fn has_same_owners(a: &Roster, b: &Roster, node: Rank) -> bool
     requires { length a.now.students ≡ length b.now.students }
     ensures { IsTrue result ↔ HasSameOwners a.now b.now node }
