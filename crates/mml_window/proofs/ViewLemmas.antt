@@ -28,10 +28,8 @@ tells shown lab old new who command (Err fault.Memory) on s = (s, on)
 tells shown lab old new who command (Err fault.Closed) on s = absurd s
 
 -- the board that a reader sees has the nodes of the lab
-pub nodes_entered : {lab lab' : LabValue} {x : Published} {v w : View} {board : World} → lab' ≡ lab → IsLab lab → Saw lab v x w → board ≡ x.board
-    → length lab'.ids ≡ size board
-nodes_entered {lab} {lab'} {x} {v} {w} {board} named is saw read =
-    ap (λ (k : LabValue). length k.ids) named ∙ nodes_in lab x.events.items is ∙ sym (ap size (read ∙ saw.published.board))
+pub nodes_entered : {lab : LabValue} {x : Published} {v w : View} → IsLab lab → Saw lab v x w → length lab.ids ≡ size x.board
+nodes_entered {lab} {x} {v} {w} is saw = nodes_in lab x.events.items is ∙ sym (ap size saw.published.board)
 
 -- what is shown by a reader that entered and left; the places that were granted, and what was refused, play no part
 pub tells_entered : {A : Type 0} (shown : A → Ruling) (lab lab' : LabValue) (x : Published) (v w u : View) (board : World) (who : Who) (command : Command)

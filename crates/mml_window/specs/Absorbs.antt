@@ -5,6 +5,7 @@ use Rattle.mml_board.specs.World.{World}
 use Rattle.mml_board.specs.Events.{can_absorb, after}
 use Rattle.mml_window.specs.declared.published.Common.{Common}
 
+-- what two copies of what is published have in common: a board, the most events that it may come to, and those that made it
 abbrev pub common : World → ℕ → List Event → Common
 common board limit events = record { board = board; limit = limit; events = events }
 

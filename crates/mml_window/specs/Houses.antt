@@ -10,6 +10,7 @@ pub record HouseValue : Type 0 where
   pub name : Ptr
   pub lab : LabValue
 
+-- the house of this name and lab
 abbrev pub house_of : Ptr → LabValue → HouseValue
 house_of name lab = record { name = name; lab = lab }
 
@@ -19,13 +20,15 @@ pub record ResumedValue : Type 0 where
   pub lab : LabValue
   pub begun : List Event
 
+-- the house of this name and lab that goes on from these events
 abbrev pub resumed_of : Ptr → LabValue → List Event → ResumedValue
 resumed_of name lab begun = record { name = name; lab = lab; begun = begun }
 
--- the house that names none
+-- the name of the house that names none
 abbrev pub no_name : Ptr
 no_name = block_ptr 0 0
 
+-- its lab, which is empty
 abbrev pub no_lab : LabValue
 no_lab = record {
   ids = [];

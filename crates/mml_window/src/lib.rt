@@ -24,6 +24,6 @@ pub use desk::Desk;
 pub use house::{Brand, House};
 pub use log::{Astray, Log};
 pub use mml_policy::Refusal;
-pub use resumed::{Resumed, resume_house};
+pub use resumed::{Opened, Resumed, resume_house};
 pub use sight::{Closed, SightFault};
 pub use window::Window;

@@ -2,6 +2,7 @@
 ghost use Rattle.std.specs.Prelude.{◌≡◌, true, length, IfSome, IfNone};
 ghost use Rattle.std.specs.Fn.{FnReturnsAt};
 ghost use Rattle.left_right.specs.Sides.{view};
+ghost use Rattle.mml_lab.specs.Labs.{IsLab};
 ghost use Rattle.mml_window.specs.Rule.{viewer, Saw};
 ghost use Rattle.mml_window.specs.inside.Readers.{view_by};
 
@@ -54,6 +55,8 @@ pub(crate) fn take_slot<H: House>(press: &Press<H>, reader: &mut Option<Reader<H
 pub(crate) fn enter<H: House>(reader: &mut Option<Reader<H>>) -> Option<Entered<H>>
     ensures saw { IfSome result (λ reading.
         Saw H.lab (view_by reader.old) reading.part.value (view reading.place)) }
+    ensures nodes { IfSome result (λ reading. IsLab H.lab
+        → length H.lab.ids ≡ length reading.part.value.board.network.registers) }
     ensures same { IfNone result (view_by reader.new ≡ view_by reader.old) }
 {
     let Reader { slot, count } = reader.take()?;

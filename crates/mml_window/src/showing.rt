@@ -14,6 +14,7 @@ use mml_policy::{Course, Look, See, look_of, may_look, may_report, may_see, see_
 use mml_stable::{Report, report};
 use std::alloc::Global;
 
+/// What the clauses of a command are looked up in: the board, and the lab's nodes and roster.
 fn course_in<'a>(board: &'a Board, lab: &'a Lab) -> Course<'a>
     ensures board { result.board.now ≡ board.now }
     ensures ids { result.ids.now ≡ lab.now.ids }

@@ -2,13 +2,8 @@ use Rattle.std.proofs.Common.{rules, ◌≡◌, ap, sym}
 use Rattle.mml_policy.specs.declared.command.Command.TheVariants as command
 use Rattle.mml_policy.specs.declared.ruling.Ruling.TheVariants as rulings
 use Rattle.mml_window.proofs.AboutLemmas.{seen_is}
-use Rattle.mml_window.proofs.ViewLemmas.{nodes_entered, tells_entered}
+use Rattle.mml_window.proofs.ViewLemmas.{tells_entered}
 use Rattle.mml_window.proofs.window.Window.see.Goals as goal
-
-pub see_at-see-requires : goal.see_at-see-requires
-see_at-see-requires g c =
-    let held : c.deref.result.now ≡ g.H.House.lab = search rules in
-    nodes_entered held c.self.invariant.0.lawful c.in-Some.ensures.saw (ap (λ x. x.board) c.get.ensures)
 
 pub returns-clause-tells : goal.returns-clause-tells
 returns-clause-tells g c =
