@@ -33,7 +33,7 @@ pub record AllAnswered (lab : LabValue) (old new : WindowValue) (input left wrot
   pub consumed : Consumes input left (bytes_read talk)
   pub appended : Appends wrote wrote' (bytes_written talk)
 
--- and one line more, and so much is out of all replies' lines
+-- the lines that were taken from the input were answered, of which the last is told apart, and so much is out of all their replies' lines
 pub record LastAnswered (sent : List ℕ → List ℕ) (lab : LabValue) (old new : WindowValue) (input left wrote wrote' : Option (List ℕ)) : Type 0 where
   pub talk : Talk lab (newcomer old)
   pub after : Standing
@@ -42,7 +42,7 @@ pub record LastAnswered (sent : List ℕ → List ℕ) (lab : LabValue) (old new
   pub consumed : Consumes input left (bytes_read talk ++ line_read last)
   pub appended : Appends wrote wrote' (sent (bytes_written talk ++ line_written last))
 
--- and one line more was taken, a view, which has no reply
+-- all lines that were taken from the input were answered, their replies are out, and one line more was taken, a view, which has no reply
 pub record LastUnanswered (lab : LabValue) (old new : WindowValue) (input left wrote wrote' : Option (List ℕ)) : Type 0 where
   pub talk : Talk lab (newcomer old)
   pub line : List ℕ
@@ -72,7 +72,7 @@ Ended end.Closed lab old new input left wrote wrote' =
     (held : List ℕ) × LastUnanswered lab old new input (prepend_known held left) wrote wrote' × (length held < READ_SIZE)
 Ended end.Memory lab old new input left wrote wrote' = (new ≡ old) × Consumes input left [] × Appends wrote wrote' []
 
--- who was known when that was answered: before its last line, where it ended by one
+-- who was known at the end of a session: before its last line, where it ended by one
 abbrev pub Knew : (end : SessionEnd) (who : Option Who) (lab : LabValue) (old new : WindowValue) (input left wrote wrote' : Option (List ℕ))
     → Ended end lab old new input left wrote wrote' → Type 0
 Knew end.Bye who lab old new input left wrote wrote' e = e.1.talk.end.known ≡ who

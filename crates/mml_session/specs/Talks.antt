@@ -29,8 +29,10 @@ bytes_read t = flat_map ended t.lines
 abbrev pub bytes_written : {lab : LabValue} {st : Standing} → Talk lab st → List ℕ
 bytes_written {lab} t = flat_map (reply_line lab.ids lab.roster) t.replies
 
+-- the bytes of the line, with its newline
 abbrev pub line_read : {lab : LabValue} {st after : Standing} → LineTurn lab st after → List ℕ
 line_read t = ended t.line
 
+-- the bytes of its reply's line
 abbrev pub line_written : {lab : LabValue} {st after : Standing} → LineTurn lab st after → List ℕ
 line_written {lab} t = reply_line lab.ids lab.roster t.reply

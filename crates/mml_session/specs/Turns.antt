@@ -32,6 +32,7 @@ pub record Standing : Type 0 where
   pub known : Option Who
   pub window : WindowValue
 
+-- a session stands so
 abbrev pub standing : Option Who → WindowValue → Standing
 standing known window = record { known = known; window = window }
 
@@ -91,6 +92,7 @@ Turn lab st line r next = Asked lab st (request_in line) r next ⊎ Unread st r 
 abbrev pub Run : LabValue → Standing → List (List ℕ) → List Reply → Standing → Type 0
 Run lab st lines rs end = Runs (Turn lab) st lines rs end
 
+-- the reply is that to a bye
 abbrev pub is_bye : Reply → Bool
 is_bye reply.Bye = true
 is_bye _ = false

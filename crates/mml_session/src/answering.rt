@@ -39,7 +39,10 @@ pub(crate) fn answer_into<Rt: Wait, S: Sink + Drop, H: House>(
         × IsView (standing known.old window.old) line.now) }
 {
     match read_request_with(setting.alloc, line, scratch) {
-        Ok(request) => settle(setting, window, known, request, reply),
+        Ok(request) => match (*known, &request) {
+            (Some(who), Request::Do(command)) => obey(setting, window, who, command, reply),
+            _ => settle(setting, window, known, request, reply),
+        },
         Err(fault) => {
             put_in(reply, Reply::Refuse(fault.refusal()));
             Ok(())
@@ -47,31 +50,10 @@ pub(crate) fn answer_into<Rt: Wait, S: Sink + Drop, H: House>(
     }
 }
 
-/// Greets, says bye, or asks the window.
-fn settle<Rt: Wait, S: Sink + Drop, H: House>(
-    setting: &Setting<'_, Rt, S, H>,
-    window: &mut Window<H>,
-    known: &mut Option<Who>,
-    request: Request,
-    reply: &mut Reply,
-) -> Result<(), Closed>
-    requires principal { IfSome known.old (IsPrincipal H.lab.roster) }
-    ensures principal { IfSome known.new (IsPrincipal H.lab.roster) }
-    ensures settles { OnOk result (Settles H.lab (standing known.old window.old)
-        (greeting H.lab.roster known.old request) reply.new (standing known.new window.new)) }
-    ensures about { OnOk result (IsAbout H.lab.ids H.lab.roster reply.new) }
-    ensures closed { IfErr result (λ _. (known.new ≡ known.old) × (window.new ≡ window.old)
-        × AsksToSee known.old request) }
-{
-    match (*known, &request) {
-        (Some(who), Request::Do(command)) => obey(setting, window, who, command, reply),
-        _ => greet_on(setting, window, known, request, reply),
-    }
-}
-
-// What comes of any request; a command of one who is known needn't come here. It is large, and rare.
+// Greets, says bye, or lets the window reply: what comes of any request. It is large, and is kept out of the way of
+// the commands of one who is known, which needn't come here.
 #[inline(never)]
-fn greet_on<Rt: Wait, S: Sink + Drop, H: House>(
+fn settle<Rt: Wait, S: Sink + Drop, H: House>(
     setting: &Setting<'_, Rt, S, H>,
     window: &mut Window<H>,
     known: &mut Option<Who>,
@@ -129,6 +111,7 @@ fn obey<Rt: Wait, S: Sink + Drop, H: House>(
     }
 }
 
+// The reply to one who asks what a node shows to those who may see it.
 fn see<H: House>(
     window: &mut Window<H>,
     who: Who,
@@ -149,6 +132,7 @@ fn see<H: House>(
     Ok(())
 }
 
+// The reply to one who asks what a node shows to its owners and the teacher.
 fn look<H: House>(
     alloc: Global,
     window: &mut Window<H>,
@@ -170,6 +154,7 @@ fn look<H: House>(
     Ok(())
 }
 
+// The reply to one who asks for the report on the configuration.
 fn report<H: House>(
     alloc: Global,
     window: &mut Window<H>,

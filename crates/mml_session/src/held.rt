@@ -31,7 +31,7 @@ impl Held {
         })
     }
 
-    // Takes a line after those that are held. Where it has no room, and where that is asked, all go out.
+    // Takes a line after those that are held. Where it has no room, and where `at_once` says so, all go out.
     pub(crate) fn put<W: Write>(
         &mut self,
         line: &[u8],

@@ -11,5 +11,5 @@ mod setting;
 
 pub use gate::{Gate, NoGate, Point};
 pub use recorder::{Entry, NoRecorder, Recorder};
-pub use session::{Ending, SessionEnd, serve_one, serve_recorded};
+pub use session::{Ending, SessionEnd, is_bye, serve_one, serve_recorded};
 pub use setting::Setting;

@@ -4,9 +4,9 @@ ghost use Rattle.mml_lines.specs.LinesOf.{IsWithinLimit};
 ghost use Rattle.mml_lines.specs.declared.lines.TheConstants.{READ_SIZE};
 ghost use Rattle.mml_lines.specs.LinesState.{bytes_ahead, fresh};
 ghost use Rattle.mml_lab.specs.Rosters.{IsPrincipal};
-ghost use Rattle.mml_session.specs.Turns.{standing, is_bye, places_in};
+ghost use Rattle.mml_session.specs.Turns.{standing, is_bye};
 ghost use Rattle.mml_session.specs.Ends.{Ended};
-ghost use Rattle.mml_session.specs.Records.{EndedRecorded, Records, entry_for, is_shown};
+ghost use Rattle.mml_session.specs.Records.{EndedRecorded, Records, entry_for};
 ghost use Rattle.mml_session.specs.Holding.{LetsOut};
 ghost use Rattle.mml_session.specs.Serving.{SendsReply, ServesLine, ServesNext, Tells, next_after};
 ghost use Rattle.mml_codec.specs.Replies.{IsAbout};
@@ -75,8 +75,8 @@ pub fn serve_one<Rt: Wait, S: Sink + Drop, H: House, R: Read, W: Write, G: Gate>
     serve_recorded(&setting, window, reader, writer, gate, connection, recorder).end
 }
 
-/// The same, and gives a recorder each line that is answered, before its reply goes out, and then the
-/// session's end. It tells who was known then too.
+/// Answers the lines of a reader one by one, as `serve_one` does, and gives a recorder each line that is
+/// answered, before its reply goes out, and then the session's end. It tells who was known then too.
 pub fn serve_recorded<Rt: Wait, S: Sink + Drop, H: House, R: Read, W: Write, G: Gate, K: Recorder>(
     setting: &Setting<'_, Rt, S, H>,
     window: &mut Window<H>,
@@ -157,7 +157,9 @@ impl Session {
 // What came of the next line.
 #[derive(Clone, Copy)]
 enum Next {
+    // It was answered, and the session goes on.
     Served,
+    // The session ended, by that line or without one.
     Ended(SessionEnd),
 }
 
@@ -237,14 +239,10 @@ fn pass_told<G: Gate>(held: &mut Held, gate: &G, connection: u8)
     ensures { held.new.bytes.items ≡ held.old.bytes.items }
 {
     if held.bytes.is_empty() {
-        pass_all(held.replies, gate, connection);
+        for _ in 0..held.replies {
+            gate.pass(connection, Point::Told);
+        }
         held.replies = 0;
-    }
-}
-
-fn pass_all<G: Gate>(replies: u32, gate: &G, connection: u8) {
-    for _ in 0..replies {
-        gate.pass(connection, Point::Told);
     }
 }
 
@@ -336,13 +334,15 @@ fn serve_line<Rt: Wait, S: Sink + Drop, H: House, W: Write, K: Recorder>(
     ))
 }
 
-// A line that was answered, in which place, how many events the window had seen then, and whether what
-// comes next isn't known yet.
+// A line that was answered.
 #[derive(Clone, Copy)]
 struct Judged<'a> {
+    // The number of the place that it came in.
     number: u8,
+    // How many events the window had seen afterwards.
     seen: u64,
     line: &'a [u8],
+    // Whether the reader has to be read for the next line, so that all replies must be out.
     is_next_unknown: bool,
 }
 
@@ -378,32 +378,18 @@ fn tell<H: House, W: Write, K: Recorder>(
     send(&told, out, held, judged.is_next_unknown, writer)
 }
 
-// Gives a recorder a line that was answered, unless its reply shows what it asked for.
+// Gives a recorder a line that was answered, unless its reply shows what was asked for. A reply that names the
+// place of an event was judged before that was seen.
 fn record<K: Recorder>(recorder: &mut K, judged: Judged<'_>, reply: &Reply, out: &[u8])
     ensures { Records judged.entry.number (K.kept recorder.old) (K.kept recorder.new)
         (entry_for judged.entry.seen judged.entry.line.now reply.now out.now) }
 {
-    if !is_shown(reply) {
-        let before = judged.seen.saturating_sub(count_places(reply));
-        recorder.said(judged.number, before, judged.line, out);
-    }
-}
-
-// Whether a reply shows what was asked for.
-fn is_shown(reply: &Reply) -> bool
-    ensures { result ≡ is_shown reply.now }
-{
-    matches!(reply, Reply::See(_) | Reply::Look(_) | Reply::Report(_))
-}
-
-// How many places a reply names.
-fn count_places(reply: &Reply) -> u64
-    ensures { result ≡ length (places_in reply.now) }
-{
-    match reply {
-        Reply::Granted { .. } => 1,
-        _ => 0,
-    }
+    let before = match reply {
+        Reply::See(_) | Reply::Look(_) | Reply::Report(_) => return,
+        Reply::Granted { .. } => judged.seen.saturating_sub(1),
+        _ => judged.seen,
+    };
+    recorder.said(judged.number, before, judged.line, out);
 }
 
 // Lets the line of a reply go out, or holds it where the next line is held too, unless it is a bye's.
@@ -426,7 +412,8 @@ fn send<W: Write>(
     }
 }
 
-// The same of a line that stands behind what is held already.
+// Lets what is held go out, of which the line of a reply is the last, or holds it on where the next line is held
+// too, unless the reply is a bye's.
 fn send_held<W: Write>(reply: &Reply, held: &mut Held, at_once: bool, writer: &mut W) -> Said
     ensures sends { SendsReply result reply.now held.old.bytes.items
         [] held.new.bytes.items
@@ -440,7 +427,8 @@ fn send_held<W: Write>(reply: &Reply, held: &mut Held, at_once: bool, writer: &m
     }
 }
 
-fn is_bye(reply: &Reply) -> bool
+/// Whether a reply is that to a bye, which is the last of its session.
+pub fn is_bye(reply: &Reply) -> bool
     ensures { result ≡ is_bye reply.now }
 {
     matches!(reply, Reply::Bye)

@@ -2,7 +2,7 @@ use Rattle.std.proofs.Common.{subst, sym}
 use Rattle.mml_codec.specs.Replies.{IsAbout}
 use Rattle.mml_session.proofs.GreetingLemmas.{closed_so}
 use Rattle.mml_session.proofs.TellingLemmas.{settled_so}
-use Rattle.mml_session.proofs.answering.greet_on.Goals as goal
+use Rattle.mml_session.proofs.answering.settle.Goals as goal
 
 pub returns-in-Answered-clause-about : goal.returns-in-Answered-clause-about
 returns-in-Answered-clause-about g c =
