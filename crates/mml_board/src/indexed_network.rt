@@ -103,9 +103,9 @@ impl IndexedNetwork {
             is_candidate (configuration_of self.now) node j }
     {
         let _size = self.network.size();
-        let courted = self.network.neighbours(node).both(self.free);
-        let doubtful = courted.without(self.believing);
-        doubtful.both(NodeSet::above(node))
+        let free_neighbours = self.network.neighbours(node).both(self.free);
+        let unmarried = free_neighbours.without(self.believing);
+        unmarried.both(NodeSet::above(node))
     }
 
     /// Writes a node's registers, of which p is null or a neighbour.

@@ -19,6 +19,7 @@ use Rattle.mml_lab.specs.declared.lab_fault.Key.TheVariants as key
 use Rattle.mml_lab.specs.Shape.{Account, NodeSpec, RawSpec, spelled}
 use Rattle.mml_lab.specs.Rosters.{RosterValue, IsRoster, is_account, has_name, name_twice, with_owners}
 
+-- what a lab file says, with its nodes by their ranks
 pub record LabValue : Type 0 where
   -- the identifiers of the nodes in rising order; a node's rank is its index here
   pub ids : List ℕ

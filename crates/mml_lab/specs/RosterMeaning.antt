@@ -14,12 +14,14 @@ IsLetter b = IsInRange 97 122 b
 abbrev pub IsNameByte : ℕ → Type 0
 IsNameByte b = IsLetter b ⊎ (IsInRange 48 57 b ⊎ (b ≡ 45))
 
+-- 1 to 32 bytes of a name, the first a letter
 pub record IsName (name : List ℕ) : Type 0 where
   pub some : 0 < length name
   pub short : length name ≤ MAX_NAME
   pub first : IsLetter (slice_index name 0)
   pub bytes : All IsNameByte name
 
+-- 1 to 64 bytes that can be seen
 pub record IsKey (key : List ℕ) : Type 0 where
   pub some : 0 < length key
   pub short : length key ≤ MAX_KEY
@@ -31,6 +33,7 @@ pub record IsKnownAs (r : RosterValue) (w : Who) (name key : List ℕ) : Type 0 
   pub named : name_of r w ≡ name
   pub keyed : key_of r w ≡ key
 
+-- the name at an index of the accounts
 abbrev pub name_at : List Account → ℕ → List ℕ
 name_at accounts k = (slice_index_or accounts k no_account).name
 

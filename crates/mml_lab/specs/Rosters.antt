@@ -34,12 +34,15 @@ is_key key = nat_lt 0 (length key) && nat_le (length key) MAX_KEY && list_all is
 abbrev pub is_account : Account → Bool
 is_account a = is_name a.name && is_key a.key
 
+-- the account's name is this one
 abbrev pub has_name : List ℕ → Account → Bool
 has_name name a = bytes_eq name a.name
 
+-- the account's name and key are these
 abbrev pub has_name_and_key : List ℕ → List ℕ → Account → Bool
 has_name_and_key name key a = bytes_eq name a.name && bytes_eq key a.key
 
+-- what stands past the end of a list of accounts
 abbrev pub no_account : Account
 no_account = record { name = []; key = [] }
 
@@ -56,9 +59,11 @@ abbrev pub account_of : RosterValue → Who → Account
 account_of r who.Teacher = r.teacher
 account_of r (who.Student s) = slice_index_or r.students s no_account
 
+-- the name of one who takes part
 abbrev pub name_of : RosterValue → Who → List ℕ
 name_of r who = (account_of r who).name
 
+-- the key of one who takes part
 abbrev pub key_of : RosterValue → Who → List ℕ
 key_of r who = (account_of r who).key
 

@@ -60,6 +60,7 @@ account_in name_at key_at members = do
   secret ← needed key_at (codes "key") as_str members
   Ok (record { name = name; key = secret })
 
+-- an element of `student`: a table with a name and a key
 unfoldable pub student_of : Data → Result Account LabFault
 student_of value = do
   table ← of_kind key.Student as_table value
@@ -85,6 +86,7 @@ pub record NodeSpec : Type 0 where
   pub p : Option ℤ
   pub m : Bool
 
+-- an element of `node`: a table with an identifier, owners, and registers that may be left out
 unfoldable pub node_of : Data → Result NodeSpec LabFault
 node_of value = do
   table ← of_kind key.Node as_table value
@@ -101,6 +103,7 @@ abbrev pub two_of : Items → Option (Data × Data)
 two_of (item a (item b no_items)) = Some (a, b)
 two_of _ = None
 
+-- an element of `links`: an array of two integers
 unfoldable pub link_of : Data → Result (ℤ × ℤ) LabFault
 link_of value = do
   ends ← of_kind key.Link as_array value
@@ -109,10 +112,12 @@ link_of value = do
   b ← of_kind key.Link as_integer pair.1
   Ok (a, b)
 
+-- the links under `links`; none where the key is left out
 abbrev pub links_of : Option Data → Result (List (ℤ × ℤ)) LabFault
 links_of None = Ok []
 links_of (Some value) = of_kind key.Links as_array value >>= λ links. each link_of links
 
+-- what a file spells, before its values are compared with one another
 pub record RawSpec : Type 0 where
   pub events : ℤ
   pub sessions : ℤ
@@ -139,6 +144,7 @@ nodes_of members = do
   items ← needed key.Node (codes "node") as_array members
   each node_of items
 
+-- what the table of a document spells: its keys are read in the order of `Key`
 unfoldable pub raw_of : Members → Result RawSpec LabFault
 raw_of members = do
   events ← needed key.Events (codes "events") as_integer members
@@ -153,5 +159,6 @@ raw_of members = do
 unfoldable pub table_in : List ℕ → Option Members
 table_in bytes = if is_utf8 bytes then parse_document bytes else None
 
+-- what the bytes of a file spell
 unfoldable pub spelled : List ℕ → Result RawSpec LabFault
 spelled bytes = ok_or (table_in bytes) fault.NotToml >>= raw_of

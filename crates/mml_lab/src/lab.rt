@@ -36,6 +36,7 @@ impl Model for Lab {
 }
 
 impl Lab {
+    /// The lab of these parts, which fit one another.
     pub(crate) fn new(
         ids: IdTable,
         roster: Roster,

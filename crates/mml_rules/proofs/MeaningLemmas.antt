@@ -1,5 +1,5 @@
 -- Each test of the rules is true exactly where the fact that it stands for holds.
-use Rattle.std.proofs.Common.{◌≡◌, ◌↔◌, ℕ, ◌<◌, Bool, true, false, not, ◌&&◌, inl, inr, nat_lt, Option, None, Some, is_some, is_none, refl, ap, arith}
+use Rattle.std.proofs.Common.{◌≡◌, ◌↔◌, ℕ, ◌<◌, Bool, true, not, ◌&&◌, inl, inr, nat_lt, Option, None, Some, is_some, is_none, refl, ap, arith}
 use Rattle.std.specs.Bool.{beq}
 use Rattle.std.proofs.lemmas.Bool.{and_parts, and_from, or_cases, or_left, or_right, not-true, false_from_ne_true, both_ways, false≢true, lt-ltb}
 use Rattle.std.proofs.lemmas.Bool.{ltb-true, cases_order}

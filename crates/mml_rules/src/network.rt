@@ -53,14 +53,6 @@ impl Network {
         })
     }
 
-    /// How many nodes there are. Their ranks are the numbers below it.
-    pub fn size(&self) -> u64
-        ensures size { result ≡ length self.now.registers }
-        ensures network { IsNetwork self.now }
-    {
-        self.registers.len() as u64
-    }
-
     /// The nodes linked to a node; none where it is past the last one.
     pub fn neighbours(&self, node: Rank) -> NodeSet
         ensures { result ≡ neighbours_at self.now.neighbours node }
@@ -77,6 +69,14 @@ impl Network {
         ensures { result ≡ registers_at self.now.registers node }
     {
         self.registers[node.index() as usize]
+    }
+
+    /// How many nodes there are. Their ranks are the numbers below it.
+    pub fn size(&self) -> u64
+        ensures size { result ≡ length self.now.registers }
+        ensures network { IsNetwork self.now }
+    {
+        self.registers.len() as u64
     }
 
     /// Writes a node's registers, of which p is null or a neighbour.
@@ -113,6 +113,7 @@ impl Network {
     }
 }
 
+/// Puts `b` among the neighbours of `a`.
 fn link_one_way(neighbours: &mut [NodeSet], a: Rank, b: Rank)
     requires { a < length neighbours.old }
     ensures { neighbours.new ≡ with_neighbour neighbours.old a b }
@@ -121,6 +122,7 @@ fn link_one_way(neighbours: &mut [NodeSet], a: Rank, b: Rank)
     neighbours[a.index() as usize] = row;
 }
 
+/// Takes `b` out of the neighbours of `a`.
 fn cut_one_way(neighbours: &mut [NodeSet], a: Rank, b: Rank)
     requires { a < length neighbours.old }
     ensures { neighbours.new ≡ without_neighbour neighbours.old a b }

@@ -11,5 +11,6 @@ use Rattle.mml_board.specs.World.{World, chosen_at}
 abbrev pub AreChosen : List (Option Rule) → FinSet nat_cmp → Type 0
 AreChosen chosen nodes = (i : ℕ) → set.contains nodes i ≡ is_some (chosen_at chosen i)
 
+-- the world of a board's parts
 abbrev pub kept_world : Network → List (Option Rule) → ℕ → ℕ → World
 kept_world network chosen number place = record { network = network; chosen = chosen; number = number; place = place }

@@ -9,9 +9,11 @@ use Rattle.mml_rules.specs.Configuration.{Configuration}
 use Rattle.mml_rules.specs.Rules.{is_privileged}
 use Rattle.mml_board.specs.World.{World, configuration, IsWorld}
 
+-- j is a node, and privileged
 abbrev pub is_privileged_node : Configuration → ℕ → Bool
 is_privileged_node c j = nat_lt j c.size && is_privileged c j
 
+-- the nodes that are privileged
 unfoldable pub privileged_set : Configuration → FinSet nat_cmp
 privileged_set c = those_below c.size (is_privileged c)
 

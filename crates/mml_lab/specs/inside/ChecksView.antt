@@ -8,6 +8,7 @@ use Rattle.mml_lab.specs.Labs.{LabValue}
 use Rattle.mml_lab.specs.inside.Raw.{account_view, entry_account, node_view}
 use Rattle.mml_lab.specs.inside.Checks.{lab_with}
 
+-- the lab of a file that was checked
 abbrev pub checked_view : Checked → LabValue
 checked_view c =
     lab_with c.ids (account_view c.teacher) (map entry_account c.students.entries) (map node_view c.nodes.items) c.neighbours.items c.events c.sessions
