@@ -11,7 +11,7 @@ use crate::system::System;
 use mml_hosting::{HostFault, Hosted, serve_host};
 use mml_ids::Piece;
 use mml_journal::Sink;
-use mml_ports::{HostState, SocketSession, bell_of, open_ports};
+use mml_ports::{HostState, SocketSession, TwoPorts, bell_of, open_ports};
 use mml_program::{Fault as ProgramFault, write_pieces};
 use mml_session::{NoGate, Recorder};
 use std::alloc::Global;
@@ -70,7 +70,10 @@ impl<C: Recorder + Send + Drop> Ready<C> {
             ports,
             recorders,
         } = self;
-        let (at_desk, at_port) = open_ports(rt, alloc, state, ports);
+        let TwoPorts {
+            at_desk,
+            elsewhere: at_port,
+        } = open_ports(rt, alloc, state, ports);
         let served = serve_host::<_, _, SocketSession<'_, R>, _, _, _, _, _, _, _, _, _>(
             rt, alloc, lab, sink, recorders, at_desk, at_port, &bell, &NoGate, writer,
         );

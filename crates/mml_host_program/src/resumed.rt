@@ -8,7 +8,7 @@ use crate::fault::Fault;
 use crate::old_file::OldFile;
 use crate::system::System;
 use mml_journal::Sink;
-use mml_ports::{HostState, Ports, SocketSession, bell_of, open_ports};
+use mml_ports::{HostState, Ports, SocketSession, TwoPorts, bell_of, open_ports};
 use mml_program::Fault as ProgramFault;
 use mml_resuming::{ResumeFault, Store, resume_class};
 use mml_session::{NoGate, Recorder};
@@ -69,7 +69,10 @@ impl<C: Recorder + Send + Drop> Ready<C> {
             ports,
             recorders,
         } = self;
-        let (at_desk, at_port) = open_ports(rt, alloc, state, ports);
+        let TwoPorts {
+            at_desk,
+            elsewhere: at_port,
+        } = open_ports(rt, alloc, state, ports);
         let resumed = resume_class::<_, _, _, SocketSession<'_, R>, _, _, _, _, _, _, _, _, _>(
             rt, alloc, lab, old, store, first, recorders, at_desk, at_port, &bell, &NoGate, writer,
         );

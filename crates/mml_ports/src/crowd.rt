@@ -16,7 +16,8 @@ const STRANGERS: usize = 3;
 // How many places a name may have where others wait for one.
 const PLACES_OF_A_NAME: usize = 4;
 
-// After how many milliseconds such a name gives one up: a place that is being given back is free sooner.
+// After how many milliseconds of a newcomer's wait a name that has more places gives one up: a place that is being
+// given back is free sooner.
 const MOMENT: u64 = 250;
 
 // How many milliseconds one who hasn't greeted, nor was answered, may stay, whoever waits.
@@ -33,11 +34,12 @@ struct Guest {
 }
 
 impl Guest {
+    // Whether it hasn't greeted, and isn't leaving.
     fn is_stranger(&self) -> bool {
         self.greeting.is_none() && !self.is_leaving
     }
 
-    // Whether it has had its time. Who waits for the turn of a denial may wait for it elsewhere.
+    // Whether it is a stranger that has had its time. Who waits for the turn of a denial may wait for it elsewhere.
     fn may_go(&self, now: Instant) -> bool {
         self.is_stranger()
             && (self.socket.is_answered.load(Ordering::SeqCst)
@@ -45,6 +47,7 @@ impl Guest {
                 || now.duration_since(self.since) >= Duration::from_millis(GRACE))
     }
 
+    // Whether both have greeted by one name, and this one isn't leaving.
     fn has_name_of(&self, other: &Guest) -> bool {
         match (&self.greeting, &other.greeting) {
             (Some(own), Some(its)) => own.as_slice() == its.as_slice() && !self.is_leaving,
@@ -52,6 +55,7 @@ impl Guest {
         }
     }
 
+    // Its connection is ended, so that its place becomes free.
     fn leaves<Rt: Wait>(&mut self, rt: &Rt) {
         self.is_leaving = true;
         self.socket.end_with(rt, EndReason::Busy);
@@ -62,7 +66,9 @@ impl Guest {
 #[derive(Drop)]
 pub struct Crowd {
     guests: Mutex<Vec<Guest>>,
+    // How many may be served at a time.
     places: usize,
+    // Whether a newcomer waits for a place.
     pub(crate) is_wanted: AtomicBool,
     pub(crate) partings: Partings,
 }
@@ -186,6 +192,7 @@ impl Crowd {
     }
 }
 
+// Where the connection of this number stands among the guests.
 fn place_of(guests: &Vec<Guest>, number: u64) -> Option<usize>
     ensures { IfSome result (λ index. index < vec_len guests.now) }
 {
@@ -197,6 +204,7 @@ fn place_of(guests: &Vec<Guest>, number: u64) -> Option<usize>
     None
 }
 
+// How many haven't greeted, and aren't leaving.
 fn count_strangers(guests: &Vec<Guest>) -> usize {
     let mut count = 0usize;
     for index in 0..guests.len() {
@@ -217,6 +225,7 @@ fn first_who_may_go(guests: &Vec<Guest>, now: Instant) -> Option<usize> {
     None
 }
 
+// Whether one of the guests is leaving.
 fn is_one_leaving(guests: &Vec<Guest>) -> bool {
     for index in 0..guests.len() {
         if guests[index].is_leaving {
@@ -226,7 +235,7 @@ fn is_one_leaving(guests: &Vec<Guest>) -> bool {
     false
 }
 
-// The last of a name that has more places than it may.
+// The last guest of a name that has more places than it may, if there is one.
 fn one_too_many(guests: &Vec<Guest>) -> Option<usize> {
     let mut found = None;
     for index in 0..guests.len() {

@@ -1,6 +1,7 @@
 //! The ports of a host over sockets: who comes, who is served and who leaves, and a connection's ends.
 #![tactic(auto)]
 
+mod connection;
 mod crowd;
 mod end_reason;
 mod parting;
@@ -11,12 +12,13 @@ mod socket_writer;
 mod state;
 mod two_ports;
 
+pub use connection::Connection;
 pub use crowd::Crowd;
 pub use end_reason::EndReason;
 pub use parting::Partings;
 pub use port::{EndBell, Port};
 pub use shared_socket::SharedSocket;
-pub use socket_reader::{GREETING, Incoming, SocketReader};
+pub use socket_reader::{GREETING, Incoming, NEXT_LINE, SocketReader};
 pub use socket_writer::{ReplyWriter, SocketCutOff, SocketSession, SocketWriter, WRITE_LIMIT};
 pub use state::HostState;
-pub use two_ports::{ListenFault, NEXT_LINE, Ports, bell_of, listen_at, open_ports};
+pub use two_ports::{ListenFault, Ports, TwoPorts, bell_of, listen_at, open_ports};

@@ -7,26 +7,27 @@ use std::net::{Shutdown, TcpStream};
 use std::sync::{Mutex, Wait};
 use std::time::{Clock, Duration, Instant};
 
-// How the reply is to a hello whose name and key don't match.
+/// The reply to a hello whose name and key don't match.
 pub(crate) const UNKNOWN: &[u8] =
     b"{\"clause\":2,\"deny\":\"unknown\",\"text\":\"name and key do not match\"}\n";
 
 /// How many milliseconds the other side has to take what it was told.
 pub(crate) const PARTING: u64 = 20;
 
-// The most bytes that are taken of it then.
+// The most bytes that are taken of what the other side sent before it is let go.
 const PARTING_SIZE: usize = 4096;
 
-// One who has left, and when it goes on with it.
+// One who has left its place before the turn of its denial.
 #[derive(Drop)]
 struct Parting {
     stream: TcpStream,
+    // When it is told the denial, or, once it was told, let go of.
     next: Instant,
     is_told: bool,
 }
 
 impl Parting {
-    // Tells it the denial once its turn has come, and then lets go of it after a while.
+    // Tells it the denial once its turn has come, and lets go of it a while after. What is still to do is given back.
     fn goes_on(self, now: Instant) -> Option<Parting> {
         if now < self.next {
             return Some(self);
@@ -51,8 +52,8 @@ impl Parting {
     }
 }
 
-// Writes a line, if the other side takes it at once.
-fn tell(stream: &TcpStream, line: &[u8]) {
+/// Writes a line, if the other side takes it without a wait longer than the stream has.
+pub(crate) fn tell(stream: &TcpStream, line: &[u8]) {
     let mut stream = stream;
     let _ = stream.write(line);
 }

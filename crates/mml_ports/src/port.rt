@@ -1,4 +1,5 @@
 //! A host's ports, of whose connections no contract knows what they give and take.
+use crate::connection::Connection;
 use crate::crowd::Crowd;
 use crate::end_reason::EndReason;
 use crate::shared_socket::SharedSocket;
@@ -24,7 +25,7 @@ const WAITING: usize = 16;
 // How often a port is called that doesn't answer.
 const CALLS: u32 = 50;
 
-// How many milliseconds it is waited for each time.
+// How many milliseconds an answer to a call is waited for.
 const CALL: u64 = 100;
 
 // One who has come, and isn't served yet.
@@ -33,15 +34,15 @@ struct Newcomer<'a, Rt> {
     reader: Incoming<'a, Rt>,
     writer: ReplyWriter<'a, Rt>,
     cut_off: SocketCutOff<'a, Rt>,
-    socket: Arc<SharedSocket, Global>,
+    connection: Connection<'a, Rt>,
     since: Instant,
 }
 
 impl<'a, Rt: Clock + Wait + Eprint> Newcomer<'a, Rt> {
     // Hangs up, and says why.
-    fn turn_away(self, rt: &'a Rt, word: EndReason) {
+    fn turn_away(self, why: EndReason) {
         let mut newcomer = self;
-        newcomer.socket.note_end_reason(rt, word);
+        newcomer.connection.note_end_reason(why);
         newcomer.writer.hang_up();
     }
 }
@@ -54,14 +55,15 @@ pub struct Port<'a, Rt> {
     alloc: Global,
     state: &'a HostState,
     crowd: &'a Crowd,
+    is_desk: bool,
     listener: TcpListener,
-    // How long each line of a connection after its hello may take. At the desk it may take any time.
-    patience: Option<Duration>,
+    // Those who wait for a place, in the order in which they came.
     waiting: VecDeque<Newcomer<'a, Rt>>,
     // How many have come.
     count: u64,
 }
 
+// What an accept brings: a connection's reader and writer, and what cuts it off, where there is one.
 type Brought<'a, Rt> = Accepted<Incoming<'a, Rt>, ReplyWriter<'a, Rt>, SocketCutOff<'a, Rt>>;
 
 impl<'a, Rt: Clock + Wait + Eprint> Port<'a, Rt> {
@@ -70,17 +72,16 @@ impl<'a, Rt: Clock + Wait + Eprint> Port<'a, Rt> {
         rt: &'a Rt,
         alloc: Global,
         state: &'a HostState,
-        crowd: &'a Crowd,
+        is_desk: bool,
         listener: TcpListener,
-        patience: Option<Duration>,
     ) -> Port<'a, Rt> {
         Port {
             rt,
             alloc,
             state,
-            crowd,
+            crowd: state.crowd(is_desk),
+            is_desk,
             listener,
-            patience,
             waiting: VecDeque::new(alloc),
             count: 0,
         }
@@ -102,18 +103,23 @@ impl<'a, Rt: Clock + Wait + Eprint> Port<'a, Rt> {
         let Ok(socket) = Arc::new(self.alloc, SharedSocket::new(stream, self.count)) else {
             return Err(Error::from(ErrorKind::OutOfMemory));
         };
-        let (rt, state) = (self.rt, self.state);
-        let its = Arc::try_clone(&socket)?;
-        let is_desk = self.patience.is_none();
-        let writer = ReplyWriter::new(rt, self.alloc, state, self.crowd, is_desk, its);
-        let cut_off = SocketCutOff::new(rt, state, Arc::try_clone(&socket)?);
-        let reader = SocketReader::new(rt, state, Arc::try_clone(&socket)?, self.patience)?;
-        let since = Instant::now(rt)?;
+        let connection = Connection {
+            rt: self.rt,
+            alloc: self.alloc,
+            state: self.state,
+            crowd: self.crowd,
+            is_desk: self.is_desk,
+            socket,
+        };
+        let writer = ReplyWriter::new(connection.share()?);
+        let cut_off = SocketCutOff::new(connection.share()?);
+        let reader = SocketReader::new(connection.share()?)?;
+        let since = Instant::now(self.rt)?;
         Ok(Newcomer {
             reader,
             writer,
             cut_off,
-            socket,
+            connection,
             since,
         })
     }
@@ -123,11 +129,11 @@ impl<'a, Rt: Clock + Wait + Eprint> Port<'a, Rt> {
         if self.waiting.len() >= WAITING
             && let Some(first) = self.waiting.pop_front()
         {
-            first.turn_away(self.rt, EndReason::Busy);
+            first.turn_away(EndReason::Busy);
         }
         if let Err(refused) = self.waiting.push_back(newcomer) {
             self.state.note_memory(self.rt);
-            refused.value.turn_away(self.rt, EndReason::Busy);
+            refused.value.turn_away(EndReason::Busy);
         }
     }
 
@@ -147,7 +153,7 @@ impl<'a, Rt: Clock + Wait + Eprint> Port<'a, Rt> {
         if waited >= Duration::from_millis(PLACE)
             && let Some(first) = self.waiting.pop_front()
         {
-            first.turn_away(self.rt, EndReason::Busy);
+            first.turn_away(EndReason::Busy);
         }
         None
     }
@@ -156,7 +162,7 @@ impl<'a, Rt: Clock + Wait + Eprint> Port<'a, Rt> {
     fn first_to_speak(&self) -> usize {
         for index in 0..self.waiting.len() {
             if let Some(newcomer) = self.waiting.get(index)
-                && newcomer.socket.has_line(self.rt)
+                && newcomer.connection.socket.has_line(self.rt)
             {
                 return index;
             }
@@ -164,7 +170,9 @@ impl<'a, Rt: Clock + Wait + Eprint> Port<'a, Rt> {
         0
     }
 
+    // The first to speak of those who wait is served from now on.
     fn bring(&mut self, now: Instant) -> Option<Brought<'a, Rt>> {
+        // One who waits alone isn't looked at.
         let index = if self.waiting.len() > 1 {
             self.first_to_speak()
         } else {
@@ -175,10 +183,10 @@ impl<'a, Rt: Clock + Wait + Eprint> Port<'a, Rt> {
             reader,
             writer,
             cut_off,
-            socket,
+            connection,
             since: _,
         } = first;
-        if self.crowd.enter(self.rt, socket, now).is_err() {
+        if self.crowd.enter(self.rt, connection.socket, now).is_err() {
             self.state.note_memory(self.rt);
         }
         Some(Accepted::Came((reader, writer), cut_off))
@@ -188,7 +196,7 @@ impl<'a, Rt: Clock + Wait + Eprint> Port<'a, Rt> {
     fn close(&mut self) -> Brought<'a, Rt> {
         for _ in 0..self.waiting.len() {
             if let Some(first) = self.waiting.pop_front() {
-                first.turn_away(self.rt, EndReason::Over);
+                first.turn_away(EndReason::Over);
             }
         }
         self.crowd.partings.close(self.rt);
@@ -202,7 +210,7 @@ impl<'a, Rt: Clock + Wait + Eprint> Port<'a, Rt> {
             ErrorKind::Interrupted | ErrorKind::WouldBlock => {}
             _ => {
                 if let Some(first) = self.waiting.pop_front() {
-                    first.turn_away(self.rt, EndReason::Busy);
+                    first.turn_away(EndReason::Busy);
                 }
             }
         }

@@ -17,15 +17,20 @@ pub struct SharedSocket {
     /// By which it is known among those of its port.
     pub number: u64,
     pub(crate) stream: RwLock<Option<TcpStream>>,
+    // Whether its session has begun to read.
     pub(crate) is_served: AtomicBool,
+    // Whether a hello was granted.
     pub(crate) is_greeted: AtomicBool,
     // Whether a reply went out.
     pub(crate) is_answered: AtomicBool,
+    // How many of its hellos were denied.
     denied: AtomicU64,
+    // Whether its thread is writing: who ends the connection then doesn't wait for that.
     is_writing: AtomicBool,
+    // Whether another thread ends the connection.
     is_ending: AtomicBool,
-    last: Mutex<Option<EndReason>>,
-    // Whether another thread ends the connection may be waited for.
+    end_reason: Mutex<Option<EndReason>>,
+    // By which a thread waits until another ends the connection.
     ending: Condvar,
 }
 
@@ -41,22 +46,22 @@ impl SharedSocket {
             denied: AtomicU64::new(0),
             is_writing: AtomicBool::new(false),
             is_ending: AtomicBool::new(false),
-            last: Mutex::new(None),
+            end_reason: Mutex::new(None),
             ending: Condvar::new(),
         }
     }
 
     /// Keeps why the connection is ended, unless a reason is kept already.
-    pub(crate) fn note_end_reason<Rt: Wait>(&self, rt: &Rt, word: EndReason) {
-        let mut last = self.last.lock(rt);
-        if last.is_none() {
-            *last = Some(word);
+    pub(crate) fn note_end_reason<Rt: Wait>(&self, rt: &Rt, why: EndReason) {
+        let mut reason = self.end_reason.lock(rt);
+        if reason.is_none() {
+            *reason = Some(why);
         }
     }
 
-    /// What it is told at its end.
-    pub(crate) fn last<Rt: Wait>(&self, rt: &Rt) -> Option<EndReason> {
-        *self.last.lock(rt)
+    /// Why the connection is ended, if that is known already.
+    pub(crate) fn end_reason<Rt: Wait>(&self, rt: &Rt) -> Option<EndReason> {
+        *self.end_reason.lock(rt)
     }
 
     /// Whether a line has come. It is still to be read.
@@ -70,13 +75,13 @@ impl SharedSocket {
 
     /// Whether it leaves for want of a place.
     pub(crate) fn is_turned_away<Rt: Wait>(&self, rt: &Rt) -> bool {
-        matches!(self.last(rt), Some(EndReason::Busy))
+        matches!(self.end_reason(rt), Some(EndReason::Busy))
     }
 
-    /// Ends the connection from another thread than its own, with that word: nothing more is read, and
+    /// Ends the connection from another thread than its own, for that reason: nothing more is read, and
     /// who is writing is hung up.
-    pub(crate) fn end_with<Rt: Wait>(&self, rt: &Rt, word: EndReason) {
-        self.begin_end(rt, word);
+    pub(crate) fn end_with<Rt: Wait>(&self, rt: &Rt, why: EndReason) {
+        self.begin_end(rt, why);
         let how = if self.is_writing.load(Ordering::SeqCst) {
             Shutdown::Both
         } else {
@@ -89,11 +94,12 @@ impl SharedSocket {
         }
     }
 
-    // Both at once, so that who waits for the end isn't told before.
-    fn begin_end<Rt: Wait>(&self, rt: &Rt, word: EndReason) {
-        let mut last = self.last.lock(rt);
-        if last.is_none() {
-            *last = Some(word);
+    // Keeps the reason, and tells who waits for the end. Both under the lock of the reason, so that nobody is told
+    // before it is kept.
+    fn begin_end<Rt: Wait>(&self, rt: &Rt, why: EndReason) {
+        let mut reason = self.end_reason.lock(rt);
+        if reason.is_none() {
+            *reason = Some(why);
         }
         self.is_ending.store(true, Ordering::SeqCst);
         self.ending.notify_all();
@@ -103,17 +109,18 @@ impl SharedSocket {
     pub(crate) fn wait_for_end<Rt: Wait + Clock>(&self, rt: &Rt, time: Duration) {
         let _ended = self
             .ending
-            .wait_timeout_while(rt, self.last.lock(rt), time, |_| {
+            .wait_timeout_while(rt, self.end_reason.lock(rt), time, |_| {
                 !self.is_ending.load(Ordering::SeqCst)
             });
     }
 
-    /// A write begins, unless the connection is being ended; and it has ended.
+    /// A write begins; answers whether it may, since nobody ends the connection.
     pub(crate) fn begin_write(&self) -> bool {
         self.is_writing.store(true, Ordering::SeqCst);
         !self.is_ending.load(Ordering::SeqCst)
     }
 
+    /// The write has ended, or wasn't to be.
     pub(crate) fn end_write(&self) {
         self.is_writing.store(false, Ordering::SeqCst);
     }
@@ -128,13 +135,13 @@ impl SharedSocket {
         self.denied.load(Ordering::SeqCst) > 0
     }
 
-    /// Whether no more of it is to be read.
+    /// Whether nothing more is to be read: another thread ends the connection, or too many hellos were denied.
     pub(crate) fn is_done(&self) -> bool {
         self.is_ending.load(Ordering::SeqCst) || self.denied.load(Ordering::SeqCst) >= DENIALS
     }
 }
 
-// Whether a line has come, without a wait for it.
+// Whether a line has come at a socket, without a wait for it.
 fn has_line(stream: &TcpStream) -> bool {
     let mut seen = [0; GLANCE];
     if stream.set_nonblocking(true).is_err() {

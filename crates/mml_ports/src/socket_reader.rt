@@ -2,22 +2,24 @@
 ghost use Rattle.std.specs.Prelude.{◌≤◌, length};
 ghost use Rattle.std.specs.Io.{ReadsAtMost};
 
+use crate::connection::Connection;
 use crate::end_reason::EndReason;
-use crate::shared_socket::SharedSocket;
-use crate::state::HostState;
 use mml_codec::MAX_REQUEST;
 use mml_ends::Retrying;
-use std::alloc::Global;
 use std::io;
 use std::io::{Error, ErrorKind, Read};
+use std::sync::Wait;
 use std::sync::atomic::Ordering;
-use std::sync::{Arc, Wait};
 use std::time::{Clock, Duration, Instant};
 
 /// How many seconds a connection has until its hello is granted.
 pub const GREETING: u64 = 10;
 
-// Whether the first line begins as a JSON object does.
+/// How many seconds each line of a student's connection may take after the one before. At the desk it may
+/// take any time.
+pub const NEXT_LINE: u64 = 600;
+
+// How the first line begins: as a JSON object does, otherwise, or not yet.
 #[derive(Clone, Copy, PartialEq, Eq)]
 enum FirstLine {
     Awaited,
@@ -29,17 +31,15 @@ enum FirstLine {
 /// hello is granted it gives one line at a time, and whatever is said, it fails after ten seconds.
 #[derive(Drop)]
 pub struct SocketReader<'a, Rt> {
-    pub(crate) rt: &'a Rt,
-    pub(crate) state: &'a HostState,
-    socket: Arc<SharedSocket, Global>,
+    pub(crate) connection: Connection<'a, Rt>,
     // When the hello has to be granted, and then when the line that is being read has to be there.
     deadline: Option<Instant>,
-    // How long each line after the hello may take.
+    // How long each line after the hello may take, where there is an end to it.
     patience: Option<Duration>,
     has_greeted: bool,
     first: FirstLine,
     is_first_read: bool,
-    // The bytes of the line that is being read.
+    // How many bytes of the line that is being read have come.
     size: usize,
     // How long the socket lets a read wait.
     limit: Option<Duration>,
@@ -49,18 +49,17 @@ pub struct SocketReader<'a, Rt> {
 pub type Incoming<'a, Rt> = Retrying<SocketReader<'a, Rt>>;
 
 impl<'a, Rt: Clock + Wait> SocketReader<'a, Rt> {
-    /// Reads from the socket, from now on.
-    pub fn new(
-        rt: &'a Rt,
-        state: &'a HostState,
-        socket: Arc<SharedSocket, Global>,
-        patience: Option<Duration>,
-    ) -> io::Result<Incoming<'a, Rt>> {
+    /// Reads from the connection's socket. The time for its hello begins now.
+    pub fn new(connection: Connection<'a, Rt>) -> io::Result<Incoming<'a, Rt>> {
+        let now = Instant::now(connection.rt)?;
+        let patience = if connection.is_desk {
+            None
+        } else {
+            Some(Duration::from_secs(NEXT_LINE))
+        };
         Ok(Retrying::new(SocketReader {
-            rt,
-            state,
-            socket,
-            deadline: Instant::now(rt)?.checked_add(Duration::from_secs(GREETING)),
+            connection,
+            deadline: now.checked_add(Duration::from_secs(GREETING)),
             patience,
             has_greeted: false,
             first: FirstLine::Awaited,
@@ -78,17 +77,17 @@ impl<'a, Rt: Clock + Wait> SocketReader<'a, Rt> {
         let Some(deadline) = self.deadline else {
             return Ok(None);
         };
-        let left = deadline.duration_since(Instant::now(self.rt)?);
+        let left = deadline.duration_since(Instant::now(self.connection.rt)?);
         if left.is_zero() {
             return Err(Error::from(ErrorKind::TimedOut));
         }
         Ok(Some(left))
     }
 
-    // The next line has its own time.
+    // From now on the next line has its own time.
     fn renew(&mut self) -> io::Result<()> {
         self.deadline = match self.patience {
-            Some(patience) => Instant::now(self.rt)?.checked_add(patience),
+            Some(patience) => Instant::now(self.connection.rt)?.checked_add(patience),
             None => None,
         };
         Ok(())
@@ -102,7 +101,7 @@ impl<'a, Rt: Clock + Wait> SocketReader<'a, Rt> {
         let left = self.time_left()?;
         let is_known = left == self.limit;
         self.limit = left;
-        let stream = self.socket.stream.read(self.rt);
+        let stream = self.connection.socket.stream.read(self.connection.rt);
         match &*stream {
             Some(stream) => {
                 if !is_known {
@@ -120,7 +119,7 @@ impl<'a, Rt: Clock + Wait> SocketReader<'a, Rt> {
         ensures { ReadsAtMost result buf.new }
     {
         self.limit = self.time_left()?;
-        let stream = self.socket.stream.read(self.rt);
+        let stream = self.connection.socket.stream.read(self.connection.rt);
         match &*stream {
             Some(stream) => {
                 stream.set_read_timeout(self.limit)?;
@@ -133,14 +132,8 @@ impl<'a, Rt: Clock + Wait> SocketReader<'a, Rt> {
         }
     }
 
-    // Whether nothing more is read: another thread ends the connection, too many hellos were denied, or
-    // the first line, which is answered now, was no JSON object.
-    fn is_done(&self) -> bool {
-        self.socket.is_done() || self.is_first_read && self.first == FirstLine::Other
-    }
-
-    // Takes note of bytes that were read.
-    fn note(&mut self, bytes: &[u8]) -> io::Result<()> {
+    // Takes note of bytes that were read: how long the line is, and how the first one begins.
+    fn note_bytes(&mut self, bytes: &[u8]) -> io::Result<()> {
         let mut has_line = false;
         let mut is_long = false;
         for byte in bytes.iter() {
@@ -151,10 +144,10 @@ impl<'a, Rt: Clock + Wait> SocketReader<'a, Rt> {
                 self.size = self.size.saturating_add(1);
                 is_long = is_long || self.size > MAX_REQUEST;
             }
-            self.note_first(*byte);
+            self.note_first_line(*byte);
         }
         if is_long {
-            self.socket.note_end_reason(self.rt, EndReason::Long);
+            self.connection.note_end_reason(EndReason::Long);
         }
         if has_line && self.has_greeted {
             self.renew()?;
@@ -162,7 +155,8 @@ impl<'a, Rt: Clock + Wait> SocketReader<'a, Rt> {
         Ok(())
     }
 
-    fn note_first(&mut self, byte: u8) {
+    // Takes note of a byte, if it is one of the first line.
+    fn note_first_line(&mut self, byte: u8) {
         if self.is_first_read {
             return;
         }
@@ -180,13 +174,15 @@ impl<'a, Rt: Clock + Wait> SocketReader<'a, Rt> {
 
 impl<'a, Rt: Clock + Wait> Read for SocketReader<'a, Rt> {
     fn read(&mut self, buf: &mut [u8]) -> io::Result<usize> {
-        self.socket.is_served.store(true, Ordering::SeqCst);
-        if !self.has_greeted && self.socket.is_greeted.load(Ordering::SeqCst) {
+        let socket = &self.connection.socket;
+        socket.is_served.store(true, Ordering::SeqCst);
+        // Nothing more is read where the first line, which was answered, was no JSON object.
+        if socket.is_done() || self.is_first_read && self.first == FirstLine::Other {
+            return Ok(0);
+        }
+        if !self.has_greeted && socket.is_greeted.load(Ordering::SeqCst) {
             self.has_greeted = true;
             self.renew()?;
-        }
-        if self.is_done() {
-            return Ok(0);
         }
         let read = if self.has_greeted {
             self.read_in_time(buf)
@@ -195,17 +191,17 @@ impl<'a, Rt: Clock + Wait> Read for SocketReader<'a, Rt> {
         };
         match read {
             // What comes after the reply to the teacher's bye isn't answered.
-            Ok(_) if self.state.is_dismissed(self.rt) => {
-                self.socket.note_end_reason(self.rt, EndReason::Over);
+            Ok(_) if self.connection.state.is_dismissed(self.connection.rt) => {
+                self.connection.note_end_reason(EndReason::Over);
                 Ok(0)
             }
             Ok(count) => {
-                self.note(&buf[..count])?;
+                self.note_bytes(&buf[..count])?;
                 Ok(count)
             }
             Err(error) => {
                 if matches!(error.kind(), ErrorKind::TimedOut | ErrorKind::WouldBlock) {
-                    self.socket.note_end_reason(self.rt, EndReason::Late);
+                    self.connection.note_end_reason(EndReason::Late);
                 }
                 Err(error)
             }

@@ -2,29 +2,26 @@
 ghost use Rattle.std.specs.Prelude.{◌≡◌};
 ghost use Rattle.std.specs.Io.{WritesAtMost};
 
-use crate::crowd::Crowd;
+use crate::connection::Connection;
 use crate::end_reason::EndReason;
-use crate::parting::{PARTING, UNKNOWN, take_unwanted};
-use crate::shared_socket::SharedSocket;
+use crate::parting::{PARTING, UNKNOWN, take_unwanted, tell};
 use crate::socket_reader::Incoming;
-use crate::state::HostState;
 use mml_ends::Retrying;
 use mml_hosting::{CutOff, Keep, ServedSession};
 use mml_serving::{HangUp, linger};
 use mml_session::SessionEnd;
-use std::alloc::Global;
 use std::io::{Error, ErrorKind, Write};
 use std::net::{Shutdown, TcpStream};
 use std::snapshot::Snapshot;
+use std::sync::Wait;
 use std::sync::atomic::Ordering;
-use std::sync::{Arc, Wait};
 use std::time::{Clock, Duration, Instant};
 use std::{io, thread};
 
 /// How many seconds a write may wait until the other side takes a byte.
 pub const WRITE_LIMIT: u64 = 10;
 
-// Of a denial whose turn comes within so many milliseconds the place may be left before that.
+// A place may be left for a newcomer before the turn of its denial where that comes within so many milliseconds.
 const NEAR: u64 = 500;
 
 // How the reply begins to a hello that is granted, and how it ends.
@@ -32,20 +29,17 @@ const GREETED: &[u8] = b"{\"ok\":\"hello\",\"who\":\"";
 
 const GREETED_END: &[u8] = b"\"}\n";
 
+// The reply to a bye.
 const BID: &[u8] = b"{\"ok\":\"bye\"}\n";
 
-/// What a connection's writer has of its host.
+/// The end to which replies are written. It takes note of each before it goes out, and holds back denials of a
+/// name and key.
 #[derive(Drop)]
 pub struct SocketWriter<'a, Rt> {
-    rt: &'a Rt,
-    alloc: Global,
-    state: &'a HostState,
-    crowd: &'a Crowd,
-    is_desk: bool,
-    socket: Arc<SharedSocket, Global>,
+    connection: Connection<'a, Rt>,
     // Whether the teacher has greeted here, at the desk.
     is_teachers: bool,
-    // Whether all that was written are whole lines.
+    // Whether what was written ends with a whole line, so that a reply begins with the next byte.
     is_whole: bool,
     // Whether the other side has taken nothing for too long.
     is_deaf: bool,
@@ -54,39 +48,47 @@ pub struct SocketWriter<'a, Rt> {
 }
 
 impl<'a, Rt: Clock + Wait + Eprint> SocketWriter<'a, Rt> {
-    // Takes note of a reply before it goes out. A name and key that don't match are denied in their turn,
-    // which is answered.
-    fn note(&mut self, reply: &[u8]) -> io::Result<Option<Instant>> {
-        let socket = &self.socket;
+    // Takes note of a reply before it goes out. Of a denial of a name and key it answers the turn, which has come
+    // then, or the connection is being ended.
+    fn note_reply(&mut self, reply: &[u8]) -> io::Result<Option<Instant>> {
+        let Connection {
+            rt,
+            alloc,
+            state,
+            crowd,
+            is_desk,
+            socket,
+        } = &self.connection;
+        let rt = *rt;
         if socket.is_greeted.load(Ordering::SeqCst) {
             return Ok(None);
         }
         if let Some(name) = name_in(reply) {
-            self.is_teachers = self.is_desk && self.state.is_teacher(name);
-            self.crowd.greet(self.rt, self.alloc, socket.number, reply);
+            self.is_teachers = *is_desk && state.is_teacher(name);
+            crowd.greet(rt, *alloc, socket.number, reply);
             socket.is_greeted.store(true, Ordering::SeqCst);
         } else if reply == UNKNOWN {
             socket.note_denial();
-            if let Some(count) = self.state.note_denial(self.rt) {
-                let rt = self.rt;
+            if let Some(count) = state.note_denial(rt) {
                 let _ = eprintln!(rt;
                     "host: {count} hellos had no right key: somebody may be guessing"
                 );
             }
-            self.crowd.note_denial(self.rt);
-            let turn = self.state.turn_of_denial(self.rt)?;
+            crowd.note_denial(rt);
+            let turn = state.turn_of_denial(rt)?;
             self.wait_for_turn(turn)?;
             return Ok(Some(turn));
         }
         Ok(None)
     }
 
-    // Waits for the turn of a denial, or until the place is wanted, if the turn is near.
+    // Waits for the turn of a denial, or, where that is near, until the place is wanted.
     fn wait_for_turn(&self, turn: Instant) -> io::Result<()> {
-        let wait = turn.duration_since(Instant::now(self.rt)?);
+        let rt = self.connection.rt;
+        let wait = turn.duration_since(Instant::now(rt)?);
         let near = Duration::from_millis(NEAR);
-        thread::sleep(self.rt, wait.saturating_sub(near));
-        self.socket.wait_for_end(self.rt, wait.min(near));
+        thread::sleep(rt, wait.saturating_sub(near));
+        self.connection.socket.wait_for_end(rt, wait.min(near));
         Ok(())
     }
 
@@ -94,37 +96,41 @@ impl<'a, Rt: Clock + Wait + Eprint> SocketWriter<'a, Rt> {
     fn write_now(&mut self, buf: &[u8]) -> io::Result<usize>
         ensures { WritesAtMost result buf.now }
     {
-        let stream = self.socket.stream.read(self.rt);
+        let rt = self.connection.rt;
+        let stream = self.connection.socket.stream.read(rt);
         match &*stream {
             Some(stream) => {
-                let begun = Instant::now(self.rt)?;
+                let begun = Instant::now(rt)?;
                 let mut stream = stream;
                 let taken = stream.write(buf)?;
                 let limit = Duration::from_secs(WRITE_LIMIT);
-                self.is_deaf = taken < buf.len() && begun.elapsed(self.rt)? >= limit;
+                self.is_deaf = taken < buf.len() && begun.elapsed(rt)? >= limit;
                 Ok(taken)
             }
             None => Err(Error::from(ErrorKind::NotConnected)),
         }
     }
 
-    // Takes note of a denial whose connection leaves for a newcomer: it is told that in its turn.
+    // What is written in place of a reply where the connection is being ended: a denial whose connection leaves for
+    // a newcomer is told in its turn, and counts as taken. Any other reply fails.
     fn leave_owed(&mut self, buf: &[u8], turn: Option<Instant>) -> io::Result<usize>
         ensures { WritesAtMost result buf.now }
     {
-        if turn.is_none() || !self.socket.is_turned_away(self.rt) {
+        let Connection { rt, socket, .. } = &self.connection;
+        if turn.is_none() || !socket.is_turned_away(*rt) {
             return Err(Error::from(ErrorKind::BrokenPipe));
         }
         self.owed = turn;
         Ok(buf.len())
     }
 
-    // Writes the reply that ends the class. Who has read something meanwhile waits for it, and whether it is out.
+    // Writes the reply to the teacher's bye, which ends the class. Under the lock, so that a reader that has read
+    // something meanwhile waits until it is known whether the reply is out.
     fn write_last(&mut self, buf: &[u8]) -> io::Result<usize>
         ensures { WritesAtMost result buf.now }
     {
-        let state = self.state;
-        let mut is_dismissed = state.is_dismissed.write(self.rt);
+        let state = self.connection.state;
+        let mut is_dismissed = state.is_dismissed.write(self.connection.rt);
         let taken = self.write_now(buf)?;
         *is_dismissed = taken == buf.len();
         Ok(taken)
@@ -141,8 +147,12 @@ impl<'a, Rt: Clock + Wait + Eprint> Write for SocketWriter<'a, Rt> {
         if self.is_deaf {
             return Err(Error::from(ErrorKind::TimedOut));
         }
-        let turn = if self.is_whole { self.note(buf)? } else { None };
-        let written = if self.socket.begin_write() {
+        let turn = if self.is_whole {
+            self.note_reply(buf)?
+        } else {
+            None
+        };
+        let written = if self.connection.socket.begin_write() {
             if self.is_teachers && self.is_whole && buf == BID {
                 self.write_last(buf)
             } else {
@@ -151,9 +161,10 @@ impl<'a, Rt: Clock + Wait + Eprint> Write for SocketWriter<'a, Rt> {
         } else {
             self.leave_owed(buf, turn)
         };
-        self.socket.end_write();
+        let socket = &self.connection.socket;
+        socket.end_write();
         let taken = written?;
-        self.socket.is_answered.store(true, Ordering::SeqCst);
+        socket.is_answered.store(true, Ordering::SeqCst);
         if taken > 0 {
             self.is_whole = buf.get(taken - 1).is_some_and(|byte| *byte == b'\n');
         }
@@ -172,23 +183,11 @@ pub struct ReplyWriter<'a, Rt> {
 }
 
 impl<'a, Rt: Clock + Wait + Eprint> ReplyWriter<'a, Rt> {
-    /// Writes to the socket.
-    pub fn new(
-        rt: &'a Rt,
-        alloc: Global,
-        state: &'a HostState,
-        crowd: &'a Crowd,
-        is_desk: bool,
-        socket: Arc<SharedSocket, Global>,
-    ) -> ReplyWriter<'a, Rt> {
+    /// Writes to the connection's socket.
+    pub fn new(connection: Connection<'a, Rt>) -> ReplyWriter<'a, Rt> {
         ReplyWriter {
             end: Retrying::new(SocketWriter {
-                rt,
-                alloc,
-                state,
-                crowd,
-                is_desk,
-                socket,
+                connection,
                 is_teachers: false,
                 is_whole: true,
                 is_deaf: false,
@@ -209,49 +208,54 @@ impl<'a, Rt: Clock + Wait + Eprint> Write for ReplyWriter<'a, Rt> {
 }
 
 impl<'a, Rt: Clock + Wait + Eprint> HangUp for ReplyWriter<'a, Rt> {
-    // One who was turned away is waited for by the thread that accepts, and so not for long.
+    // Where a denial is still owed the connection goes to the partings, which tell it. The thread that accepts hangs up
+    // on who was turned away, and so not for long.
     fn hang_up(&mut self) {
         let writer = &self.end.inner;
-        let rt = writer.rt;
-        let socket = &writer.socket;
+        let Connection {
+            rt,
+            crowd,
+            socket,
+            ..
+        } = &writer.connection;
+        let rt = *rt;
         let is_served = socket.is_served.load(Ordering::SeqCst);
         let stream = socket.stream.write(rt).take();
         match (stream, writer.owed) {
-            (Some(stream), Some(turn)) => writer.crowd.partings.add(rt, stream, turn),
+            (Some(stream), Some(turn)) => crowd.partings.add(rt, stream, turn),
             (Some(stream), None) => {
                 if writer.is_whole
-                    && let Some(word) = socket.last(rt)
+                    && let Some(why) = socket.end_reason(rt)
                 {
-                    say(&stream, word);
+                    say(&stream, why);
                 }
                 if is_served && !socket.is_turned_away(rt) {
                     // Where a newcomer waits for the place, not for long.
-                    linger(stream, &writer.crowd.is_wanted);
+                    linger(stream, &crowd.is_wanted);
                 } else {
                     part_from(stream);
                 }
             }
             (None, _) => {}
         }
-        // Who was served leaves its place when that may be used again.
+        // Who was served leaves its place when that may be used again, in `SocketSession::keep`.
         if !is_served {
-            writer.crowd.leave(rt, socket.number);
+            crowd.leave(rt, socket.number);
         }
     }
 }
 
-// Says a last word, if the other side takes it at once.
-fn say(stream: &TcpStream, word: EndReason) {
-    let mut stream = stream;
+// Says why it is ended, if the other side takes that within a moment.
+fn say(stream: &TcpStream, why: EndReason) {
     if stream
         .set_write_timeout(Some(Duration::from_millis(PARTING)))
         .is_ok()
     {
-        let _ = stream.write(word.line());
+        tell(stream, why.line());
     }
 }
 
-// Takes what the other side has sent, for the reason for which others are lingered on.
+// Lets go of a connection after a moment, in which what the other side has sent is taken.
 fn part_from(stream: TcpStream) {
     let parting = Some(Duration::from_millis(PARTING));
     // Both are refused where the other side is gone.
@@ -263,35 +267,35 @@ fn part_from(stream: TcpStream) {
 /// What ends the connection from another thread.
 #[derive(Drop)]
 pub struct SocketCutOff<'a, Rt> {
-    rt: &'a Rt,
-    state: &'a HostState,
-    socket: Arc<SharedSocket, Global>,
+    connection: Connection<'a, Rt>,
 }
 
 impl<'a, Rt: Wait> SocketCutOff<'a, Rt> {
-    /// Cuts off the socket.
-    pub fn new(
-        rt: &'a Rt,
-        state: &'a HostState,
-        socket: Arc<SharedSocket, Global>,
-    ) -> SocketCutOff<'a, Rt> {
-        SocketCutOff { rt, state, socket }
+    /// What ends this connection.
+    pub fn new(connection: Connection<'a, Rt>) -> SocketCutOff<'a, Rt> {
+        SocketCutOff { connection }
     }
 }
 
 impl<'a, Rt: Wait> CutOff for SocketCutOff<'a, Rt> {
     fn cut_off(&self) {
-        let word = if self.state.is_over(self.rt) {
+        let Connection {
+            rt,
+            state,
+            socket,
+            ..
+        } = &self.connection;
+        let why = if state.is_over(*rt) {
             EndReason::Over
         } else {
             EndReason::Busy
         };
-        self.socket.end_with(self.rt, word);
+        socket.end_with(*rt, why);
     }
 }
 
-/// Of a session over a socket nothing is kept but what a contract says of it, and that it was without
-/// memory.
+/// What is kept of a session over a socket once it has ended: only what a contract says of it. Its place is free
+/// again, and want of memory was told to the host.
 #[derive(Drop)]
 pub struct SocketSession<'a, Rt>(Snapshot<ServedSession<Incoming<'a, Rt>, ReplyWriter<'a, Rt>>>);
 
@@ -304,10 +308,16 @@ impl<'a, Rt: Clock + Wait + Eprint> Keep<Incoming<'a, Rt>, ReplyWriter<'a, Rt>>
     {
         let was_short = matches!(session.ending.end, SessionEnd::Memory);
         let reader = &session.reader;
-        let writer = &session.writer.end.inner;
-        writer.crowd.leave(writer.rt, writer.socket.number);
+        let Connection {
+            rt,
+            state,
+            crowd,
+            socket,
+            ..
+        } = &reader.inner.connection;
+        crowd.leave(*rt, socket.number);
         if was_short || reader.lacked_memory || session.writer.end.lacked_memory {
-            reader.inner.state.note_memory(reader.inner.rt);
+            state.note_memory(*rt);
         }
         SocketSession(Snapshot::of(&session))
     }

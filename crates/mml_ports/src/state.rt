@@ -10,25 +10,27 @@ use std::time::{Clock, Duration, Instant};
 // How many milliseconds the wait for the end of a session takes at most.
 const PAUSE: u64 = 100;
 
-// How many milliseconds that wait takes at most while newcomers wait.
+// How many milliseconds the wait for the end of a session takes at most while newcomers wait.
 const SHORT_PAUSE: u64 = 5;
 
 // How many milliseconds lie between two denials of a name and key, at both ports together.
 const DENIAL: u64 = 12;
 
-// The least number of such denials that is told.
+// How many denials of a name and key there are when that is told first.
 const MANY: u64 = 30;
 
-// What was told so far.
+// What the threads told so far.
 #[derive(Drop)]
 struct News {
+    // How many sessions have ended.
     ended: u64,
     is_over: bool,
     lacked_memory: bool,
-    // When the next name and key may be denied, and how many were.
+    // When the next name and key may be denied.
     next_denial: Option<Instant>,
+    // How many names and keys were denied.
     denials: u64,
-    // How many denials are told next.
+    // At which number of them that is told next.
     told: u64,
 }
 
@@ -38,11 +40,12 @@ struct News {
 pub struct HostState {
     news: Mutex<News>,
     changed: Condvar,
-    // The teacher's name, and whether the reply to the teacher's bye at the desk is out.
+    // The teacher's name.
     teacher: Vec<u8>,
+    // Whether the reply to the teacher's bye at the desk is out.
     pub(crate) is_dismissed: RwLock<bool>,
-    pub at_desk: Crowd,
-    pub elsewhere: Crowd,
+    at_desk: Crowd,
+    elsewhere: Crowd,
 }
 
 impl HostState {
@@ -68,6 +71,15 @@ impl HostState {
             at_desk: Crowd::new(alloc, 1),
             elsewhere: Crowd::new(alloc, usize::from(lab.sessions()).saturating_sub(1)),
         })
+    }
+
+    /// Who is served at the desk, or else who is at the other port.
+    pub fn crowd(&self, is_desk: bool) -> &Crowd {
+        if is_desk {
+            &self.at_desk
+        } else {
+            &self.elsewhere
+        }
     }
 
     /// Whether this is the teacher's name.
@@ -119,7 +131,7 @@ impl HostState {
             .wait_timeout_while(rt, self.news.lock(rt), pause, |news| news.ended == count);
     }
 
-    /// When a denial of a name and key is told: each has its turn, whoever it is told.
+    /// When a denial of a name and key is told: each has its turn, some time after the last, at either port.
     pub fn turn_of_denial<Rt: Wait + Clock>(&self, rt: &Rt) -> io::Result<Instant> {
         let now = Instant::now(rt)?;
         let mut news = self.news.lock(rt);

@@ -5,11 +5,7 @@ use std::alloc::Global;
 use std::io;
 use std::net::{Ipv4Addr, Net, SocketAddr, TcpListener, TcpStream};
 use std::sync::{Mutex, Wait};
-use std::time::{Clock, Duration};
-
-/// How many seconds each line of a student's connection may take after the one before. At the desk it may
-/// take any time.
-pub const NEXT_LINE: u64 = 600;
+use std::time::Clock;
 
 /// Why a port can't be listened on.
 #[derive(Clone, Copy, Debug, PartialEq, Eq)]
@@ -18,6 +14,15 @@ pub enum ListenFault {
     Refused,
     /// A growth was refused.
     Memory,
+}
+
+impl From<io::Error> for ListenFault {
+    fn from(error: io::Error) -> ListenFault {
+        match error.kind() {
+            io::ErrorKind::OutOfMemory => ListenFault::Memory,
+            _ => ListenFault::Refused,
+        }
+    }
 }
 
 /// Two ports that were taken, with their numbers.
@@ -29,41 +34,22 @@ pub struct Ports {
     pub desk: u16,
 }
 
-/// Listens on both ports.
+/// Listens on both ports of this machine alone. Where 0 is asked for, the system chooses.
 pub fn listen_at<R: Net<Listener = TcpListener, Stream = TcpStream>>(
     rt: &R,
     port: u16,
     desk: u16,
 ) -> Result<Ports, ListenFault> {
-    let (listener, port) = listen(rt, port)?;
-    let (desk_listener, desk) = listen(rt, desk)?;
+    let listener = TcpListener::bind(rt, on_this_machine(port))?;
+    let desk_listener = TcpListener::bind(rt, on_this_machine(desk))?;
+    let port = listener.local_addr()?.port();
+    let desk = desk_listener.local_addr()?.port();
     Ok(Ports {
         listener,
         desk_listener,
         port,
         desk,
     })
-}
-
-// Listens on a port of this machine alone, and tells which it is.
-fn listen<R: Net<Listener = TcpListener, Stream = TcpStream>>(
-    rt: &R,
-    port: u16,
-) -> Result<(TcpListener, u16), ListenFault> {
-    let bound = || -> io::Result<(TcpListener, u16)> {
-        let listener = TcpListener::bind(rt, on_this_machine(port))?;
-        let port = listener.local_addr()?.port();
-        Ok((listener, port))
-    };
-    bound().map_err(|error| listen_fault(&error))
-}
-
-// Out of memory where an error says so.
-fn listen_fault(error: &io::Error) -> ListenFault {
-    match error.kind() {
-        io::ErrorKind::OutOfMemory => ListenFault::Memory,
-        _ => ListenFault::Refused,
-    }
 }
 
 fn on_this_machine(port: u16) -> SocketAddr {
@@ -76,8 +62,7 @@ pub fn bell_of<'a, R>(
     state: &'a HostState,
     ports: &Ports,
 ) -> Result<EndBell<'a, R>, ListenFault> {
-    let spare = ports.desk_listener.try_clone();
-    let spare = spare.map_err(|error| listen_fault(&error))?;
+    let spare = ports.desk_listener.try_clone()?;
     Ok(EndBell {
         rt,
         state,
@@ -86,15 +71,22 @@ pub fn bell_of<'a, R>(
     })
 }
 
-/// Where connections come to the desk, and to the other port.
+/// What gives the connections of the desk, and what those of the other port.
+#[derive(Drop)]
+pub struct TwoPorts<A: Drop> {
+    pub at_desk: A,
+    pub elsewhere: A,
+}
+
+/// Where connections come to both.
 pub fn open_ports<'a, R: Clock + Wait + Eprint>(
     rt: &'a R,
     alloc: Global,
     state: &'a HostState,
     ports: Ports,
-) -> (Port<'a, R>, Port<'a, R>) {
-    let patience = Some(Duration::from_secs(NEXT_LINE));
-    let at_desk = Port::new(rt, alloc, state, &state.at_desk, ports.desk_listener, None);
-    let at_port = Port::new(rt, alloc, state, &state.elsewhere, ports.listener, patience);
-    (at_desk, at_port)
+) -> TwoPorts<Port<'a, R>> {
+    TwoPorts {
+        at_desk: Port::new(rt, alloc, state, true, ports.desk_listener),
+        elsewhere: Port::new(rt, alloc, state, false, ports.listener),
+    }
 }

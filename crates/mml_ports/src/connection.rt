@@ -1,0 +1,34 @@
+//! What the parts of a connection share.
+use crate::crowd::Crowd;
+use crate::end_reason::EndReason;
+use crate::shared_socket::SharedSocket;
+use crate::state::HostState;
+use std::alloc::Global;
+use std::io;
+use std::sync::{Arc, Wait};
+
+/// What a connection's reader, its writer and what cuts it off share: their host, those at its port, and its socket.
+#[derive(Drop)]
+pub struct Connection<'a, Rt> {
+    pub rt: &'a Rt,
+    pub alloc: Global,
+    pub state: &'a HostState,
+    pub crowd: &'a Crowd,
+    pub is_desk: bool,
+    pub socket: Arc<SharedSocket, Global>,
+}
+
+impl<'a, Rt> Connection<'a, Rt> {
+    /// The same connection, for one more of its parts.
+    pub fn share(&self) -> io::Result<Connection<'a, Rt>> {
+        let socket = Arc::try_clone(&self.socket)?;
+        Ok(Connection { socket, ..*self })
+    }
+}
+
+impl<'a, Rt: Wait> Connection<'a, Rt> {
+    /// Keeps why the connection is ended, unless a reason is kept already.
+    pub fn note_end_reason(&self, why: EndReason) {
+        self.socket.note_end_reason(self.rt, why);
+    }
+}
