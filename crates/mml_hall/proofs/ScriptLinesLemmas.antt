@@ -1,11 +1,10 @@
 -- How a script line is spelled, and what is none.
 use Rattle.std.proofs.lemmas.Bool.Decides.{nat_tests}
-use Rattle.std.proofs.Common.{◌≡◌, ◌≢◌, ℕ, ◌+◌, ◌-◌, ◌*◌, ◌<◌, ◌≤◌, ◌^◌, ◌⊎◌, List, [], ◌∷◌, ◌++◌, length, map, decimal, get_or, arith, sym}
+use Rattle.std.proofs.Common.{◌≡◌, ◌≢◌, ℕ, ◌+◌, ◌-◌, ◌*◌, ◌/◌, ◌%◌, ◌<◌, ◌≤◌, ◌^◌, ◌⊎◌, List, [], ◌∷◌, ◌++◌, length, map, decimal, get_or, arith, sym}
 use Rattle.std.proofs.Common.{subst, ◌∙◌, length-append, refl, ap, zero, suc, All, Option, inl, inr}
 use Rattle.std.specs.Prelude.{slice_index}
 use Rattle.std.proofs.lemmas.Bool.{cases_lt}
-use Rattle.itoa.proofs.Decimal.{decimal_two}
-use Rattle.std.proofs.lemmas.Fmt.{decimal-digits_of, decimal_digit}
+use Rattle.std.proofs.lemmas.Fmt.{decimal-digits_of, decimal_digit, decimal_step}
 use Rattle.std.proofs.lemmas.List.{append_cancel_left, get_or-append_right}
 use Rattle.std.proofs.lemmas.List.Elements.{All-nil, All-cons}
 use Rattle.std.specs.Int.Digits.{digits_of}
@@ -76,6 +75,10 @@ pub too_long : (a b : Option (List ℕ)) (held : List ℕ) (limit sessions : ℕ
     → IsTooLong limit held → length held ≤ limit + READ_SIZE → ComesBad sessions a b
 too_long a b held limit sessions kept e long few =
     (held, kept, inr (subst (λ (n : ℕ). IsTooLong n held × (length held ≤ n + READ_SIZE)) e (long, few)))
+
+-- a number of two digits
+pub decimal_two : (n : ℕ) → 10 ≤ n → n < 100 → decimal n ≡ (48 + n / 10) ∷ (48 + n % 10) ∷ []
+decimal_two n many few = rw (decimal_step n many (omega arith), decimal_digit (n / 10) (omega arith)) refl
 
 -- a line that begins with the number of a connection and a space: one digit, or 1 and one more
 FirstDigits : ℕ → List ℕ → Type 0

@@ -22,7 +22,7 @@ use mml_ids::Memory;
 use mml_journal::Sink;
 use mml_lab::Lab;
 use mml_lines::{LineRest, Lines, Outgoing, Step, WriteFault};
-use std::alloc::{AllocError, Global};
+use std::alloc::Global;
 use std::io::{Read, Write};
 
 /// Why a script ended before its input did.
@@ -37,14 +37,6 @@ pub enum ScriptFault {
     BadLine(u64),
     /// A growth was refused before anything was read.
     Memory,
-}
-
-impl From<AllocError> for ScriptFault {
-    ghost from_gives = { λ _ e. e ≡ faults.Memory };
-
-    fn from(_error: AllocError) -> ScriptFault {
-        ScriptFault::Memory
-    }
 }
 
 impl From<Memory> for ScriptFault {

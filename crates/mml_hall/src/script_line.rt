@@ -41,7 +41,8 @@ pub fn read_script_line(line: &[u8], sessions: u8) -> Option<ScriptLine<'_>>
     })
 }
 
-// The number of one or two digits that a line begins with, or 0.
+// The number of one or two digits that a line begins with, or 0. Where more follow, it is anything, since
+// no connection has such a number.
 fn connection_of(line: &[u8]) -> u8
     ensures { (n : ℕ) (rest : List ℕ) → 0 < n → n ≤ MAX_SESSIONS
         → line.now ≡ decimal n ++ 32 ∷ rest → result ≡ n }
@@ -53,6 +54,7 @@ fn connection_of(line: &[u8]) -> u8
     }
 }
 
+// The value of the digit at a place, where one stands there.
 fn digit_at(line: &[u8], place: usize) -> Option<u8>
     ensures digit { IfSome result (λ d. (d < 10) × (place < length line.now) × (slice_index line.now place ≡ 48 + d)) }
     ensures none { IfNone result (place < length line.now → (d : ℕ) → d < 10 → slice_index line.now place ≢ 48 + d) }
@@ -107,6 +109,7 @@ fn number_on(connection: u8, line: &[u8]) -> Option<&[u8]>
     after(line, &[b'0' + connection / 10, b'0' + connection % 10])
 }
 
+// What follows these bytes at the front.
 fn after<'a>(line: &'a [u8], word: &[u8]) -> Option<&'a [u8]>
     ensures { MatchOption result
         ((rest : List ℕ) → line.now ≢ word.now ++ rest)

@@ -1,5 +1,5 @@
-use Rattle.itoa.proofs.Decimal.{decimal_two}
 use Rattle.std.proofs.lemmas.Fmt.{decimal_digit}
+use Rattle.mml_hall.proofs.ScriptLinesLemmas.{decimal_two}
 use Rattle.mml_hall.proofs.script_line.number_on.Goals as goal
 
 pub returns-then-connection-lt10 : goal.returns-then-connection-lt10
