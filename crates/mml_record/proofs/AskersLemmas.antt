@@ -1,8 +1,7 @@
 -- A student who is known in a record is one of the lab, whom only a clause from 1 to 4 denies anything.
-use Rattle.std.proofs.Common.{◌≡◌, ℕ, Bool, true, List, [], ◌∷◌, length, take, refl, sym, subst, Option, None, Some, Result, Err, arith}
+use Rattle.std.proofs.Common.{◌≡◌, ℕ, Bool, true, List, [], ◌∷◌, length, take, refl, sym, subst, Option, None, Some, Result, arith}
 use Rattle.std.specs.Prelude.{IfErr, IfSome, position, option_map, if◌then◌else◌}
 use Rattle.std.proofs.lemmas.List.Quantifiers.{position-Some}
-use Rattle.mml_ids.specs.Ids.{rank_in}
 use Rattle.mml_ids.proofs.GivesLemmas.{bind-deny, need-deny}
 use Rattle.mml_lab.specs.declared.who.Who.{Who}
 use Rattle.mml_lab.specs.declared.who.Who.TheVariants as who
@@ -12,13 +11,11 @@ use Rattle.mml_board.specs.declared.done.Done.{Done}
 use Rattle.mml_board.specs.declared.event.Event.{Event}
 use Rattle.mml_board.specs.World.{World}
 use Rattle.mml_board.specs.Events.{done_by}
-use Rattle.mml_policy.specs.declared.command.Asked.{Asked}
 use Rattle.mml_policy.specs.declared.command.Command.{Command}
 use Rattle.mml_policy.specs.declared.denial.Denial.{Denial}
 use Rattle.mml_policy.specs.declared.ruling.Ruling.{Ruling}
 use Rattle.mml_policy.specs.declared.ruling.Ruling.TheVariants.{Full, Journal, Granted}
 use Rattle.mml_policy.specs.declared.verdict.Leave.{Leave}
-use Rattle.mml_policy.specs.Clauses.{node, student, rule_of, pointer}
 use Rattle.mml_policy.specs.Denials.{clause_of}
 use Rattle.mml_policy.specs.Rulings.{ruled, after_ruling}
 use Rattle.mml_policy.specs.Verdicts.{clauses}
@@ -32,11 +29,11 @@ use Rattle.mml_board.specs.Lists.{world_in}
 use Rattle.mml_window.specs.Rulings.{ruling_at}
 use Rattle.mml_tally.specs.declared.ask.Ask.{Ask}
 use Rattle.mml_tally.specs.AskMeaning.{is_numbered, IsKnownOf, AreAsksOf}
-use Rattle.mml_record.specs.declared.entries.Entry.{Entry}
-use Rattle.mml_record.specs.declared.entries.Entry.TheVariants as entry
+use Rattle.mml_session.specs.declared.recorder.Entry.{Entry}
+use Rattle.mml_session.specs.declared.recorder.Entry.TheVariants as entry
 use Rattle.mml_record.specs.Certified.{FitsRuling, FitsGreeting, FitsAsked, Fits}
 use Rattle.mml_record.specs.Asks.{student_of, clause_in, AreAskedOf}
-use Rattle.mml_record.proofs.CountLemmas.{same_err}
+use Rattle.mml_record.proofs.DenialLemmas.{of_err, student_meets, node_meets, rule_meets, pointer_meets}
 use Rattle.std.proofs.lemmas.Bool.Decides.{nat_tests}
 
 -- ---- a command is denied by a clause from 1 to 4
@@ -45,24 +42,9 @@ use Rattle.std.proofs.lemmas.Bool.Decides.{nat_tests}
 abbrev IsFair : Denial → Type 0
 IsFair d = is_numbered (Some (clause_of d)) ≡ true
 
-module _ (ids : List ℕ) (r : RosterValue) (w : World) (x : Who) where
-  node_fair : (id : ℕ) (d : Denial) → IsFair d → (e : Denial) → node ids id d ≡ Err e → IsFair e
-  node_fair id d fine e h = subst IsFair (same_err (rank_in ids id) d e h) fine
-
-  student_fair : (d : Denial) → IsFair d → (e : Denial) → student x d ≡ Err e → IsFair e
-  student_fair d fine e h = grind (arith, nat_tests)
-
-  rule_fair : (q : Asked) (d : Denial) → IsFair d → IfErr (rule_of ids q d) IsFair
-  rule_fair q d fine = grind (arith, nat_tests, bind-deny, node_fair)
-
-  pointer_fair : (p : Option ℕ) (d : Denial) → IsFair d → IfErr (pointer ids p d) IsFair
-  pointer_fair p d fine = grind (arith, nat_tests, bind-deny, node_fair)
-
-  fair_of : {A : Type 0} (s : Result A Denial) → IfErr s IsFair → (e : Denial) → s ≡ Err e → IsFair e
-  fair_of s h e same = grind (arith, nat_tests)
-
-  fair : (c : Command) → IfErr (clauses ids r w x c) IsFair
-  fair c = grind (arith, nat_tests, bind-deny, node_fair, need-deny, student_fair, fair_of, rule_fair, pointer_fair)
+fair : (ids : List ℕ) (r : RosterValue) (w : World) (x : Who) (c : Command) → IfErr (clauses ids r w x c) IsFair
+fair ids r w x c =
+    grind (arith, nat_tests, bind-deny, need-deny, (node_meets IsFair ids), (student_meets IsFair), (of_err IsFair), (rule_meets IsFair ids), (pointer_meets IsFair ids))
 
 -- ---- so is what a student who is known asks
 

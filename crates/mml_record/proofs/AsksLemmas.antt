@@ -24,8 +24,8 @@ use Rattle.mml_codec.specs.Facts.{object_text}
 use Rattle.mml_codec.specs.Lines.{request_in}
 use Rattle.mml_codec.specs.Replies.{text, reply_line, place_in}
 use Rattle.mml_session.specs.Turns.{is_bye}
-use Rattle.mml_record.specs.declared.entries.Entry.{Entry}
-use Rattle.mml_record.specs.declared.entries.Entry.TheVariants as entry
+use Rattle.mml_session.specs.declared.recorder.Entry.{Entry}
+use Rattle.mml_session.specs.declared.recorder.Entry.TheVariants as entry
 use Rattle.mml_record.specs.Certified.{seen_after, FitsGreeting, FitsAsked, Fits, GoesOn}
 use Rattle.mml_record.specs.Asks.{unended, clause_first, clause_second, clause_member, clause_told, memory_text, known_by, known_asked, known_after, line_of, student_of}
 use Rattle.mml_record.specs.Asks.{asks_from, clause_in, AreAskedOf}

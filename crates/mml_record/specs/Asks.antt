@@ -27,18 +27,20 @@ use Rattle.mml_journal.specs.Words.{◌>>=◌, cut, is_word}
 use Rattle.mml_tally.specs.declared.ask.Ask.{Ask}
 use Rattle.mml_tally.specs.declared.ask.Line.{Line}
 use Rattle.mml_tally.specs.declared.ask.Line.TheVariants as lines
-use Rattle.mml_record.specs.declared.entries.Entry.{Entry}
-use Rattle.mml_record.specs.declared.entries.Entry.TheVariants as entry
+use Rattle.mml_session.specs.declared.recorder.Entry.{Entry}
+use Rattle.mml_session.specs.declared.recorder.Entry.TheVariants as entry
 use Rattle.mml_record.specs.Certified.{Fits}
 
 -- ---- what a line is
 
+-- the kind of a rule that was asked for
 abbrev pub kind_asked : Asked → Kind
 kind_asked asked.Update = kind.Update
 kind_asked (asked.Marriage id) = kind.Marriage
 kind_asked asked.Seduction = kind.Seduction
 kind_asked asked.Abandonment = kind.Abandonment
 
+-- what a line is that has this command: a move with its node and the kind of its rule, or anything else
 abbrev pub line_of_command : Command → Line
 line_of_command (command.Move id rule at) = lines.Move id (kind_asked rule)
 line_of_command (command.See id) = lines.Other
@@ -50,11 +52,13 @@ line_of_command (command.Cut a b) = lines.Other
 line_of_command (command.Release id) = lines.Other
 line_of_command command.Report = lines.Other
 
+-- what a line is that has this request
 abbrev pub line_of_request : Request → Line
 line_of_request (requests.Hello name key) = lines.Other
 line_of_request requests.Bye = lines.Other
 line_of_request (requests.Do c) = line_of_command c
 
+-- what a line is: no request at all is told from others
 abbrev pub line_of : Result Request LineFault → Line
 line_of (Ok request) = line_of_request request
 line_of (Err fault) = lines.Malformed
@@ -92,25 +96,29 @@ clause_told text = do
   members ← (cut 123 text).1
   clause_member members
 
+-- the text of the reply that memory was refused
 abbrev pub memory_text : List ℕ
 memory_text = codes "{\"refuse\":\"memory\"}"
 
 -- ---- who is known behind a line
 
+-- who is known behind a line with this greeting: a command changes nothing of it
 abbrev pub known_by : Option Who → Greeting → Option Who
 known_by known (Answered r x) = x
 known_by known (LeftToJudge who c) = known
 
+-- who is known behind a line that asks for that
 abbrev pub known_asked : RosterValue → Option Who → Result Request LineFault → Option Who
 known_asked roster known (Ok request) = known_by known (greeting roster known request)
 known_asked roster known (Err fault) = known
 
--- where memory was refused, the line changed nothing
+-- who is known behind a line with a reply of this text: where memory was refused, the line changed nothing
 unfoldable pub known_after : RosterValue → Option Who → List ℕ → List ℕ → Option Who
 known_after roster known line text = if bytes_eq text memory_text then known else known_asked roster known (request_in line)
 
 -- ---- a record
 
+-- the student, if that is one
 abbrev pub student_in : Who → Option ℕ
 student_in who.Teacher = None
 student_in (who.Student s) = Some s
@@ -120,24 +128,28 @@ abbrev pub student_of : Option Who → Option ℕ
 student_of None = None
 student_of (Some w) = student_in w
 
+-- what a line asked, by whom, and the clause that denied it
 abbrev pub ask_of : Option Who → List ℕ → List ℕ → Ask
 ask_of known line out = record { who = student_of known; line = line_of (request_in line); denied = clause_told (unended out) }
 
+-- what an entry tells that was asked: one thing, if it is a line that was answered
 abbrev pub asks_at : Option Who → Entry → List Ask
 asks_at known (entry.Said p line out) = ask_of known line out ∷ []
 asks_at known (entry.Left p) = []
 asks_at known (entry.Unrecorded p) = []
 
+-- who is known behind an entry
 abbrev pub known_behind : RosterValue → Option Who → Entry → Option Who
 known_behind roster known (entry.Said p line out) = known_after roster known line (unended out)
 known_behind roster known (entry.Left p) = None
 known_behind roster known (entry.Unrecorded p) = None
 
--- each line that was answered, from where someone is known, or nobody
+-- what entries tell that was asked, in order, from where someone is known, or nobody
 abbrev pub asks_from : RosterValue → Option Who → List Entry → List Ask
 asks_from roster known [] = []
 asks_from roster known (e ∷ es) = asks_at known e ++ asks_from roster (known_behind roster known e) es
 
+-- what the entries of a record tell that was asked
 abbrev pub asks_in : RosterValue → List Entry → List Ask
 asks_in roster es = asks_from roster None es
 

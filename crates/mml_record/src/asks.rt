@@ -4,9 +4,9 @@ ghost use Rattle.mml_ids.specs.Lines.{ended};
 ghost use Rattle.mml_lab.specs.Rosters.{IsPrincipal};
 ghost use Rattle.mml_codec.specs.Lines.{request_in};
 ghost use Rattle.mml_board.specs.Lists.{is_legal_in};
-ghost use Rattle.mml_record.specs.declared.entries.Entry.{Entry};
+ghost use Rattle.mml_session.specs.declared.recorder.Entry.{Entry};
 ghost use Rattle.mml_record.specs.Certified.{IsRecordOf};
-ghost use Rattle.mml_record.specs.Entries.{record_text};
+ghost use Rattle.mml_session.specs.Records.{record_text};
 ghost use Rattle.mml_journal.specs.Words.{seen};
 ghost use Rattle.mml_record.specs.inside.RawEntries.{entry_view};
 ghost use Rattle.mml_record.specs.Asks.{kind_asked, line_of_command, line_of_request, line_of, digit_first, clause_first, clause_second, clause_member, clause_told, memory_text, known_by, known_asked, known_after, student_in, student_of, ask_of, asks_at, known_behind, asks_in};
@@ -22,6 +22,7 @@ use mml_rules::Kind;
 use mml_tally::{Ask, Line, push_ask};
 use std::alloc::Global;
 
+// The kind of a rule that was asked for.
 fn kind_asked(rule: Asked) -> Kind
     ensures { result ≡ kind_asked rule }
 {
@@ -33,6 +34,7 @@ fn kind_asked(rule: Asked) -> Kind
     }
 }
 
+// What a line is that has this command: a move is told from all else.
 fn line_of_command(command: &Command) -> Line
     ensures { result ≡ line_of_command command.now }
 {
@@ -45,6 +47,7 @@ fn line_of_command(command: &Command) -> Line
     }
 }
 
+// What a line is that has this request.
 fn line_of_request(request: &Request) -> Line
     ensures { result ≡ line_of_request request.now }
 {
@@ -60,7 +63,7 @@ fn digit_first(rest: Option<&[u8]>) -> Option<u8>
 {
     let bytes = rest?;
     let digit = bytes.first()?;
-    Some(digit.saturating_sub(48))
+    Some(digit.saturating_sub(b'0'))
 }
 
 // The number of a clause, where that is the first member.
@@ -68,7 +71,7 @@ fn digit_first(rest: Option<&[u8]>) -> Option<u8>
 fn clause_first(members: &[u8]) -> Option<u8>
     ensures { result ≡ clause_first members.now }
 {
-    let (word, rest) = cut(members, 58);
+    let (word, rest) = cut(members, b':');
     if word == b"\"clause\"".as_slice() {
         digit_first(rest)
     } else {
@@ -76,20 +79,22 @@ fn clause_first(members: &[u8]) -> Option<u8>
     }
 }
 
+// The number of a clause, where that is the second member.
 #[tactic(auto, unfolding(crate::specs::Asks::clause_second))]
 fn clause_second(members: &[u8]) -> Option<u8>
     ensures { result ≡ clause_second members.now }
 {
-    let (_, rest) = cut(members, 44);
+    let (_, rest) = cut(members, b',');
     let rest = rest?;
     clause_first(rest)
 }
 
+// The number of a clause, where that is the first member, or the one behind a current number.
 #[tactic(auto, unfolding(crate::specs::Asks::clause_member))]
 fn clause_member(members: &[u8]) -> Option<u8>
     ensures { result ≡ clause_member members.now }
 {
-    let (word, _) = cut(members, 58);
+    let (word, _) = cut(members, b':');
     if word == b"\"at\"".as_slice() {
         clause_second(members)
     } else {
@@ -102,17 +107,19 @@ fn clause_member(members: &[u8]) -> Option<u8>
 fn clause_told(text: &[u8]) -> Option<u8>
     ensures { result ≡ clause_told text.now }
 {
-    let (_, members) = cut(text, 123);
+    let (_, members) = cut(text, b'{');
     let members = members?;
     clause_member(members)
 }
 
+// Whether this is the text of the reply that memory was refused.
 fn is_memory(text: &[u8]) -> bool
     ensures { result ≡ bytes_eq text.now memory_text }
 {
     text == b"{\"refuse\":\"memory\"}".as_slice()
 }
 
+// Who is known behind a line with this greeting. A command changes nothing of it.
 fn known_by(known: Option<Who>, greeting: Greeting) -> Option<Who>
     ensures { result ≡ known_by known greeting }
 {
@@ -151,6 +158,7 @@ fn told_by(
     }
 }
 
+// The student, if that is one.
 fn student_in(who: Who) -> Option<Student>
     ensures { result ≡ student_in who }
 {
@@ -160,6 +168,7 @@ fn student_in(who: Who) -> Option<Student>
     }
 }
 
+// The student who is known, if one is.
 fn student_of(known: Option<Who>) -> Option<Student>
     ensures { result ≡ student_of known }
 {
