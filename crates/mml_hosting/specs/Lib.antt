@@ -2,4 +2,5 @@ pub mod Seats
 pub mod Ports
 pub mod Counting
 pub mod Bringing
+pub mod Beginnings
 pub mod Hosting
