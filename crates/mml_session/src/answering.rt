@@ -11,7 +11,7 @@ ghost use Rattle.mml_session.specs.Asking.{AsksToSee};
 
 use crate::setting::Setting;
 use mml_codec::{
-    Greeting, LineScratch, Refused, Reply, Request, greet, read_request_with, reply_of_done,
+    Greeting, LineScratch, Refused, Reply, Request, greet, put_in, read_request_with, reply_of_done,
 };
 use mml_journal::Sink;
 use mml_lab::Who;
@@ -197,12 +197,4 @@ fn ask<Rt: Wait, S: Sink + Drop, H: House>(
         Answer::Denied(denial) => put_in(reply, Reply::Deny(denial)),
         Answer::Refused(refusal) => put_in(reply, Reply::Refuse(Refused::from(refusal))),
     }
-}
-
-// Puts a reply in the place of another.
-#[inline(always)]
-fn put_in(place: &mut Reply, reply: Reply)
-    ensures { place.new ≡ reply }
-{
-    *place = reply;
 }
