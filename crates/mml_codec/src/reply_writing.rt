@@ -223,6 +223,7 @@ fn put_look(ids: &IdTable, look: &Look, out: &mut Vec<u8>) -> Result<(), Memory>
     put_look_parts(ids, look, out)
 }
 
+// Puts the text of a look by its head, its list and its tail; `put_look` says that it is the text of its fields.
 #[tactic(auto, unfolding(crate::specs::inside::Puts::look_parts))]
 fn put_look_parts(ids: &IdTable, look: &Look, out: &mut Vec<u8>) -> Result<(), Memory>
     requires { IsLookedAt ids.now look.now }

@@ -91,7 +91,7 @@ impl Lab {
     }
 
     /// A node's registers at the beginning.
-    pub fn registers(&self, node: Rank) -> Regs
+    pub fn regs(&self, node: Rank) -> Regs
         requires { node < length self.now.ids }
         ensures { result ≡ registers_at self.now.network.registers node }
     {

@@ -29,7 +29,7 @@ pub fn look_of(alloc: Global, board: &Board, node: Rank) -> Result<Look, Memory>
     Ok(Look {
         at: board.number(),
         node,
-        regs: board.registers(node),
+        regs: board.regs(node),
         chosen: board.chosen(node).map(|rule| kind_of(rule)),
         enabled: board.enabled(node),
         near: Items::of(near(alloc, board, node)?),
@@ -45,7 +45,7 @@ fn near(alloc: Global, board: &Board, node: Rank) -> Result<Vec<(Rank, Regs)>, M
     let mut left = board.neighbours(node);
     let mut near = Vec::with_capacity(alloc, left.len() as usize)?;
     while let Some(other) = left.take_least() {
-        near.push_reserved((other, board.registers(other)));
+        near.push_reserved((other, board.regs(other)));
     }
     Ok(near)
 }

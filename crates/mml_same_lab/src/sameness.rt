@@ -75,7 +75,7 @@ fn is_same_node(a: &Lab, b: &Lab, node: Rank) -> bool
     requires students { length a.now.roster.students ≡ length b.now.roster.students }
     ensures { IsTrue result ↔ IsSameNode a.now b.now node }
 {
-    if a.registers(node) != b.registers(node) {
+    if a.regs(node) != b.regs(node) {
         return false;
     }
     has_same_links(a, b, node) && has_same_owners(a.roster(), b.roster(), node)

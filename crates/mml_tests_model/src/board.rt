@@ -34,7 +34,7 @@ fn grant(index: u64, rule: Rule) -> Option<Event> {
 fn push_node(text: &mut String, board: &Board, node: Rank) -> Result<(), AllocError>
     requires { node < length board.now.network.registers }
 {
-    let regs = board.registers(node);
+    let regs = board.regs(node);
     let p = regs.p.map(Rank::index);
     let kind = board.enabled(node);
     write!(text, "; {p:?} {} {kind:?}", regs.m)

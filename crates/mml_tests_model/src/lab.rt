@@ -13,7 +13,7 @@ use std::test::Fail;
 fn mark(lab: &Lab, node: Rank, other: Rank) -> &'static str
     requires { node < length lab.now.ids }
 {
-    let points = lab.registers(node).p == Some(other);
+    let points = lab.regs(node).p == Some(other);
     match (lab.linked(node, other), points) {
         (true, true) => ">",
         (true, false) => "-",
@@ -49,7 +49,7 @@ fn push_node(text: &mut String, lab: &Lab, node: Rank) -> Result<(), AllocError>
     requires { node < length lab.now.ids }
 {
     let id = lab.ids().id_of(node);
-    let m = lab.registers(node).m;
+    let m = lab.regs(node).m;
     write!(text, "\n{id} {m} ")?;
     push_owners(text, lab, node)?;
     text.push_str(" ")?;

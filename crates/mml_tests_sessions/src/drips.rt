@@ -73,7 +73,7 @@ fn drips<R: Wait>(rt: &R, alloc: Global, puts: usize) -> Result<bool, Fail> {
     Ok(plays == Some(true) && ending_of(&end) == ending_at(last) && has_dripped(&end, wanted))
 }
 
-/// The first number of bytes after which something else is left.
+/// The first number of bytes that a sink takes where the house doesn't end with just these, if there is one.
 fn first_byte_told_otherwise<R: Wait>(rt: &R, alloc: Global) -> Result<Option<usize>, Fail> {
     for puts in 0..=TEN_LINES.len() {
         if !drips(rt, alloc, puts)? {

@@ -30,5 +30,6 @@ look_tail ids l = codes "],\"node\":" ∷ node_text ids l.node ∷ codes ",\"ok\
 unfoldable pub joined_text : List (List ℕ) → List ℕ
 joined_text texts = concat texts
 
+-- the text of a look, as it is put: its head, the nodes that are linked, its tail
 unfoldable pub look_parts : List ℕ → Look → List ℕ
 look_parts ids l = concat (joined_text (look_head l) ∷ separated (map (near_text ids) l.near) ∷ joined_text (look_tail ids l) ∷ [])

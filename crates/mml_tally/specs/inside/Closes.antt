@@ -4,14 +4,14 @@ use Rattle.mml_tally.specs.declared.fate.Fate.{Fate}
 use Rattle.mml_tally.specs.declared.fate.Fate.TheVariants as fate
 use Rattle.mml_tally.specs.declared.granted_move.Move.{Move}
 
--- the place of the close that applied a move; where none did, of the one before
+-- the place of the close that applied a move; where none did, of `last`
 abbrev pub close_of : ℕ → Fate → ℕ
 close_of last (fate.Applied p) = p
 close_of last fate.Released = last
 close_of last fate.Dropped = last
 close_of last fate.Chosen = last
 
--- how often it is another than the one before
+-- how many of the moves were applied by another close than the last one so far, which at first is that at place `last`
 abbrev pub count_new : ℕ → List Move → ℕ
 count_new last [] = 0
 count_new last (m ∷ ms) = (if close_of last m.fate == last then 0 else 1) + count_new (close_of last m.fate) ms

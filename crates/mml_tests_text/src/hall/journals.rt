@@ -64,7 +64,7 @@ fn drips(alloc: Global, script: &str, puts: usize) -> Result<bool, Fail> {
     Ok(has_dripped(&hall, puts) && is_audited(alloc, &hall))
 }
 
-/// The first number of bytes after which something else is left.
+/// The first number of bytes that a sink takes where the hall isn't left with just these, if there is one.
 fn first_byte_told_otherwise(alloc: Global) -> Result<Option<usize>, Fail> {
     let script = format!(in alloc; "{GREETINGS}{TEN_ACTS}")?;
     for puts in 0..=TEN_LINES.len() {

@@ -50,8 +50,8 @@ fn readers_are_read_up_to_a_limit(rt: HostRuntime) -> Result<(), Fail> {
     Ok(())
 }
 
-/// Whether of these bytes so many writes of so many bytes go out and no flush, and the call tells how
-/// many bytes these are.
+/// Whether `put_all`, over a writer that takes so many bytes a write and refuses so after so many writes, puts
+/// just that front of the bytes and no flush, and its error, where some are left, tells how many went out.
 fn puts(alloc: Global, bytes: &[u8], step: usize, good: usize, refusal: Refusal) -> bool {
     let mut writer = FakeWriter::failing_after(good, alloc);
     writer.step = step;

@@ -21,7 +21,7 @@ loop-other-preserved c =
     record {
       within = λ j h. c.loop-other.invariant.within j (in_remove left other j (ap (λ s. sets.contains s j) (sym taken.rest) ∙ h));
       so_far = one_put (shown w) (size w) left _ other c.loop-other.near.items _ (near w c.args.node) taken.member taken.least below taken.rest
-          (c.push_reserved.ensures.items ∙ ap (λ (r : Regs). c.loop-other.near.items ++ (other, r) ∷ []) c.registers.ensures) c.loop-other.invariant.so_far;
+          (c.push_reserved.ensures.items ∙ ap (λ (r : Regs). c.loop-other.near.items ++ (other, r) ∷ []) c.regs.ensures) c.loop-other.invariant.so_far;
       room = search rules;
     }
 
