@@ -19,8 +19,6 @@ use Rattle.mml_rules.specs.declared.regs.Regs.{Regs}
 use Rattle.mml_rules.specs.declared.rule.Kind.{Kind}
 use Rattle.mml_rules.specs.declared.rule.Kind.TheVariants as kind
 use Rattle.mml_lab.specs.declared.who.Who.{Who}
-use Rattle.mml_board.specs.declared.done.Done.{Done}
-use Rattle.mml_board.specs.declared.done.Done.TheVariants as done
 use Rattle.mml_lab.specs.Rosters.{RosterValue, IsRoster, IsPrincipal, name_of}
 use Rattle.mml_lab.proofs.FormLemmas.{name-means}
 use Rattle.mml_policy.specs.About.{IsNear}
@@ -38,7 +36,7 @@ use Rattle.mml_codec.specs.Objects.{members_with}
 use Rattle.mml_codec.specs.Facts as fact
 use Rattle.mml_codec.specs.Facts.{Fact, Fields, members, object_text, node_value, pointer_value, kind_value, kind_or_null_value, near_keys, near_value}
 use Rattle.mml_codec.specs.Facts.{pair_value, privileged_value, open_link_value, fact_value, keys_of, FitsCount, HaveFittingCounts}
-use Rattle.mml_codec.specs.Replies.{done_fields, current_number, number_first, told_fields, refusal_name, fields_of, text, IsAbout}
+use Rattle.mml_codec.specs.Replies.{current_number, number_first, told_fields, refusal_name, fields_of, text, IsAbout}
 use Rattle.mml_codec.specs.ReplyValues.{reply_value, AreWritableCounts, has_rising_keys, members_rise, comes_first}
 use Rattle.mml_codec.proofs.OneLineLemmas.{compact_text_line}
 use Rattle.mml_codec.proofs.ReplyTextLemmas.{name_bare, IsPlainFact, ArePlain, fields_are}
@@ -190,13 +188,8 @@ deny_keys : (ids : List ℕ) (o : Option ℕ) (c : ℕ) (name said : List ℕ) �
 deny_keys ids None c name said = record { keyed = record { rising = refl; ascii = refl }; plain = refl; order = refl }
 deny_keys ids (Some at) c name said = record { keyed = record { rising = refl; ascii = refl }; plain = refl; order = refl }
 
-done_keys : (ids : List ℕ) (at place : ℕ) (d : Done) → HasKeys ids (done_fields at place d)
-done_keys ids at place (done.Move node kind) = record { keyed = record { rising = refl; ascii = refl }; plain = refl; order = refl }
-done_keys ids at place _ = record { keyed = record { rising = refl; ascii = refl }; plain = refl; order = refl }
-
 has_keys : (ids : List ℕ) (r : RosterValue) (q : Reply) → HasKeys ids (fields_of r q)
 has_keys ids r (replies.Deny d) = deny_keys ids (current_number d) (clause_of d) (denials.denial_name d) (text_of d)
-has_keys ids r (replies.Granted at place d) = done_keys ids at place d
 has_keys ids r _ = record { keyed = record { rising = refl; ascii = refl }; plain = refl; order = refl }
 
 -- the clause, the name and the text of a denial

@@ -1,13 +1,18 @@
 -- The reply to a grant names its place, and is short.
 use Rattle.std.proofs.Common.{◌≡◌, ℕ, true, Some, refl}
 use Rattle.mml_board.specs.declared.done.Done.{Done}
+use Rattle.mml_board.specs.declared.done.Done.TheVariants as done
 use Rattle.mml_codec.specs.Replies.{place_in, is_short}
 use Rattle.mml_codec.specs.Rulings.{reply_of_done}
 
+told_done : (at place : ℕ) (d : Done) → (place_in (reply_of_done at place d) ≡ Some place) × (is_short (reply_of_done at place d) ≡ true)
+told_done at place (done.Move node kind) = (refl, refl)
+told_done at place _ = (refl, refl)
+
 -- the reply that tells an event names the event's place
 pub place_of_done : (at place : ℕ) (d : Done) → place_in (reply_of_done at place d) ≡ Some place
-place_of_done at place d = refl
+place_of_done at place d = (told_done at place d).0
 
 -- the reply that tells an event is short
 pub short_done : (at place : ℕ) (d : Done) → is_short (reply_of_done at place d) ≡ true
-short_done at place d = refl
+short_done at place d = (told_done at place d).1

@@ -1,5 +1,5 @@
 -- The replies: what each tells by which key, of which its text and its value are made.
-use Rattle.std.specs.Prelude.{◌≡◌, ◌⊎◌, ℕ, List, [], ◌∷◌, ◌++◌, length, Bool, true, false, Option, None, Some, codes}
+use Rattle.std.specs.Prelude.{◌≡◌, ◌⊎◌, ℕ, ◌<◌, List, [], ◌∷◌, ◌++◌, length, Bool, true, false, Option, None, Some, codes}
 use Rattle.mml_board.specs.declared.done.Done.{Done}
 use Rattle.mml_board.specs.declared.done.Done.TheVariants as done
 use Rattle.mml_board.specs.Vocabulary as verb
@@ -8,7 +8,7 @@ use Rattle.mml_policy.specs.declared.denial.Denial.{Denial}
 use Rattle.mml_policy.specs.declared.denial.Denial.TheVariants as denial
 use Rattle.mml_policy.specs.declared.look.Look.{Look}
 use Rattle.mml_policy.specs.declared.see.See.{See}
-use Rattle.mml_policy.specs.About.{IsSeen, IsLookedAt, IsDone}
+use Rattle.mml_policy.specs.About.{IsSeen, IsLookedAt}
 use Rattle.mml_policy.specs.Denials.{clause_of, text_of}
 use Rattle.mml_policy.specs.Denials as denials
 use Rattle.mml_stable.specs.declared.stability_report.Report.{Report}
@@ -95,7 +95,12 @@ fields_of roster (replies.Hello who) = hello_fields (name_of roster who)
 fields_of roster replies.Bye = bye_fields
 fields_of roster (replies.See s) = see_fields s
 fields_of roster (replies.Look l) = look_fields l
-fields_of roster (replies.Granted at place d) = done_fields at place d
+fields_of roster (replies.Move at place node kind) = done_fields at place (done.Move node kind)
+fields_of roster (replies.Close at place moved) = done_fields at place (done.Close moved)
+fields_of roster (replies.Fault at place node dropped) = done_fields at place (done.Fault node dropped)
+fields_of roster (replies.Link at place a b dropped) = done_fields at place (done.Link a b dropped)
+fields_of roster (replies.Cut at place a b dropped) = done_fields at place (done.Cut a b dropped)
+fields_of roster (replies.Release at place node) = done_fields at place (done.Release node)
 fields_of roster (replies.Report r) = report_fields r
 fields_of roster (replies.Deny d) = deny_fields d
 fields_of roster (replies.Refuse r) = refuse_fields r
@@ -127,7 +132,12 @@ as_list (Some n) = n ∷ []
 
 -- the place that a reply names, if it names one: that of a grant's event
 abbrev pub place_in : Reply → Option ℕ
-place_in (replies.Granted at place d) = Some place
+place_in (replies.Move at place node k) = Some place
+place_in (replies.Close at place moved) = Some place
+place_in (replies.Fault at place node dropped) = Some place
+place_in (replies.Link at place a b dropped) = Some place
+place_in (replies.Cut at place a b dropped) = Some place
+place_in (replies.Release at place node) = Some place
 place_in _ = None
 
 -- the reply is about nodes and principals of the lab
@@ -135,6 +145,10 @@ abbrev pub IsAbout : List ℕ → RosterValue → Reply → Type 0
 IsAbout ids roster (replies.Hello who) = IsPrincipal roster who
 IsAbout ids roster (replies.See s) = IsSeen ids s
 IsAbout ids roster (replies.Look l) = IsLookedAt ids l
-IsAbout ids roster (replies.Granted at place d) = IsDone ids d
+IsAbout ids roster (replies.Move at place node k) = node < length ids
+IsAbout ids roster (replies.Fault at place node dropped) = node < length ids
+IsAbout ids roster (replies.Link at place a b dropped) = (a < length ids) × (b < length ids)
+IsAbout ids roster (replies.Cut at place a b dropped) = (a < length ids) × (b < length ids)
+IsAbout ids roster (replies.Release at place node) = node < length ids
 IsAbout ids roster (replies.Report r) = NamesNodes (length ids) r
 IsAbout ids roster _ = Unit {0}

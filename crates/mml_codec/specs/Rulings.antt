@@ -1,6 +1,7 @@
 -- The reply to a command that was judged.
 use Rattle.std.specs.Prelude.{ℕ}
 use Rattle.mml_board.specs.declared.done.Done.{Done}
+use Rattle.mml_board.specs.declared.done.Done.TheVariants as done
 use Rattle.mml_board.specs.World.{World}
 use Rattle.mml_stable.specs.Reports.{report_of}
 use Rattle.mml_policy.specs.declared.refusal.Refusal.{Refusal}
@@ -14,7 +15,12 @@ use Rattle.mml_codec.specs.declared.reply.Reply.TheVariants as replies
 
 -- an event that took place, with the number and the place after it
 abbrev pub reply_of_done : ℕ → ℕ → Done → Reply
-reply_of_done at place d = replies.Granted at place d
+reply_of_done at place (done.Move node kind) = replies.Move at place node kind
+reply_of_done at place (done.Close moved) = replies.Close at place moved
+reply_of_done at place (done.Fault node dropped) = replies.Fault at place node dropped
+reply_of_done at place (done.Link a b dropped) = replies.Link at place a b dropped
+reply_of_done at place (done.Cut a b dropped) = replies.Cut at place a b dropped
+reply_of_done at place (done.Release node) = replies.Release at place node
 
 -- how it is told that an act which all clauses allow doesn't take place, or that what was ruled can't be told
 abbrev pub refusal_for : Refusal → Refused

@@ -26,7 +26,6 @@ ghost use Rattle.mml_codec.specs.declared.TheConstants.{MAX_REQUEST};
 ghost use Rattle.mml_codec.specs.declared.reply.TheConstants.{REPLY_ROOM};
 ghost use Rattle.mml_codec.specs.Rulings.{reply_of_done};
 ghost use Rattle.mml_board.specs.declared.event.Event.TheVariants as event;
-ghost use Rattle.mml_board.specs.declared.done.Done.TheVariants as done;
 ghost use Rattle.mml_board.specs.World.{World};
 ghost use Rattle.mml_board.specs.Events.{done_by, chosen_count, chosen_nodes};
 ghost use Rattle.mml_rules.specs.declared.regs.Regs.{Regs};
@@ -108,19 +107,19 @@ pub fn limits()
 pub fn a_grant_is_told()
     ensures chosen { (at place : ℕ) (w : World) (s i : ℕ) (rule : Rule) →
         reply_of_done at place (done_by w (event.Grant s i rule))
-        ≡ replies.Granted at place (done.Move i (kind_of rule)) }
+        ≡ replies.Move at place i (kind_of rule) }
     ensures fault { (at place : ℕ) (w : World) (i : ℕ) (registers : Regs) →
         reply_of_done at place (done_by w (event.Fault i registers))
-        ≡ replies.Granted at place (done.Fault i (chosen_count w)) }
+        ≡ replies.Fault at place i (chosen_count w) }
     ensures link { (at place : ℕ) (w : World) (a b : ℕ) →
         reply_of_done at place (done_by w (event.Link a b))
-        ≡ replies.Granted at place (done.Link a b (chosen_count w)) }
+        ≡ replies.Link at place a b (chosen_count w) }
     ensures cut { (at place : ℕ) (w : World) (a b : ℕ) →
         reply_of_done at place (done_by w (event.Cut a b))
-        ≡ replies.Granted at place (done.Cut a b (chosen_count w)) }
+        ≡ replies.Cut at place a b (chosen_count w) }
     ensures release { (at place : ℕ) (w : World) (i : ℕ) →
-        reply_of_done at place (done_by w (event.Release i)) ≡ replies.Granted at place (done.Release i) }
+        reply_of_done at place (done_by w (event.Release i)) ≡ replies.Release at place i }
     ensures close { (at place : ℕ) (w : World) →
         reply_of_done at place (done_by w event.Close)
-        ≡ replies.Granted at place (done.Close (chosen_nodes w)) }
+        ≡ replies.Close at place (chosen_nodes w) }
 {}

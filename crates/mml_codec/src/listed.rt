@@ -1,11 +1,12 @@
 //! Lists of what a reply tells of nodes.
-ghost use Rattle.std.specs.Prelude.{◌+◌, ◌≡◌, ◌≤◌, ◌<◌, ◌++◌, ℕ, List, All, length, map, OnOk, IfOk, MatchResult, vec_capacity};
+ghost use Rattle.std.specs.Prelude.{codes, ◌+◌, ◌≡◌, ◌≤◌, ◌<◌, ◌++◌, ℕ, List, All, length, map, OnOk, IfOk, MatchResult, vec_capacity};
 ghost use Rattle.mml_policy.specs.About.{IsNear};
 ghost use Rattle.mml_stable.specs.Reports.{IsPairOf, IsOpenLinkOf};
+ghost use Rattle.mml_ids.specs.Pieces.{truth_text};
 ghost use Rattle.serde_json.specs.Written.{comma_if};
 ghost use Rattle.mml_codec.specs.Facts.{node_text, near_text, pair_text, privileged_text, open_link_text, separated};
 
-use crate::reply_writing::{with_either, with_node, with_pointer, with_rule};
+use crate::reply_writing::{with_kind, with_node, with_pointer_at_end};
 use mml_ids::{IdTable, Memory, Rank, make_room, taken, with_text};
 use mml_rules::{Kind, Regs};
 use mml_stable::OpenLink;
@@ -118,16 +119,26 @@ impl Listed for (Rank, Regs) {
     #[tactic(auto, unfolding(crate::specs::Facts::near_text))]
     fn with_item(&self, line: Vec<u8>, ids: &IdTable) -> Vec<u8> {
         let (node, regs) = self;
-        let line = with_either(
-            line,
-            regs.m,
-            "{\"m\":true,\"node\":",
-            "{\"m\":false,\"node\":",
-        );
+        let line = with_first_m_then_node(line, regs.m);
         let line = with_node(line, ids, *node);
         let line = with_text(line, ",\"p\":");
-        let line = with_pointer(line, ids, regs.p);
-        with_text(line, "}")
+        with_pointer_at_end(line, ids, regs.p)
+    }
+}
+
+// A truth value from the beginning of its object to the next key's value, as one literal.
+#[inline(always)]
+fn with_first_m_then_node(line: Vec<u8>, m: bool) -> Vec<u8>
+    requires { length line.items + 18 ≤ vec_capacity line }
+    ensures text { result.items ≡ line.items
+        ++ (codes "{\"m\":" ++ (truth_text m ++ codes ",\"node\":")) }
+    ensures capacity { vec_capacity result ≡ vec_capacity line }
+    ensures grows { length result.items ≤ length line.items + 18 }
+{
+    if m {
+        with_text(line, "{\"m\":true,\"node\":")
+    } else {
+        with_text(line, "{\"m\":false,\"node\":")
     }
 }
 
@@ -162,7 +173,7 @@ impl Listed for (Rank, Kind) {
         let line = with_text(line, "[");
         let line = with_node(line, ids, *node);
         let line = with_text(line, ",");
-        let line = with_rule(line, Some(*kind));
+        let line = with_kind(line, *kind);
         with_text(line, "]")
     }
 }
@@ -182,7 +193,7 @@ impl Listed for OpenLink {
         let line = with_text(line, ",");
         let line = with_node(line, ids, self.node);
         let line = with_text(line, ",");
-        let line = with_rule(line, Some(self.kind));
+        let line = with_kind(line, self.kind);
         with_text(line, "]")
     }
 }

@@ -1,8 +1,9 @@
 ghost use Rattle.std.specs.Prelude.{◌≡◌};
 
-use mml_board::Done;
+use mml_ids::{NodeSet, Rank};
 use mml_lab::Who;
 use mml_policy::{Denial, Look, Refusal, See};
+use mml_rules::Kind;
 use mml_stable::Report;
 
 /// The capacity, in bytes, with which a reply line is written without taking memory.
@@ -58,8 +59,49 @@ pub enum Reply {
     See(See),
     /// What a node shows to its owners and the teacher.
     Look(Look),
-    /// An event took place: what it did, with the number of the configuration after it, and its place.
-    Granted { at: u64, place: u64, done: Done },
+    /// A move is chosen for the node. In each reply to a grant the number is that of the configuration
+    /// after the event, and the place is the event's.
+    Move {
+        at: u64,
+        place: u64,
+        node: Rank,
+        kind: Kind,
+    },
+    /// The chosen moves of these nodes were applied.
+    Close {
+        at: u64,
+        place: u64,
+        moved: NodeSet,
+    },
+    /// The registers of the node are set; so many chosen moves were dropped.
+    Fault {
+        at: u64,
+        place: u64,
+        node: Rank,
+        dropped: u16,
+    },
+    /// The two nodes are linked; so many chosen moves were dropped.
+    Link {
+        at: u64,
+        place: u64,
+        a: Rank,
+        b: Rank,
+        dropped: u16,
+    },
+    /// The two nodes are linked no longer; so many chosen moves were dropped.
+    Cut {
+        at: u64,
+        place: u64,
+        a: Rank,
+        b: Rank,
+        dropped: u16,
+    },
+    /// The node has no chosen move any longer.
+    Release {
+        at: u64,
+        place: u64,
+        node: Rank,
+    },
     /// What is told of all nodes.
     Report(Report),
     /// A clause of the request doesn't hold.

@@ -1,19 +1,24 @@
-ghost use Rattle.std.specs.Prelude.{codes, decimal, ◌≡◌, ◌≤◌, ◌<◌, ◌+◌, ◌^◌, ◌++◌, [], true, length, map, OnOk, OnErr, IsOk, IfSome, vec_capacity, if◌then◌else◌};
-ghost use Rattle.mml_ids.specs.Pieces.{Puts, Adds};
-ghost use Rattle.mml_lab.specs.Rosters.{RosterValue};
-ghost use Rattle.mml_codec.specs.Facts.{pointer_text, kind_or_null, node_text, members, separated, object_text, HaveFittingCounts};
-ghost use Rattle.mml_codec.specs.Replies.{done_fields, see_fields, look_fields, current_number, fields_of};
-ghost use Rattle.mml_codec.specs.Replies.{refusal_name, text, reply_line, is_short, IsAbout, TellsFor};
+ghost use Rattle.std.specs.Prelude.{codes, decimal, ◌≡◌, ◌≤◌, ◌<◌, ◌+◌, ◌^◌, ◌++◌, ◌∷◌, [], true, length, map, OnOk, OnErr, IsOk, IfSome, vec_capacity, if◌then◌else◌};
+ghost use Rattle.mml_ids.specs.Pieces.{piece_text, piece_room, Puts, Adds};
+ghost use Rattle.mml_ids.specs.declared.piece.Piece.TheVariants.{Number};
+ghost use Rattle.mml_lab.specs.Rosters.{name_of, IsPrincipal};
+ghost use Rattle.mml_board.specs.declared.done.Done.TheVariants as done;
+ghost use Rattle.mml_ids.specs.Pieces.{truth_text};
+ghost use Rattle.mml_codec.specs.Facts.{pointer_text, kind_text, kind_or_null, node_text, members, separated, object_text, HaveFittingCounts};
+ghost use Rattle.mml_codec.specs.Replies.{done_fields, ends_fields, hello_fields, bye_fields, see_fields, look_fields, current_number, deny_fields};
+ghost use Rattle.mml_codec.specs.Replies.{refuse_fields, refusal_name, text, reply_line, is_short, IsAbout, TellsFor};
 ghost use Rattle.mml_codec.specs.ReplyValues.{AreWritableCounts};
-ghost use Rattle.mml_policy.specs.About.{IsSeen, IsLookedAt, IsDone};
+ghost use Rattle.mml_policy.specs.About.{IsSeen, IsLookedAt};
 ghost use Rattle.mml_codec.specs.inside.Puts.{number_front, deny_parts, look_head, look_tail, look_parts, joined_text};
 
 use crate::listed::{put_list, with_comma};
 use crate::reply::{REPLY_ROOM, Refused, Reply};
 use crate::report_writing::put_report;
-use mml_board::Done;
-use mml_ids::{IdTable, Memory, NodeSet, Rank, make_room, taken, with_id, with_number, with_text};
-use mml_lab::Roster;
+use mml_ids::{
+    IdTable, Memory, NodeSet, Piece, Rank, make_room, put, taken, truth_text, with_id, with_number,
+    with_text,
+};
+use mml_lab::{Roster, Who};
 use mml_policy::{Denial, Look, See};
 use mml_rules::Kind;
 use std::alloc::Global;
@@ -23,6 +28,24 @@ const TEXT_ROOM: usize = 2000;
 
 // Enough for what a look says before the nodes that are linked, or after them.
 const LOOK_ROOM: usize = 128;
+
+// When an event took place: the number after it, and its place.
+#[derive(Clone, Copy)]
+struct Moment {
+    at: u64,
+    place: u64,
+}
+
+fn moment_of(at: &u64, place: &u64) -> Moment
+    ensures moment { result ≡ record { at = at.now; place = place.now } }
+    ensures at { at.now < 2 ^ 64 }
+    ensures place { place.now < 2 ^ 64 }
+{
+    Moment {
+        at: *at,
+        place: *place,
+    }
+}
 
 /// Puts the line of a reply, with its newline, in the place of what the vector holds. The vector
 /// grows by its own allocator.
@@ -82,12 +105,18 @@ pub fn append_reply(ids: &IdTable, roster: &Roster, reply: &Reply, out: &mut Vec
     ensures grows { length out.new.items ≤ length out.old.items + REPLY_ROOM }
     ensures capacity { vec_capacity out.new ≡ vec_capacity out.old }
 {
-    let is_short = !matches!(reply, Reply::Look(_) | Reply::Report(_));
-    if !is_short || out.capacity() - out.len() < REPLY_ROOM {
+    if !is_short(reply) || out.capacity() - out.len() < REPLY_ROOM {
         return false;
     }
     put_line(ids, roster, reply, out).unwrap();
     true
+}
+
+// Whether a reply's line needs no more than a fixed room.
+fn is_short(reply: &Reply) -> bool
+    ensures { result ≡ is_short reply.now }
+{
+    !matches!(reply, Reply::Look(_) | Reply::Report(_))
 }
 
 // Puts the line that tells out of memory, for which there is room.
@@ -102,8 +131,6 @@ fn tell_want_of_memory(alloc: Global, ids: &IdTable, roster: &Roster, out: &mut 
     told
 }
 
-// Puts the line of a reply behind what the vector holds, a short one's in the room that is enough for any
-// such.
 fn put_line(ids: &IdTable, roster: &Roster, reply: &Reply, out: &mut Vec<u8>) -> Result<(), Memory>
     requires { IsAbout ids.now roster.now reply.now }
     ensures line { OnOk result
@@ -118,80 +145,107 @@ fn put_line(ids: &IdTable, roster: &Roster, reply: &Reply, out: &mut Vec<u8>) ->
         vec_capacity out.new ≡ vec_capacity out.old }
     ensures counts { AreWritableCounts roster.now reply.now }
 {
-    know_counts(reply);
-    match reply {
-        Reply::Look(look) => put_look(ids, look, out)?,
-        Reply::Report(report) => put_report(ids, report, out)?,
-        _ => {
-            make_room(out, TEXT_ROOM)?;
-            *out = with_short(taken(out), ids, roster, reply);
-        }
+    put_text(ids, roster, reply, out)?;
+    put_end(out)
+}
+
+// Puts the newline of a line.
+fn put_end(out: &mut Vec<u8>) -> Result<(), Memory>
+    ensures { Puts (10 ∷ []) 1 out.old out.new result }
+{
+    if out.len() < out.capacity() {
+        out.push_reserved(b'\n');
+        return Ok(());
     }
-    make_room(out, 1)?;
-    out.push_reserved(b'\n');
+    put(out, &[Piece::Text("\n")])
+}
+
+fn put_text(ids: &IdTable, roster: &Roster, reply: &Reply, out: &mut Vec<u8>) -> Result<(), Memory>
+    requires { IsAbout ids.now roster.now reply.now }
+    ensures text { OnOk result
+        (out.new.items ≡ out.old.items ++ text ids.now roster.now reply.now) }
+    ensures capacity { vec_capacity out.old ≤ vec_capacity out.new }
+    ensures grows { is_short reply.now ≡ true →
+        OnOk result (length out.new.items ≤ length out.old.items + TEXT_ROOM) }
+    ensures room { is_short reply.now ≡ true →
+        OnErr result (vec_capacity out.old < length out.old.items + TEXT_ROOM) }
+    ensures kept { is_short reply.now ≡ true →
+        length out.old.items + TEXT_ROOM ≤ vec_capacity out.old →
+        vec_capacity out.new ≡ vec_capacity out.old }
+    ensures counts { AreWritableCounts roster.now reply.now }
+{
+    match reply {
+        Reply::Hello(who) => put_hello(ids, roster, *who, out),
+        Reply::Bye => put_bye(ids, out),
+        Reply::See(see) => put_see(ids, see, out),
+        Reply::Look(look) => put_look(ids, look, out),
+        Reply::Move {
+            at,
+            place,
+            node,
+            kind,
+        } => put_move(ids, moment_of(at, place), *node, *kind, out),
+        Reply::Close { at, place, moved } => put_close(ids, moment_of(at, place), *moved, out),
+        Reply::Fault {
+            at,
+            place,
+            node,
+            dropped,
+        } => put_fault(ids, moment_of(at, place), *node, *dropped, out),
+        Reply::Link {
+            at,
+            place,
+            a,
+            b,
+            dropped,
+        } => put_link(ids, moment_of(at, place), (*a, *b), *dropped, out),
+        Reply::Cut {
+            at,
+            place,
+            a,
+            b,
+            dropped,
+        } => put_cut(ids, moment_of(at, place), (*a, *b), *dropped, out),
+        Reply::Release { at, place, node } => put_release(ids, moment_of(at, place), *node, out),
+        Reply::Report(report) => put_report(ids, report, out),
+        Reply::Deny(denial) => put_denial(ids, *denial, out),
+        Reply::Refuse(refused) => put_refusal(ids, *refused, out),
+    }
+}
+
+fn put_hello(ids: &IdTable, roster: &Roster, who: Who, out: &mut Vec<u8>) -> Result<(), Memory>
+    requires { IsPrincipal roster.now who }
+    ensures { Puts (object_text ids.now
+        (hello_fields (name_of roster.now who))) TEXT_ROOM out.old out.new result }
+{
+    make_room(out, TEXT_ROOM)?;
+    *out = with_hello(taken(out), ids, roster, who);
     Ok(())
 }
 
-// What the types of a reply's numbers say of them: nothing is done.
-#[inline(always)]
-fn know_counts(reply: &Reply)
-    ensures { (roster : RosterValue) → AreWritableCounts roster reply.now }
-{
-    match reply {
-        Reply::See(see) => know_count(see.at),
-        Reply::Look(look) => know_count(look.at),
-        Reply::Report(report) => know_count(report.at),
-        Reply::Granted { at, place, done } => know_counts_of(*at, *place, done),
-        Reply::Deny(Denial::Stale(at)) => know_count(*at),
-        _ => (),
-    }
-}
-
-// As `know_counts`, of the reply to a grant.
-#[inline(always)]
-fn know_counts_of(at: u64, place: u64, done: &Done)
-    ensures { HaveFittingCounts (done_fields at place done.now) }
-{
-    match *done {
-        Done::Fault { dropped, .. } | Done::Link { dropped, .. } | Done::Cut { dropped, .. } => {
-            know_count(u64::from(dropped));
-        }
-        _ => (),
-    }
-}
-
-#[inline(always)]
-fn know_count(count: u64)
-    ensures { count < 2 ^ 64 }
-{}
-
-// The text of a short reply by literals: by pieces a hello and its bye took 294 instructions more.
+// By pieces a hello and its bye took 294 instructions more.
 #[inline(always)]
 #[tactic(auto, unfolding(crate::specs::Facts::object_text))]
-fn with_short(text: Vec<u8>, ids: &IdTable, roster: &Roster, reply: &Reply) -> Vec<u8>
-    requires about { IsAbout ids.now roster.now reply.now }
-    requires short { is_short reply.now ≡ true }
+fn with_hello(text: Vec<u8>, ids: &IdTable, roster: &Roster, who: Who) -> Vec<u8>
+    requires about { IsPrincipal roster.now who }
     requires room { length text.items + TEXT_ROOM ≤ vec_capacity text }
-    ensures { Adds (object_text ids.now (fields_of roster.now reply.now)) TEXT_ROOM text result }
+    ensures adds { Adds (object_text ids.now
+        (hello_fields (name_of roster.now who))) TEXT_ROOM text result }
 {
-    match reply {
-        Reply::Hello(who) => {
-            let text = with_text(text, "{\"ok\":\"hello\",\"who\":\"");
-            let text = with_text(text, roster.name_of(*who));
-            with_text(text, "\"}")
-        }
-        Reply::Bye => with_text(text, "{\"ok\":\"bye\"}"),
-        Reply::See(see) => with_see(text, ids, see),
-        Reply::Granted { at, place, done } => with_done(text, ids, *at, *place, done),
-        Reply::Deny(denial) => with_denial(text, *denial),
-        Reply::Refuse(refused) => {
-            let text = with_text(text, "{\"refuse\":\"");
-            let text = with_text(text, refusal_name(*refused));
-            with_text(text, "\"}")
-        }
-        // Their texts are put in parts.
-        Reply::Look(_) | Reply::Report(_) => text,
-    }
+    let text = with_text(text, "{\"ok\":\"hello\",\"who\":\"");
+    let text = with_text(text, roster.name_of(who));
+    with_text(text, "\"}")
+}
+
+fn put_see(ids: &IdTable, see: &See, out: &mut Vec<u8>) -> Result<(), Memory>
+    requires about { IsSeen ids.now see.now }
+    ensures puts { Puts (object_text ids.now (see_fields see.now)) TEXT_ROOM out.old out.new result }
+    ensures count { see.now.at < 2 ^ 64 }
+{
+    let _at = see.at;
+    make_room(out, TEXT_ROOM)?;
+    *out = with_see(taken(out), ids, see);
+    Ok(())
 }
 
 #[inline(always)]
@@ -199,19 +253,15 @@ fn with_short(text: Vec<u8>, ids: &IdTable, roster: &Roster, reply: &Reply) -> V
 fn with_see(text: Vec<u8>, ids: &IdTable, see: &See) -> Vec<u8>
     requires about { IsSeen ids.now see.now }
     requires room { length text.items + TEXT_ROOM ≤ vec_capacity text }
-    ensures { Adds (object_text ids.now (see_fields see.now)) TEXT_ROOM text result }
+    ensures adds { Adds (object_text ids.now (see_fields see.now)) TEXT_ROOM text result }
+    ensures count { see.now.at < 2 ^ 64 }
 {
-    let text = with_at(text, see.at);
-    let text = with_either(
-        text,
-        see.regs.m,
-        ",\"m\":true,\"node\":",
-        ",\"m\":false,\"node\":",
-    );
+    let text = with_text(text, "{\"at\":");
+    let text = with_count(text, see.at);
+    let text = with_m_then_node(text, see.regs.m);
     let text = with_node(text, ids, see.node);
     let text = with_text(text, ",\"ok\":\"see\",\"p\":");
-    let text = with_pointer(text, ids, see.regs.p);
-    with_text(text, "}")
+    with_pointer_at_end(text, ids, see.regs.p)
 }
 
 fn put_look(ids: &IdTable, look: &Look, out: &mut Vec<u8>) -> Result<(), Memory>
@@ -219,144 +269,138 @@ fn put_look(ids: &IdTable, look: &Look, out: &mut Vec<u8>) -> Result<(), Memory>
     ensures text { OnOk result
         (out.new.items ≡ out.old.items ++ object_text ids.now (look_fields look.now)) }
     ensures capacity { vec_capacity out.old ≤ vec_capacity out.new }
+    ensures count { look.now.at < 2 ^ 64 }
 {
     put_look_parts(ids, look, out)
 }
 
-// Puts the text of a look by its head, its list and its tail; `put_look` says that it is the text of its fields.
 #[tactic(auto, unfolding(crate::specs::inside::Puts::look_parts))]
 fn put_look_parts(ids: &IdTable, look: &Look, out: &mut Vec<u8>) -> Result<(), Memory>
     requires { IsLookedAt ids.now look.now }
     ensures text { OnOk result (out.new.items ≡ out.old.items ++ look_parts ids.now look.now) }
     ensures capacity { vec_capacity out.old ≤ vec_capacity out.new }
+    ensures count { look.now.at < 2 ^ 64 }
 {
     put_look_head(look, out)?;
     put_list(ids, look.near.as_slice(), out)?;
     put_look_tail(ids, look, out)
 }
 
-// What a look says before the nodes that are linked.
-#[tactic(auto, unfolding(crate::specs::inside::Puts::joined_text))]
 fn put_look_head(look: &Look, out: &mut Vec<u8>) -> Result<(), Memory>
-    ensures { Puts (joined_text (look_head look.now)) LOOK_ROOM out.old out.new result }
+    ensures text { OnOk result
+        (out.new.items ≡ out.old.items ++ joined_text (look_head look.now)) }
+    ensures capacity { vec_capacity out.old ≤ vec_capacity out.new }
+    ensures count { look.now.at < 2 ^ 64 }
 {
+    let _at = look.at;
     make_room(out, LOOK_ROOM)?;
-    let text = with_at(taken(out), look.at);
-    let text = with_text(text, ",\"chosen\":");
-    let text = with_rule(text, look.chosen);
-    let text = with_text(text, ",\"m\":");
-    let text = with_either(text, look.regs.m, "true", "false");
-    *out = with_text(text, ",\"near\":[");
+    *out = with_look_head(taken(out), look);
     Ok(())
 }
 
-// What a look says after the nodes that are linked.
+#[inline(always)]
 #[tactic(auto, unfolding(crate::specs::inside::Puts::joined_text))]
+fn with_look_head(text: Vec<u8>, look: &Look) -> Vec<u8>
+    requires { length text.items + LOOK_ROOM ≤ vec_capacity text }
+    ensures text { result.items ≡ text.items ++ joined_text (look_head look.now) }
+    ensures capacity { vec_capacity result ≡ vec_capacity text }
+{
+    let text = with_text(text, "{\"at\":");
+    let text = with_count(text, look.at);
+    let text = with_text(text, ",\"chosen\":");
+    let text = with_kind_or_null(text, look.chosen);
+    let text = with_text(text, ",\"m\":");
+    let text = with_truth(text, look.regs.m);
+    with_text(text, ",\"near\":[")
+}
+
 fn put_look_tail(ids: &IdTable, look: &Look, out: &mut Vec<u8>) -> Result<(), Memory>
     requires { IsLookedAt ids.now look.now }
-    ensures { Puts (joined_text (look_tail ids.now look.now)) LOOK_ROOM out.old out.new result }
+    ensures text { OnOk result
+        (out.new.items ≡ out.old.items ++ joined_text (look_tail ids.now look.now)) }
+    ensures capacity { vec_capacity out.old ≤ vec_capacity out.new }
 {
     make_room(out, LOOK_ROOM)?;
-    let text = with_text(taken(out), "],\"node\":");
+    *out = with_look_tail(taken(out), ids, look);
+    Ok(())
+}
+
+#[inline(always)]
+#[tactic(auto, unfolding(crate::specs::inside::Puts::joined_text))]
+fn with_look_tail(text: Vec<u8>, ids: &IdTable, look: &Look) -> Vec<u8>
+    requires about { IsLookedAt ids.now look.now }
+    requires room { length text.items + LOOK_ROOM ≤ vec_capacity text }
+    ensures text { result.items ≡ text.items ++ joined_text (look_tail ids.now look.now) }
+    ensures capacity { vec_capacity result ≡ vec_capacity text }
+{
+    let text = with_text(text, "],\"node\":");
     let text = with_node(text, ids, look.node);
     let text = with_text(text, ",\"ok\":\"look\",\"p\":");
     let text = with_pointer(text, ids, look.regs.p);
     let text = with_text(text, ",\"rule\":");
-    let text = with_rule(text, look.enabled);
-    *out = with_text(text, "}");
+    let text = with_kind_or_null(text, look.enabled);
+    with_text(text, "}")
+}
+
+fn put_move(
+    ids: &IdTable,
+    moment: Moment,
+    node: Rank,
+    kind: Kind,
+    out: &mut Vec<u8>,
+) -> Result<(), Memory>
+    requires { node < length ids.now }
+    ensures { Puts (object_text ids.now
+        (done_fields moment.at moment.place (done.Move node kind))) TEXT_ROOM out.old out.new result }
+{
+    make_room(out, TEXT_ROOM)?;
+    *out = with_move(taken(out), ids, moment, node, kind);
     Ok(())
 }
 
-// The text of the reply to a grant.
 #[inline(always)]
 #[tactic(auto, unfolding(crate::specs::Facts::object_text))]
-fn with_done(text: Vec<u8>, ids: &IdTable, at: u64, place: u64, done: &Done) -> Vec<u8>
-    requires about { IsDone ids.now done.now }
+fn with_move(text: Vec<u8>, ids: &IdTable, moment: Moment, node: Rank, kind: Kind) -> Vec<u8>
+    requires about { node < length ids.now }
     requires room { length text.items + TEXT_ROOM ≤ vec_capacity text }
-    ensures { Adds (object_text ids.now (done_fields at place done.now)) TEXT_ROOM text result }
+    ensures adds { Adds (object_text ids.now
+        (done_fields moment.at moment.place (done.Move node kind))) TEXT_ROOM text result }
 {
-    match *done {
-        Done::Move { node, kind } => {
-            let text = with_node_key(with_at(text, at), ids, node);
-            let text = with_place(text, ",\"ok\":\"move\",\"place\":", place);
-            let text = with_rule(with_text(text, ",\"rule\":"), Some(kind));
-            with_text(text, "}")
-        }
-        Done::Close { moved } => {
-            let text = with_text(with_at(text, at), ",\"moved\":[");
-            let text = with_members(text, ids, moved);
-            let text = with_place(text, "],\"ok\":\"close\",\"place\":", place);
-            with_text(text, "}")
-        }
-        Done::Fault { node, dropped } => {
-            let text = with_text(with_at(text, at), ",\"dropped\":");
-            let text = with_number(text, u64::from(dropped));
-            let text = with_node_key(text, ids, node);
-            let text = with_place(text, ",\"ok\":\"fault\",\"place\":", place);
-            with_text(text, "}")
-        }
-        Done::Link { a, b, dropped } => {
-            let text = with_ends(text, ids, a, at, b, dropped);
-            let text = with_place(text, ",\"ok\":\"link\",\"place\":", place);
-            with_text(text, "}")
-        }
-        Done::Cut { a, b, dropped } => {
-            let text = with_ends(text, ids, a, at, b, dropped);
-            let text = with_place(text, ",\"ok\":\"cut\",\"place\":", place);
-            with_text(text, "}")
-        }
-        Done::Release { node } => {
-            let text = with_node_key(with_at(text, at), ids, node);
-            let text = with_place(text, ",\"ok\":\"release\",\"place\":", place);
-            with_text(text, "}")
-        }
-    }
+    let text = with_text(text, "{\"at\":");
+    let text = with_number(text, moment.at);
+    let text = with_text(text, ",\"node\":");
+    let text = with_node(text, ids, node);
+    let text = with_text(text, ",\"ok\":\"move\",\"place\":");
+    let text = with_number(text, moment.place);
+    let text = with_text(text, ",\"rule\":");
+    let text = with_kind(text, kind);
+    with_text(text, "}")
 }
 
-// What begins an object that tells a number of a configuration first.
-#[inline(always)]
-pub(crate) fn with_at(text: Vec<u8>, at: u64) -> Vec<u8>
-    requires { length text.items + 26 ≤ vec_capacity text }
-    ensures { Adds (codes "{\"at\":" ++ decimal at) 26 text result }
+fn put_close(ids: &IdTable, moment: Moment, moved: NodeSet, out: &mut Vec<u8>) -> Result<(), Memory>
+    ensures { Puts (object_text ids.now
+        (done_fields moment.at moment.place (done.Close moved)))
+        TEXT_ROOM out.old out.new result }
 {
-    with_number(with_text(text, "{\"at\":"), at)
+    make_room(out, TEXT_ROOM)?;
+    *out = with_close(taken(out), ids, moment, moved);
+    Ok(())
 }
 
-// A node, behind its key.
 #[inline(always)]
-fn with_node_key(text: Vec<u8>, ids: &IdTable, node: Rank) -> Vec<u8>
-    requires node { node < length ids.now }
-    requires room { length text.items + 13 ≤ vec_capacity text }
-    ensures { Adds (codes ",\"node\":" ++ node_text ids.now node) 13 text result }
+#[tactic(auto, unfolding(crate::specs::Facts::object_text))]
+fn with_close(text: Vec<u8>, ids: &IdTable, moment: Moment, moved: NodeSet) -> Vec<u8>
+    requires room { length text.items + TEXT_ROOM ≤ vec_capacity text }
+    ensures adds { Adds (object_text ids.now
+        (done_fields moment.at moment.place (done.Close moved))) TEXT_ROOM text result }
 {
-    with_node(with_text(text, ",\"node\":"), ids, node)
-}
-
-// What is told of an event up to its place, and the place.
-#[inline(always)]
-fn with_place(text: Vec<u8>, told: &'static str, place: u64) -> Vec<u8>
-    requires short { length told.now ≤ 40 }
-    requires room { length text.items + 60 ≤ vec_capacity text }
-    ensures { Adds (told.now ++ decimal place) 60 text result }
-{
-    with_number(with_text(text, told), place)
-}
-
-// What a link and a cut tell first: the two nodes, with the number between them, and how many chosen
-// moves were dropped.
-#[inline(always)]
-fn with_ends(text: Vec<u8>, ids: &IdTable, a: Rank, at: u64, b: Rank, dropped: u16) -> Vec<u8>
-    requires first { a < length ids.now }
-    requires second { b < length ids.now }
-    requires room { length text.items + 80 ≤ vec_capacity text }
-    ensures { Adds (codes "{\"a\":" ++ (node_text ids.now a ++ (codes ",\"at\":" ++ (decimal at
-        ++ (codes ",\"b\":" ++ (node_text ids.now b ++ (codes ",\"dropped\":" ++ decimal dropped)))))))
-        80 text result }
-{
-    let text = with_node(with_text(text, "{\"a\":"), ids, a);
-    let text = with_number(with_text(text, ",\"at\":"), at);
-    let text = with_node(with_text(text, ",\"b\":"), ids, b);
-    with_number(with_text(text, ",\"dropped\":"), u64::from(dropped))
+    let text = with_text(text, "{\"at\":");
+    let text = with_number(text, moment.at);
+    let text = with_text(text, ",\"moved\":[");
+    let text = with_members(text, ids, moved);
+    let text = with_text(text, "],\"ok\":\"close\",\"place\":");
+    let text = with_number(text, moment.place);
+    with_text(text, "}")
 }
 
 // An identifier and its comma take 6 bytes at most, and there are 256 nodes at most.
@@ -380,32 +424,221 @@ fn with_members(text: Vec<u8>, ids: &IdTable, moved: NodeSet) -> Vec<u8>
     line
 }
 
-#[inline(always)]
-#[tactic(auto, unfolding(crate::specs::inside::Puts::deny_parts))]
-fn with_denial(text: Vec<u8>, denial: Denial) -> Vec<u8>
-    requires { length text.items + TEXT_ROOM ≤ vec_capacity text }
-    ensures { Adds (deny_parts denial) TEXT_ROOM text result }
+fn put_fault(
+    ids: &IdTable,
+    moment: Moment,
+    node: Rank,
+    dropped: u16,
+    out: &mut Vec<u8>,
+) -> Result<(), Memory>
+    requires { node < length ids.now }
+    ensures { Puts (object_text ids.now
+        (done_fields moment.at moment.place (done.Fault node dropped))) TEXT_ROOM out.old out.new result }
 {
-    let text = with_number_first(text, denial);
-    let text = with_text(text, "\"clause\":");
-    let text = with_number(text, u64::from(denial.clause()));
-    let text = with_text(text, ",\"deny\":\"");
-    let text = with_text(text, denial.name());
-    let text = with_text(text, "\",\"text\":\"");
-    let text = with_text(text, denial.text());
-    with_text(text, "\"}")
+    make_room(out, TEXT_ROOM)?;
+    *out = with_fault(taken(out), ids, moment, node, dropped);
+    Ok(())
 }
 
-// What stands before the clause of a denial.
 #[inline(always)]
-fn with_number_first(text: Vec<u8>, denial: Denial) -> Vec<u8>
-    requires { length text.items + 40 ≤ vec_capacity text }
-    ensures { Adds (number_front (current_number denial)) 40 text result }
+#[tactic(auto, unfolding(crate::specs::Facts::object_text))]
+fn with_fault(text: Vec<u8>, ids: &IdTable, moment: Moment, node: Rank, dropped: u16) -> Vec<u8>
+    requires about { node < length ids.now }
+    requires room { length text.items + TEXT_ROOM ≤ vec_capacity text }
+    ensures adds { Adds (object_text ids.now
+        (done_fields moment.at moment.place (done.Fault node dropped))) TEXT_ROOM text result }
+{
+    let text = with_text(text, "{\"at\":");
+    let text = with_number(text, moment.at);
+    let text = with_text(text, ",\"dropped\":");
+    let text = with_number(text, u64::from(dropped));
+    let text = with_text(text, ",\"node\":");
+    let text = with_node(text, ids, node);
+    let text = with_text(text, ",\"ok\":\"fault\",\"place\":");
+    let text = with_number(text, moment.place);
+    with_text(text, "}")
+}
+
+fn put_link(
+    ids: &IdTable,
+    moment: Moment,
+    ends: (Rank, Rank),
+    dropped: u16,
+    out: &mut Vec<u8>,
+) -> Result<(), Memory>
+    requires first { ends.0 < length ids.now }
+    requires second { ends.1 < length ids.now }
+    ensures { Puts (object_text ids.now
+        (done_fields moment.at moment.place (done.Link ends.0 ends.1 dropped)))
+        TEXT_ROOM out.old out.new result }
+{
+    put_ends(ids, "link", moment, ends, dropped, out)
+}
+
+fn put_cut(
+    ids: &IdTable,
+    moment: Moment,
+    ends: (Rank, Rank),
+    dropped: u16,
+    out: &mut Vec<u8>,
+) -> Result<(), Memory>
+    requires first { ends.0 < length ids.now }
+    requires second { ends.1 < length ids.now }
+    ensures { Puts (object_text ids.now
+        (done_fields moment.at moment.place (done.Cut ends.0 ends.1 dropped)))
+        TEXT_ROOM out.old out.new result }
+{
+    put_ends(ids, "cut", moment, ends, dropped, out)
+}
+
+fn put_ends(
+    ids: &IdTable,
+    word: &'static str,
+    moment: Moment,
+    ends: (Rank, Rank),
+    dropped: u16,
+    out: &mut Vec<u8>,
+) -> Result<(), Memory>
+    requires first { ends.0 < length ids.now }
+    requires second { ends.1 < length ids.now }
+    requires word { length word.now ≤ 40 }
+    ensures { Puts (object_text ids.now
+        (ends_fields word.now moment.at moment.place ends.0 ends.1 dropped)) TEXT_ROOM out.old out.new result }
+{
+    make_room(out, TEXT_ROOM)?;
+    *out = with_ends(taken(out), ids, word, moment, ends, dropped);
+    Ok(())
+}
+
+#[inline(always)]
+#[tactic(auto, unfolding(crate::specs::Facts::object_text))]
+fn with_ends(
+    text: Vec<u8>,
+    ids: &IdTable,
+    word: &'static str,
+    moment: Moment,
+    ends: (Rank, Rank),
+    dropped: u16,
+) -> Vec<u8>
+    requires first { ends.0 < length ids.now }
+    requires second { ends.1 < length ids.now }
+    requires word { length word.now ≤ 40 }
+    requires room { length text.items + TEXT_ROOM ≤ vec_capacity text }
+    ensures adds { Adds (object_text ids.now
+        (ends_fields word.now moment.at moment.place ends.0 ends.1 dropped)) TEXT_ROOM text result }
+{
+    let (a, b) = ends;
+    let text = with_text(text, "{\"a\":");
+    let text = with_node(text, ids, a);
+    let text = with_text(text, ",\"at\":");
+    let text = with_number(text, moment.at);
+    let text = with_text(text, ",\"b\":");
+    let text = with_node(text, ids, b);
+    let text = with_text(text, ",\"dropped\":");
+    let text = with_number(text, u64::from(dropped));
+    let text = with_text(text, ",\"ok\":\"");
+    let text = with_text(text, word);
+    let text = with_text(text, "\",\"place\":");
+    let text = with_number(text, moment.place);
+    with_text(text, "}")
+}
+
+fn put_release(ids: &IdTable, moment: Moment, node: Rank, out: &mut Vec<u8>) -> Result<(), Memory>
+    requires { node < length ids.now }
+    ensures { Puts (object_text ids.now
+        (done_fields moment.at moment.place (done.Release node))) TEXT_ROOM out.old out.new result }
+{
+    make_room(out, TEXT_ROOM)?;
+    *out = with_release(taken(out), ids, moment, node);
+    Ok(())
+}
+
+#[inline(always)]
+#[tactic(auto, unfolding(crate::specs::Facts::object_text))]
+fn with_release(text: Vec<u8>, ids: &IdTable, moment: Moment, node: Rank) -> Vec<u8>
+    requires about { node < length ids.now }
+    requires room { length text.items + TEXT_ROOM ≤ vec_capacity text }
+    ensures adds { Adds (object_text ids.now
+        (done_fields moment.at moment.place (done.Release node))) TEXT_ROOM text result }
+{
+    let text = with_text(text, "{\"at\":");
+    let text = with_number(text, moment.at);
+    let text = with_text(text, ",\"node\":");
+    let text = with_node(text, ids, node);
+    let text = with_text(text, ",\"ok\":\"release\",\"place\":");
+    let text = with_number(text, moment.place);
+    with_text(text, "}")
+}
+
+fn put_denial(ids: &IdTable, denial: Denial, out: &mut Vec<u8>) -> Result<(), Memory>
+    ensures puts { Puts (object_text ids.now (deny_fields denial)) TEXT_ROOM out.old out.new result }
+    ensures count { HaveFittingCounts (deny_fields denial) }
+{
+    put_denial_parts(denial, out)
+}
+
+#[tactic(auto, unfolding(crate::specs::inside::Puts::deny_parts))]
+fn put_denial_parts(denial: Denial, out: &mut Vec<u8>) -> Result<(), Memory>
+    ensures puts { Puts (deny_parts denial) TEXT_ROOM out.old out.new result }
+    ensures count { HaveFittingCounts (deny_fields denial) }
+{
+    put_number_first(denial, out)?;
+    put(
+        out,
+        &[
+            Piece::Text("\"clause\":"),
+            Piece::Number(u64::from(denial.clause())),
+            Piece::Text(",\"deny\":\""),
+            Piece::Text(denial.name()),
+            Piece::Text("\",\"text\":\""),
+            Piece::Text(denial.text()),
+            Piece::Text("\"}"),
+        ],
+    )
+}
+
+fn put_number_first(denial: Denial, out: &mut Vec<u8>) -> Result<(), Memory>
+    ensures puts { Puts (number_front (current_number denial)) 40 out.old out.new result }
+    ensures count { HaveFittingCounts (deny_fields denial) }
 {
     match denial {
-        Denial::Stale(at) => with_text(with_at(text, at), ","),
-        _ => with_text(text, "{"),
+        Denial::Stale(at) => put(
+            out,
+            &[Piece::Text("{\"at\":"), Piece::Number(at), Piece::Text(",")],
+        ),
+        _ => put(out, &[Piece::Text("{")]),
     }
+}
+
+fn put_bye(ids: &IdTable, out: &mut Vec<u8>) -> Result<(), Memory>
+    ensures { Puts (object_text ids.now bye_fields) TEXT_ROOM out.old out.new result }
+{
+    make_room(out, TEXT_ROOM)?;
+    *out = with_bye(taken(out), ids);
+    Ok(())
+}
+
+#[inline(always)]
+#[tactic(auto, unfolding(crate::specs::Facts::object_text))]
+fn with_bye(text: Vec<u8>, ids: &IdTable) -> Vec<u8>
+    requires room { length text.items + TEXT_ROOM ≤ vec_capacity text }
+    ensures adds { Adds (object_text ids.now bye_fields) TEXT_ROOM text result }
+{
+    with_text(text, "{\"ok\":\"bye\"}")
+}
+
+#[tactic(auto, unfolding(crate::specs::Facts::object_text))]
+fn put_refusal(ids: &IdTable, refused: Refused, out: &mut Vec<u8>) -> Result<(), Memory>
+    ensures { Puts (object_text ids.now (refuse_fields refused)) TEXT_ROOM out.old out.new result }
+{
+    put(
+        out,
+        &[
+            Piece::Text("{\"refuse\":\""),
+            Piece::Text(refusal_name(refused)),
+            Piece::Text("\"}"),
+        ],
+    )
 }
 
 fn refusal_name(refused: Refused) -> &'static str
@@ -432,30 +665,63 @@ pub(crate) fn with_node(text: Vec<u8>, ids: &IdTable, node: Rank) -> Vec<u8>
     with_id(text, ids.node_id(node))
 }
 
-// One of two literals.
 #[inline(always)]
-pub(crate) fn with_either(
-    text: Vec<u8>,
-    first: bool,
-    one: &'static str,
-    other: &'static str,
-) -> Vec<u8>
-    requires one { length text.items + length one.now ≤ vec_capacity text }
-    requires other { length text.items + length other.now ≤ vec_capacity text }
-    ensures text { result.items ≡ text.items ++ (if first then one.now else other.now) }
+fn with_truth(text: Vec<u8>, m: bool) -> Vec<u8>
+    requires { length text.items + 5 ≤ vec_capacity text }
+    ensures text { result.items ≡ text.items ++ truth_text m }
     ensures capacity { vec_capacity result ≡ vec_capacity text }
-    ensures grows { length result.items ≤ length text.items + (length one.now + length other.now) }
+    ensures grows { length result.items ≤ length text.items + 5 }
 {
-    if first {
-        with_text(text, one)
+    if m {
+        with_text(text, "true")
     } else {
-        with_text(text, other)
+        with_text(text, "false")
     }
 }
 
-// What a register points at.
 #[inline(always)]
-pub(crate) fn with_pointer(text: Vec<u8>, ids: &IdTable, p: Option<Rank>) -> Vec<u8>
+fn with_kind_or_null(text: Vec<u8>, kind: Option<Kind>) -> Vec<u8>
+    requires { length text.items + 13 ≤ vec_capacity text }
+    ensures text { result.items ≡ text.items ++ kind_or_null kind }
+    ensures capacity { vec_capacity result ≡ vec_capacity text }
+    ensures grows { length result.items ≤ length text.items + 13 }
+{
+    match kind {
+        Some(kind) => with_kind(text, kind),
+        None => with_text(text, "null"),
+    }
+}
+
+// The number, and what follows from its type.
+#[inline(always)]
+pub(crate) fn with_count(text: Vec<u8>, count: u64) -> Vec<u8>
+    requires { length text.items + 20 ≤ vec_capacity text }
+    ensures text { result.items ≡ text.items ++ decimal count }
+    ensures capacity { vec_capacity result ≡ vec_capacity text }
+    ensures grows { length result.items ≤ length text.items + 20 }
+    ensures fits { count < 2 ^ 64 }
+{
+    with_number(text, count)
+}
+
+// A truth value between its key and the next, as one literal.
+#[inline(always)]
+pub(crate) fn with_m_then_node(text: Vec<u8>, m: bool) -> Vec<u8>
+    requires { length text.items + 18 ≤ vec_capacity text }
+    ensures text { result.items ≡ text.items
+        ++ (codes ",\"m\":" ++ (truth_text m ++ codes ",\"node\":")) }
+    ensures capacity { vec_capacity result ≡ vec_capacity text }
+    ensures grows { length result.items ≤ length text.items + 18 }
+{
+    if m {
+        with_text(text, ",\"m\":true,\"node\":")
+    } else {
+        with_text(text, ",\"m\":false,\"node\":")
+    }
+}
+
+#[inline(always)]
+fn with_pointer(text: Vec<u8>, ids: &IdTable, p: Option<Rank>) -> Vec<u8>
     requires node { IfSome p (λ j. j < length ids.now) }
     requires room { length text.items + 5 ≤ vec_capacity text }
     ensures text { result.items ≡ text.items ++ pointer_text ids.now p }
@@ -468,17 +734,33 @@ pub(crate) fn with_pointer(text: Vec<u8>, ids: &IdTable, p: Option<Rank>) -> Vec
     }
 }
 
-// The word of a kind of rule, or null.
+// What a register points at, and the end of the object.
 #[inline(always)]
-pub(crate) fn with_rule(text: Vec<u8>, kind: Option<Kind>) -> Vec<u8>
-    requires { length text.items + 13 ≤ vec_capacity text }
-    ensures { Adds (kind_or_null kind) 13 text result }
+pub(crate) fn with_pointer_at_end(text: Vec<u8>, ids: &IdTable, p: Option<Rank>) -> Vec<u8>
+    requires node { IfSome p (λ j. j < length ids.now) }
+    requires room { length text.items + 6 ≤ vec_capacity text }
+    ensures text { result.items ≡ text.items ++ (pointer_text ids.now p ++ codes "}") }
+    ensures capacity { vec_capacity result ≡ vec_capacity text }
+    ensures grows { length result.items ≤ length text.items + 6 }
+{
+    match p {
+        Some(j) => with_text(with_node(text, ids, j), "}"),
+        None => with_text(text, "null}"),
+    }
+}
+
+// The word of a kind of rule.
+#[inline(always)]
+pub(crate) fn with_kind(text: Vec<u8>, kind: Kind) -> Vec<u8>
+    requires room { length text.items + 13 ≤ vec_capacity text }
+    ensures text { result.items ≡ text.items ++ kind_text kind }
+    ensures capacity { vec_capacity result ≡ vec_capacity text }
+    ensures grows { length result.items ≤ length text.items + 13 }
 {
     match kind {
-        None => with_text(text, "null"),
-        Some(Kind::Update) => with_text(text, "\"update\""),
-        Some(Kind::Marriage) => with_text(text, "\"marriage\""),
-        Some(Kind::Seduction) => with_text(text, "\"seduction\""),
-        Some(Kind::Abandonment) => with_text(text, "\"abandonment\""),
+        Kind::Update => with_text(text, "\"update\""),
+        Kind::Marriage => with_text(text, "\"marriage\""),
+        Kind::Seduction => with_text(text, "\"seduction\""),
+        Kind::Abandonment => with_text(text, "\"abandonment\""),
     }
 }

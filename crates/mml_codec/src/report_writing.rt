@@ -1,12 +1,12 @@
 //! The text of a report.
-ghost use Rattle.std.specs.Prelude.{codes, decimal, ◌≡◌, ◌≤◌, ◌<◌, ◌+◌, ◌++◌, length, OnOk, vec_capacity};
+ghost use Rattle.std.specs.Prelude.{codes, decimal, ◌≡◌, ◌≤◌, ◌<◌, ◌+◌, ◌^◌, ◌++◌, length, OnOk, vec_capacity};
 ghost use Rattle.mml_ids.specs.Pieces.{truth_text};
 ghost use Rattle.mml_stable.specs.Reports.{NamesNodes};
 ghost use Rattle.mml_codec.specs.Facts.{object_text};
 ghost use Rattle.mml_codec.specs.Replies.{report_fields};
 
 use crate::listed::put_list;
-use crate::reply_writing::with_at;
+use crate::reply_writing::with_count;
 use mml_ids::{IdTable, Memory, make_room, taken, with_text};
 use mml_stable::Report;
 
@@ -19,6 +19,7 @@ pub(crate) fn put_report(ids: &IdTable, report: &Report, out: &mut Vec<u8>) -> R
     ensures text { OnOk result
         (out.new.items ≡ out.old.items ++ object_text ids.now (report_fields report.now)) }
     ensures capacity { vec_capacity out.old ≤ vec_capacity out.new }
+    ensures count { report.now.at < 2 ^ 64 }
 {
     put_head(report.at, out)?;
     put_list(ids, report.free.as_slice(), out)?;
@@ -37,9 +38,11 @@ fn put_head(at: u64, out: &mut Vec<u8>) -> Result<(), Memory>
     ensures text { OnOk result (out.new.items ≡
         out.old.items ++ (codes "{\"at\":" ++ (decimal at ++ codes ",\"free\":["))) }
     ensures capacity { vec_capacity out.old ≤ vec_capacity out.new }
+    ensures count { at < 2 ^ 64 }
 {
     make_room(out, REPORT_ROOM)?;
-    let text = with_at(taken(out), at);
+    let text = with_text(taken(out), "{\"at\":");
+    let text = with_count(text, at);
     *out = with_text(text, ",\"free\":[");
     Ok(())
 }

@@ -30,5 +30,34 @@ pub fn reply_of(alloc: Global, board: &Board, ruling: Ruling) -> Result<Reply, M
 pub fn reply_of_done(at: u64, place: u64, done: Done) -> Reply
     ensures { result ≡ reply_of_done at place done }
 {
-    Reply::Granted { at, place, done }
+    match done {
+        Done::Move { node, kind } => Reply::Move {
+            at,
+            place,
+            node,
+            kind,
+        },
+        Done::Close { moved } => Reply::Close { at, place, moved },
+        Done::Fault { node, dropped } => Reply::Fault {
+            at,
+            place,
+            node,
+            dropped,
+        },
+        Done::Link { a, b, dropped } => Reply::Link {
+            at,
+            place,
+            a,
+            b,
+            dropped,
+        },
+        Done::Cut { a, b, dropped } => Reply::Cut {
+            at,
+            place,
+            a,
+            b,
+            dropped,
+        },
+        Done::Release { node } => Reply::Release { at, place, node },
+    }
 }

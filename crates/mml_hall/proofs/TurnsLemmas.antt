@@ -121,6 +121,11 @@ module _ (lab : LabValue) (st : State) (k : ℕ) where
   unfolding plain_turn
   plain_does line = does_answer (request_in line)
 
+-- the reply to a grant is no refusal
+granted_not_refused : (at place : ℕ) (d : Done) → IsRefusal (reply_of_done at place d) → ⊥
+granted_not_refused at place (done.Move node kind) h = h
+granted_not_refused at place _ h = h
+
 -- ---- what a turn leaves as it was
 
 kept : (st after : State) → after ≡ st → IsKept st after
@@ -135,7 +140,7 @@ refused_turn lab st k line = by_turn lab st k line (λ out. IsRefusal out.reply 
     plain h = elim (plain_does lab st k line) [
       | inl idle ↦ kept st _ idle.state
       | inr (inl greets) ↦ absurd (greets.tells h)
-      | inr (inr grants) ↦ absurd (subst IsRefusal grants.reply h)
+      | inr (inr grants) ↦ absurd (granted_not_refused _ _ grants.done (subst IsRefusal grants.reply h))
     ]
 
 other_known : (st : State) (k j : ℕ) (x : Option Who) → 0 < k → 0 < j → j ≢ k → known_on (with_known st k x) j ≡ known_on st j
@@ -159,7 +164,7 @@ long_turn : (lab : LabValue) (st : State) (k : ℕ) (line : List ℕ) → is_sho
 long_turn lab st k line long = elim (plain_does lab st k line) [
   | inl idle ↦ idle.state
   | inr (inl greets) ↦ absurd (true≢false (sym greets.short ∙ long))
-  | inr (inr grants) ↦ absurd (true≢false (sym (short_done (after st.world grants.event).number (after st.world grants.event).place grants.done) ∙ sym (ap is_short grants.reply) ∙ long))
+  | inr (inr grants) ↦ absurd (true≢false (sym (short_done _ _ grants.done) ∙ sym (ap is_short grants.reply) ∙ long))
 ]
 
 long_takes_memory : (r : Reply) → is_short r ≡ false → takes_memory r ≡ true

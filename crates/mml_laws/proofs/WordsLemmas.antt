@@ -8,8 +8,6 @@ use Rattle.serde_json.specs.Read.{read}
 use Rattle.mml_ids.specs.Ids.{IsTable}
 use Rattle.mml_rules.specs.declared.rule.Kind.{Kind}
 use Rattle.mml_lab.specs.Rosters.{RosterValue, IsRoster}
-use Rattle.mml_board.specs.declared.done.Done.{Done}
-use Rattle.mml_board.specs.declared.done.Done.TheVariants as done
 use Rattle.mml_policy.specs.declared.look.Look.{Look}
 use Rattle.mml_policy.specs.declared.denial.Denial.{Denial}
 use Rattle.mml_codec.specs.declared.request.Request.{Request}
@@ -42,12 +40,8 @@ module _ (ids : List ℕ) (roster : RosterValue) where
       (read_fields ids roster (reply.See (record { at = at; node = i; regs = record { p = p; m = m } })))
   has_seen at i p m = grind (arith, nat_tests)
 
-  has_moved : (at place i : ℕ) (k : Kind)
-      → HasEach (reply_value ids roster (reply.Granted at place (done.Move i k))) (read_fields ids roster (reply.Granted at place (done.Move i k)))
+  has_moved : (at place i : ℕ) (k : Kind) → HasEach (reply_value ids roster (reply.Move at place i k)) (read_fields ids roster (reply.Move at place i k))
   has_moved at place i k = grind (arith, nat_tests)
-
-  has_done : (at place : ℕ) (d : Done) → HasEach (reply_value ids roster (reply.Granted at place d)) (read_fields ids roster (reply.Granted at place d))
-  has_done at place d = grind (arith, nat_tests, has_moved)
 
   has_denied : (d : Denial) → HasEach (reply_value ids roster (reply.Deny d)) (read_fields ids roster (reply.Deny d))
   has_denied d = grind (arith, nat_tests)
@@ -64,7 +58,7 @@ module _ (ids : List ℕ) (roster : RosterValue) where
   found_pointer key d v at p e = grind (arith, nat_tests)
 
   has_each : (r : Reply) → HasEach (reply_value ids roster r) (read_fields ids roster r)
-  has_each r = grind (arith, nat_tests, has_seen, found_rule, found_pointer, has_done, has_denied, has_refused)
+  has_each r = grind (arith, nat_tests, has_seen, found_rule, found_pointer, has_moved, has_denied, has_refused)
 
   pub read_has : (r : Reply) (d : Data) → IsTable ids → IsRoster roster → IsAbout ids roster r → AreWritableCounts roster r
       → read (written.text ids roster r) ≡ Some d → HasEach d (read_fields ids roster r)
@@ -73,8 +67,5 @@ module _ (ids : List ℕ) (roster : RosterValue) where
 silent_denial : (roster : RosterValue) (d : Denial) → list_any (λ f. tells_registers f.1) (written.fields_of roster (reply.Deny d)) ≡ false
 silent_denial roster d = grind (arith, nat_tests)
 
-silent_done : (roster : RosterValue) (at place : ℕ) (d : Done) → list_any (λ f. tells_registers f.1) (written.fields_of roster (reply.Granted at place d)) ≡ false
-silent_done roster at place d = grind (arith, nat_tests)
-
 pub silent : (roster : RosterValue) (r : Reply) → is_view r ≡ false → list_any (λ f. tells_registers f.1) (written.fields_of roster r) ≡ false
-silent roster r h = grind (arith, nat_tests, false≢true, silent_denial, silent_done)
+silent roster r h = grind (arith, nat_tests, false≢true, silent_denial)

@@ -3,7 +3,6 @@ use Rattle.std.specs.Prelude.{◌≡◌, ℕ, Bool, true, false, List, [], ◌�
 use Rattle.mml_rules.specs.declared.rule.Kind.{Kind}
 use Rattle.mml_rules.specs.declared.rule.Kind.TheVariants as kind
 use Rattle.mml_lab.specs.Rosters.{RosterValue, name_of}
-use Rattle.mml_board.specs.declared.done.Done.TheVariants as done
 use Rattle.mml_policy.specs.declared.command.Asked.{Asked}
 use Rattle.mml_policy.specs.declared.command.Asked.TheVariants as asked
 use Rattle.mml_policy.specs.declared.command.Command.TheVariants as command
@@ -108,16 +107,16 @@ read_fields ids roster (reply.See s) = (codes "ok", word (codes "see")) ∷ (cod
 read_fields ids roster (reply.Look l) =
     (codes "ok", word (codes "look")) ∷ (codes "at", number l.at) ∷ (codes "chosen", rule_field l.chosen) ∷ (codes "rule", rule_field l.enabled)
     ∷ register_fields ids l.node l.regs.p l.regs.m
-read_fields ids roster (reply.Granted at place (done.Move i k)) =
+read_fields ids roster (reply.Move at place i k) =
     (codes "node", node_field ids i) ∷ (codes "rule", word (kind_word k)) ∷ granted_fields (codes "move") at place
-read_fields ids roster (reply.Granted at place (done.Close moved)) = granted_fields (codes "close") at place
-read_fields ids roster (reply.Granted at place (done.Fault i dropped)) =
+read_fields ids roster (reply.Close at place moved) = granted_fields (codes "close") at place
+read_fields ids roster (reply.Fault at place i dropped) =
     (codes "node", node_field ids i) ∷ (codes "dropped", number dropped) ∷ granted_fields (codes "fault") at place
-read_fields ids roster (reply.Granted at place (done.Link a b dropped)) =
+read_fields ids roster (reply.Link at place a b dropped) =
     (codes "a", node_field ids a) ∷ (codes "b", node_field ids b) ∷ (codes "dropped", number dropped) ∷ granted_fields (codes "link") at place
-read_fields ids roster (reply.Granted at place (done.Cut a b dropped)) =
+read_fields ids roster (reply.Cut at place a b dropped) =
     (codes "a", node_field ids a) ∷ (codes "b", node_field ids b) ∷ (codes "dropped", number dropped) ∷ granted_fields (codes "cut") at place
-read_fields ids roster (reply.Granted at place (done.Release i)) = (codes "node", node_field ids i) ∷ granted_fields (codes "release") at place
+read_fields ids roster (reply.Release at place i) = (codes "node", node_field ids i) ∷ granted_fields (codes "release") at place
 read_fields ids roster (reply.Report r) = (codes "ok", word (codes "report")) ∷ (codes "at", number r.at) ∷ (codes "stable", truth r.stable) ∷ []
 read_fields ids roster (reply.Deny d) = denied_fields d
 read_fields ids roster (reply.Refuse r) = (codes "refuse", word (refused_word r)) ∷ []

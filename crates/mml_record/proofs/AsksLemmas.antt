@@ -100,10 +100,10 @@ pub told_is : (ids : List ℕ) (roster : RosterValue) (r : Reply) → clause_tol
 unfolding object_text clause_member clause_first
 told_is ids roster (replies.See s) = behind_number s.at _ None refl
 told_is ids roster (replies.Look l) = behind_number l.at _ None refl
-told_is ids roster (replies.Granted at place (done.Move node kind)) = behind_number at _ None refl
-told_is ids roster (replies.Granted at place (done.Close moved)) = behind_number at _ None refl
-told_is ids roster (replies.Granted at place (done.Fault node dropped)) = behind_number at _ None refl
-told_is ids roster (replies.Granted at place (done.Release node)) = behind_number at _ None refl
+told_is ids roster (replies.Move at place node kind) = behind_number at _ None refl
+told_is ids roster (replies.Close at place moved) = behind_number at _ None refl
+told_is ids roster (replies.Fault at place node dropped) = behind_number at _ None refl
+told_is ids roster (replies.Release at place node) = behind_number at _ None refl
 told_is ids roster (replies.Report r) = behind_number r.at _ None refl
 told_is ids roster (replies.Deny d) = denied_is ids roster d
 told_is ids roster _ = first_member _ None refl

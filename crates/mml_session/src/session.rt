@@ -386,7 +386,12 @@ fn record<K: Recorder>(recorder: &mut K, judged: Judged<'_>, reply: &Reply, out:
 {
     let before = match reply {
         Reply::See(_) | Reply::Look(_) | Reply::Report(_) => return,
-        Reply::Granted { .. } => judged.seen.saturating_sub(1),
+        Reply::Move { .. }
+        | Reply::Close { .. }
+        | Reply::Fault { .. }
+        | Reply::Link { .. }
+        | Reply::Cut { .. }
+        | Reply::Release { .. } => judged.seen.saturating_sub(1),
         _ => judged.seen,
     };
     recorder.said(judged.number, before, judged.line, out);
