@@ -56,7 +56,7 @@ fn moved(network: &IndexedNetwork, node: Rank, rule: Option<Rule>) -> Regs
     let _size = network.size();
     match rule {
         Some(rule) => effect(network, node, rule),
-        None => network.registers(node),
+        None => network.regs(node),
     }
 }
 
