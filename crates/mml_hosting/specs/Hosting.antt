@@ -1,7 +1,11 @@
 -- A house through whose windows one connection after another was served.
 use Rattle.std.specs.Prelude.{◌≡◌, ℕ, false, List, [], ◌++◌, flat_map, length, All, Option}
 use Rattle.std.specs.List.{AllZip, range_with_len}
+use Rattle.std.specs.Io.KnownBytes.{Appends}
 use Rattle.mml_lab.specs.Labs.{LabValue}
+use Rattle.mml_board.specs.Lists.{world_in}
+use Rattle.mml_serving.specs.Closings.{done_line}
+use Rattle.mml_window.specs.declared.log.Log.{Log}
 use Rattle.mml_window.specs.Windows.{WindowValue, window}
 use Rattle.mml_window.specs.Logs.{IsLogFrom}
 use mathlib.Core.List.{IsPrefix}
@@ -38,3 +42,8 @@ pub record Hosts {S K C R W : Type 0} (t : Terms K C R W) (sink : S → Option (
   pub dismissed : All (λ r. IsDismissed (sessions_of t.shows r)) house.desk.items
   pub came_to_desk : Attends to_desk [] (flat_map (came_to t.shows) house.desk.items)
   pub came : Attends to_come [] (flat_map (came_to t.shows) house.others.items)
+
+-- the journal isn't halted, and the last line was written, of the log's events
+pub record EndsWell {S : Type 0} (lab : LabValue) (wrote wrote' : Option (List ℕ)) (log : Log S) : Type 0 where
+  pub unhalted : log.halted ≡ false
+  pub last : Appends wrote wrote' (done_line (length log.events) (world_in lab log.events).number)

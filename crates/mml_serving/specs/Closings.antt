@@ -5,26 +5,18 @@ use Rattle.std.specs.Io.KnownBytes.{Appends}
 use Rattle.mml_lab.specs.Labs.{LabValue}
 use Rattle.mml_board.specs.declared.event.Event.{Event}
 use Rattle.mml_board.specs.Lists.{is_legal_in, world_in}
-use Rattle.mml_window.specs.declared.log.Log.{Log}
 use Rattle.mml_serving.specs.declared.serving.ServeFault.{ServeFault}
 use Rattle.mml_serving.specs.declared.serving.ServeFault.TheVariants as fault
 
--- where a server listens
 abbrev pub listening_line : ℕ → List ℕ
 listening_line port = concat (codes "listening on port " ∷ decimal port ∷ codes "\n" ∷ [])
 
--- how many events there were, and the number of the configuration that they led to
 abbrev pub done_line : ℕ → ℕ → List ℕ
 done_line events number = concat (codes "done: " ∷ decimal events ∷ codes " events, configuration " ∷ decimal number ∷ codes "\n" ∷ [])
 
 -- how many events a legal list of the lab has, and the number that it leads to
 abbrev pub Closes : LabValue → Option (List ℕ) → Option (List ℕ) → Type 0
 Closes lab wrote wrote' = (l : List Event) × (is_legal_in lab l ≡ true) × Appends wrote wrote' (done_line (length l) (world_in lab l).number)
-
--- the journal isn't halted, and the last line was written, of the log's events
-pub record EndsWell {S : Type 0} (lab : LabValue) (wrote wrote' : Option (List ℕ)) (log : Log S) : Type 0 where
-  pub unhalted : log.halted ≡ false
-  pub last : Appends wrote wrote' (done_line (length log.events) (world_in lab log.events).number)
 
 -- nothing of a text was written, because memory ran out, or a front of it, where the writer failed
 abbrev pub IsCutShort : Option (List ℕ) → Option (List ℕ) → List ℕ → ServeFault → Type 0

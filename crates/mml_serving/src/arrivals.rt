@@ -11,17 +11,12 @@ use std::net::TcpListener;
 use std::vec::IntoIter;
 
 /// What gives connections as they come, each as its two ends.
-pub trait Arrivals {
-    /// The end of a connection from which its requests are read.
-    type Reader: LetGo + Send + Drop;
-    /// The end to which its replies are written.
-    type Writer: HangUp + Send + Drop;
-
+pub trait Arrivals<R: Read + Drop, W: Write + Drop> {
     // The connections that are still to come, where they are known.
-    ghost to_come: { Self → Option (List (Self.Reader × Self.Writer)) } = { λ _. None };
+    ghost to_come: { Self → Option (List (R × W)) } = { λ _. None };
 
     /// The two ends of the next connection, for which it may wait.
-    fn accept_next(&mut self) -> io::Result<(Self::Reader, Self::Writer)>
+    fn accept_next(&mut self) -> io::Result<(R, W)>
         ensures { MatchResult result
             (λ ends. Takes (to_come self.old) (to_come self.new) (ends ∷ []))
             (λ _. Takes (to_come self.old) (to_come self.new) []) };
@@ -41,11 +36,7 @@ pub trait HangUp: Write {
         ensures { Self.contents self.new ≡ Self.contents self.old };
 }
 
-impl Arrivals for TcpListener {
-    type Reader = Socket;
-
-    type Writer = Socket;
-
+impl Arrivals<Socket, Socket> for TcpListener {
     fn accept_next(&mut self) -> io::Result<(Socket, Socket)> {
         let (stream, _) = self.accept()?;
         // Where the system refuses this, replies still go out, only later.
@@ -56,11 +47,7 @@ impl Arrivals for TcpListener {
 }
 
 /// Connections that have come already, in their order.
-impl<R: LetGo + Send + Drop, W: HangUp + Send + Drop> Arrivals for IntoIter<(R, W)> {
-    type Reader = R;
-
-    type Writer = W;
-
+impl<R: Read + Drop, W: Write + Drop> Arrivals<R, W> for IntoIter<(R, W)> {
     ghost to_come = { λ ends. Some (into_iter_items ends) };
 
     fn accept_next(&mut self) -> io::Result<(R, W)>

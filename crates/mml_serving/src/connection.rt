@@ -1,4 +1,3 @@
-//! A connection, before it is served and after.
 ghost use Rattle.std.specs.Prelude.{◌≡◌};
 ghost use Rattle.std.specs.List.{list_all};
 ghost use Rattle.mml_serving.specs.Serving.{had_memory};
@@ -28,7 +27,6 @@ pub(crate) fn all_had_memory(sessions: &[EndedSession<Socket, Socket>]) -> bool
     sessions.iter().all(|session| had_memory(session))
 }
 
-// Whether memory neither ended the session nor failed a read or a write of its socket.
 fn had_memory(session: &EndedSession<Socket, Socket>) -> bool
     ensures { result ≡ had_memory session.now }
 {

@@ -39,7 +39,9 @@ pub(crate) fn serve_all<
     Rt: Threads + Wait + Sync,
     S: Sink + Send + Drop,
     H: House + Send + Sync,
-    A: Arrivals + Send + Drop,
+    R: LetGo + Send + Drop,
+    W: HangUp + Send + Drop,
+    A: Arrivals<R, W> + Drop,
     G: Gate + Sync,
 >(
     setting: &Setting<'_, Rt, S, H>,
@@ -47,10 +49,10 @@ pub(crate) fn serve_all<
     arrivals: A,
     connections: u8,
     gate: &G,
-) -> Result<(Vec<Window<H>>, Vec<EndedSession<A::Reader, A::Writer>>), SeatingFault>
+) -> Result<(Vec<Window<H>>, Vec<EndedSession<R, W>>), SeatingFault>
     requires fresh { All (λ w. w ≡ window [] []) windows.items }
     requires few { connections ≤ length windows.items }
-    ensures { IfOk result (λ parts. ServesAll H.lab A.Reader.remaining A.Writer.contents
+    ensures { IfOk result (λ parts. ServesAll H.lab R.remaining W.contents
         (A.to_come arrivals) connections parts.1.items parts.0.items) }
 {
     let rt = setting.rt;
@@ -59,11 +61,11 @@ pub(crate) fn serve_all<
     thread::scope(
         thread::scope_env(),
         rt,
-        |scope| -> Result<(Vec<Window<H>>, Vec<EndedSession<A::Reader, A::Writer>>), SeatingFault>
+        |scope| -> Result<(Vec<Window<H>>, Vec<EndedSession<R, W>>), SeatingFault>
             requires { IsSync Rt.row × IsSync G.row × IsSend S.row × IsSend H.row × IsSync H.row
-                × IsSend A.row × All (λ w. w ≡ window [] []) windows.items
+                × IsSend R.row × IsSend W.row × All (λ w. w ≡ window [] []) windows.items
                 × (connections ≤ length windows.items) }
-            ensures { IfOk result (λ parts. ServesAll H.lab A.Reader.remaining A.Writer.contents
+            ensures { IfOk result (λ parts. ServesAll H.lab R.remaining W.contents
                 (A.to_come arrivals) connections parts.1.items parts.0.items) }
         {
             let mut arrivals = arrivals;
@@ -74,13 +76,13 @@ pub(crate) fn serve_all<
             for index in 0..connections {
                 let seat = next_seat(&mut arrivals, &mut windows, index + 1)?;
                 let pledge = ConnectionPledge(Snapshot::of(&seat.connection));
-                match (&*scope).spawn_with(
+                match scope.spawn_with(
                     pledge,
-                    move || -> (Window<H>, EndedSession<A::Reader, A::Writer>)
+                    move || -> (Window<H>, EndedSession<R, W>)
                         requires { seat.window ≡ window [] [] }
-                        ensures { IsServed H.lab A.Reader.remaining A.Writer.contents seat.connection
+                        ensures { IsServed H.lab R.remaining W.contents seat.connection
                             result.1 result.0 }
-                    { serve_apart::<Rt, S, H, A, G>(rt, alloc, desk, seat, gate) },
+                    { serve_apart(rt, alloc, desk, seat, gate) },
                 ) {
                     Ok(handle) => handles.push_reserved(handle),
                     Err(_) => return Err(SeatingFault::Memory),
@@ -105,11 +107,11 @@ impl<H: House, R: Read + Drop, W: Write + Drop> Promise<(Window<H>, EndedSession
 }
 
 // The next connection, with its number and a window for it.
-fn next_seat<H: House, A: Arrivals>(
+fn next_seat<H: House, R: Read + Drop, W: Write + Drop, A: Arrivals<R, W>>(
     arrivals: &mut A,
     windows: &mut Vec<Window<H>>,
     number: u8,
-) -> Result<Seated<H, A::Reader, A::Writer>, SeatingFault>
+) -> Result<Seated<H, R, W>, SeatingFault>
     requires fresh { All (λ w. w ≡ window [] []) windows.old.items }
     requires some { 0 < length windows.old.items }
     ensures taken { IfOk result (λ seat. Takes (A.to_come arrivals.old) (A.to_come arrivals.new)
@@ -134,7 +136,9 @@ fn next_seat<H: House, A: Arrivals>(
 }
 
 // The two ends of the next connection.
-fn accept<A: Arrivals>(arrivals: &mut A) -> Result<(A::Reader, A::Writer), SeatingFault>
+fn accept<R: Read + Drop, W: Write + Drop, A: Arrivals<R, W>>(
+    arrivals: &mut A,
+) -> Result<(R, W), SeatingFault>
     ensures { IfOk result (λ taken.
         Takes (A.to_come arrivals.old) (A.to_come arrivals.new) (taken ∷ [])) }
 {
@@ -157,15 +161,15 @@ fn accept_fault(kind: ErrorKind) -> SeatingFault
 
 // Serves the connection of a seat, hangs up and gives it back, so that neither the other side nor the
 // system waits for the other connections.
-fn serve_apart<Rt: Wait, S: Sink + Drop, H: House, A: Arrivals, G: Gate>(
+fn serve_apart<Rt: Wait, S: Sink + Drop, H: House, R: LetGo + Drop, W: HangUp + Drop, G: Gate>(
     rt: &Rt,
     alloc: Global,
     desk: &Desk<S, H>,
-    seat: Seated<H, A::Reader, A::Writer>,
+    seat: Seated<H, R, W>,
     gate: &G,
-) -> (Window<H>, EndedSession<A::Reader, A::Writer>)
+) -> (Window<H>, EndedSession<R, W>)
     requires fresh { seat.window ≡ window [] [] }
-    ensures served { IsServed H.lab A.Reader.remaining A.Writer.contents seat.connection result.1 result.0 }
+    ensures served { IsServed H.lab R.remaining W.contents seat.connection result.1 result.0 }
 {
     let Seated {
         mut window,

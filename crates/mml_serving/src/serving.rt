@@ -1,14 +1,16 @@
 //! A server from the opening of its house to its last line.
 ghost use Rattle.std.specs.Prelude.{◌≡◌, ◌<◌, ◌≤◌, ◌+◌, ◌-◌, ◌^◌, ◌++◌, Err, false, length, IfOk, IfErr, OnOk};
+ghost use Rattle.std.specs.Io.KnownBytes.{Appends};
 ghost use Rattle.mml_journal.specs.Taken.{IsFresh};
 ghost use Rattle.mml_window.specs.Houses.{house_of};
+ghost use Rattle.mml_board.specs.Lists.{world_in};
 ghost use Rattle.mml_window.specs.Logs.{IsLog};
-ghost use Rattle.mml_serving.specs.Closings.{Closes, EndsWell};
+ghost use Rattle.mml_serving.specs.Closings.{Closes, done_line};
 ghost use Rattle.mml_serving.specs.Endings.{EndsBadly, EndsEarly, EndsWithout};
 ghost use Rattle.mml_serving.specs.Serving.{ServesHouse};
 
 use crate::announcing::write_last;
-use crate::arrivals::Arrivals;
+use crate::arrivals::{Arrivals, HangUp, LetGo};
 use crate::connection::{EndedSession, all_had_memory};
 use crate::seating::{SeatingFault, serve_all};
 use mml_journal::Sink;
@@ -82,7 +84,9 @@ pub fn serve_on<Rt: Threads + Wait + Sync, S: Sink + Send + Drop, G: Gate + Sync
 pub fn serve_arrivals<
     Rt: Threads + Wait + Sync,
     S: Sink + Send + Drop,
-    A: Arrivals + Send + Drop,
+    R: LetGo + Send + Drop,
+    W: HangUp + Send + Drop,
+    A: Arrivals<R, W> + Drop,
     G: Gate + Sync,
     O: Write,
 >(
@@ -94,15 +98,16 @@ pub fn serve_arrivals<
     sink: S,
     gate: &G,
     writer: &mut O,
-) -> Result<ServedHouse<S, A::Reader, A::Writer>, ServeFault>
+) -> Result<ServedHouse<S, R, W>, ServeFault>
     requires sessions { connections ≤ lab.sessions }
     requires fresh { IsFresh (S.contents sink) }
     requires countable { S.failures sink < 2 ^ 64 - 1 }
-    ensures served { IfOk result (λ house. ServesHouse lab S.contents A.Reader.remaining A.Writer.contents
+    ensures served { IfOk result (λ house. ServesHouse lab S.contents R.remaining W.contents
         (A.to_come arrivals) connections house.sessions.items house.log) }
-    ensures ends_well { IfOk result (λ house. EndsWell lab (O.contents writer.old)
-        (O.contents writer.new) house.log) }
-    ensures badly { IfErr result (EndsBadly lab S.contents A.Reader.remaining A.Writer.contents
+    ensures unhalted { IfOk result (λ house. house.log.halted ≡ false) }
+    ensures last { IfOk result (λ house. Appends (O.contents writer.old) (O.contents writer.new)
+        (done_line (length house.log.events) (world_in lab house.log.events).number)) }
+    ensures badly { IfErr result (EndsBadly lab S.contents R.remaining W.contents
         (A.to_come arrivals) connections (O.contents writer.old) (O.contents writer.new)) }
 {
     let blank = match open_house(rt, alloc, lab, sink) {
@@ -110,7 +115,14 @@ pub fn serve_arrivals<
         Err(HouseFault::Memory) => return Err(ServeFault::Memory),
         Err(HouseFault::Place) => return Err(ServeFault::Place),
     };
-    let served = serve_in_house::<Brand, _, _, _, _>(rt, alloc, blank, arrivals, connections, gate);
+    let served = serve_in_house::<Brand, _, _, _, _, _, _>(
+        rt,
+        alloc,
+        blank,
+        arrivals,
+        connections,
+        gate,
+    );
     let house = match served {
         Ok(house) => house,
         Err(fault) => return Err(fault),
@@ -126,7 +138,9 @@ fn serve_in_house<
     H: House + Send + Sync,
     Rt: Threads + Wait + Sync,
     S: Sink + Send + Drop,
-    A: Arrivals + Send + Drop,
+    R: LetGo + Send + Drop,
+    W: HangUp + Send + Drop,
+    A: Arrivals<R, W> + Drop,
     G: Gate + Sync,
 >(
     rt: &Rt,
@@ -135,13 +149,13 @@ fn serve_in_house<
     arrivals: A,
     connections: u8,
     gate: &G,
-) -> Result<ServedHouse<S, A::Reader, A::Writer>, ServeFault>
+) -> Result<ServedHouse<S, R, W>, ServeFault>
     requires named { blank ≡ house_of H.name H.lab }
     requires few { connections ≤ H.lab.sessions }
-    ensures served { IfOk result (λ house. ServesHouse H.lab S.contents A.Reader.remaining A.Writer.contents
+    ensures served { IfOk result (λ house. ServesHouse H.lab S.contents R.remaining W.contents
         (A.to_come arrivals) connections house.sessions.items house.log) }
     ensures early { IfErr result
-        (EndsEarly H.lab A.Reader.remaining A.Writer.contents (A.to_come arrivals) connections) }
+        (EndsEarly H.lab R.remaining W.contents (A.to_come arrivals) connections) }
 {
     let Ok((desk, mut windows)) = blank.start::<H>(alloc) else {
         return Err(ServeFault::Memory);

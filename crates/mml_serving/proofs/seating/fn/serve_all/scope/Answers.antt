@@ -27,6 +27,6 @@ pub returns : goal.returns
 returns g c =
     let at = c.loop-index.invariant in
     let handles = c.loop-index.handles.items in
-    all_came g.H.House.lab g.A.Reader.Read.remaining g.A.Writer.Write.contents _ _ (λ p. p.1.items) (λ p. p.0.items) _
+    all_came g.H.House.lab g.R.Read.remaining g.W.Write.contents _ _ (λ p. p.1.items) (λ p. p.0.items) _
     (map (λ h. h.promise.0.value) handles) c.join_all.result
     at.came (length-map handles (λ h. h.promise.0.value) ∙ omega (arith, at.count)) at.numbered c.join_all.ensures
