@@ -23,5 +23,5 @@ told_resumed lab old first given sink remaining contents recorded shows to_desk 
   begins = r.hosts.begins;
   legal = r.hosts.kept.book.legal;
   first = subst (λ (f : List ℕ). Appends wrote r.between (f ++ resumed_line (world_in lab r.begun))) same r.begins;
-  last = r.ends.last;
+  last = r.ends;
 }

@@ -10,7 +10,7 @@ use Rattle.mml_program.specs.declared.fault.Fault.TheVariants as program
 use Rattle.mml_host_program.specs.declared.fault.Fault.{Fault}
 use Rattle.mml_host_program.specs.declared.fault.Fault.TheVariants as fault
 
--- the error of a house that came to no good end: a halted journal is told as one whose file can't be made
+-- a halted journal is told as one whose file can't be made
 abbrev pub of_hosting : HostFault → Fault
 of_hosting hosting.Memory = fault.Common program.Memory
 of_hosting hosting.Place = fault.Place
@@ -19,12 +19,11 @@ of_hosting hosting.Astray = fault.Astray
 of_hosting hosting.Halted = fault.Common program.Journal
 of_hosting hosting.Write = fault.Common program.Write
 
--- the error of a record's folder that can't be had
 abbrev pub of_record : FileFault → Fault
 of_record file.Refused = fault.Unrecorded
 of_record file.Memory = fault.Common program.Memory
 
--- the error of a class that doesn't go on: a file that can't be cut is told as one that can't be made; which words the audit has is tested
+-- a file that can't be cut is told as one that can't be made; which words the audit has is tested
 abbrev pub IsToldAs : ResumeFault → Fault → Type 0
 IsToldAs (resuming.Refused why) told = Unit {0}
 IsToldAs resuming.Memory told = told ≡ fault.Common program.Memory

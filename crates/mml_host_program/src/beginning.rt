@@ -1,60 +1,124 @@
 //! A class from its beginning to its last line.
-ghost use Rattle.std.specs.Prelude.{◌≡◌, ◌<◌, ◌+◌, ◌-◌, ◌^◌, IfOk, OnOk, length};
+ghost use Rattle.std.specs.Prelude.{◌≡◌, ◌<◌, ◌+◌, ◌-◌, ◌^◌, IsOk, OnOk, length};
+ghost use Rattle.std.specs.Io.KnownBytes.{Appends};
 ghost use Rattle.mml_journal.specs.Taken.{IsFresh};
+ghost use Rattle.mml_serving.specs.Closings.{Closes};
 ghost use Rattle.mml_host_program.specs.Telling.{ports_line, TellsClass};
 
 use crate::class::Ready;
 use crate::fault::Fault;
 use crate::system::System;
-use mml_hosting::{Beginning, serve_host};
-use mml_ids::{Piece, put};
+use mml_hosting::{HostFault, Hosted, serve_host};
+use mml_ids::Piece;
 use mml_journal::Sink;
-use mml_program::{Fault as ProgramFault, write_text};
-use mml_session::Recorder;
+use mml_ports::{HostState, SocketSession, TwoPorts, bell_of, open_ports};
+use mml_program::{Fault as ProgramFault, write_pieces};
+use mml_session::{NoGate, Recorder};
 use std::alloc::Global;
 use std::io::Write;
 use std::net::{Net, TcpListener, TcpStream};
+use std::sync::Wait;
 
-impl<
-    'a,
-    R: System + Net<Listener = TcpListener, Stream = TcpStream> + Sync,
-    C: Recorder + Send + Drop,
-> Ready<'a, R, C> {
+impl<C: Recorder + Send + Drop> Ready<C> {
     /// From its beginning: the first line, the connections, and the last line.
-    pub(crate) fn begin<S: Sink + Send + Drop, W: Write>(
-        self,
-        rt: &'a R,
-        sink: S,
-        writer: &mut W,
-    ) -> Result<(), Fault>
+    pub(crate) fn begin<
+        R: System + Net<Listener = TcpListener, Stream = TcpStream> + Sync,
+        S: Sink + Send + Drop,
+        W: Write,
+    >(self, rt: &R, sink: S, writer: &mut W) -> Result<(), Fault>
         requires fresh { IsFresh (S.contents sink) }
         requires countable { S.failures sink < 2 ^ 64 - 1 }
         requires as_many { length self.recorders.others.items + 1 ≡ self.lab.sessions }
-        ensures { OnOk result (TellsClass self.lab self.port self.desk
+        ensures { OnOk result (TellsClass self.lab self.ports.port self.ports.desk
             (W.contents writer.old) (W.contents writer.new)) }
     {
+        write_listening(rt.alloc(), self.ports.port, self.ports.desk, writer)?;
+        self.serve_with_state(rt, sink, writer)
+    }
+
+    // The connections, and the last line.
+    fn serve_with_state<
+        R: System + Net<Listener = TcpListener, Stream = TcpStream> + Sync,
+        S: Sink + Send + Drop,
+        W: Write,
+    >(self, rt: &R, sink: S, writer: &mut W) -> Result<(), Fault>
+        requires fresh { IsFresh (S.contents sink) }
+        requires countable { S.failures sink < 2 ^ 64 - 1 }
+        requires as_many { length self.recorders.others.items + 1 ≡ self.lab.sessions }
+        ensures { OnOk result (Closes self.lab (W.contents writer.old) (W.contents writer.new)) }
+    {
+        let state = HostState::new(rt.alloc(), &self.lab)?;
+        self.serve_to_the_end(rt, sink, &state, writer)?;
+        told_memory(rt, &state)
+    }
+
+    // The same, but for want of memory in a session.
+    fn serve_to_the_end<
+        R: System + Net<Listener = TcpListener, Stream = TcpStream> + Sync,
+        S: Sink + Send + Drop,
+        W: Write,
+    >(self, rt: &R, sink: S, state: &HostState, writer: &mut W) -> Result<(), Fault>
+        requires fresh { IsFresh (S.contents sink) }
+        requires countable { S.failures sink < 2 ^ 64 - 1 }
+        requires as_many { length self.recorders.others.items + 1 ≡ self.lab.sessions }
+        ensures { OnOk result (Closes self.lab (W.contents writer.old) (W.contents writer.new)) }
+    {
         let alloc = rt.alloc();
-        write_text(&first_line(alloc, self.port, self.desk)?, writer)?;
-        let beginning = Beginning::new(alloc, self.lab, sink)?;
-        let served = serve_host(
-            rt,
-            alloc,
-            beginning,
-            self.recorders,
-            self.ports,
-            &self.bell,
-            writer,
+        let bell = bell_of(rt, state, &self.ports)?;
+        let Ready {
+            lab,
+            ports,
+            recorders,
+        } = self;
+        let TwoPorts {
+            at_desk,
+            elsewhere: at_port,
+        } = open_ports(rt, alloc, state, ports);
+        let served = serve_host::<_, _, SocketSession<'_, R>, _, _, _, _, _, _, _, _, _>(
+            rt, alloc, lab, sink, recorders, at_desk, at_port, &bell, &NoGate, writer,
         );
-        match served {
-            Ok(_) => Ok(()),
-            Err(fault) => Err(Fault::from(fault)),
-        }
+        end_of_class(served)
     }
 }
 
-/// The first line, which names the ports.
-pub(crate) fn first_line(alloc: Global, port: u16, desk: u16) -> Result<Vec<u8>, ProgramFault>
-    ensures { IfOk result (λ line. line.items ≡ ports_line port desk) }
+// How a class ends: well, or with the error of its host.
+fn end_of_class<S: Drop, K: Drop, C: Drop>(
+    served: Result<Hosted<S, K, C>, HostFault>,
+) -> Result<(), Fault>
+    ensures { OnOk result (IsOk served) }
+{
+    match served {
+        Ok(house) => {
+            let_go(house);
+            Ok(())
+        }
+        Err(fault) => Err(Fault::from(fault)),
+    }
+}
+
+/// Whether a session was without memory.
+pub(crate) fn told_memory<R: Wait>(rt: &R, state: &HostState) -> Result<(), Fault> {
+    if state.lacked_memory(rt) {
+        Err(Fault::Common(ProgramFault::Memory))
+    } else {
+        Ok(())
+    }
+}
+
+/// Lets go of what is left of a house.
+pub(crate) fn let_go<S: Drop, K: Drop, C: Drop>(house: Hosted<S, K, C>) {
+    drop(house);
+}
+
+/// Writes the first line, which names the ports.
+pub fn write_listening<W: Write>(
+    alloc: Global,
+    port: u16,
+    desk: u16,
+    writer: &mut W,
+) -> Result<(), ProgramFault>
+    ensures { OnOk result
+        (Appends (W.contents writer.old) (W.contents writer.new) (ports_line port desk)) }
 {
     let pieces = [
         Piece::Text("listening on port "),
@@ -63,7 +127,5 @@ pub(crate) fn first_line(alloc: Global, port: u16, desk: u16) -> Result<Vec<u8>,
         Piece::Number(desk as u64),
         Piece::Text("\n"),
     ];
-    let mut line = Vec::new(alloc);
-    put(&mut line, &pieces)?;
-    Ok(line)
+    write_pieces(alloc, &pieces, writer)
 }

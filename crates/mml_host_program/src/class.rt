@@ -6,11 +6,11 @@ use crate::fault::{Fault, of_record};
 use crate::system::System;
 use mml_ends::Retrying;
 use mml_files::{BegunJournal, OldJournal, file_size_limit};
-use mml_hosting::{Recorders, TwoPorts, no_recorders};
+use mml_hosting::{Recorders, no_recorders};
 use mml_journal::{FileSink, NullSink};
 use mml_lab::Lab;
-use mml_ports::{EndBell, HostState, Port, Ports, bell_of, open_ports};
-use mml_program::{Fault as ProgramFault, or_memory};
+use mml_ports::Ports;
+use mml_program::or_memory;
 use mml_recording::{RecordFolder, RecordState, Seats, end_syncing, sync_until_done};
 use mml_session::Recorder;
 use std::fs::File;
@@ -23,7 +23,7 @@ use std::{io, thread};
 #[derive(Drop)]
 pub(crate) struct Past<'a> {
     pub journal: OldJournal<'a>,
-    pub bytes: Vec<u8>,
+    pub bytes: &'a [u8],
 }
 
 /// What takes the lines of the events that are granted.
@@ -35,14 +35,6 @@ pub(crate) enum Journal<'a> {
     Old(Past<'a>),
 }
 
-/// What is taken for a class before its journal is touched: both ports, and the folder of its record, where one is
-/// named.
-#[derive(Drop)]
-pub(crate) struct Taken {
-    pub ports: Ports,
-    pub folder: Option<RecordFolder>,
-}
-
 /// A class that is ready to be served.
 #[derive(Drop)]
 pub(crate) struct Class<'a> {
@@ -51,43 +43,48 @@ pub(crate) struct Class<'a> {
     pub journal: Journal<'a>,
 }
 
-/// A class that is ready to be served, and the folder of its record, where one is named.
+/// What its ports are served with, whatever its journal is.
 #[derive(Drop)]
-pub(crate) struct Prepared<'a> {
-    pub class: Class<'a>,
-    pub folder: Option<RecordFolder>,
-}
-
-/// What a class is served with, whatever its journal is: two ports that are open, and their numbers.
-#[derive(Drop)]
-pub(crate) struct Ready<'a, R, C: Drop> {
+pub(crate) struct Ready<C: Drop> {
     pub lab: Lab,
+    pub ports: Ports,
     pub recorders: Recorders<C>,
-    pub state: &'a HostState,
-    pub port: u16,
-    pub desk: u16,
-    pub ports: TwoPorts<Port<'a, R>>,
-    pub bell: EndBell<'a, R>,
 }
 
-/// Serves a class, and records it where there is a folder for that, which is held until its end.
+/// Serves a class, and records it where there is a folder for that.
 pub(crate) fn serve_class<
     R: System + Files<File = File> + Net<Listener = TcpListener, Stream = TcpStream> + Sync,
->(rt: &R, prepared: Prepared<'_>) -> Result<(), Fault> {
-    let Prepared { class, folder } = prepared;
-    let Some(folder) = folder else {
-        let recorders = no_recorders(rt.alloc(), &class.lab)?;
-        return serve_ports(rt, class, recorders);
-    };
-    let state = RecordState::new(rt.alloc(), &class.lab).map_err(of_record)?;
-    let seats = folder.open_seats(rt, &class.lab, &state);
-    let Seats { recorders, files } = seats.map_err(of_record)?;
-    serve_synced(rt, class, recorders, files.as_slice(), &state)?;
-    if state.has_failed() {
-        Err(Fault::Unrecorded)
-    } else {
-        Ok(())
+>(rt: &R, class: Class<'_>, folder: Option<RecordFolder>) -> Result<(), Fault> {
+    match folder {
+        Some(folder) => serve_recorded(rt, class, folder),
+        None => serve_unrecorded(rt, class),
     }
+}
+
+// Serves a class, and records nothing.
+fn serve_unrecorded<
+    R: System + Files<File = File> + Net<Listener = TcpListener, Stream = TcpStream> + Sync,
+>(rt: &R, class: Class<'_>) -> Result<(), Fault> {
+    let recorders = no_recorders(rt.alloc(), &class.lab)?;
+    serve_ports(rt, class, recorders)
+}
+
+// Serves a class, and records it in a folder.
+fn serve_recorded<
+    R: System + Files<File = File> + Net<Listener = TcpListener, Stream = TcpStream> + Sync,
+>(rt: &R, class: Class<'_>, folder: RecordFolder) -> Result<(), Fault> {
+    let state = RecordState::new(rt.alloc(), &class.lab).map_err(of_record)?;
+    serve_seats(rt, class, folder, &state)?;
+    told_whole(&state)
+}
+
+// Serves a class, and records each seat.
+fn serve_seats<
+    R: System + Files<File = File> + Net<Listener = TcpListener, Stream = TcpStream> + Sync,
+>(rt: &R, class: Class<'_>, folder: RecordFolder, state: &RecordState) -> Result<(), Fault> {
+    let seats = folder.open_seats(rt, &class.lab, state);
+    let Seats { recorders, files } = seats.map_err(of_record)?;
+    serve_synced(rt, class, recorders, files.as_slice(), state)
 }
 
 // Serves a class, while its record is synced by a thread of its own.
@@ -120,7 +117,16 @@ fn serve_synced<
     )
 }
 
-// Serves a class, and tells want of memory as such where its output met it.
+// Whether all that was put in a record has reached the device.
+fn told_whole(state: &RecordState) -> Result<(), Fault> {
+    if state.has_failed() {
+        Err(Fault::Unrecorded)
+    } else {
+        Ok(())
+    }
+}
+
+// Serves a class at its ports.
 fn serve_ports<
     R: System + Files<File = File> + Net<Listener = TcpListener, Stream = TcpStream> + Sync,
     C: Recorder + Send + Drop,
@@ -134,7 +140,7 @@ fn serve_ports<
     }
 }
 
-// Serves a class at its ports, with the journal that it has. A session's want of memory is told at the end.
+// The same, with the journal that it has.
 fn serve_journaled<
     R: System + Files<File = File> + Net<Listener = TcpListener, Stream = TcpStream> + Sync,
     C: Recorder + Send + Drop,
@@ -147,30 +153,19 @@ fn serve_journaled<
         ports,
         journal,
     } = class;
-    let state = HostState::new(rt.alloc(), &lab)?;
-    let bell = bell_of(rt, &state, &ports)?;
     let ready = Ready {
         lab,
+        ports,
         recorders,
-        state: &state,
-        port: ports.port,
-        desk: ports.desk,
-        ports: open_ports(rt, rt.alloc(), &state, ports),
-        bell,
     };
     match journal {
-        Journal::New(None) => ready.begin(rt, NullSink::new(), writer)?,
+        Journal::New(None) => ready.begin(rt, NullSink::new(), writer),
         Journal::New(Some(BegunJournal::Plain(file))) => {
-            ready.begin(rt, FileSink::synced(file, 0, file_size_limit()), writer)?;
+            ready.begin(rt, FileSink::synced(file, 0, file_size_limit()), writer)
         }
         Journal::New(Some(BegunJournal::Other(file))) => {
-            ready.begin(rt, FileSink::new(file), writer)?;
+            ready.begin(rt, FileSink::new(file), writer)
         }
-        Journal::Old(past) => ready.go_on(rt, past, writer)?,
-    }
-    if state.lacked_memory(rt) {
-        Err(Fault::Common(ProgramFault::Memory))
-    } else {
-        Ok(())
+        Journal::Old(past) => ready.go_on(rt, past, writer),
     }
 }

@@ -12,8 +12,9 @@ mod system;
 mod task;
 mod words;
 
+pub use beginning::write_listening;
 pub use fault::Fault;
 pub use old_file::OldFile;
 pub use system::System;
 pub use task::run;
-pub use words::{ClassTask, Task, is_of_class, read_port, read_words};
+pub use words::{HostTask, ResumeTask, Task, is_of_class, read_port, read_words};

@@ -1,67 +1,102 @@
 //! A class that goes on, from where its journal stopped to its last line.
-ghost use Rattle.std.specs.Prelude.{◌≡◌, ◌+◌, OnOk, length};
-ghost use Rattle.mml_host_program.specs.Telling.{TellsResumed};
+ghost use Rattle.std.specs.Prelude.{◌≡◌, ◌+◌, IfOk, OnOk, length};
+ghost use Rattle.mml_host_program.specs.Telling.{ports_line, TellsResumed};
 
-use crate::beginning::first_line;
+use crate::beginning::{let_go, told_memory, write_listening};
 use crate::class::{Past, Ready};
 use crate::fault::Fault;
 use crate::old_file::OldFile;
 use crate::system::System;
+use mml_journal::Sink;
+use mml_ports::{HostState, Ports, SocketSession, TwoPorts, bell_of, open_ports};
 use mml_program::Fault as ProgramFault;
-use mml_resuming::{ResumeFault, resume_class};
-use mml_session::Recorder;
+use mml_resuming::{ResumeFault, Store, resume_class};
+use mml_session::{NoGate, Recorder};
+use std::alloc::Global;
 use std::fs::File;
 use std::io::Write;
 use std::net::{Net, TcpListener, TcpStream};
 use std::rt::Files;
 
-impl<
-    'a,
-    R: System + Files<File = File> + Net<Listener = TcpListener, Stream = TcpStream> + Sync,
-    C: Recorder + Send + Drop,
-> Ready<'a, R, C> {
-    /// From where its journal stopped: the first lines, the connections, and the last line. A journal that couldn't
-    /// be cut for want of memory is told as that.
-    #[tactic(auto, using(crate::proofs::TellingLemmas::told_resumed))]
-    pub(crate) fn go_on<W: Write>(
-        self,
-        rt: &'a R,
-        past: Past<'_>,
-        writer: &mut W,
-    ) -> Result<(), Fault>
+impl<C: Recorder + Send + Drop> Ready<C> {
+    /// From where its journal stopped: the first lines, the connections, and the last line.
+    pub(crate) fn go_on<
+        R: System + Files<File = File> + Net<Listener = TcpListener, Stream = TcpStream> + Sync,
+        W: Write,
+    >(self, rt: &R, past: Past<'_>, writer: &mut W) -> Result<(), Fault>
         requires as_many { length self.recorders.others.items + 1 ≡ self.lab.sessions }
-        ensures { OnOk result (TellsResumed self.lab past.bytes.items self.port self.desk
+        ensures { OnOk result (TellsResumed self.lab past.entry.bytes.now self.ports.port
+            self.ports.desk
             (W.contents writer.old) (W.contents writer.new)) }
     {
-        let alloc = rt.alloc();
-        let first = first_line(alloc, self.port, self.desk)?;
+        let state = HostState::new(rt.alloc(), &self.lab)?;
+        let first = first_line(rt.alloc(), &self.ports)?;
         let Past { journal, bytes } = past;
-        let bytes = bytes.as_slice();
-        let state = self.state;
         let store = OldFile {
             rt,
-            state,
+            state: &state,
             journal,
             bytes,
         };
-        let resumed = resume_class(
-            rt,
-            alloc,
-            self.lab,
-            bytes,
-            store,
-            first.as_slice(),
-            self.recorders,
-            self.ports,
-            &self.bell,
-            writer,
+        self.go_on_after(rt, bytes, store, first.as_slice(), &state, writer)
+    }
+
+    // The same, with the first line, which is told together with the next.
+    #[tactic(auto, using(crate::proofs::TellingLemmas::told_resumed))]
+    fn go_on_after<
+        R: System + Net<Listener = TcpListener, Stream = TcpStream> + Sync,
+        S: Sink + Send + Drop,
+        T: Store<S> + Drop,
+        W: Write,
+    >(
+        self,
+        rt: &R,
+        old: &[u8],
+        store: T,
+        first: &[u8],
+        state: &HostState,
+        writer: &mut W,
+    ) -> Result<(), Fault>
+        requires as_many { length self.recorders.others.items + 1 ≡ self.lab.sessions }
+        requires first { first.now ≡ ports_line self.ports.port self.ports.desk }
+        ensures { OnOk result (TellsResumed self.lab old.now self.ports.port self.ports.desk
+            (W.contents writer.old) (W.contents writer.new)) }
+    {
+        let alloc = rt.alloc();
+        let bell = bell_of(rt, state, &self.ports)?;
+        let Ready {
+            lab,
+            ports,
+            recorders,
+        } = self;
+        let TwoPorts {
+            at_desk,
+            elsewhere: at_port,
+        } = open_ports(rt, alloc, state, ports);
+        let resumed = resume_class::<_, _, _, SocketSession<'_, R>, _, _, _, _, _, _, _, _, _>(
+            rt, alloc, lab, old, store, first, recorders, at_desk, at_port, &bell, &NoGate, writer,
         );
         match resumed {
-            Ok(_) => Ok(()),
-            Err(ResumeFault::Store) if state.lacked_memory(rt) => {
-                Err(Fault::Common(ProgramFault::Memory))
-            }
-            Err(fault) => Err(Fault::from(fault)),
+            Ok(house) => let_go(house),
+            Err(fault) => return Err(told_as(fault, state.lacked_memory(rt))),
         }
+        told_memory(rt, state)
+    }
+}
+
+// The first line, which names the ports.
+fn first_line(alloc: Global, ports: &Ports) -> Result<Vec<u8>, ProgramFault>
+    ensures { IfOk result (λ line. line.items ≡ ports_line ports.now.port ports.now.desk) }
+{
+    let mut line = Vec::new(alloc);
+    write_listening(alloc, ports.port, ports.desk, &mut line)?;
+    Ok(line)
+}
+
+// What a class that doesn't go on is told as: a journal that couldn't be cut for want of memory is that.
+fn told_as(fault: ResumeFault, lacked: bool) -> Fault {
+    match fault {
+        ResumeFault::Store if lacked => Fault::Common(ProgramFault::Memory),
+        _ => Fault::from(fault),
     }
 }

@@ -10,25 +10,30 @@ use std::alloc::{AllocError, Global};
 /// What the words ask for.
 #[derive(Clone, Copy, Debug, PartialEq, Eq, Drop)]
 pub enum Task<'a> {
-    /// To serve a class from its beginning. The lines of the granted events go to the journal, where one is named.
-    Host {
-        class: ClassTask<'a>,
-        journal: Option<&'a str>,
-    },
-    /// To serve a class that goes on from its journal, which has what was granted before.
-    Resume {
-        class: ClassTask<'a>,
-        journal: &'a str,
-    },
+    /// To serve a class from its beginning.
+    Host(HostTask<'a>),
+    /// To serve a class that goes on from its journal.
+    Resume(ResumeTask<'a>),
 }
 
-/// A lab's class at two ports, each 0 where the system is to choose. What is said in each seat goes to the record,
-/// where one is named.
+/// A lab's class at two ports, each 0 where the system is to choose. The lines of the granted events go
+/// to the journal, where one is named, and what is said in each seat to the record, where one is.
 #[derive(Clone, Copy, Debug, PartialEq, Eq, Drop)]
-pub struct ClassTask<'a> {
+pub struct HostTask<'a> {
     pub lab: &'a str,
     pub port: u16,
     pub desk: u16,
+    pub journal: Option<&'a str>,
+    pub record: Option<&'a str>,
+}
+
+/// The same, where the journal has what was granted before.
+#[derive(Clone, Copy, Debug, PartialEq, Eq, Drop)]
+pub struct ResumeTask<'a> {
+    pub lab: &'a str,
+    pub port: u16,
+    pub desk: u16,
+    pub journal: &'a str,
     pub record: Option<&'a str>,
 }
 
@@ -43,47 +48,50 @@ pub fn is_of_class(words: &[String]) -> bool {
 /// Reads the words, of which the first is the program's name.
 pub fn read_words<'a>(alloc: Global, words: &'a [String]) -> Result<Task<'a>, ProgramFault> {
     let matches = match_words(whole(alloc)?, words)?;
-    task_of(&matches).ok_or(ProgramFault::CommandLine)
+    match matches.subcommand() {
+        None => Err(ProgramFault::CommandLine),
+        Some((name, values)) => task_of(name, values).ok_or(ProgramFault::CommandLine),
+    }
 }
 
-// The whole command: the program's name and those of its subcommands that serve a class.
 fn whole<'a>(alloc: Global) -> Result<Command<'a>, AllocError> {
     let whole = command_of(alloc, "mml_host", &[])?;
     let whole = whole.subcommand(host_words(alloc)?)?;
     whole.subcommand(resume_words(alloc)?)
 }
 
-// The subcommand by which a class is served from its beginning.
 fn host_words<'a>(alloc: Global) -> Result<Command<'a>, AllocError> {
     let command = command_of(alloc, "host", &["lab", "port", "desk"])?;
     let command = with_optional(alloc, command, "journal")?;
     with_optional(alloc, command, "record")
 }
 
-// The subcommand by which a class goes on.
 fn resume_words<'a>(alloc: Global) -> Result<Command<'a>, AllocError> {
     let places = ["lab", "port", "desk", "journal"];
     with_optional(alloc, command_of(alloc, "resume", &places)?, "record")
 }
 
-// The task of the subcommand that is named, if there is such a one.
-fn task_of<'a>(matches: &ArgMatches<'a>) -> Option<Task<'a>> {
-    let Some((name, values)) = matches.subcommand() else {
-        return None;
-    };
-    let class = ClassTask {
-        lab: values.get_str("lab")?,
-        port: read_port(values.get_str("port")?)?,
-        desk: read_port(values.get_str("desk")?)?,
-        record: values.get_str("record"),
-    };
+fn task_of<'a>(name: &str, values: &ArgMatches<'a>) -> Option<Task<'a>> {
+    let lab = values.get_str("lab")?;
+    let port = read_port(values.get_str("port")?)?;
+    let desk = read_port(values.get_str("desk")?)?;
     let journal = values.get_str("journal");
+    let record = values.get_str("record");
     match name {
-        "host" => Some(Task::Host { class, journal }),
-        "resume" => {
-            let journal = journal?;
-            Some(Task::Resume { class, journal })
-        }
+        "host" => Some(Task::Host(HostTask {
+            lab,
+            port,
+            desk,
+            journal,
+            record,
+        })),
+        "resume" => Some(Task::Resume(ResumeTask {
+            lab,
+            port,
+            desk,
+            journal: journal?,
+            record,
+        })),
         _ => None,
     }
 }

@@ -17,7 +17,7 @@ use Rattle.mml_window.specs.Windows.{WindowValue}
 use Rattle.mml_window.proofs.PrefixLemmas.{prefix_trans}
 use Rattle.mml_hosting.proofs.SeatLemmas.{led_seen}
 use Rattle.mml_hosting.specs.Ports.{HaveSame, ServesPort, numbers_of, records_of, windows_of}
-use Rattle.mml_hosting.specs.Hosting.{Hosts, IsUnused}
+use Rattle.mml_hosting.specs.Hosting.{HostsFrom, IsUnused}
 
 -- where each of some windows has seen these events, and one of them a beginning of others, these begin the others
 begins_with : {H K C : Type 0} (begun l : List Event) (ss : List (Seat H K C)) (rest : List WindowValue) → length ss ≡ 1
@@ -92,7 +92,7 @@ module _ {H K C R W : Type 0} (t : Terms K C R W) where
         → IfOk r (λ house. IsLogFrom (length t.begun) t.lab sink (windows_of desks ++ windows_of others) house.log)
         → IfOk r (λ _. All (λ s. s.is_dismissed ≡ true) desks)
         → IfOk r (λ house. house.desk.items ≡ records_of desks) → IfOk r (λ house. house.others.items ≡ records_of others)
-        → IfOk r (Hosts t sink to_desk to_come)
+        → IfOk r (λ house. HostsFrom t.begun t.given t.lab sink t.remaining t.contents t.recorded t.shows to_desk to_come house)
     hosted (Ok house) count one desk_first rest desk_fresh fresh at_desk at_port kept dismissed desk_is others_is =
         let single : length desks ≡ 1 = at_desk.count ∙ one in
         record {

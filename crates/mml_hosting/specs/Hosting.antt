@@ -1,11 +1,7 @@
 -- A house through whose windows one connection after another was served.
 use Rattle.std.specs.Prelude.{◌≡◌, ℕ, false, List, [], ◌++◌, flat_map, length, All, Option}
 use Rattle.std.specs.List.{AllZip, range_with_len}
-use Rattle.std.specs.Io.KnownBytes.{Appends}
 use Rattle.mml_lab.specs.Labs.{LabValue}
-use Rattle.mml_board.specs.Lists.{world_in}
-use Rattle.mml_serving.specs.Closings.{done_line}
-use Rattle.mml_window.specs.declared.log.Log.{Log}
 use Rattle.mml_window.specs.Windows.{WindowValue, window}
 use Rattle.mml_window.specs.Logs.{IsLogFrom}
 use mathlib.Core.List.{IsPrefix}
@@ -14,7 +10,7 @@ use Rattle.mml_hosting.specs.declared.seat.ServedSession.{ServedSession}
 use Rattle.mml_hosting.specs.declared.seat.Seat.{Seat}
 use Rattle.mml_hosting.specs.declared.hosted.Hosted.{Hosted}
 use Rattle.mml_session.specs.Records.{Kept}
-use Rattle.mml_hosting.specs.Seats.{IsDismissed, Led, Terms, came_to, sessions_of}
+use Rattle.mml_hosting.specs.Seats.{IsDismissed, Led, came_to, sessions_of, terms}
 use Rattle.mml_hosting.specs.Ports.{Attends, HaveSame, numbers_of}
 
 -- nobody was served in the seat so far, and its recorder is as it was given
@@ -29,21 +25,23 @@ pub record IsUnused {H K C : Type 0} (begun : List Event) (given : ℕ → Optio
 -- numbers 1 to that of the lab's sessions, each once. The sessions of each seat, in order, led its window there, and what was recorded
 -- of them led its recorder, and at the desk the last one, and no earlier one, was ended by the teacher's bye. The connections that came
 -- to a port were served, each once, or turned away
-pub record Hosts {S K C R W : Type 0} (t : Terms K C R W) (sink : S → Option (List ℕ)) (to_desk to_come : Option (List (R × W))) (house : Hosted S K C) : Type 0 where
+pub record HostsFrom {S K C R W : Type 0} (begun : List Event) (given : ℕ → Option Kept) (lab : LabValue) (sink : S → Option (List ℕ))
+    (remaining : R → Option (List ℕ)) (contents : W → Option (List ℕ)) (recorded : C → Option Kept) (shows : K → ServedSession R W)
+    (to_desk to_come : Option (List (R × W))) (house : Hosted S K C) : Type 0 where
   pub desk_windows : List WindowValue
   pub windows : List WindowValue
-  pub begins : IsPrefix t.begun house.log.events
-  pub at_least : All (λ w. IsPrefix t.begun w.seen) (desk_windows ++ windows)
-  pub kept : IsLogFrom (length t.begun) t.lab sink (desk_windows ++ windows) house.log
-  pub numbers : HaveSame (range_with_len 1 t.lab.sessions) (numbers_of (house.desk.items ++ house.others.items))
-  pub at_desk : AllZip (Led t) house.desk.items desk_windows
-  pub elsewhere : AllZip (Led t) house.others.items windows
+  pub begins : IsPrefix begun house.log.events
+  pub at_least : All (λ w. IsPrefix begun w.seen) (desk_windows ++ windows)
+  pub kept : IsLogFrom (length begun) lab sink (desk_windows ++ windows) house.log
+  pub numbers : HaveSame (range_with_len 1 lab.sessions) (numbers_of (house.desk.items ++ house.others.items))
+  pub at_desk : AllZip (Led (terms lab begun given remaining contents recorded shows)) house.desk.items desk_windows
+  pub elsewhere : AllZip (Led (terms lab begun given remaining contents recorded shows)) house.others.items windows
   pub one : length house.desk.items ≡ 1
-  pub dismissed : All (λ r. IsDismissed (sessions_of t.shows r)) house.desk.items
-  pub came_to_desk : Attends to_desk [] (flat_map (came_to t.shows) house.desk.items)
-  pub came : Attends to_come [] (flat_map (came_to t.shows) house.others.items)
+  pub dismissed : All (λ r. IsDismissed (sessions_of shows r)) house.desk.items
+  pub came_to_desk : Attends to_desk [] (flat_map (came_to shows) house.desk.items)
+  pub came : Attends to_come [] (flat_map (came_to shows) house.others.items)
 
--- the journal isn't halted, and the last line was written, of the log's events
-pub record EndsWell {S : Type 0} (lab : LabValue) (wrote wrote' : Option (List ℕ)) (log : Log S) : Type 0 where
-  pub unhalted : log.halted ≡ false
-  pub last : Appends wrote wrote' (done_line (length log.events) (world_in lab log.events).number)
+-- what HostsFrom says, of a house before whose opening nothing came
+abbrev pub Hosts : {S K C R W : Type 0} → (ℕ → Option Kept) → LabValue → (S → Option (List ℕ)) → (R → Option (List ℕ)) → (W → Option (List ℕ))
+    → (C → Option Kept) → (K → ServedSession R W) → Option (List (R × W)) → Option (List (R × W)) → Hosted S K C → Type 0
+Hosts given lab sink remaining contents recorded shows to_desk to_come house = HostsFrom [] given lab sink remaining contents recorded shows to_desk to_come house

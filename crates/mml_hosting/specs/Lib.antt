@@ -2,5 +2,4 @@ pub mod Seats
 pub mod Ports
 pub mod Counting
 pub mod Bringing
-pub mod Beginnings
 pub mod Hosting

@@ -2,8 +2,6 @@
 ghost use Rattle.std.specs.Prelude.{List, None, Option};
 ghost use Rattle.mml_hosting.specs.Bringing.{Brings};
 
-use crate::seat::Keep;
-use mml_serving::HangUp;
 use std::io::{Read, Write};
 
 /// What an accept brought.
@@ -17,24 +15,13 @@ pub enum Accepted<R: Drop, W: Drop, U: Drop> {
     Over,
 }
 
-/// What gives the connections of a port as they come.
-pub trait Accept {
-    /// The end of a connection from which its requests are read.
-    type Reader: Read + Send + Drop;
-    /// The end to which its replies are written.
-    type Writer: Write + HangUp + Send + Drop;
-    /// What ends it from elsewhere.
-    type Line: CutOff + Send + Drop;
-    /// What is kept of its session.
-    type Kept: Keep<Self::Reader, Self::Writer> + Send + Drop;
-    /// What is rung once its session has ended.
-    type Bell: Bell + Sync;
-
+/// What gives connections as they come.
+pub trait Accept<R: Read + Drop, W: Write + Drop, U: CutOff + Drop> {
     // The connections that are still to come, where they are known.
-    ghost to_come: { Self → Option (List (Self.Reader × Self.Writer)) } = { λ _. None };
+    ghost to_come: { Self → Option (List (R × W)) } = { λ _. None };
 
     /// The next connection, for which it may wait.
-    fn accept_next(&mut self) -> Accepted<Self::Reader, Self::Writer, Self::Line>
+    fn accept_next(&mut self) -> Accepted<R, W, U>
         ensures { Brings (to_come self.old) (to_come self.new) result };
 }
 

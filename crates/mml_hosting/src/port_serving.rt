@@ -1,4 +1,4 @@
-//! Two ports: connections are taken as they come, each to a seat that is free.
+//! A port: connections are taken as they come, each to a seat that is free.
 ghost use Rattle.std.specs.Prelude.{◌≡◌, ◌<◌, ◌≤◌, ◌+◌, ℕ, true, All, IfOk, IfErr, IfSome, IfNone, [], vec_len, vec_capacity};
 ghost use Rattle.std.specs.Thread.{IsSync, IsSend};
 ghost use Rattle.mml_hosting.specs.Seats.{IsReady, IsSeat, ServesIn, came_to, terms};
@@ -12,7 +12,7 @@ use mml_ids::Memory;
 use mml_journal::Sink;
 use mml_lines::put_all;
 use mml_serving::HangUp;
-use mml_session::{Recorder, Setting};
+use mml_session::{Gate, Recorder, Setting};
 use mml_window::Desk;
 use std::alloc::Global;
 use std::io::{Read, Write};
@@ -20,7 +20,7 @@ use std::snapshot::Snapshot;
 use std::sync::Wait;
 use std::sync::atomic::{AtomicU64, Ordering};
 use std::thread;
-use std::thread::{Promise, PromisedHandle, Scope, Threads, join};
+use std::thread::{Promise, PromisedHandle, Scope, Threads};
 
 /// What a connection is told for which no seat is free.
 pub const BUSY: &[u8] = b"{\"refuse\":\"busy\"}\n";
@@ -61,7 +61,7 @@ impl<
     C: Recorder + Drop,
     R: Read + Drop,
     W: Write + Drop,
-    U: CutOff + Drop,
+    U: Drop,
 > Busy<H, K, C, R, W, U> {
     // The first whose thread has come to its end.
     fn first_done(busy: &Vec<Self>, marks: &[AtomicU64]) -> Option<usize>
@@ -128,32 +128,25 @@ impl<
             free.push_reserved(Self::join_one(rt, busy, index));
         }
     }
-
-    // Ends all connections that are being served.
-    fn cut_off_all(busy: &Vec<Self>) {
-        for index in 0..busy.len() {
-            busy[index].line.cut_off();
-        }
-    }
 }
 
 // A seat that is free, where one session more may be served.
-fn next_free<H: Begun, C: Recorder + Drop, A: Accept>(
-    free: &mut Vec<Seat<H, A::Kept, C>>,
-) -> Option<Seat<H, A::Kept, C>>
-    requires seats { All (IsSeat (terms H.lab H.begun H.given A.Reader.remaining A.Writer.contents C.kept A.Kept.shows)) free.old.items }
-    ensures ready { IfSome result (IsReady (terms H.lab H.begun H.given A.Reader.remaining A.Writer.contents C.kept A.Kept.shows)) }
-    ensures seats { All (IsSeat (terms H.lab H.begun H.given A.Reader.remaining A.Writer.contents C.kept A.Kept.shows)) free.new.items }
+fn next_free<H: Begun, K: Keep<R, W> + Drop, C: Recorder + Drop, R: Read + Drop, W: Write + Drop>(
+    free: &mut Vec<Seat<H, K, C>>,
+) -> Option<Seat<H, K, C>>
+    requires seats { All (IsSeat (terms H.lab H.begun H.given R.remaining W.contents C.kept K.shows)) free.old.items }
+    ensures ready { IfSome result (IsReady (terms H.lab H.begun H.given R.remaining W.contents C.kept K.shows)) }
+    ensures seats { All (IsSeat (terms H.lab H.begun H.given R.remaining W.contents C.kept K.shows)) free.new.items }
     ensures some { IfSome result (λ seat. (vec_len free.new + 1 ≡ vec_len free.old)
-        × ((g : ℕ → ℕ) (h : A.Reader × A.Writer → ℕ) → count_free A.Kept.shows g h free.new.items + count_in A.Kept.shows g h seat
-        ≡ count_free A.Kept.shows g h free.old.items)) }
+        × ((g : ℕ → ℕ) (h : R × W → ℕ) → count_free K.shows g h free.new.items + count_in K.shows g h seat
+        ≡ count_free K.shows g h free.old.items)) }
     ensures none { IfNone result (vec_len free.new ≡ vec_len free.old) }
-    ensures same { IfNone result ((g : ℕ → ℕ) (h : A.Reader × A.Writer → ℕ) →
-        count_free A.Kept.shows g h free.new.items ≡ count_free A.Kept.shows g h free.old.items) }
+    ensures same { IfNone result ((g : ℕ → ℕ) (h : R × W → ℕ) →
+        count_free K.shows g h free.new.items ≡ count_free K.shows g h free.old.items) }
     ensures capacity { vec_capacity free.new ≡ vec_capacity free.old }
 {
     let mut seat = free.pop()?;
-    if !is_made_ready::<H, C, A>(&mut seat) {
+    if !is_made_ready(&mut seat) {
         free.push_reserved(seat);
         return None;
     }
@@ -161,12 +154,18 @@ fn next_free<H: Begun, C: Recorder + Drop, A: Accept>(
 }
 
 // Whether one session more may be served in the seat. Where it may, there is room for what is kept of it.
-fn is_made_ready<H: Begun, C: Recorder + Drop, A: Accept>(seat: &mut Seat<H, A::Kept, C>) -> bool
-    requires seat { IsSeat (terms H.lab H.begun H.given A.Reader.remaining A.Writer.contents C.kept A.Kept.shows) seat.old }
-    ensures seat { IsSeat (terms H.lab H.begun H.given A.Reader.remaining A.Writer.contents C.kept A.Kept.shows) seat.new }
-    ensures came { came_to A.Kept.shows seat.new.record ≡ came_to A.Kept.shows seat.old.record }
+fn is_made_ready<
+    H: Begun,
+    K: Keep<R, W> + Drop,
+    C: Recorder + Drop,
+    R: Read + Drop,
+    W: Write + Drop,
+>(seat: &mut Seat<H, K, C>) -> bool
+    requires seat { IsSeat (terms H.lab H.begun H.given R.remaining W.contents C.kept K.shows) seat.old }
+    ensures seat { IsSeat (terms H.lab H.begun H.given R.remaining W.contents C.kept K.shows) seat.new }
+    ensures came { came_to K.shows seat.new.record ≡ came_to K.shows seat.old.record }
     ensures number { seat.new.record.number ≡ seat.old.record.number }
-    ensures ready { result ≡ true → IsReady (terms H.lab H.begun H.given A.Reader.remaining A.Writer.contents C.kept A.Kept.shows) seat.new }
+    ensures ready { result ≡ true → IsReady (terms H.lab H.begun H.given R.remaining W.contents C.kept K.shows) seat.new }
 {
     !seat.is_dismissed && seat.record.sessions.reserve(1).is_ok()
 }
@@ -179,8 +178,22 @@ fn turn_away<R: Drop, W: Write + HangUp + Drop>(ends: (R, W)) {
     writer.hang_up();
 }
 
-/// For each number that a seat may have, which is a byte, whether the thread there has come to its end: none has.
-pub(crate) fn new_marks(alloc: Global) -> Result<Vec<AtomicU64>, Memory> {
+// Ends all connections that are being served.
+fn cut_off_all<
+    H: Begun,
+    K: Keep<R, W> + Drop,
+    C: Recorder + Drop,
+    R: Read + Drop,
+    W: Write + Drop,
+    U: CutOff + Drop,
+>(busy: &Vec<Busy<H, K, C, R, W, U>>) {
+    for index in 0..busy.len() {
+        busy[index].line.cut_off();
+    }
+}
+
+// For each number that a seat may have, which is a byte, whether the thread there has come to its end: none has.
+fn new_marks(alloc: Global) -> Result<Vec<AtomicU64>, Memory> {
     let mut marks = Vec::new(alloc);
     for _ in 0..256u16 {
         if marks.push(AtomicU64::new(0)).is_err() {
@@ -190,22 +203,16 @@ pub(crate) fn new_marks(alloc: Global) -> Result<Vec<AtomicU64>, Memory> {
     Ok(marks)
 }
 
-/// What gives the connections of both ports.
+// What the threads of a port share.
 #[derive(Drop)]
-pub struct TwoPorts<A: Drop> {
-    pub at_desk: A,
-    pub elsewhere: A,
-}
-
-/// What the threads of a house share.
-#[derive(Drop)]
-pub(crate) struct Shared<'s, Rt, S: Sink, H: Begun, A: Accept> {
-    pub rt: &'s Rt,
-    pub alloc: Global,
-    pub desk: &'s Desk<S, H>,
-    pub bell: &'s A::Bell,
-    /// By the number of a seat, whether its thread has come to its end.
-    pub marks: &'s [AtomicU64],
+struct Shared<'s, Rt, S: Sink, H: Begun, G, B> {
+    rt: &'s Rt,
+    alloc: Global,
+    desk: &'s Desk<S, H>,
+    gate: &'s G,
+    bell: &'s B,
+    // By the number of a seat, whether its thread has come to its end.
+    marks: &'s [AtomicU64],
 }
 
 impl<
@@ -213,28 +220,34 @@ impl<
     Rt: Threads + Wait + Sync + 's,
     S: Sink + Send + Drop + 's,
     H: Begun + Send + Sync + 's,
-    A: Accept + Send + Drop + 's,
-> Shared<'s, Rt, S, H, A> {
+    G: Gate + Sync + 's,
+    B: Bell + Sync + 's,
+> Shared<'s, Rt, S, H, G, B> {
     // Serves a connection in a seat in a thread of its own. Where none can be made it is ended before it
     // is served, so that nobody behind waits for it; but at the desk it is served at once.
-    fn serve_apart<E, C: Recorder + Send + Drop + 's>(
+    fn serve_apart<
+        E,
+        K: Keep<R, W> + Send + Drop + 's,
+        C: Recorder + Send + Drop + 's,
+        R: Read + Send + Drop + 's,
+        W: Write + HangUp + Send + Drop + 's,
+        U: CutOff,
+    >(
         &self,
         scope: &Scope<'s, E>,
-        seat: Seat<H, A::Kept, C>,
-        ends: (A::Reader, A::Writer),
-        line: &A::Line,
-    ) -> Result<
-        PromisedHandle<Seat<H, A::Kept, C>, SeatPledge<H, A::Kept, C, A::Reader, A::Writer>>,
-        Seat<H, A::Kept, C>,
-    >
-        requires { IsReady (terms H.lab H.begun H.given A.Reader.remaining A.Writer.contents C.kept A.Kept.shows) seat }
+        seat: Seat<H, K, C>,
+        ends: (R, W),
+        line: &U,
+    ) -> Result<PromisedHandle<Seat<H, K, C>, SeatPledge<H, K, C, R, W>>, Seat<H, K, C>>
+        requires { IsReady (terms H.lab H.begun H.given R.remaining W.contents C.kept K.shows) seat }
         ensures pledged { IfOk result (λ handle. (handle.promise.0.value ≡ seat)
             × (handle.promise.1.value ≡ ends)) }
-        ensures served { IfErr result (ServesIn (terms H.lab H.begun H.given A.Reader.remaining A.Writer.contents C.kept A.Kept.shows) seat ends) }
+        ensures served { IfErr result (ServesIn (terms H.lab H.begun H.given R.remaining W.contents C.kept K.shows) seat ends) }
     {
         let rt = self.rt;
         let alloc = self.alloc;
         let desk = self.desk;
+        let gate = self.gate;
         let bell = self.bell;
         let marks = self.marks;
         let is_desk = seat.is_desk;
@@ -242,12 +255,12 @@ impl<
         let pledge = SeatPledge(Snapshot::of(&seat), Snapshot::of(&ends));
         match scope.spawn_with(
             pledge,
-            move || -> Seat<H, A::Kept, C>
-                requires { IsReady (terms H.lab H.begun H.given A.Reader.remaining A.Writer.contents C.kept A.Kept.shows) seat }
-                ensures { ServesIn (terms H.lab H.begun H.given A.Reader.remaining A.Writer.contents C.kept A.Kept.shows) seat ends result }
+            move || -> Seat<H, K, C>
+                requires { IsReady (terms H.lab H.begun H.given R.remaining W.contents C.kept K.shows) seat }
+                ensures { ServesIn (terms H.lab H.begun H.given R.remaining W.contents C.kept K.shows) seat ends result }
             {
                 let setting = Setting { rt, alloc, desk };
-                let seat = serve_in::<Rt, S, H, C, A>(&setting, seat, ends, marks);
+                let seat = serve_in(&setting, seat, ends, gate, marks);
                 bell.ring(seat.is_dismissed);
                 seat
             },
@@ -263,26 +276,33 @@ impl<
     }
 
     // Serves a connection in a seat that is free, and turns it away where none is.
-    fn take_in<E, C: Recorder + Send + Drop + 's>(
+    fn take_in<
+        E,
+        K: Keep<R, W> + Send + Drop + 's,
+        C: Recorder + Send + Drop + 's,
+        R: Read + Send + Drop + 's,
+        W: Write + HangUp + Send + Drop + 's,
+        U: CutOff + Drop,
+    >(
         &self,
         scope: &Scope<'s, E>,
-        free: &mut Vec<Seat<H, A::Kept, C>>,
-        busy: &mut Vec<Busy<H, A::Kept, C, A::Reader, A::Writer, A::Line>>,
-        ends: (A::Reader, A::Writer),
-        line: A::Line,
+        free: &mut Vec<Seat<H, K, C>>,
+        busy: &mut Vec<Busy<H, K, C, R, W, U>>,
+        ends: (R, W),
+        line: U,
     )
-        requires seats { All (IsSeat (terms H.lab H.begun H.given A.Reader.remaining A.Writer.contents C.kept A.Kept.shows)) free.old.items }
+        requires seats { All (IsSeat (terms H.lab H.begun H.given R.remaining W.contents C.kept K.shows)) free.old.items }
         requires room { vec_len free.old + vec_len busy.old ≤ vec_capacity free.old }
         requires busy_room { vec_len free.old + vec_len busy.old ≤ vec_capacity busy.old }
-        ensures seats { All (IsSeat (terms H.lab H.begun H.given A.Reader.remaining A.Writer.contents C.kept A.Kept.shows)) free.new.items }
-        ensures takes { TakesIn A.Kept.shows ends free.old.items busy.old.items
+        ensures seats { All (IsSeat (terms H.lab H.begun H.given R.remaining W.contents C.kept K.shows)) free.new.items }
+        ensures takes { TakesIn K.shows ends free.old.items busy.old.items
             free.new.items busy.new.items }
         ensures len { vec_len free.new + vec_len busy.new ≡ vec_len free.old + vec_len busy.old }
         ensures capacity { vec_capacity free.new ≡ vec_capacity free.old }
         ensures busy_capacity { vec_capacity busy.new ≡ vec_capacity busy.old }
     {
         Busy::gather(self.rt, free, busy, Some(self.marks));
-        let Some(seat) = next_free::<H, C, A>(free) else {
+        let Some(seat) = next_free(free) else {
             turn_away(ends);
             return;
         };
@@ -298,14 +318,22 @@ impl<
     }
 
     // Serves those who come until no more are to be served, and then waits for the threads.
-    fn serve_until_over<E, C: Recorder + Send + Drop + 's>(
+    fn serve_until_over<
+        E,
+        K: Keep<R, W> + Send + Drop + 's,
+        C: Recorder + Send + Drop + 's,
+        R: Read + Send + Drop + 's,
+        W: Write + HangUp + Send + Drop + 's,
+        U: CutOff + Drop,
+        A: Accept<R, W, U> + Drop,
+    >(
         &self,
         scope: &Scope<'s, E>,
-        seats: Vec<Seat<H, A::Kept, C>>,
+        seats: Vec<Seat<H, K, C>>,
         arrivals: A,
-    ) -> Result<Vec<Seat<H, A::Kept, C>>, Memory>
-        requires seats { All (IsSeat (terms H.lab H.begun H.given A.Reader.remaining A.Writer.contents C.kept A.Kept.shows)) seats.items }
-        ensures { IfOk result (λ ps. ServesPort (terms H.lab H.begun H.given A.Reader.remaining A.Writer.contents C.kept A.Kept.shows)
+    ) -> Result<Vec<Seat<H, K, C>>, Memory>
+        requires seats { All (IsSeat (terms H.lab H.begun H.given R.remaining W.contents C.kept K.shows)) seats.items }
+        ensures { IfOk result (λ ps. ServesPort (terms H.lab H.begun H.given R.remaining W.contents C.kept K.shows)
             (A.to_come arrivals) seats.items ps.items) }
     {
         let mut arrivals = arrivals;
@@ -322,65 +350,63 @@ impl<
         }
         // Who waits at the port is let go of before the sessions are waited for.
         drop(arrivals);
-        Busy::cut_off_all(&busy);
+        cut_off_all(&busy);
         Busy::gather(self.rt, &mut free, &mut busy, None);
         Ok(free)
     }
+}
 
-    // Takes the connections of a port as they come, each to a seat that is free, where a thread of its own
-    // serves it, and turns away those for which none is. At the end all that are still served are hung up,
-    // and all threads have ended when it returns. For whom no thread can be made is ended before anything is
-    // read, but at the desk. A port that is lost rings the bell: the other one would wait for it in vain.
-    fn serve_port<C: Recorder + Send + Drop>(
-        &self,
-        seats: Vec<Seat<H, A::Kept, C>>,
-        arrivals: A,
-    ) -> Result<Vec<Seat<H, A::Kept, C>>, Memory>
-        requires seats { All (IsSeat (terms H.lab H.begun H.given A.Reader.remaining A.Writer.contents C.kept A.Kept.shows)) seats.items }
-        ensures serves { IfOk result (λ ps. ServesPort (terms H.lab H.begun H.given A.Reader.remaining A.Writer.contents C.kept A.Kept.shows)
-            (A.to_come arrivals) seats.items ps.items) }
-    {
-        let served = thread::scope(
-            thread::scope_env(),
-            self.rt,
-            |scope| -> Result<Vec<Seat<H, A::Kept, C>>, Memory>
-                requires { IsSync Rt.row × IsSend S.row × IsSend H.row × IsSync H.row × IsSend C.row
-                    × IsSend A.row × All (IsSeat (terms H.lab H.begun H.given A.Reader.remaining A.Writer.contents C.kept A.Kept.shows)) seats.items }
-            { self.serve_until_over(scope, seats, arrivals) },
-        );
-        if served.is_err() {
-            self.bell.ring(true);
-        }
-        served
-    }
-
-    /// Serves both ports at once. Where no thread can be made the desk's port comes first, since it ends by
-    /// itself.
-    pub(crate) fn serve_both<C: Recorder + Send + Drop>(
-        &self,
-        desk_seats: Vec<Seat<H, A::Kept, C>>,
-        seats: Vec<Seat<H, A::Kept, C>>,
-        ports: TwoPorts<A>,
-    ) -> Result<(Vec<Seat<H, A::Kept, C>>, Vec<Seat<H, A::Kept, C>>), Memory>
-        requires desk_seats { All (IsSeat (terms H.lab H.begun H.given A.Reader.remaining A.Writer.contents C.kept A.Kept.shows)) desk_seats.items }
-        requires seats { All (IsSeat (terms H.lab H.begun H.given A.Reader.remaining A.Writer.contents C.kept A.Kept.shows)) seats.items }
-        ensures desk { IfOk result (λ served. ServesPort (terms H.lab H.begun H.given A.Reader.remaining A.Writer.contents C.kept A.Kept.shows)
-            (A.to_come ports.at_desk) desk_seats.items served.0.items) }
-        ensures others { IfOk result (λ served. ServesPort (terms H.lab H.begun H.given A.Reader.remaining A.Writer.contents C.kept A.Kept.shows)
-            (A.to_come ports.elsewhere) seats.items served.1.items) }
-    {
-        let TwoPorts { at_desk, elsewhere } = ports;
-        let (others, desks) = join(
-            self.rt,
-            move || -> Result<Vec<Seat<H, A::Kept, C>>, Memory>
-                requires { IsSync Rt.row × IsSend S.row × IsSend H.row × IsSync H.row × IsSend C.row
-                    × IsSend A.row × All (IsSeat (terms H.lab H.begun H.given A.Reader.remaining A.Writer.contents C.kept A.Kept.shows)) seats.items }
-            { self.serve_port(seats, elsewhere) },
-            move || -> Result<Vec<Seat<H, A::Kept, C>>, Memory>
-                requires { IsSync Rt.row × IsSend S.row × IsSend H.row × IsSync H.row × IsSend C.row
-                    × IsSend A.row × All (IsSeat (terms H.lab H.begun H.given A.Reader.remaining A.Writer.contents C.kept A.Kept.shows)) desk_seats.items }
-            { self.serve_port(desk_seats, at_desk) },
-        );
-        Ok((desks?, others?))
-    }
+/// Takes connections as they come, each to a seat that is free, where a thread of its own serves it,
+/// and turns away those for which none is. At the end all that are still served are hung up, and all
+/// threads have ended when it returns. For whom no thread can be made is ended before anything is read,
+/// but at the desk.
+pub fn serve_port<
+    Rt: Threads + Wait + Sync,
+    S: Sink + Send + Drop,
+    H: Begun + Send + Sync,
+    K: Keep<R, W> + Send + Drop,
+    C: Recorder + Send + Drop,
+    R: Read + Send + Drop,
+    W: Write + HangUp + Send + Drop,
+    U: CutOff + Drop,
+    A: Accept<R, W, U> + Drop,
+    G: Gate + Sync,
+    B: Bell + Sync,
+>(
+    setting: &Setting<'_, Rt, S, H>,
+    seats: Vec<Seat<H, K, C>>,
+    arrivals: A,
+    gate: &G,
+    bell: &B,
+) -> Result<Vec<Seat<H, K, C>>, Memory>
+    requires seats { All (IsSeat (terms H.lab H.begun H.given R.remaining W.contents C.kept K.shows)) seats.items }
+    ensures serves { IfOk result (λ ps. ServesPort (terms H.lab H.begun H.given R.remaining W.contents C.kept K.shows)
+        (A.to_come arrivals) seats.items ps.items) }
+{
+    let rt = setting.rt;
+    let alloc = setting.alloc;
+    let desk = setting.desk;
+    let marks = new_marks(alloc)?;
+    let marks = marks.as_slice();
+    thread::scope(
+        thread::scope_env(),
+        rt,
+        |scope| -> Result<Vec<Seat<H, K, C>>, Memory>
+            requires { IsSync Rt.row × IsSync G.row × IsSync B.row × IsSend S.row × IsSend H.row
+                × IsSync H.row × IsSend K.row × IsSend C.row × IsSend R.row × IsSend W.row
+                × All (IsSeat (terms H.lab H.begun H.given R.remaining W.contents C.kept K.shows)) seats.items }
+            ensures { IfOk result (λ ps. ServesPort (terms H.lab H.begun H.given R.remaining W.contents C.kept K.shows)
+                (A.to_come arrivals) seats.items ps.items) }
+        {
+            let shared = Shared {
+                rt,
+                alloc,
+                desk,
+                gate,
+                bell,
+                marks,
+            };
+            shared.serve_until_over(scope, seats, arrivals)
+        },
+    )
 }

@@ -2,13 +2,13 @@
 ghost use Rattle.std.specs.Prelude.{◌≡◌, ◌&&◌};
 ghost use Rattle.mml_hosting.specs.Seats.{IsReady, ServesIn, is_teachers_bye, terms};
 
-use crate::accepting::Accept;
 use crate::begun::Begun;
 use mml_journal::Sink;
 use mml_lab::Who;
 use mml_serving::HangUp;
-use mml_session::{Ending, NoGate, Recorder, SessionEnd, Setting, serve_recorded};
+use mml_session::{Ending, Gate, Recorder, SessionEnd, Setting, serve_recorded};
 use mml_window::Window;
+use std::io::{Read, Write};
 use std::snapshot::Snapshot;
 use std::sync::Wait;
 use std::sync::atomic::{AtomicU64, Ordering};
@@ -79,14 +79,24 @@ pub struct Seat<H: Begun, K: Drop, C: Drop> {
 }
 
 /// Serves a connection in a seat, hangs up, and marks the seat as free.
-pub fn serve_in<Rt: Wait, S: Sink + Drop, H: Begun, C: Recorder + Drop, A: Accept>(
+pub fn serve_in<
+    Rt: Wait,
+    S: Sink + Drop,
+    H: Begun,
+    K: Keep<R, W> + Drop,
+    C: Recorder + Drop,
+    R: Read + Drop,
+    W: Write + HangUp + Drop,
+    G: Gate,
+>(
     setting: &Setting<'_, Rt, S, H>,
-    seat: Seat<H, A::Kept, C>,
-    ends: (A::Reader, A::Writer),
+    seat: Seat<H, K, C>,
+    ends: (R, W),
+    gate: &G,
     marks: &[AtomicU64],
-) -> Seat<H, A::Kept, C>
-    requires { IsReady (terms H.lab H.begun H.given A.Reader.remaining A.Writer.contents C.kept A.Kept.shows) seat }
-    ensures { ServesIn (terms H.lab H.begun H.given A.Reader.remaining A.Writer.contents C.kept A.Kept.shows) seat ends result }
+) -> Seat<H, K, C>
+    requires { IsReady (terms H.lab H.begun H.given R.remaining W.contents C.kept K.shows) seat }
+    ensures { ServesIn (terms H.lab H.begun H.given R.remaining W.contents C.kept K.shows) seat ends result }
 {
     let came = Snapshot::of(&ends);
     let Seat {
@@ -106,7 +116,7 @@ pub fn serve_in<Rt: Wait, S: Sink + Drop, H: Begun, C: Recorder + Drop, A: Accep
         &mut window,
         &mut reader,
         &mut writer,
-        &NoGate,
+        gate,
         number,
         &mut recorder,
     );
@@ -120,7 +130,7 @@ pub fn serve_in<Rt: Wait, S: Sink + Drop, H: Begun, C: Recorder + Drop, A: Accep
         reader,
         writer,
     };
-    sessions.push_reserved(A::Kept::keep(session));
+    sessions.push_reserved(K::keep(session));
     Seat {
         is_desk,
         window,

@@ -2,13 +2,20 @@
 //! is answered as its lines come.
 #![tactic(auto)]
 
-mod judged;
+mod answering;
+mod fault;
+mod granting;
+mod record_refusal;
 mod recorded;
 mod tally;
 mod task;
 mod verifying;
 mod words;
 
+pub use answering::answer;
+pub use fault::Fault;
+pub use granting::{Misgranted, find_misgranted};
+pub use record_refusal::RecordRefusal;
 pub use recorded::write_recorded;
 pub use tally::write_tally;
 pub use task::run;

@@ -1,17 +1,19 @@
 //! What a journal tells of its run, and a record of what its lines asked.
-ghost use Rattle.std.specs.Prelude.{◌≡◌, true, OnOk};
+ghost use Rattle.std.specs.Prelude.{◌≡◌, true, IfOk, OnOk};
 ghost use Rattle.std.specs.Io.KnownBytes.{Appends};
 ghost use Rattle.mml_board.specs.Lists.{is_legal_in};
 ghost use Rattle.mml_tally.specs.RecordTexts.{recorded_text};
 
-use crate::judged::Judged;
-use crate::verifying::{read_audited, read_seat};
+use crate::fault::Fault;
+use crate::record_refusal::RecordRefusal;
+use crate::tally::write_text;
+use crate::verifying::{granted_once, no_findings, read_begun, read_seat, together};
 use crate::words::VerifyTask;
-use mml_audit::Audited;
-use mml_board::Event;
+use mml_audit::{Audited, audit_events};
+use mml_board::{Board, Event};
 use mml_ends::Retrying;
 use mml_lab::Lab;
-use mml_program::{Fault, lab_of, or_memory, write_text};
+use mml_program::{Fault as ProgramFault, lab_of, or_memory, read_journal};
 use mml_record::{Verdict, read_asks, read_record};
 use mml_tally::{Ask, Findings, put_recorded_tally};
 use std::alloc::Global;
@@ -26,14 +28,32 @@ pub fn tally_recorded<R: Files<File = File> + Print + AllocGlobal>(
     task: VerifyTask<'_>,
 ) -> Result<(), Fault> {
     let lab = lab_of(rt, task.lab)?;
-    let audited = read_audited(rt, &lab, task.journal)?;
+    let journal = read_journal(rt, task.journal)?;
+    let audited = audited_of(rt.alloc(), &lab, journal.as_slice())?;
+    let events = audited.events.as_slice();
     let mut asks = Vec::new(rt.alloc());
-    let findings = read_seats(rt, &lab, audited.events.as_slice(), task.record, &mut asks)?;
+    let findings = read_seats(rt, &lab, events, task.record, &mut asks)?;
     let mut writer = Retrying::new(io::writer(rt));
-    match write_recorded(rt.alloc(), &lab, &audited, &findings, &asks, &mut writer) {
+    let alloc = rt.alloc();
+    match write_recorded(
+        alloc,
+        &lab,
+        &audited.board,
+        events,
+        &findings,
+        asks.as_slice(),
+        &mut writer,
+    ) {
         Ok(()) => Ok(()),
-        Err(fault) => Err(or_memory(fault, writer.lacked_memory)),
+        Err(fault) => Err(or_memory(Fault::from(fault), writer.lacked_memory)),
     }
+}
+
+// The events of the journal, which is one of the lab, and the board to which they lead.
+fn audited_of(alloc: Global, lab: &Lab, text: &[u8]) -> Result<Audited, ProgramFault>
+    ensures { IfOk result (λ audited. is_legal_in lab.now audited.events.items ≡ true) }
+{
+    Ok(audit_events(alloc, lab, text)?)
 }
 
 // What the records of all seats come to; what their lines asked goes behind.
@@ -46,58 +66,61 @@ fn read_seats<R: Files<File = File> + AllocGlobal>(
 ) -> Result<Findings, Fault>
     requires { is_legal_in lab.now events.now ≡ true }
 {
-    let mut judged = Judged::new(rt, folder)?;
-    for index in 0..lab.sessions() {
-        let seat = index + 1;
-        let verdict = read_lines(rt, lab, events, seat, folder, &mut judged.granted, asks)?;
-        judged.add(seat, verdict)?;
+    let begun = read_begun(rt, folder)?;
+    let mut granted = Vec::new(rt.alloc());
+    let mut all = no_findings();
+    for seat in 0..lab.sessions() {
+        let text = read_seat(rt, folder, seat + 1)?;
+        let text = text.as_slice();
+        let found = read_lines(rt.alloc(), lab, events, seat + 1, text, &mut granted, asks)?;
+        all = together(all, found);
     }
-    judged.end(rt.alloc(), events)
+    granted_once(
+        rt.alloc(),
+        all,
+        granted.as_slice(),
+        begun,
+        events.len() as u64,
+    )
 }
 
-// What a seat's record is found to be. The places of the events that it grants go behind those that are there, and
-// what its lines asked behind the asks, where it is one.
-fn read_lines<R: Files<File = File> + AllocGlobal>(
-    rt: &R,
+// What the record of a seat comes to; what its lines asked goes behind where it is one.
+fn read_lines(
+    alloc: Global,
     lab: &Lab,
     events: &[Event],
     seat: u8,
-    folder: &str,
+    text: &[u8],
     granted: &mut Vec<u64>,
     asks: &mut Vec<Ask>,
-) -> Result<Verdict, Fault>
+) -> Result<Findings, Fault>
     requires { is_legal_in lab.now events.now ≡ true }
 {
-    let alloc = rt.alloc();
-    let text = read_seat(rt, folder, seat)?;
-    let verdict = read_record(alloc, lab, events, seat, &text, granted)?;
-    if matches!(verdict, Verdict::Passed(_)) {
-        read_asks(alloc, lab, events, seat, &text, asks)?;
+    match read_record(alloc, lab, events, seat, text, granted)? {
+        Verdict::Passed(found) => {
+            read_asks(alloc, lab, events, seat, text, asks)?;
+            Ok(found)
+        }
+        Verdict::Refused(bad) => Err(Fault::Record(RecordRefusal::of(seat, bad))),
     }
-    Ok(verdict)
 }
 
-/// Writes the tally of a journal that was audited, with what its record comes to and what its lines asked.
+/// Writes the tally of the events that led to the board, with what a record comes to and what its lines asked.
 pub fn write_recorded<W: Write>(
     alloc: Global,
     lab: &Lab,
-    audited: &Audited,
+    board: &Board,
+    events: &[Event],
     findings: &Findings,
     asks: &[Ask],
     writer: &mut W,
-) -> Result<(), Fault>
+) -> Result<(), ProgramFault>
     ensures { OnOk result (Appends (W.contents writer.old) (W.contents writer.new)
-        (recorded_text lab.now audited.now.board audited.now.events.items findings.now asks.now)) }
+        (recorded_text lab.now board.now events.now findings.now asks.now)) }
 {
     let mut text = Vec::new(alloc);
-    put_recorded_tally(
-        &mut text,
-        alloc,
-        lab,
-        &audited.board,
-        audited.events.as_slice(),
-        findings,
-        asks,
-    )?;
-    write_text(&text, writer)
+    match put_recorded_tally(&mut text, alloc, lab, board, events, findings, asks) {
+        Ok(()) => write_text(&text, writer),
+        Err(_) => Err(ProgramFault::Memory),
+    }
 }

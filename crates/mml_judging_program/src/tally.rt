@@ -1,12 +1,13 @@
 //! What a journal tells of its run, as a program reads it.
 ghost use Rattle.std.specs.Prelude.{IfOk, OnOk};
+ghost use Rattle.std.specs.Io.KnownBytes.{Appends};
 ghost use Rattle.mml_judging_program.specs.Tallies.{IsTally, TellsTally};
 
 use crate::words::TallyTask;
 use mml_audit::audit_events;
 use mml_ends::Retrying;
 use mml_lab::Lab;
-use mml_program::{Fault, lab_of, or_memory, read_journal, write_text};
+use mml_program::{Fault as ProgramFault, lab_of, memory_or, or_memory, read_journal};
 use mml_tally::put_tally;
 use std::alloc::Global;
 use std::io;
@@ -14,7 +15,10 @@ use std::io::Write;
 use std::rt::Files;
 
 /// Prints the tally of a journal's file over the lab of a file.
-pub fn tally<R: Files + Print + AllocGlobal>(rt: &R, task: TallyTask<'_>) -> Result<(), Fault> {
+pub fn tally<R: Files + Print + AllocGlobal>(
+    rt: &R,
+    task: TallyTask<'_>,
+) -> Result<(), ProgramFault> {
     let lab = lab_of(rt, task.lab)?;
     let journal = read_journal(rt, task.journal)?;
     let mut writer = Retrying::new(io::writer(rt));
@@ -31,7 +35,7 @@ pub fn write_tally<W: Write>(
     lab: &Lab,
     journal: &[u8],
     writer: &mut W,
-) -> Result<(), Fault>
+) -> Result<(), ProgramFault>
     ensures { OnOk result
         (TellsTally lab.now journal.now (W.contents writer.old) (W.contents writer.new)) }
 {
@@ -40,7 +44,7 @@ pub fn write_tally<W: Write>(
 }
 
 // The tally of a journal that passes the audit.
-fn text_of(alloc: Global, lab: &Lab, journal: &[u8]) -> Result<Vec<u8>, Fault>
+fn text_of(alloc: Global, lab: &Lab, journal: &[u8]) -> Result<Vec<u8>, ProgramFault>
     ensures { IfOk result (λ text. IsTally lab.now journal.now text.items) }
 {
     let audited = audit_events(alloc, lab, journal)?;
@@ -53,6 +57,16 @@ fn text_of(alloc: Global, lab: &Lab, journal: &[u8]) -> Result<Vec<u8>, Fault>
         audited.events.as_slice(),
     ) {
         Ok(()) => Ok(text),
-        Err(memory) => Err(Fault::from(memory)),
+        Err(_) => Err(ProgramFault::Memory),
+    }
+}
+
+// Writes a text in one go.
+pub(crate) fn write_text<W: Write>(text: &[u8], writer: &mut W) -> Result<(), ProgramFault>
+    ensures { OnOk result (Appends (W.contents writer.old) (W.contents writer.new) text.now) }
+{
+    match writer.write_all(text) {
+        Ok(()) => Ok(()),
+        Err(error) => Err(memory_or(&error, ProgramFault::Write)),
     }
 }

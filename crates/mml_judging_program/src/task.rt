@@ -1,9 +1,10 @@
 //! From the words to the work.
+use crate::answering::answer;
+use crate::fault::Fault;
 use crate::recorded::tally_recorded;
 use crate::tally::tally;
 use crate::verifying::verify;
 use crate::words::{Task, read_words};
-use mml_program::{Fault, answer_input, lab_of};
 use std::fs::File;
 use std::rt::Files;
 
@@ -13,9 +14,9 @@ pub fn run<R: Files<File = File> + Input + Print + AllocGlobal>(
     words: &[String],
 ) -> Result<(), Fault> {
     match read_words(rt.alloc(), words)? {
-        Task::Answer { lab } => answer_input(rt, lab_of(rt, lab)?),
+        Task::Answer { lab } => answer(rt, lab),
         Task::Verify(task) => verify(rt, task),
-        Task::Tally(task) => tally(rt, task),
+        Task::Tally(task) => Ok(tally(rt, task)?),
         Task::TallyRecorded(task) => tally_recorded(rt, task),
     }
 }

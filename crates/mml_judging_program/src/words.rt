@@ -1,6 +1,6 @@
 //! The words of the command line.
 use clap::{ArgMatches, Command};
-use mml_program::{Fault, command_of, match_words, with_optional};
+use mml_program::{Fault as ProgramFault, command_of, match_words, with_optional};
 use std::alloc::{AllocError, Global};
 
 /// What the words ask for.
@@ -12,7 +12,7 @@ pub enum Task<'a> {
     Verify(VerifyTask<'a>),
     /// To tell what a journal tells of its run.
     Tally(TallyTask<'a>),
-    /// To tell what a journal and the record beside it tell of its run.
+    /// The same with what its record tells.
     TallyRecorded(VerifyTask<'a>),
 }
 
@@ -32,12 +32,14 @@ pub struct TallyTask<'a> {
 }
 
 /// Reads the words, of which the first is the program's name.
-pub fn read_words<'a>(alloc: Global, words: &'a [String]) -> Result<Task<'a>, Fault> {
+pub fn read_words<'a>(alloc: Global, words: &'a [String]) -> Result<Task<'a>, ProgramFault> {
     let matches = match_words(whole(alloc)?, words)?;
-    task_of(&matches).ok_or(Fault::CommandLine)
+    match matches.subcommand() {
+        None => Err(ProgramFault::CommandLine),
+        Some((name, values)) => task_of(name, values).ok_or(ProgramFault::CommandLine),
+    }
 }
 
-// The whole command: the program's name and those of its subcommands that judge.
 fn whole<'a>(alloc: Global) -> Result<Command<'a>, AllocError> {
     command_of(alloc, "mml_host", &[])?
         .subcommand(command_of(alloc, "answer", &["lab"])?)?
@@ -49,11 +51,7 @@ fn whole<'a>(alloc: Global) -> Result<Command<'a>, AllocError> {
         )?)
 }
 
-// The task of the subcommand that is named, if there is such a one.
-fn task_of<'a>(matches: &ArgMatches<'a>) -> Option<Task<'a>> {
-    let Some((name, values)) = matches.subcommand() else {
-        return None;
-    };
+fn task_of<'a>(name: &str, values: &ArgMatches<'a>) -> Option<Task<'a>> {
     let lab = values.get_str("lab")?;
     match name {
         "answer" => Some(Task::Answer { lab }),
@@ -67,7 +65,6 @@ fn task_of<'a>(matches: &ArgMatches<'a>) -> Option<Task<'a>> {
     }
 }
 
-// The tally of a journal, with its record where one is named.
 fn tally_of<'a>(lab: &'a str, journal: &'a str, record: Option<&'a str>) -> Task<'a> {
     match record {
         Some(record) => Task::TallyRecorded(VerifyTask {

@@ -21,4 +21,4 @@ pub use shared_socket::SharedSocket;
 pub use socket_reader::{GREETING, Incoming, NEXT_LINE, SocketReader};
 pub use socket_writer::{ReplyWriter, SocketCutOff, SocketSession, SocketWriter, WRITE_LIMIT};
 pub use state::HostState;
-pub use two_ports::{ListenFault, Ports, bell_of, listen_at, open_ports};
+pub use two_ports::{ListenFault, Ports, TwoPorts, bell_of, listen_at, open_ports};

@@ -4,7 +4,7 @@ use crate::crowd::Crowd;
 use crate::end_reason::EndReason;
 use crate::shared_socket::SharedSocket;
 use crate::socket_reader::{Incoming, SocketReader};
-use crate::socket_writer::{ReplyWriter, SocketCutOff, SocketSession, WRITE_LIMIT};
+use crate::socket_writer::{ReplyWriter, SocketCutOff, WRITE_LIMIT};
 use crate::state::HostState;
 use mml_hosting::{Accept, Accepted, Bell};
 use mml_serving::HangUp;
@@ -220,18 +220,11 @@ impl<'a, Rt: Clock + Wait + Eprint> Port<'a, Rt> {
     }
 }
 
-impl<'a, Rt: Net<Listener = TcpListener, Stream = TcpStream> + Clock + Wait + Eprint + Sync> Accept
-    for Port<'a, Rt> {
-    type Reader = Incoming<'a, Rt>;
-
-    type Writer = ReplyWriter<'a, Rt>;
-
-    type Line = SocketCutOff<'a, Rt>;
-
-    type Kept = SocketSession<'a, Rt>;
-
-    type Bell = EndBell<'a, Rt>;
-
+impl<'a, Rt: Clock + Wait + Eprint> Accept<
+    Incoming<'a, Rt>,
+    ReplyWriter<'a, Rt>,
+    SocketCutOff<'a, Rt>,
+> for Port<'a, Rt> {
     fn accept_next(&mut self) -> Brought<'a, Rt> {
         let ended = self.state.ended_count(self.rt);
         if self.state.is_over(self.rt) {

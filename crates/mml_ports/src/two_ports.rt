@@ -1,7 +1,6 @@
 //! The two ports of a class, which are taken before its journal is begun.
 use crate::port::{EndBell, Port};
 use crate::state::HostState;
-use mml_hosting::TwoPorts;
 use std::alloc::Global;
 use std::io;
 use std::net::{Ipv4Addr, Net, SocketAddr, TcpListener, TcpStream};
@@ -70,6 +69,13 @@ pub fn bell_of<'a, R>(
         ports: [on_this_machine(ports.port), on_this_machine(ports.desk)],
         spare: Mutex::new(Some(spare)),
     })
+}
+
+/// What gives the connections of the desk, and what those of the other port.
+#[derive(Drop)]
+pub struct TwoPorts<A: Drop> {
+    pub at_desk: A,
+    pub elsewhere: A,
 }
 
 /// Where connections come to both.

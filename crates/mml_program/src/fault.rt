@@ -4,18 +4,16 @@ ghost use Rattle.std.specs.IoError.{error_kind};
 ghost use Rattle.mml_program.specs.declared.fault.Fault.TheVariants.{Memory};
 
 use crate::lab_refusal::{AuditRefusal, LabRefusal};
-use crate::record_refusal::RecordRefusal;
 use mml_audit::AuditFault;
 use mml_files::FileFault;
 use mml_hall::ScriptFault;
-use mml_ids::Memory as OutOfMemory;
 use mml_lab::LabFault;
 use mml_serving::ServeFault;
 use std::alloc::AllocError;
 use std::io::{Error as IoError, ErrorKind};
 use thiserror::Error;
 
-/// Why a program ended before its work was done.
+/// Why the program ended before its work was done.
 #[derive(Debug, Drop, PartialEq, Eq, Error)]
 pub enum Fault {
     /// The words are none that the program has.
@@ -30,9 +28,6 @@ pub enum Fault {
     /// The text is no journal of the lab.
     #[error("audit: {0}")]
     Audit(AuditRefusal),
-    /// The record is none of the lab and the journal.
-    #[error("verify: {0}")]
-    Record(RecordRefusal),
     /// The lab file can't be opened or read, or is too large.
     #[error("read fault: lab")]
     ReadLab,
@@ -42,9 +37,6 @@ pub enum Fault {
     /// The journal can't be opened or read, or is too large.
     #[error("read fault: journal")]
     ReadJournal,
-    /// A file of the record can't be opened or read, or is too large.
-    #[error("read fault: record")]
-    ReadRecord,
     /// More connections were asked for than the lab has sessions.
     #[error("serve: more connections than sessions")]
     TooManyConnections,
@@ -73,17 +65,16 @@ pub enum Fault {
 
 impl Fault {
     /// The exit status that goes with the error: 1 where the words aren't understood, 2 where lab,
-    /// script or number of connections is refused, 3 where an audit or a record's says no, 4 where a read, a write,
+    /// script or number of connections is refused, 3 where an audit says no, 4 where a read, a write,
     /// the journal or the network failed, 5 where memory or a reader's place is lacking.
     pub fn status(&self) -> u8 {
         match self {
             Fault::CommandLine => 1,
             Fault::Lab(_) | Fault::BadLine(_) | Fault::TooManyConnections => 2,
-            Fault::Audit(_) | Fault::Record(_) => 3,
+            Fault::Audit(_) => 3,
             Fault::ReadLab
             | Fault::ReadScript
             | Fault::ReadJournal
-            | Fault::ReadRecord
             | Fault::Listen
             | Fault::Accept
             | Fault::Astray
@@ -94,7 +85,7 @@ impl Fault {
     }
 }
 
-/// Out of memory where that was lacked, as by a reader or a writer, whatever the error was told as.
+/// Out of memory where a reader or a writer met it, whatever the error was told as.
 pub fn or_memory<F: From<Fault> + Drop>(fault: F, lacked: bool) -> F
     ensures memory { lacked ≡ true → F.from_gives Memory result }
     ensures other { lacked ≡ false → result ≡ fault }
@@ -106,10 +97,10 @@ pub fn or_memory<F: From<Fault> + Drop>(fault: F, lacked: bool) -> F
     }
 }
 
-/// Out of memory where an error of the system says so, and else the other error.
+/// Out of memory where an error of a read or write says so, and else the other error.
 pub fn memory_or(error: &IoError, other: Fault) -> Fault
-    ensures memory { error_kind error.now ≡ ErrorKind.OutOfMemory → result ≡ Memory }
-    ensures either { (result ≡ other) ⊎ (result ≡ Memory) }
+    ensures memory { error_kind error.now ≡ ErrorKind.OutOfMemory → result ≡ Fault.Memory }
+    ensures either { (result ≡ other) ⊎ (result ≡ Fault.Memory) }
     ensures other { error_kind error.now ≢ ErrorKind.OutOfMemory → result ≡ other }
 {
     if error.kind() == ErrorKind::OutOfMemory {
@@ -123,14 +114,6 @@ impl From<AllocError> for Fault {
     ghost from_gives = { λ _ e. e ≡ Memory };
 
     fn from(_error: AllocError) -> Fault {
-        Fault::Memory
-    }
-}
-
-impl From<OutOfMemory> for Fault {
-    ghost from_gives = { λ _ e. e ≡ Memory };
-
-    fn from(_error: OutOfMemory) -> Fault {
         Fault::Memory
     }
 }

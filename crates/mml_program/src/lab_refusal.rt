@@ -66,7 +66,6 @@ impl LabRefusal {
         Some(refusal)
     }
 
-    // What an error of the nodes' identifiers refuses the file for; out of memory refuses no file.
     fn of_identifiers(fault: IdFault) -> Option<LabRefusal> {
         match fault {
             IdFault::Empty => Some(LabRefusal::NoNodes),
@@ -107,7 +106,7 @@ impl AuditRefusal {
     }
 }
 
-// The name of a key of the lab's file in an error line.
+// The place of the file by its name in an error line.
 fn key_name(key: Key) -> &'static str {
     match key {
         Key::Events => "events",

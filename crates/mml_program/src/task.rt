@@ -4,18 +4,19 @@ ghost use Rattle.mml_journal.specs.Taken.{IsFresh};
 
 use crate::built_in::BUILT_IN;
 use crate::fault::{Fault, memory_or, or_memory};
-use crate::files::{BegunWith, begin_journal_with, read_file, read_journal};
+use crate::files::{begin_journal_with, read_file, read_journal};
+use crate::script_answering::{answer_script, write_audit, write_size};
 use crate::words::{ScriptTask, ServeTask, Task, read_words};
-use crate::writing::{write_audit, write_size};
 use mml_ends::{Retrying, hold_streams};
 use mml_files::{OpenJournal, has_small_stacks};
-use mml_hall::run_script;
+use mml_hall::Hall;
 use mml_journal::{NullSink, Sink};
 use mml_lab::{Lab, read_lab};
-use mml_serving::{serve_on, write_listening};
+use mml_serving::{ServeFault, serve_on, write_listening};
 use mml_session::NoGate;
 use std::alloc::Global;
 use std::fs::File;
+use std::io::Write;
 use std::net::{Ipv4Addr, Net, SocketAddr, TcpListener, TcpStream};
 use std::rt::{Env, Files};
 use std::sync::Wait;
@@ -38,7 +39,7 @@ pub fn run<
 >(rt: &R) -> Result<(), Fault> {
     let words = begin(rt)?;
     match read_words(rt.alloc(), words.as_slice())? {
-        Task::BuiltIn => answer_input(rt, lab_in(rt.alloc(), BUILT_IN.as_bytes())?),
+        Task::BuiltIn => answer_input(rt),
         Task::Check { lab } => check_file(rt, lab),
         Task::Script(task) => script_file(rt, task),
         Task::Audit { lab, journal } => audit_file(rt, lab, journal),
@@ -52,17 +53,15 @@ fn check_file<R: Files + Print + AllocGlobal>(rt: &R, lab: &str) -> Result<(), F
     write_size(rt.alloc(), &lab, &mut io::writer(rt))
 }
 
-/// Answers the script on standard input over a lab. All replies have gone out before each read, so that who writes a
-/// line gets its reply before the next one has to be written.
-pub fn answer_input<R: Input + Print + AllocGlobal>(rt: &R, lab: Lab) -> Result<(), Fault> {
+// Answers the script on standard input over the built-in lab.
+fn answer_input<R: Input + Print + AllocGlobal>(rt: &R) -> Result<(), Fault> {
+    let alloc = rt.alloc();
+    let lab = lab_in(alloc, BUILT_IN.as_bytes())?;
     let mut reader = Retrying::new(rt.reader());
     let mut writer = Retrying::new(io::writer(rt));
-    match run_script(rt.alloc(), lab, &mut reader, &mut writer, NullSink::new()) {
+    match answer_script(alloc, lab, &mut reader, &mut writer, NullSink::new()) {
         Ok(_) => Ok(()),
-        Err(fault) => Err(or_memory(
-            Fault::from(fault),
-            reader.lacked_memory || writer.lacked_memory,
-        )),
+        Err(fault) => Err(or_memory(fault, reader.lacked_memory || writer.lacked_memory)),
     }
 }
 
@@ -76,10 +75,7 @@ fn script_file<R: Files<File = File> + Print + AllocGlobal>(
         Some(path) => {
             let journal = OpenJournal::open(rt, path, &[task.lab, task.script])?;
             let script = read_file(rt, task.script, Fault::ReadScript);
-            let BegunWith {
-                needed: script,
-                sink,
-            } = begin_journal_with(rt, journal, script)?;
+            let (script, sink) = begin_journal_with(rt, journal, script)?;
             answer_lines(rt, lab, script.as_slice(), sink)
         }
         None => {
@@ -101,15 +97,18 @@ fn answer_lines<R: Print + AllocGlobal, S: Sink + Drop>(
 {
     let mut script = script;
     let mut writer = Retrying::new(io::writer(rt));
-    match run_script(rt.alloc(), lab, &mut script, &mut writer, sink) {
-        Ok(hall) => {
-            if hall.halted() {
-                return Err(Fault::Journal);
-            }
-            Ok(())
-        }
-        Err(fault) => Err(or_memory(Fault::from(fault), writer.lacked_memory)),
+    match answer_script(rt.alloc(), lab, &mut script, &mut writer, sink) {
+        Ok(hall) => end_of_script(&hall),
+        Err(fault) => Err(or_memory(fault, writer.lacked_memory)),
     }
+}
+
+// How a script ends whose lines are answered.
+fn end_of_script<S: Sink>(hall: &Hall<S>) -> Result<(), Fault> {
+    if hall.halted() {
+        return Err(Fault::Journal);
+    }
+    Ok(())
 }
 
 // Audits the journal of a file over the lab of a file.
@@ -142,20 +141,34 @@ fn serve_file<
     match task.journal {
         Some(path) => {
             let journal = OpenJournal::open(rt, path, &[task.lab])?;
-            let BegunWith {
-                needed: listener,
-                sink,
-            } = begin_journal_with(rt, journal, listen(rt, port))?;
-            serve_listener(rt, lab, listener, port, connections, sink)
+            let (listener, sink) = begin_journal_with(rt, journal, listen(rt, port))?;
+            let service = Service {
+                listener,
+                port,
+                connections,
+            };
+            serve_listener(rt, lab, service, sink)
         }
         None => {
-            let listener = listen(rt, port)?;
-            serve_listener(rt, lab, listener, port, connections, NullSink::new())
+            let service = Service {
+                listener: listen(rt, port)?,
+                port,
+                connections,
+            };
+            serve_listener(rt, lab, service, NullSink::new())
         }
     }
 }
 
-// Says on which port the listener is, serves so many of the connections that come, and says what was done.
+// A port that was taken, its number, and how many of the connections that come are served there.
+#[derive(Drop)]
+struct Service {
+    listener: TcpListener,
+    port: u16,
+    connections: u8,
+}
+
+// Says on which port it listens, and serves so many of the connections that come.
 fn serve_listener<
     R: Net<Listener = TcpListener, Stream = TcpStream>
         + Threads
@@ -164,31 +177,40 @@ fn serve_listener<
         + Print
         + AllocGlobal,
     S: Sink + Send + Drop,
->(rt: &R, lab: Lab, listener: TcpListener, port: u16, connections: u8, sink: S) -> Result<(), Fault>
-    requires some { 0 < connections }
-    requires sessions { connections ≤ lab.sessions }
+>(rt: &R, lab: Lab, service: Service, sink: S) -> Result<(), Fault>
+    requires some { 0 < service.connections }
+    requires sessions { service.connections ≤ lab.sessions }
+    requires fresh { IsFresh (S.contents sink) }
+    requires countable { S.failures sink < 2 ^ 64 - 1 }
+{
+    let mut writer = Retrying::new(io::writer(rt));
+    match serve_lines(rt, lab, service, sink, &mut writer) {
+        Ok(()) => Ok(()),
+        Err(fault) => Err(or_memory(Fault::from(fault), writer.lacked_memory)),
+    }
+}
+
+// The first line, the connections, and the last line.
+fn serve_lines<R: Threads + Wait + Sync + AllocGlobal, S: Sink + Send + Drop, W: Write>(
+    rt: &R,
+    lab: Lab,
+    service: Service,
+    sink: S,
+    writer: &mut W,
+) -> Result<(), ServeFault>
+    requires some { 0 < service.connections }
+    requires sessions { service.connections ≤ lab.sessions }
     requires fresh { IsFresh (S.contents sink) }
     requires countable { S.failures sink < 2 ^ 64 - 1 }
 {
     let alloc = rt.alloc();
-    let mut writer = Retrying::new(io::writer(rt));
-    let served = match write_listening(alloc, port, &mut writer) {
-        Ok(()) => serve_on(
-            rt,
-            alloc,
-            lab,
-            listener,
-            connections,
-            sink,
-            &NoGate,
-            &mut writer,
-        ),
-        Err(fault) => Err(fault),
-    };
-    match served {
-        Ok(()) => Ok(()),
-        Err(fault) => Err(or_memory(Fault::from(fault), writer.lacked_memory)),
-    }
+    let Service {
+        listener,
+        port,
+        connections,
+    } = service;
+    write_listening(alloc, port, writer)?;
+    serve_on(rt, alloc, lab, listener, connections, sink, &NoGate, writer)
 }
 
 // Listens on a port of this machine alone.
@@ -218,7 +240,7 @@ pub fn words_of<R: Env + AllocGlobal>(rt: &R) -> Result<Vec<String>, Fault> {
     Ok(words.collect(rt.alloc())?)
 }
 
-/// The lab that a file spells.
+/// The lab of a file.
 pub fn lab_of<R: Files + AllocGlobal>(rt: &R, path: &str) -> Result<Lab, Fault> {
     let bytes = read_file(rt, path, Fault::ReadLab)?;
     lab_in(rt.alloc(), bytes.as_slice())

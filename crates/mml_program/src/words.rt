@@ -22,7 +22,7 @@ pub enum Task<'a> {
     Serve(ServeTask<'a>),
 }
 
-/// A script and its lab. The lines of the granted events go to the journal, where one is named.
+/// The files of a script. The lines of the granted events go to the journal, where one is named.
 #[derive(Clone, Copy, Debug, PartialEq, Eq, Drop)]
 pub struct ScriptTask<'a> {
     pub lab: &'a str,
@@ -30,7 +30,7 @@ pub struct ScriptTask<'a> {
     pub journal: Option<&'a str>,
 }
 
-/// So many connections on a port, over a lab. The lines of the granted events go to the journal, where one is named.
+/// So many connections on a port. The lines of the granted events go to the journal, where one is named.
 #[derive(Clone, Copy, Debug, PartialEq, Eq, Drop)]
 pub struct ServeTask<'a> {
     pub lab: &'a str,
@@ -42,7 +42,10 @@ pub struct ServeTask<'a> {
 /// Reads the words, of which the first is the program's name.
 pub fn read_words<'a>(alloc: Global, words: &'a [String]) -> Result<Task<'a>, Fault> {
     let matches = match_words(whole(alloc)?, words)?;
-    task_of(&matches).ok_or(Fault::CommandLine)
+    match matches.subcommand() {
+        None => Ok(Task::BuiltIn),
+        Some((name, values)) => task_of(name, values).ok_or(Fault::CommandLine),
+    }
 }
 
 /// What a command finds in the words, of which the first is the program's name. A word that begins with
@@ -58,11 +61,7 @@ pub fn match_words<'a>(command: Command<'a>, words: &'a [String]) -> Result<ArgM
     }
 }
 
-// The task of the subcommand that is named, if there is such a one; without any there is one too.
-fn task_of<'a>(matches: &ArgMatches<'a>) -> Option<Task<'a>> {
-    let Some((name, values)) = matches.subcommand() else {
-        return Some(Task::BuiltIn);
-    };
+fn task_of<'a>(name: &str, values: &ArgMatches<'a>) -> Option<Task<'a>> {
     let lab = values.get_str("lab")?;
     match name {
         "check" => Some(Task::Check { lab }),
@@ -85,7 +84,6 @@ fn task_of<'a>(matches: &ArgMatches<'a>) -> Option<Task<'a>> {
     }
 }
 
-// The whole command: the program's name and its subcommands.
 fn whole<'a>(alloc: Global) -> Result<Command<'a>, AllocError> {
     command_without_help(alloc, "mml_server")
         .subcommand(command_of(alloc, "check", &["lab"])?)?
@@ -115,7 +113,7 @@ pub fn command_of<'a>(
     Ok(command)
 }
 
-/// The command with one value more, which may be left out.
+/// One value more, which may be left out.
 pub fn with_optional<'a>(
     alloc: Global,
     command: Command<'a>,

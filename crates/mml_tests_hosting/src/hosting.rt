@@ -2,9 +2,10 @@
 use crate::texts::{Count, Left, Texts, Timed, lab_of, sent_to};
 use mml_fakes::lines;
 use mml_fakes::scripts::{CLOSED_JOURNAL, NOTHING_CLOSED, ONE_CLOSED, TESS_CLOSES};
-use mml_hosting::{Beginning, HostFault, TwoPorts, no_recorders, serve_host};
+use mml_hosting::{HostFault, no_recorders, serve_host};
 use mml_journal::MemorySink;
 use mml_lab::Lab;
+use mml_session::NoGate;
 use std::alloc::{AllocError, Global};
 use std::sync::Wait;
 use std::test::Fail;
@@ -109,14 +110,10 @@ fn host_in_memory<R: Threads + Wait + Sync>(
     let Ok(recorders) = no_recorders(alloc, &lab) else {
         return Err(HostFault::Memory);
     };
-    let ports = TwoPorts {
-        at_desk,
-        elsewhere: at_port,
-    };
-    let Ok(beginning) = Beginning::new(alloc, lab, MemorySink::new(alloc, None)) else {
-        return Err(HostFault::Memory);
-    };
-    serve_host(rt, alloc, beginning, recorders, ports, count, out)
+    let sink = MemorySink::new(alloc, None);
+    serve_host(
+        rt, alloc, lab, sink, recorders, at_desk, at_port, count, &NoGate, out,
+    )
 }
 
 /// Whether each of these talks was answered as it says.

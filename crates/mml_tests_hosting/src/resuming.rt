@@ -5,11 +5,12 @@ use crate::texts::{Count, Left, Texts, Timed, lab_of, sent_to};
 use mml_audit::AuditFault;
 use mml_fakes::lines;
 use mml_fakes::scripts::CLOSED_JOURNAL;
-use mml_hosting::{TwoPorts, no_recorders};
+use mml_hosting::no_recorders;
 use mml_journal::{MemorySink, Sink};
 use mml_lab::Lab;
 use mml_policy::Denial;
 use mml_resuming::{ResumeFault, Store, resume_class};
+use mml_session::NoGate;
 use std::alloc::Global;
 use std::sync::Wait;
 use std::test::Fail;
@@ -55,9 +56,7 @@ const LONG: &str = "1 0 grant ana 1 seduction
 #[derive(Drop)]
 struct Shelf(Global);
 
-impl Store for Shelf {
-    type Appender = MemorySink;
-
+impl Store<MemorySink> for Shelf {
     fn cut_to(self, whole: &[u8]) -> Option<MemorySink>
         ensures holds { IfSome result (λ sink. sink.bytes ≡ whole.now) }
         ensures countable { IfSome result (λ sink. sink.failures < 2 ^ 64 - 1) }
@@ -112,21 +111,18 @@ fn resume_in<R: Threads + Wait + Sync>(
     let Ok(recorders) = no_recorders(alloc, &lab) else {
         return Err(ResumeFault::Memory);
     };
-    let ports = TwoPorts {
-        at_desk,
-        elsewhere: at_port,
-    };
-    let (old, first) = (old.as_bytes(), FIRST.as_bytes());
     resume_class(
         rt,
         alloc,
         lab,
-        old,
+        old.as_bytes(),
         Shelf(alloc),
-        first,
+        FIRST.as_bytes(),
         recorders,
-        ports,
+        at_desk,
+        at_port,
         count,
+        &NoGate,
         out,
     )
 }

@@ -119,17 +119,7 @@ fn ends_of(alloc: Global, timed: &Timed<'_>) -> Result<TextEnds, AllocError> {
     Ok((bytes, kept))
 }
 
-impl<'a> Accept for Texts<'a> {
-    type Reader = VecDeque<u8>;
-
-    type Writer = NumberedWriter;
-
-    type Line = Nothing;
-
-    type Kept = ServedSession<VecDeque<u8>, NumberedWriter>;
-
-    type Bell = Count;
-
+impl<'a> Accept<VecDeque<u8>, NumberedWriter, Nothing> for Texts<'a> {
     ghost to_come = { λ t. Some (into_iter_items t.coming) };
 
     fn accept_next(&mut self) -> Accepted<VecDeque<u8>, NumberedWriter, Nothing>

@@ -2,10 +2,9 @@
 use mml_fakes::labs::{PATH_OF_THREE, boxed_lab};
 use mml_fakes::scripts::{FIRST_LOOK, FIRST_LOOK_REPLIES, TEN_LINES};
 use mml_fakes::{FakeWriter, lines};
-use mml_hall::run_script;
 use mml_journal::NullSink;
 use mml_lab::{Lab, read_lab};
-use mml_program::{BUILT_IN, Fault, write_audit, write_size};
+use mml_program::{BUILT_IN, Fault, answer_script, write_audit, write_size};
 use mml_serving::write_listening;
 use std::alloc::Global;
 use std::test::Fail;
@@ -104,10 +103,7 @@ const ROWS: &[Row] = &[
 fn fault_of(alloc: Global, script: &str, writer: &mut FakeWriter) -> Result<Option<Fault>, Fail> {
     let lab = read_lab(alloc, BUILT_IN.as_bytes())?;
     let mut reader = script.as_bytes();
-    match run_script(alloc, lab, &mut reader, writer, NullSink::new()) {
-        Ok(_) => Ok(None),
-        Err(fault) => Ok(Some(Fault::from(fault))),
-    }
+    Ok(answer_script(alloc, lab, &mut reader, writer, NullSink::new()).err())
 }
 
 /// Whether what a row says comes of its script.

@@ -3,9 +3,7 @@ use mml_ends::hold_streams;
 use mml_fakes::scripts::ANA_JOURNAL;
 use mml_files::OpenJournal;
 use mml_journal::Sink;
-use mml_program::{
-    BUILT_IN, BegunWith, Fault, begin_journal_with, lab_of, read_file, read_journal, words_of,
-};
+use mml_program::{BUILT_IN, Fault, begin_journal_with, lab_of, read_file, read_journal, words_of};
 use std::path::{Path, PathBuf};
 use std::test::Fail;
 use std::{env, fs, process};
@@ -31,8 +29,9 @@ fn is_begun(rt: &HostRuntime, path: &str) -> bool {
     let Ok(journal) = OpenJournal::open(rt, path, &[]) else {
         return false;
     };
-    match begin_journal_with(rt, journal, Ok(7)) {
-        Ok(BegunWith { needed, mut sink }) => needed == 7
+    let needed: Result<u64, Fault> = Ok(7);
+    match begin_journal_with(rt, journal, needed) {
+        Ok((needed, mut sink)) => needed == 7
             && sink.put(ANA_JOURNAL.as_bytes()) == Ok(ANA_JOURNAL.len()),
         Err(_) => false,
     }

@@ -7,33 +7,39 @@ loop-init g c = record {
   next = tt;
   finite = tt;
   seats = rw c.reserve.ensures.items c.requires.seats;
-  history = nothing_yet g.A.Kept.Keep.shows (g.A.Accept.to_come c.args.arrivals) c.reserve.new.self.items c.in_ok-busy.busy.items c.in_ok-busy.ensures.items;
+  history = nothing_yet g.K.Keep.shows (g.A.Accept.to_come c.args.arrivals) c.reserve.new.self.items c.in_ok-busy.busy.items c.in_ok-busy.ensures.items;
   len = search rules;
   free_room = search rules;
   busy_room = search rules;
 }
 
 pub loop-preserved-in-Came : goal.loop-preserved-in-Came
-loop-preserved-in-Came g c = record {
-  next = tt;
-  finite = tt;
-  seats = c.take_in.ensures.seats;
-  history = one_came _ _ _ _ _ _ _ _ _ c.loop.invariant.history c.in-Came.ends c.in-Came.ensures c.take_in.ensures.takes;
-  len = search rules;
-  free_room = search rules;
-  busy_room = search rules;
-}
+loop-preserved-in-Came g c =
+    let at = c.loop.invariant in
+    let one = c.take_in.ensures in
+    record {
+      next = tt;
+      finite = tt;
+      seats = one.seats;
+      history = one_came _ _ _ _ _ _ _ _ _ at.history c.in-Came.ends c.in-Came.ensures one.takes;
+      len = omega (arith, at.len, one.len);
+      free_room = omega (arith, at.free_room, one.len, one.capacity);
+      busy_room = omega (arith, at.busy_room, one.len, one.busy_capacity);
+    }
 
 pub loop-preserved : goal.loop-preserved
-loop-preserved g c = record {
-  next = tt;
-  finite = tt;
-  seats = c.gather.ensures.seats;
-  history = nobody_came _ _ _ _ _ _ _ _ _ c.loop.invariant.history c.in-Nobody.ensures c.gather.ensures.count;
-  len = search rules;
-  free_room = search rules;
-  busy_room = search rules;
-}
+loop-preserved g c =
+    let at = c.loop.invariant in
+    let same = c.gather.ensures in
+    record {
+      next = tt;
+      finite = tt;
+      seats = same.seats;
+      history = nobody_came _ _ _ _ _ _ _ _ _ at.history c.in-Nobody.ensures same.count;
+      len = omega (arith, at.len, same.len);
+      free_room = omega (arith, at.free_room, same.len, same.capacity);
+      busy_room = omega (arith, at.busy_room, same.len, same.busy_capacity);
+    }
 
 pub returns : goal.returns
 returns g c =

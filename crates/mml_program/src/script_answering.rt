@@ -1,17 +1,22 @@
-//! What the subcommands write.
-ghost use Rattle.std.specs.Prelude.{◌∷◌, [], codes, decimal, OnOk};
+//! What the subcommands do, over readers and writers.
+ghost use Rattle.std.specs.Prelude.{◌<◌, ◌-◌, ◌^◌, ◌∷◌, [], codes, decimal, OnOk};
 ghost use Rattle.std.specs.List.{concat};
 ghost use Rattle.std.specs.Io.KnownBytes.{Appends};
 ghost use Rattle.mml_ids.specs.Pieces.{joined};
+ghost use Rattle.mml_journal.specs.Taken.{IsFresh};
+ghost use Rattle.mml_hall.specs.Journals.{Journals};
+ghost use Rattle.mml_program.specs.Answering.{AnswersScript};
 ghost use Rattle.mml_program.specs.Printing.{lab_line, world_line, TellsAudited};
 
 use crate::fault::{Fault, memory_or};
 use mml_audit::audit;
 use mml_board::Board;
+use mml_hall::{Hall, run_script};
 use mml_ids::{Piece, put};
+use mml_journal::Sink;
 use mml_lab::Lab;
 use std::alloc::Global;
-use std::io::Write;
+use std::io::{Read, Write};
 
 /// Writes how many nodes, links and students a lab has.
 pub fn write_size<W: Write>(alloc: Global, lab: &Lab, writer: &mut W) -> Result<(), Fault>
@@ -30,8 +35,7 @@ pub fn write_size<W: Write>(alloc: Global, lab: &Lab, writer: &mut W) -> Result<
     write_pieces(alloc, &pieces, writer)
 }
 
-/// Audits a journal, and writes how many events it has and where they lead. Where it doesn't pass nothing is
-/// written, and the error is the audit's.
+/// Writes how many events a journal has, and where they lead.
 pub fn write_audit<W: Write>(
     alloc: Global,
     lab: &Lab,
@@ -78,7 +82,7 @@ fn write_ended<W: Write>(
     write_pieces(alloc, &pieces, writer)
 }
 
-/// Writes a text that is made of these pieces.
+/// Writes a text in one go.
 pub fn write_pieces<W: Write>(alloc: Global, pieces: &[Piece], writer: &mut W) -> Result<(), Fault>
     ensures { OnOk result
         (Appends (W.contents writer.old) (W.contents writer.new) (joined pieces.now)) }
@@ -87,15 +91,26 @@ pub fn write_pieces<W: Write>(alloc: Global, pieces: &[Piece], writer: &mut W) -
     if put(&mut text, pieces).is_err() {
         return Err(Fault::Memory);
     }
-    write_text(&text, writer)
-}
-
-/// Writes a text in one go.
-pub fn write_text<W: Write>(text: &[u8], writer: &mut W) -> Result<(), Fault>
-    ensures { OnOk result (Appends (W.contents writer.old) (W.contents writer.new) text.now) }
-{
-    match writer.write_all(text) {
+    match writer.write_all(&text) {
         Ok(()) => Ok(()),
         Err(error) => Err(memory_or(&error, Fault::Write)),
     }
+}
+
+/// Answers the lines of a script. Replies go out together, and all of them before each read. The lines
+/// of the granted events go to the sink.
+pub fn answer_script<R: Read, W: Write, S: Sink + Drop>(
+    alloc: Global,
+    lab: Lab,
+    reader: &mut R,
+    writer: &mut W,
+    sink: S,
+) -> Result<Hall<S>, Fault>
+    requires fresh { IsFresh (S.contents sink) }
+    requires countable { S.failures sink < 2 ^ 64 - 1 }
+    ensures { AnswersScript (Journals S.contents S.failures lab sink) result lab (R.remaining reader.old) (R.remaining reader.new)
+        (W.contents writer.old) (W.contents writer.new) }
+{
+    let hall = run_script(alloc, lab, reader, writer, sink)?;
+    Ok(hall)
 }

@@ -1,6 +1,6 @@
 use Rattle.std.proofs.Common.{◌∷◌}
 use Rattle.mml_hosting.specs.Seats.{kept_from}
-use Rattle.mml_hosting.proofs.hosted.serve_host.Given as goal
+use Rattle.mml_hosting.proofs.hosted.resume_host.Given as goal
 
 -- the house that was just opened
 abbrev pub ghosts-host_in_house-H-House : goal.ghosts-host_in_house-H-House

@@ -1,0 +1,22 @@
+//! A script whose lines are answered as they come.
+use crate::fault::Fault;
+use mml_ends::Retrying;
+use mml_journal::NullSink;
+use mml_program::{answer_script, lab_of, or_memory};
+use std::io;
+use std::rt::Files;
+
+/// Answers the script on standard input over the lab of a file. All replies have gone out before each read,
+/// so that who writes a line gets its reply before the next one has to be written.
+pub fn answer<R: Files + Input + Print + AllocGlobal>(rt: &R, lab: &str) -> Result<(), Fault> {
+    let lab = lab_of(rt, lab)?;
+    let mut reader = Retrying::new(rt.reader());
+    let mut writer = Retrying::new(io::writer(rt));
+    match answer_script(rt.alloc(), lab, &mut reader, &mut writer, NullSink::new()) {
+        Ok(_) => Ok(()),
+        Err(fault) => Err(Fault::from(or_memory(
+            fault,
+            reader.lacked_memory || writer.lacked_memory,
+        ))),
+    }
+}

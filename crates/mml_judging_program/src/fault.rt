@@ -1,0 +1,50 @@
+//! What ends a word early: one line on standard error and a status.
+ghost use Rattle.std.specs.Prelude.{◌≡◌};
+
+use crate::record_refusal::RecordRefusal;
+use mml_ids::Memory;
+use mml_program::Fault as ProgramFault;
+use thiserror::Error;
+
+/// Why a word ended before its work was done.
+#[derive(Debug, Drop, PartialEq, Eq, Error)]
+pub enum Fault {
+    /// What `mml_server` tells in the same words: of command line, lab, journal, script, output and memory.
+    #[error("{0}")]
+    Common(ProgramFault),
+    /// The record is none of the lab and the journal.
+    #[error("verify: {0}")]
+    Record(RecordRefusal),
+    /// A file of the record can't be opened or read, or is too large.
+    #[error("read fault: record")]
+    ReadRecord,
+}
+
+impl Fault {
+    /// The exit status that goes with the error, as of `mml_server`.
+    pub fn status(&self) -> u8 {
+        match self {
+            Fault::Common(fault) => fault.status(),
+            Fault::Record(_) => 3,
+            Fault::ReadRecord => 4,
+        }
+    }
+}
+
+impl From<ProgramFault> for Fault {
+    ghost use Rattle.mml_judging_program.specs.declared.fault.Fault.TheVariants.{Common};
+
+    ghost from_gives = { λ fault e. e ≡ Common fault };
+
+    fn from(fault: ProgramFault) -> Fault {
+        Fault::Common(fault)
+    }
+}
+
+impl From<Memory> for Fault {
+    fn from(_memory: Memory) -> Fault
+        ensures { result ≡ Fault.Common ProgramFault.Memory }
+    {
+        Fault::Common(ProgramFault::Memory)
+    }
+}

@@ -1,0 +1,56 @@
+//! Whether the records of all seats grant each event once.
+use mml_ids::Memory;
+use std::alloc::Global;
+
+/// What is amiss with the places that records grant.
+#[derive(Clone, Copy, Debug, PartialEq, Eq, Drop)]
+pub enum Misgranted {
+    /// The event at this place took place before the record began.
+    Early(u64),
+    /// The event at this place is granted again.
+    Twice(u64),
+    /// The event at this place is granted nowhere.
+    Nowhere(u64),
+}
+
+/// The first of these places that is amiss. Each has to be one from begun + 1 to count, and none may stand
+/// there twice; where nothing is left out, each of those has to be there.
+pub fn find_misgranted(
+    alloc: Global,
+    places: &[u64],
+    begun: u64,
+    count: u64,
+    whole: bool,
+) -> Result<Option<Misgranted>, Memory> {
+    let mut marks = Vec::new(alloc);
+    for _ in 0..count {
+        marks.push(false)?;
+    }
+    for place in places {
+        let place = *place;
+        if place <= begun || place > count {
+            return Ok(Some(Misgranted::Early(place)));
+        }
+        let at = (place - 1) as usize;
+        if at < marks.len() {
+            if marks[at] {
+                return Ok(Some(Misgranted::Twice(place)));
+            }
+            marks[at] = true;
+        }
+    }
+    if whole {
+        return Ok(first_unmarked(marks.as_slice(), begun));
+    }
+    Ok(None)
+}
+
+fn first_unmarked(marks: &[bool], begun: u64) -> Option<Misgranted> {
+    for at in 0..marks.len() {
+        let place = at as u64 + 1;
+        if place > begun && !marks[at] {
+            return Some(Misgranted::Nowhere(place));
+        }
+    }
+    None
+}

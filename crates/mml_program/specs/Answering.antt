@@ -1,0 +1,15 @@
+-- What the program tells of a script that it answered.
+use Rattle.std.specs.Prelude.{◌≡◌, ℕ, List, Option, Result, Ok, Err}
+use Rattle.mml_lab.specs.Labs.{LabValue}
+use Rattle.mml_hall.specs.declared.script.ScriptFault.{ScriptFault}
+use Rattle.mml_hall.specs.Turns.{State}
+use Rattle.mml_hall.specs.Halls.{HallValue}
+use Rattle.mml_hall.specs.Scripts.{Finished, Stopped}
+use Rattle.mml_program.specs.declared.fault.Fault.{Fault}
+use Rattle.mml_program.specs.Faults.{of_script}
+
+-- all lines of the input were answered, or those before an error, and the sink was left so
+abbrev pub AnswersScript : {S : Type 0} → (S → State → Type 0) → Result (HallValue S) Fault → LabValue → Option (List ℕ) → Option (List ℕ) → Option (List ℕ)
+    → Option (List ℕ) → Type 0
+AnswersScript Leaves (Ok hall) lab input left wrote wrote' = Finished Leaves hall lab input left wrote wrote'
+AnswersScript Leaves (Err fault) lab input left wrote wrote' = (why : ScriptFault) × (fault ≡ of_script why) × Stopped Leaves why lab input left wrote wrote'
