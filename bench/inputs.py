@@ -38,14 +38,13 @@ def all_links() -> str:
 
 
 def sees(turns: int) -> Iterable[str]:
-    """The teacher sees three nodes in turn."""
     yield TESS
     for turn in range(turns):
         yield f'1 {{"do":"see","node":{turn % 3 + 1}}}'
 
 
 def sees_and_more(turns: int) -> Iterable[str]:
-    """The teacher sees three nodes in turn, each time with a member of another kind than a request's."""
+    """The same requests, each with a member of another kind than a request's."""
     yield TESS
     for turn in range(turns):
         yield f'1 {{"do":"see","node":{turn % 3 + 1},"x":[]}}'
@@ -72,7 +71,6 @@ def granted(turns: int) -> Iterable[str]:
 
 
 def greetings(turns: int) -> Iterable[str]:
-    """A hello and a bye."""
     for _ in range(turns):
         yield BEN
         yield '1 {"do":"bye"}'
@@ -86,7 +84,6 @@ def looks(turns: int) -> Iterable[str]:
 
 
 def reports(turns: int) -> Iterable[str]:
-    """The teacher's report."""
     yield TESS
     for _ in range(turns):
         yield '1 {"do":"report"}'

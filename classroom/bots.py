@@ -83,7 +83,7 @@ class Kept:
     """A bot that runs, kept within limits."""
 
     def __init__(self, bot: Bot, slip: Path, folder: Path, seconds: float | None, megabytes: int) -> None:
-        """The bot runs in `folder`, where its slip and its output are; without a limit of seconds it is at home: its output is
+        """It runs in `folder`, where its slip and its output are; without a limit of seconds it is at home: its output is
         this process's."""
         self.folder, self.output = folder, folder / "output.txt"
         self.how = ""
@@ -101,7 +101,7 @@ class Kept:
             raise Fault(f"{error.filename or folder}: {error.strerror}", 4) from None
 
     def ended(self) -> str:
-        """How the bot has ended, where it has: `ended STATUS`, or `killed REASON`."""
+        """How it has ended, where it has: `ended STATUS`, or `killed REASON`."""
         if self.process.poll() is None:
             return ""
         assert self.process.stdout is not None
@@ -114,7 +114,7 @@ class Kept:
         return self.how
 
     def stop(self) -> str:
-        """Ends the bot with all that it started."""
+        """Ends it with all that it started."""
         assert self.process.stdin is not None
         try:
             self.process.stdin.close()
@@ -124,7 +124,7 @@ class Kept:
         return self.ended()
 
     def printed(self) -> str:
-        """The last line that the bot printed."""
+        """What it printed last."""
         try:
             with self.output.open("rb") as it:
                 it.seek(max(0, self.output.stat().st_size - SHOWN))

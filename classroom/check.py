@@ -41,8 +41,7 @@ def refused(path: Path, error: str) -> Iterator[str]:
 
 
 def standing(text: str, error: str) -> tuple[int | None, str]:
-    """The line that an error is about, where there is one, and what is told behind its number: what the document's reader
-    says, or the identifier of its node."""
+    """The line that an error is about, and the identifier of its node."""
     if error == "lab: not a TOML document":
         try:
             tomllib.loads(text)
@@ -54,7 +53,7 @@ def standing(text: str, error: str) -> tuple[int | None, str]:
     numbered = re.match(r"lab: (node|principal|link) (\d+): (.*)", error)
     if numbered is None:
         key = re.match(r"lab: ([\w.]+) is (?!missing)", error)
-        return line_of_key(text, key[1]) if key else None, ""
+        return place_of_key(text, key[1]) if key else (None, "")
     kind, index, fault_text = numbered[1], int(numbered[2]), numbered[3]
     if kind == "link":
         return places.link(text, index), ""
@@ -75,11 +74,11 @@ def identifier(text: str, table: places.Table) -> str:
     return f" (the node with identifier {found[1]})" if found else ""
 
 
-def line_of_key(text: str, key: str) -> int | None:
-    """The line in which a key of that name stands, where it is only one."""
+def place_of_key(text: str, key: str) -> tuple[int | None, str]:
+    """The first line in which a key of that name stands, where it is only one."""
     table, _, word = key.rpartition(".")
     lines = [each.keys[word] for each in places.tables(text) if each.name == table and word in each.keys]
-    return lines[0] if len(lines) == 1 else None
+    return (lines[0], "") if len(lines) == 1 else (None, "")
 
 
 def strange(text: str) -> Iterator[tuple[int, str, str | None]]:

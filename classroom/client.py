@@ -239,7 +239,7 @@ class Client:
 
     @staticmethod
     def of(slip: Slip, limit: float = 30.0) -> Client:
-        """A connection as a slip says that was read."""
+        """The same, of a slip that was read."""
         return Client(slip.port, slip.name, slip.key, limit=limit)
 
     def own_port(self) -> int:
@@ -355,7 +355,6 @@ class Client:
         return self._edit(do="release", node=node)
 
     def _edit(self, **request: object) -> Edit:
-        """Asks for what only a teacher may do to the network, and gives what came of it."""
         it = self.ask(**request)
         return Edit(it["at"], it["place"], it.get("dropped", 1))
 

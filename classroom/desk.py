@@ -162,8 +162,8 @@ class Desk:
         word = event.words[0]
         before = self.report
         if word == "close":
-            self.step(event.at + 1, ", ".join(map(str, moved)))
-            self.come_back(event, [it.node for it in moved], before)
+            self.step(event.at + 1, ", ".join(f"{node} ({name}) {rule}" for node, name, rule in moved))
+            self.come_back(event, [node for node, _, _ in moved], before)
         elif word != "grant":
             self.step(event.at + (word != "release"), " ".join(event.words))
             if word in EDITS:

@@ -140,7 +140,6 @@ class Drawing:
         return [f'<g class="{name}" stroke-opacity="{opacity:.2g}">', *paths, "</g>"]
 
     def line(self, a: int, b: int) -> str:
-        """A whole link, as a path draws it."""
         (x, y), (u, v) = self.layout.points[a], self.layout.points[b]
         return f"M{x:g} {y:g}L{u:g} {v:g}"
 
@@ -169,7 +168,7 @@ class Drawing:
         return f'<path class="pointer" data-of="{node}" d="{drawn}" marker-end="url(#arrow)"/>'
 
     def arrow(self, a: int, b: int) -> str:
-        """A line from the rim of one node to that of another."""
+        """From rim to rim."""
         start, end = self.layout.points[a], self.layout.points[b]
         length = math.dist(start, end) or 1.0
         along = ((end[0] - start[0]) / length, (end[1] - start[1]) / length)
@@ -177,7 +176,6 @@ class Drawing:
         return f"M{at(start, along, near)}L{at(start, along, far)}"
 
     def node(self, node: int, owners: list[str], state: State) -> str:
-        """A node with its registers, its owners, its rule and its chosen move."""
         x, y = self.layout.points[node]
         radius = self.layout.radius
         pointer, rule = state.pointers[node], state.privileged.get(node, "")
@@ -213,18 +211,16 @@ class Drawing:
         return self.layout.radius + (1 + 0.9 * self.size if self.small else 16 + labels.LINE * line)
 
     def rule_at(self, line: int) -> str:
-        """Where a node's rule stands: beside the node where it is a letter, else below so many lines."""
+        """Beside the node where it is a letter, else below that many lines."""
         radius = self.layout.radius
         x, y = (radius + 0.6 * self.size, 0.4 * radius) if self.small else self.form.rule_at(radius, self.below(line))
         return f'x="{x:g}" y="{y:g}"' if x else f'y="{y:g}"'
 
     def chosen_at(self) -> str:
-        """Where the chosen move stands: above the node."""
         radius = self.layout.radius
         return f'x="{-radius:g}" y="{-0.6 * radius:g}"' if self.small else f'y="{self.form.chosen_at(radius)[1]:g}"'
 
     def word(self, rule: str) -> str:
-        """A rule, or its letter where there is no room for more."""
         return rule[:1].upper() if self.form.short else rule
 
     def key(self) -> tuple[str, float]:
@@ -270,17 +266,14 @@ def told_node(node: int, owners: list[str], pointer: int | None, m: bool, partne
 
 
 def told(value: bool) -> str:
-    """A truth value as the protocol spells it."""
     return "true" if value else "false"
 
 
 def at(start: Point, along: Point, far: float) -> str:
-    """The point that lies so far from another in a direction."""
     return f"{start[0] + along[0] * far:.1f} {start[1] + along[1] * far:.1f}"
 
 
 def path(name: str, drawn: str) -> str:
-    """A path of a class."""
     return f'<path class="{name}" d="{drawn}"/>'
 
 

@@ -9,7 +9,6 @@ from pathlib import Path
 
 from classroom.lab import Lab
 from classroom.record import CUT, ENDED, Entry, Reader, seats
-from classroom.rounds import plural
 
 PAUSE = 1.0  # seconds between two looks
 MOST = 1 << 20  # bytes of a seat that are read at one look
@@ -42,14 +41,14 @@ class Seat:
         return found
 
 
+def counted(count: int, what: str) -> str:
+    """So many of them."""
+    return f"{count} {what}{'' if count == 1 else 's'}"
+
+
 def told_so(word: str) -> str:
     """How a line was answered."""
     return f"refused {word}" if word == MALFORMED else f"denied {word}"
-
-
-def asked_in_vain(name: str, word: str, count: int) -> str:
-    """How often somebody's lines were answered so."""
-    return f"{name}: {told_so(word)} {plural(count, 'time')}"
 
 
 class Heard:
@@ -92,7 +91,7 @@ class Heard:
         return self.look(step, now) if now >= self.due else []
 
     def look(self, step: int, now: float) -> list[str]:
-        """Lines of what is new since the last look, at this moment."""
+        """The same at this moment."""
         seconds = max(now - self.last, PAUSE)
         self.last, self.due = now, now + PAUSE
         self.read()
@@ -153,9 +152,9 @@ class Heard:
         """Whose connections have become more or fewer."""
         before, now = self.shown, self.connected()
         self.shown = now
-        come = [f"connected: {name}" + (f", {plural(now[name], 'connection')}" if now[name] > 1 else "")
+        come = [f"connected: {name}" + (f", {counted(now[name], 'connection')}" if now[name] > 1 else "")
                 for name in sorted(now) if now[name] > before[name]]
-        return come + [f"gone: {name}" + (f", {plural(now[name], 'connection')} left" if now[name] else "")
+        return come + [f"gone: {name}" + (f", {counted(now[name], 'connection')} left" if now[name] else "")
                        for name in sorted(before) if now[name] < before[name]]
 
     def is_news(self, key: tuple[str, str], count: int, least: int) -> bool:
@@ -167,16 +166,17 @@ class Heard:
 
     def wrong_keys(self) -> list[str]:
         """Wrong keys, as often as their number has doubled."""
-        return [f"{plural(count, 'wrong key')} for {name}" for name, count in self.wrong.items()
+        return [f"{counted(count, 'wrong key')} for {name}" for name, count in self.wrong.items()
                 if self.is_news(("wrong", name), count, 1)]
 
-    def denied(self) -> dict[tuple[str, str], int]:
-        """How often lines were answered in vain since the last step, by whose they were and how."""
-        return {key: at.total() for key, at in self.vain.items() if at.total()}
+    def denied(self) -> list[tuple[str, str, int]]:
+        """Who asked in vain since the last step: whom, what was told, how often."""
+        return [(name, word, at.total()) for (name, word), at in self.vain.items() if at.total()]
 
     def in_vain(self) -> list[str]:
-        """Lines of who asked in vain since the last step, as often as the number has doubled."""
-        return [f"{asked_in_vain(*key, count)} since the last step" for key, count in self.denied().items() if self.is_news(key, count, VAIN)]
+        """The same as lines, as often as the number has doubled."""
+        return [f"{name}: {told_so(word)} {counted(count, 'time')} since the last step"
+                for name, word, count in self.denied() if self.is_news((name, word), count, VAIN)]
 
     def flooding(self, seconds: float) -> list[str]:
         """Who began to flood, and who ceased."""
@@ -206,7 +206,7 @@ class Heard:
     def amiss(self) -> list[str]:
         """What there is to list of those who do otherwise than they should."""
         wrong = ", ".join(f"{count} for {name}" for name, count in self.wrong.items())
-        vain = [asked_in_vain(*key, count) for key, count in self.denied().items()]
+        vain = [f"{name}: {told_so(word)} {counted(count, 'time')}" for name, word, count in self.denied()]
         floods = ", ".join(f"{name}, {rate} lines a second" for name, rate in self.floods.items())
         told = (f"wrong keys: {wrong}" if wrong else "", f"since the last step {'; '.join(vain)}" if vain else "",
                 f"a flood of {floods}" if floods else "")

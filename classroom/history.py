@@ -110,7 +110,8 @@ def steps(lab: labs.Lab, journal: list[Event], name: str, own: set[int]) -> Iter
         if event.place in own:
             continue
         if event.kind == "close":
-            what = f"configuration {event.at + 1}: {', '.join(map(str, moved))}"
+            nodes_moved = ", ".join(f"{node} ({who}) {rule}" for node, who, rule in moved)
+            what = f"configuration {event.at + 1}: {nodes_moved}"
         elif event.makes_configuration:
             what = f"configuration {event.at + 1}: {' '.join(event.words)}"
         elif nodes & set(event.nodes):

@@ -18,7 +18,7 @@ from classroom.journal import RULES, events, split
 from classroom.printable import printable
 from classroom.program import Fault
 from classroom.statuses import LAB, WARNED
-from classroom.tally import DENIED, NUMBERS, Asked
+from classroom.tally import DENIED, Asked
 from classroom.vouched import Vouched, vouched
 
 UNTOLD = (
@@ -71,11 +71,12 @@ class Run:
     def table(self) -> dict[str, Any]:
         """The run as `--json` has it."""
         asked = self.asked
-        students: dict[str, dict[str, Any]] = {
+        students = {
             name: {
                 "granted": {rule: marks.granted[rule] for rule in RULES},
                 "applied": {rule: marks.applied[rule] for rule in RULES},
-                **marks.numbers(), **dict(zip(DENIED, self.denied(name))),
+                "steps": marks.steps, "first": marks.first, "last": marks.last, "shared": marks.shared,
+                **dict(zip(DENIED, self.denied(name))),
             }
             for name, marks in self.tally.students.items()
         }
@@ -136,11 +137,11 @@ def refusal(journal: Path, error: str) -> str:
 
 def rows(runs: list[Run]) -> list[list[str]]:
     """A line for each student and run, below a line of heads."""
-    table = [["journal", "student", "granted", "applied", *RULES, *NUMBERS, *DENIED]]
+    table = [["journal", "student", "granted", "applied", *RULES, "steps", "first", "last", "shared", *DENIED]]
     for run in runs:
         for name, marks in run.tally.students.items():
-            numbers = [marks.granted.total(), marks.applied.total(), *(marks.applied[rule] for rule in RULES),
-                       *marks.numbers().values(), *run.denied(name)]
+            numbers = [marks.granted.total(), marks.applied.total(), *(marks.applied[rule] for rule in RULES), marks.steps,
+                       marks.first, marks.last, marks.shared, *run.denied(name)]
             table.append([str(run.journal), name, *("-" if number is None else str(number) for number in numbers)])
     return table
 

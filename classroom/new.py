@@ -6,7 +6,6 @@ import itertools
 import random
 import secrets
 from pathlib import Path
-from typing import NamedTuple
 
 from classroom import lab as labs
 from classroom import bounds, lists, names, networks, shaking, slips
@@ -66,22 +65,14 @@ def make(words: argparse.Namespace, people: dict[str, Person], chance: random.Ra
     return made
 
 
-class Paths(NamedTuple):
-    """Where a lab lies, its slips to print, and the folder of those for programs."""
-
-    lab: Path
-    slips: Path
-    folder: Path
-
-
-def paths(path: Path, count: int) -> list[Paths]:
-    """Where so many labs of a file's name lie."""
+def paths(path: Path, count: int) -> list[tuple[Path, Path, Path]]:
+    """The files of each lab and of its slips to print, and the folder of those for programs."""
     name = path.name.removesuffix(".toml")
     if not name.strip("."):
         raise Fault(f"{path} is no file's name: NAME.toml")
     names_of = [name] if count == 1 else [f"{name}-{number}" for number in range(1, count + 1)]
     return [
-        Paths(path.with_name(f"{name}.toml"), path.with_name(f"{name}-slips.txt"), path.with_name(f"{name}-slips"))
+        (path.with_name(f"{name}.toml"), path.with_name(f"{name}-slips.txt"), path.with_name(f"{name}-slips"))
         for name in names_of
     ]
 

@@ -38,7 +38,6 @@ class Frames:
         self.open: dict[int, tuple[int, int]] = {}
 
     def add(self, frame: Frame, links: int) -> None:
-        """Adds the row of a frame, over a network with so many links."""
         state, event = frame.state, frame.event
         before = self.before or State(0, 0, frozenset())
         most = bounds.told(len(self.order), links)
@@ -60,7 +59,6 @@ class Frames:
         self.before = state.copy()
 
     def registers(self, before: State, state: State) -> list[list[int]]:
-        """The nodes whose registers changed, each with p (-1: none) and m."""
         rows: list[list[int]] = []
         if (before.pointers, before.ms) == (state.pointers, state.ms):
             return rows
@@ -74,12 +72,10 @@ class Frames:
         return rows
 
     def rules(self, before: dict[int, str], now: dict[int, str]) -> list[list[int]]:
-        """The nodes whose rule changed, each with the new one (0: none)."""
         changed = {node for node, _ in before.items() ^ now.items()}
         return [[self.order[node], RULES.index(now.get(node, ""))] for node in sorted(changed)]
 
     def partners(self, before: list[Link], now: list[Link]) -> list[list[int]]:
-        """The nodes whose partner changed, each with the new one (-1: none)."""
         gone, come = set(before) - set(now), set(now) - set(before)
         rows = [[self.order[node], -1] for pair in sorted(gone) for node in pair]
         return rows + [
@@ -87,11 +83,9 @@ class Frames:
         ]
 
     def changed_links(self, before: frozenset[Link], now: frozenset[Link]) -> list[list[int]]:
-        """The links that are gone or new, each with 0 or 1."""
         return [[self.place_of(link), int(link in now)] for link in sorted(before ^ now)]
 
     def place_of(self, link: Link) -> int:
-        """The place of a link in the list, at whose end a new one is put."""
         if link not in self.index:
             self.index[link] = len(self.links)
             self.links.append(link)
@@ -188,7 +182,6 @@ def legend(drawing: Drawing) -> str:
 
 
 def legend_row(drawing: Drawing, student: str) -> str:
-    """A student's row: the colour, the sign, the name and the nodes."""
     nodes = [str(node) for node in drawing.lab.nodes_of(student)]
     swatch = f'<svg width="14" height="14"><circle class="owned h{drawing.hue(student)}" cx="7" cy="7" r="6"/></svg>'
     sign = f"<strong>{drawing.signs[student]}</strong> " if drawing.form.signed else ""

@@ -4,6 +4,7 @@ What is granted, denied, shown and reported is the program's answer, line by lin
 """
 from __future__ import annotations
 
+import json
 import random
 import time
 from collections import Counter, deque
@@ -19,8 +20,6 @@ from classroom.answering import Answering
 from classroom.bench import network
 from classroom.client import Denied, reply_of, wrong
 from classroom.daemons import Daemon, Sight, applied
-from classroom.present import Moved
-from classroom.record import json_object
 from classroom.relay import Relay
 
 TEACHER, HOUSE, FIRST = 1, 2, 3  # connections of the script; from the third on programs have them
@@ -66,13 +65,22 @@ class Step:
     """A step that was closed: its number, who moved by which rule, and what the report says."""
 
     at: int
-    moved: list[Moved]
+    moved: list[tuple[int, str, str]]
     report: dict[str, Any]
 
 
 def number_of(value: object) -> int:
     """A number of a request, or 0 where it has none."""
     return value if isinstance(value, int) and not isinstance(value, bool) else 0
+
+
+def request_of(line: bytes) -> dict[str, Any]:
+    """What a line asks, as far as it can be read."""
+    try:
+        asked = json.loads(line)
+    except (ValueError, RecursionError):
+        return {}
+    return asked if isinstance(asked, dict) else {}
 
 
 class Playing:
@@ -114,7 +122,7 @@ class Playing:
             self.heard.setdefault(told["who"], Heard()).greeted += 1
         who = self.names.get(connection, self.programs[0])
         self.heard[who].pauses.append(paused)
-        self.count(who, json_object(line), line, told)
+        self.count(who, request_of(line), line, told)
         if told.get("ok") == "bye":
             self.names.pop(connection, None)
         return reply
@@ -196,10 +204,10 @@ class Playing:
         for node in self.chosen.keys() - set(nodes):
             self.program.ask(TEACHER, do="release", node=node)
         told = self.program.ask(TEACHER, do="close")
-        moved = [Moved(node, *self.chosen[node]) for node in told["moved"]]
-        for it in moved:
-            if it.name in self.heard:
-                self.heard[it.name].moved += 1
+        moved = [(node, *self.chosen[node]) for node in told["moved"]]
+        for _, who, _ in moved:
+            if who in self.heard:
+                self.heard[who].moved += 1
         self.closes, self.moves, self.since_moves = self.closes + 1, self.moves + len(moved), self.since_moves + len(moved)
         self.changed()
         self.news = self.closed = time.monotonic()

@@ -20,11 +20,11 @@ from classroom.client import RULES
 from classroom.daemons import FORMS, Daemon, daemon
 from classroom.folders import new_folder
 from classroom.grade import count, seconds
-from classroom.heard import MALFORMED
+from classroom.heard import MALFORMED, counted
 from classroom.new import start
 from classroom.playing import No, Playing, Step
 from classroom.program import TOP, Fault, call, first_free, program
-from classroom.rounds import Recovery, plural
+from classroom.rounds import Recovery
 from classroom.statuses import WARNED
 from classroom.suites import HOUSE, TEACHER, key
 from classroom.teller import Teller
@@ -128,8 +128,8 @@ class Practice:
     def step(self, step: Step) -> None:
         """A step as a line."""
         privileged = [node for node, _ in step.report["privileged"]]
-        self.recovery.step([it.node for it in step.moved], privileged)
-        moved = ", ".join(map(str, step.moved))
+        self.recovery.step([node for node, _, _ in step.moved], privileged)
+        moved = ", ".join(f"{node} ({who}) {rule}" for node, who, rule in step.moved)
         left = f"{len(privileged)} privileged" if privileged else "stable"
         self.tell(f"configuration {step.at}: {moved}; {left}, {self.recovery.moves} of at most {self.most} moves")
         self.told = ""
@@ -144,10 +144,10 @@ class Practice:
         heard = self.playing.heard[name]
         moves = ", ".join(rule for rule in RULES if heard.rules[rule])
         denied = {word: times for word, times in sorted(heard.denied.items()) if word != MALFORMED}
-        text = f"{name}: {plural(heard.granted, 'move')}" + f" ({moves})" * bool(moves) + f", {plural(sum(denied.values()), 'denial')}"
+        text = f"{name}: {counted(heard.granted, 'move')}" + f" ({moves})" * bool(moves) + f", {counted(sum(denied.values()), 'denial')}"
         text += f" ({', '.join(f'{times} {word}' for word, times in denied.items())})" * bool(denied)
         if heard.denied[MALFORMED]:
-            text += f", {plural(heard.denied[MALFORMED], 'malformed line')}"
+            text += f", {counted(heard.denied[MALFORMED], 'malformed line')}"
         never = ", ".join(rule for rule in RULES if rule not in heard.wanted)
         return text + f"; never asked: {never}" * bool(never) + f"; {FLOODS}" * (name in self.floods)
 

@@ -2,20 +2,7 @@
 `classroom.tally`."""
 from __future__ import annotations
 
-from typing import NamedTuple
-
 from classroom.journal import Event
-
-
-class Moved(NamedTuple):
-    """A node whose move a close applied, whose grant it was, and the rule."""
-
-    node: int
-    name: str
-    rule: str
-
-    def __str__(self) -> str:
-        return f"{self.node} ({self.name}) {self.rule}"
 
 
 class Book:
@@ -28,8 +15,8 @@ class Book:
         self.moves = 0
         self.since = 0  # Moves since the last fault, link or cut.
 
-    def add(self, event: Event) -> list[Moved]:
-        """Takes an event; for a close it gives what moved."""
+    def add(self, event: Event) -> list[tuple[int, str, str]]:
+        """Takes an event; for a close it gives the nodes that moved, whose grant it was, and the rule."""
         word = event.kind
         if word == "grant":
             _, name, node, rule = event.words[:4]
@@ -41,9 +28,9 @@ class Book:
             return []
         return self.step(word)
 
-    def step(self, word: str) -> list[Moved]:
-        """Takes an event with this word, which makes a configuration; for a close it gives what moved."""
-        moved = [Moved(node, name, rule) for node, (name, rule) in sorted(self.chosen.items())] if word == "close" else []
+    def step(self, word: str) -> list[tuple[int, str, str]]:
+        """Takes what makes a configuration."""
+        moved = [(node, name, rule) for node, (name, rule) in sorted(self.chosen.items())] if word == "close" else []
         self.links += (word == "link") - (word == "cut")
         self.moves += len(moved)
         self.since = self.since + len(moved) if word == "close" else 0

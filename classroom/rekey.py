@@ -6,7 +6,6 @@ import os
 import re
 import secrets
 from pathlib import Path
-from typing import NamedTuple
 
 from classroom import lab as labs
 from classroom import new, places, slips
@@ -52,23 +51,15 @@ def write(path: Path, text: str) -> None:
     other.replace(path)
 
 
-class Files(NamedTuple):
+def files_of(word: str) -> tuple[list[Path], Path, Record | None]:
     """The lab's files that have the key, the one beside which slips lie, and what a run's folder keeps."""
-
-    labs: list[Path]
-    own: Path
-    record: Record | None
-
-
-def files_of(word: str) -> Files:
-    """The files of a lab or of a run's folder."""
     path = Path(word)
     if not path.is_dir():
-        return Files([path], path, None)
+        return [path], path, None
     kept, _ = of_folder(path)
     record = Record.read(path)
     own = Path(record.lab) if record is not None else kept
-    return Files([kept, *([own] if own.is_file() and own != kept else [])], own, record)
+    return [kept, *([own] if own.is_file() and own != kept else [])], own, record
 
 
 def rekey(words: argparse.Namespace) -> int:

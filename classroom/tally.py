@@ -9,9 +9,6 @@ from classroom.journal import RULES
 from classroom.program import Fault, host_call
 
 
-NUMBERS = ("steps", "first", "last", "shared")  # the columns of a student behind those of the moves
-
-
 @dataclass
 class Marks:
     """What a journal tells of a student."""
@@ -23,10 +20,6 @@ class Marks:
     last: int | None = None
     shared: int = 0
 
-    def numbers(self) -> dict[str, int | None]:
-        """What stands in the columns behind those of the moves."""
-        return {name: getattr(self, name) for name in NUMBERS}
-
 
 @dataclass(frozen=True)
 class Bounds:
@@ -37,8 +30,7 @@ class Bounds:
     events: int
 
 
-# The columns of who was denied: the clauses that a student's line can break, and the lines that were no request.
-DENIED = (*(f"clause{number}" for number in range(1, 5)), "malformed")
+DENIED = ("clause1", "clause2", "clause3", "clause4", "malformed")
 
 
 @dataclass
@@ -111,18 +103,18 @@ def read(text: str) -> Tally:
 
 
 def by_owner(words: list[str]) -> dict[str, Counter[str]]:
-    """How many moves of each rule, by owner: for each a name, and four numbers."""
+    """A name and four numbers, for each owner."""
     return {words[at]: by_rule(words[at + 1 : at + 5]) for at in range(0, len(words), 5)}
 
 
 def marks(words: list[str]) -> Marks:
-    """The marks that a student's line tells."""
+    """Those of a student's line."""
     steps, first, last, shared = words[8:]
     return Marks(by_rule(words[:4]), by_rule(words[4:8]), int(steps), place(first), place(last), int(shared))
 
 
 def by_rule(words: list[str]) -> Counter[str]:
-    """How many moves of each rule: four numbers in the rules' order."""
+    """Four numbers in the rules' order."""
     return Counter(dict(zip(RULES, map(int, words), strict=True)))
 
 
@@ -132,7 +124,7 @@ def place(word: str) -> int | None:
 
 
 def take_run(tally: Tally, words: list[str]) -> None:
-    """Takes what the line of the run tells, which is the last."""
+    """What the last line tells."""
     tally.stable = words.pop(2) == "stable"
     (tally.events, tally.configuration, tally.closes, tally.faults, tally.links, tally.cuts, tally.moves, *since) = map(int, words)
     tally.since = (since[0], since[1])

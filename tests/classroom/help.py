@@ -22,7 +22,6 @@ from collections.abc import Iterator
 from contextlib import contextmanager
 from pathlib import Path
 
-from classroom.client import Client
 from classroom.lab import read
 from classroom.program import TOP, call
 
@@ -115,7 +114,7 @@ class Going:
         raise AssertionError(f"no {pattern} in {self.lines}")
 
     def until_each(self, *patterns: str) -> None:
-        """Reads lines until each pattern was in one, in whichever order."""
+        """The same, until each pattern was in one, in whichever order."""
         left = list(patterns)
         while left:
             line = self.until("|".join(left))
@@ -145,13 +144,6 @@ class Going:
             pass
         return self.process.wait(LIMIT)
 
-    def end(self, status: int = 0) -> None:
-        """Types that the run is to end, and says so once more, and wants it to end with this status."""
-        self.type("end\nend")
-        found = self.ends()
-        if found != status:
-            raise AssertionError(f"it ends with {found}: {self.lines}")
-
     def server(self) -> int:
         """The process of the server."""
         children = Path(f"/proc/{self.process.pid}/task/{self.process.pid}/children").read_text(encoding="ascii").split()
@@ -169,12 +161,6 @@ class Going:
                     pipe.close()
                 except OSError:
                     pass
-
-
-def gus_moves(going: Going, node: int = 4) -> None:
-    """Gus greets, asks for the move that is enabled at a node of his, and goes."""
-    with Client(going.port, "gus", KEYS["gus"]) as gus:
-        gus.move(gus.look(node))
 
 
 class InTerminal:

@@ -8,9 +8,10 @@ import time
 import unittest
 from pathlib import Path
 
+from classroom.client import Client
 from classroom.folders import Process
 from classroom.program import host
-from tests.classroom.help import CLASS, CYCLE, LIMIT, Cycle, Going, InTerminal, gus_moves, stop, words
+from tests.classroom.help import CLASS, CYCLE, KEYS, LIMIT, Cycle, Going, InTerminal, stop, words
 
 
 @unittest.skipUnless(host(), "not tried: no host is built")
@@ -22,7 +23,8 @@ class Attach(Cycle):
         going = Going(self, CYCLE, "--close", "by-hand", *more)
         server = going.server()
         self.addCleanup(self.end, server)
-        gus_moves(going)
+        with Client(going.port, "gus", KEYS["gus"]) as gus:
+            gus.move(gus.look(4))
         going.type("close")
         going.until("^configuration 1: 4 ")
         going.type("fault 1 2 true")
@@ -48,10 +50,12 @@ class Attach(Cycle):
         self.assertEqual((again.port, again.folder), (going.port, going.folder))
         self.assertIn("gone on from configuration 2, events 3 of 1000", again.lines)
         self.assertFalse(any(line.startswith("configuration ") for line in again.lines), again.lines)
-        gus_moves(again, 1)
+        with Client(again.port, "gus", KEYS["gus"]) as gus:
+            gus.move(gus.look(1))
         again.type("close")
         again.until("^configuration 3: 1 \\(gus\\) update; .* 1 of at most 35 moves; events 5 of 1000$")
-        again.end()
+        again.type("end\nend")
+        self.assertEqual(again.ends(), 0, again.lines)
         self.assertEqual(self.whole(going.folder), 5)
         self.assertEqual(self.marks(going.folder), {"gus": 2, "hana": 0, "ines": 0, "jonas": 0})
         told = (going.folder / "run.txt").read_text(encoding="utf-8")
@@ -64,7 +68,8 @@ class Attach(Cycle):
         self.assertRegex(again.until("^page "), "^page http://127.0.0.1:295")
         again.type("link 1 3")
         again.until("^configuration 3: link 1 3")
-        again.end()
+        again.type("end\nend")
+        self.assertEqual(again.ends(), 0, again.lines)
 
     def test_a_second_run_offers_it(self) -> None:
         going = self.killed()
@@ -84,7 +89,8 @@ class Attach(Cycle):
         terminal.process.wait(LIMIT)
         again.type("link 1 3")
         again.until("^configuration 2: link 1 3")
-        again.end()
+        again.type("end\nend")
+        self.assertEqual(again.ends(), 0, again.lines)
         self.assertEqual(self.whole(folder), 2)
 
     def test_a_server_that_is_late_may_be_left(self) -> None:
@@ -119,7 +125,8 @@ class Attach(Cycle):
         going = Going(self, CYCLE, "--close", "by-hand")
         done = words("attach", going.folder)
         self.assertEqual((done.returncode, done.stderr), (1, f"class: {going.folder}: process {going.process.pid} holds its desk\n"))
-        going.end()
+        going.type("end\nend")
+        self.assertEqual(going.ends(), 0, going.lines)
         done = words("attach", going.folder)
         self.assertEqual((done.returncode, done.stderr), (1, f"class: {going.folder}: its server has ended: {CLASS} run --resume {going.folder}\n"))
         self.assertEqual(words("attach", self.room / "none").returncode, 1)

@@ -139,7 +139,8 @@ class Broken(Cycle):
 
     def test_a_folder_that_takes_nothing_more(self) -> None:
         going = Going(self, CYCLE)
-        going.end()
+        going.type("end\nend")
+        self.assertEqual(going.ends(), 0)
         (going.folder / "marks.txt").unlink()
         (going.folder / "marks.txt").symlink_to("/dev/full")
         lines: list[str] = []
@@ -188,7 +189,8 @@ class Broken(Cycle):
             Client(going.port, "ines", KEYS["ines"])
         gus.kill()
         going.until("^gone: gus$")
-        going.end()
+        going.type("end\nend")
+        self.assertEqual(going.ends(), 0, going.lines)
         self.whole(going.folder)
 
     def test_who_is_connected(self) -> None:

@@ -55,7 +55,7 @@ class Completed(unittest.TestCase):
     """What the tab key offers."""
 
     def offers(self, line: str) -> list[str]:
-        """What the tab key offers at the end of a line, where nodes are 1, 12 and 7."""
+        """What it offers at the end of a line, where nodes are 1, 12 and 7."""
         terminal = object.__new__(Terminal)
         terminal.words, terminal.readline = ["1", "12", "7"], unittest.mock.Mock()
         terminal.readline.get_line_buffer.return_value = line
@@ -262,9 +262,11 @@ class Late(Cycle):
         self.assertEqual(len(list((self.room / "runs").iterdir())), 1)
         beside = Going(self, CYCLE, "--close", "by-hand", "--beside")
         for run in (beside, going):
-            run.end()
+            run.type("end\nend")
+            self.assertEqual(run.ends(), 0)
         third = Going(self, CYCLE, "--close", "by-hand")
-        third.end()
+        third.type("end\nend")
+        self.assertEqual(third.ends(), 0)
 
 
 class Kept(InRoom):
@@ -291,7 +293,7 @@ class Disk(InRoom):
         self.assertEqual(told, [[], [], ["the disk has little room"], [], ["the disk is full"], [], ["the disk has room again"], []])
 
     def disk(self) -> Room:
-        """The room on the disk of the test's folder."""
+        """That of the test's folder."""
         room = Room(self.room)
         self.addCleanup(room.close)
         return room

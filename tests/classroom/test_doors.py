@@ -96,7 +96,7 @@ class DoorsOfHands(Doors):
     path = "/events"
 
     def opened(self, port: int) -> Web:
-        """The page at which students play by hand."""
+        """That page."""
         hands = open_hands(port, "cycle", read(CYCLE))
         hands.show(1, print)
         self.addCleanup(hands.stop)

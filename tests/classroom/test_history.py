@@ -107,7 +107,8 @@ class Disputed(Cycle):
 
     def ended(self, going: Going) -> Path:
         """Its folder, after its end."""
-        going.end()
+        going.type("end\nend")
+        self.assertEqual(going.ends(), 0, going.lines)
         return going.folder
 
     def seat(self, folder: Path) -> Path:
@@ -323,7 +324,8 @@ class Verified(Disputed):
             for _ in range(500):
                 self.assertIn('"deny":"stale"', gus.ask(MOVE % 7))
             going.until("^the rest of what gus sends isn't recorded: ")
-        going.end(5)
+        going.type("end\nend")
+        self.assertEqual(going.ends(), 5, going.lines)
         self.assertIn("the record isn't whole: the disk didn't take all of it; the journal is", going.lines)
         self.assertIn("the run is ended", going.lines)
         self.assertRegex((going.folder / "marks.txt").read_text(encoding="utf-8"), r"(?m)^record: ok: .*, not whole$")

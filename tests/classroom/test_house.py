@@ -194,7 +194,8 @@ class Standing(InRoom):
         before = self.grants(going.folder)
         self.assertEqual(set(before), {HOUSE})
         self.assertLessEqual(before[HOUSE], set(nodes))
-        going.end()
+        going.type("end\nend")
+        self.assertEqual(going.ends(), 0, going.lines)
         self.assertEqual(self.grants(going.folder), before)
 
     def comes_back_without(self, going: Going, nodes: list[int]) -> None:

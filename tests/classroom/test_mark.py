@@ -14,7 +14,7 @@ from classroom import program, replay
 from classroom import lab as labs
 from classroom.answering import all_of
 from classroom.mark import marked
-from classroom.tally import DENIED, NUMBERS, Marks
+from classroom.tally import DENIED
 from tests.classroom.help import EXAMPLES, InRoom, words
 from tests.classroom.test_check import GOOD, PAIR
 
@@ -64,7 +64,8 @@ class Mark(InRoom):
             self.assertEqual((run["events"], run["configuration"], run["closes"], run["stable"]),
                              (events, configuration, closes, True))
             found = {
-                name: (*(it["applied"][rule] for rule in ("update", "marriage", "seduction", "abandonment")), *(it[column] for column in NUMBERS))
+                name: (*(it["applied"][rule] for rule in ("update", "marriage", "seduction", "abandonment")),
+                       it["steps"], it["first"], it["last"], it["shared"])
                 for name, it in run["students"].items()
             }
             self.assertEqual(found, wanted)
@@ -91,7 +92,7 @@ class Mark(InRoom):
         run, = self.marks(self.file("lab.toml", GOOD.replace(*PAIR)), self.file("journal", ""))
         none = {"update": 0, "marriage": 0, "seduction": 0, "abandonment": 0}
         self.assertEqual(run["students"]["jonas"],
-                         {"granted": none, "applied": none, **Marks().numbers(), **dict.fromkeys(DENIED)})
+                         {"granted": none, "applied": none, "steps": 0, "first": None, "last": None, "shared": 0, **dict.fromkeys(DENIED)})
 
     def test_a_long_run(self) -> None:
         lab = self.file("lab.toml", GOOD.replace(*PAIR).replace("events = 1000", "events = 100000"))
@@ -140,15 +141,17 @@ class Mark(InRoom):
         done = words("mark", lab, one, two, "--roster", students, "--total")
         self.assertEqual((done.returncode, done.stderr), (0, ""))
         self.assertEqual(done.stdout.splitlines(), [
-            f"Student;SIS User ID;Section;granted;applied;update;marriage;seduction;abandonment;steps;shared;runs;{';'.join(DENIED)};recorded",
-            f"Points Possible;;;;;;;;;;;{';' * len(DENIED)};", f"Müller, Zoë;s1;A;2;1;0;0;1;0;1;0;2{';0' * len(DENIED)};0",
-            f"Ben;s2;B;1;1;0;1;0;0;1;0;2{';0' * len(DENIED)};0", f"Eva;s3;B;0;0;0;0;0;0;0;0;2{';0' * len(DENIED)};0",
+            "Student;SIS User ID;Section;granted;applied;update;marriage;seduction;abandonment;steps;shared;runs;"
+            "clause1;clause2;clause3;clause4;malformed;recorded",
+            "Points Possible;;;;;;;;;;;;;;;;;", "Müller, Zoë;s1;A;2;1;0;0;1;0;1;0;2;0;0;0;0;0;0",
+            "Ben;s2;B;1;1;0;1;0;0;1;0;2;0;0;0;0;0;0",
+            "Eva;s3;B;0;0;0;0;0;0;0;0;2;0;0;0;0;0;0",
         ])
         shorter = self.file("shorter.csv", "Name,ID\nZoë M.,s1\nBen,s2\nNew,s9\n")
         done = words("mark", lab, one, "--roster", shorter)
         self.assertEqual((done.returncode, done.stderr), (5, f"class: {shorter} has no Eva\n"))
         self.assertEqual([line.split(",")[:3] for line in done.stdout.splitlines()[1:]], [["Zoë M.", "s1", "1"], ["Ben", "s2", "1"], ["New", "s9", "0"]])
-        self.assertEqual(words("mark", lab, one, two, "--total").stdout.splitlines()[1], '"Müller, Zoë",s1,2,1,0,0,1,0,1,0,2' + ",0" * len(DENIED) + ",0")
+        self.assertEqual(words("mark", lab, one, two, "--total").stdout.splitlines()[1], '"Müller, Zoë",s1,2,1,0,0,1,0,1,0,2,0,0,0,0,0,0')
 
     def test_forms(self) -> None:
         lab = self.file("lab.toml", GOOD.replace(*PAIR))

@@ -64,15 +64,6 @@ class Live(InRoom):
         until(self.driver, lambda driver: shown(driver)[2].partition(": ")[2] == event)
         return shown(self.driver)
 
-    def closes_by_itself(self, form: str, seconds: str) -> None:
-        """Has steps closed in this form, by so many seconds, and waits until a move of gus's is applied so."""
-        self.fill_seconds(seconds)
-        self.find(form)
-        until(self.driver, lambda driver: driver.find_element("id", "closing").text == f"{form}:{seconds}")
-        gus = self.student("gus")
-        gus.move(gus.look(4))
-        self.sees("close")
-
     def ask(self, verb: str, path: str, body: str | bytes | None = None, **head: str) -> tuple[int, bytes]:
         """The status and the bytes of an answer."""
         connection = http.client.HTTPConnection("127.0.0.1", urlsplit(self.address).port or 0, timeout=60)
@@ -85,7 +76,8 @@ class Live(InRoom):
 
     def end(self) -> Path:
         """Ends the run, whose last frame is what the page has shown; gives its folder."""
-        self.going.end()
+        self.going.type("end\nend")
+        self.assertEqual(self.going.ends(), 0, self.going.lines)
         until(self.driver, lambda driver: "over" in driver.find_element("id", "connection").text)
         last = shown(self.driver)
         folder = self.going.folder
@@ -149,7 +141,12 @@ class Live(InRoom):
 
     def test_every_so_many_seconds_and_frozen(self) -> None:
         self.begin()
-        self.closes_by_itself("every", "0.2")
+        self.fill_seconds("0.2")
+        self.find("every")
+        until(self.driver, lambda driver: driver.find_element("id", "closing").text == "every:0.2")
+        gus = self.student("gus")
+        gus.move(gus.look(4))
+        self.sees("close")
         self.find("by-hand")
         until(self.driver, lambda driver: driver.find_element("id", "closing").text == "by-hand")
         self.find("freeze")
@@ -318,7 +315,12 @@ class Live(InRoom):
     def test_back_to_when_idle(self) -> None:
         self.begin()
         self.find("by-hand")
-        self.closes_by_itself("when-idle", "0.3")
+        self.fill_seconds("0.3")
+        self.find("when-idle")
+        until(self.driver, lambda driver: driver.find_element("id", "closing").text == "when-idle:0.3")
+        gus = self.student("gus")
+        gus.move(gus.look(4))
+        self.sees("close")
         self.end()
 
     def test_what_the_head_of_each_answer_says(self) -> None:

@@ -10,7 +10,7 @@ import unittest
 from pathlib import Path
 
 from classroom.client import Client, Closed, Denied, Refused
-from tests.classroom.help import CYCLE, EXAMPLES, KEYS, LIMIT, Cycle, Going, gus_moves, no_server, words
+from tests.classroom.help import CYCLE, EXAMPLES, KEYS, LIMIT, Cycle, Going, no_server, words
 
 
 class Run(Cycle):
@@ -56,7 +56,8 @@ class Run(Cycle):
         going.until(r"^configuration \d+, not stable: .*privileged .*\((seduction|abandonment|marriage|update)\)")
         going.type("link 1 1")
         going.until("^no: loop")
-        going.end()
+        going.type("end\nend")
+        self.assertEqual(going.ends(), 0, going.lines)
         self.assertGreaterEqual(self.whole(going.folder), 4)
 
     def test_a_bot_in_another_language(self) -> None:
@@ -82,7 +83,8 @@ class Run(Cycle):
             going = Going(self, CYCLE, "--port", str(port))
             self.assertGreater(going.port, port)
             self.assertIn(f"port {port} is in use", going.lines)
-            going.end()
+            going.type("end\nend")
+            self.assertEqual(going.ends(), 0)
 
     def test_nothing_built(self) -> None:
         done = words("run", CYCLE, "--into", self.room / "runs", MML_PROGRAM=str(self.room / "none"))
@@ -102,10 +104,12 @@ class Run(Cycle):
         self.assertFalse((self.room / "runs").exists())
         going = Going(self, CYCLE, "--close", "by-hand", "--serve", MML_HOST=none)
         self.assertTrue(any("connections in all" in line for line in going.lines), going.lines)
-        gus_moves(going)
+        with Client(going.port, "gus", KEYS["gus"]) as gus:
+            gus.move(gus.look(4))
         going.type("close")
         going.until("^configuration 1: 4 \\(gus\\) update")
-        going.end(1)
+        going.type("end\nend")
+        self.assertEqual(going.ends(), 1, going.lines)
         self.assertTrue(any("mml_host isn't built" in line for line in going.lines), going.lines)
         self.assertTrue((going.folder / "run.html").is_file())
         self.assertIn("2 events, configuration 1", words("mark", going.folder).stdout)

@@ -180,7 +180,6 @@ class Server:
                 break
 
     def _end(self) -> Ended:
-        """Waits until the server ends by itself; it has to."""
         try:
             out, error = self.process.communicate(timeout=LIMIT)
         except subprocess.TimeoutExpired:

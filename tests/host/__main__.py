@@ -10,21 +10,29 @@ import threading
 import time
 from pathlib import Path
 
-from tests.common.hosting import Bot, Caller, Host, Talk, audit, called, lab_of, let_in
-from tests.common.lines import BID, BUSY, BYE, CLOSE, LATE, NODES, OVER, REPORT, fault, hello, look, move, see, welcome
+from tests.common.hosting import (
+    BID, BUSY, BYE, LATE, NODES, OVER, Bot, Caller, Host, Talk, audit, called, hello, lab_of, let_in, look
+)
 from tests.common.preload import Ended, fail, good
 from tests.common.side_by_side import Test, try_all
 
 NOT_LISTENING = Ended(4, b"", b"host: cannot listen\n")
 NONE = Ended(0, b"done: 0 events, configuration 0\n", b"")
+CLOSE = b'{"do":"close"}\n'
+REPORT = b'{"do":"report"}\n'
+
+
+def move(at: int, node: int, rule: str) -> bytes:
+    """A move by that number."""
+    return b'{"at":%d,"do":"move","node":%d,"rule":"%s"}\n' % (at, node, rule.encode())
 
 
 def acts(talk: Talk, student: Caller, teacher: Caller, turn: int) -> None:
     """A move of ana's, its close, and a fault by which it may be made again: three events, two numbers."""
-    talk.ask(student, move(2 * turn, 1))
+    talk.ask(student, move(2 * turn, 1, "seduction"))
     talk.ask(teacher, CLOSE)
     talk.ask(student, look("ana"))
-    talk.ask(teacher, fault(1))
+    talk.ask(teacher, b'{"do":"fault","m":false,"node":1,"p":null}\n')
 
 
 def goes_on(talk: Talk, student: Caller, teacher: Caller, turn: int) -> None:
@@ -45,7 +53,8 @@ def one_after_another(room: Path) -> None:
         for turn in range(200):
             name = list(NODES)[turn % 3]
             caller = talk.comes(host.port, hello(name))
-            for line in (look(name), see(turn % 4), b'{"do":"dance"}\n', hello("ben"), REPORT):
+            see = b'{"do":"see","node":%d}\n' % (turn % 4)
+            for line in (look(name), see, b'{"do":"dance"}\n', hello("ben"), REPORT):
                 talk.ask(caller, line)
             if name == "ana":
                 acts(talk, caller, teacher, turn // 3)
@@ -85,7 +94,7 @@ def killed_in_a_line(room: Path) -> None:
     with Host(lab, 0, 0, journal) as host:
         talk = Talk(lab, 2, room)
         teacher = Bot(talk, host.desk, [hello("tess"), REPORT])
-        bot = Bot(talk, host.port, [hello("ana"), look("ana"), move(0, 1), look("ana")])
+        bot = Bot(talk, host.port, [hello("ana"), look("ana"), move(0, 1, "seduction"), look("ana")])
         bot.killed()
         student = talk.comes(host.port, hello("ana"))
         talk.ask(student, look("ana"))
@@ -94,8 +103,8 @@ def killed_in_a_line(room: Path) -> None:
         for turn in range(3):
             talk.ask(again, CLOSE)
             talk.ask(student, look("ana"))
-            talk.ask(again, fault(1))
-            talk.ask(student, move(2 * turn + 2, 1))
+            talk.ask(again, b'{"do":"fault","m":false,"node":1,"p":null}\n')
+            talk.ask(student, move(2 * turn + 2, 1, "seduction"))
         ended = host.dismissed(again)
     talk.heard(again, BYE, BID)
     if ended != Ended(0, b"done: 10 events, configuration 6\n", b""):
@@ -121,8 +130,8 @@ def connect_and_close(room: Path) -> None:
     with Host(lab, 0, 0, journal) as host:
         talk = Talk(lab, 4, room)
         teacher, student = talk.comes(host.desk, hello("tess")), talk.comes(host.port, hello("ana"))
-        first = host.held()
-        turns, held = 0, [0, first.kilobytes]
+        threads, files = host.threads(), host.files()
+        turns, held = 0, [0, host.kilobytes()]
         while (held[-1] - held[-2]) * 50 > held[-1] and len(held) < 30:
             loop = threading.Thread(target=knocks, args=[host.port, 2000])
             loop.start()
@@ -131,8 +140,8 @@ def connect_and_close(room: Path) -> None:
                 goes_on(talk, student, teacher, turns)
                 turns += 1
             loop.join()
-            host.settles(first, "after 2000 connections")
-            held.append(host.held().kilobytes)
+            host.settles(threads, files, "after 2000 connections")
+            held.append(host.kilobytes())
         if len(held) == 30:
             fail(f"host: each 2000 connections take memory: it holds {held} kB")
         talk.leaves(talk.comes(host.port, hello("ben")))
@@ -221,7 +230,7 @@ def says_busy(room: Path) -> None:
         if (ana.ask(BYE), ana.line()) != (BID, b""):
             fail("host: no end after a bye")
         cyd, reply = let_in(host.port, hello("cyd"))
-        if reply != welcome("cyd") or not ben.ask(look("ben")).startswith(b'{"at":0'):
+        if reply != b'{"ok":"hello","who":"cyd"}\n' or not ben.ask(look("ben")).startswith(b'{"at":0'):
             fail("host: a place that was left isn't given to the next")
         told_busy(host.port)
         if host.dismissed(tess) != NONE or (ben.line(), ben.line(), cyd.line()) != (OVER, b"", OVER):
@@ -240,7 +249,7 @@ def two_of_one_name(room: Path) -> None:
         talk = Talk(lab, 3, room)
         one, two = (talk.comes(host.port, hello("ana")) for _ in range(2))
         teacher = talk.comes(host.desk, hello("tess"))
-        for line in (look("ana"), move(0, 1), look("ana")):
+        for line in (look("ana"), move(0, 1, "seduction"), look("ana")):
             talk.ask(two, line)
             talk.ask(one, line)
         talk.ask(teacher, CLOSE)
@@ -262,12 +271,12 @@ def raced(room: Path) -> None:
             if turn % 20 == 0:
                 ana, ben = (let_in(host.port, hello(name))[0] for name in ("ana", "ben"))
             at = int(ana.ask(look("ana"))[6:].split(b",", 1)[0])
-            three = [(ana, move(at, 1)), (ben, move(at, 2)), (tess, CLOSE)]
+            three = [(ana, move(at, 1, "seduction")), (ben, move(at, 2, "seduction")), (tess, CLOSE)]
             for caller, line in three[turn % 3:] + three[:turn % 3]:
                 caller.send(line)
             told += [caller.line() for caller, _ in three]
             told.append(tess.ask(CLOSE))
-            told += [tess.ask(fault(node)) for node in (1, 2)]
+            told += [tess.ask(b'{"do":"fault","m":false,"node":%d,"p":null}\n' % node) for node in (1, 2)]
             if turn % 20 == 19:
                 for caller in (ana, ben):
                     caller.close()
@@ -287,7 +296,7 @@ def byes_that_end_nothing(room: Path) -> None:
     with Host(lab, 0, 0, journal) as host:
         talk = Talk(lab, 4, room)
         student = talk.comes(host.port, hello("ana"))
-        unknown = hello("tess", "chalk-")
+        unknown = b'{"do":"hello","key":"chalk-","name":"tess"}\n'
         said: list[tuple[int, list[bytes]]] = [
             (host.desk, []), (host.desk, [hello("ana")]), (host.desk, [unknown]),
             (host.desk, [hello("ana"), hello("tess")]),
@@ -310,7 +319,7 @@ def byes_that_end_nothing(room: Path) -> None:
             fallen = talk.comes(host.desk, hello("tess"))
             leave(fallen)
             talk.gone(fallen)
-        talk.ask(student, move(0, 1))
+        talk.ask(student, move(0, 1, "seduction"))
         teacher = talk.comes(host.desk, hello("tess"))
         if not host.runs() or host.dismissed(teacher) != Ended(0, b"done: 1 events, configuration 0\n", b""):
             fail("host: another end after byes that end nothing")
@@ -327,7 +336,7 @@ def asks_on(port: int, name: str, asked: threading.Semaphore, wrong: list[str]) 
     while True:
         reply = caller.ask(look(name))
         if reply not in (b"", OVER):
-            reply = caller.ask(move(at, NODES[name]))
+            reply = caller.ask(move(at, NODES[name], "seduction"))
         if reply in (b"", OVER):
             return
         if b'"stale"' in reply:
@@ -359,7 +368,7 @@ def ended_while_asked(room: Path) -> None:
             for _ in range(20):
                 asked.acquire()
             teacher.ask(CLOSE)
-            teacher.ask(fault(1))
+            teacher.ask(b'{"do":"fault","m":false,"node":1,"p":null}\n')
         said, looks = [teacher.ask(BYE), teacher.line()], 0
         while host.runs() and looks < 160:
             time.sleep(0.05)
@@ -407,7 +416,7 @@ def ports(room: Path) -> None:
     # Two at once on one journal: the second changes nothing.
     with Host(lab, 0, 0, journal) as first:
         student, _ = let_in(first.port, hello("ana"))
-        student.ask(move(0, 1))
+        student.ask(move(0, 1, "seduction"))
         with Host(lab, 0, 0, journal) as second:
             if second.listens or second.end() != Ended(4, b"", b"journal fault\n"):
                 fail("host: two write one journal")

@@ -18,9 +18,7 @@ from collections.abc import Callable
 from concurrent.futures import Future, ProcessPoolExecutor
 from pathlib import Path
 
-from tests.common.held import Held, settles
-from tests.common.hosting import HOST, Host, let_in
-from tests.common.lines import BID, BYE, CLOSE, LONG, MALFORMED, REPORT, denied, fault, hello, look, move, see
+from tests.common.hosting import BID, BYE, HOST, LONG, Host, hello, let_in
 from tests.common.preload import LIMIT, Client, Ended, Server, Story, built_in, fail, in_room
 
 SECONDS = 20.0
@@ -30,9 +28,12 @@ UNREAD = 10.0
 OVER_HOST = "host" in sys.argv[1:]
 MOST_LINES = 18_000
 PAUSE = 0.001
-SEE = see(99)
+SEE = b'{"do":"see","node":99}\n'
+NOT_GREETED = b'{"clause":0,"deny":"not-greeted","text":"say hello first"}\n'
+HIDDEN = b'{"clause":1,"deny":"hidden","text":"this node is not shown to you"}\n'
 # A host lets nobody stay who doesn't greet.
-DENIED = denied("hidden" if OVER_HOST else "not-greeted")
+DENIED = HIDDEN if OVER_HOST else NOT_GREETED
+MALFORMED = b'{"refuse":"malformed"}\n'
 Program = Server | Host
 # A hostile client: a port, the time to end at, and what it draws from. It answers what is wrong with its replies.
 Hostile = Callable[[int, float, random.Random], str]
@@ -165,13 +166,28 @@ ALL: list[Hostile] = [noise, long_line, half_line, byte_by_byte, reset, flood, g
 
 def honest_lines() -> bytes:
     """What two honest clients ask in turn: views and denials, and now and then a move and its close."""
-    lines = [b"1 " + hello("ana"), b"2 " + hello("tess")]
+    lines = ['1 {"do":"hello","key":"a-key","name":"ana"}', '2 {"do":"hello","key":"chalk","name":"tess"}']
     number = 0
     while len(lines) < MOST_LINES:
-        lines += [b"1 " + look("ana"), b"2 " + REPORT, b"1 " + REPORT, b"2 " + CLOSE] * 50
-        lines += [b"1 " + move(number, 1), b"2 " + CLOSE, b"2 " + fault(1)]
+        lines += ['1 {"do":"look","node":1}', '2 {"do":"report"}', '1 {"do":"report"}', '2 {"do":"close"}'] * 50
+        lines += [
+            '1 {"at":%d,"do":"move","node":1,"rule":"seduction"}' % number,
+            '2 {"do":"close"}',
+            '2 {"do":"fault","m":false,"node":1,"p":null}',
+        ]
         number += 2
-    return b"".join(lines)
+    return "".join(line + "\n" for line in lines).encode()
+
+
+def kilobytes(server: Program) -> int:
+    """What the server holds of memory."""
+    status = Path(f"/proc/{server.process.pid}/status").read_text(encoding="ascii")
+    return int(status.split("VmRSS:", 1)[1].split()[0])
+
+
+def threads(server: Program) -> int:
+    """How many threads the server has."""
+    return len(list(Path(f"/proc/{server.process.pid}/task").iterdir()))
 
 
 class Honest:
@@ -245,6 +261,29 @@ def answered(futures: list[Future[str]]) -> None:
             fail(f"hostile: {future.result()}")
 
 
+def wait_for_threads(server: Program, wanted: int, when: str) -> None:
+    """Wants so many threads: one for each connection that is open, beside those that there always are."""
+    for _ in range(int(LIMIT / 0.05)):
+        if threads(server) == wanted:
+            return
+        time.sleep(0.05)
+    fail(f"hostile: {threads(server)} threads, not {wanted}, {when}")
+
+
+def handles(server: Program) -> int:
+    """How many files the server has open."""
+    return len(list(Path(f"/proc/{server.process.pid}/fd").iterdir()))
+
+
+def wait_for_handles(server: Program, wanted: int, when: str) -> None:
+    """Wants so many open files."""
+    for _ in range(int(LIMIT / 0.05)):
+        if handles(server) == wanted:
+            return
+        time.sleep(0.05)
+    fail(f"hostile: {handles(server)} files are open, not {wanted}, {when}")
+
+
 def late(lab: Path) -> None:
     """Clients that send more after a bye, or too much for a line, and read late: all replies arrive, and the end."""
     server = serving(lab, 16)
@@ -276,7 +315,7 @@ class Silent:
         time.sleep(max(0.0, self.until - time.monotonic()))
         with self.open as it, it.makefile("rb") as replies:
             it.sendall(SEE)
-            if replies.readline() != denied("not-greeted"):
+            if replies.readline() != NOT_GREETED:
                 fail("hostile: a client that was silent for a minute isn't answered")
         if self.server.end() != Ended(0, b"done: 0 events, configuration 0\n", b""):
             fail("hostile: the server of a silent client ended otherwise")
@@ -285,8 +324,7 @@ class Silent:
 def resting(server: Program) -> tuple[int, int]:
     """How many threads and open files a server has with its two honest clients alone, once it takes no others:
     the main thread, two more, the standard streams, and two files for each. A host always takes others."""
-    held = Held.of(server.process.pid)
-    return (held.threads, held.files) if isinstance(server, Host) else (3, 7)
+    return (threads(server), handles(server)) if isinstance(server, Host) else (3, 7)
 
 
 def work(room: Path) -> str:
@@ -317,13 +355,14 @@ def work(room: Path) -> str:
         futures = [
             pool.submit(client, server.port, until, random.Random(seed)) for seed, client in enumerate(ALL)
         ]
-        settles(server.process.pid, lambda it: it.threads == rest[0] + len(ALL), "hostile: not a thread each once all are there")
+        wait_for_threads(server, rest[0] + len(ALL), "once all are there")
         times = honest.play(100, 10 * PAUSE)
-        held = Held.of(server.process.pid).kilobytes
+        held = kilobytes(server)
         times += honest.play(MOST_LINES, max(PAUSE, seconds / MOST_LINES), until)
         answered(futures)
-    settles(server.process.pid, lambda it: (it.threads, it.files) == rest, f"hostile: not {rest} once the hostile clients have gone")
-    holds = Held.of(server.process.pid).kilobytes
+    wait_for_threads(server, rest[0], "once the hostile clients have gone")
+    wait_for_handles(server, rest[1], "once the hostile clients have gone")
+    holds = kilobytes(server)
     # A host gives back what the threads of those connections held, which may be more than a tenth.
     if holds * 10 > held * 11 or isinstance(server, Server) and holds * 10 < held * 9:
         fail(f"hostile: the server holds {holds} kB, not {held} kB as after a hundred lines")

@@ -21,13 +21,6 @@ def text_of(values: dict[str, Any]) -> str:
     return json.dumps(values, sort_keys=True, separators=(",", ":"))
 
 
-def denial_of(name: str, at: int) -> str:
-    """The reply that denies so in the configuration with a number, which a stale move is told."""
-    clause, text = DENIALS[name]
-    number = {"at": at} if name == "stale" else {}
-    return text_of({"clause": clause, "deny": name, "text": text, **number})
-
-
 class Model:
     """The state of a run over a lab: its world, who has greeted on which connection, and the journal's lines."""
 
@@ -52,11 +45,11 @@ class Model:
         return self._obey(self.names[connection], asked)
 
     def _denied(self, name: str) -> str:
-        """The reply that denies so now."""
-        return denial_of(name, self.world.number)
+        clause, text = DENIALS[name]
+        number = {"at": self.world.number} if name == "stale" else {}
+        return text_of({"clause": clause, "deny": name, "text": text, **number})
 
     def _hello(self, connection: int, asked: Request) -> str:
-        """The reply to a greeting."""
         if connection in self.names:
             return self._denied("greeted")
         if self.lab.keys.get(asked.name) != asked.key:
@@ -65,7 +58,6 @@ class Model:
         return text_of({"ok": "hello", "who": asked.name})
 
     def _obey(self, who: str, asked: Request) -> str:
-        """The reply to what one asks who takes part: it is denied, shown, or happens."""
         name = denial(self.lab, self.world, who, asked)
         if name is not None:
             return self._denied(name)
@@ -83,7 +75,6 @@ class Model:
         return self._shown(asked, {"place": self.world.place, **told})
 
     def _shown(self, asked: Request, told: dict[str, Any]) -> str:
-        """The reply that grants a request, with what it tells."""
         return text_of({"ok": asked.do, "at": self.world.number, **told})
 
 

@@ -11,21 +11,20 @@ import threading
 import time
 from collections.abc import Callable
 from pathlib import Path
-from typing import NamedTuple
 
-from tests.common.hosting import HOST, Caller, Host, audit, lab_of, let_in
-from tests.common.lines import (
-    BID, BUSY, BYE, CLOSE, HALT, LATE, LONG, MALFORMED, NODES, OVER, denied, fault, hello, look, move
+from tests.common.hosting import (
+    BID, BUSY, BYE, HOST, LATE, LONG, NODES, OVER, UNKNOWN, Caller, Host, audit, hello, lab_of, let_in, look
 )
 from tests.common.preload import LIMIT, PROGRAM, TOP, Ended, Preloaded, Server, fail
 from tests.common.side_by_side import Test, try_all
 
 NONE = Ended(0, b"done: 0 events, configuration 0\n", b"")
 FAULT = Ended(4, b"", b"journal fault\n")
+MALFORMED = b'{"refuse":"malformed"}\n'
 EAGAIN = 11
 LOOKS = 3  # threads that a host starts before it listens, to see whether it may
-WRONG = hello("ana", "a-kez")
-UNKNOWN = denied("unknown")
+MOVE = b'{"at":0,"do":"move","node":1,"rule":"seduction"}\n'
+WRONG = b'{"do":"hello","key":"a-kez","name":"ana"}\n'
 FREE = ["setpriv", "--reuid", "65534", "--regid", "65534", "--clear-groups"] if os.geteuid() == 0 else []
 
 
@@ -79,7 +78,7 @@ def asks_after_the_bye(room: Path) -> None:
         for name in ("tess", "cyd"):
             if let_in(host.port, hello(name))[0].ask(BYE) != BID or b'"ok":"look"' not in students[0].ask(look("ana")):
                 fail(f"outsiders: a bye of {name} at the students' port ends the class")
-        moves = [move(0, node) for node in NODES.values()]
+        moves = [MOVE.replace(b'"node":1', b'"node":%d' % node) for node in NODES.values()]
         if b'"place":1' not in students[0].ask(moves[0]):
             fail("outsiders: a move before the bye isn't granted")
         if teacher.ask(BYE) != BID:
@@ -306,25 +305,18 @@ def nobody_behind(room: Path) -> None:
         ends(host, let_in(host.desk, hello("tess"))[0])
 
 
-class Guesses(NamedTuple):
-    """How many guesses of keys were denied, how many who guess were told something else, and how many seconds it took."""
-
-    denied: int
-    others: int
-    seconds: float
-
-
-def guesses(host: Host, quiet: float) -> Guesses:
+def guesses(host: Host, quiet: float) -> tuple[int, int, float]:
     """Beside those who guess keys, fifteen at the students' port and then fourteen at the desk too, honest hellos at both
-    are told within a tenth of a second. Answers what became of the guesses."""
-    stop, wrong, others = threading.Event(), [0] * 29, [0] * 29
+    are told within a tenth of a second. Answers how many guesses were denied, how many who guess were told something
+    else, and how many seconds it took."""
+    stop, denied, others = threading.Event(), [0] * 29, [0] * 29
 
     def guess(at: int) -> None:
         port = host.port if at < 15 else host.desk
         with socket.create_connection(("127.0.0.1", port), LIMIT) as it, it.makefile("rb") as replies:
             it.sendall(WRONG * 10)
             told = [*replies]
-            wrong[at] += told.count(UNKNOWN)
+            denied[at] += told.count(UNKNOWN)
             others[at] += UNKNOWN not in told
 
     begun = time.monotonic()
@@ -335,27 +327,27 @@ def guesses(host: Host, quiet: float) -> Guesses:
             taken: list[float] = []
             for _ in range(20):
                 caller = comes(port, hello(name), taken)
-                if b'"ok":"look"' not in caller.ask(look("ana")):
+                if b'"ok":"look"' not in caller.ask(b'{"do":"look","node":1}\n'):
                     fail(f"outsiders: {name} loses a place to those who guess")
                 caller.close()
             waits_little(taken, quiet, 0.1)
-    while sum(wrong) < 100 and time.monotonic() - begun < LIMIT:
+    while sum(denied) < 100 and time.monotonic() - begun < LIMIT:
         time.sleep(0.05)
     stop.set()
     for thread in threads:
         thread.join()
-    return Guesses(sum(wrong), sum(others), time.monotonic() - begun)
+    return sum(denied), sum(others), time.monotonic() - begun
 
 
 def guessed_keys(room: Path) -> None:
     """Those who guess keys have less than a hundred denials a second in all, and are told most of them; the teacher's
     program is told of the guesses."""
     with Host(lab_of(room, 16), 0, 0) as host:
-        found = guesses(host, alone(host))
-        if found.denied / found.seconds > 100 or found.denied < 100:
-            fail(f"outsiders: {found.denied} keys are guessed in {found.seconds} seconds")
-        if found.others * 4 > found.denied:
-            fail(f"outsiders: {found.others} who guess aren't told that they are wrong, and {found.denied} are")
+        denied, others, seconds = guesses(host, alone(host))
+        if denied / seconds > 100 or denied < 100:
+            fail(f"outsiders: {denied} keys are guessed in {seconds} seconds")
+        if others * 4 > denied:
+            fail(f"outsiders: {others} who guess aren't told that they are wrong, and {denied} are")
         ended = host.dismissed(let_in(host.desk, hello("tess"))[0])
         if ended.out != NONE.out or b"hellos had no right key" not in ended.error:
             fail(f"outsiders: nobody is told of guesses: {ended}")
@@ -469,7 +461,7 @@ def journals(room: Path) -> None:
             journal.chmod(mode)
         with Host(lab, 0, 0, journal) as host:
             student = let_in(host.port, hello("ana"))[0]
-            student.ask(move(0, 1))
+            student.ask(MOVE)
             ends(host, let_in(host.desk, hello("tess"))[0], Ended(0, b"done: 1 events, configuration 0\n", b""))
         if journal.stat().st_mode & 0o777 != mode:
             fail(f"outsiders: a journal's mode is {journal.stat().st_mode:o} after {mode:o}")
@@ -484,8 +476,10 @@ def limits_of_files(room: Path) -> None:
         with Host(lab, 0, 0, room / f"{name}.journal", before=words) as host:
             teacher, student = let_in(host.desk, hello("tess"))[0], let_in(host.port, hello("ana"))[0]
             for turn in range(100):
-                said = [student.ask(move(2 * turn, 1)), teacher.ask(CLOSE), teacher.ask(fault(1))]
-                if HALT in said:
+                move = MOVE.replace(b'"at":0', b'"at":%d' % (2 * turn))
+                said = [student.ask(move), teacher.ask(b'{"do":"close"}\n'),
+                        teacher.ask(b'{"do":"fault","m":false,"node":1,"p":null}\n')]
+                if b'{"refuse":"journal"}\n' in said:
                     break
             else:
                 fail(f"outsiders: a host whose journal can't grow says {said}")
@@ -495,11 +489,11 @@ def limits_of_files(room: Path) -> None:
             if ended != Ended(4, b"", b"journal fault\n"):
                 fail(f"outsiders: a host whose journal can't grow ends with {ended}")
     # What looks at no limit is ended by the signal, unless `./mml` ignores it.
-    script = room / "script"
-    script.write_bytes(b"1 " + hello("tess") + (b"1 " + fault(1)) * 100)
+    script, fault = room / "script", b'1 {"do":"fault","m":false,"node":1,"p":null}\n'
+    script.write_bytes(b"1 " + hello("tess") + fault * 100)
     words = ["bash", "-c", 'ulimit -f 1 && exec "$@"', "bash", str(TOP / "mml"), "script", str(lab), str(script), str(room / "script.journal")]
     done = ended_soon([*words])
-    if (done.status, done.error) != (4, b"journal fault\n") or not done.out.endswith(b"1 " + HALT):
+    if (done.status, done.error) != (4, b"journal fault\n") or not done.out.endswith(b'1 {"refuse":"journal"}\n'):
         fail(f"outsiders: a script whose journal can't grow ends with {done.status}, {done.error!r}")
 
 

@@ -15,27 +15,43 @@ import tempfile
 import threading
 import time
 from collections.abc import Callable
+from dataclasses import dataclass
 from pathlib import Path
 
 from classroom.folders import RECORD, Record
-from tests.common.held import Held
-from tests.common.hosting import HOST, Caller, lab_of, let_in
-from tests.common.lines import BYE, NODES, hello, look
+from tests.common.hosting import BYE, HOST, NODES, Caller, hello, lab_of, let_in, look
 from tests.common.preload import LIMIT, PROGRAM, TOP, fail
-from tests.resume.players import asked
 
 SECONDS = 3600.0
 ROUND = 60.0
 COMING = 12  # clients at a time
 PAUSE = 0.02
 MORE = 6144  # kilobytes that the events of an hour may add
-WRONG = hello("ana", "a-kez")
+WRONG = b'{"do":"hello","key":"a-kez","name":"ana"}\n'
 FORM = b"POST / HTTP/1.1\r\nContent-Type: text/plain\r\n\r\n"
 
 
-def is_as(held: Held, first: Held) -> bool:
-    """Whether a process holds what it held first, but for the memory of a few events."""
-    return (held.threads, held.files) == (first.threads, first.files) and held.kilobytes <= first.kilobytes * 1.1 + MORE
+@dataclass(frozen=True)
+class Held:
+    """What a process holds."""
+
+    threads: int
+    files: int
+    kilobytes: int
+
+    @classmethod
+    def of(cls, number: int) -> "Held":
+        """What the process with that number holds now."""
+        root = Path(f"/proc/{number}")
+        size = int((root / "status").read_text(encoding="ascii").split("VmRSS:", 1)[1].split()[0])
+        return cls(len(list((root / "task").iterdir())), len(list((root / "fd").iterdir())), size)
+
+    def is_as(self, first: "Held") -> bool:
+        """Whether that is what was held before, but for the memory of a few events."""
+        return (self.threads, self.files) == (first.threads, first.files) and self.kilobytes <= first.kilobytes * 1.1 + MORE
+
+    def __str__(self) -> str:
+        return f"{self.threads} threads, {self.files} files, {self.kilobytes} kB"
 
 
 def waited(find: Callable[[], object]) -> None:
@@ -112,8 +128,11 @@ class Comings:
         name = draw.choice([*NODES])
         caller, _ = let_in(self.port, hello(name))
         seen = json.loads(caller.ask(look(name)) or b"{}")
-        if seen.get("rule"):
-            caller.ask(asked(seen, NODES[name]))
+        if seen.get("rule") not in (None, "marriage"):
+            caller.ask(b'{"at":%d,"do":"move","node":%d,"rule":"%s"}\n' % (seen["at"], NODES[name], seen["rule"].encode()))
+        elif seen.get("rule"):
+            other = next(each["node"] for each in seen["near"] if each["p"] == NODES[name])
+            caller.ask(b'{"at":%d,"do":"move","node":%d,"rule":"marriage","with":%d}\n' % (seen["at"], NODES[name], other))
         caller.close()
 
     def is_no_one(self, draw: random.Random) -> None:
@@ -182,7 +201,7 @@ def comes_to_rest(of: Callable[[], Held], first: Held | None) -> Held:
         held, again = of(), of()
         if first is None and time.monotonic() > end - 15 and held.threads == again.threads:
             return held
-        if first is not None and (is_as(held, first) or time.monotonic() > end):
+        if first is not None and (held.is_as(first) or time.monotonic() > end):
             return held
 
 
@@ -206,7 +225,7 @@ def churn(room: Path, seconds: float) -> None:
         seed += 1
         print(f"{seed}: {comings.count} clients; host {host}; class {page}", flush=True)
     it.end()
-    if first is None or not is_as(host, first[0]) or not is_as(page, first[1]):
+    if first is None or not host.is_as(first[0]) or not page.is_as(first[1]):
         fail(f"churn: at the end they hold {host}, and {page}; first {first}")
     print(f"churn: {comings.count} clients in {seconds:.0f} seconds; host {host}; class {page}")
 

@@ -8,11 +8,10 @@ import threading
 from pathlib import Path
 
 from tests.common.hosting import HOST
-from tests.common.lines import FULL, hello
 from tests.common.preload import LIMIT, TOP, Ended, built_in, fail, in_room
 from tests.program.lines import ROWS
 
-HELLO = b"1 " + hello("tess")
+HELLO = b'1 {"do":"hello","name":"tess","key":"chalk"}\n'
 FAULTS = 5000
 
 
@@ -86,14 +85,14 @@ def ends(room: Path) -> int:
     large = room / "large.toml"
     large.write_text(Path(lab).read_text(encoding="utf-8").replace("events = 100", f"events = {FAULTS}"), encoding="utf-8")
     found = answered(["answer", str(large)], HELLO + b'1 {"do":"fault","node":1,"p":2,"m":true}\n' * (FAULTS + 1))
-    *_, last, over = found.out.splitlines(keepends=True)
-    if json.loads(last[2:])["place"] != FAULTS or over != b"1 " + FULL:
+    *_, last, over = found.out.splitlines()
+    if json.loads(last[2:])["place"] != FAULTS or over != b'1 {"refuse":"full"}':
         fail(f"the last of {FAULTS} events is answered by {last!r}, the next by {over!r}")
     return len(ROWS) + len(words) + 2
 
 
 def work(room: Path) -> str:
-    """Lines as they come, and each end."""
+    """All of it."""
     return f"answering: {line_by_line(room)} lines as they came, {ends(room)} ends as wanted"
 
 

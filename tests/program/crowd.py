@@ -97,11 +97,11 @@ class Replay:
             return False
         read = read_line(self.journal[world.place].encode(), self.lab)
         assert read is not None
-        grant(world, read.asked)
+        grant(world, read[3])
         return True
 
     def tells(self, line: bytes, reply: bytes) -> bool:
-        """Whether the model answers a line so at this point, where a grant has to be the list's next event."""
+        """Whether this is what is answered here. What is granted here is the list's next event."""
         asked = read_request(line[:-1])
         assert asked is not None
         world = self.model.world

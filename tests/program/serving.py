@@ -6,11 +6,19 @@ import socket
 import time
 from pathlib import Path
 
-from tests.common.held import settles
-from tests.common.lines import BID, BYE, CLOSE, closed, denied, fault, granted, hello, move, welcome
 from tests.common.preload import LIMIT, TOP, Client, Ended, Server, built_in, fail, in_room
 
+HELLO_ANA = b'{"do":"hello","key":"a-key","name":"ana"}\n'
+HELLO_BEN = b'{"do":"hello","key":"b-key","name":"ben"}\n'
+HELLO_TESS = b'{"do":"hello","key":"chalk","name":"tess"}\n'
+MOVE = b'{"at":%d,"do":"move","node":1,"rule":"seduction"}\n'
+CLOSE = b'{"do":"close"}\n'
+FAULT = b'{"do":"fault","m":false,"node":1,"p":null}\n'
+GRANTED = b'{"at":%d,"node":1,"ok":"move","place":%d,"rule":"seduction"}\n'
+CLOSED = b'{"at":%d,"moved":[1],"ok":"close","place":%d}\n'
 FAULTED = b'{"at":%d,"dropped":0,"node":1,"ok":"fault","place":%d}\n'
+CHOSEN = b'{"clause":3,"deny":"chosen","text":"this node is already chosen"}\n'
+EMPTY = b'{"clause":2,"deny":"empty","text":"no node is chosen"}\n'
 ROUNDS = 300
 
 
@@ -50,8 +58,8 @@ def whole(it: socket.socket) -> bytes:
 def in_a_line(room: Path) -> None:
     """A line that isn't ended is not answered, and ends its own connection alone."""
     server = serving(built_in(room), 4)
-    texts = [b'{"do":"hel', hello("ana") + move(0, 1), b"", BYE + BYE[:-1]]
-    wanted = [b"", welcome("ana") + granted(0, 1, 1), b"", BID]
+    texts = [b'{"do":"hel', HELLO_ANA + MOVE % 0, b"", b'{"do":"bye"}\n{"do":"bye"}']
+    wanted = [b"", b'{"ok":"hello","who":"ana"}\n' + GRANTED % (0, 1), b"", b'{"ok":"bye"}\n']
     clients = [opened(server) for _ in texts]
     for client, text in zip(clients, texts):
         client.sendall(text)
@@ -68,13 +76,13 @@ def gone(room: Path) -> None:
     """A client that is gone before it is answered leaves its event, and another to be served to its end."""
     server = serving(built_in(room), 2)
     with opened(server) as client:
-        client.sendall(hello("ana") + move(0, 1))
+        client.sendall(HELLO_ANA + MOVE % 0)
     teacher = Client(server.port)
-    if teacher.ask(hello("tess")) != welcome("tess"):
+    if teacher.ask(HELLO_TESS) != b'{"ok":"hello","who":"tess"}\n':
         fail("serving: another reply beside a client that is gone")
-    while (reply := teacher.ask(CLOSE)) == denied("empty"):
+    while (reply := teacher.ask(CLOSE)) == EMPTY:
         time.sleep(0.01)
-    if reply != closed(1, [1], 2):
+    if reply != CLOSED % (1, 2):
         fail(f"serving: the move of a client that is gone doesn't stand: {reply!r}")
     teacher.close()
     ends(server, b"done: 2 events, configuration 1\n")
@@ -90,7 +98,12 @@ def sixteen(room: Path) -> None:
     clients = [opened(server) for _ in range(16)]
     for client in clients:
         client.sendall(lines[:10])
-    settles(server.process.pid, lambda it: it.threads == 17, "serving: sixteen clients haven't a thread each")
+    threads = Path(f"/proc/{server.process.pid}/task")
+    begun = time.monotonic()
+    while len(list(threads.iterdir())) != 17:
+        if time.monotonic() - begun > LIMIT:
+            fail("serving: sixteen clients haven't a thread each")
+        time.sleep(0.01)
     for client in clients:
         client.sendall(lines[10:])
         client.shutdown(socket.SHUT_WR)
@@ -118,16 +131,16 @@ def races(room: Path) -> None:
     lab = lab_of(room, 'owner = "ana"', 'owners = ["ana", "ben"]')
     server = serving(lab_of_more(lab), 4, str(journal))
     clients = [Client(server.port) for _ in range(4)]
-    for client, name in zip(clients, ("ana", "ben", "tess", "tess")):
-        client.ask(hello(name))
+    for client, line in zip(clients, (HELLO_ANA, HELLO_BEN, HELLO_TESS, HELLO_TESS)):
+        client.ask(line)
     ana, ben, tess, other = clients
     lines = []
     for turn in range(ROUNDS):
         number, place = 2 * turn, 3 * turn
         pairs = ((ana, ben), (tess, other)) if turn % 2 else ((ben, ana), (other, tess))
-        winner = won(*pairs[0], move(number, 1), granted(number, 1, place + 1), denied("chosen"))
-        won(*pairs[1], CLOSE, closed(number + 1, [1], place + 2), denied("empty"))
-        if tess.ask(fault(1)) != FAULTED % (number + 2, place + 3):
+        winner = won(*pairs[0], MOVE % number, GRANTED % (number, place + 1), CHOSEN)
+        won(*pairs[1], CLOSE, CLOSED % (number + 1, place + 2), EMPTY)
+        if tess.ask(FAULT) != FAULTED % (number + 2, place + 3):
             fail("serving: another reply to a fault after a race")
         name = "ana" if pairs[0][winner] is ana else "ben"
         lines += [f"{place + 1} {number} grant {name} 1 seduction", f"{place + 2} {number} close",
@@ -140,7 +153,7 @@ def races(room: Path) -> None:
 
 
 def lab_of_more(lab: Path) -> Path:
-    """A lab with more events, in its own file."""
+    """The same lab with more events."""
     lab.write_text(lab.read_text(encoding="utf-8").replace("events = 100\n", "events = 10000\n"), encoding="utf-8")
     return lab
 

@@ -119,12 +119,11 @@ def meshes(room: Path) -> None:
     for count in MESHES:
         document, rng = mesh(count), Random(count)
         lab = read_lab(document.encode())
-        script, played = mesh_script(rng, lab, EVENTS)
-        journal = played.journal
+        script, replies, journal = mesh_script(rng, lab, EVENTS)
         files = Files(room, document, script)
         found = files.played()
-        if found.out != played.replies:
-            fail(f"a mesh of {count} nodes: {first_other(found.out, played.replies)}")
+        if found.out != replies:
+            fail(f"a mesh of {count} nodes: {first_other(found.out, replies)}")
         if files.journal.read_bytes() != journal:
             fail(f"a mesh of {count} nodes: {first_other(files.journal.read_bytes(), journal)}")
         told = Counter(TOLD.findall(found.out))

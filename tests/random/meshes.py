@@ -3,7 +3,7 @@ import json
 from random import Random
 from typing import Any, Optional
 
-from tests.model import Lab, Model, Played
+from tests.model import Lab, Model
 from tests.model.world import Move
 
 Asked = dict[str, Any]
@@ -92,12 +92,12 @@ class Meshing:
             self.ask(2, f'{{"do":"look","node":{i}}}')
 
 
-def mesh_script(rng: Random, lab: Lab, events: int) -> tuple[bytes, Played]:
-    """A script with so many events, and how the model plays it."""
+def mesh_script(rng: Random, lab: Lab, events: int) -> tuple[bytes, bytes, bytes]:
+    """A script with so many events, its replies and its journal."""
     meshing = Meshing(rng, lab)
     for connection, line in enumerate(HELLOS, 1):
         meshing.ask(connection, line)
     for _ in range(events):
         meshing.event()
     journal = "".join(f"{line}\n" for line in meshing.model.journal)
-    return "".join(meshing.lines).encode(), Played("".join(meshing.replies).encode(), journal.encode(), None)
+    return "".join(meshing.lines).encode(), "".join(meshing.replies).encode(), journal.encode()

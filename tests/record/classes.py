@@ -3,15 +3,16 @@ import resource
 import subprocess
 from pathlib import Path
 
-from tests.common.hosting import HOST, Caller, Host, lab_of, let_in
-from tests.common.lines import BID, BYE, CLOSE, REPORT, denied, hello, look, move
+from tests.common.hosting import BID, BYE, HOST, UNKNOWN, Caller, Host, hello, lab_of, let_in, look
 from tests.common.preload import LIMIT, Ended, fail
 from tests.record.floods import flooded
 
 SEATS = 4
 STUDENT = SEATS  # the first who comes to the port has the last seat
 WRONG = b'{"do":"hello","name":"ana","key":"wrong"}\n'
-MOVE = move(0, 1)
+MOVE = b'{"at":0,"do":"move","node":1,"rule":"seduction"}\n'
+OTHER = b'{"at":1,"do":"move","node":2,"rule":"seduction"}\n'
+CLOSE = b'{"do":"close"}\n'
 # What ana at the port and tess at the desk say and are told, in the class that is played first.
 ANA = b"""\
 4 0 > {"do":"hello","name":"ana","key":"wrong"}
@@ -67,20 +68,20 @@ def begin(host: Host) -> tuple[Caller, Caller]:
     ana, reply = let_in(host.port, WRONG)
     said = [reply, ana.ask(hello("ana")), ana.ask(MOVE), ana.ask(MOVE)]
     tess, _ = let_in(host.desk, hello("tess"))
-    if said[0] != denied("unknown") or b'"place":1' not in said[2] or b'"chosen"' not in said[3]:
+    if said[0] != UNKNOWN or b'"place":1' not in said[2] or b'"chosen"' not in said[3]:
         fail(f"record: a student is answered {said}")
     return ana, tess
 
 
 def whole_class(room: Path) -> tuple[Path, Path, Path]:
-    """A class from its beginning to its end is recorded but for what was shown; answers its lab, journal and record."""
+    """A class from its beginning to its end is recorded but for what was shown; answers its files."""
     lab, journal, record = lab_of(room, SEATS), room / "whole.journal", room / "whole record"
     with Host(lab, 0, 0, journal, record) as host:
         tess, _ = let_in(host.desk, hello("tess"))
         ana, _ = let_in(host.port, WRONG)
         for line in (hello("ana"), MOVE, MOVE, look("ana")):
             ana.ask(line)
-        tess.ask(REPORT)
+        tess.ask(b'{"do":"report"}\n')
         tess.ask(CLOSE)
         ana.ask(look("ana"))
         if (ana.ask(BYE), ana.line()) != (BID, b""):
@@ -135,7 +136,7 @@ def fills(host: Host, name: str) -> None:
         if b'"chosen"' not in ana.ask(MOVE):
             fail(f"record: a student isn't answered where a disk is full, {name}")
     tess.ask(CLOSE)
-    reply = ana.ask(move(1, 2))
+    reply = ana.ask(OTHER)
     if b'"deny"' not in reply or ana.ask(BYE) != BID:
         fail(f"record: after a disk is full, {name}, a student is answered {reply!r}")
     ended = host.dismissed(tess)

@@ -3,9 +3,10 @@ import json
 import random
 from typing import Any, Optional
 
-from tests.common.hosting import Caller, Host
-from tests.common.lines import CLOSE, NODES, REPORT, fault, hello, look, move
+from tests.common.hosting import NODES, Caller, Host, hello, look
 
+CLOSE = b'{"do":"close"}\n'
+REPORT = b'{"do":"report"}\n'
 TEACHER = "tess"
 
 
@@ -52,7 +53,7 @@ class Players:
     def disturb(self) -> None:
         """The teacher sets the registers of a node."""
         node = self.random.choice([*NODES.values()])
-        self.ask(TEACHER, fault(node, self.random.choice([True, False])))
+        self.ask(TEACHER, b'{"do":"fault","m":%s,"node":%d,"p":null}\n' % (self.random.choice([b"true", b"false"]), node))
 
     def play_on(self, host: Host) -> None:
         """Plays until the host is gone."""
@@ -80,7 +81,10 @@ class Players:
 
 def asked(seen: dict[str, Any], node: int) -> bytes:
     """The move that a look shows as enabled. Who marries says whom: the neighbour that points at the node."""
-    return move(seen["at"], node, seen["rule"], partner_of(seen, node) if seen["rule"] == "marriage" else None)
+    line: dict[str, Any] = {"at": seen["at"], "do": "move", "node": node, "rule": seen["rule"]}
+    if seen["rule"] == "marriage":
+        line["with"] = partner_of(seen, node)
+    return json.dumps(line).encode() + b"\n"
 
 
 def partner_of(seen: dict[str, Any], node: int) -> Optional[int]:

@@ -8,17 +8,18 @@ their records.
 """
 from __future__ import annotations
 
+import subprocess
 import sys
 from pathlib import Path
 from random import Random
 
 from classroom import tally as tallies
-from tests.common.preload import TOP, fail, in_room
+from tests.common.hosting import HOST
+from tests.common.preload import LIMIT, TOP, fail, in_room
 from tests.model import audit, play, read_lab
 from tests.random.labs import drawn_lab
 from tests.random.scripts import drawn_script
 from tests.tally import plain, recorded
-from tests.tally.recorded import told
 
 JOURNALS = 300
 LINES = 80
@@ -68,6 +69,12 @@ REFUSED = (
 )
 
 
+def told(lab: Path, journal: Path) -> tuple[int, str, str]:
+    """How the word ends over two files: status, output and error line."""
+    done = subprocess.run([HOST, "tally", lab, journal], stdin=subprocess.DEVNULL, capture_output=True, timeout=LIMIT, check=False)
+    return done.returncode, done.stdout.decode(), done.stderr.decode()
+
+
 def by_hand(room: Path) -> int:
     """The journals that were written by hand; how many they are."""
     lab, journal = room / "lab.toml", room / "journal"
@@ -106,7 +113,7 @@ def drawn(room: Path, seed: int) -> bool:
 
 
 def test(room: Path) -> str:
-    """The runs by hand, and the drawn ones."""
+    """All of them."""
     count = int(sys.argv[1]) if len(sys.argv) > 1 else JOURNALS
     hands = by_hand(room)
     some = sum(drawn(room, seed) for seed in range(1, count + 1))

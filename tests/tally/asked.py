@@ -4,13 +4,11 @@ from __future__ import annotations
 import json
 
 from tests.model import Lab
-from tests.model.policy import DENIALS
 from tests.model.record import MARK, SAID
 from tests.model.requests import read_request
 from tests.tally.plain import none
 
-# The columns of who was denied: each clause that a student's line can break, and the lines that were no request.
-COLUMNS = [*range(1, max(clause for clause, _ in DENIALS.values()) + 1), "malformed"]
+CLAUSES = (1, 2, 3, 4)
 
 
 class Asked:
@@ -18,7 +16,7 @@ class Asked:
 
     def __init__(self, lab: Lab) -> None:
         students = [name for name in lab.keys if name != lab.teacher]
-        self.denied = {name: dict.fromkeys(COLUMNS, 0) for name in students}
+        self.denied = {name: dict.fromkeys([*CLAUSES, "malformed"], 0) for name in students}
         self.moves = {i: {name: none() for name in students if name in owners}
                       for i, owners in sorted(lab.owners.items()) if len(owners) == 2}
         self.sessions = self.lines = self.cuts = 0

@@ -4,8 +4,8 @@ from __future__ import annotations
 from dataclasses import dataclass, field
 
 from tests.model import Lab
-from tests.model.world import RULES
 
+RULES = ("update", "marriage", "seduction", "abandonment")
 CHANGES = ("fault", "link", "cut")
 
 

@@ -4,7 +4,6 @@ from __future__ import annotations
 import subprocess
 from pathlib import Path
 from random import Random
-from typing import NamedTuple
 
 from tests.common.hosting import HOST
 from tests.common.preload import LIMIT, fail
@@ -13,7 +12,7 @@ from tests.model.record import Recording
 from tests.random.labs import drawn_lab
 from tests.record.drawn import drawn_run
 from tests.tally import plain
-from tests.tally.asked import COLUMNS, asked
+from tests.tally.asked import asked
 
 # What is said in the seats one after the other, with the place of the clause that denies it in the comment.
 TALK = (
@@ -44,20 +43,6 @@ record 3 21 whole
 """
 
 
-class Told(NamedTuple):
-    """How the word `tally` ends: its status, its output, and its error line."""
-
-    status: int
-    output: str
-    error: str
-
-
-def told(*files: Path) -> Told:
-    """How the word ends over a lab, a journal, and a record if there is one."""
-    done = subprocess.run([HOST, "tally", *files], stdin=subprocess.DEVNULL, capture_output=True, timeout=LIMIT, check=False)
-    return Told(done.returncode, done.stdout.decode(), done.stderr.decode())
-
-
 class Files:
     """A lab, a journal and a record in a folder."""
 
@@ -72,9 +57,11 @@ class Files:
         for seat, text in run.texts.items():
             (self.folder / f"{seat}.record").write_bytes(text)
 
-    def told(self) -> Told:
+    def told(self) -> tuple[int, str, str]:
         """How the word ends over them."""
-        return told(self.lab, self.journal, self.folder)
+        call: list[str | Path] = [HOST, "tally", self.lab, self.journal, self.folder]
+        done = subprocess.run(call, stdin=subprocess.DEVNULL, capture_output=True, timeout=LIMIT, check=False)
+        return done.returncode, done.stdout.decode(), done.stderr.decode()
 
 
 def with_record(tally: str, told: str) -> str:
@@ -131,10 +118,11 @@ def drawn(room: Path, seed: int) -> bool:
     if rng.random() < 0.2:
         run.cut(1)
         run.leave(1)
-    lines = asked(lab, run.texts)
-    found = Files(room, document, run).told()
+    told = asked(lab, run.texts)
+    files = Files(room, document, run)
+    status, text, error = files.told()
     stable = not audit(lab, run.journal).endswith("not stable")
-    wanted = with_record(plain.tally(lab, run.journal.decode(), stable), lines)
-    if found != (0, wanted, ""):
-        fail(f"seed {seed}, with a record: {found}, not {wanted!r}")
-    return any(line.startswith("denied ") and not line.endswith(" 0" * len(COLUMNS)) for line in lines.splitlines())
+    wanted = with_record(plain.tally(lab, run.journal.decode(), stable), told)
+    if (status, text, error) != (0, wanted, ""):
+        fail(f"seed {seed}, with a record: {(status, text, error)}, not {wanted!r}")
+    return any(line.startswith("denied ") and not line.endswith(" 0 0 0 0 0") for line in told.splitlines())
