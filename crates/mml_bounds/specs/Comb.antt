@@ -14,7 +14,7 @@ first_pointer n i = if nat_lt (2 * i + 1) n then Some (n - (i + 1)) else if nat_
 abbrev pub is_comb : ℕ → ℕ → ℕ → Bool
 is_comb n i j = holds (first_pointer n i) j || holds (first_pointer n j) i
 
--- n nodes linked so; each points so, with m true
+-- n nodes, each linked to the node at which it points by first_pointer; m is true at each
 abbrev pub comb : ℕ → Network
 comb n = record {
   neighbours = map (λ i. those_below n (is_comb n i)) (range_with_len 0 n);

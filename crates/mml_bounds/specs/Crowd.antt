@@ -5,7 +5,7 @@ use Rattle.mml_ids.specs.Sets.{those_below}
 use Rattle.mml_rules.specs.Network.{Network}
 use Rattle.mml_board.specs.World.{World, opening_of}
 
--- two nodes with i + j + 1 of n at the least
+-- i and j are two nodes below n, and i + j + 1 is n at the least
 abbrev pub is_near : ℕ → ℕ → ℕ → Bool
 is_near n i j = not (i == j) && (nat_lt i n && (nat_lt j n && nat_le n (i + j + 1)))
 
@@ -13,7 +13,7 @@ is_near n i j = not (i == j) && (nat_lt i n && (nat_lt j n && nat_le n (i + j + 
 abbrev pub first_pointer : ℕ → ℕ → ℕ
 first_pointer n i = if nat_lt (2 * i + 1) n then n - (i + 1) else if nat_lt (i + 1) n then i + 1 else 1
 
--- n nodes linked so; each points so, with m true
+-- n nodes, linked where they are near; each points by first_pointer, with m true
 abbrev pub crowd : ℕ → Network
 crowd n = record {
   neighbours = map (λ i. those_below n (is_near n i)) (range_with_len 0 n);

@@ -23,23 +23,23 @@ ghost use Rattle.mml_bounds.specs.Halves.{halves_world};
 ghost use Rattle.mml_bounds.specs.Crowd.{crowd_world};
 ghost use Rattle.mml_bounds.specs.Comb.{comb_world};
 
-/// From any world, the closes of a legal list of grants, releases and closes apply at most 3 moves for each
-/// of n nodes in all, and 2 for each link or, where these are more than n²/4, 2 for each of n²/4, however
-/// the moves are chosen.
+/// From any world, the closes of a legal list of grants, releases and closes apply at most 3 moves for each of n nodes
+/// in all, and 2 for each link or, where these are more than n²/4, rounded down, 2 for each of so many, however the
+/// moves are chosen.
 pub fn moves_are_few()
     ensures { (r : RosterValue) (w : World) (es : List Event) → IsWorld w →
         is_legal_list r w es ≡ true → list_all is_of_step es ≡ true →
         applied_over w es ≤ most_moves (size w) (link_count w.network) }
 {}
 
-/// The most courtships among n nodes are n²/4, rounded down.
+/// The most courtships among n nodes that aren't married are n²/4, rounded down.
 pub fn courtships_in_numbers()
     ensures even { (k : ℕ) → most_courtships (2 * k) ≡ k * k }
     ensures odd { (k : ℕ) → most_courtships (2 * k + 1) ≡ k * k + k }
 {}
 
-/// In a step of moves whose guards hold, the potential that counts courtships falls by at least the number of
-/// nodes that move; and it is at most 3 for each of n nodes, and 2 for each of n²/4.
+/// In a step of moves whose guards hold, the potential that counts courtships falls by at least the number of nodes
+/// that move; and it is at most 3 for each of n nodes, and 2 for each of n²/4, rounded down.
 pub fn step_lowers_courting_potential()
     ensures lower { (c : Configuration) (chosen : ℕ → Option Rule) → IsLawful c → AllHold c chosen →
         courting_potential (step c chosen) + count_below c.size (moves chosen) ≤ courting_potential c }
@@ -47,9 +47,9 @@ pub fn step_lowers_courting_potential()
         courting_potential c ≤ 3 * c.size + 2 * most_courtships c.size }
 {}
 
-/// The bound on rounds, 2n or, where n is odd, 2n - 1, is reached for each number n of nodes from 2 on that a
-/// lab may have: whoever owns each node of the two halves has a legal list of grants and closes with one round
-/// less, after which some node is privileged; and one in which each close applies one move.
+/// The bound on rounds, 2n or, where n is odd, 2n - 1, is reached for each number n of nodes from 2 on that a lab may
+/// have: a student who owns each node of the two halves has a legal list of grants and closes with one round less,
+/// after which some node is privileged; and another such list in which each close applies one move.
 pub fn rounds_are_reached()
     ensures world { (n : ℕ) → n ≤ MAX_NODES →
         IsWorld (halves_world n) × (size (halves_world n) ≡ n) }
@@ -68,8 +68,8 @@ pub fn rounds_are_reached()
 {}
 
 /// The bound on moves, 3 for each of n nodes and 2 for each of n²/4, rounded down, is reached for each even n
-/// from 4 on that a lab may have, and missed by one for each odd n: whoever owns each node of the crowd has a
-/// legal list of grants and closes that applies so many.
+/// from 4 on that a lab may have, and missed by one for each odd n from 5 on: a student who owns each node of the crowd
+/// has a legal list of grants and closes that applies that many moves.
 pub fn moves_are_reached()
     ensures world { (n : ℕ) → 4 ≤ n → n ≤ MAX_NODES →
         IsWorld (crowd_world n) × (size (crowd_world n) ≡ n) }
@@ -86,7 +86,7 @@ pub fn moves_are_reached()
 {}
 
 /// From 4 nodes on the comb is a tree: it has one link less than nodes, and each node but the last is linked
-/// to a higher one. Whoever owns each node has a legal list of grants and closes that applies one move less
+/// to a higher one. A student who owns each node has a legal list of grants and closes that applies one move less
 /// than 3 for each node and 2 for each link, and two less where the number of nodes is odd. That no tree takes
 /// more isn't stated.
 pub fn trees_reach_their_moves()

@@ -22,7 +22,7 @@ ghost use Rattle.mml_convergence.specs.Rest.{EachHasOwner, IsOver, LeadsToRest};
 ghost use Rattle.mml_convergence.specs.Rounds.{Rounds, rounds_for, ClosesFull};
 ghost use Rattle.mml_convergence.specs.Examples.{two_nodes, triangle_world, sole_owner, twenty_moves};
 
-/// Two nodes that point at each other still do after any step of privileged moves.
+/// Two nodes that point at each other still do after any step of moves whose guards hold.
 pub fn step_keeps_pairs()
     ensures { (c : Configuration) (chosen : ℕ → Option Rule) (i j : ℕ) → AllHold c chosen →
         IsPair c i j → IsPair (step c chosen) i j }
@@ -60,8 +60,8 @@ pub fn closes_are_bounded()
         count_closes es ≤ 2 * link_count w.network + 3 * size w }
 {}
 
-/// No bound on all moves below 2 for each link and 3 for each node holds: in a class of one student, who owns a
-/// triangle with a tail, a legal list of grants and closes applies 20, for 4 links and 4 nodes.
+/// The bound on all moves, 2 for each link and 3 for each node, is reached on one network: in a class of one student,
+/// who owns a triangle with a tail, a legal list of grants and closes applies 20, for 4 links and 4 nodes.
 pub fn bound_is_reached()
     ensures roster { IsRoster sole_owner }
     ensures world { IsWorld triangle_world }
@@ -82,8 +82,8 @@ pub fn privileged_nodes_may_move()
 {}
 
 /// From any world, a legal list of grants, releases and closes that has 2n rounds, for n nodes, ends where
-/// no node is privileged, and the pairs are a maximal matching, however the moves are chosen. One that ends
-/// elsewhere has fewer than four rounds for each two nodes, and one for a node left over.
+/// no node is privileged, and the pairs are a maximal matching, however the moves are chosen. A list that ends
+/// elsewhere has fewer rounds than four for each two nodes and one for a node left over.
 pub fn rounds_are_bounded()
     ensures stable { (r : RosterValue) (w : World) (es : List Event) → IsWorld w →
         is_legal_list r w es ≡ true → list_all is_of_step es ≡ true → Rounds (2 * size w) w es →
@@ -121,8 +121,9 @@ pub fn stable_is_final()
         is_of_step e ≡ true → is_legal r w e ≡ false }
 {}
 
-/// A legal list after which no grant and no close is legal has led to where no node is privileged, and the
-/// pairs are a maximal matching; and from every world some list of grants and closes leads there.
+/// If each node has an owner: a legal list after which no grant and no close is legal has led to where no node is
+/// privileged, and the pairs are a maximal matching; and from every world some legal list of grants and closes, at most
+/// 4 for each link and 6 for each node, leads to where no node is privileged.
 pub fn runs_end_stable()
     ensures ended { (r : RosterValue) (w : World) (es : List Event) → IsWorld w →
         EachHasOwner r (size w) → is_legal_list r w es ≡ true → IsOver r (world_of w es) →
@@ -131,9 +132,10 @@ pub fn runs_end_stable()
         (es : List Event) × LeadsToRest r w (4 * link_count w.network + 6 * size w) es }
 {}
 
-/// Potentials counted by hand, to see that the definition is the one that is meant: of two linked nodes, where
-/// neither points, one asks, one is refused, and they are a pair; and of all nodes of a triangle with a tail: 20,
-/// the most that its 4 links and 4 nodes may have.
+/// Potentials counted by hand, to see that the definition is the one that is meant: of two linked nodes, where neither
+/// points; where the second points at the first; where the first points at the second, whose m is true; and where they
+/// are a pair, with m true at both; and of all nodes of a triangle with a tail together: 20, the most that its 4 links
+/// and 4 nodes may have.
 pub fn potentials_by_hand()
     ensures apart { (potential (two_nodes None false None false) 0 ≡ 3) ×
         (potential (two_nodes None false None false) 1 ≡ 1) }

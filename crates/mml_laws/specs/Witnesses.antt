@@ -4,7 +4,7 @@ use Rattle.mml_rules.specs.declared.rule.Kind.{Kind}
 use Rattle.mml_rules.specs.Configuration.{Configuration}
 use Rattle.mml_rules.specs.Rules.{enabled_kind}
 
--- a rule of this kind is enabled there, and it is no seduction
+-- a rule of this kind is enabled at the node, and it is no seduction
 abbrev pub EndsIn : Configuration → ℕ → Kind → Type 0
 EndsIn c x kind = (enabled_kind c x ≡ Some kind) × (kind ≢ Kind.Seduction)
 

@@ -26,18 +26,18 @@ IsDenial (d, clause, name, said) = (clause_of d ≡ clause) × (denial_name d �
 
 -- ---- a request by its keys, as its writer has them
 
--- what a request asks, by its word
+-- the key `do` with the word of a request
 abbrev pub does : List ℕ → List ℕ × Field
 does w = (codes "do", word w)
 
--- what a move of this rule asks, each with the node and the number of the configuration
+-- what a request for a move of this rule holds beside the node and the number of the configuration
 abbrev pub move_fields : Asked → List (List ℕ × Field)
 move_fields asked.Update = (codes "rule", word (codes "update")) ∷ []
 move_fields (asked.Marriage partner) = (codes "rule", word (codes "marriage")) ∷ (codes "with", number partner) ∷ []
 move_fields asked.Seduction = (codes "rule", word (codes "seduction")) ∷ []
 move_fields asked.Abandonment = (codes "rule", word (codes "abandonment")) ∷ []
 
--- what asks a request, by which key: each number, word, text, truth value and register
+-- what a request holds, by which key: each number, word, text, truth value and register
 abbrev pub asked_fields : Request → List (List ℕ × Field)
 asked_fields (requests.Hello name key) = does (codes "hello") ∷ (codes "key", text key) ∷ (codes "name", text name) ∷ []
 asked_fields requests.Bye = does (codes "bye") ∷ []
@@ -75,11 +75,11 @@ abbrev pub rule_field : Option Kind → Field
 rule_field None = null
 rule_field (Some k) = word (kind_word k)
 
--- what each granted event is told with
+-- what the reply to each granted event tells: the word, the number of the configuration and the event's place
 abbrev pub granted_fields : List ℕ → ℕ → ℕ → List (List ℕ × Field)
 granted_fields told at place = (codes "ok", word told) ∷ (codes "at", number at) ∷ (codes "place", number place) ∷ []
 
--- the registers of a node
+-- the identifier of a node and its registers
 abbrev pub register_fields : List ℕ → ℕ → Option ℕ → Bool → List (List ℕ × Field)
 register_fields ids i p m = (codes "node", node_field ids i) ∷ (codes "p", register_field ids p) ∷ (codes "m", truth m) ∷ []
 
@@ -90,7 +90,7 @@ refused_word refused.Full = codes "full"
 refused_word refused.Journal = codes "journal"
 refused_word refused.Memory = codes "memory"
 
--- the current number, which one who is late is told
+-- the number of the current configuration, which only the denial `stale` tells
 abbrev pub late_fields : Denial → List (List ℕ × Field)
 late_fields (denial.Stale at) = (codes "at", number at) ∷ []
 late_fields _ = []
@@ -123,7 +123,7 @@ read_fields ids roster (reply.Refuse r) = (codes "refuse", word (refused_word r)
 
 -- ---- which replies tell registers
 
--- the fact tells a register, or what is computed of registers
+-- what a key of a reply tells is a register, or computed of registers
 abbrev pub tells_registers : Fact → Bool
 tells_registers (fact.truth b) = true
 tells_registers (fact.pointer p) = true
@@ -135,7 +135,7 @@ tells_registers (fact.privileged ns) = true
 tells_registers (fact.open_links ls) = true
 tells_registers _ = false
 
--- it shows a node or tells a report
+-- the reply shows a node or tells a report
 abbrev pub is_view : Reply → Bool
 is_view (reply.See s) = true
 is_view (reply.Look l) = true

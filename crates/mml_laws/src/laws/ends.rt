@@ -29,9 +29,8 @@ pub fn a_house_that_is_over_is_stable<S>()
         × IsMaximalMatching (configuration log.board) (report_of log.board).pairs }
 {}
 
-/// Behind any place of a journal after which no fault, link or cut comes, as that of the last of these, at
-/// most two moves for each link of that time and three for each node are applied, by at most so many
-/// closes.
+/// Where no fault, link or cut comes after some place of a journal, at most two moves for each link that there is
+/// at that place, and three for each node, are applied after it, and at most as many closes come.
 pub fn few_moves_follow_the_last_fault()
     ensures moves { (lab : LabValue) (es fs : List Event) (bytes : List ℕ) → IsLab lab →
         IsJournalOf lab (es ++ fs) bytes → list_all is_of_step fs ≡ true →

@@ -5,8 +5,8 @@ ghost use Rattle.mml_lab.specs.Labs.{lab_fault};
 ghost use Rattle.mml_lab.specs.Shape.{RawSpec};
 ghost use Rattle.mml_lab.specs.LabErrors.{IsFirstError};
 
-/// The error that is told of a lab file is one that it has, and it has none that comes before it in the order
-/// of the errors: each is looked for in the whole file before the next.
+/// The error that is told of a lab file which has all keys, each of its kind, is one that the file has, and it has
+/// none of a kind that `order_of` puts earlier: each kind is looked for in the whole file before the next.
 pub fn errors_are_told_in_order()
     ensures { (raw : RawSpec) (f : LabFault) → lab_fault raw ≡ Some f → IsFirstError raw f }
 {}

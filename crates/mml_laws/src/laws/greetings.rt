@@ -18,8 +18,8 @@ ghost use Rattle.mml_session.specs.Turns as session;
 ghost use Rattle.mml_laws.specs.Greeted.{IsTold, IsDenied};
 
 /// On a connection that is known, a hello is denied as `greeted`, whatever its name and key, and the
-/// connection stays known as it was; its commands are judged as those of the one who is known. On a
-/// connection that isn't, a command is denied as `not-greeted`, and the name and key of nobody as `unknown`.
+/// connection stays known as it was; its commands are judged as those of the one who is known. On a connection
+/// that isn't, a command is denied as `not-greeted`, and a hello with the name and key of nobody as `unknown`.
 pub fn a_connection_is_known_as_one()
     ensures again { (r : RosterValue) (x : Who) (name key : List ℕ) →
         greeting r (Some x) (requests.Hello name key)

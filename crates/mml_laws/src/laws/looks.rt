@@ -16,9 +16,9 @@ ghost use Rattle.mml_policy.specs.Shown.{look_of};
 ghost use Rattle.mml_stable.specs.Reports.{report_of};
 ghost use Rattle.mml_laws.specs.Looks.{IsWholeLook};
 
-/// A look is answered exactly where there is such a node and one of its owners or the teacher asks, and the
-/// answer is whole: the node's registers, the number of the configuration, the kind of the move that
-/// is chosen and of the rule that may be applied, where there is one, and exactly the linked nodes with
+/// A look shows a node exactly where one has the identifier that it names and one of that node's owners or the
+/// teacher asks, and it shows all: the node's registers, the number of the configuration, the kind of the move
+/// that is chosen and of the rule that may be applied, where there is one, and exactly the linked nodes with
 /// their registers, in rising order.
 pub fn a_look_is_whole()
     ensures answered { (ids : List ℕ) (r : RosterValue) (limit : ℕ) (is_halted : Bool) (w : World)
@@ -30,8 +30,8 @@ pub fn a_look_is_whole()
         IsWholeLook w i (look_of w i) }
 {}
 
-/// What is shown is of the world at hand: a see names the node that was asked for and its registers, and a
-/// see, a look and a report name the number of the configuration.
+/// What is shown is of the world in which the command is ruled on: a see tells the node that was asked for and its
+/// registers, a look that node, and a see, a look and a report the number of that world's configuration.
 pub fn what_is_shown_is_of_the_present()
     ensures see { (ids : List ℕ) (r : RosterValue) (limit : ℕ) (is_halted : Bool) (w : World)
         (x : Who) (id : ℕ) (s : See) → IsLawful (configuration w) →

@@ -16,10 +16,10 @@ ghost use Rattle.mml_window.specs.Windows.{WindowValue};
 ghost use Rattle.mml_laws.specs.Served.{AreServed, named_by};
 ghost use Rattle.mml_laws.specs.Told.{EachNamesItsEvent, NamesItsEventIn, EachNamesItsEventIn};
 
-/// In a run of a hall a reply that names place p answers one who was known on its connection, and event p of
-/// the events at the end is the one that this one's command is granted after the first p - 1; line p
-/// of their journal is its line. And each event behind those with which the run began has exactly
-/// one reply that names it, in order.
+/// In a run of a hall a reply that names place p is that to a command of one who was known on its connection, and
+/// event p of the list at the end is the one that this command is granted after events 1 to p - 1; line p of the
+/// list's journal is the event's line. The list begins with the events at the beginning of the run, and each
+/// later event has exactly one reply that names it, in order.
 pub fn replies_of_a_hall_name_their_events()
     ensures told { (lab : LabValue) (st end : hall.State) (lines : List hall.RequestLine)
         (rs : List Reply) (run : hall.Run lab st lines rs end) → IsHall lab st →
@@ -34,8 +34,9 @@ pub fn replies_of_a_hall_name_their_events()
 {}
 
 /// Where a reply of a session, or the one to its last line, names place p, somebody was known on the connection, and
-/// event p of the list is the one that their command is granted after events 1 to p - 1. The list is any legal one of
-/// the lab that begins with the events that the window has seen at the end; the list of a house is one.
+/// event p of the list is the one that their command is granted after events 1 to p - 1. The list is any legal one
+/// of the lab, within its limit of events, that begins with the events that the window has seen at the end; the
+/// list of a house is one.
 pub fn replies_of_a_session_name_their_events()
     ensures talk { (lab : LabValue) (st : session.Standing) (t : Talk lab st) (l : List Event) →
         IsLab lab → is_legal_in lab l ≡ true → length l ≤ lab.events →
@@ -46,10 +47,10 @@ pub fn replies_of_a_session_name_their_events()
         IsPrefix after.window.seen l → NamesItsEventIn lab l st t.line t.reply }
 {}
 
-/// Where the windows of a house served one session after another, and their places are those behind the
-/// first events up to a last one, each once, as at the end of each house that has a log, then each of
-/// these events has exactly one reply that names it, over all sessions of all windows. Where a write
-/// failed, that reply may not have gone out.
+/// Where each window of a house served one session after another, and the places that the windows were granted are
+/// those behind the events with which the house began, up to a last one, each once, as at the end of each house
+/// that has a log, the events at these places have exactly one reply each that names them, over all sessions of
+/// all windows. Where a write failed, that reply may not have gone out.
 pub fn each_event_of_a_house_has_one_reply()
     ensures { (lab : LabValue) (begun : List Event) (most : ℕ)
         (sessions : List (List (List Reply))) (windows : List WindowValue) →

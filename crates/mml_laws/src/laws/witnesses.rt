@@ -7,9 +7,9 @@ ghost use Rattle.mml_stable.specs.Walk.{certificate, LeadsTo};
 ghost use Rattle.mml_laws.specs.Witnesses.{EndsIn, IsIdle};
 
 /// The witness of an open link is sought along the pointers from its lower end: it is the first node on the
-/// way that is privileged, with the rule there, unless that is a seduction. Where the way from the
-/// lower end shows none so, it is sought from the higher end, and where that shows none either, the
-/// witness is the lower end, by a seduction.
+/// way that is privileged, with the rule there, unless that is a seduction. Where the way from the lower end
+/// comes to a seduction first, or to a null pointer, the witness is sought so from the higher end; where that way
+/// shows none either, it is the lower end, by a seduction.
 pub fn witnesses_are_sought_from_the_lower_end()
     ensures lower { (c : Configuration) (a b x : ℕ) (kind : Kind) → IsLawful c →
         is_open c a b ≡ true → LeadsTo c a x → EndsIn c x kind → certificate c a b ≡ (x, kind) }

@@ -15,7 +15,7 @@ ghost use Rattle.mml_codec.specs.ReplyValues.{AreWritableCounts};
 ghost use Rattle.mml_codec.specs.Requests.{request};
 ghost use Rattle.mml_laws.specs.Words.{IsDenial, asked_fields, read_fields, tells_registers, is_view};
 
-/// Each denial has this number of its clause, this name and this text.
+/// Each denial is told with the number of its clause, the name and the text that stand beside it in this list.
 pub fn denials_have_these_words()
     ensures { (at : ℕ) → AllByRecursion IsDenial (
         (denial.NotGreeted, 0, codes "not-greeted", codes "say hello first")
@@ -37,19 +37,20 @@ pub fn denials_have_these_words()
         ∷ []) }
 {}
 
-/// A value asks each request exactly where it has these words and keys.
+/// A JSON value spells a request exactly where it has the words and keys that `asked_fields` lists for the request.
 pub fn requests_have_these_words()
     ensures { (d : Data) (r : Request) → (request d ≡ Some r) ↔ HasEach d (asked_fields r) }
 {}
 
-/// Who reads a reply's text as JSON finds under each key what the reader's table says, lists aside.
+/// Who reads a reply's text as JSON finds under each key what `read_fields` says of that reply: all but lists.
 pub fn replies_are_read_by_these_words()
     ensures { (ids : List ℕ) (roster : RosterValue) (r : Reply) (d : Data) → IsTable ids →
         IsRoster roster → IsAbout ids roster r → AreWritableCounts roster r →
         read (written.text ids roster r) ≡ Some d → HasEach d (read_fields ids roster r) }
 {}
 
-/// Only a see, a look and a report tell registers, or what is computed of them.
+/// Only a see, a look and a report have a key that tells registers, or what is computed of registers, which are the
+/// facts that `tells_registers` says.
 pub fn only_views_tell_registers()
     ensures { (roster : RosterValue) (r : Reply) → is_view r ≡ false →
         list_any (λ f. tells_registers f.1) (written.fields_of roster r) ≡ false }
