@@ -5,7 +5,7 @@ ghost use Rattle.std.specs.List.{list_any};
 ghost use Rattle.mml_board.specs.World.{chosen_at};
 ghost use Rattle.mml_board.specs.inside.Kept.{AreChosen};
 
-use crate::node_sets::put;
+use crate::node_sets::with_or_without;
 use mml_ids::{Memory, NodeSet, Rank};
 use mml_rules::Rule;
 use std::alloc::Global;
@@ -33,7 +33,7 @@ impl Model for Choices {
 }
 
 impl Choices {
-    /// So many nodes, none of which has a chosen move.
+    /// The choices of `count` nodes, none of which has a chosen move.
     pub fn none(alloc: Global, count: usize) -> Result<Choices, Memory>
         ensures { IfOk result (λ choices. choices ≡ replicate count None) }
     {
@@ -44,7 +44,7 @@ impl Choices {
         })
     }
 
-    /// Equal choices.
+    /// A copy of the choices.
     pub fn try_copy(&self, alloc: Global) -> Result<Choices, Memory>
         ensures { IfOk result (λ choices. choices ≡ self.now) }
     {
@@ -82,14 +82,14 @@ impl Choices {
         }
     }
 
-    /// Makes this the choice of a node.
+    /// Makes `rule` the chosen move of a node, or, where it is `None`, leaves the node without one.
     pub fn choose(&mut self, node: Rank, rule: Option<Rule>)
         requires { node < length self.old }
         ensures { self.new ≡ slice_set self.old node rule }
     {
         let rule = &rule;
         self.rules[node.index() as usize] = *rule;
-        self.nodes = put(self.nodes, node, rule.is_some());
+        self.nodes = with_or_without(self.nodes, node, rule.is_some());
     }
 
     /// Drops every chosen move.
@@ -101,7 +101,7 @@ impl Choices {
     }
 }
 
-/// Drops the chosen moves, which these nodes have.
+/// Drops the chosen moves from the list `rules`; `nodes` are the nodes that have one.
 fn drop_each(rules: &mut [Option<Rule>], nodes: NodeSet)
     requires { AreChosen rules.old nodes }
     ensures { rules.new ≡ replicate (length rules.old) None }

@@ -8,11 +8,11 @@ pub enum Done {
     Move { node: Rank, kind: Kind },
     /// The chosen moves of these nodes were applied.
     Close { moved: NodeSet },
-    /// The registers of the node are set; so many chosen moves were dropped.
+    /// The registers of the node are set, and `dropped` chosen moves were dropped.
     Fault { node: Rank, dropped: u16 },
-    /// The two nodes are linked; so many chosen moves were dropped.
+    /// The two nodes are linked, and `dropped` chosen moves were dropped.
     Link { a: Rank, b: Rank, dropped: u16 },
-    /// The two nodes are linked no longer; so many chosen moves were dropped.
+    /// The two nodes are linked no longer, and `dropped` chosen moves were dropped.
     Cut { a: Rank, b: Rank, dropped: u16 },
     /// The node has no chosen move any longer.
     Release { node: Rank },

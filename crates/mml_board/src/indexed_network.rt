@@ -5,7 +5,7 @@ ghost use Rattle.mml_rules.specs.Rules.{is_candidate};
 ghost use Rattle.mml_rules.specs.Network.{neighbours_at, configuration_of, unpointed, with_registers, with_link, without_link};
 ghost use Rattle.mml_board.specs.inside.Rows.{with_suitor, without_suitor};
 
-use crate::node_sets::{is_empty, put};
+use crate::node_sets::{is_empty, with_or_without};
 use mml_ids::{Memory, NodeSet, Rank};
 use mml_rules::{Network, Regs, Scene};
 use std::alloc::Global;
@@ -42,15 +42,19 @@ impl Model for IndexedNetwork {
 impl Scene for IndexedNetwork {
     ghost shown = { λ network. network };
 
+    /// The network that the rows stand beside.
     fn network(&self) -> &Network {
         &self.network
     }
 
+    /// Whether some neighbour points at the node: its row of suitors isn't empty.
     fn has_suitor(&self, node: Rank) -> bool {
         let _size = self.network.size();
         !is_empty(self.suitors[node.index() as usize])
     }
 
+    /// The neighbour that a seduction of the node would choose, the greatest of its candidates; `None` where there are
+    /// none.
     #[tactic(auto, using(crate::proofs::RowsLemmas::greatest_told))]
     fn greatest_candidate(&self, node: Rank) -> Option<Rank> {
         let _size = self.size();
@@ -71,8 +75,8 @@ impl IndexedNetwork {
             let node = Rank::at(index);
             let registers = &network.registers(node);
             put_suitor(&mut suitors, registers.p, node, true);
-            free = put(free, node, registers.p.is_none());
-            believing = put(believing, node, registers.m);
+            free = with_or_without(free, node, registers.p.is_none());
+            believing = with_or_without(believing, node, registers.m);
         }
         Ok(IndexedNetwork {
             network,
@@ -96,7 +100,7 @@ impl IndexedNetwork {
         })
     }
 
-    /// The nodes that a seduction of a node may choose.
+    /// The nodes that a seduction of a node may choose: its neighbours above it that point at nobody, with m false.
     fn candidates(&self, node: Rank) -> NodeSet
         requires { node < length self.now.registers }
         ensures { (j : ℕ) → set.contains result j ≡
@@ -119,8 +123,8 @@ impl IndexedNetwork {
         let registers = &registers;
         let from = self.network.registers(node).p;
         move_suitor(&mut self.suitors, node, from, registers.p);
-        self.free = put(self.free, node, registers.p.is_none());
-        self.believing = put(self.believing, node, registers.m);
+        self.free = with_or_without(self.free, node, registers.p.is_none());
+        self.believing = with_or_without(self.believing, node, registers.m);
         self.network.set_registers(node, *registers);
     }
 
@@ -145,7 +149,7 @@ impl IndexedNetwork {
         self.network.cut(a, b);
     }
 
-    /// Null where the pointer of `a` was `b`.
+    /// Makes the pointer of `a` null where it was `b`, in the rows too; else nothing changes.
     fn unpoint(&mut self, a: Rank, b: Rank)
         requires { a < length self.old.registers }
         ensures neighbours { self.new.neighbours ≡ self.old.neighbours }
@@ -164,7 +168,8 @@ impl IndexedNetwork {
     }
 }
 
-/// Takes a node from the row of the node that it pointed at to that of the one that it points at.
+/// Takes a node out of the suitors of the node `from`, at which it pointed, and puts it among those of `to`, at which
+/// it points now; null stands for no node.
 fn move_suitor(suitors: &mut [NodeSet], node: Rank, from: Option<Rank>, to: Option<Rank>)
     requires from { (i : ℕ) → from ≡ Some i → i < length suitors.old }
     requires to { (i : ℕ) → to ≡ Some i → i < length suitors.old }
@@ -174,7 +179,8 @@ fn move_suitor(suitors: &mut [NodeSet], node: Rank, from: Option<Rank>, to: Opti
     put_suitor(suitors, to, node, true);
 }
 
-/// Puts a node into the row of the node at which p points, or takes it out of there.
+/// Puts a node among the suitors of the node that `p` names where `is_in` is true, and takes it out of them where not;
+/// nothing where `p` is null.
 fn put_suitor(suitors: &mut [NodeSet], p: Option<Rank>, node: Rank, is_in: bool)
     requires { (i : ℕ) → p ≡ Some i → i < length suitors.old }
     ensures { suitors.new ≡

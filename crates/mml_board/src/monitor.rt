@@ -5,7 +5,7 @@ ghost use Rattle.mml_rules.specs.Network.{configuration_of};
 ghost use Rattle.mml_board.specs.inside.Monitor.{is_privileged_node, privileged_set, IsUntouched};
 
 use crate::indexed_network::IndexedNetwork;
-use crate::node_sets::put;
+use crate::node_sets::with_or_without;
 use mml_ids::{NodeSet, Rank};
 use mml_rules::{Scene, enabled};
 
@@ -17,12 +17,13 @@ pub fn privileged_set(network: &IndexedNetwork) -> NodeSet
     for index in 0..network.size() {
         let node = Rank::at(index);
         let is_privileged = enabled(network, node).is_some();
-        nodes = put(nodes, node, is_privileged);
+        nodes = with_or_without(nodes, node, is_privileged);
     }
     nodes
 }
 
-/// The privileged nodes after a change: the changed nodes and their neighbours are looked at anew.
+/// The privileged nodes after a change. The nodes in `changed` and their neighbours are looked at anew; of each other
+/// node `privileged` tells whether it is privileged.
 pub fn refresh(network: &IndexedNetwork, privileged: NodeSet, changed: NodeSet) -> NodeSet
     requires { (j : ℕ) → IsUntouched (configuration_of network.now) changed j →
         set.contains privileged j ≡ is_privileged_node (configuration_of network.now) j }
@@ -38,7 +39,7 @@ pub fn refresh(network: &IndexedNetwork, privileged: NodeSet, changed: NodeSet) 
     privileged
 }
 
-/// What is in the set of these nodes is looked at anew.
+/// The set `privileged` once each of `nodes` is looked at anew: it is in the set exactly where it is privileged now.
 fn refresh_each(network: &IndexedNetwork, privileged: NodeSet, nodes: NodeSet) -> NodeSet
     ensures { (j : ℕ) → set.contains result j ≡
         (if set.contains nodes j then is_privileged_node (configuration_of network.now) j
@@ -47,12 +48,12 @@ fn refresh_each(network: &IndexedNetwork, privileged: NodeSet, nodes: NodeSet) -
     let mut privileged = privileged;
     let mut left = nodes;
     while let Some(node) = left.take_least() {
-        privileged = put(privileged, node, is_privileged(network, node));
+        privileged = with_or_without(privileged, node, is_privileged(network, node));
     }
     privileged
 }
 
-/// Whether the rank is that of a node, which is privileged.
+/// Whether the rank is that of a node, and the node is privileged.
 fn is_privileged(network: &IndexedNetwork, node: Rank) -> bool
     ensures { result ≡ is_privileged_node (configuration_of network.now) node }
 {

@@ -4,15 +4,15 @@ ghost use Rattle.std.specs.FinSet as set;
 
 use mml_ids::{NodeSet, Rank};
 
-/// The set of two ranks.
-pub fn ends(a: Rank, b: Rank) -> NodeSet
+/// The set of the two ends of a link.
+pub fn link_ends(a: Rank, b: Rank) -> NodeSet
     ensures { result ≡ set.insert (set.insert set.empty a) b }
 {
     NodeSet::empty().with(a).with(b)
 }
 
-/// The set with the rank in it or not, and the others as they are.
-pub fn put(nodes: NodeSet, node: Rank, is_in: bool) -> NodeSet
+/// The set with `node` in it where `is_in`, without it where not; the other ranks stay as they are.
+pub fn with_or_without(nodes: NodeSet, node: Rank, is_in: bool) -> NodeSet
     ensures { (j : ℕ) → set.contains result j ≡
         (if j == node then is_in else set.contains nodes j) }
 {
@@ -31,11 +31,4 @@ pub fn is_empty(nodes: NodeSet) -> bool
         Some(_) => false,
         None => true,
     }
-}
-
-/// Whether the same ranks are in both sets.
-pub fn same_nodes(a: NodeSet, b: NodeSet) -> bool
-    ensures { IsTrue result ↔ (a ≡ b) }
-{
-    is_empty(a.without(b)) && is_empty(b.without(a))
 }

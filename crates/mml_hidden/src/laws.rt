@@ -44,8 +44,8 @@ pub fn hidden_values_change_no_reply_line()
         (world_left ids r limit is_halted v (who.Student s) c) }
 {}
 
-/// The turn of a line on a connection that is known as the student, or as nobody yet, has the same
-/// reply line in both states, and they are alike afterwards, whatever befell both turns.
+/// In two states that are alike for a student the turns of a line on a connection that is known as her, or as nobody
+/// yet, have the same reply line, and the states after them are alike again, whatever mishap befell both turns.
 pub fn hidden_values_change_no_turn()
     ensures line { (lab other : LabValue) (s : ℕ) (st su : State) (mishap : Mishap) (k : ℕ)
         (line : List ℕ) → AreTwins lab other → StatesAlike lab s st su →
@@ -58,8 +58,8 @@ pub fn hidden_values_change_no_turn()
         StatesAlike lab s (turn mishap lab st k line).state (turn mishap other su k line).state }
 {}
 
-/// States that are alike for a student are so after the plain turns of a line on any connection, where the
-/// worlds then are.
+/// Two states that are alike for a student are so after the plain turns of a line on any connection, where their
+/// worlds are alike for her after these turns.
 pub fn lines_of_others_keep_states_alike()
     ensures { (lab other : LabValue) (s : ℕ) (st su : State) (k : ℕ) (line : List ℕ) →
         AreTwins lab other → StatesAlike lab s st su →
@@ -82,9 +82,9 @@ pub fn turns_that_keep_worlds_alike_grant_alike()
         is_grant one.reply ≡ is_grant two.reply }
 {}
 
-/// Two runs of one script, whose worlds stay alike for a student at each line of another's: what is
-/// written on connections while they are hers, or nobody's, is the same, and so is all that is written
-/// on a connection that is hers throughout; and the states at the end are alike.
+/// Two runs of one script, by plain turns, from states that are alike for a student, whose worlds stay alike for her
+/// at each line of another's: what is written on connections while they are hers, or nobody's yet, is the same,
+/// and so is all on a connection that is so throughout; and the states at the end are alike.
 pub fn hidden_values_change_no_script()
     ensures written { (lab other : LabValue) (s : ℕ) (st su : State) (lines : List RequestLine) →
         AreTwins lab other → StatesAlike lab s st su → StayAlike lab other s st su lines →
@@ -102,9 +102,9 @@ pub fn hidden_values_change_no_script()
         StatesAlike lab s (end_of lab st lines) (end_of other su lines) }
 {}
 
-/// Two runs of one script in which the same mishaps befall the same lines, and whose worlds stay alike for a
-/// student, and are halted the same, at each line of another's: all that is written on connections that are
-/// hers throughout, however many, is the same; and the states at the end are alike.
+/// Two runs of one script from states that are alike for a student, in which the same mishaps befall the same lines,
+/// and whose worlds stay alike for her, and are halted the same, at each line of another's: all that is written on
+/// connections that are hers, or nobody's yet, throughout, is the same; and the states at the end are alike.
 pub fn hidden_values_change_no_script_with_mishaps()
     ensures connections { (lab other : LabValue) (s : ℕ) (st su : State) (some : ℕ → Bool)
         (bs : List BefallenLine) → AreTwins lab other → StatesAlike lab s st su →
@@ -119,14 +119,14 @@ pub fn hidden_values_change_no_script_with_mishaps()
         StatesAlike lab s (end_with lab st bs) (end_with other su bs) }
 {}
 
-/// Each run is that of turns whose mishaps are told: one for each line, or none.
+/// Each run of a hall is that of turns by some list of mishaps, one for each line, of which `nothing` is one too.
 pub fn something_befell_each_line()
     ensures { (lab : LabValue) (st : State) (lines : List RequestLine) (rs : List Reply)
         (end : State) → Run lab st lines rs end → Befalls lab st lines rs end }
 {}
 
-/// Two runs of one script from states that are alike for a student, where nobody but she is known and each
-/// hello that is granted is hers: all replies are the same, and so are all bytes, whatever the worlds come to.
+/// Two runs of one script, by plain turns, from states that are alike for a student, where nobody but she is known
+/// and a hello with the name and key of one who takes part has hers: all replies are the same, and so all bytes.
 pub fn one_who_is_alone_can_not_tell()
     ensures replies { (lab other : LabValue) (s : ℕ) (st su : State) (lines : List RequestLine) →
         AreTwins lab other → StatesAlike lab s st su → OnlySheIsKnown s st →
@@ -140,7 +140,8 @@ pub fn one_who_is_alone_can_not_tell()
         AreUnhindered u.replies → bytes_written t ≡ bytes_written u }
 {}
 
-/// Where runs begin the states are alike for a student if the labs' networks are, and nobody is known.
+/// The states in which runs of two labs begin are alike for a student where the labs begin alike for her, and in
+/// such a state nobody but she is known on any connection: nobody at all is.
 pub fn runs_begin_alike()
     ensures states { (lab other : LabValue) (s : ℕ) → BeginAlike lab other s →
         StatesAlike lab s (opening lab) (opening other) }
@@ -154,8 +155,8 @@ pub fn unhindered_runs_are_plain()
         (rs ≡ replies_to lab st lines) × (end ≡ end_of lab st lines) }
 {}
 
-/// An event in one of two alike worlds alone is told by the place, and two events of which one makes a
-/// configuration, and the other none, are told by the number: after them the worlds aren't alike.
+/// An event in one alone of two worlds that are alike for a student is told by the place, and two events, one in
+/// each, of which one makes a configuration and the other none, by the number: the worlds aren't alike afterwards.
 pub fn events_are_told_by_place_and_number()
     ensures first { (r : RosterValue) (s : ℕ) (w v : World) (e : Event) → Alike r s w v →
         ¬ Alike r s (after w e) v }
@@ -165,8 +166,9 @@ pub fn events_are_told_by_place_and_number()
         Alike r s (after w e) (after v f) → makes_configuration e ≡ makes_configuration f }
 {}
 
-/// One event that takes place in two alike worlds keeps them alike exactly where it shows the student
-/// the same: always, but for a link to a node of hers, and a close.
+/// One event that takes place in two worlds that are alike for a student keeps them alike exactly where it shows her
+/// the same. Only a link to a node of hers and a close may show her something else; a close doesn't where the same
+/// moves are chosen for the neighbours of her nodes, and their rules read the same.
 pub fn one_event_keeps_worlds_alike()
     ensures event { (ids : List ℕ) (r : RosterValue) (s : ℕ) (w v : World) (e : Event) →
         IsWorldOf ids w → IsWorldOf ids v → Alike r s w v → is_possible w e ≡ true →
@@ -176,8 +178,9 @@ pub fn one_event_keeps_worlds_alike()
         ShowsTheSame r s w v event.Close }
 {}
 
-/// Two events, one in each of two alike worlds, that change nothing of what the student may read keep
-/// the worlds alike, where both make a configuration or neither does. So do events out of her sight.
+/// Two events, one in each of two worlds that are alike for a student, keep the worlds alike where both make a
+/// configuration or neither does, and each leaves untouched what she may read: but for number and place, and for the
+/// chosen moves, which a new configuration drops. An event out of her sight leaves it untouched.
 pub fn events_out_of_sight_keep_worlds_alike()
     ensures untouched { (r : RosterValue) (s : ℕ) (w v : World) (e f : Event) → Alike r s w v →
         IsUntouched r s w e → IsUntouched r s v f →
@@ -186,8 +189,8 @@ pub fn events_out_of_sight_keep_worlds_alike()
         is_possible w e ≡ true → IsOutOfSight r s w e → IsUntouched r s w e }
 {}
 
-/// Two labs are alike at the beginning for a student where they differ in the registers of a node that
-/// isn't visible to her, or in a link between two nodes of others.
+/// Two networks are alike at the beginning for a student where they differ only in the registers of a node that
+/// isn't visible to her, or only in a link between two nodes that she doesn't own.
 pub fn labs_may_differ_out_of_sight()
     ensures registers { (n : Network) (r : RosterValue) (s i : ℕ) (regs : Regs) → IsNetwork n →
         ¬ IsVisible r (configuration_of n) (who.Student s) i →

@@ -1,7 +1,7 @@
 ghost use Rattle.std.specs.Prelude.{◌≡◌};
 ghost use Rattle.mml_ids.specs.Gives.{need};
 
-/// The condition holds, or else the error.
+/// `Ok(())` where the condition holds, else `Err(error)`, at which `?` ends the caller.
 pub fn need<E: Copy>(condition: bool, error: E) -> Result<(), E>
     ensures { result ≡ need condition error }
 {

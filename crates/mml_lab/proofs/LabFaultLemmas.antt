@@ -11,7 +11,7 @@ use Rattle.mml_lab.specs.declared.lab_fault.LabFault.{LabFault}
 use Rattle.mml_lab.specs.declared.lab_fault.LabFault.TheVariants as fault
 use Rattle.mml_lab.specs.Shape.{NodeSpec, RawSpec}
 use Rattle.mml_lab.specs.Rosters.{is_account, name_twice}
-use Rattle.mml_lab.specs.Labs.{LabValue, file_ids, lacks_owner, lacks_end, is_loop, is_link_again, points_astray, is_within, are_one_twice, both_fault, ids_fault}
+use Rattle.mml_lab.specs.Labs.{LabValue, file_ids, lacks_owner, lacks_end, is_loop, is_link_again, points_at_unlinked, is_within, are_one_twice, both_fault, ids_fault}
 use Rattle.mml_lab.specs.Labs.{forms_fault, no_owner_fault, owner_twice_fault, ends_fault, loops_fault, again_fault, pointers_fault, checked, error_of, lab_fault}
 use Rattle.mml_lab.specs.Labs.{lab_in, lab_from}
 use Rattle.mml_lab.specs.LabErrors.{errors_of}
@@ -27,7 +27,7 @@ pub record IsFaultless (raw : RawSpec) : Type 0 where
   pub ends : position (lacks_end raw.nodes) raw.links ≡ None
   pub loops : position is_loop raw.links ≡ None
   pub once : first_below (is_link_again raw.links) (length raw.links) ≡ None
-  pub pointers : position (points_astray raw.links) raw.nodes ≡ None
+  pub pointers : position (points_at_unlinked raw.links) raw.nodes ≡ None
   pub events : is_within MAX_EVENTS raw.events ≡ true
   pub sessions : is_within MAX_SESSIONS raw.sessions ≡ true
   pub students : length raw.students ≤ MAX_STUDENTS

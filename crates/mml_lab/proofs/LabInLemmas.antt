@@ -18,7 +18,7 @@ use Rattle.mml_rules.specs.Network.{Network, no_regs, registers_at, configuratio
 use Rattle.mml_lab.specs.declared.TheConstants.{MAX_EVENTS, MAX_SESSIONS}
 use Rattle.mml_lab.specs.Shape.{Account, NodeSpec, RawSpec}
 use Rattle.mml_lab.specs.Rosters.{has_name, no_account, with_owners, IsRoster}
-use Rattle.mml_lab.specs.Labs.{IsLab, number_of, file_ids, joins, is_linked, is_loop, is_within, lacks_owner, points_astray, node_with, place_of, owners_in}
+use Rattle.mml_lab.specs.Labs.{IsLab, number_of, file_ids, joins, is_linked, is_loop, is_within, lacks_owner, points_at_unlinked, node_with, place_of, owners_in}
 use Rattle.mml_lab.specs.Labs.{owners_with, registers_in, registers_with, neighbours_of, network_in, lab_in, lab_from, LabValue}
 use Rattle.mml_ids.proofs.MapLemmas.{list_any-map}
 use Rattle.mml_ids.proofs.SearchLemmas.{position-None}
@@ -122,9 +122,9 @@ module _ (raw : RawSpec) (right : IsFaultless raw) where
         let node = n.0 in
         let regs : registers_at net.registers i ≡ registers_in ids node =
         registers-in i lt ∙ ap (λ (o : Option NodeSpec). option_map_or (registers_in ids) o no_regs) n.1.found in
-        let kept : points_astray raw.links node ≡ false =
-        ap (points_astray raw.links) (sym n.1.stands.there)
-        ∙ position-None (points_astray raw.links) raw.nodes node right.pointers n.1.stands.place n.1.stands.within in
+        let kept : points_at_unlinked raw.links node ≡ false =
+        ap (points_at_unlinked raw.links) (sym n.1.stands.there)
+        ∙ position-None (points_at_unlinked raw.links) raw.nodes node right.pointers n.1.stands.place n.1.stands.within in
         by i lt node n.1.named node.p (ap (λ (r : Regs). r.p) (sym regs) ∙ points) kept
     | inr past ↦ grind (arith, length-map, get_or_past)
   ]

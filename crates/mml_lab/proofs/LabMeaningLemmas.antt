@@ -19,7 +19,7 @@ use Rattle.mml_rules.specs.Network.{no_regs, registers_at, configuration_of}
 use Rattle.mml_lab.specs.declared.who.Who.TheVariants as who
 use Rattle.mml_lab.specs.Shape.{NodeSpec, RawSpec, spelled}
 use Rattle.mml_lab.specs.Rosters.{RosterValue, has_name, with_owners, owns, owners_of, name_of}
-use Rattle.mml_lab.specs.Labs.{LabValue, IsLab, number_of, file_ids, is_node, joins, is_linked, is_loop, lacks_owner, lacks_end, points_astray}
+use Rattle.mml_lab.specs.Labs.{LabValue, IsLab, number_of, file_ids, is_node, joins, is_linked, is_loop, lacks_owner, lacks_end, points_at_unlinked}
 use Rattle.mml_lab.specs.Labs.{node_with, registers_in, place_of, owners_in, owners_with, lab_from, lab_of}
 use Rattle.mml_lab.specs.LabMeaning.{Joins, HasLink, HasNode, JoinNodes}
 use Rattle.mml_ids.proofs.MapLemmas.{list_any-map}
@@ -161,8 +161,8 @@ module _ (raw : RawSpec) (right : IsFaultless raw) where
   pub p-is : (i : ℕ) (node : NodeSpec) (z : ℤ) → i < length ids → Contains raw.nodes node → node.id ≡ pos (slice_index ids i) → node.p ≡ Some z
       → (j : ℕ) × ((configuration_of (net raw right)).p i ≡ Some j) × (z ≡ pos (slice_index ids j)) × ((configuration_of (net raw right)).linked i j ≡ true)
   p-is i node z lt stands named points =
-      let kept : points_astray raw.links node ≡ false =
-      ap (points_astray raw.links) (sym stands.2) ∙ position-None (points_astray raw.links) raw.nodes node right.pointers stands.0 stands.1 in
+      let kept : points_at_unlinked raw.links node ≡ false =
+      ap (points_at_unlinked raw.links) (sym stands.2) ∙ position-None (points_at_unlinked raw.links) raw.nodes node right.pointers stands.0 stands.1 in
       let linked : is_linked raw.links node.id z ≡ true =
       not-false _ (ap (λ (o : Option ℤ). option_map_or (λ p. not (is_linked raw.links node.id p)) o false) (sym points) ∙ kept) in
       let link = (linked-means raw node.id z).0 linked in

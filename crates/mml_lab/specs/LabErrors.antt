@@ -30,7 +30,7 @@ order_of (fault.Limit key.Sessions) = 11
 order_of (fault.Limit key.Student) = 12
 order_of _ = 13
 
--- for each of these what the file has of it, if anything: the first, where it has more
+-- for each kind of error, in that order, the first one that the file has, if it has one
 abbrev pub errors_of : RawSpec → List (Option LabFault)
 errors_of raw =
     both_fault raw.nodes

@@ -74,8 +74,8 @@ abbrev pub is_link_again : List (ℤ × ℤ) → ℕ → Bool
 is_link_again links i = option_map_or (λ link. is_linked (take i links) link.0 link.1) (slice_get links i) false
 
 -- the node points at one that it isn't linked to
-abbrev pub points_astray : List (ℤ × ℤ) → NodeSpec → Bool
-points_astray links node = option_map_or (λ p. not (is_linked links node.id p)) node.p false
+abbrev pub points_at_unlinked : List (ℤ × ℤ) → NodeSpec → Bool
+points_at_unlinked links node = option_map_or (λ p. not (is_linked links node.id p)) node.p false
 
 -- the number is from 1 to the greatest
 abbrev pub is_within : ℕ → ℤ → Bool
@@ -109,15 +109,15 @@ ends_fault nodes links = option_map fault.LinkEnd (position (lacks_end nodes) li
 unfoldable pub loops_fault : List (ℤ × ℤ) → Option LabFault
 loops_fault links = option_map fault.Loop (position is_loop links)
 
--- a link that stood before
+-- a link joins what an earlier one joins
 unfoldable pub again_fault : List (ℤ × ℤ) → Option LabFault
 again_fault links = option_map fault.LinkTwice (first_below (is_link_again links) (length links))
 
 -- a node points at one that isn't its neighbour
 unfoldable pub pointers_fault : List (ℤ × ℤ) → List NodeSpec → Option LabFault
-pointers_fault links nodes = option_map fault.BadPointer (position (points_astray links) nodes)
+pointers_fault links nodes = option_map fault.BadPointer (position (points_at_unlinked links) nodes)
 
--- ends where there is an error
+-- the error, if there is one, as the end of a step
 abbrev pub unless : Option LabFault → Result (Unit {0}) LabFault
 unless fault = unless_fault fault tt
 
@@ -139,14 +139,14 @@ owned students nodes = do
   unless (no_owner_fault students nodes)
   unless (owner_twice_fault nodes)
 
--- the links: each end is a node, both ends differ, and none stood before
+-- the links: each end is a node, both ends differ, and no link joins what an earlier one joins
 unfoldable pub linked : List NodeSpec → List (ℤ × ℤ) → Result (Unit {0}) LabFault
 linked nodes links = do
   unless (ends_fault nodes links)
   unless (loops_fault links)
   unless (again_fault links)
 
--- the numbers of events, sessions and students
+-- the limits: the numbers of events, of sessions and of students are within them
 unfoldable pub limited : ℤ → ℤ → ℕ → Result (Unit {0}) LabFault
 limited events sessions students = do
   need (is_within MAX_EVENTS events) (fault.Limit key.Events)

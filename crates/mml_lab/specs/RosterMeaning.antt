@@ -14,14 +14,14 @@ IsLetter b = IsInRange 97 122 b
 abbrev pub IsNameByte : ℕ → Type 0
 IsNameByte b = IsLetter b ⊎ (IsInRange 48 57 b ⊎ (b ≡ 45))
 
--- 1 to 32 bytes of a name, the first a letter
+-- 1 to 32 bytes, each a letter, 0 to 9 or '-', the first a letter
 pub record IsName (name : List ℕ) : Type 0 where
   pub some : 0 < length name
   pub short : length name ≤ MAX_NAME
   pub first : IsLetter (slice_index name 0)
   pub bytes : All IsNameByte name
 
--- 1 to 64 bytes that can be seen
+-- 1 to 64 bytes, each an ASCII character that can be seen and is no space
 pub record IsKey (key : List ℕ) : Type 0 where
   pub some : 0 < length key
   pub short : length key ≤ MAX_KEY

@@ -21,7 +21,7 @@ pub record RosterValue : Type 0 where
 abbrev pub is_name_byte : ℕ → Bool
 is_name_byte b = is_ascii_lowercase b || is_ascii_digit b || b == 45
 
--- a name: 1 to 32 of these bytes, and the first is a letter
+-- a name: 1 to 32 of a to z, 0 to 9 and '-', and the first is a letter
 abbrev pub is_name : List ℕ → Bool
 is_name [] = false
 is_name (b ∷ bs) = is_ascii_lowercase b && list_all is_name_byte bs && nat_le (length (b ∷ bs)) MAX_NAME
@@ -46,11 +46,11 @@ has_name_and_key name key a = bytes_eq name a.name && bytes_eq key a.key
 abbrev pub no_account : Account
 no_account = record { name = []; key = [] }
 
--- the name at this index of the list stands before it already
+-- the name at this index of the list stands at a lower index too
 abbrev pub is_name_again : List Account → ℕ → Bool
 is_name_again accounts k = list_any (has_name (slice_index_or accounts k no_account).name) (take k accounts)
 
--- the first name that stands before it already, the teacher's at index 0
+-- the error of the first name that another account has before it, if there is one; the teacher's is at index 0
 abbrev pub name_twice : List Account → Option LabFault
 name_twice accounts = option_map fault.NameTwice (first_below (is_name_again accounts) (length accounts))
 
@@ -67,7 +67,7 @@ name_of r who = (account_of r who).name
 abbrev pub key_of : RosterValue → Who → List ℕ
 key_of r who = (account_of r who).key
 
--- who has that name and key
+-- the one who takes part under that name and key, if there is one
 abbrev pub principal : RosterValue → List ℕ → List ℕ → Option Who
 principal r name key =
     if has_name_and_key name key r.teacher then Some who.Teacher else option_map who.Student (position (has_name_and_key name key) r.students)
@@ -80,7 +80,7 @@ student_named r name = position (has_name name) r.students
 abbrev pub owners_of : RosterValue → ℕ → List ℕ
 owners_of r i = slice_index_or r.owners i []
 
--- the teacher owns no node
+-- a student owns the nodes whose owners the student is among, the teacher owns none
 abbrev pub owns : RosterValue → Who → ℕ → Bool
 owns r who.Teacher i = false
 owns r (who.Student s) i = list_any (λ o. o == s) (owners_of r i)
@@ -97,6 +97,6 @@ pub record IsRoster (r : RosterValue) : Type 0 where
   pub differ : (a b : Who) → IsPrincipal r a → IsPrincipal r b → name_of r a ≡ name_of r b → a ≡ b
   pub owned : All (All (λ s. s < length r.students)) r.owners
 
--- the roster of these, and of the owners of each rank
+-- the roster of a teacher, of students and, for each rank, of the owners of the node
 abbrev pub with_owners : Account → List Account → List (List ℕ) → RosterValue
 with_owners teacher students owners = record { teacher = teacher; students = students; owners = owners }

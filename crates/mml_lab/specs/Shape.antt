@@ -18,8 +18,8 @@ is_lab_memory fault.Memory = true
 is_lab_memory _ = false
 
 -- the value under a key that has to be there
-abbrev pub need : Key → List ℕ → Members → Result Data LabFault
-need at name members = ok_or (get_member name members) (fault.Missing at)
+abbrev pub value_under : Key → List ℕ → Members → Result Data LabFault
+value_under at name members = ok_or (get_member name members) (fault.Missing at)
 
 -- the value, if it is of the kind
 abbrev pub of_kind : {A : Type 0} → Key → (Data → Option A) → Data → Result A LabFault
@@ -27,7 +27,7 @@ of_kind at kind value = ok_or (kind value) (fault.WrongKind at)
 
 -- the value under a key that has to be there, if it is of the kind
 abbrev pub needed : {A : Type 0} → Key → List ℕ → (Data → Option A) → Members → Result A LabFault
-needed at name kind members = need at name members >>= λ value. of_kind at kind value
+needed at name kind members = value_under at name members >>= λ value. of_kind at kind value
 
 -- what is read of the value under a key that may be left out
 abbrev pub optional : {A : Type 0} → (Data → Result A LabFault) → Option Data → Result (Option A) LabFault
@@ -98,7 +98,7 @@ node_of value = do
   m ← optional_of key.NodeM as_bool (get_member (codes "m") table)
   Ok (record { id = id; owners = names; both = is_some owner && is_some owners; p = p; m = or_false m })
 
--- exactly two
+-- the two elements of an array that has exactly two
 abbrev pub two_of : Items → Option (Data × Data)
 two_of (item a (item b no_items)) = Some (a, b)
 two_of _ = None

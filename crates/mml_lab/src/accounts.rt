@@ -54,7 +54,8 @@ fn is_account(account: &Account) -> bool
     is_name(account.name.as_bytes()) && is_key(account.key.as_bytes())
 }
 
-/// The first whose name or key isn't of its form: the teacher at index 0, and the students from 1.
+/// The index of the first account whose name or key isn't of its form, of the teacher (0) and the students (from 1);
+/// `None` where there is no such one.
 pub(crate) fn first_malformed(teacher: &Account, students: &[Account]) -> Option<usize>
     ensures { result ≡ position (λ a. not (is_account a))
         (account_view teacher.now ∷ map account_view students.now) }
@@ -68,7 +69,7 @@ pub(crate) fn first_malformed(teacher: &Account, students: &[Account]) -> Option
     }
 }
 
-/// The index of the first student whose name or key isn't of its form.
+/// The index, from 0, of the first student whose name or key isn't of its form; `None` where there is no such one.
 fn first_malformed_student(students: &[Account]) -> Option<usize>
     ensures value { result ≡ position (λ a. not (is_account (account_view a))) students.now }
     ensures within { IfSome result (λ index. index < length students.now) }

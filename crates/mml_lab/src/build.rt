@@ -21,7 +21,7 @@ use mml_ids::{IdTable, Rank};
 use mml_rules::{Network, Regs};
 use std::alloc::Global;
 
-/// The lab of a file that was checked.
+/// The lab of a file that was checked; no error is left but `Memory`.
 #[tactic(auto, unfolding(crate::specs::inside::Checks::lab_with))]
 pub(crate) fn build(alloc: Global, checked: Checked) -> Result<Lab, LabFault>
     requires { IsLab (checked_view checked) }
@@ -42,7 +42,7 @@ pub(crate) fn build(alloc: Global, checked: Checked) -> Result<Lab, LabFault>
     Ok(Lab::new(ids, roster, network, events, sessions))
 }
 
-/// Each node's registers and owners.
+/// What the nodes of a file give, by rank: the registers of each (first) and the owners of each (second).
 fn parts(alloc: Global, checked: &Checked) -> Result<(Vec<Regs>, Vec<Vec<Student>>), LabFault>
     requires { length checked.now.students.entries ≤ MAX_STUDENTS }
     ensures registers { IfOk result (λ parts. parts.0.items ≡ map (registers_with
@@ -57,7 +57,7 @@ fn parts(alloc: Global, checked: &Checked) -> Result<(Vec<Regs>, Vec<Vec<Student
     Ok((registers, owners))
 }
 
-/// Each node's registers.
+/// Each node's registers, by rank.
 pub(crate) fn registers(
     alloc: Global,
     ids: &IdTable,
@@ -84,14 +84,15 @@ fn registers_with(ids: &IdTable, nodes: &[RawNode], id: u64) -> Regs
     }
 }
 
-/// The file's node with an identifier.
+/// The file's first node with an identifier; `None` where it has none.
 fn node_with(nodes: &[RawNode], id: u64) -> Option<&RawNode>
     ensures { option_copied result ≡ find (λ node. number_of node.id == id) nodes.now }
 {
     nodes.iter().find(|node| number_of(node.id) == id)
 }
 
-/// The registers that the file gives a node: its pointer is the rank of the node that it names.
+/// The registers that the file gives a node: its pointer is the rank of the node that it names, null where it names
+/// none.
 #[tactic(auto, unfolding(crate::specs::inside::Checks::rank_at))]
 fn registers_in(ids: &IdTable, node: &RawNode) -> Regs
     ensures { result ≡ registers_in ids.now (node_view node.now) }
@@ -103,7 +104,7 @@ fn registers_in(ids: &IdTable, node: &RawNode) -> Regs
     Regs { p, m: node.m }
 }
 
-/// Each node's owners.
+/// Each node's owners, by rank.
 pub(crate) fn owners(
     alloc: Global,
     ids: &IdTable,
@@ -140,7 +141,7 @@ fn owners_with(
     }
 }
 
-/// The students with these names, in order.
+/// The students with the names in `names`, in order.
 fn owners_in(
     alloc: Global,
     students: &IndexMap<String, String>,
@@ -158,7 +159,7 @@ fn owners_in(
     Ok(found)
 }
 
-/// The student with a name, and the first one where none has it.
+/// The student with a name; the first one where none has it, which a checked file rules out.
 fn student_named(students: &IndexMap<String, String>, name: &str) -> Student
     requires { length students.now.entries ≤ MAX_STUDENTS }
     ensures { result ≡ place_of (map entry_account students.now.entries) name.now }

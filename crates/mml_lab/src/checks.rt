@@ -9,7 +9,7 @@ ghost use Rattle.mml_lab.specs.Shape.{is_lab_memory};
 ghost use Rattle.mml_lab.specs.Faults.{id_fault_as};
 ghost use Rattle.mml_lab.specs.inside.Raw.{account_view, node_view, entry_account, raw_view};
 ghost use Rattle.mml_lab.specs.Rosters.{has_name};
-ghost use Rattle.mml_lab.specs.Labs.{number_of, file_ids, joins, is_linked, lacks_owner, are_one_twice, points_astray, is_within, both_fault, ids_fault};
+ghost use Rattle.mml_lab.specs.Labs.{number_of, file_ids, joins, is_linked, lacks_owner, are_one_twice, points_at_unlinked, is_within, both_fault, ids_fault};
 ghost use Rattle.mml_lab.specs.Labs.{forms_fault, no_owner_fault, owner_twice_fault, pointers_fault, unless, identified, enrolled, owned, limited, lab_from};
 ghost use Rattle.mml_lab.specs.inside.ChecksView.{checked_view, found_view};
 
@@ -42,7 +42,7 @@ pub struct Checked {
     pub sessions: u8,
 }
 
-/// Goes through the errors in the order of `LabFault`.
+/// The first error of what a file spells, in the order of `LabFault`, or else what is known of the file.
 pub(crate) fn check(alloc: Global, raw: RawLab) -> Result<Checked, LabFault>
     ensures { Gives is_lab_memory checked_view result (lab_from (raw_view raw)) }
 {
@@ -59,7 +59,7 @@ pub(crate) fn check(alloc: Global, raw: RawLab) -> Result<Checked, LabFault>
         neighbours,
         events,
         sessions,
-    } = gather(alloc, &teacher, students, &nodes, &links, bounds)?;
+    } = check_parts(alloc, &teacher, students, &nodes, &links, bounds)?;
     Ok(Checked {
         ids,
         teacher,
@@ -81,9 +81,10 @@ struct Found {
     sessions: u8,
 }
 
-/// Goes through the errors with the parts of a file. Its teacher and its nodes stay with the caller.
+/// The first error of a file that is given in parts, or else what was made of them while they were checked. The
+/// teacher and the nodes are lent, and stay with the caller.
 #[tactic(auto, unfolding(crate::specs::Labs::lab_from, crate::specs::Labs::checked))]
-fn gather(
+fn check_parts(
     alloc: Global,
     teacher: &Account,
     students: Vec<Account>,
@@ -115,7 +116,8 @@ fn gather(
     })
 }
 
-/// The table of the identifiers, if no node has both keys of its owners.
+/// The table of the nodes' identifiers; or the error of the first node with both keys of its owners, `owner` and
+/// `owners`, else that of the identifiers.
 #[tactic(auto, unfolding(crate::specs::Labs::identified))]
 fn identify(alloc: Global, nodes: &[RawNode]) -> Result<IdTable, LabFault>
     ensures tests { Gives is_lab_memory (λ _. tt {0}) result (identified (map node_view nodes.now)) }
@@ -125,7 +127,8 @@ fn identify(alloc: Global, nodes: &[RawNode]) -> Result<IdTable, LabFault>
     id_table(alloc, nodes)
 }
 
-/// The students, if all names and keys are of their forms and each name stands once.
+/// The students' names and keys in the file's order; or the error of the first name or key, the teacher's too, that
+/// isn't of its form, else of the first name that stands twice.
 #[tactic(auto, unfolding(crate::specs::Labs::enrolled))]
 fn enrol(
     alloc: Global,
@@ -158,7 +161,7 @@ fn count(students: &IndexMap<String, String>) -> usize
     students.len()
 }
 
-/// Ends where there is an error.
+/// `Err` with the error, where there is one, at which `?` ends the caller; else `Ok(())`.
 pub(crate) fn unless(fault: Option<LabFault>) -> Result<(), LabFault>
     ensures { Gives is_lab_memory (λ u. u) result (unless fault) }
 {
@@ -168,7 +171,7 @@ pub(crate) fn unless(fault: Option<LabFault>) -> Result<(), LabFault>
     }
 }
 
-/// The error of the first node with both keys of its owners, `owner` and `owners`.
+/// The error of the first node with both keys of its owners, `owner` and `owners`; `None` where no node has both.
 #[tactic(auto, unfolding(crate::specs::Labs::both_fault))]
 fn both_fault(nodes: &[RawNode]) -> Option<LabFault>
     ensures { result ≡ both_fault (map node_view nodes.now) }
@@ -179,14 +182,14 @@ fn both_fault(nodes: &[RawNode]) -> Option<LabFault>
     }
 }
 
-/// The index of the first node with both keys of its owners.
+/// The index of the first node with both keys of its owners, `owner` and `owners`; `None` where no node has both.
 fn first_with_both(nodes: &[RawNode]) -> Option<usize>
     ensures { result ≡ position (λ node. node.both) nodes.now }
 {
     nodes.iter().position(|node| node.both)
 }
 
-/// The nodes' identifiers.
+/// The table of the nodes' identifiers, or the error that keeps them from being one.
 fn id_table(alloc: Global, nodes: &[RawNode]) -> Result<IdTable, LabFault>
     ensures tests { Gives is_lab_memory (λ _. tt {0}) result
         (unless (ids_fault (map node_view nodes.now))) }
@@ -199,7 +202,7 @@ fn id_table(alloc: Global, nodes: &[RawNode]) -> Result<IdTable, LabFault>
     }
 }
 
-/// An error of identifiers among those of a lab. Out of memory is none of the identifiers.
+/// The error of a lab that an error of identifiers is: out of memory is `LabFault::Memory`, each other one an `Id`.
 fn fault_of_ids(fault: IdFault) -> LabFault
     ensures { result ≡ id_fault_as fault }
 {
@@ -209,14 +212,15 @@ fn fault_of_ids(fault: IdFault) -> LabFault
     }
 }
 
-/// The nodes' identifiers, in the file's order.
+/// The nodes' identifiers, in the file's order; a negative one counts as 0.
 fn file_ids(alloc: Global, nodes: &[RawNode]) -> Result<Vec<u64>, AllocError>
     ensures { IfOk result (λ ids. ids.items ≡ map (λ node. number_of node.id) nodes.now) }
 {
     nodes.iter().map(|node| number_of(node.id)).collect(alloc)
 }
 
-/// The error of the first name or key that isn't of its form.
+/// The error of the first name or key, the teacher's before the students', that isn't of its form; `None` where each
+/// is.
 #[tactic(auto, unfolding(crate::specs::Labs::forms_fault))]
 fn forms_fault(teacher: &Account, students: &[Account]) -> Option<LabFault>
     ensures { result ≡ forms_fault (account_view teacher.now ∷ map account_view students.now) }
@@ -227,7 +231,7 @@ fn forms_fault(teacher: &Account, students: &[Account]) -> Option<LabFault>
     }
 }
 
-/// The error of the first node with an owner who is no student.
+/// The error of the first node with an owner who is no student; `None` where each owner is one.
 #[tactic(auto, unfolding(crate::specs::Labs::no_owner_fault))]
 fn no_owner_fault(students: &IndexMap<String, String>, nodes: &[RawNode]) -> Option<LabFault>
     ensures { result ≡
@@ -239,7 +243,7 @@ fn no_owner_fault(students: &IndexMap<String, String>, nodes: &[RawNode]) -> Opt
     }
 }
 
-/// The error of the first node whose two owners are one student.
+/// The error of the first node whose two owners are one student; `None` where there is no such node.
 #[tactic(auto, unfolding(crate::specs::Labs::owner_twice_fault))]
 fn owner_twice_fault(nodes: &[RawNode]) -> Option<LabFault>
     ensures { result ≡ owner_twice_fault (map node_view nodes.now) }
@@ -250,7 +254,7 @@ fn owner_twice_fault(nodes: &[RawNode]) -> Option<LabFault>
     }
 }
 
-/// The index of the first node with an owner who is no student.
+/// The index of the first node with an owner who is no student; `None` where each owner is one.
 fn first_without_owner(students: &IndexMap<String, String>, nodes: &[RawNode]) -> Option<usize>
     ensures { result ≡ position
         (λ node. lacks_owner (map entry_account students.now.entries) (node_view node)) nodes.now }
@@ -258,44 +262,44 @@ fn first_without_owner(students: &IndexMap<String, String>, nodes: &[RawNode]) -
     nodes.iter().position(|node| lacks_owner(students, node))
 }
 
-/// Whether one of a node's owners is no student.
+/// Whether some owner of a node is no student.
 fn lacks_owner(students: &IndexMap<String, String>, node: &RawNode) -> bool
     ensures { result ≡ lacks_owner (map entry_account students.now.entries) (node_view node.now) }
 {
     lacks_student(students, &node.owners)
 }
 
-/// Whether one of the names is no student's.
+/// Whether some of the names is no student's.
 fn lacks_student(students: &IndexMap<String, String>, names: &[String]) -> bool
     ensures { result ≡ list_any (λ name. not (list_any (has_name (string_bytes name))
         (map entry_account students.now.entries))) names.now }
 {
-    names.iter().any(|name| !is_student(students, name))
+    names.iter().any(|name| !is_students_name(students, name))
 }
 
 /// Whether the name is a student's.
-fn is_student(students: &IndexMap<String, String>, name: &String) -> bool
+fn is_students_name(students: &IndexMap<String, String>, name: &String) -> bool
     ensures { result ≡ list_any (has_name (string_bytes name.now))
         (map entry_account students.now.entries) }
 {
     students.contains_key(name.as_str())
 }
 
-/// The index of the first node whose two owners are one student.
+/// The index of the first node whose two owners are one student; `None` where there is no such node.
 fn first_with_owner_twice(nodes: &[RawNode]) -> Option<usize>
     ensures { result ≡ position (λ node. are_one_twice (node_view node).owners) nodes.now }
 {
     nodes.iter().position(|node| are_one_twice(&node.owners))
 }
 
-/// Whether these are two names, and the same.
+/// Whether `names` are two, and the same name.
 fn are_one_twice(names: &[String]) -> bool
     ensures { result ≡ are_one_twice (map string_bytes names.now) }
 {
     names.len() == 2 && names[0] == names[1]
 }
 
-/// The number, if it is from 1 to the greatest.
+/// The number, if it is from 1 to `greatest`; else the error that what stands under `key` is out of its range.
 fn within(greatest: u64, number: i64, key: Key) -> Result<u64, LabFault>
     ensures test { Gives is_lab_memory (λ _. tt {0}) result
         (need (is_within greatest number) (Limit key)) }
@@ -310,7 +314,8 @@ fn within(greatest: u64, number: i64, key: Key) -> Result<u64, LabFault>
     }
 }
 
-/// The numbers of events and sessions, if they and that of the students are within their limits.
+/// The numbers of events (first) and sessions (second), if they and that of the students are within their limits; else
+/// the error of the first of the three that isn't.
 #[tactic(auto, unfolding(crate::specs::Labs::limited))]
 fn limits(bounds: Bounds, students: usize) -> Result<(u64, u8), LabFault>
     ensures tests { Gives is_lab_memory (λ _. tt {0}) result
@@ -327,27 +332,29 @@ fn limits(bounds: Bounds, students: usize) -> Result<(u64, u8), LabFault>
     }
 }
 
-/// The error of the first node that points at one that isn't its neighbour.
+/// The error of the first node that points at one that it isn't linked to; `None` where there is no such node.
 #[tactic(auto, unfolding(crate::specs::Labs::pointers_fault))]
 fn pointers_fault(links: &[(i64, i64)], nodes: &[RawNode]) -> Option<LabFault>
     ensures { result ≡ pointers_fault links.now (map node_view nodes.now) }
 {
-    match first_astray(links, nodes) {
+    match first_at_unlinked(links, nodes) {
         Some(index) => Some(LabFault::BadPointer(index)),
         None => None,
     }
 }
 
-/// The index of the first node that points at one that it isn't linked to.
-fn first_astray(links: &[(i64, i64)], nodes: &[RawNode]) -> Option<usize>
-    ensures { result ≡ position (λ node. points_astray links.now (node_view node)) nodes.now }
+/// The index of the first node that points at one that it isn't linked to; `None` where there is no such node.
+fn first_at_unlinked(links: &[(i64, i64)], nodes: &[RawNode]) -> Option<usize>
+    ensures { result ≡ position (λ node. points_at_unlinked links.now (node_view node)) nodes.now }
 {
-    nodes.iter().position(|node| points_astray(links, node))
+    nodes
+        .iter()
+        .position(|node| points_at_unlinked(links, node))
 }
 
-/// Whether the node points at one that it isn't linked to.
-fn points_astray(links: &[(i64, i64)], node: &RawNode) -> bool
-    ensures { result ≡ points_astray links.now (node_view node.now) }
+/// Whether the node points, and at one that it isn't linked to.
+fn points_at_unlinked(links: &[(i64, i64)], node: &RawNode) -> bool
+    ensures { result ≡ points_at_unlinked links.now (node_view node.now) }
 {
     match node.p {
         Some(p) => !is_linked(links, node.id, p),
@@ -355,21 +362,21 @@ fn points_astray(links: &[(i64, i64)], node: &RawNode) -> bool
     }
 }
 
-/// Whether some link joins the nodes with these identifiers.
+/// Whether some link joins the nodes with the identifiers `a` and `b`, in either order.
 fn is_linked(links: &[(i64, i64)], a: i64, b: i64) -> bool
     ensures { result ≡ is_linked links.now a b }
 {
     links.iter().any(|link| joins(a, b, *link))
 }
 
-/// Whether a link has these two ends, in either order.
+/// Whether a link has the ends `a` and `b`, in either order.
 fn joins(a: i64, b: i64, link: (i64, i64)) -> bool
     ensures { result ≡ joins a b link }
 {
     has_ends(link, a, b) || has_ends(link, b, a)
 }
 
-/// Whether a link has this first end and this second one.
+/// Whether the first end of a link is `first`, and the second one `second`.
 fn has_ends(link: (i64, i64), first: i64, second: i64) -> bool
     ensures { result ≡ (int_eq link.0 first && int_eq link.1 second) }
 {

@@ -36,7 +36,7 @@ impl Model for Lab {
 }
 
 impl Lab {
-    /// The lab of these parts, which fit one another.
+    /// The lab of its identifiers, roster, first network and limits of events and sessions, which fit one another.
     pub(crate) fn new(
         ids: IdTable,
         roster: Roster,
@@ -112,7 +112,7 @@ impl Lab {
         self.events
     }
 
-    /// How many connections there may be.
+    /// How many connections there may be at once, at most.
     pub fn sessions(&self) -> u8
         ensures { result ≡ self.now.sessions }
     {
@@ -154,7 +154,7 @@ pub fn link_count(network: &Network) -> u64
     count
 }
 
-/// How many of the nodes below this one are linked to it.
+/// How many of the nodes with ranks below that of `node` are linked to it.
 fn links_below(network: &Network, node: Rank) -> u64
     ensures count { result ≡ count_below node ((configuration_of network.now).linked node) }
     ensures few { result ≤ node }

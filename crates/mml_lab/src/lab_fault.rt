@@ -71,6 +71,7 @@ pub enum LabFault {
 impl From<AllocError> for LabFault {
     ghost from_gives = { λ _ e. e ≡ Memory };
 
+    /// Lets `?` turn a growth that was refused into `LabFault::Memory`.
     fn from(_e: AllocError) -> LabFault {
         LabFault::Memory
     }
@@ -79,6 +80,7 @@ impl From<AllocError> for LabFault {
 impl<T: Drop> From<AllocFailed<T>> for LabFault {
     ghost from_gives = { λ _ e. e ≡ Memory };
 
+    /// Lets `?` turn a growth that was refused into `LabFault::Memory`; the value that was to be kept is dropped.
     fn from(_e: AllocFailed<T>) -> LabFault {
         LabFault::Memory
     }

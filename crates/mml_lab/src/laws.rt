@@ -60,7 +60,8 @@ pub fn links_join_two_nodes()
         ¬ Joins again.0 again.1 link }
 {}
 
-/// The error of a link that stands twice comes exactly where there is one, and tells the first.
+/// Where each link joins two nodes that differ, the error of a link that stands twice comes exactly where there is one,
+/// and tells the first.
 pub fn link_twice_is_the_first()
     ensures fault { (raw : RawSpec) (k : ℕ) →
         (linked raw.nodes raw.links ≡ Err (fault.LinkTwice k))
@@ -126,8 +127,8 @@ pub fn labs_have_owners()
         slice_index (owners_of lab.roster i) j ≢ slice_index (owners_of lab.roster i) k }
 {}
 
-/// Names have 1 to 32 bytes, keys 1 to 64; a lab has 1 to 100000 events, 1 to 16 sessions and at most
-/// 256 students, and a node at most two owners.
+/// The constants of the limits: a name has at most 32 bytes, a key 64; a lab has at most 100000 events, 16 sessions and
+/// 256 students, and a node two owners.
 pub fn labs_have_limits()
     ensures name { MAX_NAME ≡ 32 }
     ensures key { MAX_KEY ≡ 64 }
@@ -148,7 +149,7 @@ pub fn labs_are_those_of_files()
         (lab_of bytes ≡ Ok lab) ↔ ((raw : RawSpec) × IsLabOfFile bytes raw lab) }
 {}
 
-/// No bytes spell out of memory, told as such or of identifiers, and it is no error of a file.
+/// Out of memory is no error of a file or of bytes, neither as `Memory` nor as an error of identifiers.
 pub fn want_of_memory_is_no_fault()
     ensures identifiers { (raw : RawSpec) → lab_fault raw ≢ Some (fault.Id id.Memory) }
     ensures file { (raw : RawSpec) → lab_fault raw ≢ Some fault.Memory }

@@ -19,7 +19,8 @@ use crate::raw_lab::RawNode;
 use mml_ids::{IdTable, NodeSet, Rank};
 use std::alloc::Global;
 
-/// For each node the nodes that a link joins to it, if the links are right.
+/// For each node by rank the set of its neighbours; or the first error of the links: an end that is no node, then a
+/// loop, then a link that stands twice.
 #[tactic(auto, unfolding(crate::specs::Labs::linked))]
 pub(crate) fn neighbours(
     alloc: Global,
@@ -38,7 +39,7 @@ pub(crate) fn neighbours(
     rows(alloc, ids, links)
 }
 
-/// The error of the first link with an end that is no node.
+/// The error of the first link with an end that is no node; `None` where each end is one.
 #[tactic(auto, unfolding(crate::specs::Labs::ends_fault))]
 fn ends_fault(nodes: &[RawNode], links: &[(i64, i64)]) -> Option<LabFault>
     ensures { result ≡ ends_fault (map node_view nodes.now) links.now }
@@ -49,14 +50,14 @@ fn ends_fault(nodes: &[RawNode], links: &[(i64, i64)]) -> Option<LabFault>
     }
 }
 
-/// The index of the first link with an end that is no node.
+/// The index of the first link with an end that is no node; `None` where each end is one.
 fn first_without_end(nodes: &[RawNode], links: &[(i64, i64)]) -> Option<usize>
     ensures { result ≡ position (lacks_end (map node_view nodes.now)) links.now }
 {
     links.iter().position(|link| lacks_end(nodes, *link))
 }
 
-/// Whether one end of a link is no node.
+/// Whether the first end of a link, or the second, is no node.
 fn lacks_end(nodes: &[RawNode], link: (i64, i64)) -> bool
     ensures { result ≡ lacks_end (map node_view nodes.now) link }
 {
@@ -71,14 +72,14 @@ fn is_node(nodes: &[RawNode], id: i64) -> bool
     has_id(nodes, id)
 }
 
-/// Whether one of the nodes has this identifier.
+/// Whether one of the nodes has the identifier `id`.
 fn has_id(nodes: &[RawNode], id: i64) -> bool
     ensures { result ≡ list_any (λ node. int_eq node.id id) nodes.now }
 {
     nodes.iter().any(|node| node.id == id)
 }
 
-/// The error of the first link whose ends are one node.
+/// The error of the first link whose ends are one node; `None` where there is no such link.
 #[tactic(auto, unfolding(crate::specs::Labs::loops_fault))]
 fn loops_fault(links: &[(i64, i64)]) -> Option<LabFault>
     ensures { result ≡ loops_fault links.now }
@@ -89,7 +90,7 @@ fn loops_fault(links: &[(i64, i64)]) -> Option<LabFault>
     }
 }
 
-/// The index of the first link whose ends are one node.
+/// The index of the first link whose ends are one node; `None` where there is no such link.
 fn first_loop(links: &[(i64, i64)]) -> Option<usize>
     ensures { result ≡ position is_loop links.now }
 {
@@ -103,7 +104,8 @@ fn is_loop(link: (i64, i64)) -> bool
     link.0 == link.1
 }
 
-/// The rows of neighbours, or the first link whose ends, in either order, are those of one before it.
+/// For each node by rank the set of its neighbours; or the error of the first link whose ends, in either order, are
+/// those of a link before it.
 fn rows(alloc: Global, ids: &IdTable, links: &[(i64, i64)]) -> Result<Vec<NodeSet>, LabFault>
     requires { position (lacks_rank ids.now) links.now ≡ None }
     ensures tests { Gives is_lab_memory (λ _. tt {0}) result (unless (again_fault links.now)) }
@@ -121,7 +123,7 @@ fn rows(alloc: Global, ids: &IdTable, links: &[(i64, i64)]) -> Result<Vec<NodeSe
     Ok(rows)
 }
 
-/// Whether both are nodes, and neighbours.
+/// Whether `a` and `b` are both nodes, and neighbours in `rows`; `None` is no node.
 #[tactic(auto, unfolding(crate::specs::inside::Checks::are_near))]
 fn are_near(rows: &[NodeSet], a: Option<Rank>, b: Option<Rank>) -> bool
     requires { ForSome a (λ rank. rank < length rows.now) }
@@ -142,7 +144,7 @@ pub(crate) fn rank_at(ids: &IdTable, id: i64) -> Option<Rank>
     ids.rank_of(number_of(id))
 }
 
-/// Makes two nodes neighbours, if both are nodes.
+/// Makes `a` and `b` neighbours in `rows`; nothing where one of them is `None`, and so no node.
 fn join(rows: &mut [NodeSet], a: Option<Rank>, b: Option<Rank>)
     requires a { ForSome a (λ rank. rank < length rows.old) }
     requires b { ForSome b (λ rank. rank < length rows.old) }
@@ -158,7 +160,7 @@ fn join(rows: &mut [NodeSet], a: Option<Rank>, b: Option<Rank>)
     }
 }
 
-/// Puts a node into the set of another.
+/// Puts `neighbour` among the neighbours of `node`.
 fn insert(rows: &mut [NodeSet], node: Rank, neighbour: Rank)
     requires { node < length rows.old }
     ensures { (i q : ℕ) → set.contains (neighbours_at rows.new i) q

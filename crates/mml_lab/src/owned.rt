@@ -12,7 +12,7 @@ use crate::who::Student;
 use mml_ids::{NodeSet, Rank};
 use std::alloc::Global;
 
-/// A row for each student, and an empty one past them: of the ranks of the nodes that it owns.
+/// For each student the set of the nodes that the student owns, and an empty set past the last student.
 pub(crate) fn owned_by_each(
     alloc: Global,
     students: usize,

@@ -2,7 +2,7 @@ ghost use Rattle.std.specs.Prelude.{◌≡◌, map, string_bytes, codes, Some, N
 ghost use Rattle.mml_ids.specs.Gives.{Gives};
 ghost use Rattle.toml.specs.Data.{as_str, as_integer, as_bool, as_table, as_array, get_member};
 ghost use Rattle.toml.specs.View.{view, table_view, array_view};
-ghost use Rattle.mml_lab.specs.Shape.{is_lab_memory, need, needed, of_kind, optional_of, optional, names_of, owner_names, each, account_in, student_of};
+ghost use Rattle.mml_lab.specs.Shape.{is_lab_memory, value_under, needed, of_kind, optional_of, optional, names_of, owner_names, each, account_in, student_of};
 ghost use Rattle.mml_lab.specs.Shape.{node_of, link_of, links_of, teacher_of, raw_of, two_of, spelled};
 ghost use Rattle.mml_lab.specs.inside.Raw.{account_view, node_view, raw_view};
 
@@ -48,7 +48,7 @@ pub struct RawLab {
     pub links: Vec<(i64, i64)>,
 }
 
-/// What stands under a key of a table, if it has the key.
+/// What stands under the key `name` of a table; `None` where the table doesn't have it.
 fn find<'a>(table: &'a Table, name: &str) -> Option<&'a Value>
     ensures { option_map (λ v. view v.now) result ≡ get_member name.now (table_view table.now) }
 {
@@ -57,7 +57,7 @@ fn find<'a>(table: &'a Table, name: &str) -> Option<&'a Value>
 
 /// What stands under a key of a table, or the error that the key isn't there.
 fn value_at<'a>(table: &'a Table, name: &str, key: Key) -> Result<&'a Value, LabFault>
-    ensures { Gives is_lab_memory (λ v. view v.now) result (need key name.now (table_view table.now)) }
+    ensures { Gives is_lab_memory (λ v. view v.now) result (value_under key name.now (table_view table.now)) }
 {
     match find(table, name) {
         Some(value) => Ok(value),
@@ -115,7 +115,7 @@ fn array_of(value: &Value, key: Key) -> Result<&Array, LabFault>
     }
 }
 
-/// The integer under a key that has to be there.
+/// The integer under a key that has to be there; else the error that the key is missing, or of another kind.
 fn integer_at(table: &Table, name: &str, key: Key) -> Result<i64, LabFault>
     ensures { Gives is_lab_memory (λ z. z) result
         (needed key name.now as_integer (table_view table.now)) }
@@ -123,7 +123,7 @@ fn integer_at(table: &Table, name: &str, key: Key) -> Result<i64, LabFault>
     integer(value_at(table, name, key)?, key)
 }
 
-/// The string under a key that has to be there.
+/// The string under a key that has to be there; else the error that the key is missing, or of another kind.
 fn text_at(alloc: Global, table: &Table, name: &str, key: Key) -> Result<String, LabFault>
     ensures { Gives is_lab_memory string_bytes result
         (needed key name.now as_str (table_view table.now)) }
@@ -131,7 +131,7 @@ fn text_at(alloc: Global, table: &Table, name: &str, key: Key) -> Result<String,
     text(alloc, value_at(table, name, key)?, key)
 }
 
-/// The table under a key that has to be there.
+/// The table under a key that has to be there; else the error that the key is missing, or of another kind.
 fn table_at<'a>(table: &'a Table, name: &str, key: Key) -> Result<&'a Table, LabFault>
     ensures { Gives is_lab_memory (λ t. table_view t.now) result
         (needed key name.now as_table (table_view table.now)) }
@@ -139,7 +139,7 @@ fn table_at<'a>(table: &'a Table, name: &str, key: Key) -> Result<&'a Table, Lab
     table_of(value_at(table, name, key)?, key)
 }
 
-/// The array under a key that has to be there.
+/// The array under a key that has to be there; else the error that the key is missing, or of another kind.
 fn array_at<'a>(table: &'a Table, name: &str, key: Key) -> Result<&'a Array, LabFault>
     ensures { Gives is_lab_memory (λ t. array_view t.now) result
         (needed key name.now as_array (table_view table.now)) }
@@ -147,7 +147,7 @@ fn array_at<'a>(table: &'a Table, name: &str, key: Key) -> Result<&'a Array, Lab
     array_of(value_at(table, name, key)?, key)
 }
 
-/// The strings under `name` and `key` of a table, with the keys that its errors name.
+/// The strings under `name` and `key` of a table. An error of the first names `name_key`, one of the second `key_key`.
 #[tactic(auto, unfolding(crate::specs::Shape::account_in))]
 fn account_at(
     alloc: Global,
@@ -163,7 +163,7 @@ fn account_at(
     Ok(Account { name, key })
 }
 
-/// The name and key of an element of `student`.
+/// The name and key of an element of `student`, or the first error of the element.
 #[tactic(auto, unfolding(crate::specs::Shape::student_of))]
 fn student(alloc: Global, value: &Value) -> Result<Account, LabFault>
     ensures { Gives is_lab_memory account_view result (student_of (view value.now)) }
@@ -172,7 +172,7 @@ fn student(alloc: Global, value: &Value) -> Result<Account, LabFault>
     account_at(alloc, table, Key::StudentName, Key::StudentKey)
 }
 
-/// The names and keys of the elements of `student`, in order.
+/// The names and keys of the elements of `student`, in order, or the first error of one.
 fn students(alloc: Global, list: &Array) -> Result<Vec<Account>, LabFault>
     ensures { Gives is_lab_memory (λ v. map account_view v.items) result
         (each student_of (array_view list.now)) }
@@ -184,7 +184,7 @@ fn students(alloc: Global, list: &Array) -> Result<Vec<Account>, LabFault>
     Ok(found)
 }
 
-/// The integer under a key that may be left out.
+/// The integer under a key, `None` where the key is left out; or the error that it is of another kind.
 fn optional_integer(table: &Table, name: &str, key: Key) -> Result<Option<i64>, LabFault>
     ensures { Gives is_lab_memory (λ z. z) result
         (optional_of key as_integer (get_member name.now (table_view table.now))) }
@@ -195,7 +195,7 @@ fn optional_integer(table: &Table, name: &str, key: Key) -> Result<Option<i64>, 
     }
 }
 
-/// The truth value under a key that may be left out.
+/// The truth value under a key, `None` where the key is left out; or the error that it is of another kind.
 fn optional_boolean(table: &Table, name: &str, key: Key) -> Result<Option<bool>, LabFault>
     ensures { Gives is_lab_memory (λ z. z) result
         (optional_of key as_bool (get_member name.now (table_view table.now))) }
@@ -206,7 +206,7 @@ fn optional_boolean(table: &Table, name: &str, key: Key) -> Result<Option<bool>,
     }
 }
 
-/// The string under a key that may be left out.
+/// The string under a key, `None` where the key is left out; or the error that it is of another kind.
 fn optional_text(
     alloc: Global,
     table: &Table,
@@ -222,7 +222,7 @@ fn optional_text(
     }
 }
 
-/// The strings of an array, in order.
+/// The strings of an array, in order; or the error that an element is of another kind.
 fn texts(alloc: Global, list: &Array, key: Key) -> Result<Vec<String>, LabFault>
     ensures { Gives is_lab_memory (λ v. map string_bytes v.items) result
         (each (of_kind key as_str) (array_view list.now)) }
@@ -234,7 +234,7 @@ fn texts(alloc: Global, list: &Array, key: Key) -> Result<Vec<String>, LabFault>
     Ok(found)
 }
 
-/// The names under `owners`: one or two.
+/// The names that stand under `owners`: one or two strings, else the error that the key is of another kind.
 #[tactic(auto, unfolding(crate::specs::Shape::names_of))]
 fn names(alloc: Global, value: &Value) -> Result<Vec<String>, LabFault>
     ensures { Gives is_lab_memory (λ v. map string_bytes v.items) result (names_of (view value.now)) }
@@ -246,7 +246,7 @@ fn names(alloc: Global, value: &Value) -> Result<Vec<String>, LabFault>
     Ok(names)
 }
 
-/// The names under `owners`, where the key is there.
+/// The names under `owners`, `None` where the key is left out; or the error that it is of another kind.
 fn optional_names(alloc: Global, table: &Table) -> Result<Option<Vec<String>>, LabFault>
     ensures { Gives is_lab_memory (option_map (λ v. map string_bytes v.items)) result
         (optional names_of (get_member (codes "owners") (table_view table.now))) }
@@ -280,7 +280,7 @@ fn owner_names(
     }
 }
 
-/// A node as an element of `node` spells it.
+/// A node as an element of `node` spells it, with m false where the key is left out; or the first error of the element.
 #[tactic(auto, unfolding(crate::specs::Shape::node_of))]
 fn node(alloc: Global, value: &Value) -> Result<RawNode, LabFault>
     ensures { Gives is_lab_memory node_view result (node_of (view value.now)) }
@@ -302,7 +302,7 @@ fn node(alloc: Global, value: &Value) -> Result<RawNode, LabFault>
     })
 }
 
-/// The nodes that the elements of `node` spell, in order.
+/// The nodes that the elements of `node` spell, in order, or the first error of one.
 fn nodes(alloc: Global, list: &Array) -> Result<Vec<RawNode>, LabFault>
     ensures { Gives is_lab_memory (λ v. map node_view v.items) result
         (each node_of (array_view list.now)) }
@@ -314,7 +314,7 @@ fn nodes(alloc: Global, list: &Array) -> Result<Vec<RawNode>, LabFault>
     Ok(found)
 }
 
-/// The two values of an array that has exactly two.
+/// The first and the second value of an array of exactly two; else the error that a link is of another kind.
 fn two_of(list: &Array) -> Result<(&Value, &Value), LabFault>
     ensures { Gives is_lab_memory (λ e. (view e.0.now, view e.1.now)) result
         (ok_or (two_of (array_view list.now)) (LabFault.WrongKind Key.Link)) }
@@ -327,9 +327,9 @@ fn two_of(list: &Array) -> Result<(&Value, &Value), LabFault>
     Ok((first, second))
 }
 
-/// The identifiers of the two ends of a link.
+/// The identifiers of the first and the second end of a link; or the error that it isn't an array of two integers.
 #[tactic(auto, unfolding(crate::specs::Shape::link_of))]
-fn link(value: &Value) -> Result<(i64, i64), LabFault>
+fn link_ends(value: &Value) -> Result<(i64, i64), LabFault>
     ensures { Gives is_lab_memory (λ e. e) result (link_of (view value.now)) }
 {
     let (a, b) = two_of(array_of(value, Key::Link)?)?;
@@ -338,18 +338,20 @@ fn link(value: &Value) -> Result<(i64, i64), LabFault>
     Ok((a, b))
 }
 
-/// The ends of the links that the elements of `links` spell, in order.
+/// Of each link that the elements of `links` spell, in order, the identifiers of its two ends; or the first error of
+/// one.
 fn links(alloc: Global, list: &Array) -> Result<Vec<(i64, i64)>, LabFault>
     ensures { Gives is_lab_memory (λ v. v.items) result (each link_of (array_view list.now)) }
 {
     let mut found = Vec::new(alloc);
     for value in list {
-        found.push(link(value)?)?;
+        found.push(link_ends(value)?)?;
     }
     Ok(found)
 }
 
-/// The links under `links`; none where the key is left out.
+/// The links under `links`, each by the identifiers of its two ends, none where the key is left out; or the first
+/// error.
 fn links_at(alloc: Global, table: &Table) -> Result<Vec<(i64, i64)>, LabFault>
     ensures { Gives is_lab_memory (λ v. v.items) result
         (links_of (get_member (codes "links") (table_view table.now))) }
@@ -360,7 +362,8 @@ fn links_at(alloc: Global, table: &Table) -> Result<Vec<(i64, i64)>, LabFault>
     }
 }
 
-/// The name and key under `teacher`.
+/// The name and key under `teacher`; or the error of the first key, `teacher` among them, that is missing or of another
+/// kind.
 #[tactic(auto, unfolding(crate::specs::Shape::teacher_of))]
 fn teacher_at(alloc: Global, table: &Table) -> Result<Account, LabFault>
     ensures { Gives is_lab_memory account_view result (teacher_of (table_view table.now)) }
@@ -389,7 +392,8 @@ pub fn read_raw(alloc: Global, table: &Table) -> Result<RawLab, LabFault>
     })
 }
 
-/// What the bytes of a lab file spell.
+/// What the bytes of a lab file spell, or the error that they are no TOML, or of the first key that is missing or of
+/// the wrong kind.
 #[tactic(auto, unfolding(crate::specs::Shape::spelled))]
 pub fn read_bytes(alloc: Global, bytes: &[u8]) -> Result<RawLab, LabFault>
     ensures { Gives is_lab_memory raw_view result (spelled bytes.now) }

@@ -48,7 +48,7 @@ impl Model for Roster {
 }
 
 impl Roster {
-    /// The students' names and keys in the file's order, and for each rank the owners of the node.
+    /// The roster of a teacher, of the students' names and keys in the file's order, and of each node's owners by rank.
     pub(crate) fn new(
         alloc: Global,
         teacher: Account,
@@ -79,7 +79,7 @@ impl Roster {
         self.students.len() as u64
     }
 
-    /// Who has that name and that key.
+    /// The one who takes part under that name and that key; `None` where there is no one.
     pub fn hello(&self, name: &str, key: &str) -> Option<Who>
         ensures value { result ≡ principal self.now name.now key.now }
         ensures member { IfSome result (IsPrincipal self.now) }
@@ -98,7 +98,8 @@ impl Roster {
         }
     }
 
-    /// The nodes that this one owns. It takes the same steps for each student, whatever is owned.
+    /// The nodes that `who` owns, none for the teacher or a student past the last. Each student takes the same steps,
+    /// whatever is owned.
     pub fn owned(&self, who: Who) -> NodeSet
         ensures { (i : ℕ) → set.contains result i ≡ owns self.now who i }
     {
@@ -110,7 +111,7 @@ impl Roster {
         }
     }
 
-    /// Whether this one owns the node.
+    /// Whether `who` owns the node; the teacher owns none.
     pub fn owns(&self, who: Who, node: Rank) -> bool
         ensures { result ≡ owns self.now who node }
     {
@@ -133,7 +134,7 @@ impl Roster {
         }
     }
 
-    /// The student with that name.
+    /// The student with the name `name`; `None` where there is no such one.
     pub fn student_named(&self, name: &str) -> Option<Student>
         ensures value { result ≡ student_named self.now name.now }
         ensures member { IfSome result (λ s. s < length self.now.students) }
@@ -156,8 +157,8 @@ fn are_both(name: &str, key: &str, known: &str, secret: &str) -> bool
     is_named & is_keyed
 }
 
-/// The place of the student with that name and key. Each student's name and key are compared, so
-/// that a student's name takes the steps of an unknown one of its length.
+/// The place of the student with that name and key, from 0 in the file's order; `None` where there is no such one. Each
+/// student's name and key are compared, so that a student's name takes the steps of an unknown one of its length.
 fn student_with(students: &IndexMap<String, String>, name: &str, key: &str) -> Option<usize>
     ensures value { result ≡
         position (has_name_and_key name.now key.now) (map entry_account students.now.entries) }
@@ -184,7 +185,7 @@ fn is_at(students: &IndexMap<String, String>, place: usize, name: &str, key: &st
     }
 }
 
-/// Whether a name is the teacher's or one of these students'.
+/// Whether a name is `teacher`, the teacher's, or that of one of `students`, the students read so far.
 fn is_taken(students: &IndexMap<String, String>, teacher: &str, name: &str) -> bool
     ensures { result ≡ (bytes_eq name.now teacher.now
         || is_some (lookup (λ k. bytes_eq name.now (string_bytes k)) students.now.entries)) }
@@ -192,7 +193,8 @@ fn is_taken(students: &IndexMap<String, String>, teacher: &str, name: &str) -> b
     name == teacher || students.contains_key(name)
 }
 
-/// The students' names and keys in the file's order, or the first name that stands twice.
+/// The students' names and keys in the file's order, or the error of the first name that stands twice, the teacher's
+/// being before the students'.
 pub(crate) fn students_map(
     alloc: Global,
     teacher: &Account,
@@ -207,7 +209,8 @@ pub(crate) fn students_map(
     Ok(found)
 }
 
-/// Puts the students' names and keys into an empty map, up to a name that stands twice.
+/// Puts the students' names and keys into an empty map, up to a name that the teacher or an earlier student has: the
+/// error then tells its index, counted from 1.
 fn fill(
     found: &mut IndexMap<String, String>,
     teacher: &Account,
@@ -228,7 +231,7 @@ fn fill(
     Ok(())
 }
 
-/// Puts a name that isn't there yet behind the others, with its key.
+/// Puts a name that the map doesn't have yet at its end, with its key.
 fn append(found: &mut IndexMap<String, String>, name: String, key: String) -> Result<(), LabFault>
     requires { get string_eq found.old name ≡ None }
     ensures entries { OnOk result (found.new.entries ≡ found.old.entries ++ (name, key) ∷ []) }

@@ -29,24 +29,24 @@ pub record IsAskedOfBoth (ids : List ℕ) (x : Who) (first second a b : ℕ) : T
   pub node_a : rank_in ids first ≡ Some a
   pub node_b : rank_in ids second ≡ Some b
 
--- no step is closed: by no student, and not where no move is chosen
+-- why a close is denied: a student asks; or the teacher, where no move is chosen
 abbrev pub DeniesClose : World → Who → Denial → Type 0
 DeniesClose w x denial.NotTeacher = x ≢ who.Teacher
 DeniesClose w x denial.Empty = (x ≡ who.Teacher) × ((i : ℕ) → chosen_at w.chosen i ≡ None)
 DeniesClose w x _ = ⊥
 
--- registers aren't set: by no student, of no node that isn't there, and not to what is neither null nor a neighbour
+-- why a fault is denied: a student asks; no node has the identifier; or p names neither null nor a neighbour of the node
 abbrev pub DeniesFault : List ℕ → World → Who → ℕ → Option ℕ → Denial → Type 0
 DeniesFault ids w x id p denial.NotTeacher = x ≢ who.Teacher
 DeniesFault ids w x id p denial.NoNode = (x ≡ who.Teacher) × (rank_in ids id ≡ None)
 DeniesFault ids w x id p denial.BadRegister = (i : ℕ) × IsAskedOf ids x id i × ((q : Option ℕ) → IsNamed ids p q → ¬ IsRegister w i q)
 DeniesFault ids w x id p _ = ⊥
 
--- an end isn't there
+-- the teacher asks, and an end of the link is no node
 abbrev pub LacksAnEnd : List ℕ → Who → ℕ → ℕ → Type 0
 LacksAnEnd ids x first second = (x ≡ who.Teacher) × ((rank_in ids first ≡ None) ⊎ (rank_in ids second ≡ None))
 
--- no link is made: by no student, with no end that isn't there, from no node to itself, and not where there is one
+-- why a link is denied: a student asks; an end is no node; both ends are one node; or they are linked already
 abbrev pub DeniesLink : List ℕ → World → Who → ℕ → ℕ → Denial → Type 0
 DeniesLink ids w x first second denial.NotTeacher = x ≢ who.Teacher
 DeniesLink ids w x first second denial.NoNode = LacksAnEnd ids x first second
@@ -55,7 +55,7 @@ DeniesLink ids w x first second denial.Linked =
     (a : ℕ) × (b : ℕ) × IsAskedOfBoth ids x first second a b × (a ≢ b) × ((configuration w).linked a b ≡ true)
 DeniesLink ids w x first second _ = ⊥
 
--- no link is removed: by no student, with no end that isn't there, and not where there is none
+-- why a cut is denied: a student asks; an end is no node; or the ends aren't linked
 abbrev pub DeniesCut : List ℕ → World → Who → ℕ → ℕ → Denial → Type 0
 DeniesCut ids w x first second denial.NotTeacher = x ≢ who.Teacher
 DeniesCut ids w x first second denial.NoNode = LacksAnEnd ids x first second
@@ -63,14 +63,14 @@ DeniesCut ids w x first second denial.NotLinked =
     (a : ℕ) × (b : ℕ) × IsAskedOfBoth ids x first second a b × ((configuration w).linked a b ≡ false)
 DeniesCut ids w x first second _ = ⊥
 
--- no move is dropped: by no student, of no node that isn't there, and not where none is chosen
+-- why a release is denied: a student asks; no node has the identifier; or the node has no chosen move
 abbrev pub DeniesRelease : List ℕ → World → Who → ℕ → Denial → Type 0
 DeniesRelease ids w x id denial.NotTeacher = x ≢ who.Teacher
 DeniesRelease ids w x id denial.NoNode = (x ≡ who.Teacher) × (rank_in ids id ≡ None)
 DeniesRelease ids w x id denial.NotChosen = (i : ℕ) × IsAskedOf ids x id i × (chosen_at w.chosen i ≡ None)
 DeniesRelease ids w x id _ = ⊥
 
--- nothing is reported to a student
+-- why a report is denied: a student asks
 abbrev pub DeniesReport : Who → Denial → Type 0
 DeniesReport x denial.NotTeacher = x ≢ who.Teacher
 DeniesReport x _ = ⊥

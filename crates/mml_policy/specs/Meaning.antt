@@ -71,7 +71,7 @@ pub record IsUnguarded (ids : List ℕ) (r : RosterValue) (w : World) (x : Who) 
   pub free : chosen_at w.chosen i ≡ None
   pub unfit : (q : Rule) → ¬ IsGuarded ids w i asked q
 
--- why a move is denied: the clauses before hold, and this one doesn't
+-- why a move is denied: the clause of the denial doesn't hold, and those that are tried earlier do
 abbrev pub DeniesMove : List ℕ → RosterValue → World → Who → ℕ → Asked → ℕ → Denial → Type 0
 DeniesMove ids r w x id asked at denial.NotOwner = (s i : ℕ) → ¬ IsOwner ids r x id s i
 DeniesMove ids r w x id asked at (denial.Stale n) = IsLate ids r w x id at n
@@ -79,11 +79,11 @@ DeniesMove ids r w x id asked at denial.Chosen = IsTaken ids r w x id at
 DeniesMove ids r w x id asked at denial.Guard = IsUnguarded ids r w x id asked at
 DeniesMove ids r w x id asked at _ = ⊥
 
--- the node with this identifier is visible
+-- there is a node with this identifier, and it is visible to x
 abbrev pub MaySee : List ℕ → RosterValue → World → Who → ℕ → Type 0
 MaySee ids r w x id = (i : ℕ) × (rank_in ids id ≡ Some i) × IsVisible r (configuration w) x i
 
--- the node with this identifier is an own node, or the teacher asks
+-- there is a node with this identifier, and x owns it or is the teacher
 abbrev pub MayLook : List ℕ → RosterValue → Who → ℕ → Type 0
 MayLook ids r x id = (i : ℕ) × (rank_in ids id ≡ Some i) × ((x ≡ who.Teacher) ⊎ (owns r x i ≡ true))
 
@@ -111,7 +111,7 @@ pub record MayClose (w : World) (e : Event) : Type 0 where
   pub chosen : chosen_at w.chosen i ≡ Some move
   pub granted : e ≡ event.Close
 
--- the register is null or a neighbour, and the node's registers are set
+-- there is a node with this identifier, p names null or a neighbour of it, and the event sets its registers to p and m
 pub record MayFault (ids : List ℕ) (w : World) (id : ℕ) (p : Option ℕ) (m : Bool) (e : Event) : Type 0 where
   pub i : ℕ
   pub q : Option ℕ
@@ -120,7 +120,7 @@ pub record MayFault (ids : List ℕ) (w : World) (id : ℕ) (p : Option ℕ) (m 
   pub register : IsRegister w i q
   pub granted : e ≡ event.Fault i (record { p = q; m = m })
 
--- two different nodes that aren't linked are linked
+-- first and second name two different nodes that aren't linked, and the event links them
 pub record MayLink (ids : List ℕ) (w : World) (first second : ℕ) (e : Event) : Type 0 where
   pub a : ℕ
   pub b : ℕ
@@ -130,7 +130,7 @@ pub record MayLink (ids : List ℕ) (w : World) (first second : ℕ) (e : Event)
   pub apart : (configuration w).linked a b ≡ false
   pub granted : e ≡ event.Link a b
 
--- two nodes that are linked are linked no longer
+-- first and second name two nodes that are linked, and the event cuts their link
 pub record MayCut (ids : List ℕ) (w : World) (first second : ℕ) (e : Event) : Type 0 where
   pub a : ℕ
   pub b : ℕ
@@ -139,7 +139,7 @@ pub record MayCut (ids : List ℕ) (w : World) (first second : ℕ) (e : Event) 
   pub linked : (configuration w).linked a b ≡ true
   pub granted : e ≡ event.Cut a b
 
--- the chosen move of a node is dropped
+-- the node with this identifier has a chosen move, and the event drops it
 pub record MayRelease (ids : List ℕ) (w : World) (id : ℕ) (e : Event) : Type 0 where
   pub i : ℕ
   pub move : Rule

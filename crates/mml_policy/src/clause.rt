@@ -2,21 +2,13 @@
 ghost use Rattle.std.specs.Prelude.{◌≡◌, ◌<◌, length, IfOk, IfSome};
 ghost use Rattle.mml_ids.specs.Ids.{rank_in};
 ghost use Rattle.mml_rules.specs.Rules.{IsWithin};
-ghost use Rattle.mml_policy.specs.Clauses.{node, rule_of, pointer};
+ghost use Rattle.mml_policy.specs.Clauses.{rule_of, pointer};
 
 use crate::command::Asked;
 use crate::denial::Denial;
 use mml_ids::{IdTable, Rank};
 use mml_lab::{Student, Who};
 use mml_rules::Rule;
-
-/// The node with this identifier; the denial where there is none.
-pub(crate) fn node(ids: &IdTable, id: u64, denial: Denial) -> Result<Rank, Denial>
-    ensures step { result ≡ node ids.now id denial }
-    ensures there { IfOk result (λ i. i < length ids.now) }
-{
-    ids.rank_of(id).ok_or(denial)
-}
 
 /// The node that is asked for, and who asks.
 #[derive(Clone, Copy)]
@@ -29,8 +21,9 @@ pub(crate) struct AskedNode {
     pub(crate) node: Rank,
 }
 
-/// The node that is asked for, and who asks. Where there is no such node others stand in, so that what is
-/// asked of them takes the steps that it takes of a node that isn't shown; what comes of it is thrown away.
+/// The node that is asked for, and who asks. Where there is no such node, another node and a student who owns
+/// nothing stand in, so that the same tests are made as for a node that isn't shown; the caller then denies, since
+/// `found` is `None`.
 pub(crate) fn asked_for(ids: &IdTable, who: Who, id: u64) -> AskedNode
     ensures found { result.found ≡ rank_in ids.now id }
     ensures asked { IfSome result.found (λ i. (result.who ≡ who) × (result.node ≡ i)) }
@@ -56,19 +49,19 @@ pub(crate) fn rule_of(ids: &IdTable, asked: Asked, denial: Denial) -> Result<Rul
 {
     match asked {
         Asked::Update => Ok(Rule::Update),
-        Asked::Marriage(id) => Ok(Rule::Marriage(node(ids, id, denial)?)),
+        Asked::Marriage(id) => Ok(Rule::Marriage(ids.rank_of(id).ok_or(denial)?)),
         Asked::Seduction => Ok(Rule::Seduction),
         Asked::Abandonment => Ok(Rule::Abandonment),
     }
 }
 
-/// The node that p names, or null; the denial where it names none.
+/// The node with the identifier `p`, or `None` where `p` is null; the denial where no node has that identifier.
 pub(crate) fn pointer(ids: &IdTable, p: Option<u64>, denial: Denial) -> Result<Option<Rank>, Denial>
     ensures step { result ≡ pointer ids.now p denial }
     ensures there { IfOk result (λ q. IfSome q (λ j. j < length ids.now)) }
 {
     match p {
         None => Ok(None),
-        Some(id) => Ok(Some(node(ids, id, denial)?)),
+        Some(id) => Ok(Some(ids.rank_of(id).ok_or(denial)?)),
     }
 }

@@ -35,7 +35,7 @@ pub enum Asked {
 }
 
 impl Command {
-    /// Whether it asks for an event, and not to be shown something.
+    /// Whether the command asks for an event, and not to be shown something.
     pub fn is_act(&self) -> bool
         ensures { result ≡ is_act self.now }
     {

@@ -39,7 +39,7 @@ pub enum Denial {
 }
 
 impl Denial {
-    /// The number of the clause in the order in which the clauses of its request are tried.
+    /// The number of the clause that doesn't hold, by the order in which the clauses of the denied request are tried.
     pub fn clause(self) -> u8
         ensures { result ≡ clause_of self }
     {

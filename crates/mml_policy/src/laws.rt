@@ -57,16 +57,16 @@ pub fn a_move_takes_four_facts()
         DeniesMove ids r w x id asked at d }
 {}
 
-/// A node's registers are shown exactly where there is such a node and it is visible to the one who
-/// asks.
+/// A see is shown its node exactly where some node has the identifier that it names, and that node is visible to the
+/// one who asks.
 pub fn a_see_takes_a_visible_node()
     ensures { (ids : List ℕ) (r : RosterValue) (w : World) (x : Who) (id : ℕ) →
         IsLawful (configuration w) →
         (verdict ids r w x (command.See id) ≡ verdicts.Show) ↔ MaySee ids r w x id }
 {}
 
-/// A see is answered exactly where there is such a node and it is visible to the one who asks, with
-/// that node's registers in the world at hand; else it is denied as hidden.
+/// A see is answered exactly where some node has the identifier that it names, and that node is visible to the one who
+/// asks, with the node's registers in the world `w`; else it is denied as hidden.
 pub fn a_see_shows_the_registers()
     ensures seen { (ids : List ℕ) (r : RosterValue) (limit : ℕ) (is_halted : Bool) (w : World)
         (x : Who) (id : ℕ) (s : See) → IsLawful (configuration w) →
@@ -78,7 +78,8 @@ pub fn a_see_shows_the_registers()
         ruling ids r limit is_halted w x (command.See id) ≡ Denied Hidden }
 {}
 
-/// A node is looked at exactly where there is such a node, by its owners and the teacher.
+/// A look is answered exactly where some node has the identifier that it names, and one of that node's owners or the
+/// teacher asks.
 pub fn a_look_takes_an_owner()
     ensures { (ids : List ℕ) (r : RosterValue) (w : World) (x : Who) (id : ℕ) →
         (verdict ids r w x (command.Look id) ≡ verdicts.Show) ↔ MayLook ids r x id }
@@ -91,36 +92,36 @@ pub fn a_look_shows_what_is_visible()
         (x ≡ who.Teacher) ⊎ (owns r x i ≡ true) → ShowsWhatIsVisible r w x (look_of w i) }
 {}
 
-/// A step is closed exactly by the teacher, where some move is chosen; else it is denied by the first of these
+/// A close is granted exactly where the teacher asks and some move is chosen; else it is denied by the first of the two
 /// that doesn't hold.
 pub fn a_close_takes_a_chosen_node()
     ensures { (ids : List ℕ) (r : RosterValue) (w : World) (x : Who) →
         IsDecided ids r w x command.Close (MayClose w) (DeniesClose w x) }
 {}
 
-/// The registers of a node are set exactly by the teacher, where there is such a node, to a pointer that is null
-/// or a neighbour; else it is denied by the first of these that doesn't hold.
+/// A fault is granted exactly where the teacher asks, some node has the identifier that it names, and the node's
+/// pointer is to be null or a neighbour; else it is denied by the first of the three that doesn't hold.
 pub fn a_fault_takes_a_neighbour()
     ensures { (ids : List ℕ) (r : RosterValue) (w : World) (x : Who) (id : ℕ) (p : Option ℕ) (m : Bool) →
         IsDecided ids r w x (command.Fault id p m) (MayFault ids w id p m) (DeniesFault ids w x id p) }
 {}
 
-/// A link is made exactly by the teacher, where there are both nodes, they differ and they aren't linked; else
-/// it is denied by the first of these that doesn't hold.
+/// A link is granted exactly where the teacher asks, both identifiers are those of nodes, these differ and they aren't
+/// linked; else it is denied by the first of the four that doesn't hold.
 pub fn a_link_takes_two_unlinked_nodes()
     ensures { (ids : List ℕ) (r : RosterValue) (w : World) (x : Who) (first second : ℕ) →
         IsDecided ids r w x (command.Link first second) (MayLink ids w first second) (DeniesLink ids w x first second) }
 {}
 
-/// A link is removed exactly by the teacher, where there are both nodes and they are linked; else it is denied
-/// by the first of these that doesn't hold.
+/// A cut is granted exactly where the teacher asks, both identifiers are those of nodes, and these are linked; else it
+/// is denied by the first of the three that doesn't hold.
 pub fn a_cut_takes_two_linked_nodes()
     ensures { (ids : List ℕ) (r : RosterValue) (w : World) (x : Who) (first second : ℕ) →
         IsDecided ids r w x (command.Cut first second) (MayCut ids w first second) (DeniesCut ids w x first second) }
 {}
 
-/// A chosen move is released exactly by the teacher, where there is such a node and it has one; else it is
-/// denied by the first of these that doesn't hold.
+/// A release is granted exactly where the teacher asks, some node has the identifier that it names, and the node has a
+/// chosen move; else it is denied by the first of the three that doesn't hold.
 pub fn a_release_takes_a_chosen_node()
     ensures { (ids : List ℕ) (r : RosterValue) (w : World) (x : Who) (id : ℕ) →
         IsDecided ids r w x (command.Release id) (MayRelease ids w id) (DeniesRelease ids w x id) }
@@ -191,7 +192,8 @@ pub fn events_that_take_place_are_legal()
         (is_legal r w e ≡ true) × (w.place < limit) × (is_halted ≡ false) }
 {}
 
-/// What comes of a command names nodes of the lab.
+/// The nodes that a ruling shows, those that they point at, and the nodes of what an event does are the lab's; of the
+/// set of nodes that a close moves nothing is said.
 pub fn rulings_name_nodes()
     ensures { (ids : List ℕ) (r : RosterValue) (limit : ℕ) (is_halted : Bool) (w : World) (x : Who)
         (c : Command) → IsWorldOf ids w → IsRuled ids (ruling ids r limit is_halted w x c) }
@@ -213,7 +215,8 @@ pub fn identifiers_are_names()
         IsEmptyElsewhere (slice_index ids) (configuration w) (with_identifiers ids (configuration w)) }
 {}
 
-/// To whom a node is visible is the same under names that keep the order, where each name has its node's owners.
+/// Under names that keep the order of the nodes a node is visible to the same people, where each name has its
+/// node's owners.
 pub fn visible_keeps_under_names()
     ensures { (f : ℕ → ℕ) (c d : Configuration) (r s : RosterValue) (x : Who) (i : ℕ) →
         IsRenamed f c d → ((j : ℕ) → j < c.size → owners_of s (f j) ≡ owners_of r j) →

@@ -21,7 +21,7 @@ pub struct Look {
     pub near: Items<(Rank, Regs)>,
 }
 
-/// A node as its owners see it.
+/// A node as its owners see it, with the nodes linked to it, for which memory is taken.
 pub fn look_of(alloc: Global, board: &Board, node: Rank) -> Result<Look, Memory>
     requires { node < length board.now.network.registers }
     ensures { IfOk result (λ look. look ≡ look_of board.now node) }
@@ -36,7 +36,7 @@ pub fn look_of(alloc: Global, board: &Board, node: Rank) -> Result<Look, Memory>
     })
 }
 
-/// The nodes linked to this one in rising order, each with its registers.
+/// The nodes linked to `node` in rising order, each with its registers.
 fn near(alloc: Global, board: &Board, node: Rank) -> Result<Vec<(Rank, Regs)>, Memory>
     requires { node < length board.now.network.registers }
     ensures { IfOk result (λ nodes. nodes.items ≡ near board.now node) }

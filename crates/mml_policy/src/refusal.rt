@@ -17,6 +17,7 @@ impl From<Memory> for Refusal {
 
     ghost from_gives = { λ _ e. e ≡ refusal.Memory };
 
+    /// Lets `?` turn memory that was refused into `Refusal::Memory`.
     fn from(_memory: Memory) -> Refusal {
         Refusal::Memory
     }

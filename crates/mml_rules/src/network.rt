@@ -30,7 +30,7 @@ impl Model for Network {
 }
 
 impl Network {
-    /// The network of these rows of neighbours and registers.
+    /// The network in which each node's neighbours are in `neighbours`, and its registers in `registers`, by its rank.
     pub fn of(neighbours: Vec<NodeSet>, registers: Vec<Regs>) -> Network
         requires { IsNetwork (record { neighbours = neighbours.items; registers = registers.items }) }
         ensures { result ≡ record { neighbours = neighbours.items; registers = registers.items } }
@@ -41,7 +41,7 @@ impl Network {
         }
     }
 
-    /// An equal network of its own.
+    /// A copy of the network, with rows of neighbours and registers of its own.
     pub fn try_copy(&self, alloc: Global) -> Result<Network, Memory>
         ensures { IfOk result (λ network. network ≡ self.now) }
     {
@@ -100,7 +100,7 @@ impl Network {
         link_one_way(&mut self.neighbours, b, a);
     }
 
-    /// Takes the link between two nodes away, and the pointers over it.
+    /// Takes the link between two nodes away, if there is one, and makes the pointers over it null.
     pub fn cut(&mut self, a: Rank, b: Rank)
         requires a { a < length self.old.registers }
         requires b { b < length self.old.registers }
@@ -131,7 +131,7 @@ fn cut_one_way(neighbours: &mut [NodeSet], a: Rank, b: Rank)
     neighbours[a.index() as usize] = row;
 }
 
-/// Null where the pointer of `a` was `b`.
+/// Makes the pointer of `a` null where it was `b`, and changes nothing else.
 fn unpoint(registers: &mut [Regs], a: Rank, b: Rank)
     requires { a < length registers.old }
     ensures { registers.new ≡ unpointed registers.old a b }

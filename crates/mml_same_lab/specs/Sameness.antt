@@ -6,20 +6,20 @@ use Rattle.mml_lab.specs.declared.who.Who.TheVariants as who
 use Rattle.mml_lab.specs.Rosters.{RosterValue, name_of, owns}
 use Rattle.mml_lab.specs.Labs.{LabValue, lab_of}
 
--- the node of that rank has the same links
+-- the node of that rank has the same links in both labs
 abbrev pub HasSameLinks : LabValue → LabValue → ℕ → Type 0
 HasSameLinks a b i = (j : ℕ) → j < length a.ids → set.contains (neighbours_at a.network.neighbours i) j ≡ set.contains (neighbours_at b.network.neighbours i) j
 
--- the node of that rank is owned by the same students
+-- the node of that rank is owned by the same students in both rosters
 abbrev pub HasSameOwners : RosterValue → RosterValue → ℕ → Type 0
 HasSameOwners a b i = (s : ℕ) → s < length a.students → owns a (who.Student s) i ≡ owns b (who.Student s) i
 
--- the same names in the same order
+-- both have the teacher's name and the students' names, in the same order
 abbrev pub HasSameNames : RosterValue → RosterValue → Type 0
 HasSameNames a b = (name_of a who.Teacher ≡ name_of b who.Teacher) × (length a.students ≡ length b.students)
     × ((s : ℕ) → s < length a.students → name_of a (who.Student s) ≡ name_of b (who.Student s))
 
--- the node of that rank has the same registers, links and owners
+-- the node of that rank has the same registers, links and owners in both labs
 pub record IsSameNode (a b : LabValue) (i : ℕ) : Type 0 where
   pub registers : registers_at a.network.registers i ≡ registers_at b.network.registers i
   pub links : HasSameLinks a b i
@@ -31,6 +31,6 @@ pub record IsSameLab (a b : LabValue) : Type 0 where
   pub names : HasSameNames a.roster b.roster
   pub nodes : (i : ℕ) → i < length a.ids → IsSameNode a b i
 
--- the bytes spell a lab that is the same
+-- the bytes spell a lab that is the same as the given one in all that a journal names
 abbrev pub SpellsSame : LabValue → List ℕ → Type 0
 SpellsSame lab bytes = (other : LabValue) × (lab_of bytes ≡ Ok other) × IsSameLab lab other

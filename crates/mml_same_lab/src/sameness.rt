@@ -6,7 +6,8 @@ use mml_ids::{IdTable, Memory, Rank};
 use mml_lab::{Lab, LabFault, Roster, Student, Who, read_lab};
 use std::alloc::Global;
 
-/// Whether the bytes spell a lab with the same identifiers, names, links, registers and owners.
+/// Whether the bytes spell a lab with the same identifiers, names, links, registers and owners as `lab`; false where
+/// they spell none. An error means that memory was refused.
 pub fn spells_same_lab(alloc: Global, lab: &Lab, bytes: &[u8]) -> Result<bool, Memory>
     ensures { IfOk result (λ same. IsTrue same ↔ SpellsSame lab.now bytes.now) }
 {
@@ -96,7 +97,7 @@ fn has_same_links(a: &Lab, b: &Lab, node: Rank) -> bool
     true
 }
 
-// Whether the same students own the node of this rank.
+// Whether the node of this rank is owned by the same students in both rosters.
 fn has_same_owners(a: &Roster, b: &Roster, node: Rank) -> bool
     requires { length a.now.students ≡ length b.now.students }
     ensures { IsTrue result ↔ HasSameOwners a.now b.now node }

@@ -53,7 +53,7 @@ is_open c a b = c.linked a b && (nat_lt a b && (is_free c a && is_free c b))
 abbrev pub open_link : Configuration → ℕ → ℕ → OpenLink
 open_link c a b = record { a = a; b = b; node = (certificate c a b).0; kind = (certificate c a b).1 }
 
--- the open links of a
+-- the open links whose lower end is a
 abbrev pub open_links_at : Configuration → ℕ → List OpenLink
 open_links_at c a = each_below c.size (λ b. listed_if (is_open c a b) (open_link c a b))
 

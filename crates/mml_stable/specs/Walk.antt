@@ -9,7 +9,7 @@ abbrev pub climb : Configuration → ℕ → ℕ → ℕ
 climb c zero i = i
 climb c (suc n) i = if is_privileged c i then i else climb c n (unwrap_or (c.p i) i)
 
--- where the walk from i ends
+-- where the walk from i ends: in as many steps as there are nodes
 unfoldable pub top : Configuration → ℕ → ℕ
 top c i = climb c c.size i
 
@@ -21,7 +21,8 @@ unless_seduction i (Some Kind.Marriage) = Some (i, Kind.Marriage)
 unless_seduction i (Some Kind.Seduction) = None
 unless_seduction i (Some Kind.Abandonment) = Some (i, Kind.Abandonment)
 
--- where the walk from i ends, with the rule enabled there; none where the walk is idle
+-- where the walk from i ends, with the rule enabled there; none where it is idle: no rule is enabled there, or a
+-- seduction
 abbrev pub walk : Configuration → ℕ → Option (ℕ × Kind)
 walk c i = unless_seduction (top c i) (enabled_kind c (top c i))
 

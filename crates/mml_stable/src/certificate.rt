@@ -10,8 +10,8 @@ use mml_board::Board;
 use mml_ids::Rank;
 use mml_rules::{Kind, Scene};
 
-/// A privileged node with its rule, for a link between two free nodes: as long as there is one, the
-/// configuration isn't stable.
+/// For a link between two free nodes, `a` and a greater `b`, a privileged node with its rule: as long as there is such
+/// a link, the configuration isn't stable.
 pub fn certify(board: &Board, a: Rank, b: Rank) -> (Rank, Kind)
     requires lower { a < b }
     requires linked { (configuration board.now).linked a b ≡ true }
@@ -28,8 +28,8 @@ pub fn certify(board: &Board, a: Rank, b: Rank) -> (Rank, Kind)
     witness(board, &kinds, a, b)
 }
 
-/// The witness of a link between two free nodes: a privileged node with its rule. The rules that are enabled at the
-/// nodes were found before.
+/// The witness of a link between two free nodes: a privileged node with its rule. `kinds` has by rank the rule that
+/// is enabled at each node.
 #[tactic(auto, unfolding(crate::specs::Walk::certificate))]
 pub(crate) fn witness(board: &Board, kinds: &[Option<Kind>], a: Rank, b: Rank) -> (Rank, Kind)
     requires kinds { AreKinds (configuration board.now) kinds.now }
@@ -46,8 +46,8 @@ pub(crate) fn witness(board: &Board, kinds: &[Option<Kind>], a: Rank, b: Rank) -
     }
 }
 
-/// Where the way along the pointers from a node ends, with the rule that is enabled there; none where that is a
-/// seduction, or none is.
+/// The node where the way along the pointers from `node` ends, after as many steps as there are nodes at the most, with
+/// the rule that is enabled there; `None` where that rule is a seduction, or no rule is enabled.
 fn walk(board: &Board, kinds: &[Option<Kind>], node: Rank) -> Option<(Rank, Kind)>
     requires kinds { AreKinds (configuration board.now) kinds.now }
     requires node { node < length board.now.network.registers }
@@ -63,8 +63,8 @@ fn walk(board: &Board, kinds: &[Option<Kind>], node: Rank) -> Option<(Rank, Kind
     }
 }
 
-/// The first node along the pointers that is privileged or points at no node, and the rule that is
-/// enabled there.
+/// The first node along the pointers from `node` that is privileged or points at no node, or, after as many steps as
+/// there are nodes, the one that is reached then; and the rule that is enabled there, if one is.
 fn top(board: &Board, kinds: &[Option<Kind>], node: Rank) -> (Rank, Option<Kind>)
     requires kinds { AreKinds (configuration board.now) kinds.now }
     requires node { node < length board.now.network.registers }

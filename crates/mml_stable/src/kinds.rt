@@ -11,7 +11,7 @@ use mml_rules::{Kind, Scene};
 /// How many nodes there may be, as the length of a list.
 pub(crate) const PLACES: usize = MAX_NODES as usize;
 
-/// Finds the rule that is enabled at each node, by rank.
+/// Writes into `kinds`, by rank, the rule that is enabled at each node, or `None`.
 pub(crate) fn find_kinds(board: &Board, kinds: &mut [Option<Kind>])
     requires room { length board.now.network.registers ≤ length kinds.old }
     ensures kinds { AreKinds (configuration board.now) kinds.new }
@@ -21,7 +21,7 @@ pub(crate) fn find_kinds(board: &Board, kinds: &mut [Option<Kind>])
     }
 }
 
-/// The rule that was found at a node.
+/// The rule that is enabled at a node, if one is, as `kinds` has it.
 #[inline(always)]
 pub(crate) fn kind_at(board: &Board, kinds: &[Option<Kind>], node: Rank) -> Option<Kind>
     requires node { node < length board.now.network.registers }

@@ -16,17 +16,18 @@ use mml_ids::{Items, Memory, NodeSet, Rank};
 use mml_rules::{Kind, Scene, married};
 use std::alloc::Global;
 
-/// What is told of the board's configuration.
+/// The report on the board's configuration: its number, its pairs, its free and its privileged nodes, its open links
+/// with their witnesses, and whether it is stable.
 pub fn report(alloc: Global, board: &Board) -> Result<Report, Memory>
     ensures report { IfOk result (λ report. report ≡ report_of board.now) }
     ensures nodes { IfOk result (NamesNodes (length board.now.network.registers)) }
 {
     let _number = board.number();
-    whole(alloc, board)
+    report_lists(alloc, board)
 }
 
-/// The report; that it names nodes of the board alone is left to its caller.
-fn whole(alloc: Global, board: &Board) -> Result<Report, Memory>
+/// The report, made of its lists. That they name nodes of the board alone is proved in `report`.
+fn report_lists(alloc: Global, board: &Board) -> Result<Report, Memory>
     ensures { IfOk result (λ report. report ≡ report_of board.now) }
 {
     let _size = board.size();
@@ -80,7 +81,7 @@ fn free_nodes(alloc: Global, board: &Board) -> Result<(Vec<Rank>, NodeSet), Memo
     Ok((all, set))
 }
 
-/// The privileged nodes in rising order, each with the rule that is enabled there, which was found before; and
+/// The privileged nodes in rising order, each with the rule that is enabled there, which `kinds` has by rank; and
 /// whether there is none.
 fn privileged_nodes(
     alloc: Global,
@@ -102,7 +103,8 @@ fn privileged_nodes(
     Ok((all, stable))
 }
 
-/// The greater ends of the open links of a node, where the rest are the free nodes from it on.
+/// The greater ends of the open links (between free nodes) whose lower end is `a`; `rest` are the free nodes from `a`
+/// on.
 fn open_ends(board: &Board, rest: NodeSet, a: Rank) -> NodeSet
     requires a { a < length board.now.network.registers }
     requires rest { IsFreeFrom (configuration board.now) a rest }
@@ -116,7 +118,7 @@ fn open_ends(board: &Board, rest: NodeSet, a: Rank) -> NodeSet
     }
 }
 
-/// An open link with its witness.
+/// The open link between `a` and `b`, with its witness.
 fn open_link(board: &Board, kinds: &[Option<Kind>], a: Rank, b: Rank) -> OpenLink
     requires kinds { AreKinds (configuration board.now) kinds.now }
     requires a { a < length board.now.network.registers }
@@ -127,7 +129,7 @@ fn open_link(board: &Board, kinds: &[Option<Kind>], a: Rank, b: Rank) -> OpenLin
     OpenLink { a, b, node, kind }
 }
 
-/// Puts the open links of a node at the end, of which the set has the greater ends.
+/// Puts behind `all` the open links whose lower end is `a`; `ends` are their greater ends.
 fn put_open_links(
     all: &mut Vec<OpenLink>,
     board: &Board,
@@ -148,8 +150,8 @@ fn put_open_links(
     Ok(())
 }
 
-/// The links between two free nodes in rising order, each with its witness. The free nodes and the rules that are
-/// enabled were found before.
+/// The links between two free nodes in rising order, each with its witness. `free` are the free nodes, and `kinds` has
+/// by rank the rule that is enabled at each node.
 fn open_links(
     alloc: Global,
     board: &Board,

@@ -8,7 +8,7 @@ use Rattle.mml_tally.specs.declared.ask.Denials.{Denials}
 abbrev pub asks_of_others : List Ask → List Ask
 asks_of_others asks = filter (λ a. is_none a.who) asks
 
--- some clause denied it
+-- some clause denied the line
 abbrev pub is_denied : Ask → Bool
 is_denied a = is_some a.denied
 
@@ -21,12 +21,12 @@ abbrev pub is_numbered : Option ℕ → Bool
 is_numbered None = true
 is_numbered (Some c) = c == 1 || (c == 2 || (c == 3 || c == 4))
 
--- a student who is known is one of so many, whom only the clauses from 1 to 4 deny anything
+-- a student who is known is one of n, whom only the clauses from 1 to 4 deny anything
 abbrev pub IsKnownOf : ℕ → Option ℕ → Option ℕ → Type 0
 IsKnownOf n None denied = Unit {0}
 IsKnownOf n (Some s) denied = (s < n) × (is_numbered denied ≡ true)
 
--- of so many students, each who is known is one, and is denied by the clauses from 1 to 4 alone
+-- each student who is known is one of n, and is denied by the clauses from 1 to 4 alone
 abbrev pub AreAsksOf : ℕ → List Ask → Type 0
 AreAsksOf n [] = Unit {0}
 AreAsksOf n (a ∷ asks) = IsKnownOf n a.who a.denied × AreAsksOf n asks

@@ -19,7 +19,7 @@ is_student s (Some t) = t == s
 abbrev pub asks_by : ℕ → List Ask → List Ask
 asks_by s asks = filter (λ a. is_student s a.who) asks
 
--- the clause with that number denied it
+-- the clause that denied a line, if one did, has the number c
 abbrev pub is_clause : ℕ → Option ℕ → Bool
 is_clause c None = false
 is_clause c (Some d) = d == c
@@ -30,7 +30,7 @@ is_malformed line.Malformed = true
 is_malformed (line.Move n k) = false
 is_malformed line.Other = false
 
--- a move of this rule, at the node with this identifier
+-- the line asks for a move of this rule at the node with this identifier
 abbrev pub is_move : ℕ → Kind → Line → Bool
 is_move id k line.Malformed = false
 is_move id k (line.Move n j) = n == id && is_kind k j

@@ -6,7 +6,7 @@ use Rattle.mml_convergence.specs.Rounds.{rounds_for}
 use Rattle.mml_bounds.specs.Most.{most_moves, events_to_rest}
 use Rattle.mml_tally.specs.declared.bounds.Bounds.{Bounds}
 
--- the most that a run takes on so many nodes with so many links
+-- the most that a run takes on a number of nodes with a number of links
 abbrev pub bounds_for : ℕ → ℕ → Bounds
 bounds_for nodes links = record { moves = most_moves nodes links; rounds = rounds_for nodes; events = events_to_rest nodes links }
 

@@ -14,7 +14,7 @@ use Rattle.mml_tally.specs.declared.marks.Marks.{Marks}
 use Rattle.mml_tally.specs.Moves.{moves}
 use Rattle.mml_tally.specs.Owners.{is_shared}
 
--- the same rule, whoever the partner
+-- two kinds of rules are the same
 abbrev pub is_kind : Kind → Kind → Bool
 is_kind kind.Update kind.Update = true
 is_kind kind.Marriage kind.Marriage = true
@@ -22,7 +22,7 @@ is_kind kind.Seduction kind.Seduction = true
 is_kind kind.Abandonment kind.Abandonment = true
 is_kind _ _ = false
 
--- it is that the close at place q applied a move
+-- the fate is that the close at place q applied a move
 abbrev pub is_fate_at : ℕ → Fate → Bool
 is_fate_at q (fate.Applied p) = p == q
 is_fate_at q _ = false
@@ -31,7 +31,7 @@ is_fate_at q _ = false
 abbrev pub is_applied_at : ℕ → Move → Bool
 is_applied_at q m = is_fate_at q m.fate
 
--- it is that some close applied a move
+-- the fate is that some close applied a move
 abbrev pub is_fate_applied : Fate → Bool
 is_fate_applied (fate.Applied p) = true
 is_fate_applied _ = false
@@ -77,7 +77,7 @@ last_place ms = option_map (λ m. m.place) (slice_get ms (length ms - 1))
 abbrev pub count_shared : RosterValue → List Move → ℕ
 count_shared r ms = count_by (λ m. is_shared r m.node) ms
 
--- what n events tell of one whose moves these are
+-- what n events tell of a student whose moves are `own`
 abbrev pub marks_from : RosterValue → ℕ → List Move → Marks
 marks_from r n own = record {
   granted = by_rule own;

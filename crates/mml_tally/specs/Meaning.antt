@@ -29,17 +29,17 @@ pub record IsNextClose (i q p : ℕ) (es : List Event) : Type 0 where
 abbrev pub total : ByRule → ℕ
 total n = n.update + n.marriage + n.seduction + n.abandonment
 
--- it is that the teacher released a move
+-- the fate is that the teacher released a move
 abbrev pub is_fate_released : Fate → Bool
 is_fate_released fate.Released = true
 is_fate_released _ = false
 
--- it is that a fault, a link or a cut dropped a move
+-- the fate is that a fault, a link or a cut dropped a move
 abbrev pub is_fate_dropped : Fate → Bool
 is_fate_dropped fate.Dropped = true
 is_fate_dropped _ = false
 
--- it is that a move is chosen still
+-- the fate is that a move is chosen still
 abbrev pub is_fate_left : Fate → Bool
 is_fate_left fate.Chosen = true
 is_fate_left _ = false

@@ -35,7 +35,7 @@ abbrev pub last_change : ℕ → ℕ → List Event → ℕ
 last_change last q [] = last
 last_change last q (e ∷ es) = last_change (if is_change e then q else last) (q + 1) es
 
--- it is that a close after place k applied a move
+-- the fate is that a close after place k applied a move
 abbrev pub is_fate_after : ℕ → Fate → Bool
 is_fate_after k (fate.Applied p) = nat_lt k p
 is_fate_after k _ = false

@@ -40,7 +40,7 @@ marks_text m =
 abbrev pub student_line : List ℕ → Marks → List ℕ
 student_line name m = codes "student " ++ (name ++ (marks_text m ++ codes "\n"))
 
--- an owner, and the moves that were granted to it
+-- an owner's name, and how many moves there are of each rule
 abbrev pub owner_text : List ℕ → ByRule → List ℕ
 owner_text name n = codes " " ++ (name ++ rules_text n)
 
@@ -77,7 +77,7 @@ students_text lab es n = each_below n (λ s. student_line (name_of lab.roster (w
 abbrev pub nodes_text : LabValue → List Event → ℕ → List ℕ
 nodes_text lab es n = each_below n (λ i. if is_shared lab.roster i then node_line lab (moves es) i else [])
 
--- what is told of the network to which a run has led, and last of the run
+-- the last two lines of a tally: the most that may follow in the network to which a run has led, and the run
 abbrev pub ends_text : World → List Event → List ℕ
 ends_text w es = bounds_line (bounds_of w) ++ run_line w (run_of es)
 

@@ -12,10 +12,10 @@ use std::slice;
 /// A line that a session answered.
 #[derive(Clone, Copy, Debug)]
 pub struct Ask {
-    /// The student who was known when it came, if one was.
+    /// The student who was known when the line came, if one was.
     pub who: Option<Student>,
     pub line: Line,
-    /// The number of the clause that denied it.
+    /// The number of the clause that denied the line, if one did.
     pub denied: Option<u8>,
 }
 
@@ -59,7 +59,7 @@ fn asks_by(alloc: Global, asks: &[Ask], student: Student) -> Result<Vec<Ask>, Me
     Ok(own.collect(alloc)?)
 }
 
-/// Whether the student is the one who was known, if one was.
+/// Whether `who`, the student who was known when a line came, is this student.
 fn is_student(student: Student, who: Option<Student>) -> bool
     ensures { result ≡ is_student student who }
 {
@@ -69,7 +69,7 @@ fn is_student(student: Student, who: Option<Student>) -> bool
     }
 }
 
-/// What was denied to a student, and what of the student's lines was no request.
+/// How many of a student's lines each clause denied, and how many were no request.
 pub fn denials_of(alloc: Global, asks: &[Ask], student: Student) -> Result<Denials, Memory>
     ensures { IfOk result (λ denied. denied ≡ denials_of asks.now student) }
 {
@@ -90,7 +90,7 @@ pub fn moves_asked_by(
     Ok(moves_asked(node, &own))
 }
 
-/// How many of a student's lines each clause denied, and how many were no request.
+/// How many of a student's lines, `own`, each clause denied, and how many were no request.
 fn denials_in(own: &[Ask]) -> Denials
     ensures { result ≡ denials_in own.now }
 {
@@ -112,7 +112,7 @@ fn count_clause(own: &[Ask], clause: u8) -> u64
         .count() as u64
 }
 
-/// Whether the clause with this number is the one that denied a line, if one did.
+/// Whether `denied`, the number of the clause that denied a line, is that of this clause.
 fn is_clause(clause: u8, denied: Option<u8>) -> bool
     ensures { result ≡ is_clause clause denied }
 {

@@ -19,14 +19,16 @@ pub struct Bounds {
     pub events: u64,
 }
 
-/// The most that a run takes from the world of a board on.
+/// The most moves, rounds and events that a run takes from the world of a board on until no node is privileged, where
+/// no fault, link or cut comes.
 pub fn bounds_of(board: &Board) -> Bounds
     ensures { result ≡ bounds_of board.now }
 {
     bounds_for(board.size(), link_count(board.network()))
 }
 
-/// The most that a run takes on so many nodes with so many links.
+/// The most moves, rounds and events that a run takes on `nodes` nodes with `links` links until no node is privileged,
+/// where no fault, link or cut comes.
 fn bounds_for(nodes: u64, links: u64) -> Bounds
     requires { nodes ≤ MAX_NODES }
     ensures { result ≡ bounds_for nodes links }
@@ -39,7 +41,7 @@ fn bounds_for(nodes: u64, links: u64) -> Bounds
     }
 }
 
-/// The most courtships among so many nodes, n²/4 rounded down, in one step.
+/// The most courtships, pointers at a higher node that may still marry, among n nodes: n²/4, rounded down.
 fn most_courtships(nodes: u64) -> u64
     requires { nodes ≤ MAX_NODES }
     ensures exact { result ≡ most_courtships nodes }
@@ -49,7 +51,7 @@ fn most_courtships(nodes: u64) -> u64
     half * (nodes - half)
 }
 
-/// The most rounds among so many nodes: two for each, less one where their number is odd.
+/// The most rounds of a run on n nodes: 2n, or 2n - 1 where n is odd.
 fn rounds_for(nodes: u64) -> u64
     requires { nodes ≤ MAX_NODES }
     ensures { result ≡ rounds_for nodes }

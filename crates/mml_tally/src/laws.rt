@@ -35,8 +35,8 @@ pub fn students_apply_all_moves()
         (run_of es).moves ≡ applied_over (opening_of lab.network) es }
 {}
 
-/// The closes, faults, links and cuts of which a run is told are as many as the configurations that it went
-/// on to: its number says so.
+/// A run goes on to as many configurations as it has closes, faults, links and cuts: by so many the number of the
+/// configuration grows.
 pub fn changes_of_a_run_are_its_configurations()
     ensures { (w : World) (es : List Event) → (world_of w es).number ≡ w.number
         + ((run_of es).closes + (run_of es).faults + (run_of es).links + (run_of es).cuts) }
@@ -51,15 +51,14 @@ pub fn granted_moves_have_one_fate()
         + count_by is_left (moves_by s (moves es)) }
 {}
 
-/// A student to whom no close is counted has no applied move: so the close is counted that applied one, the
-/// last event of all too.
+/// A student to whom no close is counted has no applied move: so a lone close that applied one isn't missed, not even
+/// where it is the last event.
 pub fn who_has_no_close_has_no_applied_move()
     ensures { (r : RosterValue) (es : List Event) (s : ℕ) →
         (marks_of r es s).closes ≡ 0 → total (marks_of r es s).applied ≡ 0 }
 {}
 
-/// A student's marks are the same whoever the others are: under other names of theirs, and where several
-/// become one.
+/// A student's marks don't change where the other students have other names, or where several of them become one.
 pub fn marks_depend_on_no_other_name()
     ensures { (r : RosterValue) (es : List Event) (s : ℕ) (f : ℕ → ℕ) →
         ((t : ℕ) → (f t ≡ s) ↔ (t ≡ s)) → marks_of r (map (asked_as f) es) s ≡ marks_of r es s }
@@ -77,7 +76,7 @@ pub fn denials_are_of_one_student()
         ≡ count_by (λ a. is_malformed a.line) asks }
 {}
 
-/// What was denied to a student, and what it asked for at a node, is the same whoever the others are.
+/// What was denied to a student, and what the student asked for at a node, doesn't depend on who asked the other lines.
 pub fn asks_depend_on_no_other_name()
     ensures denied { (asks : List Ask) (s : ℕ) (f : ℕ → ℕ) → ((t : ℕ) → (f t ≡ s) ↔ (t ≡ s)) →
         denials_of (map (asked_under f) asks) s ≡ denials_of asks s }

@@ -38,7 +38,7 @@ pub struct Marks {
     pub shared: u64,
 }
 
-/// What a run tells of a student. The moves are all that the run's events grant.
+/// What a run tells of a student; `all` are the moves that the run's events grant.
 pub fn marks_of(
     alloc: Global,
     roster: &Roster,
@@ -115,7 +115,7 @@ fn count_kind(all: &[Move], kind: Kind) -> u64
         .count() as u64
 }
 
-/// Whether both are the same rule.
+/// Whether two kinds of rules are the same.
 pub(crate) fn is_kind(asked: Kind, kind: Kind) -> bool
     ensures { result ≡ is_kind asked kind }
 {
@@ -128,8 +128,8 @@ pub(crate) fn is_kind(asked: Kind, kind: Kind) -> bool
     }
 }
 
-/// How many closes applied one of a student's moves. These come in the order of the closes that applied them, so a
-/// close that differs from the one before is a new one.
+/// How many closes applied one of a student's moves. The moves come in the order of the closes that applied them, so
+/// a close that differs from the one before is a new one.
 fn count_applying_closes(own: &[Move]) -> u64
     ensures { result ≡ count_new 0 own.now }
 {
@@ -145,7 +145,7 @@ fn count_applying_closes(own: &[Move]) -> u64
     closes
 }
 
-/// The place of the close that applied a move; where none did, that of the last close so far.
+/// The place of the close that applied a move; where none did, `last`, that of the last close so far.
 fn close_of(last: u64, fate: Fate) -> u64
     ensures { result ≡ close_of last fate }
 {
@@ -155,7 +155,7 @@ fn close_of(last: u64, fate: Fate) -> u64
     }
 }
 
-/// The place of the first grant, if there is one.
+/// The place of the grant of the first of these moves; none where there are no moves.
 fn first_place(all: &[Move]) -> Option<u64>
     ensures { result ≡ first_place all.now }
 {
@@ -163,7 +163,7 @@ fn first_place(all: &[Move]) -> Option<u64>
     Some(first.place)
 }
 
-/// The place of the last grant, if there is one.
+/// The place of the grant of the last of these moves; none where there are no moves.
 fn last_place(all: &[Move]) -> Option<u64>
     ensures { result ≡ last_place all.now }
 {

@@ -58,7 +58,8 @@ fn put_record(
     put_findings(out, findings)
 }
 
-/// Puts a line for each student, in the lab's order: how many lines each clause denied.
+/// Puts a line for each student, in the lab's order: how many of the student's lines each clause denied, and how many
+/// were no request.
 fn put_denied(out: &mut Vec<u8>, alloc: Global, lab: &Lab, asks: &[Ask]) -> Result<(), Memory>
     ensures { OnOk result (out.new.items
         ≡ out.old.items ++ denied_text lab.now asks.now (length lab.now.roster.students)) }
@@ -72,7 +73,7 @@ fn put_denied(out: &mut Vec<u8>, alloc: Global, lab: &Lab, asks: &[Ask]) -> Resu
     Ok(())
 }
 
-/// Puts the line of one student: how many lines each clause denied.
+/// Puts the line of one student: how many lines each clause denied, and how many were no request.
 fn put_denials(out: &mut Vec<u8>, name: &str, denied: &Denials) -> Result<(), Memory>
     ensures { OnOk result (out.new.items ≡ out.old.items ++ denied_line name.now denied.now) }
 {
@@ -142,7 +143,7 @@ fn put_askers(
     Ok(())
 }
 
-/// Puts the line of what a record comes to.
+/// Puts the line of what a record comes to: sessions that ended, lines that were answered, and whether it is whole.
 fn put_findings(out: &mut Vec<u8>, findings: &Findings) -> Result<(), Memory>
     ensures { OnOk result (out.new.items ≡ out.old.items ++ record_line findings.now) }
 {
@@ -151,7 +152,7 @@ fn put_findings(out: &mut Vec<u8>, findings: &Findings) -> Result<(), Memory>
     put(out, &[Piece::Text(whole_text(findings.whole))])
 }
 
-/// The word for a record that leaves nothing out, or for one that was cut short.
+/// The word for a record that leaves nothing out, or for one that was cut short, with its space and newline.
 fn whole_text(is_whole: bool) -> &'static str
     ensures { result.now ≡ whole_text is_whole }
 {

@@ -24,7 +24,7 @@ pub struct Run {
     pub closes_since: u64,
 }
 
-/// What a list of events tells of its run; beside the list come the moves that it grants.
+/// What a list of events tells of its run; `granted` are the moves that the list grants.
 pub fn run_of(events: &[Event], granted: &[Move]) -> Run
     requires { granted.now ≡ moves events.now }
     ensures { result ≡ run_of events.now }
@@ -42,6 +42,7 @@ pub fn run_of(events: &[Event], granted: &[Move]) -> Run
     }
 }
 
+/// How many closes there are among the events.
 fn count_closes(events: &[Event]) -> u64
     ensures { result ≡ count_by is_close events.now }
 {
@@ -51,6 +52,7 @@ fn count_closes(events: &[Event]) -> u64
         .count() as u64
 }
 
+/// How many faults there are among the events.
 fn count_faults(events: &[Event]) -> u64
     ensures { result ≡ count_by is_fault events.now }
 {
@@ -60,6 +62,7 @@ fn count_faults(events: &[Event]) -> u64
         .count() as u64
 }
 
+/// How many links are made among the events.
 fn count_links(events: &[Event]) -> u64
     ensures { result ≡ count_by is_link events.now }
 {
@@ -69,6 +72,7 @@ fn count_links(events: &[Event]) -> u64
         .count() as u64
 }
 
+/// How many cuts there are among the events.
 fn count_cuts(events: &[Event]) -> u64
     ensures { result ≡ count_by is_cut events.now }
 {

@@ -15,7 +15,8 @@ use mml_ids::{Memory, Piece, Rank, put};
 use mml_lab::{Lab, Roster, Student, Who};
 use std::alloc::Global;
 
-/// Puts what is told of a run at the end of a text: the board is the one to which the events led.
+/// Puts the tally of a run at the end of a text: the lines of the students, of the nodes that several own, of the most
+/// that may follow, and of the run. `board` is the world to which the events led.
 pub fn put_tally(
     out: &mut Vec<u8>,
     alloc: Global,
@@ -31,7 +32,7 @@ pub fn put_tally(
     put_ends(out, board, events, &all)
 }
 
-/// Puts the lines of the students, and of the nodes that several own.
+/// Puts the lines of the students, and of the nodes that several own; `all` are the moves that the run's events grant.
 pub(crate) fn put_granted(
     out: &mut Vec<u8>,
     alloc: Global,
@@ -46,7 +47,7 @@ pub(crate) fn put_granted(
     put_nodes(out, alloc, lab, all)
 }
 
-/// Puts the last two lines: the most that may follow, and the run.
+/// Puts the last two lines of a tally: the most that may follow, and the run.
 pub(crate) fn put_ends(
     out: &mut Vec<u8>,
     board: &Board,
@@ -60,7 +61,7 @@ pub(crate) fn put_ends(
     put_run(out, board, &run_of(events, all))
 }
 
-/// Puts a line for each student, in the lab's order.
+/// Puts a line for each student, in the lab's order: name and marks. `all` are the moves that the run's events grant.
 fn put_students(out: &mut Vec<u8>, alloc: Global, lab: &Lab, all: &[Move]) -> Result<(), Memory>
     ensures { OnOk result ((es : List Event) → all.now ≡ moves es →
         out.new.items ≡ out.old.items ++ students_text lab.now es (length lab.now.roster.students)) }
@@ -83,7 +84,8 @@ fn put_student(out: &mut Vec<u8>, name: &str, marks: &Marks) -> Result<(), Memor
     put(out, &[Piece::Text("\n")])
 }
 
-/// Puts what a run tells of a student, as numbers.
+/// Puts what a run tells of a student, as numbers: granted and applied moves by rule, closes that applied one, the
+/// places of the first and the last grant, and applied moves at nodes that others own too.
 fn put_marks(out: &mut Vec<u8>, marks: &Marks) -> Result<(), Memory>
     ensures { OnOk result (out.new.items ≡ out.old.items ++ marks_text marks.now) }
 {
@@ -161,7 +163,7 @@ fn put_node(
     put(out, &[Piece::Text("\n")])
 }
 
-/// Puts the owners of a node, each with the moves that they were granted there.
+/// Puts the owners of a node, each with the moves that the owner was granted there; `there` are all moves at the node.
 fn put_owners(
     out: &mut Vec<u8>,
     alloc: Global,
@@ -189,7 +191,7 @@ pub(crate) fn put_owner(out: &mut Vec<u8>, name: &str, counts: &ByRule) -> Resul
     put_rules(out, counts)
 }
 
-/// Puts the line of the most that may follow.
+/// Puts the line of the most moves, rounds and events that may follow.
 fn put_bounds(out: &mut Vec<u8>, bounds: &Bounds) -> Result<(), Memory>
     ensures { OnOk result (out.new.items ≡ out.old.items ++ bounds_line bounds.now) }
 {

@@ -2,6 +2,7 @@
 use Rattle.mml_lab.specs.declared.lab.Lab.TheInside.{Inside}
 use Rattle.mml_lab.specs.Labs.{LabValue, IsLab}
 
+-- the parts of a lab, as the definitions have them
 abbrev pub lab_view : Inside → LabValue
 lab_view a = record {
   ids = a.ids;
@@ -11,5 +12,6 @@ lab_view a = record {
   sessions = a.sessions;
 }
 
+-- the parts make a lab
 abbrev pub IsLabInside : Inside → Type 0
 IsLabInside a = IsLab (lab_view a)

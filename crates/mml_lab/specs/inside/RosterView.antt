@@ -5,10 +5,11 @@ use Rattle.mml_lab.specs.inside.Raw.{account_view, entry_account}
 use Rattle.mml_lab.specs.inside.Owned.{AreOwned}
 use Rattle.mml_lab.specs.Rosters.{RosterValue, IsRoster, with_owners}
 
+-- teacher, students and owners, as the definitions have them
 abbrev pub roster_view : Inside → RosterValue
 roster_view a = with_owners (account_view a.teacher) (map entry_account a.students.entries) (map (λ v. v.items) a.owners.items)
 
--- the roster's own, and rows of what each student owns
+-- the roster is lawful, and each student has a row of what the student owns
 pub record IsRosterInside (a : Inside) : Type 0 where
   pub lawful : IsRoster (roster_view a)
   pub rows : AreOwned (length (roster_view a).students) (roster_view a).owners a.owned.items

@@ -6,6 +6,6 @@ use Rattle.std.specs.FinSet.{FinSet}
 use Rattle.mml_rules.specs.Configuration.{Configuration}
 use Rattle.mml_stable.specs.Reports.{is_free}
 
--- those from a on
+-- the set has the free nodes from a on
 abbrev pub IsFreeFrom : Configuration → ℕ → FinSet nat_cmp → Type 0
 IsFreeFrom c a rest = (b : ℕ) → set.contains rest b ≡ (not (nat_lt b a) && (nat_lt b c.size && is_free c b))

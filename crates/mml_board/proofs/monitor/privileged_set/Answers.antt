@@ -15,7 +15,7 @@ loop-index-preserved c = λ j.
     let d = configuration_of c.args.network.now in
     let k = c.loop-index.index in
     let b = c.is_some-is_privileged.result in
-    c.put-nodes.ensures j ∙ ap (cond (eqb j c.at-node.result) b) (c.loop-index.invariant j)
+    c.with_or_without-nodes.ensures j ∙ ap (cond (eqb j c.at-node.result) b) (c.loop-index.invariant j)
     ∙ ap (λ i. cond (eqb j i) b (ltb j k && is_privileged d j)) c.at-node.ensures
     ∙ below_next (is_privileged d) j k b
     (c.is_some-is_privileged.ensures ∙ ap (λ o. is_some o) c.enabled.ensures ∙ ap (is_privileged d) c.at-node.ensures)

@@ -30,9 +30,9 @@ loop-index-preserved c =
     p (ap (λ (r : Regs). r.m) c.registers.ensures ∙ ap (λ x. (registers_at n.registers x).m) same)
     (take_at c.put_suitor.new.suitors _ c.loop-index.suitors.len (omega (arith, added, c.loop-index.suitors.ok.0)) ∙ c.put_suitor.ensures
     ∙ (λ z. with_suitor (c.deref_mut.ensures.value z) c.registers.result.p (same z)))
-    (λ j. c.put-free.ensures j
+    (λ j. c.with_or_without-free.ensures j
     ∙ (λ z. cond (eqb j (same z)) (none_told c.registers.result.p c.is_none.result c.is_none.ensures z) (sets.contains c.loop-index.free j)))
-    (λ j. c.put-believing.ensures j ∙ ap (λ x. cond (eqb j x) c.registers.result.m (sets.contains c.loop-index.believing j)) same)
+    (λ j. c.with_or_without-believing.ensures j ∙ ap (λ x. cond (eqb j x) c.registers.result.m (sets.contains c.loop-index.believing j)) same)
 
 pub invariant_of-result : goal.invariant_of-result
 invariant_of-result c = grind arith

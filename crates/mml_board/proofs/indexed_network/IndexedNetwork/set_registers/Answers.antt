@@ -33,11 +33,11 @@ invariant_of-self c =
     ap length is ∙ length-with_suitor (without_suitor rows c.registers-from.result.p a) to a ∙ length-without_suitor rows c.registers-from.result.p a in
     let back = take_at wrote (drop (length wrote) rows) c.self.inside.suitors.len (omega (arith, size, c.self.inside.suitors.ok.0)) in
     subst (λ (x : Network). AreRows x.registers (length x.registers) (take c.self.inside.suitors.len (wrote ++ drop (length wrote) rows))
-    c.put-self-inside.result c.put-self-inside-2.result) (sym c.set_registers.ensures)
+    c.with_or_without-self-inside.result c.with_or_without-self-inside-2.result) (sym c.set_registers.ensures)
     (rows-set n.registers a c.registers-from.result.p c.args.registers rows _ _ c.self.inside.free c.self.inside.believing _ _ c.self.invariant node (ap (λ (r : Regs). r.p) c.registers-from.ensures)
     (λ i e. pointee_in (configuration_of n) a i c.size-size.ensures.network.lawful (sym (ap (λ (r : Regs). r.p) c.registers-from.ensures) ∙ e))
     (λ i e. (c.size-size.ensures.network.lawful.in_range a i
     (subst (λ (x : Network). sets.contains (neighbours_at x.neighbours a) i ≡ true) (sym c.self.view_is) (c.requires.linked i e))).1)
     refl (back ∙ is)
-    (λ j. c.put-self-inside.ensures j ∙ ap (λ x. cond (eqb j a) x (sets.contains c.self.inside.free j)) (none_told to c.is_none.result c.is_none.ensures))
-    (λ j. c.put-self-inside-2.ensures j))
+    (λ j. c.with_or_without-self-inside.ensures j ∙ ap (λ x. cond (eqb j a) x (sets.contains c.self.inside.free j)) (none_told to c.is_none.result c.is_none.ensures))
+    (λ j. c.with_or_without-self-inside-2.ensures j))

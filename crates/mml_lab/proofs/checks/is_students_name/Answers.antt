@@ -2,7 +2,7 @@ use Rattle.std.proofs.Common.{◌∙◌, ap, List, ℕ, string_bytes}
 use Rattle.std.specs.Prelude.{is_some, bytes_eq}
 use Rattle.std.specs.Map.{lookup}
 use Rattle.mml_lab.proofs.RawLemmas.{some-lookup}
-use Rattle.mml_lab.proofs.checks.is_student.Goals as goal
+use Rattle.mml_lab.proofs.checks.is_students_name.Goals as goal
 
 pub returns : goal.returns
 returns c =

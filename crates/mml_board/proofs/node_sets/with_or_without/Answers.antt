@@ -1,5 +1,5 @@
 use Rattle.mml_board.proofs.MonitorLemmas.{put-in, put-out}
-use Rattle.mml_board.proofs.node_sets.put.Goals as goal
+use Rattle.mml_board.proofs.node_sets.with_or_without.Goals as goal
 use Rattle.std.proofs.Common.{arith}
 
 pub returns-then-is_in : goal.returns-then-is_in

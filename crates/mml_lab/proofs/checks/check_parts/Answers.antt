@@ -2,7 +2,7 @@ use Rattle.std.proofs.Common.{◌∙◌, ap, map, sym}
 use Rattle.mml_lab.specs.inside.Raw.{account_view, node_view, entry_account}
 use Rattle.mml_lab.specs.Labs.{unless, limited}
 use Rattle.mml_lab.proofs.ChecksLemmas.{gathered}
-use Rattle.mml_lab.proofs.checks.gather.Goals as goal
+use Rattle.mml_lab.proofs.checks.check_parts.Goals as goal
 
 pub returns : goal.returns
 returns c =

@@ -1,10 +1,10 @@
 use Rattle.std.proofs.lemmas.Bool.{both_ways}
 use Rattle.mml_board.proofs.KeptLemmas.{same_sets, none_left}
-use Rattle.mml_board.proofs.node_sets.same_nodes.Goals as goal
+use Rattle.mml_board.proofs.board.Board.is_same_at.Goals as goal
 use Rattle.std.proofs.Common.{arith}
 
 pub returns-then-is_empty : goal.returns-then-is_empty
-returns-then-is_empty c = grind (arith, same_sets, none_left)
+returns-then-is_empty c = grind (arith, same_sets, none_left, both_ways)
 
 pub returns-else-is_empty : goal.returns-else-is_empty
 returns-else-is_empty c = grind (arith, both_ways, none_left)
