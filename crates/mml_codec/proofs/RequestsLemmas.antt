@@ -1,4 +1,4 @@
--- What is asked: a word of no row asks nothing, and a value asks a request exactly where it has its fields.
+-- What is asked: a value asks a request exactly where it has its fields.
 use Rattle.std.proofs.lemmas.Bool.Decides.{nat_tests}
 use Rattle.std.proofs.Common.{◌≡◌, ℕ, List, [], ◌∷◌, Bool, true, false, cond, codes, bytes_eq, Option, None, Some, option_map, refl, ap, ◌∙◌, subst, arith}
 use Rattle.std.proofs.lemmas.Option.{same_Some, option_and_then_some}
@@ -16,22 +16,6 @@ use Rattle.mml_codec.specs.declared.request.Request.TheVariants as requests
 use Rattle.mml_codec.specs.Fields as field
 use Rattle.mml_codec.specs.Fields.{Has, HasEach}
 use Rattle.mml_codec.specs.Requests.{rule_word, partner_fields, register, asks, fields_of, asked_at, hello_of, node_of, ends_of, move_of, fault_of, by_word, request}
-
--- ---- words
-
-differ_at : (w k : List ℕ) (b : Bool) → bytes_eq w k ≡ b → (w ≡ k → ⊥) → b ≡ false
-differ_at w k true e other = absurd (other ((bytes_eq-Decides w k).0 e))
-differ_at w k false e other = refl
-
-differ : (w k : List ℕ) → (w ≡ k → ⊥) → bytes_eq w k ≡ false
-differ w k other = differ_at w k (bytes_eq w k) refl other
-
--- a word that is none of the eleven asks nothing
-pub no_word : (w : List ℕ) (d : Data) → (w ≡ verb.hello → ⊥) → (w ≡ verb.bye → ⊥) → (w ≡ verb.see → ⊥) → (w ≡ verb.look → ⊥)
-    → (w ≡ verb.move.asked → ⊥) → (w ≡ verb.close.asked → ⊥) → (w ≡ verb.fault.asked → ⊥) → (w ≡ verb.link.asked → ⊥)
-    → (w ≡ verb.cut.asked → ⊥) → (w ≡ verb.release.asked → ⊥) → (w ≡ verb.report → ⊥) → by_word w d ≡ None
-unfolding by_word
-no_word w d hello bye see look move close fault link cut release report = grind (arith, nat_tests, differ)
 
 -- ---- registers
 

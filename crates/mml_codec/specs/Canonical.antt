@@ -5,10 +5,10 @@ use Rattle.mml_codec.specs.declared.request.Request.{Request}
 use Rattle.mml_codec.specs.Fields.{object_of, AreWritable}
 use Rattle.mml_codec.specs.Requests.{fields_of}
 
--- the text of the object, with no space
+-- the text of the request's object, with no space between its parts
 unfoldable pub canonical : Request → List ℕ
 canonical r = compact_text (object_of (fields_of r))
 
--- its numbers fit 64 bits, its texts are UTF-8
+-- the request's numbers fit 64 bits, its texts are UTF-8
 abbrev pub IsWritable : Request → Type 0
 IsWritable r = AreWritable (fields_of r)

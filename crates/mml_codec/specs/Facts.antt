@@ -12,8 +12,8 @@ use Rattle.mml_board.specs.Vocabulary.{rule_name}
 use Rattle.mml_stable.specs.declared.open_link.OpenLink.{OpenLink}
 use Rattle.mml_codec.specs.Objects.{items_with, array_of, object_with}
 
--- the number of a clause is told apart from other numbers, since it is always small; a moved fact is a set of nodes, which are told
--- in rising order
+-- what a key of a reply tells; a clause's number is told apart from a count, since it is always small; nodes that
+-- moved are a set, told in rising order
 pub data Fact : Type 0 where
   count : ℕ → Fact
   clause : ℕ → Fact
@@ -40,18 +40,20 @@ members n s = filter (set.contains s) (range_with_len 0 n)
 
 -- ---- texts
 
--- the identifier of a node
+-- the identifier of a node, in decimal digits
 abbrev pub node_text : List ℕ → ℕ → List ℕ
 node_text ids i = decimal (slice_index ids i)
 
--- the identifier of the node that a register points at
+-- the identifier of the node that a register points at, or null
 abbrev pub pointer_text : List ℕ → Option ℕ → List ℕ
 pointer_text ids None = codes "null"
 pointer_text ids (Some i) = node_text ids i
 
+-- the word of a kind of rule, quoted
 abbrev pub kind_text : Kind → List ℕ
 kind_text k = codes "\"" ++ (rule_name k ++ codes "\"")
 
+-- the word of a kind of rule, quoted, or null
 abbrev pub kind_or_null : Option Kind → List ℕ
 kind_or_null None = codes "null"
 kind_or_null (Some k) = kind_text k
@@ -115,22 +117,25 @@ object_text ids fs = codes "{" ++ fields_after ids [] fs
 abbrev pub node_value : List ℕ → ℕ → Data
 node_value ids i = number (unsigned (slice_index ids i))
 
--- the identifier of the node that a register points at
+-- the identifier of the node that a register points at, or null
 abbrev pub pointer_value : List ℕ → Option ℕ → Data
 pointer_value ids None = null
 pointer_value ids (Some i) = node_value ids i
 
+-- the word of a kind of rule
 abbrev pub kind_value : Kind → Data
 kind_value k = string (rule_name k)
 
+-- the word of a kind of rule, or null
 abbrev pub kind_or_null_value : Option Kind → Data
 kind_or_null_value None = null
 kind_or_null_value (Some k) = kind_value k
 
--- a node that is linked to the one that is looked at
+-- the keys that tell of a node that is linked to the one that is looked at, and their values
 abbrev pub near_keys : List ℕ → ℕ × Regs → List (List ℕ × Data)
 near_keys ids n = (codes "m", boolean n.1.m) ∷ (codes "node", node_value ids n.0) ∷ (codes "p", pointer_value ids n.1.p) ∷ []
 
+-- the object that tells of a node that is linked to the one that is looked at
 abbrev pub near_value : List ℕ → ℕ × Regs → Data
 near_value ids n = object_with (near_keys ids n)
 
@@ -146,6 +151,7 @@ privileged_value ids n = array (items_with (node_value ids n.0 ∷ kind_value n.
 abbrev pub open_link_value : List ℕ → OpenLink → Data
 open_link_value ids l = array (items_with (node_value ids l.a ∷ node_value ids l.b ∷ node_value ids l.node ∷ kind_value l.kind ∷ []))
 
+-- the JSON value of a fact
 abbrev pub fact_value : List ℕ → Fact → Data
 fact_value ids (count n) = number (unsigned n)
 fact_value ids (clause n) = number (unsigned n)
@@ -171,5 +177,6 @@ abbrev pub FitsCount : Fact → Type 0
 FitsCount (count n) = n < 2 ^ 64
 FitsCount _ = Unit {0}
 
+-- each number beside identifiers and clauses fits 64 bits
 abbrev pub HaveFittingCounts : Fields → Type 0
 HaveFittingCounts fs = AllByRecursion (λ f. FitsCount f.1) fs

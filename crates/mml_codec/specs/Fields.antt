@@ -13,6 +13,7 @@ pub data Field : Type 0 where
   truth : Bool → Field
   null : Field
 
+-- the JSON value of what a key holds
 abbrev pub value_of : Field → value.Data
 value_of (number n) = value.number (value.unsigned n)
 value_of (word w) = value.string w
@@ -20,9 +21,11 @@ value_of (text s) = value.string s
 value_of (truth b) = value.boolean b
 value_of null = value.null
 
+-- the key with its JSON value
 abbrev pub member_of : List ℕ × Field → List ℕ × value.Data
 member_of f = (f.0, value_of f.1)
 
+-- the keys with their JSON values, in this order
 abbrev pub members_of : List (List ℕ × Field) → value.Members
 members_of fs = members_with (map member_of fs)
 
@@ -30,7 +33,7 @@ members_of fs = members_with (map member_of fs)
 abbrev pub object_of : List (List ℕ × Field) → value.Data
 object_of fs = object_with (map member_of fs)
 
--- its number fits 64 bits, its text is UTF-8
+-- a field's number fits 64 bits, a text is UTF-8
 abbrev pub IsWritableField : Field → Type 0
 IsWritableField (number n) = n < 2 ^ 64
 IsWritableField (word w) = Unit {0}
@@ -38,6 +41,7 @@ IsWritableField (text s) = IsUtf8 s
 IsWritableField (truth b) = Unit {0}
 IsWritableField null = Unit {0}
 
+-- each number fits 64 bits, and each text is UTF-8
 abbrev pub AreWritable : List (List ℕ × Field) → Type 0
 AreWritable fs = AllByRecursion (λ f. IsWritableField f.1) fs
 
@@ -49,5 +53,6 @@ Has d (key, text s) = text_at key d ≡ Some s
 Has d (key, truth b) = truth_at key d ≡ Some b
 Has d (key, null) = register_at key d ≡ Some None
 
+-- the value has each of the fields
 abbrev pub HasEach : value.Data → List (List ℕ × Field) → Type 0
 HasEach d fs = AllByRecursion (Has d) fs

@@ -18,7 +18,7 @@ use Rattle.mml_codec.specs.declared.greeting.Greeting.{Greeting}
 use Rattle.mml_codec.specs.declared.greeting.Greeting.TheVariants.{Answered, LeftToJudge}
 use Rattle.mml_codec.specs.Replies.{IsAbout}
 
--- how a line that is no request is refused
+-- how a line from which no request was read is refused
 abbrev pub refusal_of : LineFault → Refused
 refusal_of fault.Malformed = refused.Malformed
 refusal_of fault.Memory = refused.Memory
@@ -27,7 +27,7 @@ refusal_of fault.Memory = refused.Memory
 abbrev pub denied : Denial → Option Who → Greeting
 denied d known = Answered (replies.Deny d) known
 
--- the name and key of nobody are denied
+-- what comes of a hello, by whose name and key it has: those of nobody are denied
 abbrev pub admitted : Option Who → Greeting
 admitted None = denied denial.Unknown None
 admitted (Some who) = Answered (replies.Hello who) (Some who)
@@ -40,7 +40,7 @@ greeting roster known requests.Bye = Answered replies.Bye None
 greeting roster None (requests.Do c) = denied denial.NotGreeted None
 greeting roster (Some who) (requests.Do c) = LeftToJudge who c
 
--- the same where the reply stands apart; none is told where a command is left to judge
+-- what comes of a request, where its reply stands apart; no reply is told where a command is left to judge
 abbrev pub greeting_with : Greeted → Reply → Greeting
 greeting_with (greeted.Known known) r = Answered r known
 greeting_with (greeted.LeftToJudge who c) r = LeftToJudge who c

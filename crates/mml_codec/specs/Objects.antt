@@ -2,10 +2,12 @@
 use Rattle.std.specs.Prelude.{ℕ, List, [], ◌∷◌, map}
 use Rattle.serde_json.specs.Data.{Data, array, object, Items, no_items, item, Members, no_members, member}
 
+-- these values as the items of an array
 abbrev pub items_with : List Data → Items
 items_with [] = no_items
 items_with (d ∷ ds) = item d (items_with ds)
 
+-- these keys with their values as the members of an object
 abbrev pub members_with : List (List ℕ × Data) → Members
 members_with [] = no_members
 members_with (m ∷ ms) = member m.0 m.1 (members_with ms)

@@ -22,13 +22,15 @@ use Rattle.mml_codec.specs.Facts.{Fact, Fields, object_text}
 
 -- ---- the table: each key in its place, and what it tells
 
+-- the key that tells which request was granted, by its word
 abbrev pub ok : List ℕ → List ℕ × Fact
 ok word = (codes "ok", fact.word word)
 
--- the number after an event, and the place of the event
+-- the key with the number of a configuration
 abbrev pub at_key : ℕ → List ℕ × Fact
 at_key at = (codes "at", fact.count at)
 
+-- the key with the place of an event
 abbrev pub place_key : ℕ → List ℕ × Fact
 place_key place = (codes "place", fact.count place)
 
@@ -48,28 +50,34 @@ done_fields at place (done.Link a b dropped) = ends_fields verb.link.told at pla
 done_fields at place (done.Cut a b dropped) = ends_fields verb.cut.told at place a b dropped
 done_fields at place (done.Release node) = at_key at ∷ (codes "node", fact.node node) ∷ ok verb.release.told ∷ place_key place ∷ []
 
+-- the reply to a hello names who is known from then on
 abbrev pub hello_fields : List ℕ → Fields
 hello_fields name = ok verb.hello ∷ (codes "who", fact.word name) ∷ []
 
+-- the reply to a bye
 abbrev pub bye_fields : Fields
 bye_fields = ok verb.bye ∷ []
 
+-- what a see tells
 abbrev pub see_fields : See → Fields
 see_fields s = at_key s.at ∷ (codes "m", fact.truth s.regs.m) ∷ (codes "node", fact.node s.node) ∷ ok verb.see ∷ (codes "p", fact.pointer s.regs.p) ∷ []
 
+-- what a look tells
 abbrev pub look_fields : Look → Fields
 look_fields l = at_key l.at ∷ (codes "chosen", fact.rule_or_null l.chosen) ∷ (codes "m", fact.truth l.regs.m) ∷ (codes "near", fact.near l.near)
     ∷ (codes "node", fact.node l.node) ∷ ok verb.look ∷ (codes "p", fact.pointer l.regs.p) ∷ (codes "rule", fact.rule_or_null l.enabled) ∷ []
 
+-- what a report tells
 abbrev pub report_fields : Report → Fields
 report_fields r = at_key r.at ∷ (codes "free", fact.nodes r.free) ∷ ok verb.report ∷ (codes "open", fact.open_links r.open_links)
     ∷ (codes "pairs", fact.pairs r.pairs) ∷ (codes "privileged", fact.privileged r.privileged) ∷ (codes "stable", fact.truth r.stable) ∷ []
 
--- one who is late is told the current number
+-- the number of the current configuration, which only the denial `stale` tells
 abbrev pub current_number : Denial → Option ℕ
 current_number (denial.Stale at) = Some at
 current_number _ = None
 
+-- the number of a configuration, if there is one, before the other fields
 abbrev pub number_first : Option ℕ → Fields → Fields
 number_first None fs = fs
 number_first (Some at) fs = at_key at ∷ fs
@@ -78,18 +86,22 @@ number_first (Some at) fs = at_key at ∷ fs
 abbrev pub told_fields : ℕ → List ℕ → List ℕ → Fields
 told_fields clause name said = (codes "clause", fact.clause clause) ∷ (codes "deny", fact.word name) ∷ (codes "text", fact.word said) ∷ []
 
+-- what a denial tells
 abbrev pub deny_fields : Denial → Fields
 deny_fields d = number_first (current_number d) (told_fields (clause_of d) (denials.denial_name d) (text_of d))
 
+-- the word of a refusal
 abbrev pub refusal_name : Refused → List ℕ
 refusal_name refused.Malformed = codes "malformed"
 refusal_name refused.Full = codes "full"
 refusal_name refused.Journal = codes "journal"
 refusal_name refused.Memory = codes "memory"
 
+-- what a refusal tells
 abbrev pub refuse_fields : Refused → Fields
 refuse_fields r = (codes "refuse", fact.word (refusal_name r)) ∷ []
 
+-- the keys of each reply, and what each tells
 abbrev pub fields_of : RosterValue → Reply → Fields
 fields_of roster (replies.Hello who) = hello_fields (name_of roster who)
 fields_of roster replies.Bye = bye_fields
@@ -111,7 +123,7 @@ fields_of roster (replies.Refuse r) = refuse_fields r
 abbrev pub text : List ℕ → RosterValue → Reply → List ℕ
 text ids roster r = object_text ids (fields_of roster r)
 
--- with a newline at its end
+-- the line of a reply: its text with a newline at its end
 abbrev pub reply_line : List ℕ → RosterValue → Reply → List ℕ
 reply_line ids roster r = text ids roster r ++ 10 ∷ []
 

@@ -27,10 +27,12 @@ abbrev mutual
   has_rising_keys (array ds) = items_have_rising_keys ds
   has_rising_keys (object ms) = members_rise ms
 
+  -- the keys rise in each value of an array
   pub items_have_rising_keys : Items → Bool
   items_have_rising_keys no_items = true
   items_have_rising_keys (item d ds) = has_rising_keys d && items_have_rising_keys ds
 
+  -- the keys of an object rise, and so do those in its values
   pub members_rise : Members → Bool
   members_rise no_members = true
   members_rise (member k d ms) = comes_first k ms && (has_rising_keys d && members_rise ms)

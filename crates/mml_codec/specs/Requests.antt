@@ -15,6 +15,7 @@ use Rattle.mml_codec.specs.Fields.{Field, number, word, text, truth, null}
 
 -- ---- the table: each word with its keys, in byte order
 
+-- the word by which a rule is asked for
 abbrev pub rule_word : Asked → List ℕ
 rule_word asked.Update = rule_name kind.Update
 rule_word (asked.Marriage id) = rule_name kind.Marriage
@@ -28,7 +29,7 @@ partner_fields (asked.Marriage id) = (codes "with", number id) ∷ []
 partner_fields asked.Seduction = []
 partner_fields asked.Abandonment = []
 
--- a number, or null
+-- what a key holds for a register: the identifier that it is to point at, or null
 abbrev pub register : Option ℕ → Field
 register None = null
 register (Some n) = number n
@@ -59,7 +60,7 @@ fields_of (requests.Do c) = command_fields c
 
 -- ---- how a value is read: it asks a request exactly where it has each field of it, as a law says
 
--- a rule by its word, and for a marriage the partner
+-- a rule by its word, if it is that of one of the four, and for a marriage the partner
 unfoldable pub asked_at : Data → Option Asked
 asked_at d = do
   w ← text_at (codes "rule") d
@@ -69,25 +70,27 @@ asked_at d = do
       else (if bytes_eq w (rule_name kind.Abandonment) then Some asked.Abandonment
       else None)))
 
+-- a hello, if name and key are there
 unfoldable pub hello_of : Data → Option Request
 hello_of d = do
   name ← text_at (codes "name") d
   key ← text_at (codes "key") d
   Some (requests.Hello name key)
 
--- a command that names one node
+-- the request for a command that names one node, if the node is there
 abbrev pub node_of : (ℕ → Command) → Data → Option Request
 node_of c d = do
   node ← number_at (codes "node") d
   Some (requests.Do (c node))
 
--- a command that names two nodes
+-- the request for a command that names two nodes, if both are there
 abbrev pub ends_of : (ℕ → ℕ → Command) → Data → Option Request
 ends_of c d = do
   a ← number_at (codes "a") d
   b ← number_at (codes "b") d
   Some (requests.Do (c a b))
 
+-- a move, if its node, the number of a configuration and its rule are there
 unfoldable pub move_of : Data → Option Request
 move_of d = do
   node ← number_at (codes "node") d
@@ -95,6 +98,7 @@ move_of d = do
   rule ← asked_at d
   Some (requests.Do (command.Move node rule at))
 
+-- a fault, if its node and both registers are there
 unfoldable pub fault_of : Data → Option Request
 fault_of d = do
   node ← number_at (codes "node") d

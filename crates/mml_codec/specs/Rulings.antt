@@ -13,7 +13,7 @@ use Rattle.mml_codec.specs.declared.reply.Refused.TheVariants as refused
 use Rattle.mml_codec.specs.declared.reply.Reply.{Reply}
 use Rattle.mml_codec.specs.declared.reply.Reply.TheVariants as replies
 
--- an event that took place, with the number and the place after it
+-- the reply to an event that took place, with the number and the place after it
 abbrev pub reply_of_done : ℕ → ℕ → Done → Reply
 reply_of_done at place (done.Move node kind) = replies.Move at place node kind
 reply_of_done at place (done.Close moved) = replies.Close at place moved
@@ -28,7 +28,7 @@ refusal_for refusal.Full = refused.Full
 refusal_for refusal.Journal = refused.Journal
 refusal_for refusal.Memory = refused.Memory
 
--- what came of a command, with the world after it
+-- the reply to what came of a command, with the world after it
 abbrev pub reply_of : World → Ruling → Reply
 reply_of w (ruling.Denied d) = replies.Deny d
 reply_of w (ruling.Seen s) = replies.See s

@@ -25,8 +25,8 @@ pub enum Greeted {
     LeftToJudge { who: Who, command: Command },
 }
 
-/// What comes of a request on a connection that is known as someone, or as no one yet: a greeting
-/// and a bye are answered, and only the command of one who is known is judged.
+/// What comes of a request on a connection that is known as someone, or as no one: a hello and a bye are
+/// answered, a command is denied where no one is known, and else left to judge.
 pub fn greet(roster: &Roster, known: Option<Who>, request: Request) -> Greeting
     requires { IfSome known (IsPrincipal roster.now) }
     ensures greeting { result ≡ greeting roster.now known request }
@@ -39,8 +39,8 @@ pub fn greet(roster: &Roster, known: Option<Who>, request: Request) -> Greeting
     }
 }
 
-/// As `greet`, of a request that is lent, with the reply put where it stays, since both are large to hand on.
-/// Where a command is left to judge, the reply stays as it was.
+/// What comes of a request on a connection that is known as someone, or as no one: a hello, a bye and a command of
+/// no one are answered in `reply`, which stays as it was where the command of one who is known is left to judge.
 pub fn greet_into(
     roster: &Roster,
     known: Option<Who>,
@@ -68,7 +68,8 @@ pub fn greet_into(
     }
 }
 
-// What comes of a hello, by whose name and key those are.
+// What comes of a hello on a connection that is known as no one, with the reply put into `reply`: `found` is whose
+// name and key it has, if they are anyone's.
 fn admit_into(found: Option<Who>, reply: &mut Reply) -> Greeted
     ensures { greeting_with result reply.new ≡ admitted found }
 {
@@ -82,7 +83,7 @@ fn admit_into(found: Option<Who>, reply: &mut Reply) -> Greeted
     }
 }
 
-// A denial, after which the connection is known as before.
+// Puts a denial into `reply`, and tells that the connection is known as before: `known`.
 fn deny_into(denial: Denial, known: Option<Who>, reply: &mut Reply) -> Greeted
     ensures { greeting_with result reply.new ≡ denied denial known }
 {

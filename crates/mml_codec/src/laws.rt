@@ -40,7 +40,7 @@ pub fn a_request_is_asked_by_its_fields()
     ensures { (d : Data) (r : Request) → (request d ≡ Some r) ↔ HasEach d (fields_of r) }
 {}
 
-/// A request is read again from its text.
+/// A request whose numbers fit 64 bits, and whose texts are UTF-8, is read again from its text.
 pub fn a_text_asks_its_request()
     ensures { (r : Request) → IsWritable r → request_in (canonical r) ≡ Ok r }
 {}
@@ -56,8 +56,8 @@ pub fn a_reply_is_one_line()
         IsAbout ids roster r → AreWritableCounts roster r → All (λ byte. byte ≢ 10) (text ids roster r) }
 {}
 
-/// The text of a reply spells an object, without a space, and is read as that object, whose keys rise
-/// in byte order.
+/// The text of a reply spells an object, with no space between its parts, and is read as that object, whose
+/// keys rise in byte order.
 pub fn a_reply_reads_back()
     ensures text { (ids : List ℕ) (roster : RosterValue) (r : Reply) → IsRoster roster →
         IsAbout ids roster r → text ids roster r ≡ compact_text (reply_value ids roster r) }
@@ -68,8 +68,8 @@ pub fn a_reply_reads_back()
         has_rising_keys (reply_value ids roster r) ≡ true }
 {}
 
-/// A hello is granted exactly to the one who takes part under that name and key, and the connection is
-/// then known as that one; after a bye it is known as no one, and after a denial as before.
+/// Where a connection is known as no one, a hello is granted exactly to the one who takes part under that name
+/// and key, as whom it is then known; after a bye it is known as no one, and after a denial as it was.
 pub fn a_greeting_tells_who_is_known()
     ensures hello { (r : RosterValue) (name key : List ℕ) (who : Who) (known : Option Who) →
         IsRoster r →
@@ -82,7 +82,7 @@ pub fn a_greeting_tells_who_is_known()
         greeting r before q ≡ Answered (replies.Deny d) known → known ≡ before }
 {}
 
-/// The lines of refusals are the same in each lab.
+/// The line of each refusal is the same in each lab: the constant of its name.
 #[tactic(auto, unfolding(crate::specs::Facts::object_text))]
 pub fn refusals_have_fixed_lines()
     ensures malformed { (ids : List ℕ) (roster : RosterValue) →
@@ -102,8 +102,8 @@ pub fn limits()
     ensures room { REPLY_ROOM ≡ 2048 }
 {}
 
-/// The reply to an event names the number and the place that it is given, and the nodes of the event
-/// as they were asked for.
+/// The reply to an event names the number and the place that `reply_of_done` is given, and the event's nodes: of a
+/// close those that were chosen. A move's names its rule's kind; a fault's, link's or cut's how many chosen moves end.
 pub fn a_grant_is_told()
     ensures chosen { (at place : ℕ) (w : World) (s i : ℕ) (rule : Rule) →
         reply_of_done at place (done_by w (event.Grant s i rule))

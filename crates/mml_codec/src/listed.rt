@@ -14,7 +14,7 @@ use mml_stable::OpenLink;
 // Enough for each one of a list, with the comma before it.
 const ITEM_ROOM: usize = 64;
 
-/// One of a list in a reply.
+/// One item of a list in a reply.
 pub(crate) trait Listed {
     // It names nodes that have identifiers.
     ghost names: { List ℕ → Self → Type 0 };
@@ -22,7 +22,7 @@ pub(crate) trait Listed {
     // Its text, in a lab with these identifiers.
     ghost text: { List ℕ → Self → List ℕ };
 
-    // The text with its own behind it.
+    // The line with the text of this item behind it.
     fn with_item(&self, line: Vec<u8>, ids: &IdTable) -> Vec<u8>
         requires names { names ids.now self.now }
         requires room { length line.items + 63 ≤ vec_capacity line }
@@ -30,7 +30,8 @@ pub(crate) trait Listed {
         ensures capacity { vec_capacity result ≡ vec_capacity line };
 }
 
-/// Puts the texts of a list, with commas between them.
+/// Puts the texts of a list behind what the vector holds, with commas between them and without brackets. Where
+/// memory runs out, some of the first stand there, or none.
 pub(crate) fn put_list<T: Listed>(
     ids: &IdTable,
     items: &[T],
@@ -57,8 +58,8 @@ pub(crate) fn put_list<T: Listed>(
     Ok(())
 }
 
-// The line with room for one more, or as it was where there is no memory for that. It comes by value,
-// so that its length can stay in a register.
+// The line with room for one item more, or as `Err` the line as it was, where there is no memory for that.
+// It comes by value, so that its length can stay in a processor's register.
 #[inline(always)]
 fn with_room(line: Vec<u8>) -> Result<Vec<u8>, Vec<u8>>
     ensures same { MatchResult result (λ l. l.items ≡ line.items) (λ l. l.items ≡ line.items) }
@@ -72,6 +73,8 @@ fn with_room(line: Vec<u8>) -> Result<Vec<u8>, Vec<u8>>
     Ok(line)
 }
 
+// The line, grown to have room for one item more, or as `Err` as it was, where there is no memory for that. This
+// rare case of `with_room` stands apart, so that `with_room` is short.
 #[inline(never)]
 fn grown(line: Vec<u8>) -> Result<Vec<u8>, Vec<u8>>
     ensures same { MatchResult result (λ l. l.items ≡ line.items) (λ l. l.items ≡ line.items) }
@@ -86,7 +89,7 @@ fn grown(line: Vec<u8>) -> Result<Vec<u8>, Vec<u8>>
     }
 }
 
-// A comma, where one stood before.
+// The line with a comma behind it if `later`, where an item stands there already; else as it is.
 #[inline(always)]
 pub(crate) fn with_comma(line: Vec<u8>, later: bool) -> Vec<u8>
     requires { length line.items + 1 ≤ vec_capacity line }
@@ -97,7 +100,7 @@ pub(crate) fn with_comma(line: Vec<u8>, later: bool) -> Vec<u8>
     if later { with_text(line, ",") } else { line }
 }
 
-// A node.
+// A node, told by its identifier.
 impl Listed for Rank {
     ghost names = { λ ids i. i < length ids };
 
@@ -109,7 +112,7 @@ impl Listed for Rank {
     }
 }
 
-// A node that is linked to the one that is looked at, and its registers.
+// A node that is linked to the one that is looked at, told with its registers as an object.
 impl Listed for (Rank, Regs) {
     ghost names = { IsNear };
 
@@ -126,7 +129,8 @@ impl Listed for (Rank, Regs) {
     }
 }
 
-// A truth value from the beginning of its object to the next key's value, as one literal.
+// The line with the beginning of an object behind it: a truth value by the key `m`, and the key `node`, as one
+// literal.
 #[inline(always)]
 fn with_first_m_then_node(line: Vec<u8>, m: bool) -> Vec<u8>
     requires { length line.items + 18 ≤ vec_capacity line }
@@ -142,7 +146,7 @@ fn with_first_m_then_node(line: Vec<u8>, m: bool) -> Vec<u8>
     }
 }
 
-// Two nodes that point at each other.
+// Two nodes that point at each other, told by their identifiers as an array.
 impl Listed for (Rank, Rank) {
     ghost names = { λ ids p. IsPairOf (length ids) p };
 
@@ -160,7 +164,7 @@ impl Listed for (Rank, Rank) {
     }
 }
 
-// A privileged node and the rule that is enabled there.
+// A privileged node and the rule that is enabled there, told as an array.
 impl Listed for (Rank, Kind) {
     ghost names = { λ ids n. n.0 < length ids };
 
@@ -178,6 +182,7 @@ impl Listed for (Rank, Kind) {
     }
 }
 
+// A link between two free nodes, its witness and the rule that is enabled there, told as an array.
 impl Listed for OpenLink {
     ghost names = { λ ids l. IsOpenLinkOf (length ids) l };
 

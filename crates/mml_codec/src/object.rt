@@ -1,3 +1,4 @@
+//! Flat objects as text. Where an error comes out, there was no memory for what was to be written.
 ghost use Rattle.std.specs.Prelude.{◌≡◌, ◌++◌, map, IfOk, OnOk};
 ghost use Rattle.json.specs.Tree.{json_tokens};
 ghost use Rattle.serde_json.specs.Written.{compact_text, outline};
@@ -19,7 +20,7 @@ pub(crate) enum Field<'a> {
     Null,
 }
 
-/// The text of the object with these keys, in this order.
+/// The text of the object that has each key of `members` with what it holds, in their order.
 pub(crate) fn object_text(
     alloc: Global,
     members: &[(&'static str, Field<'_>)],
@@ -36,7 +37,7 @@ pub(crate) fn object_text(
     Ok(writer.into_inner())
 }
 
-// Puts a key and what it holds.
+// Writes a key of an object and what the key holds.
 fn put_member(writer: &mut Writer, member: &(&'static str, Field<'_>)) -> Result<(), AllocError>
     ensures before { writer.new.before ≡ writer.old.before }
     ensures tokens { OnOk result
@@ -46,7 +47,7 @@ fn put_member(writer: &mut Writer, member: &(&'static str, Field<'_>)) -> Result
     put_field(writer, member.1)
 }
 
-// Puts what a key holds.
+// Writes what a key of an object holds.
 fn put_field(writer: &mut Writer, field: Field<'_>) -> Result<(), AllocError>
     ensures before { writer.new.before ≡ writer.old.before }
     ensures tokens { OnOk result (writer.new.tokens ≡

@@ -39,6 +39,7 @@ impl From<Refusal> for Refused {
 
     ghost from_gives = { λ refusal refused. refused ≡ refusal_for refusal };
 
+    // How a reply tells why a command that is allowed was refused: by the same name.
     fn from(refusal: Refusal) -> Refused {
         match refusal {
             Refusal::Full => Refused::Full,

@@ -1,12 +1,11 @@
+//! The text of replies. Where an error `Memory` comes out, there was no memory for what was to be put.
 ghost use Rattle.std.specs.Prelude.{codes, decimal, ◌≡◌, ◌≤◌, ◌<◌, ◌+◌, ◌^◌, ◌++◌, ◌∷◌, [], true, length, map, OnOk, OnErr, IsOk, IfSome, vec_capacity, if◌then◌else◌};
-ghost use Rattle.mml_ids.specs.Pieces.{piece_text, piece_room, Puts, Adds};
+ghost use Rattle.mml_ids.specs.Pieces.{piece_text, piece_room, truth_text, Puts, Adds};
 ghost use Rattle.mml_ids.specs.declared.piece.Piece.TheVariants.{Number};
 ghost use Rattle.mml_lab.specs.Rosters.{name_of, IsPrincipal};
 ghost use Rattle.mml_board.specs.declared.done.Done.TheVariants as done;
-ghost use Rattle.mml_ids.specs.Pieces.{truth_text};
 ghost use Rattle.mml_codec.specs.Facts.{pointer_text, kind_text, kind_or_null, node_text, members, separated, object_text, HaveFittingCounts};
-ghost use Rattle.mml_codec.specs.Replies.{done_fields, ends_fields, hello_fields, bye_fields, see_fields, look_fields, current_number, deny_fields};
-ghost use Rattle.mml_codec.specs.Replies.{refuse_fields, refusal_name, text, reply_line, is_short, IsAbout, TellsFor};
+ghost use Rattle.mml_codec.specs.Replies.{done_fields, ends_fields, hello_fields, bye_fields, see_fields, look_fields, current_number, deny_fields, refuse_fields, refusal_name, text, reply_line, is_short, IsAbout, TellsFor};
 ghost use Rattle.mml_codec.specs.ReplyValues.{AreWritableCounts};
 ghost use Rattle.mml_policy.specs.About.{IsSeen, IsLookedAt};
 ghost use Rattle.mml_codec.specs.inside.Puts.{number_front, deny_parts, look_head, look_tail, look_parts, joined_text};
@@ -15,8 +14,8 @@ use crate::listed::{put_list, with_comma};
 use crate::reply::{REPLY_ROOM, Refused, Reply};
 use crate::report_writing::put_report;
 use mml_ids::{
-    IdTable, Memory, NodeSet, Piece, Rank, make_room, put, taken, truth_text, with_id, with_number,
-    with_text,
+    IdTable, Memory, NodeSet, Piece, Rank, make_room, put, taken, truth_text, with_number,
+    with_short_number, with_text,
 };
 use mml_lab::{Roster, Who};
 use mml_policy::{Denial, Look, See};
@@ -36,6 +35,7 @@ struct Moment {
     place: u64,
 }
 
+// The moment of an event, from the fields of the reply to it.
 fn moment_of(at: &u64, place: &u64) -> Moment
     ensures moment { result ≡ record { at = at.now; place = place.now } }
     ensures at { at.now < 2 ^ 64 }
@@ -47,8 +47,8 @@ fn moment_of(at: &u64, place: &u64) -> Moment
     }
 }
 
-/// Puts the line of a reply, with its newline, in the place of what the vector holds. The vector
-/// grows by its own allocator.
+/// Puts the line of a reply, with its newline, in the place of what the vector holds, which grows by its own
+/// allocator. Where memory runs out, it is left empty: `REPLY_ROOM` is enough but for a look or a report.
 pub fn write_reply(
     _alloc: Global,
     ids: &IdTable,
@@ -73,8 +73,8 @@ pub fn write_reply(
     written
 }
 
-/// Puts the line of a reply, or one that tells out of memory, in the place of what the vector holds,
-/// and gives the reply whose line it is.
+/// Puts the line of a reply, or the refusal `memory` where there is no memory for that, in the place of what the
+/// vector holds, and gives the reply whose line it is.
 pub fn tell_reply(
     alloc: Global,
     ids: &IdTable,
@@ -94,8 +94,8 @@ pub fn tell_reply(
     }
 }
 
-/// Puts the line of a short reply behind what the vector holds, where that has room for any such, and
-/// tells whether it did. It takes no memory.
+/// Puts the line of a reply behind what the vector holds, unless it is a look or a report, or less than
+/// `REPLY_ROOM` is free there, and tells whether it did. It takes no memory.
 pub fn append_reply(ids: &IdTable, roster: &Roster, reply: &Reply, out: &mut Vec<u8>) -> bool
     requires { IsAbout ids.now roster.now reply.now }
     ensures told { length out.old.items + REPLY_ROOM ≤ vec_capacity out.old →
@@ -112,14 +112,14 @@ pub fn append_reply(ids: &IdTable, roster: &Roster, reply: &Reply, out: &mut Vec
     true
 }
 
-// Whether a reply's line needs no more than a fixed room.
+// Whether a reply's line fits into `REPLY_ROOM` bytes in each lab: a look and a report list nodes.
 fn is_short(reply: &Reply) -> bool
     ensures { result ≡ is_short reply.now }
 {
     !matches!(reply, Reply::Look(_) | Reply::Report(_))
 }
 
-// Puts the line that tells out of memory, for which there is room.
+// Puts the line of the refusal `memory` in the place of what the vector holds, and gives that refusal.
 fn tell_want_of_memory(alloc: Global, ids: &IdTable, roster: &Roster, out: &mut Vec<u8>) -> Reply
     requires room { REPLY_ROOM ≤ vec_capacity out.old }
     ensures told { result ≡ Reply.Refuse Refused.Memory }
@@ -131,6 +131,7 @@ fn tell_want_of_memory(alloc: Global, ids: &IdTable, roster: &Roster, out: &mut 
     told
 }
 
+// Puts the line of a reply, with its newline, behind what the vector holds.
 fn put_line(ids: &IdTable, roster: &Roster, reply: &Reply, out: &mut Vec<u8>) -> Result<(), Memory>
     requires { IsAbout ids.now roster.now reply.now }
     ensures line { OnOk result
@@ -149,7 +150,7 @@ fn put_line(ids: &IdTable, roster: &Roster, reply: &Reply, out: &mut Vec<u8>) ->
     put_end(out)
 }
 
-// Puts the newline of a line.
+// Puts a newline behind what the vector holds.
 fn put_end(out: &mut Vec<u8>) -> Result<(), Memory>
     ensures { Puts (10 ∷ []) 1 out.old out.new result }
 {
@@ -160,6 +161,7 @@ fn put_end(out: &mut Vec<u8>) -> Result<(), Memory>
     put(out, &[Piece::Text("\n")])
 }
 
+// Puts the text of a reply, without its newline, behind what the vector holds.
 fn put_text(ids: &IdTable, roster: &Roster, reply: &Reply, out: &mut Vec<u8>) -> Result<(), Memory>
     requires { IsAbout ids.now roster.now reply.now }
     ensures text { OnOk result
@@ -213,6 +215,7 @@ fn put_text(ids: &IdTable, roster: &Roster, reply: &Reply, out: &mut Vec<u8>) ->
     }
 }
 
+// Puts the reply to a granted hello behind what the vector holds.
 fn put_hello(ids: &IdTable, roster: &Roster, who: Who, out: &mut Vec<u8>) -> Result<(), Memory>
     requires { IsPrincipal roster.now who }
     ensures { Puts (object_text ids.now
@@ -223,7 +226,7 @@ fn put_hello(ids: &IdTable, roster: &Roster, who: Who, out: &mut Vec<u8>) -> Res
     Ok(())
 }
 
-// By pieces a hello and its bye took 294 instructions more.
+// The text with the reply to a granted hello behind it. By `Piece`s, that and a bye's took 294 instructions more.
 #[inline(always)]
 #[tactic(auto, unfolding(crate::specs::Facts::object_text))]
 fn with_hello(text: Vec<u8>, ids: &IdTable, roster: &Roster, who: Who) -> Vec<u8>
@@ -237,6 +240,7 @@ fn with_hello(text: Vec<u8>, ids: &IdTable, roster: &Roster, who: Who) -> Vec<u8
     with_text(text, "\"}")
 }
 
+// Puts the reply to a granted see behind what the vector holds.
 fn put_see(ids: &IdTable, see: &See, out: &mut Vec<u8>) -> Result<(), Memory>
     requires about { IsSeen ids.now see.now }
     ensures puts { Puts (object_text ids.now (see_fields see.now)) TEXT_ROOM out.old out.new result }
@@ -248,6 +252,7 @@ fn put_see(ids: &IdTable, see: &See, out: &mut Vec<u8>) -> Result<(), Memory>
     Ok(())
 }
 
+// The text with the reply to a granted see behind it.
 #[inline(always)]
 #[tactic(auto, unfolding(crate::specs::Facts::object_text))]
 fn with_see(text: Vec<u8>, ids: &IdTable, see: &See) -> Vec<u8>
@@ -264,6 +269,7 @@ fn with_see(text: Vec<u8>, ids: &IdTable, see: &See) -> Vec<u8>
     with_pointer_at_end(text, ids, see.regs.p)
 }
 
+// Puts the reply to a granted look behind what the vector holds.
 fn put_look(ids: &IdTable, look: &Look, out: &mut Vec<u8>) -> Result<(), Memory>
     requires { IsLookedAt ids.now look.now }
     ensures text { OnOk result
@@ -274,6 +280,7 @@ fn put_look(ids: &IdTable, look: &Look, out: &mut Vec<u8>) -> Result<(), Memory>
     put_look_parts(ids, look, out)
 }
 
+// Puts the reply to a granted look by its parts: what stands before the linked nodes, they, and what stands after.
 #[tactic(auto, unfolding(crate::specs::inside::Puts::look_parts))]
 fn put_look_parts(ids: &IdTable, look: &Look, out: &mut Vec<u8>) -> Result<(), Memory>
     requires { IsLookedAt ids.now look.now }
@@ -286,6 +293,7 @@ fn put_look_parts(ids: &IdTable, look: &Look, out: &mut Vec<u8>) -> Result<(), M
     put_look_tail(ids, look, out)
 }
 
+// Puts what stands before the linked nodes in the reply to a granted look, behind what the vector holds.
 fn put_look_head(look: &Look, out: &mut Vec<u8>) -> Result<(), Memory>
     ensures text { OnOk result
         (out.new.items ≡ out.old.items ++ joined_text (look_head look.now)) }
@@ -298,6 +306,7 @@ fn put_look_head(look: &Look, out: &mut Vec<u8>) -> Result<(), Memory>
     Ok(())
 }
 
+// The text with what stands before the linked nodes in the reply to a granted look behind it.
 #[inline(always)]
 #[tactic(auto, unfolding(crate::specs::inside::Puts::joined_text))]
 fn with_look_head(text: Vec<u8>, look: &Look) -> Vec<u8>
@@ -314,6 +323,7 @@ fn with_look_head(text: Vec<u8>, look: &Look) -> Vec<u8>
     with_text(text, ",\"near\":[")
 }
 
+// Puts what stands after the linked nodes in the reply to a granted look, behind what the vector holds.
 fn put_look_tail(ids: &IdTable, look: &Look, out: &mut Vec<u8>) -> Result<(), Memory>
     requires { IsLookedAt ids.now look.now }
     ensures text { OnOk result
@@ -325,6 +335,7 @@ fn put_look_tail(ids: &IdTable, look: &Look, out: &mut Vec<u8>) -> Result<(), Me
     Ok(())
 }
 
+// The text with what stands after the linked nodes in the reply to a granted look behind it.
 #[inline(always)]
 #[tactic(auto, unfolding(crate::specs::inside::Puts::joined_text))]
 fn with_look_tail(text: Vec<u8>, ids: &IdTable, look: &Look) -> Vec<u8>
@@ -342,6 +353,7 @@ fn with_look_tail(text: Vec<u8>, ids: &IdTable, look: &Look) -> Vec<u8>
     with_text(text, "}")
 }
 
+// Puts the reply to a granted move behind what the vector holds.
 fn put_move(
     ids: &IdTable,
     moment: Moment,
@@ -358,6 +370,7 @@ fn put_move(
     Ok(())
 }
 
+// The text with the reply to a granted move behind it.
 #[inline(always)]
 #[tactic(auto, unfolding(crate::specs::Facts::object_text))]
 fn with_move(text: Vec<u8>, ids: &IdTable, moment: Moment, node: Rank, kind: Kind) -> Vec<u8>
@@ -377,6 +390,7 @@ fn with_move(text: Vec<u8>, ids: &IdTable, moment: Moment, node: Rank, kind: Kin
     with_text(text, "}")
 }
 
+// Puts the reply to a granted close behind what the vector holds.
 fn put_close(ids: &IdTable, moment: Moment, moved: NodeSet, out: &mut Vec<u8>) -> Result<(), Memory>
     ensures { Puts (object_text ids.now
         (done_fields moment.at moment.place (done.Close moved)))
@@ -387,6 +401,7 @@ fn put_close(ids: &IdTable, moment: Moment, moved: NodeSet, out: &mut Vec<u8>) -
     Ok(())
 }
 
+// The text with the reply to a granted close behind it.
 #[inline(always)]
 #[tactic(auto, unfolding(crate::specs::Facts::object_text))]
 fn with_close(text: Vec<u8>, ids: &IdTable, moment: Moment, moved: NodeSet) -> Vec<u8>
@@ -403,7 +418,7 @@ fn with_close(text: Vec<u8>, ids: &IdTable, moment: Moment, moved: NodeSet) -> V
     with_text(text, "}")
 }
 
-// An identifier and its comma take 6 bytes at most, and there are 256 nodes at most.
+// The text with the identifiers of a set's nodes behind it, rising, with commas between: 256 of 6 bytes at most.
 #[inline(always)]
 fn with_members(text: Vec<u8>, ids: &IdTable, moved: NodeSet) -> Vec<u8>
     requires room { length text.items + 1536 ≤ vec_capacity text }
@@ -424,6 +439,7 @@ fn with_members(text: Vec<u8>, ids: &IdTable, moved: NodeSet) -> Vec<u8>
     line
 }
 
+// Puts the reply to a granted fault behind what the vector holds.
 fn put_fault(
     ids: &IdTable,
     moment: Moment,
@@ -440,6 +456,7 @@ fn put_fault(
     Ok(())
 }
 
+// The text with the reply to a granted fault behind it.
 #[inline(always)]
 #[tactic(auto, unfolding(crate::specs::Facts::object_text))]
 fn with_fault(text: Vec<u8>, ids: &IdTable, moment: Moment, node: Rank, dropped: u16) -> Vec<u8>
@@ -459,6 +476,7 @@ fn with_fault(text: Vec<u8>, ids: &IdTable, moment: Moment, node: Rank, dropped:
     with_text(text, "}")
 }
 
+// Puts the reply to a granted link behind what the vector holds.
 fn put_link(
     ids: &IdTable,
     moment: Moment,
@@ -475,6 +493,7 @@ fn put_link(
     put_ends(ids, "link", moment, ends, dropped, out)
 }
 
+// Puts the reply to a granted cut behind what the vector holds.
 fn put_cut(
     ids: &IdTable,
     moment: Moment,
@@ -491,6 +510,7 @@ fn put_cut(
     put_ends(ids, "cut", moment, ends, dropped, out)
 }
 
+// Puts the reply to a granted link or cut, by its word, behind what the vector holds.
 fn put_ends(
     ids: &IdTable,
     word: &'static str,
@@ -510,6 +530,7 @@ fn put_ends(
     Ok(())
 }
 
+// The text with the reply to a granted link or cut, by its word, behind it.
 #[inline(always)]
 #[tactic(auto, unfolding(crate::specs::Facts::object_text))]
 fn with_ends(
@@ -543,6 +564,7 @@ fn with_ends(
     with_text(text, "}")
 }
 
+// Puts the reply to a granted release behind what the vector holds.
 fn put_release(ids: &IdTable, moment: Moment, node: Rank, out: &mut Vec<u8>) -> Result<(), Memory>
     requires { node < length ids.now }
     ensures { Puts (object_text ids.now
@@ -553,6 +575,7 @@ fn put_release(ids: &IdTable, moment: Moment, node: Rank, out: &mut Vec<u8>) -> 
     Ok(())
 }
 
+// The text with the reply to a granted release behind it.
 #[inline(always)]
 #[tactic(auto, unfolding(crate::specs::Facts::object_text))]
 fn with_release(text: Vec<u8>, ids: &IdTable, moment: Moment, node: Rank) -> Vec<u8>
@@ -570,6 +593,7 @@ fn with_release(text: Vec<u8>, ids: &IdTable, moment: Moment, node: Rank) -> Vec
     with_text(text, "}")
 }
 
+// Puts a denial behind what the vector holds.
 fn put_denial(ids: &IdTable, denial: Denial, out: &mut Vec<u8>) -> Result<(), Memory>
     ensures puts { Puts (object_text ids.now (deny_fields denial)) TEXT_ROOM out.old out.new result }
     ensures count { HaveFittingCounts (deny_fields denial) }
@@ -577,6 +601,7 @@ fn put_denial(ids: &IdTable, denial: Denial, out: &mut Vec<u8>) -> Result<(), Me
     put_denial_parts(denial, out)
 }
 
+// Puts a denial behind what the vector holds, piece by piece.
 #[tactic(auto, unfolding(crate::specs::inside::Puts::deny_parts))]
 fn put_denial_parts(denial: Denial, out: &mut Vec<u8>) -> Result<(), Memory>
     ensures puts { Puts (deny_parts denial) TEXT_ROOM out.old out.new result }
@@ -597,6 +622,7 @@ fn put_denial_parts(denial: Denial, out: &mut Vec<u8>) -> Result<(), Memory>
     )
 }
 
+// Puts the opening brace of a denial, and the current number where the denial tells it: only `stale` does.
 fn put_number_first(denial: Denial, out: &mut Vec<u8>) -> Result<(), Memory>
     ensures puts { Puts (number_front (current_number denial)) 40 out.old out.new result }
     ensures count { HaveFittingCounts (deny_fields denial) }
@@ -610,6 +636,7 @@ fn put_number_first(denial: Denial, out: &mut Vec<u8>) -> Result<(), Memory>
     }
 }
 
+// Puts the reply to a bye behind what the vector holds.
 fn put_bye(ids: &IdTable, out: &mut Vec<u8>) -> Result<(), Memory>
     ensures { Puts (object_text ids.now bye_fields) TEXT_ROOM out.old out.new result }
 {
@@ -618,6 +645,7 @@ fn put_bye(ids: &IdTable, out: &mut Vec<u8>) -> Result<(), Memory>
     Ok(())
 }
 
+// The text with the reply to a bye behind it.
 #[inline(always)]
 #[tactic(auto, unfolding(crate::specs::Facts::object_text))]
 fn with_bye(text: Vec<u8>, ids: &IdTable) -> Vec<u8>
@@ -627,6 +655,7 @@ fn with_bye(text: Vec<u8>, ids: &IdTable) -> Vec<u8>
     with_text(text, "{\"ok\":\"bye\"}")
 }
 
+// Puts a refusal behind what the vector holds.
 #[tactic(auto, unfolding(crate::specs::Facts::object_text))]
 fn put_refusal(ids: &IdTable, refused: Refused, out: &mut Vec<u8>) -> Result<(), Memory>
     ensures { Puts (object_text ids.now (refuse_fields refused)) TEXT_ROOM out.old out.new result }
@@ -641,6 +670,7 @@ fn put_refusal(ids: &IdTable, refused: Refused, out: &mut Vec<u8>) -> Result<(),
     )
 }
 
+// The word that a reply has for a refusal.
 fn refusal_name(refused: Refused) -> &'static str
     ensures text { result.now ≡ refusal_name refused }
     ensures short { length result.now ≤ 40 }
@@ -653,7 +683,7 @@ fn refusal_name(refused: Refused) -> &'static str
     }
 }
 
-// The identifier of a node.
+// The text with the identifier of a node behind it.
 #[inline(always)]
 pub(crate) fn with_node(text: Vec<u8>, ids: &IdTable, node: Rank) -> Vec<u8>
     requires node { node < length ids.now }
@@ -662,9 +692,10 @@ pub(crate) fn with_node(text: Vec<u8>, ids: &IdTable, node: Rank) -> Vec<u8>
     ensures capacity { vec_capacity result ≡ vec_capacity text }
     ensures grows { length result.items ≤ length text.items + 5 }
 {
-    with_id(text, ids.node_id(node))
+    with_short_number(text, ids.id_of(node))
 }
 
+// The text with a truth value behind it.
 #[inline(always)]
 fn with_truth(text: Vec<u8>, m: bool) -> Vec<u8>
     requires { length text.items + 5 ≤ vec_capacity text }
@@ -679,6 +710,7 @@ fn with_truth(text: Vec<u8>, m: bool) -> Vec<u8>
     }
 }
 
+// The text with the quoted word of a kind of rule behind it, or with null.
 #[inline(always)]
 fn with_kind_or_null(text: Vec<u8>, kind: Option<Kind>) -> Vec<u8>
     requires { length text.items + 13 ≤ vec_capacity text }
@@ -692,7 +724,7 @@ fn with_kind_or_null(text: Vec<u8>, kind: Option<Kind>) -> Vec<u8>
     }
 }
 
-// The number, and what follows from its type.
+// The text with a number behind it. Its contract tells, too, that the number fits 64 bits.
 #[inline(always)]
 pub(crate) fn with_count(text: Vec<u8>, count: u64) -> Vec<u8>
     requires { length text.items + 20 ≤ vec_capacity text }
@@ -704,7 +736,7 @@ pub(crate) fn with_count(text: Vec<u8>, count: u64) -> Vec<u8>
     with_number(text, count)
 }
 
-// A truth value between its key and the next, as one literal.
+// The text with a truth value behind it, between the key `m` and the key `node`, as one literal.
 #[inline(always)]
 pub(crate) fn with_m_then_node(text: Vec<u8>, m: bool) -> Vec<u8>
     requires { length text.items + 18 ≤ vec_capacity text }
@@ -720,6 +752,7 @@ pub(crate) fn with_m_then_node(text: Vec<u8>, m: bool) -> Vec<u8>
     }
 }
 
+// The text with the identifier of the node that a register points at behind it, or with null.
 #[inline(always)]
 fn with_pointer(text: Vec<u8>, ids: &IdTable, p: Option<Rank>) -> Vec<u8>
     requires node { IfSome p (λ j. j < length ids.now) }
@@ -734,7 +767,7 @@ fn with_pointer(text: Vec<u8>, ids: &IdTable, p: Option<Rank>) -> Vec<u8>
     }
 }
 
-// What a register points at, and the end of the object.
+// The text with what a register points at behind it, an identifier or null, and the end of the object.
 #[inline(always)]
 pub(crate) fn with_pointer_at_end(text: Vec<u8>, ids: &IdTable, p: Option<Rank>) -> Vec<u8>
     requires node { IfSome p (λ j. j < length ids.now) }
@@ -749,7 +782,7 @@ pub(crate) fn with_pointer_at_end(text: Vec<u8>, ids: &IdTable, p: Option<Rank>)
     }
 }
 
-// The word of a kind of rule.
+// The text with the quoted word of a kind of rule behind it.
 #[inline(always)]
 pub(crate) fn with_kind(text: Vec<u8>, kind: Kind) -> Vec<u8>
     requires room { length text.items + 13 ≤ vec_capacity text }

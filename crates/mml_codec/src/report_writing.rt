@@ -1,4 +1,4 @@
-//! The text of a report.
+//! The text of a report. Where an error comes out, there was no memory for what was to be put.
 ghost use Rattle.std.specs.Prelude.{codes, decimal, ◌≡◌, ◌≤◌, ◌<◌, ◌+◌, ◌^◌, ◌++◌, length, OnOk, vec_capacity};
 ghost use Rattle.mml_ids.specs.Pieces.{truth_text};
 ghost use Rattle.mml_stable.specs.Reports.{NamesNodes};
@@ -13,6 +13,8 @@ use mml_stable::Report;
 // Enough for what a report says before its lists.
 const REPORT_ROOM: usize = 64;
 
+/// Puts the text of a report, without a newline, behind what the vector holds. Where memory runs out, at
+/// most a front of it stands there.
 #[tactic(auto, unfolding(crate::specs::Facts::object_text))]
 pub(crate) fn put_report(ids: &IdTable, report: &Report, out: &mut Vec<u8>) -> Result<(), Memory>
     requires { NamesNodes (length ids.now) report.now }
@@ -32,7 +34,7 @@ pub(crate) fn put_report(ids: &IdTable, report: &Report, out: &mut Vec<u8>) -> R
     put_end(report.stable, out)
 }
 
-// What stands before the lists.
+// Puts what stands before the lists of a report, behind what the vector holds: the number of the configuration.
 #[inline(always)]
 fn put_head(at: u64, out: &mut Vec<u8>) -> Result<(), Memory>
     ensures text { OnOk result (out.new.items ≡
@@ -47,7 +49,7 @@ fn put_head(at: u64, out: &mut Vec<u8>) -> Result<(), Memory>
     Ok(())
 }
 
-// A literal.
+// Puts `part`, some of a report's text, behind what the vector holds.
 #[inline(always)]
 fn put_part(part: &str, out: &mut Vec<u8>) -> Result<(), Memory>
     ensures text { OnOk result (out.new.items ≡ out.old.items ++ part.now) }
@@ -58,7 +60,7 @@ fn put_part(part: &str, out: &mut Vec<u8>) -> Result<(), Memory>
     Ok(())
 }
 
-// What stands after the lists.
+// Puts what stands after the lists of a report, behind what the vector holds: whether the configuration is stable.
 #[inline(always)]
 fn put_end(stable: bool, out: &mut Vec<u8>) -> Result<(), Memory>
     ensures text { OnOk result (out.new.items ≡

@@ -28,7 +28,7 @@ pub enum LineFault {
 }
 
 impl LineFault {
-    /// How the line is refused.
+    /// How a line from which no request was read is refused: the refusal of the same name.
     pub fn refusal(self) -> Refused
         ensures { result ≡ refusal_of self }
     {
@@ -42,6 +42,7 @@ impl LineFault {
 impl From<AllocError> for LineFault {
     ghost from_gives = { λ _ e. e ≡ Memory };
 
+    // A refused growth, told as the reason why no request was read.
     fn from(_error: AllocError) -> LineFault {
         LineFault::Memory
     }

@@ -1,8 +1,8 @@
-ghost use Rattle.std.specs.Prelude.{◌≡◌, ◌≢◌, ◌<◌, ◌⊎◌, length, codes, true, Err, ok_or};
+ghost use Rattle.std.specs.Prelude.{◌≡◌, ◌<◌, ◌⊎◌, length, true, Err, ok_or};
 ghost use Rattle.mml_ids.specs.Gives.{Gives};
 ghost use Rattle.serde_json.specs.Data.{Data};
 ghost use Rattle.mml_plain.specs.Holds.{Holds};
-ghost use Rattle.mml_codec.specs.Requests.{asked_at, node_of, ends_of, hello_of, move_of, fault_of, by_word, request};
+ghost use Rattle.mml_codec.specs.Requests.{node_of, ends_of, hello_of, move_of, fault_of, request};
 ghost use Rattle.mml_policy.specs.declared.command.Command.TheVariants as command;
 ghost use Rattle.mml_codec.specs.Lines.{is_line_memory, is_hello, request_in};
 ghost use Rattle.mml_codec.specs.inside.Reading.{Reads};
@@ -13,7 +13,8 @@ use mml_plain::{Fields, LineScratch, read_fields};
 use mml_policy::{Asked, Command};
 use std::alloc::Global;
 
-/// The request that a line is. The line comes without its newline.
+/// The request that a line, without its newline, is: `Malformed` where it is none, `Memory` where a growth
+/// was refused.
 pub fn read_request(alloc: Global, line: &[u8]) -> Result<Request, LineFault>
     ensures { Gives is_line_memory (λ r. r) result (request_in line.now) }
 {
@@ -21,8 +22,8 @@ pub fn read_request(alloc: Global, line: &[u8]) -> Result<Request, LineFault>
     read_request_with(alloc, line, &mut scratch)
 }
 
-/// The request that a line is, with memory that is kept from line to line: a line for which it has room
-/// takes none beside it, but for the words of a hello.
+/// The request that a line, without its newline, is: `Malformed` where it is none, `Memory` where a growth was
+/// refused. Only a hello takes memory, and a line for which `scratch`, kept from line to line, has no room.
 pub fn read_request_with(
     alloc: Global,
     line: &[u8],
@@ -40,37 +41,14 @@ pub fn read_request_with(
     }
 }
 
-// The request that the fields of a line ask, of which only a hello takes memory.
+// The request that the fields of a line ask, by the word that the key `do` names; `Malformed` where they ask none.
+// Only a hello takes memory.
 #[tactic(auto, unfolding(crate::specs::Requests::request, crate::specs::Requests::by_word))]
 fn request(alloc: Global, fields: &Fields<'_>) -> Result<Request, LineFault>
     ensures { Reads request fields.now result }
 {
-    match fields.word.ok_or(LineFault::Malformed)? {
-        "hello" => hello_of(alloc, fields),
-        word => by_other_word(word, fields).ok_or(LineFault::Malformed),
-    }
-}
-
-// The hello that the fields ask, if name and key are there: of those it keeps a copy.
-#[tactic(auto, unfolding(crate::specs::Requests::hello_of))]
-fn hello_of(alloc: Global, fields: &Fields<'_>) -> Result<Request, LineFault>
-    ensures { Reads hello_of fields.now result }
-{
-    let name = fields.name.ok_or(LineFault::Malformed)?;
-    let key = fields.key.ok_or(LineFault::Malformed)?;
-    Ok(Request::Hello {
-        name: Word::of(String::from_str(alloc, name)?),
-        key: Word::of(String::from_str(alloc, key)?),
-    })
-}
-
-// What a word asks that takes no memory.
-#[tactic(auto, unfolding(crate::specs::Requests::by_word))]
-fn by_other_word(word: &str, fields: &Fields<'_>) -> Option<Request>
-    requires { word.now ≢ codes "hello" }
-    ensures { (d : Data) → Holds fields.now d → result ≡ by_word word.now d }
-{
-    match word {
+    let request = match fields.word.ok_or(LineFault::Malformed)? {
+        "hello" => return hello_of(alloc, fields),
         "bye" => Some(Request::Bye),
         "see" => see_of(fields),
         "look" => look_of(fields),
@@ -82,7 +60,21 @@ fn by_other_word(word: &str, fields: &Fields<'_>) -> Option<Request>
         "release" => release_of(fields),
         "report" => Some(Request::Do(Command::Report)),
         _ => None,
-    }
+    };
+    request.ok_or(LineFault::Malformed)
+}
+
+// The hello that the fields ask, with a copy of its name and key; `Malformed` where one of those isn't there.
+#[tactic(auto, unfolding(crate::specs::Requests::hello_of))]
+fn hello_of(alloc: Global, fields: &Fields<'_>) -> Result<Request, LineFault>
+    ensures { Reads hello_of fields.now result }
+{
+    let name = fields.name.ok_or(LineFault::Malformed)?;
+    let key = fields.key.ok_or(LineFault::Malformed)?;
+    Ok(Request::Hello {
+        name: Word::of(String::from_str(alloc, name)?),
+        key: Word::of(String::from_str(alloc, key)?),
+    })
 }
 
 // The see that the fields ask, if its node is there.
@@ -127,29 +119,22 @@ fn release_of(fields: &Fields<'_>) -> Option<Request>
     Some(Request::Do(Command::Release { node }))
 }
 
-// The move that the fields ask, if node, number and rule are there.
-#[tactic(auto, unfolding(crate::specs::Requests::move_of))]
+// The move that the fields ask, if its node, the number of a configuration and the word of one of the four rules
+// are there, and for a marriage the partner.
+#[tactic(auto, unfolding(crate::specs::Requests::move_of, crate::specs::Requests::asked_at))]
 fn move_of(fields: &Fields<'_>) -> Option<Request>
     ensures { (d : Data) → Holds fields.now d → result ≡ move_of d }
 {
     let node = fields.node?;
     let at = fields.at?;
-    let rule = asked_at(fields)?;
+    let rule = match fields.rule? {
+        "update" => Asked::Update,
+        "marriage" => Asked::Marriage(fields.with?),
+        "seduction" => Asked::Seduction,
+        "abandonment" => Asked::Abandonment,
+        _ => return None,
+    };
     Some(Request::Do(Command::Move { node, rule, at }))
-}
-
-// The rule that a move asks for, by its word, and for a marriage the partner.
-#[tactic(auto, unfolding(crate::specs::Requests::asked_at))]
-fn asked_at(fields: &Fields<'_>) -> Option<Asked>
-    ensures { (d : Data) → Holds fields.now d → result ≡ asked_at d }
-{
-    match fields.rule? {
-        "update" => Some(Asked::Update),
-        "marriage" => Some(Asked::Marriage(fields.with?)),
-        "seduction" => Some(Asked::Seduction),
-        "abandonment" => Some(Asked::Abandonment),
-        _ => None,
-    }
 }
 
 // The fault that the fields ask, if its node and both registers are there.

@@ -10,7 +10,7 @@ use mml_stable::report;
 use std::alloc::Global;
 
 /// The reply to a command that was judged. The board is that after the event, if one took place. Only
-/// a report takes memory.
+/// a report takes memory, and the error is that there was none for it.
 pub fn reply_of(alloc: Global, board: &Board, ruling: Ruling) -> Result<Reply, Memory>
     ensures reply { IfOk result (λ r. r ≡ reply_of board.now ruling) }
     ensures memory { OnErr result (ruling ≡ rulings.Reported) }
@@ -26,7 +26,8 @@ pub fn reply_of(alloc: Global, board: &Board, ruling: Ruling) -> Result<Reply, M
     }
 }
 
-/// The reply to a command whose event took place, with the number and the place after it.
+/// The reply to a command whose event took place: `at` is the configuration's number after the event, `place` the
+/// event's place.
 pub fn reply_of_done(at: u64, place: u64, done: Done) -> Reply
     ensures { result ≡ reply_of_done at place done }
 {

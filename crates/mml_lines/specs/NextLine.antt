@@ -15,7 +15,7 @@ ending_of TooLong = Some TooLong
 ending_of End = Some End
 ending_of ReadFault = Some ReadFault
 
--- the bytes that the answer took: the line with its newline
+-- the bytes that the answer took: of a line those with its newline, of another answer none
 abbrev pub bytes_taken : Step → List ℕ → List ℕ
 bytes_taken Line line = ended line
 bytes_taken TooLong line = []

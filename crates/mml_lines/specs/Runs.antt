@@ -9,7 +9,7 @@ Runs {A} Step st (line ∷ lines) (r ∷ rs) end = (next : A) × Step st line r 
 Runs Step st [] (r ∷ rs) end = ⊥
 Runs Step st (line ∷ lines) [] end = ⊥
 
--- the same of steps that have no reply
+-- one step after another, of steps that have no reply, from a state to the end
 abbrev pub Chain : {A L : Type 0} → (L → A → A → Type 0) → A → List L → A → Type 0
 Chain Step st lines end = Runs (λ st line r next. Step line st next) st lines lines end
 

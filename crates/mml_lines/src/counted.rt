@@ -14,7 +14,7 @@ pub(crate) struct Counted<'a, R> {
 }
 
 impl<R> Drop for Counted<'_, R> {
-    // The reader is given back as it is.
+    // Lets the reader go, as it is.
     fn drop(self)
         ensures { self.exit.0.now ≡ self.entry.reader.now }
     {
@@ -26,7 +26,7 @@ impl<R> Drop for Counted<'_, R> {
 }
 
 impl<'a, R: Read> Counted<'a, R> {
-    /// Counts on from so many reads.
+    /// The reader, which was read `reads` times before.
     pub(crate) fn of(reader: &'a mut R, reads: u32) -> Counted<'a, R>
         ensures same_reader { result.reader.ghost_name ≡ reader.entry.ghost_name }
         ensures reader { result.reader.now ≡ reader.old }
@@ -35,15 +35,15 @@ impl<'a, R: Read> Counted<'a, R> {
         Counted { reader, reads }
     }
 
-    /// How often it was read.
+    /// How often the reader was read, with the reads before `of`.
     pub(crate) fn reads(&self) -> u32
         ensures { result ≡ self.now.reads }
     {
         self.reads
     }
 
-    /// One read onto what is held, where that is the front of a line, or the ending that it found. No
-    /// other call reads.
+    /// Reads once, into `chunk`, and puts the bytes behind those in `held`, which are the front of a line. The error,
+    /// with `held` as it was: `End` at the reader's end, `ReadFault` where the read failed.
     pub(crate) fn read_onto(&mut self, held: &mut Vec<u8>, chunk: &mut Vec<u8>) -> Result<(), Step>
         requires needed { IsUnbroken held.old.items }
         requires few { self.old.reads < MAX_READS }

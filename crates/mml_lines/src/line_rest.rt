@@ -8,11 +8,13 @@ pub trait LineRest {
     // What may be told at all.
     ghost may_tell: { Self → Type 0 };
 
+    // The bytes of the rest.
     ghost text: { Self → List ℕ };
     // What needs no more room than there is.
     ghost is_short: { Self → Bool };
 
-    /// Puts it behind what the vector holds, where it is short, and tells whether it is.
+    /// Puts the rest of the line behind what the vector holds, if it is short, and tells whether it is. One
+    /// that isn't short puts nothing.
     fn append_to(&self, out: &mut Vec<u8>) -> bool
         requires told { may_tell self.now }
         requires room { length out.old.items + REST_ROOM ≤ vec_capacity out.old }

@@ -40,7 +40,7 @@ impl Model for Outgoing {
 }
 
 impl Outgoing {
-    /// Reserves all that it ever needs.
+    /// An `Outgoing` that holds no line, with all the memory that it needs; the error is that there is none.
     pub fn new(alloc: Global) -> Result<Outgoing, Memory>
         ensures { IfOk result (λ lines. lines ≡ []) }
     {
@@ -50,8 +50,8 @@ impl Outgoing {
         })
     }
 
-    /// Puts a line, in two parts, after those that are held. Where it has no room, those go to the
-    /// writer first, and a line that is longer than all the room goes there too. Nothing is flushed.
+    /// Puts a line, `front` and then `rest`, after those that are held. Where there is no room, the held ones are
+    /// written first, and a line that is longer than all the room is too. Nothing is flushed. It fails as a write does.
     #[tactic(auto, using(crate::proofs::SendingLemmas::breaks_before))]
     pub fn put<W: Write>(
         &mut self,
@@ -75,7 +75,7 @@ impl Outgoing {
         put_both(front, rest, writer)
     }
 
-    /// Writes all that is held, and flushes the writer.
+    /// Writes all that is held, and flushes the writer. The error: a write or the flush failed.
     pub fn flush<W: Write>(&mut self, writer: &mut W) -> Result<(), WriteFault>
         ensures empty { OnOk result (self.new ≡ []) }
         ensures ok { OnOk result (Sends (W.contents writer.old) (W.contents writer.new) self.old []) }
@@ -89,7 +89,7 @@ impl Outgoing {
         }
     }
 
-    // Writes all that is held, which is then let go. Nothing is flushed.
+    // Writes all that is held, which is then let go, unless a write failed. Nothing is flushed.
     fn write_out<W: Write>(&mut self, writer: &mut W) -> Result<(), WriteFault>
         ensures empty { OnOk result (self.new ≡ []) }
         ensures ok { OnOk result (Sends (W.contents writer.old) (W.contents writer.new) self.old []) }
@@ -109,8 +109,8 @@ impl Outgoing {
         }
     }
 
-    /// Puts a line after those that are held, if its rest is short and there is room for it, and tells
-    /// whether it did.
+    /// Puts a line, `front` and then `rest`, after those that are held, if the rest is short and there is room, and
+    /// tells whether it did.
     pub fn append<L: LineRest>(&mut self, front: &[u8], rest: &L) -> bool
         requires { L.may_tell rest.now }
         ensures lines { self.new ≡ (if result
@@ -132,7 +132,7 @@ impl Outgoing {
         false
     }
 
-    // Whether there is room for a line in two parts, which is then held.
+    // Puts a line, `front` and then `rest`, behind those that are held, if there is room, and tells whether there is.
     fn hold(&mut self, front: &[u8], rest: &[u8]) -> bool
         ensures { self.new ≡ (if result then self.old ++ (front.now ++ rest.now) ∷ [] else self.old) }
     {
@@ -151,8 +151,8 @@ impl Outgoing {
     }
 }
 
-// Of lines of these lengths that many bytes are out: how many of them are of the first line that isn't
-// wholly out.
+// Where the first `out` bytes of lines of the lengths in `lengths` are out: how many of those bytes are of
+// the first line that isn't wholly out.
 fn part_of(lengths: &[usize], out: usize) -> usize
     ensures { result ≡ part_in lengths.now out }
 {

@@ -16,8 +16,8 @@ pub enum WholeFault {
     Memory,
 }
 
-/// All that a reader gives, where that is no more than the limit. One byte more is asked for, which
-/// tells whether there is one.
+/// All that a reader gives, where that is no more than `limit` bytes, else `TooLong`; `Read` where a read fails, and
+/// `Memory` where memory runs out. One byte more than the limit is asked for, which tells whether there is one.
 pub fn read_whole<R: Read + Drop>(
     alloc: Global,
     reader: R,

@@ -86,6 +86,12 @@ unfolding print_spaced print_from
 spaced_close c [] = refl
 spaced_close c (t ∷ ts) = ap (λ l. separator c t ++ (token_text t ++ l)) (spaced_close (ends t) ts)
 
+-- one byte, and no other
+pub alone : (xs : List ℕ) (d b : ℕ) → length xs ≡ 1 → get_or xs 0 d ≡ b → xs ≡ b ∷ []
+alone [] d b h e = grind arith
+alone (x ∷ []) d b h e = ap (λ y. y ∷ []) e
+alone (x ∷ y ∷ ys) d b h e = grind arith
+
 -- ---- member by member
 
 -- the tokens of the members so far, and that the rest goes on after them
@@ -242,6 +248,18 @@ bare-append (x ∷ xs) b h one = let both = and_parts (is_bare_byte x) (is_bare 
 -- one more byte that stands for itself
 pub bare_more : (xs : List ℕ) (i d : ℕ) → i < length xs → is_bare (take i xs) ≡ true → is_bare_byte (get_or xs i d) ≡ true → is_bare (take (i + 1) xs) ≡ true
 bare_more xs i d h was one = ap is_bare (take_more xs i d h) ∙ bare-append (take i xs) (get_or xs i d) was one
+
+-- one more of the small letters, or of what comes after them in ASCII
+pub bare_above : (xs : List ℕ) (i d : ℕ) → i < length xs → is_bare (take i xs) ≡ true → 92 < get_or xs i d → get_or xs i d < 128 → is_bare (take (i + 1) xs) ≡ true
+bare_above xs i d h was above below =
+    let one : is_bare_byte (get_or xs i d) ≡ true = grind (arith, nat_tests, and_from) in
+    bare_more xs i d h was one
+
+-- one more of what comes before a backslash, but for a quotation mark
+pub bare_below : (xs : List ℕ) (i d : ℕ) → i < length xs → is_bare (take i xs) ≡ true → 31 < get_or xs i d → get_or xs i d < 92 → get_or xs i d ≢ 34 → is_bare (take (i + 1) xs) ≡ true
+bare_below xs i d h was above below other =
+    let one : is_bare_byte (get_or xs i d) ≡ true = grind (arith, nat_tests, and_from) in
+    bare_more xs i d h was one
 
 other_than : (b k : ℕ) → not (b == k) ≡ true → b ≢ k
 other_than b k h e = both_ways _ (not-true _ h) (eq-eqb b k e)

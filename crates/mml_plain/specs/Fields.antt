@@ -5,6 +5,7 @@ use Rattle.mml_plain.specs.declared.member_value.MemberValue.{MemberValue}
 use Rattle.mml_plain.specs.declared.member_value.MemberValue.TheVariants.{Null, Truth, Number, Text, Other}
 use Rattle.mml_plain.specs.declared.fields.Fields.{Fields}
 
+-- the text that a value is, if it is one
 abbrev pub text_in : MemberValue → Option (Bor (List ℕ))
 text_in Null = None
 text_in (Truth b) = None
@@ -12,6 +13,7 @@ text_in (Number n) = None
 text_in (Text s) = Some s
 text_in Other = None
 
+-- the number of 64 bits that a value is, if it is one
 abbrev pub number_in : MemberValue → Option ℕ
 number_in Null = None
 number_in (Truth b) = None
@@ -19,6 +21,7 @@ number_in (Number n) = Some n
 number_in (Text s) = None
 number_in Other = None
 
+-- the truth value that a value is, if it is one
 abbrev pub truth_in : MemberValue → Option Bool
 truth_in Null = None
 truth_in (Truth b) = Some b
@@ -26,6 +29,7 @@ truth_in (Number n) = None
 truth_in (Text s) = None
 truth_in Other = None
 
+-- what a register is to point at by a value: Some None for null, and None where it is neither null nor such a number
 abbrev pub register_in : MemberValue → Option (Option ℕ)
 register_in Null = Some None
 register_in (Truth b) = None
@@ -37,6 +41,7 @@ register_in Other = None
 abbrev pub after : {A : Type 0} → List ℕ → A → List ℕ → A → A
 after k new q old = if bytes_eq k q then new else old
 
+-- the fields with one member more, by its key and its value
 abbrev pub with : List ℕ → MemberValue → Fields → Fields
 with k v f = record {
   word = after k (text_in v) (codes "do") f.word;

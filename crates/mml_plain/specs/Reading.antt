@@ -7,25 +7,25 @@ use Rattle.serde_json.specs.Data.{Data, Items, Members, no_members}
 use Rattle.serde_json.specs.Find.{as_object}
 use Rattle.serde_json.specs.Read.{of_json, of_items, of_members, converted, read}
 
--- the value that comes next, nested no deeper than the number
+-- the value that comes next, nested no deeper than the number, and the tokens behind it
 abbrev pub value_at : ℕ → List Token → Option (Data × List Token)
 value_at depth ts = converted of_json (value depth ts)
 
--- the values up to the bracket that closes an array, in at most n turns
+-- the values up to the bracket that closes an array, in at most n turns, and the tokens behind it
 abbrev pub items_at : ℕ → ℕ → List Token → Option (Items × List Token)
 items_at depth n ts = converted of_items (items (value depth) n ts)
 
--- the members up to the brace that closes an object, after those found so far
+-- the members up to the brace that closes an object, after those found so far, and the tokens behind it
 abbrev pub members_at : ℕ → Members → ℕ → List Token → Option (Members × List Token)
 members_at depth found n ts = converted (λ ms. of_members ms found) (members (value depth) n ts)
 
--- where nothing follows
+-- the members that were read, where nothing follows them
 abbrev pub if_over : Option (Members × List Token) → Option Members
 if_over None = None
 if_over (Some (ms, [])) = Some ms
 if_over (Some (ms, t ∷ ts)) = None
 
--- the object that the tokens of a text are
+-- the members of the object that the tokens of a text are, if they are one
 abbrev pub object_at : List Token → Option Members
 object_at [] = None
 object_at (Token.begin_object ∷ ts) = if_over (members_at 126 no_members (length ts) ts)
@@ -39,6 +39,6 @@ object_at (Token.boolean b ∷ ts) = None
 object_at (Token.null ∷ ts) = None
 object_at (Token.bad ∷ ts) = None
 
--- The object that a line is, as `serde_json` reads it, if it is one.
+-- the members of the object that a line is, as `serde_json` reads it, if it is one
 unfoldable pub object_in : List ℕ → Option Members
 object_in line = if is_utf8 line then option_and_then as_object (read line) else None

@@ -6,7 +6,7 @@ ghost use Rattle.json.specs.Lex.{tokens};
 ghost use Rattle.serde_json.specs.Data.{Members, object, no_members};
 ghost use Rattle.mml_plain.specs.Reading.{object_at};
 ghost use Rattle.mml_plain.specs.Holds.{Holds};
-ghost use Rattle.mml_plain.specs.Compact.{is_bare_byte, is_bare, BeginsValue, BeginsAfter, BeginsQuoted, PutsKnown, PutsMember, Spaced};
+ghost use Rattle.mml_plain.specs.Compact.{is_bare, BeginsValue, BeginsAfter, BeginsQuoted, PutsKnown, PutsMember, Spaced};
 ghost use Rattle.mml_plain.specs.declared.member_value.MemberValue.TheVariants.{Text, Number};
 
 use crate::fields::Fields;
@@ -27,8 +27,8 @@ const KEY: u32 = 0x6b65_7922;
 
 const NAME: u32 = 0x6e61_6d65;
 
-/// Whether the line is such an object, and then what its keys name. The fields come empty; where it
-/// isn't, they hold anything.
+/// Whether the line is an object that is laid out so plainly that it is read here; then the fields, which
+/// come empty, hold what its keys name. Where it isn't, they hold anything, and the line may be an object.
 #[inline(always)]
 pub(crate) fn read_compact<'a>(line: &'a [u8], fields: &mut Fields<'a>) -> bool
     requires { Holds fields.old (object no_members) }
@@ -43,19 +43,19 @@ pub(crate) fn read_compact<'a>(line: &'a [u8], fields: &mut Fields<'a>) -> bool
             return false;
         };
         let Some(next) = behind(more, b',') else {
-            return is_end(more);
+            return more.len() == 1 && more[0] == b'}';
         };
         rest = next;
     }
 }
 
-/// Puts the next member into the fields, and gives what follows it.
+/// Puts the next member of an object into the fields, and gives what follows it. `None` where it isn't read here.
 #[inline(always)]
 fn member<'a>(text: &'a [u8], fields: &mut Fields<'a>) -> Option<&'a [u8]>
     ensures { IfSome result (λ rest. PutsMember text.now rest.now fields.old fields.new) }
 {
     let in_key = in_quotes(text)?;
-    // Each member has so many but one that ends the line, and then no bound is tested in vain.
+    // A member has 8 bytes more, but for a short one that ends the line; then no bound is tested in vain.
     if in_key.len() < 8 {
         let rest = any_member(in_key, fields)?;
         return Some(rest);
@@ -68,8 +68,9 @@ fn member<'a>(text: &'a [u8], fields: &mut Fields<'a>) -> Option<&'a [u8]>
     Some(rest)
 }
 
-/// Puts a member into the fields whose key begins with these four bytes, and gives what follows it. Where it is
-/// none of the known keys with a value of its kind, the fields stay.
+/// Puts a member into the fields, which behind its first quotation mark is the four bytes of `front` and then `text`,
+/// and gives what follows it. `None`, with the fields as they were, where its key isn't known or its value not of that
+/// key's kind.
 #[inline(always)]
 fn known_value<'a>(front: u32, text: &'a [u8], fields: &mut Fields<'a>) -> Option<&'a [u8]>
     ensures member { IfSome result (λ rest. PutsKnown (to_be_bytes w32 front ++ text.now) rest.now fields.old fields.new) }
@@ -113,8 +114,8 @@ fn known_value<'a>(front: u32, text: &'a [u8], fields: &mut Fields<'a>) -> Optio
     None
 }
 
-/// Puts a member of any key into the fields, of which the text begins behind its quotation mark, and gives what
-/// follows it.
+/// Puts a member of any key into the fields, and gives what follows it; `None` where it isn't read here. The text
+/// begins behind the quotation mark before the key.
 #[inline(never)]
 fn any_member<'a>(text: &'a [u8], fields: &mut Fields<'a>) -> Option<&'a [u8]>
     ensures { IfSome result (λ rest. (whole : List ℕ) → BeginsQuoted whole text.now →
@@ -128,7 +129,7 @@ fn any_member<'a>(text: &'a [u8], fields: &mut Fields<'a>) -> Option<&'a [u8]>
     Some(rest)
 }
 
-/// What follows the spaces and the quotation mark at the front.
+/// What follows the spaces and the quotation mark at the front, if a quotation mark stands there.
 #[inline(always)]
 fn in_quotes<'a>(text: &'a [u8]) -> Option<&'a [u8]>
     ensures { IfSome result (λ rest. BeginsQuoted text.now rest.now) }
@@ -141,7 +142,7 @@ fn in_quotes<'a>(text: &'a [u8]) -> Option<&'a [u8]>
     Some(rest)
 }
 
-/// What follows the quotation mark and the colon behind a key.
+/// What follows the quotation mark and the colon behind a key, if they stand at the front.
 #[inline(always)]
 fn quote_and_colon<'a>(text: &'a [u8]) -> Option<&'a [u8]>
     ensures { IfSome result (λ rest. text.now ≡ 34 ∷ 58 ∷ rest.now) }
@@ -151,7 +152,7 @@ fn quote_and_colon<'a>(text: &'a [u8]) -> Option<&'a [u8]>
     Some(rest)
 }
 
-/// A text behind a colon, and what follows it.
+/// The string behind a colon, and what follows its quotation mark, if one stands there that is read here.
 #[inline(always)]
 fn text_value<'a>(text: &'a [u8]) -> Option<(&'a str, &'a [u8])>
     ensures { IfSome result (λ r. BeginsAfter text.now (Text r.0) r.1.now) }
@@ -161,7 +162,7 @@ fn text_value<'a>(text: &'a [u8]) -> Option<(&'a str, &'a [u8])>
     Some((word, rest))
 }
 
-/// A number behind a colon, and what follows it.
+/// The number behind a colon, and what follows it, if one stands there that is read here.
 #[inline(always)]
 fn number_value<'a>(text: &'a [u8]) -> Option<(u64, &'a [u8])>
     ensures { IfSome result (λ r. BeginsAfter text.now (Number r.0) r.1.now) }
@@ -171,15 +172,7 @@ fn number_value<'a>(text: &'a [u8]) -> Option<(u64, &'a [u8])>
     Some((number, rest))
 }
 
-/// Whether the brace that ends the text is all there is.
-#[inline(always)]
-fn is_end(text: &[u8]) -> bool
-    ensures { result ≡ true → text.now ≡ 125 ∷ [] }
-{
-    text.len() == 1 && text[0] == b'}'
-}
-
-/// What follows the byte at the front.
+/// What follows `byte` at the front of the text, if that byte stands there.
 #[inline(always)]
 fn behind<'a>(text: &'a [u8], byte: u8) -> Option<&'a [u8]>
     ensures { IfSome result (λ rest. text.now ≡ byte ∷ rest.now) }
@@ -190,7 +183,7 @@ fn behind<'a>(text: &'a [u8], byte: u8) -> Option<&'a [u8]>
     Some(&text[1..])
 }
 
-/// What follows the spaces at the front.
+/// What follows the spaces at the front; the whole text where it begins with none.
 #[inline(always)]
 fn unspaced<'a>(text: &'a [u8]) -> &'a [u8]
     ensures { Spaced text.now result.now }
@@ -204,7 +197,7 @@ fn unspaced<'a>(text: &'a [u8]) -> &'a [u8]
     past_spaces(text)
 }
 
-/// What follows the spaces at the front, where there are many.
+/// What follows the spaces at the front: the rare case of `unspaced`, of more than one.
 #[inline(never)]
 fn past_spaces<'a>(text: &'a [u8]) -> &'a [u8]
     ensures { Spaced text.now result.now }
@@ -216,7 +209,7 @@ fn past_spaces<'a>(text: &'a [u8]) -> &'a [u8]
     rest
 }
 
-/// A value and what follows it.
+/// The value at the front and what follows it, if one stands there that is read here.
 #[inline(always)]
 fn member_value<'a>(text: &'a [u8]) -> Option<(MemberValue<'a>, &'a [u8])>
     ensures { IfSome result (λ r. BeginsValue text.now r.0 r.1.now) }
@@ -240,12 +233,12 @@ fn member_value<'a>(text: &'a [u8]) -> Option<(MemberValue<'a>, &'a [u8])>
         let rest = behind(behind(behind(text, b'u')?, b'l')?, b'l')?;
         return Some((MemberValue::Null, rest));
     }
-    empty(text)
+    empty_value(text)
 }
 
-/// An array or an object with nothing in it, and what follows it.
+/// The array or object at the front, if one stands there and nothing is in it, and what follows it.
 #[inline(always)]
-fn empty<'a>(text: &'a [u8]) -> Option<(MemberValue<'a>, &'a [u8])>
+fn empty_value<'a>(text: &'a [u8]) -> Option<(MemberValue<'a>, &'a [u8])>
     ensures { IfSome result (λ r. BeginsValue text.now r.0 r.1.now) }
 {
     if let Some(text) = behind(text, b'[') {
@@ -257,14 +250,20 @@ fn empty<'a>(text: &'a [u8]) -> Option<(MemberValue<'a>, &'a [u8])>
     Some((MemberValue::Other, rest))
 }
 
-/// The word before a quotation mark, and what follows the mark.
+/// The word before the next quotation mark, and what follows the mark. `None` where a byte before it isn't from 32
+/// to 127 or is a backslash, or no mark comes.
 #[inline(always)]
 fn bare_word<'a>(text: &'a [u8]) -> Option<(&'a str, &'a [u8])>
     ensures { IfSome result (λ r. (text.now ≡ r.0.now ++ 34 ∷ r.1.now)
         × (is_bare r.0.now ≡ true)) }
 {
     let mut end = 0usize;
-    'word: while end < text.len() && is_bare_byte(text[end]) {
+    'word: while end < text.len() {
+        let byte = text[end];
+        // Small letters first.
+        if !((b'\\' < byte && byte < 128) || (31 < byte && byte < b'\\' && byte != b'"')) {
+            break;
+        }
         end += 1;
     }
     if end == text.len() || text[end] != b'"' {
@@ -274,16 +273,8 @@ fn bare_word<'a>(text: &'a [u8]) -> Option<(&'a str, &'a [u8])>
     Some((word, &text[end + 1..]))
 }
 
-/// Whether the byte stands for itself in a string: printable ASCII but a quotation mark and a backslash.
-#[inline(always)]
-fn is_bare_byte(byte: u8) -> bool
-    ensures { result ≡ is_bare_byte byte }
-{
-    // Small letters first.
-    (b'\\' < byte && byte < 128) || (31 < byte && byte < b'\\' && byte != b'"')
-}
-
-/// A number in decimal digits with no nought before them, and what follows it.
+/// The number at the front, in decimal digits with no nought before them, and what follows it. `None` where no
+/// digit stands there, and where there may be more than 64 bits.
 #[inline(always)]
 fn whole_number<'a>(text: &'a [u8]) -> Option<(u64, &'a [u8])>
     ensures { IfSome result (λ r. (text.now ≡ decimal r.0 ++ r.1.now) × (r.0 < 2 ^ 64)) }
@@ -305,7 +296,7 @@ fn whole_number<'a>(text: &'a [u8]) -> Option<(u64, &'a [u8])>
     Some((number, &text[end..]))
 }
 
-/// The digit at a place.
+/// The value of the digit at a place of the text, if a digit stands there.
 #[inline(always)]
 fn digit(text: &[u8], at: usize) -> Option<u64>
     ensures { IfSome result (λ digit. (digit < 10) × (at < length text.now)

@@ -17,7 +17,7 @@ pub struct Fields<'a> {
     pub rule: Option<&'a str>,
     pub with: Option<u64>,
     pub at: Option<u64>,
-    /// A node's identifier, or null.
+    /// What a register is to point at: `Some(Some(id))` for a node's identifier, `Some(None)` for null.
     pub p: Option<Option<u64>>,
     pub m: Option<bool>,
     pub a: Option<u64>,
@@ -44,7 +44,8 @@ impl<'a> Fields<'a> {
         }
     }
 
-    /// One member more. A key that was there names what comes last.
+    /// Takes one member more of an object into the fields: that of its key, if one is, is then the value, or `None`
+    /// where the value is of another kind, whatever the field was.
     #[inline(always)]
     pub(crate) fn put(&mut self, key: &str, value: &MemberValue<'a>)
         ensures { self.new ≡ with key.now value.now self.old }

@@ -24,7 +24,7 @@ impl Model for LineScratch {
 }
 
 impl LineScratch {
-    /// With room for lines of so many bytes.
+    /// Memory with room for lines of `limit` bytes; the error is that there is none.
     pub fn new(alloc: Global, limit: usize) -> Result<LineScratch, AllocError>
         ensures { IfOk result (λ scratch. limit ≤ scratch) }
     {
@@ -33,7 +33,7 @@ impl LineScratch {
         Ok(LineScratch { inner })
     }
 
-    /// What a reader of one line works in.
+    /// The memory that the reader of one line works in.
     #[inline(always)]
     pub(crate) fn for_line(&mut self) -> &mut Scratch
         ensures { room result.now ≡ self.old }
@@ -42,8 +42,8 @@ impl LineScratch {
     }
 }
 
-// What stands in it is of no line in particular.
 impl Debug for LineScratch {
+    // Writes the name of the type alone: what stands in it is of no line in particular.
     fn fmt<W: Write>(&self, f: &mut Formatter<W>) -> fmt::Result {
         f.write_str("LineScratch")
     }

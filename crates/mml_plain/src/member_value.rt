@@ -20,7 +20,8 @@ pub(crate) enum MemberValue<'a> {
 }
 
 impl<'a> MemberValue<'a> {
-    /// A number, of which the 64 bits are known where a request may ask for them.
+    /// The value of a number: `found` is the number, where it is one of 64 bits without a sign, a point or an
+    /// exponent, as a request may ask for.
     #[inline(always)]
     pub(crate) fn of_number(found: Option<u64>) -> MemberValue<'a>
         ensures { (n : Num) → as_u64 n ≡ found → Shows result (number n) }
@@ -31,7 +32,7 @@ impl<'a> MemberValue<'a> {
         }
     }
 
-    /// The text that it is, if it is one.
+    /// The text that the value is, if it is one.
     #[inline(always)]
     pub(crate) fn text(&self) -> Option<&'a str>
         ensures { result ≡ text_in self.now }
@@ -42,7 +43,7 @@ impl<'a> MemberValue<'a> {
         }
     }
 
-    /// The number of 64 bits that it is, if it is one.
+    /// The number of 64 bits that the value is, if it is one.
     #[inline(always)]
     pub(crate) fn number(&self) -> Option<u64>
         ensures { result ≡ number_in self.now }
@@ -53,7 +54,7 @@ impl<'a> MemberValue<'a> {
         }
     }
 
-    /// The truth value that it is, if it is one.
+    /// The truth value that the value is, if it is one.
     #[inline(always)]
     pub(crate) fn truth(&self) -> Option<bool>
         ensures { result ≡ truth_in self.now }
@@ -64,7 +65,8 @@ impl<'a> MemberValue<'a> {
         }
     }
 
-    /// What it says of a register, if it does: a number, or null, which is told as `Some(None)`.
+    /// What a register is to point at by the value: `Some(Some(number))`, `Some(None)` for null, and `None`
+    /// where the value is neither a number of 64 bits nor null.
     #[inline(always)]
     pub(crate) fn register(&self) -> Option<Option<u64>>
         ensures { result ≡ register_in self.now }
@@ -77,8 +79,8 @@ impl<'a> MemberValue<'a> {
     }
 }
 
-/// Whether a token's number is one that is read, which is told by the outer `Some`, and then the 64 bits
-/// that it is, where it is written without a sign, a point and an exponent.
+/// Reads the number of a token: `None` where it is too great to be read, `Some(None)` where a request can't ask
+/// for it, `Some(Some(number))` for one of 64 bits that is written without a sign, a point and an exponent.
 #[inline(always)]
 pub(crate) fn read_number(text: &str) -> Option<Option<u64>>
     ensures { result ≡ option_map as_u64 (number_of text.now) }
@@ -91,7 +93,8 @@ pub(crate) fn read_number(text: &str) -> Option<Option<u64>>
     }
 }
 
-// As `read_number`, where no minus stands at the front.
+// The number of a numeral with no minus at its front: `None` where it is too great to be read, `Some(None)` where it
+// takes more than 64 bits or has a point or an exponent, so that a request can't ask for it.
 #[inline(always)]
 fn unsigned(numeral: &Numeral<'_>) -> Option<Option<u64>>
     ensures { result ≡ option_map as_u64 (number_from false numeral.now) }
@@ -102,7 +105,8 @@ fn unsigned(numeral: &Numeral<'_>) -> Option<Option<u64>>
     }
 }
 
-// As `read_number`, of what stands behind a minus: no request asks for such a number.
+// What is read of a numeral behind a minus: `Some(None)`, since no request asks for such a number, or `None` where
+// it is too great to be read.
 #[inline(never)]
 fn below_zero(numeral: &Numeral<'_>) -> Option<Option<u64>>
     ensures { result ≡ option_map as_u64 (number_from true numeral.now) }
@@ -115,7 +119,8 @@ fn below_zero(numeral: &Numeral<'_>) -> Option<Option<u64>>
     float(true, numeral)
 }
 
-/// A number that is read as a float, unless it is too great for one.
+/// What is read of a numeral as a float, behind a minus if `negative`: `Some(None)`, since no request asks for one,
+/// or `None` where it is too great for one.
 #[inline(never)]
 fn float(negative: bool, numeral: &Numeral<'_>) -> Option<Option<u64>>
     ensures { result ≡ option_map as_u64 (float_of negative numeral.now) }
@@ -124,7 +129,7 @@ fn float(negative: bool, numeral: &Numeral<'_>) -> Option<Option<u64>>
     if float.is_finite() { Some(None) } else { None }
 }
 
-// Whether a minus stands at the front.
+// Whether a minus stands at the front of a number's text.
 #[inline(always)]
 fn has_minus(bytes: &[u8]) -> bool
     ensures { result ≡ (slice_index bytes.now 0 == 45) }

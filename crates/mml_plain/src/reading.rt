@@ -12,11 +12,11 @@ use crate::member_value::{MemberValue, read_number};
 use json::{Reader, Token};
 use std::alloc::AllocError;
 
-/// Arrays and objects in the members of a line nest so deep.
+/// How deep arrays and objects in the members of a line may nest.
 const DEPTH: usize = 126;
 
-/// Whether a line is an object that `serde_json` reads, and then what its keys name. The fields come
-/// empty; where it isn't, they hold anything.
+/// Whether a line is an object that `serde_json` reads; then the fields, which come empty, hold what its keys
+/// name. Where it isn't, they hold anything. The error: there is no memory for a line for which `scratch` lacks room.
 pub fn read_fields<'a>(
     line: &'a [u8],
     scratch: &'a mut LineScratch,
@@ -34,7 +34,8 @@ pub fn read_fields<'a>(
     read_tokens(line, scratch, fields)
 }
 
-/// Reads the fields by the tokens of the line, whatever they held. Whether the line is an object.
+/// Whether a line is an object, by its tokens; then the fields, whatever they held, hold what its keys name. For a
+/// line that `read_compact` didn't read. The error: there is no memory for a line for which `scratch` lacks room.
 #[inline(never)]
 fn read_tokens<'a>(
     line: &'a [u8],
@@ -54,7 +55,8 @@ fn read_tokens<'a>(
     Ok(read_object(&mut reader, fields))
 }
 
-/// Reads the fields of the object that the tokens are. Whether they are one, with nothing behind it.
+/// Whether the tokens to come are one object, with nothing behind it; then the fields, which come empty, hold
+/// what its keys name.
 #[inline(always)]
 fn read_object<'a>(reader: &mut Reader<'a>, fields: &mut Fields<'a>) -> bool
     requires { Holds fields.old (object no_members) }
@@ -67,7 +69,8 @@ fn read_object<'a>(reader: &mut Reader<'a>, fields: &mut Fields<'a>) -> bool
     }
 }
 
-/// Reads the fields of the members up to the end of the object, behind which nothing may follow.
+/// Whether the tokens behind an opening brace are members up to the end of the object, with nothing behind it;
+/// then the fields, which come empty, hold what the keys name.
 #[inline(always)]
 fn read_members<'a>(reader: &mut Reader<'a>, fields: &mut Fields<'a>) -> bool
     requires { Holds fields.old (object no_members) }
@@ -90,7 +93,7 @@ fn read_members<'a>(reader: &mut Reader<'a>, fields: &mut Fields<'a>) -> bool
     }
 }
 
-/// Whether nothing follows.
+/// Whether no token follows, so that the members that were read are all.
 #[inline(always)]
 fn is_over(reader: &mut Reader<'_>) -> bool
     ensures { (ms : Members) → MatchBool result (if_over (Some (ms, reader.old)) ≡ Some ms)
@@ -99,7 +102,8 @@ fn is_over(reader: &mut Reader<'_>) -> bool
     reader.next().is_none()
 }
 
-/// The next value, of which arrays and objects in it nest no deeper than that.
+/// The next value, if it is one that `serde_json` reads and whose arrays and objects nest no deeper than `depth`: an
+/// array or object as `Other`.
 #[cycle(nested)]
 #[inline(always)]
 fn read_value<'a>(reader: &mut Reader<'a>, depth: usize) -> Option<MemberValue<'a>>
@@ -140,7 +144,8 @@ fn read_value<'a>(reader: &mut Reader<'a>, depth: usize) -> Option<MemberValue<'
     }
 }
 
-/// Whether an array goes on as one; what is in it is passed over.
+/// Passes over the rest of an array, behind its opening bracket, and tells whether it was one, whose values
+/// nest no deeper than `depth`.
 #[cycle(nested)]
 #[inline(never)]
 fn pass_items(reader: &mut Reader<'_>, depth: usize) -> bool
@@ -157,7 +162,8 @@ fn pass_items(reader: &mut Reader<'_>, depth: usize) -> bool
     true
 }
 
-/// Whether an object goes on as one; what is in it is passed over.
+/// Passes over the rest of an object, behind its opening brace, and tells whether it was one, whose values nest
+/// no deeper than `depth`.
 #[cycle(nested)]
 #[inline(never)]
 fn pass_members(reader: &mut Reader<'_>, depth: usize) -> bool

@@ -23,7 +23,7 @@ use Rattle.mml_codec.specs.declared.reply.Reply.TheVariants as reply
 use Rattle.mml_codec.specs.Greetings.{greeting}
 use Rattle.mml_codec.specs.Lines.{request_in}
 use Rattle.mml_codec.specs.Replies.{reply_line}
-use Rattle.mml_journal.specs.Words.{◌>>=◌, cut, is_word}
+use Rattle.mml_journal.specs.Words.{◌>>=◌, split_at_byte, is_word}
 use Rattle.mml_tally.specs.declared.ask.Ask.{Ask}
 use Rattle.mml_tally.specs.declared.ask.Line.{Line}
 use Rattle.mml_tally.specs.declared.ask.Line.TheVariants as lines
@@ -58,7 +58,7 @@ line_of_request (requests.Hello name key) = lines.Other
 line_of_request requests.Bye = lines.Other
 line_of_request (requests.Do c) = line_of_command c
 
--- what a line is: no request at all is told from others
+-- what a line is whose reading gives this: a move, another request, or none
 abbrev pub line_of : Result Request LineFault → Line
 line_of (Ok request) = line_of_request request
 line_of (Err fault) = lines.Malformed
@@ -69,31 +69,31 @@ line_of (Err fault) = lines.Malformed
 abbrev pub unended : List ℕ → List ℕ
 unended out = take (length out - 1) out
 
--- a digit that comes first here
+-- the first byte of the rest, if there is one, less that of 0: the digit, where it is one
 abbrev pub digit_first : Option (List ℕ) → Option ℕ
 digit_first rest = do
   bytes ← rest
   digit ← slice_get bytes 0
   Some (digit - 48)
 
--- the number of a clause, where that is the first member here
+-- the number of a clause, where the member `clause` is the first of the members of a reply
 unfoldable pub clause_first : List ℕ → Option ℕ
-clause_first members = if is_word (codes "\"clause\"") (cut 58 members).0 then digit_first (cut 58 members).1 else None
+clause_first members = if is_word (codes "\"clause\"") (split_at_byte 58 members).0 then digit_first (split_at_byte 58 members).1 else None
 
--- the number of a clause, where that is the second member here
+-- the number of a clause, where the member `clause` is the second of the members of a reply
 unfoldable pub clause_second : List ℕ → Option ℕ
 clause_second members = do
-  rest ← (cut 44 members).1
+  rest ← (split_at_byte 44 members).1
   clause_first rest
 
--- the number of a clause, where that is the first member here, or the one behind a current number
+-- the number of a clause, where the member `clause` is the first of the members of a reply, or stands behind `at`
 unfoldable pub clause_member : List ℕ → Option ℕ
-clause_member members = if is_word (codes "\"at\"") (cut 58 members).0 then clause_second members else clause_first members
+clause_member members = if is_word (codes "\"at\"") (split_at_byte 58 members).0 then clause_second members else clause_first members
 
 -- the number of the clause that a reply's text names
 unfoldable pub clause_told : List ℕ → Option ℕ
 clause_told text = do
-  members ← (cut 123 text).1
+  members ← (split_at_byte 123 text).1
   clause_member members
 
 -- the text of the reply that memory was refused
@@ -102,12 +102,12 @@ memory_text = codes "{\"refuse\":\"memory\"}"
 
 -- ---- who is known behind a line
 
--- who is known behind a line with this greeting: a command changes nothing of it
+-- who is known behind a line with this greeting: a command that is left to judge changes nothing
 abbrev pub known_by : Option Who → Greeting → Option Who
 known_by known (Answered r x) = x
 known_by known (LeftToJudge who c) = known
 
--- who is known behind a line that asks for that
+-- who is known behind a line that was read as this request, or as none
 abbrev pub known_asked : RosterValue → Option Who → Result Request LineFault → Option Who
 known_asked roster known (Ok request) = known_by known (greeting roster known request)
 known_asked roster known (Err fault) = known
@@ -118,12 +118,12 @@ known_after roster known line text = if bytes_eq text memory_text then known els
 
 -- ---- a record
 
--- the student, if that is one
+-- the student whom this names; none for the teacher
 abbrev pub student_in : Who → Option ℕ
 student_in who.Teacher = None
 student_in (who.Student s) = Some s
 
--- the student who is known, if one is
+-- the student who is known; none where nobody is, or the teacher
 abbrev pub student_of : Option Who → Option ℕ
 student_of None = None
 student_of (Some w) = student_in w

@@ -15,7 +15,7 @@ use crate::reading::{RawEntry, entry_in};
 use mml_board::Event;
 use mml_codec::{Greeting, LineFault, Request, greet, read_request};
 use mml_ids::Memory;
-use mml_journal::cut;
+use mml_journal::split_at_byte;
 use mml_lab::{Lab, Roster, Student, Who};
 use mml_policy::{Asked, Command};
 use mml_rules::Kind;
@@ -34,7 +34,7 @@ fn kind_asked(rule: Asked) -> Kind
     }
 }
 
-// What a line is that has this command: a move is told from all else.
+// What the tally takes a line with this command for: a move, with its node and kind, or something else.
 fn line_of_command(command: &Command) -> Line
     ensures { result ≡ line_of_command command.now }
 {
@@ -47,7 +47,7 @@ fn line_of_command(command: &Command) -> Line
     }
 }
 
-// What a line is that has this request.
+// What the tally takes a line with this request for: a move, or something else.
 fn line_of_request(request: &Request) -> Line
     ensures { result ≡ line_of_request request.now }
 {
@@ -57,7 +57,7 @@ fn line_of_request(request: &Request) -> Line
     }
 }
 
-// A digit that comes first.
+// The first of the bytes, less the byte `0`: the digit, where it is one. None where there is no byte.
 fn digit_first(rest: Option<&[u8]>) -> Option<u8>
     ensures { result ≡ digit_first (seen rest.entry) }
 {
@@ -66,12 +66,12 @@ fn digit_first(rest: Option<&[u8]>) -> Option<u8>
     Some(digit.saturating_sub(b'0'))
 }
 
-// The number of a clause, where that is the first member.
+// The number of a clause, where the member `clause` is the first of the members of a reply; none where it isn't.
 #[tactic(auto, unfolding(crate::specs::Asks::clause_first))]
 fn clause_first(members: &[u8]) -> Option<u8>
     ensures { result ≡ clause_first members.now }
 {
-    let (word, rest) = cut(members, b':');
+    let (word, rest) = split_at_byte(members, b':');
     if word == b"\"clause\"".as_slice() {
         digit_first(rest)
     } else {
@@ -79,22 +79,23 @@ fn clause_first(members: &[u8]) -> Option<u8>
     }
 }
 
-// The number of a clause, where that is the second member.
+// The number of a clause, where the member `clause` is the second of the members of a reply; none where it isn't.
 #[tactic(auto, unfolding(crate::specs::Asks::clause_second))]
 fn clause_second(members: &[u8]) -> Option<u8>
     ensures { result ≡ clause_second members.now }
 {
-    let (_, rest) = cut(members, b',');
+    let (_, rest) = split_at_byte(members, b',');
     let rest = rest?;
     clause_first(rest)
 }
 
-// The number of a clause, where that is the first member, or the one behind a current number.
+// The number of a clause, where the member `clause` is the first of the members of a reply, or the second, behind `at`;
+// none where it is neither.
 #[tactic(auto, unfolding(crate::specs::Asks::clause_member))]
 fn clause_member(members: &[u8]) -> Option<u8>
     ensures { result ≡ clause_member members.now }
 {
-    let (word, _) = cut(members, b':');
+    let (word, _) = split_at_byte(members, b':');
     if word == b"\"at\"".as_slice() {
         clause_second(members)
     } else {
@@ -102,24 +103,25 @@ fn clause_member(members: &[u8]) -> Option<u8>
     }
 }
 
-// The number of the clause that a reply's text names.
+// The number of the clause that a reply's text names; none where the reply is no denial.
 #[tactic(auto, unfolding(crate::specs::Asks::clause_told))]
 fn clause_told(text: &[u8]) -> Option<u8>
     ensures { result ≡ clause_told text.now }
 {
-    let (_, members) = cut(text, b'{');
+    let (_, members) = split_at_byte(text, b'{');
     let members = members?;
     clause_member(members)
 }
 
-// Whether this is the text of the reply that memory was refused.
+// Whether `text` is that of the reply that memory was refused.
 fn is_memory(text: &[u8]) -> bool
     ensures { result ≡ bytes_eq text.now memory_text }
 {
     text == b"{\"refuse\":\"memory\"}".as_slice()
 }
 
-// Who is known behind a line with this greeting. A command changes nothing of it.
+// Who is known behind a line with this greeting, where `known` was known before it: a command that is left to judge
+// changes nothing.
 fn known_by(known: Option<Who>, greeting: Greeting) -> Option<Who>
     ensures { result ≡ known_by known greeting }
 {
@@ -135,7 +137,8 @@ fn known_by(known: Option<Who>, greeting: Greeting) -> Option<Who>
     }
 }
 
-// What the line is, and who is known behind it.
+// What the tally takes the line for (a move, something else, or no request), and who is known behind it, where `known`
+// was known before it.
 fn told_by(
     alloc: Global,
     roster: &Roster,
@@ -158,7 +161,7 @@ fn told_by(
     }
 }
 
-// The student, if that is one.
+// The student whom `who` names; none for the teacher.
 fn student_in(who: Who) -> Option<Student>
     ensures { result ≡ student_in who }
 {
@@ -168,7 +171,7 @@ fn student_in(who: Who) -> Option<Student>
     }
 }
 
-// The student who is known, if one is.
+// The student who is known; none where nobody is, or the teacher.
 fn student_of(known: Option<Who>) -> Option<Student>
     ensures { result ≡ student_of known }
 {
@@ -178,7 +181,8 @@ fn student_of(known: Option<Who>) -> Option<Student>
     }
 }
 
-// What a line that was answered asked, and who is known behind it.
+// What a line asked that was answered by this text, and who is known behind it: whoever was known before it, where the
+// text says that memory was refused.
 #[tactic(auto, unfolding(crate::specs::Asks::known_after))]
 fn ask_of(
     alloc: Global,
@@ -207,7 +211,8 @@ fn ask_of(
     }
 }
 
-// Puts what an entry's line asked behind those that are there, and gives who is known behind it.
+// Puts what an entry's line asked behind `asks`, and gives who is known behind the entry; an entry that has no line
+// asks nothing, and nobody is known behind it.
 fn read_ask(
     alloc: Global,
     lab: &Lab,
@@ -232,8 +237,8 @@ fn read_ask(
     }
 }
 
-/// Puts what the lines of the seat with this number asked, and which clause denied each, behind what is there.
-/// The text is that of a record, beside the list of events of a journal of the lab.
+/// Puts what the lines of the seat with this number asked, and which clause denied each, behind `asks`. The text is
+/// that of a record, beside the list of events of a journal of the lab; of another text nothing is said.
 pub fn read_asks(
     alloc: Global,
     lab: &Lab,

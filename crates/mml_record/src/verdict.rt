@@ -35,7 +35,7 @@ pub enum Why {
     PastEnd,
     /// Something is said after a bye, or after a mark that the rest of the session isn't recorded.
     NoEnd,
-    /// The rules grant another event there than the journal has.
+    /// The reply tells of an event that the rules grant there, and that isn't the next of the journal.
     OtherEvent,
     /// The rules answer otherwise there.
     OtherReply,

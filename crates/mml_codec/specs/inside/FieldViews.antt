@@ -8,6 +8,7 @@ use Rattle.mml_codec.specs.declared.object.Field as TheField
 use Rattle.mml_codec.specs.declared.object.Field.TheVariants as fields
 use Rattle.mml_codec.specs.Fields.{Field, number, word, text, truth, null, value_of}
 
+-- what a field of the code stands for
 abbrev pub field_view : TheField.Field → Field
 field_view (fields.Number n) = number n
 field_view (fields.Word w) = word w.now
@@ -15,5 +16,6 @@ field_view (fields.Text s) = text s.now
 field_view (fields.Truth b) = truth b
 field_view fields.Null = null
 
+-- the tokens that write a key with what the key holds
 abbrev pub tokens_of : List ℕ × Field → List Token
 tokens_of m = token.key m.0 ∷ json_tokens (outline (value_of m.1))

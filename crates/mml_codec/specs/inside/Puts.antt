@@ -15,18 +15,21 @@ abbrev pub number_front : Option ℕ → List ℕ
 number_front None = codes "{"
 number_front (Some at) = concat (codes "{\"at\":" ∷ decimal at ∷ codes "," ∷ [])
 
+-- the text of a denial, as it is put: what stands before its clause, and the rest
 unfoldable pub deny_parts : Denial → List ℕ
 deny_parts d = number_front (current_number d) ++ concat (codes "\"clause\":" ∷ decimal (clause_of d) ∷ codes ",\"deny\":\"" ∷ denials.denial_name d
     ∷ codes "\",\"text\":\"" ∷ text_of d ∷ codes "\"}" ∷ [])
 
--- what stands before the nodes that are linked to the one that is looked at, and what after them
+-- what a look says before the nodes that are linked to the one that is looked at
 abbrev pub look_head : Look → List (List ℕ)
 look_head l = codes "{\"at\":" ∷ decimal l.at ∷ codes ",\"chosen\":" ∷ kind_or_null l.chosen ∷ codes ",\"m\":" ∷ truth_text l.regs.m ∷ codes ",\"near\":[" ∷ []
 
+-- what a look says after the nodes that are linked to the one that is looked at
 abbrev pub look_tail : List ℕ → Look → List (List ℕ)
 look_tail ids l = codes "],\"node\":" ∷ node_text ids l.node ∷ codes ",\"ok\":\"look\",\"p\":" ∷ pointer_text ids l.regs.p
     ∷ codes ",\"rule\":" ∷ kind_or_null l.enabled ∷ codes "}" ∷ []
 
+-- the texts one after another, as one text
 unfoldable pub joined_text : List (List ℕ) → List ℕ
 joined_text texts = concat texts
 

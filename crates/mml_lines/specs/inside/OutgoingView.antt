@@ -10,6 +10,7 @@ abbrev pub parted : List ℕ → List ℕ → List (List ℕ)
 parted [] bytes = []
 parted (n ∷ ns) bytes = take n bytes ∷ parted ns (drop n bytes)
 
+-- the sum of the lengths
 abbrev pub total : List ℕ → ℕ
 total [] = 0
 total (n ∷ ns) = n + total ns

@@ -1,10 +1,10 @@
-use Rattle.std.proofs.Common.{ℕ, List}
+use Rattle.std.proofs.Common.{◌≡◌, ℕ, List, [], ◌∷◌, arith}
 use Rattle.serde_json.specs.Data.{Members, object, no_members, put}
 use Rattle.mml_plain.specs.declared.fields.Fields.{Fields}
 use Rattle.mml_plain.specs.Compact.{PutsMember}
 use Rattle.mml_plain.specs.Holds.{Holds}
 use Rattle.mml_plain.proofs.FieldsLemmas.{holds_with}
-use Rattle.mml_plain.proofs.CompactLemmas.{Before, After, begun, comma, over, over_utf8, member}
+use Rattle.mml_plain.proofs.CompactLemmas.{Before, After, alone, begun, comma, over, over_utf8, member}
 use Rattle.mml_plain.proofs.compact_reading.read_compact.Goals as goal
 
 pub members-init : goal.members-init
@@ -16,11 +16,12 @@ one_more line rest more found old new before holds p =
     let v = p.member.value in
     (put p.key v.datum found, member line rest more p.key p.value found p.member before, rw p.put (holds_with p.key p.value v.datum found v.shows old holds))
 
-pub returns-in_default-behind : goal.returns-in_default-behind
-returns-in_default-behind c = λ e.
+pub returns-then-more-eq1 : goal.returns-then-more-eq1
+returns-then-more-eq1 c = λ e.
     let l = c.members in
     let s = one_more c.args.line.now l.rest.now _ l.invariant.0 l.fields _ l.invariant.1 l.invariant.2 c.in-Some-member.ensures in
-    (s.0, over_utf8 _ _ s.0 (c.is_end.ensures e) s.1, over _ _ s.0 (c.is_end.ensures e) s.1, s.2)
+    let end : c.in-Some-member.more.now ≡ 125 ∷ [] = grind (arith, alone) in
+    (s.0, over_utf8 _ _ s.0 end s.1, over _ _ s.0 end s.1, s.2)
 
 pub members-preserved : goal.members-preserved
 members-preserved c =
