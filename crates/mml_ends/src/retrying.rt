@@ -6,7 +6,7 @@ ghost use Rattle.std.specs.IoError.{error_kind};
 use std::io;
 use std::io::{Error, ErrorKind, Read, Write};
 
-/// A reader or a writer whose calls are made again where a signal interrupted them, and which remembers
+/// A reader or a writer whose reads and writes are made again where a signal interrupted them, and which remembers
 /// whether one of them failed because memory ran out.
 #[derive(Debug, Drop)]
 pub struct Retrying<T: Drop> {
@@ -15,7 +15,7 @@ pub struct Retrying<T: Drop> {
 }
 
 impl<T: Drop> Retrying<T> {
-    /// None of its calls has failed.
+    /// Over a reader or a writer of which no read or write has lacked memory yet.
     pub fn new(inner: T) -> Retrying<T>
         ensures inner { result.inner ≡ inner }
         ensures lacked_memory { result.lacked_memory ≡ false }
@@ -30,6 +30,8 @@ impl<T: Drop> Retrying<T> {
 impl<R: Read + Drop> Read for Retrying<R> {
     ghost remaining = { λ s. R.remaining s.inner };
 
+    // Reads again as long as a signal interrupts the read, after 2^64 - 1 times with the error `TimedOut`, and
+    // remembers want of memory.
     fn read(&mut self, buf: &mut [u8]) -> io::Result<usize>
         ensures bound { ReadsAtMost result buf.new }
         ensures bytes { ReadConsumes (R.remaining self.old.inner) (R.remaining self.new.inner)
@@ -38,15 +40,22 @@ impl<R: Read + Drop> Read for Retrying<R> {
         ensures remembered { IsTrue self.new.lacked_memory ↔ (IsTrue self.old.lacked_memory
             ⊎ IsErrAnd result (λ e. error_kind e ≡ ErrorKind.OutOfMemory)) }
     {
-        let got = read_on(&mut self.inner, buf);
-        self.lacked_memory = self.lacked_memory || failed_by(&got, ErrorKind::OutOfMemory);
-        got
+        for _ in 0..u64::MAX {
+            let got = self.inner.read(buf);
+            if !failed_by(&got, ErrorKind::Interrupted) {
+                self.lacked_memory = self.lacked_memory || failed_by(&got, ErrorKind::OutOfMemory);
+                return got;
+            }
+        }
+        Err(Error::from(ErrorKind::TimedOut))
     }
 }
 
 impl<W: Write + Drop> Write for Retrying<W> {
     ghost contents = { λ s. W.contents s.inner };
 
+    // Writes again as long as a signal interrupts the write, after 2^64 - 1 times with the error `TimedOut`, and
+    // remembers want of memory.
     fn write(&mut self, buf: &[u8]) -> io::Result<usize>
         ensures bound { WritesAtMost result buf.now }
         ensures bytes { WriteAppends (W.contents self.old.inner) (W.contents self.new.inner)
@@ -55,11 +64,17 @@ impl<W: Write + Drop> Write for Retrying<W> {
         ensures remembered { IsTrue self.new.lacked_memory ↔ (IsTrue self.old.lacked_memory
             ⊎ IsErrAnd result (λ e. error_kind e ≡ ErrorKind.OutOfMemory)) }
     {
-        let put = write_on(&mut self.inner, buf);
-        self.lacked_memory = self.lacked_memory || failed_by(&put, ErrorKind::OutOfMemory);
-        put
+        for _ in 0..u64::MAX {
+            let put = self.inner.write(buf);
+            if !failed_by(&put, ErrorKind::Interrupted) {
+                self.lacked_memory = self.lacked_memory || failed_by(&put, ErrorKind::OutOfMemory);
+                return put;
+            }
+        }
+        Err(Error::from(ErrorKind::TimedOut))
     }
 
+    // Flushes once, also where a signal interrupts the flush, of which nothing is remembered.
     fn flush(&mut self) -> io::Result<()>
         ensures { Keeps (W.contents self.old.inner) (W.contents self.new.inner) }
     {
@@ -67,43 +82,7 @@ impl<W: Write + Drop> Write for Retrying<W> {
     }
 }
 
-// Reads, again after each signal.
-fn read_on<R: Read>(reader: &mut R, buf: &mut [u8]) -> io::Result<usize>
-    ensures bound { ReadsAtMost result buf.new }
-    ensures ok { IfOk result (λ n.
-        Consumes (R.remaining reader.old) (R.remaining reader.new) (take n buf.new)) }
-    ensures end { IfOk result (λ n.
-        n ≡ 0 → 0 < length buf.old → IsAtEnd (R.remaining reader.new)) }
-    ensures err { OnErr result (Keeps (R.remaining reader.old) (R.remaining reader.new)) }
-    ensures retried { IfErr result (λ e. error_kind e ≢ ErrorKind.Interrupted) }
-{
-    for _ in 0..u64::MAX {
-        let got = reader.read(buf);
-        if !failed_by(&got, ErrorKind::Interrupted) {
-            return got;
-        }
-    }
-    Err(Error::from(ErrorKind::TimedOut))
-}
-
-// Writes, again after each signal.
-fn write_on<W: Write>(writer: &mut W, buf: &[u8]) -> io::Result<usize>
-    ensures bound { WritesAtMost result buf.now }
-    ensures ok { IfOk result (λ n.
-        Appends (W.contents writer.old) (W.contents writer.new) (take n buf.now)) }
-    ensures err { OnErr result (Keeps (W.contents writer.old) (W.contents writer.new)) }
-    ensures retried { IfErr result (λ e. error_kind e ≢ ErrorKind.Interrupted) }
-{
-    for _ in 0..u64::MAX {
-        let put = writer.write(buf);
-        if !failed_by(&put, ErrorKind::Interrupted) {
-            return put;
-        }
-    }
-    Err(Error::from(ErrorKind::TimedOut))
-}
-
-// Whether a call failed by an error of this kind.
+// Whether a read or a write failed by an error of that kind.
 fn failed_by(done: &io::Result<usize>, kind: ErrorKind) -> bool
     ensures { IsTrue result ↔ IsErrAnd done.now (λ e. error_kind e ≡ kind) }
 {

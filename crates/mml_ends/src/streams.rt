@@ -4,9 +4,9 @@ use std::io;
 use std::os::fd::{AsRawFd, IntoRawFd, RawFd};
 use std::rt::Files;
 
-/// Opens each standard stream that is closed on the null device: input to write to, output and error to
-/// read from. So each use of it fails, and no file that is opened later takes its place. It is called
-/// before any other file is opened.
+/// Opens the null device in the place of each standard stream that is closed: input to write to, output and error
+/// to read from. So each use of it fails, and no file that is opened later takes its place. It is called
+/// before any other file is opened. The error is that the null device couldn't be opened.
 pub fn hold_streams<R: Files<File = File>>(rt: &R) -> io::Result<()> {
     for stream in 0..3 {
         hold_stream(rt, stream)?;
@@ -14,7 +14,8 @@ pub fn hold_streams<R: Files<File = File>>(rt: &R) -> io::Result<()> {
     Ok(())
 }
 
-// The system gives the least descriptor that is free, and the streams before this one are open.
+// Opens the null device in the place of a standard stream, if that is closed: the system gives the least descriptor
+// that is free, and the streams before `stream` are open. An open one stays as it is. Fails where opening does.
 fn hold_stream<R: Files<File = File>>(rt: &R, stream: RawFd) -> io::Result<()> {
     let is_input = stream == 0;
     let file = OpenOptions::new()

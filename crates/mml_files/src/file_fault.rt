@@ -47,6 +47,7 @@ impl<T: Drop> From<AllocFailed<T>> for FileFault {
 }
 
 impl From<TryLockError> for FileFault {
+    // A lock that another program has is a refusal.
     fn from(error: TryLockError) -> FileFault {
         match error {
             TryLockError::Error(error) => FileFault::from(error),

@@ -11,7 +11,7 @@ const STACK: i32 = 3;
 // How many bytes of stack a program needs: twice what the deepest request takes.
 const NEEDED: u64 = 256 << 10;
 
-/// How large a file may become. Where that isn't known, it may be of any size.
+/// How many bytes a file may have at most: the largest number where the system doesn't say.
 pub fn file_size_limit() -> u64 {
     limit_of(FILE_SIZE)
 }
@@ -21,7 +21,7 @@ pub fn has_small_stacks() -> bool {
     limit_of(STACK) < NEEDED
 }
 
-// The limit of what the number stands for. Where it isn't known there is none.
+// The system's limit of what the number stands for; the largest number where it doesn't say.
 fn limit_of(what: i32) -> u64 {
     let mut limit = rlimit {
         rlim_cur: u64::MAX,

@@ -13,8 +13,8 @@ const LOOKS: u32 = 50;
 // How many milliseconds pass from one look to the next.
 const PAUSE: i32 = 20;
 
-/// Opens the pipe, and refuses one that nobody reads within a second. An open to write alone would wait
-/// for a reader; where the pipe is open to be read too, here itself, it doesn't.
+/// Opens the pipe to append to it, and refuses one that nobody reads within a second. An open to write alone would wait
+/// for a reader, but not while the pipe is open to be read too, as it is here until the other open is done.
 pub fn open_pipe<R: Files<File = File>>(rt: &R, path: &str) -> Result<File, FileFault> {
     let both = appending().read(true).open(rt, path)?;
     let file = appending().open(rt, path)?;
@@ -28,7 +28,7 @@ pub fn open_pipe<R: Files<File = File>>(rt: &R, path: &str) -> Result<File, File
     Err(FileFault::Refused)
 }
 
-// Whether somebody reads the pipe.
+// Whether somebody has the pipe open to read it; `file` writes to it.
 fn is_read(file: &File) -> bool {
     let mut ends = [pollfd {
         fd: file.as_raw_fd(),

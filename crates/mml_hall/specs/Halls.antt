@@ -6,6 +6,7 @@ use Rattle.mml_board.specs.World.{IsWorld, size, opening_of}
 use Rattle.mml_board.specs.Runs.{is_legal_list, world_of}
 use Rattle.mml_hall.specs.Turns.{State}
 
+-- the lab, where the answers have led, and the sink as it is now
 pub record HallValue (S : Type 0) : Type 0 where
   pub lab : LabValue
   pub state : State

@@ -8,10 +8,11 @@ use Rattle.mml_codec.specs.declared.TheConstants.{MAX_REQUEST}
 use Rattle.mml_hall.specs.declared.script_line.ScriptLine.{ScriptLine}
 use Rattle.mml_hall.specs.Turns.{RequestLine}
 
--- without its newline: the connection, a space and the request
+-- the text of a script line, without its newline: the connection, a space and the request
 abbrev pub script_line : RequestLine → List ℕ
 script_line s = decimal s.connection ++ 32 ∷ s.request
 
+-- the lab has the connection, and neither the request nor the whole line is too long
 pub record IsScriptLine (sessions : ℕ) (s : RequestLine) : Type 0 where
   pub some : 0 < s.connection
   pub known : s.connection ≤ sessions

@@ -19,9 +19,11 @@ use Rattle.mml_hall.specs.Transcripts.{Transcript, output_line, bytes_read, line
 abbrev pub LineTurn : LabValue → State → State → Type 0
 LineTurn lab st after = OneStep TurnOf (λ lab. IsScriptLine lab.sessions) lab st after
 
+-- the bytes of the line that was answered, with its newline
 abbrev pub line_read : {lab : LabValue} {st after : State} → LineTurn lab st after → List ℕ
 line_read t = ended (script_line t.line)
 
+-- the line that is written in answer
 abbrev pub line_written : {lab : LabValue} {st after : State} → LineTurn lab st after → List ℕ
 line_written {lab} t = output_line lab t.line.connection t.reply
 

@@ -17,7 +17,7 @@ use Rattle.mml_hall.specs.Turns.{State, RequestLine}
 use Rattle.mml_hall.specs.ScriptLines.{IsScriptLine, IsBad, script_line}
 use Rattle.mml_hall.specs.Scripts.{LineTurn, line_read, line_written}
 
--- the reply whose line was put: it itself, or out of memory
+-- the reply whose line was put: the reply itself, or the refusal `memory`
 abbrev pub told_of : Reply → Bool → Reply
 told_of reply true = reply
 told_of reply false = replies.Refuse refused.Memory
@@ -48,8 +48,8 @@ ServesText next.ReadFault lab st after line unsent unsent' wrote wrote' = ⊥
 ServesText (next.WriteFault fault) lab st after line unsent unsent' wrote wrote' =
     (s : RequestLine) × (line ≡ script_line s) × ServesLine (Err fault) lab st after s unsent unsent' wrote wrote'
 
--- what came of the next line says of the states, of the bytes to come, of which those held are first, of the lines that aren't
--- written and of the bytes that are
+-- what came of the next line: what it made of the state, of the bytes to come, of which those held are first, of the lines that
+-- aren't written and of the bytes that are
 abbrev pub ServesNext : Next → LabValue → State → State → Option (List ℕ) → List ℕ → Option (List ℕ) → List (List ℕ) → List (List ℕ) → Option (List ℕ)
     → Option (List ℕ) → Type 0
 ServesNext next.Answered lab st after input held left unsent unsent' wrote wrote' =

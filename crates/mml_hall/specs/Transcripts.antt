@@ -27,10 +27,10 @@ Transcript lab = Exchange TurnOf (λ lab. IsScriptLine lab.sessions) (λ r. Unit
 abbrev pub bytes_read : {lab : LabValue} → Transcript lab → List ℕ
 bytes_read t = flat_map ended (map script_line t.lines)
 
--- the lines written in answer
+-- the lines that are written in answer to those of a transcript
 abbrev pub lines_written : {lab : LabValue} → Transcript lab → List (List ℕ)
 lines_written {lab} t = output_lines lab t.lines t.replies
 
--- their bytes
+-- the bytes of the lines written in answer
 abbrev pub bytes_written : {lab : LabValue} → Transcript lab → List ℕ
 bytes_written t = concat (lines_written t)

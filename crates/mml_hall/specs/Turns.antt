@@ -23,6 +23,7 @@ use Rattle.mml_codec.specs.Greetings.{refusal_of, greeting}
 use Rattle.mml_codec.specs.Replies.{is_short, place_in}
 use Rattle.mml_codec.specs.Rulings.{reply_of}
 
+-- where the answers so far have led
 pub record State : Type 0 where
   pub world : World
   -- what was granted so far
@@ -36,9 +37,11 @@ pub record State : Type 0 where
 abbrev pub opening : LabValue → State
 opening lab = record { world = opening_of lab.network; events = []; greeted = replicate lab.sessions None; halted = false }
 
+-- who is known on a connection, if anyone is
 abbrev pub known_on : State → ℕ → Option Who
 known_on st k = slice_index_or st.greeted (k - 1) None
 
+-- the state in which someone, or no one, is known on a connection, and all else is as it was
 abbrev pub with_known : State → ℕ → Option Who → State
 with_known st k x = record st { greeted = slice_set st.greeted (k - 1) x }
 
@@ -51,16 +54,16 @@ pub record Outcome : Type 0 where
 abbrev pub replied : State → Reply → Outcome
 replied st r = record { reply = r; state = st }
 
--- an event takes place
+-- the state after an event
 abbrev pub with_event : State → Event → State
 with_event st e = record st { world = after st.world e; events = st.events ++ e ∷ [] }
 
--- an event takes place, or none
+-- the state after an event, or the same where there is none
 abbrev pub entered : State → Option Event → State
 entered st None = st
 entered st (Some e) = with_event st e
 
--- what comes of a ruling; the reply names the number and the place after it
+-- what comes of a ruling: its event takes place, if one is granted, and the reply is told of the world after that
 abbrev pub told : State → Ruling → Outcome
 told st r = let after = entered st (event_of r) in record { reply = reply_of after.world r; state = after }
 

@@ -16,8 +16,8 @@ use crate::MAX_SCRIPT_LINE;
 
 pub mod audit;
 
-/// The script lines of a transcript are the first lines of what it read with what comes after, and
-/// all of them where no line comes after.
+/// The script lines of a transcript are the first lines of the bytes that it read with any rest behind them,
+/// and all lines where the rest has no newline.
 pub fn lines_of_a_transcript()
     ensures first { (lab : LabValue) (t : Transcript lab) (rest : List ℕ)
         → lab.sessions ≤ MAX_SESSIONS
@@ -32,22 +32,22 @@ pub fn one_reply_each()
     ensures { (lab : LabValue) (t : Transcript lab) → length t.replies ≡ length t.lines }
 {}
 
-/// What is denied or refused leaves the world, the events, and who is known on each connection, as
-/// they were.
+/// What is denied or refused leaves the world, the events, and who is known on each connection, as they were;
+/// only the journal may be halted by it.
 pub fn refusals_change_nothing()
     ensures { (lab : LabValue) (st : State) (connection : ℕ) (line : List ℕ) (out : Outcome)
         → Turn lab st connection line out → IsRefusal out.reply → IsKept st out.state }
 {}
 
-/// A turn makes at most one event, and only where its reply tells a grant; that names the place of the
+/// A turn makes at most one event, and only where its reply tells a grant, which names the place of the
 /// event. Every other reply leaves the world and the events as they were.
 pub fn events_grow_by_grants()
     ensures { (lab : LabValue) (st : State) (connection : ℕ) (line : List ℕ) (out : Outcome)
         → Turn lab st connection line out → GrowsByGrant st out }
 {}
 
-/// A put that failed halts the journal, in the place of a grant, and nothing else does; it stays halted.
-/// The refusal that tells it comes only where the journal is halted then.
+/// A put that failed halts the journal, in the place of a grant, and nothing else does; a journal that is
+/// halted stays so. The refusal `journal` comes only where the journal is halted then.
 pub fn failed_puts_halt_for_good()
     ensures failed { (lab : LabValue) (st : State) (connection : ℕ) (line : List ℕ)
         → is_grant (plain_turn lab st connection line).reply ≡ true

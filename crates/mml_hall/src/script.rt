@@ -42,6 +42,7 @@ pub enum ScriptFault {
 impl From<Memory> for ScriptFault {
     ghost from_gives = { λ _ e. e ≡ faults.Memory };
 
+    // Memory that was refused, told as why a script ended: before anything was read.
     fn from(_memory: Memory) -> ScriptFault {
         ScriptFault::Memory
     }
@@ -50,6 +51,7 @@ impl From<Memory> for ScriptFault {
 impl From<WriteFault> for ScriptFault {
     ghost from_gives = { λ f e. e ≡ faults.Write f.written };
 
+    // A failed write, told as why a script ended, with the same count of bytes.
     fn from(fault: WriteFault) -> ScriptFault {
         ScriptFault::Write {
             written: fault.written,
@@ -57,9 +59,10 @@ impl From<WriteFault> for ScriptFault {
     }
 }
 
-/// Answers the lines of a script one by one. Replies go out together, so that one write takes many: the
-/// writer is flushed where the next line needs a read, and before a bad line is told. The lines of the
-/// granted events go to the sink, which is let go with the hall where an error ends the script.
+/// Answers the lines of a script one by one, and gives the hall at the end of the input, or why the script ended
+/// before. Replies go out together, so that one write takes many: the writer is flushed where the next line needs
+/// a read, and before a bad line is told. The lines of the granted events go to the sink, which is let go with
+/// the hall where an error ends the script.
 pub fn run_script<R: Read, W: Write, S: Sink + Drop>(
     alloc: Global,
     lab: Lab,
@@ -97,6 +100,8 @@ struct Buffers {
 }
 
 impl Buffers {
+    // Buffers that hold nothing, with room for any reply but a look's or a report's. An error means that memory was
+    // refused.
     fn new(alloc: Global) -> Result<Buffers, Memory>
         ensures lines { IfOk result (λ b. b.lines ≡ fresh MAX_SCRIPT_LINE) }
         ensures room { IfOk result (λ b. REPLY_ROOM ≤ vec_capacity b.reply) }
@@ -113,7 +118,8 @@ impl Buffers {
     }
 }
 
-// Answers all lines of the input in a hall that was just opened.
+// Reserves the buffers, and answers all lines of the input in a hall that was just opened. An error is why the
+// script ended before its input did.
 fn answer_all<R: Read, W: Write, S: Sink>(
     alloc: Global,
     hall: &mut Hall<S>,
@@ -132,7 +138,8 @@ fn answer_all<R: Read, W: Write, S: Sink>(
     answer_lines(alloc, hall, &mut buffers, reader, writer)
 }
 
-// Answers line after line, with all that is needed reserved.
+// Answers line after line in reserved buffers, up to the end of the input. An error is why the script ended before
+// that, and never `Memory`.
 fn answer_lines<R: Read, W: Write, S: Sink>(
     alloc: Global,
     hall: &mut Hall<S>,
@@ -170,7 +177,7 @@ fn answer_lines<R: Read, W: Write, S: Sink>(
     }
 }
 
-// Lines count from 1.
+// The fault that the line behind so many that were answered is no script line, with its number. Lines count from 1.
 fn bad_line_after(answered: u64) -> ScriptFault
     requires { answered < 2 ^ 64 - 1 }
     ensures { result ≡ ScriptFault.BadLine (answered + 1) }
@@ -188,7 +195,8 @@ enum Next {
     WriteFault(WriteFault),
 }
 
-// Lets all go out where the next line needs a read, and else nothing.
+// Lets all held replies go out where the next line needs a read, and else does nothing. An error is a failed write or
+// flush.
 fn flush_before_read<W: Write>(
     lines: &Lines,
     outgoing: &mut Outgoing,
@@ -210,7 +218,8 @@ fn flush_before_read<W: Write>(
     Ok(())
 }
 
-// Gets the next line, which it reads only where nothing is unwritten, and answers it.
+// Gets the next line, answers it, if it is a script line, and tells what came of it. It reads only where all replies
+// are out.
 fn serve_next<R: Read, W: Write, S: Sink>(
     alloc: Global,
     hall: &mut Hall<S>,
@@ -255,7 +264,8 @@ fn serve_next<R: Read, W: Write, S: Sink>(
     }
 }
 
-// Answers a line, where it is a script line.
+// Answers a line, where it is a script line, and tells what came of it: `Answered`, or `WriteFault` where a write
+// failed, and `BadLine` where it is no script line.
 fn serve_line<W: Write, S: Sink>(
     alloc: Global,
     hall: &mut Hall<S>,
@@ -275,7 +285,7 @@ fn serve_line<W: Write, S: Sink>(
         outgoing.old outgoing.new (W.contents writer.old) (W.contents writer.new) }
 {
     match read_script_line(line, hall.lab().sessions()) {
-        Some(line) => match serve(alloc, hall, line, out, outgoing, writer) {
+        Some(line) => match serve_script_line(alloc, hall, line, out, outgoing, writer) {
             Ok(()) => Next::Answered,
             Err(fault) => Next::WriteFault(fault),
         },
@@ -283,8 +293,9 @@ fn serve_line<W: Write, S: Sink>(
     }
 }
 
-// Answers a script line and lets the reply go out, written where it goes out from, if it is short.
-fn serve<W: Write, S: Sink>(
+// Answers a script line and puts the reply behind those that are held to go out: if it is short and there is room,
+// written where they are held, else by `tell_apart`. An error is a failed write.
+fn serve_script_line<W: Write, S: Sink>(
     alloc: Global,
     hall: &mut Hall<S>,
     line: ScriptLine<'_>,
@@ -330,13 +341,14 @@ impl LineRest for Told<'_> {
 
     ghost is_short = { λ t. is_short t.reply.now };
 
+    // Puts the reply's line behind what the vector holds, if it is short, no look's and no report's; tells whether.
     fn append_to(&self, out: &mut Vec<u8>) -> bool {
         append_reply(self.lab.ids(), self.lab.roster(), self.reply, out)
     }
 }
 
-// Lets the line of a reply go out by way of a buffer of its own: a long reply, and one for which those that
-// are held make room.
+// Puts the line of a reply behind those that are held to go out, by way of a buffer of its own: for a reply that
+// isn't short, and one for which the held lines have to be written first. An error is a failed write.
 #[inline(never)]
 fn tell_apart<W: Write>(
     alloc: Global,
@@ -356,8 +368,8 @@ fn tell_apart<W: Write>(
     outgoing.put(front, out, writer)
 }
 
-// Puts the line of a reply, which stays where it is, or one that tells out of memory. Whether it was
-// the reply's own.
+// Puts the line of a reply in the place of what the vector holds, or the line of the refusal `memory`, where a
+// growth was refused, and tells whether it was the reply's own.
 fn put_reply(alloc: Global, lab: &Lab, reply: &Reply, out: &mut Vec<u8>) -> bool
     requires room { REPLY_ROOM ≤ vec_capacity out.old }
     requires about { IsAbout lab.now.ids lab.now.roster reply.now }
@@ -374,7 +386,7 @@ fn put_reply(alloc: Global, lab: &Lab, reply: &Reply, out: &mut Vec<u8>) -> bool
     }
 }
 
-// Puts the line that tells out of memory, for which there is room.
+// Puts the line of the refusal `memory` in the place of what the vector holds, for which that has room.
 fn put_want_of_memory(alloc: Global, lab: &Lab, out: &mut Vec<u8>)
     requires room { REPLY_ROOM ≤ vec_capacity out.old }
     ensures room { REPLY_ROOM ≤ vec_capacity out.new }

@@ -18,7 +18,9 @@ pub struct ScriptLine<'a> {
     pub request: &'a [u8],
 }
 
-/// Reads a line of a script, without its newline: a connection in decimal, one space and the request.
+/// The connection and the request of a line of a script, without its newline: a connection in decimal, one
+/// space and the request. `None` where the lab has no such connection, the request is longer than a request may
+/// be, or the line isn't formed so.
 pub fn read_script_line(line: &[u8], sessions: u8) -> Option<ScriptLine<'_>>
     requires few { sessions ≤ MAX_SESSIONS }
     requires line { IsWithinLimit MAX_SCRIPT_LINE line.now }
@@ -41,8 +43,8 @@ pub fn read_script_line(line: &[u8], sessions: u8) -> Option<ScriptLine<'_>>
     })
 }
 
-// The number of one or two digits that a line begins with, or 0. Where more follow, it is anything, since
-// no connection has such a number.
+// The number that the first one or two digits of a line spell, or 0 where it begins with none. More digits may
+// follow these, or a zero come first: no connection has such a number, and the whole line is tested afterwards.
 fn connection_of(line: &[u8]) -> u8
     ensures { (n : ℕ) (rest : List ℕ) → 0 < n → n ≤ MAX_SESSIONS
         → line.now ≡ decimal n ++ 32 ∷ rest → result ≡ n }
@@ -54,7 +56,7 @@ fn connection_of(line: &[u8]) -> u8
     }
 }
 
-// The value of the digit at a place, where one stands there.
+// The value of the digit at a place of a line, from 0; `None` where no digit stands there.
 fn digit_at(line: &[u8], place: usize) -> Option<u8>
     ensures digit { IfSome result (λ d. (d < 10) × (place < length line.now) × (slice_index line.now place ≡ 48 + d)) }
     ensures none { IfNone result (place < length line.now → (d : ℕ) → d < 10 → slice_index line.now place ≢ 48 + d) }
@@ -66,7 +68,8 @@ fn digit_at(line: &[u8], place: usize) -> Option<u8>
     }
 }
 
-// The request of a line that begins with this connection, where it isn't too long.
+// The request of a line, which follows the connection and one space at its front; `None` where these don't stand
+// there, or the request is too long.
 fn short_request_on(connection: u8, line: &[u8]) -> Option<&[u8]>
     requires number { connection < 100 }
     requires line { IsUnbroken line.now }
@@ -84,33 +87,33 @@ fn short_request_on(connection: u8, line: &[u8]) -> Option<&[u8]>
     }
 }
 
-// What follows this connection and one space.
+// What follows the connection and one space at the front of a line; `None` where they don't stand there.
 fn request_on(connection: u8, line: &[u8]) -> Option<&[u8]>
     requires { connection < 100 }
     ensures { MatchOption result
         ((request : List ℕ) → line.now ≢ decimal connection ++ 32 ∷ request)
         (λ request. line.now ≡ decimal connection ++ 32 ∷ request.now) }
 {
-    let rest = number_on(connection, line)?;
-    let request = after(rest, b" ")?;
+    let rest = after_number(connection, line)?;
+    let request = after_word(rest, b" ")?;
     Some(request)
 }
 
-// What follows this number of one or two digits.
-fn number_on(connection: u8, line: &[u8]) -> Option<&[u8]>
+// What follows the connection's number, of one or two digits, at the front of a line; `None` where it isn't there.
+fn after_number(connection: u8, line: &[u8]) -> Option<&[u8]>
     requires { connection < 100 }
     ensures { MatchOption result
         ((rest : List ℕ) → line.now ≢ decimal connection ++ rest)
         (λ rest. line.now ≡ decimal connection ++ rest.now) }
 {
     if connection < 10 {
-        return after(line, &[b'0' + connection]);
+        return after_word(line, &[b'0' + connection]);
     }
-    after(line, &[b'0' + connection / 10, b'0' + connection % 10])
+    after_word(line, &[b'0' + connection / 10, b'0' + connection % 10])
 }
 
-// What follows these bytes at the front.
-fn after<'a>(line: &'a [u8], word: &[u8]) -> Option<&'a [u8]>
+// What follows a word at the front of a line; `None` where the line doesn't begin with it.
+fn after_word<'a>(line: &'a [u8], word: &[u8]) -> Option<&'a [u8]>
     ensures { MatchOption result
         ((rest : List ℕ) → line.now ≢ word.now ++ rest)
         (λ rest. line.now ≡ word.now ++ rest.now) }

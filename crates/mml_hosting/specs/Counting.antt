@@ -6,7 +6,7 @@ use Rattle.mml_hosting.specs.declared.seat.ServedSession.{ServedSession}
 use Rattle.mml_hosting.specs.declared.seat.Seat.{Seat}
 use Rattle.mml_hosting.specs.declared.port_serving.Busy.{Busy}
 
--- those that will have come to its seat
+-- the connections that will have come to a busy seat: those before, and the one that is served in it
 abbrev pub bound_for : {H K C R W U : Type 0} → (K → ServedSession R W) → Busy H K C R W U → List (R × W)
 bound_for shows b = came_to shows b.handle.promise.0.value.record ++ b.handle.promise.1.value ∷ []
 
@@ -14,6 +14,7 @@ bound_for shows b = came_to shows b.handle.promise.0.value.record ++ b.handle.pr
 abbrev pub count_in : {H K C R W : Type 0} → (K → ServedSession R W) → (ℕ → ℕ) → (R × W → ℕ) → Seat H K C → ℕ
 count_in shows g h s = g s.record.number + sum_by h (came_to shows s.record)
 
+-- what is counted of all free seats
 abbrev pub count_free : {H K C R W : Type 0} → (K → ServedSession R W) → (ℕ → ℕ) → (R × W → ℕ) → List (Seat H K C) → ℕ
 count_free shows g h free = sum_by (count_in shows g h) free
 
@@ -21,13 +22,15 @@ count_free shows g h free = sum_by (count_in shows g h) free
 abbrev pub count_at : {H K C R W U : Type 0} → (K → ServedSession R W) → (ℕ → ℕ) → (R × W → ℕ) → Busy H K C R W U → ℕ
 count_at shows g h b = g b.handle.promise.0.value.record.number + sum_by h (bound_for shows b)
 
+-- what is counted of all busy seats
 abbrev pub count_busy : {H K C R W U : Type 0} → (K → ServedSession R W) → (ℕ → ℕ) → (R × W → ℕ) → List (Busy H K C R W U) → ℕ
 count_busy shows g h busy = sum_by (count_at shows g h) busy
 
+-- what is counted of all seats of a port, the free ones and the busy ones
 abbrev pub count_all : {H K C R W U : Type 0} → (K → ServedSession R W) → (ℕ → ℕ) → (R × W → ℕ) → List (Seat H K C) → List (Busy H K C R W U) → ℕ
 count_all shows g h free busy = count_free shows g h free + count_busy shows g h busy
 
--- whatever is counted, the free seats and the busy ones have as many as others
+-- whatever is counted of seats, the free and the busy ones afterwards have as many of it as the free and the busy ones at first
 abbrev pub KeepCounts : {H K C R W U : Type 0} → (K → ServedSession R W) → List (Seat H K C) → List (Busy H K C R W U) → List (Seat H K C)
     → List (Busy H K C R W U) → Type 0
 KeepCounts {H} {K} {C} {R} {W} shows free busy free' busy' = (g : ℕ → ℕ) (h : R × W → ℕ) → count_all shows g h free' busy' ≡ count_all shows g h free busy

@@ -41,7 +41,7 @@ pub record HostsFrom {S K C R W : Type 0} (begun : List Event) (given : ℕ → 
   pub came_to_desk : Attends to_desk [] (flat_map (came_to shows) house.desk.items)
   pub came : Attends to_come [] (flat_map (came_to shows) house.others.items)
 
--- what HostsFrom says, of a house before whose opening nothing came
+-- what `HostsFrom` says, of a house before whose opening no event came
 abbrev pub Hosts : {S K C R W : Type 0} → (ℕ → Option Kept) → LabValue → (S → Option (List ℕ)) → (R → Option (List ℕ)) → (W → Option (List ℕ))
     → (C → Option Kept) → (K → ServedSession R W) → Option (List (R × W)) → Option (List (R × W)) → Hosted S K C → Type 0
 Hosts given lab sink remaining contents recorded shows to_desk to_come house = HostsFrom [] given lab sink remaining contents recorded shows to_desk to_come house

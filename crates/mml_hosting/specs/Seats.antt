@@ -26,6 +26,7 @@ pub record Terms (K C R W : Type 0) : Type 0 where
   pub recorded : C → Option Kept
   pub shows : K → ServedSession R W
 
+-- the terms with these parts
 abbrev pub terms : {K C R W : Type 0} → LabValue → List Event → (ℕ → Option Kept) → (R → Option (List ℕ)) → (W → Option (List ℕ))
     → (C → Option Kept) → (K → ServedSession R W) → Terms K C R W
 terms lab begun given remaining contents recorded shows = record {
@@ -59,7 +60,7 @@ AreGiven given kept n (c ∷ cs) = (kept c ≡ given n) × AreGiven given kept (
 abbrev pub sessions_of : {K C R W : Type 0} → (K → ServedSession R W) → SeatRecord K C → List (ServedSession R W)
 sessions_of shows r = map shows r.sessions.items
 
--- the connections that came to it, in order
+-- the connections that came to a seat, in order, by what is left of it
 abbrev pub came_to : {K C R W : Type 0} → (K → ServedSession R W) → SeatRecord K C → List (R × W)
 came_to shows r = map (λ s. s.came.value) (sessions_of shows r)
 
@@ -68,6 +69,7 @@ abbrev bye_of : SessionEnd → Option Who → Bool
 bye_of end.Bye (Some who.Teacher) = true
 bye_of _ _ = false
 
+-- the session was ended by the teacher's bye
 abbrev pub is_teachers_bye : Ending → Bool
 is_teachers_bye ending = bye_of ending.end ending.who
 
@@ -85,19 +87,19 @@ IsDismissed {R} {W} ss =
 abbrev pub Led : {K C R W : Type 0} → Terms K C R W → SeatRecord K C → WindowValue → Type 0
 Led t r w = Chain (Leads t r.number) (stand (window t.begun []) (t.given r.number)) (sessions_of t.shows r) (stand w (t.recorded r.recorder))
 
--- its sessions led its window, and at the desk it is noted whether the teacher's bye came
+-- the seat's sessions led its window, and at the desk it is noted whether the teacher's bye came
 pub record IsSeat {H K C R W : Type 0} (t : Terms K C R W) (s : Seat H K C) : Type 0 where
   pub led : Led t s.record s.window
   pub dismissed : s.is_dismissed ≡ true → IsDismissed (sessions_of t.shows s.record)
   pub going_on : s.is_desk ≡ true → s.is_dismissed ≡ false → AreGoingOn (sessions_of t.shows s.record)
 
--- one connection more may be served in it, and there is room for what is kept of that
+-- one connection more may be served in the seat, and there is room for what is kept of that
 pub record IsReady {H K C R W : Type 0} (t : Terms K C R W) (s : Seat H K C) : Type 0 where
   pub seat : IsSeat t s
   pub going_on : s.is_dismissed ≡ false
   pub room : vec_len s.record.sessions < vec_capacity s.record.sessions
 
--- the seat is one with the same number, to which the connection came too
+-- the seat afterwards is lawful, and has its number and its connections, and this one behind them
 pub record ServesIn {H K C R W : Type 0} (t : Terms K C R W) (old : Seat H K C) (ends : R × W) (new : Seat H K C) : Type 0 where
   pub seat : IsSeat t new
   pub came : came_to t.shows new.record ≡ came_to t.shows old.record ++ ends ∷ []

@@ -20,19 +20,20 @@ pub trait Accept<R: Read + Drop, W: Write + Drop, U: CutOff + Drop> {
     // The connections that are still to come, where they are known.
     ghost to_come: { Self → Option (List (R × W)) } = { λ _. None };
 
-    /// The next connection, for which it may wait.
+    /// The next connection, for which it may wait; or nobody, or that no more are to be served.
     fn accept_next(&mut self) -> Accepted<R, W, U>
         ensures { Brings (to_come self.old) (to_come self.new) result };
 }
 
 /// What ends a connection from another thread than its own.
 pub trait CutOff {
-    /// Ends the connection: who reads or writes there meets its end. It may not be served yet.
+    /// Ends the connection, also where it isn't served yet: who reads or writes there meets its end.
     fn cut_off(&self);
 }
 
-/// What is rung where a session has ended.
+/// What is rung where a session has ended, or a port can't be served.
 pub trait Bell {
-    /// A session has ended: by the teacher's bye at the desk, so that the house is to end, or otherwise.
+    /// Takes note that a session has ended; or, where `is_dismissed`, that the house is to end: by the teacher's bye at
+    /// the desk, or since a port couldn't be served.
     fn ring(&self, is_dismissed: bool);
 }

@@ -63,7 +63,7 @@ impl<
     W: Write + Drop,
     U: Drop,
 > Busy<H, K, C, R, W, U> {
-    // The first whose thread has come to its end.
+    // The index of the first busy seat whose thread has come to its end by the marks, if one has.
     fn first_done(busy: &Vec<Self>, marks: &[AtomicU64]) -> Option<usize>
         ensures { IfSome result (λ index. index < vec_len busy.now) }
     {
@@ -76,7 +76,7 @@ impl<
         None
     }
 
-    // Waits for one, and gives back its seat.
+    // Waits for the thread of the busy seat at this index, and gives back the seat, which is busy no longer.
     fn join_one<Rt: Threads>(rt: &Rt, busy: &mut Vec<Self>, index: usize) -> Seat<H, K, C>
         requires { index < vec_len busy.old }
         ensures seat { IsSeat (terms H.lab H.begun H.given R.remaining W.contents C.kept K.shows) result }
@@ -95,7 +95,8 @@ impl<
         seat
     }
 
-    // The one to wait for next: by the marks the first whose thread has come to its end, and without marks any.
+    // The index of the busy seat to wait for next: by the marks the first whose thread has come to its end, and
+    // without marks any. None where there is no such seat.
     fn next_to_join(busy: &Vec<Self>, marks: Option<&[AtomicU64]>) -> Option<usize>
         ensures some { IfSome result (λ index. index < vec_len busy.now) }
         ensures none { IfNone result (IfNone marks.entry (busy.now.items ≡ [])) }
@@ -130,7 +131,8 @@ impl<
     }
 }
 
-// A seat that is free, where one session more may be served.
+// Takes a free seat in which one session more may be served. None, and all stay free, where no seat is free, or the
+// one that was looked at is dismissed or has no room for what is kept.
 fn next_free<H: Begun, K: Keep<R, W> + Drop, C: Recorder + Drop, R: Read + Drop, W: Write + Drop>(
     free: &mut Vec<Seat<H, K, C>>,
 ) -> Option<Seat<H, K, C>>
@@ -170,7 +172,7 @@ fn is_made_ready<
     !seat.is_dismissed && seat.record.sessions.reserve(1).is_ok()
 }
 
-// Says that no seat is free, and hangs up.
+// Tells a connection by `BUSY` that it has no seat, and hangs up.
 fn turn_away<R: Drop, W: Write + HangUp + Drop>(ends: (R, W)) {
     let (_reader, mut writer) = ends;
     // The other side may be gone.
@@ -178,7 +180,7 @@ fn turn_away<R: Drop, W: Write + HangUp + Drop>(ends: (R, W)) {
     writer.hang_up();
 }
 
-// Ends all connections that are being served.
+// Ends the connections of all busy seats.
 fn cut_off_all<
     H: Begun,
     K: Keep<R, W> + Drop,
@@ -192,7 +194,8 @@ fn cut_off_all<
     }
 }
 
-// For each number that a seat may have, which is a byte, whether the thread there has come to its end: none has.
+// A mark for each number that a seat may have, which is a byte: 0, since no thread has come to its end yet; `Memory`
+// where it was refused.
 fn new_marks(alloc: Global) -> Result<Vec<AtomicU64>, Memory> {
     let mut marks = Vec::new(alloc);
     for _ in 0..256u16 {
@@ -223,8 +226,9 @@ impl<
     G: Gate + Sync + 's,
     B: Bell + Sync + 's,
 > Shared<'s, Rt, S, H, G, B> {
-    // Serves a connection in a seat in a thread of its own. Where none can be made it is ended before it
-    // is served, so that nobody behind waits for it; but at the desk it is served at once.
+    // Serves a connection in a seat in a thread of its own, whose handle comes back. Where no thread can be made
+    // the connection is served at once, and the seat comes back; a connection that isn't at the desk is ended by `line`
+    // before it is served so, for nobody behind is to wait for it.
     fn serve_apart<
         E,
         K: Keep<R, W> + Send + Drop + 's,
@@ -275,7 +279,8 @@ impl<
         }
     }
 
-    // Serves a connection in a seat that is free, and turns it away where none is.
+    // Takes back the seats whose threads have come to their end, and serves a connection in a seat that is free then;
+    // it is turned away where none can serve it. `line` is what ends the connection from here.
     fn take_in<
         E,
         K: Keep<R, W> + Send + Drop + 's,
@@ -317,7 +322,8 @@ impl<
         }
     }
 
-    // Serves those who come until no more are to be served, and then waits for the threads.
+    // Serves those who come until no more are to be served, then ends the connections that are still served, waits for
+    // their threads, and gives all seats back. `Memory`, and nobody is served, where it is refused at the beginning.
     fn serve_until_over<
         E,
         K: Keep<R, W> + Send + Drop + 's,
@@ -356,10 +362,10 @@ impl<
     }
 }
 
-/// Takes connections as they come, each to a seat that is free, where a thread of its own serves it,
-/// and turns away those for which none is. At the end all that are still served are hung up, and all
-/// threads have ended when it returns. For whom no thread can be made is ended before anything is read,
-/// but at the desk.
+/// Takes connections as they come, each to a seat that is free, where a thread of its own serves it, and turns away
+/// those for which none is. At the end all that are still served are ended, and all threads have ended when it gives
+/// the seats back. A connection for which no thread can be made is ended before anything is read, but at the desk it is
+/// served at once. `Memory`, and nobody is served, where it is refused at the beginning.
 pub fn serve_port<
     Rt: Threads + Wait + Sync,
     S: Sink + Send + Drop,

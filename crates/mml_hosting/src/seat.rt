@@ -30,14 +30,16 @@ pub trait Keep<R: Drop, W: Drop>: Sized {
     // The session.
     ghost shows: { Self → ServedSession R W };
 
+    /// Keeps of a session that has ended what is to be kept, and lets the rest go.
     fn keep(session: ServedSession<R, W>) -> Self
         ensures { shows result ≡ session };
 }
 
-/// All of it.
+/// Keeps all of a session.
 impl<R: Drop, W: Drop> Keep<R, W> for ServedSession<R, W> {
     ghost shows = { λ s. s };
 
+    // The session itself.
     fn keep(session: ServedSession<R, W>) -> ServedSession<R, W>
         ensures { result ≡ session }
     {
@@ -49,6 +51,7 @@ impl<R: Drop, W: Drop> Keep<R, W> for ServedSession<R, W> {
 impl<R: Drop, W: Drop> Keep<R, W> for Snapshot<ServedSession<R, W>> {
     ghost shows = { λ s. s.value };
 
+    // What a contract says of the session; its connection's two ends are let go.
     fn keep(session: ServedSession<R, W>) -> Snapshot<ServedSession<R, W>>
         ensures { result.value ≡ session }
     {
@@ -78,7 +81,8 @@ pub struct Seat<H: Begun, K: Drop, C: Drop> {
     pub is_dismissed: bool,
 }
 
-/// Serves a connection in a seat, hangs up, and marks the seat as free.
+/// Serves a connection in a seat, hangs up, and sets the seat's mark, since its thread is then at its end. Gives the
+/// seat back, with what is kept of the session, and with whether the teacher's bye ended it at the desk.
 pub fn serve_in<
     Rt: Wait,
     S: Sink + Drop,
@@ -150,7 +154,8 @@ fn is_dismissed_by(ending: &Ending, is_desk: bool) -> bool
     is_desk && matches!(ending.end, SessionEnd::Bye) && matches!(ending.who, Some(Who::Teacher))
 }
 
-// Notes whether the thread of the seat with this number has come to its end: 1, or 0 while it serves.
+// Sets the mark of the seat with this number, if there is one: 1 where the seat's thread has come to its end, 0 while
+// it serves.
 pub(crate) fn set_mark(marks: &[AtomicU64], number: u8, value: u64) {
     if let Some(mark) = marks.get(usize::from(number)) {
         mark.store(value, Ordering::SeqCst);

@@ -19,7 +19,8 @@ pub struct Connection<'a, Rt> {
 }
 
 impl<'a, Rt> Connection<'a, Rt> {
-    /// The same connection, for one more of its parts.
+    /// Another value of this connection, over the same socket, for one more of its parts; the error is that memory
+    /// is lacking.
     pub fn share(&self) -> io::Result<Connection<'a, Rt>> {
         let socket = Arc::try_clone(&self.socket)?;
         Ok(Connection { socket, ..*self })
@@ -27,7 +28,7 @@ impl<'a, Rt> Connection<'a, Rt> {
 }
 
 impl<'a, Rt: Wait> Connection<'a, Rt> {
-    /// Keeps why the connection is ended, unless a reason is kept already.
+    /// Keeps why the connection is ended, to be told to the other side, unless a reason is kept already.
     pub fn note_end_reason(&self, why: EndReason) {
         self.socket.note_end_reason(self.rt, why);
     }

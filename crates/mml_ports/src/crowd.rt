@@ -34,12 +34,13 @@ struct Guest {
 }
 
 impl Guest {
-    // Whether it hasn't greeted, and isn't leaving.
+    // Whether the guest hasn't greeted, and isn't leaving.
     fn is_stranger(&self) -> bool {
         self.greeting.is_none() && !self.is_leaving
     }
 
-    // Whether it is a stranger that has had its time. Who waits for the turn of a denial may wait for it elsewhere.
+    // Whether the guest is a stranger that has had its time: it was answered or denied, or has been here for `GRACE`.
+    // Who waits for the turn of a denial may wait for it without a place.
     fn may_go(&self, now: Instant) -> bool {
         self.is_stranger()
             && (self.socket.is_answered.load(Ordering::SeqCst)
@@ -47,7 +48,7 @@ impl Guest {
                 || now.duration_since(self.since) >= Duration::from_millis(GRACE))
     }
 
-    // Whether both have greeted by one name, and this one isn't leaving.
+    // Whether this guest and another have greeted by one name, and this one isn't leaving.
     fn has_name_of(&self, other: &Guest) -> bool {
         match (&self.greeting, &other.greeting) {
             (Some(own), Some(its)) => own.as_slice() == its.as_slice() && !self.is_leaving,
@@ -55,8 +56,8 @@ impl Guest {
         }
     }
 
-    // Its connection is ended, so that its place becomes free.
-    fn leaves<Rt: Wait>(&mut self, rt: &Rt) {
+    // Ends the guest's connection, so that its place becomes free for a newcomer.
+    fn send_away<Rt: Wait>(&mut self, rt: &Rt) {
         self.is_leaving = true;
         self.socket.end_with(rt, EndReason::Busy);
     }
@@ -74,7 +75,7 @@ pub struct Crowd {
 }
 
 impl Crowd {
-    /// Nobody is served yet at a port with so many places.
+    /// The crowd of a port with this many places, where nobody is served yet.
     pub fn new(alloc: Global, places: usize) -> Crowd {
         Crowd {
             guests: Mutex::new(Vec::new(alloc)),
@@ -84,8 +85,8 @@ impl Crowd {
         }
     }
 
-    /// A connection is to be served from now on.
-    pub fn enter<Rt: Wait>(
+    /// Notes that a connection is served from now on, since this instant. Without memory it isn't counted.
+    pub fn note_served<Rt: Wait>(
         &self,
         rt: &Rt,
         socket: Arc<SharedSocket, Global>,
@@ -103,28 +104,28 @@ impl Crowd {
         }
     }
 
-    /// The connection's hello was granted, with this reply.
-    pub fn greet<Rt: Wait>(&self, rt: &Rt, alloc: Global, number: u64, reply: &[u8]) {
+    /// Notes that the hello of the connection of this number was granted, with this reply.
+    pub fn note_greeting<Rt: Wait>(&self, rt: &Rt, alloc: Global, number: u64, reply: &[u8]) {
         let mut greeting = Vec::new(alloc);
-        // Without memory it is known as one of a name that nobody else has.
+        // Without memory it is known by a name that nobody has.
         let _ = greeting.extend_from_slice(reply);
         let mut guests = self.guests.lock(rt);
-        if let Some(at) = place_of(&guests, number)
+        if let Some(at) = index_of_guest(&guests, number)
             && let Some(guest) = guests.get_mut(at)
         {
             guest.greeting = Some(greeting);
         }
     }
 
-    /// The connection's place is free again.
-    pub fn leave<Rt: Wait>(&self, rt: &Rt, number: u64) {
+    /// Notes that the connection of this number has left, so that its place is free again.
+    pub fn note_left<Rt: Wait>(&self, rt: &Rt, number: u64) {
         let mut guests = self.guests.lock(rt);
-        if let Some(at) = place_of(&guests, number) {
+        if let Some(at) = index_of_guest(&guests, number) {
             drop(guests.remove(at));
         }
     }
 
-    /// From now on a newcomer waits for a place, or none does.
+    /// Notes whether a newcomer waits for a place.
     pub fn note_wanted(&self, is_wanted: bool) {
         self.is_wanted.store(is_wanted, Ordering::SeqCst);
     }
@@ -134,7 +135,8 @@ impl Crowd {
         self.is_wanted.load(Ordering::SeqCst)
     }
 
-    /// A hello was denied. Where a newcomer waits for it, the first of those who haven't greeted leaves at once.
+    /// Does what follows from the denial of a hello: where a newcomer waits for a place, and those who haven't greeted
+    /// have their share of the places, the first of them who has had its time is sent away at once.
     pub fn note_denial<Rt: Wait + Clock>(&self, rt: &Rt) {
         if self.is_wanted()
             && let Ok(now) = Instant::now(rt)
@@ -144,7 +146,8 @@ impl Crowd {
         }
     }
 
-    // Whether those who haven't greeted have their share. Then the first who has had its time leaves.
+    // Whether those who haven't greeted have their share: a third of the places, or one if that is more. Then the first
+    // of them who has had its time, if there is one, is sent away.
     fn let_stranger_go_if_full<Rt: Wait>(
         &self,
         rt: &Rt,
@@ -158,21 +161,22 @@ impl Crowd {
         if let Some(at) = first_who_may_go(guests, now)
             && let Some(guest) = guests.get_mut(at)
         {
-            guest.leaves(rt);
+            guest.send_away(rt);
         }
         true
     }
 
-    /// Whether one is leaving, or has left and is still owed a denial.
+    /// Whether a guest is leaving, or one who has left is still owed a denial, or the time to take it.
     pub fn is_parting<Rt: Wait>(&self, rt: &Rt) -> bool {
         let is_leaving = is_one_leaving(&self.guests.lock(rt));
         // Who has left meanwhile is among these.
         is_leaving || !self.partings.is_empty(rt)
     }
 
-    /// Whether there is a place for a newcomer, who has waited for so long. Where there is none, one who has
-    /// to leave for it does: the first of those who haven't greeted, where they have their share, or after
-    /// a moment the last of a name that has more places than it may.
+    /// Whether there is a place for a newcomer, who has waited for the time `waited`: one is free, and those who
+    /// haven't greeted don't have their share. Else a guest who has to leave is sent away: where they have it, the
+    /// first of them who has had its time; or after a moment, unless one is leaving, the last of a name that has too
+    /// many places.
     pub fn finds_room<Rt: Wait>(&self, rt: &Rt, now: Instant, waited: Duration) -> bool {
         let mut guests = self.guests.lock(rt);
         if self.let_stranger_go_if_full(rt, &mut guests, now) {
@@ -186,14 +190,14 @@ impl Crowd {
             && let Some(at) = one_too_many(&guests)
             && let Some(guest) = guests.get_mut(at)
         {
-            guest.leaves(rt);
+            guest.send_away(rt);
         }
         false
     }
 }
 
-// Where the connection of this number stands among the guests.
-fn place_of(guests: &Vec<Guest>, number: u64) -> Option<usize>
+// The index of the connection of this number among the guests; none where it isn't there.
+fn index_of_guest(guests: &Vec<Guest>, number: u64) -> Option<usize>
     ensures { IfSome result (λ index. index < vec_len guests.now) }
 {
     for index in 0..guests.len() {
@@ -204,7 +208,7 @@ fn place_of(guests: &Vec<Guest>, number: u64) -> Option<usize>
     None
 }
 
-// How many haven't greeted, and aren't leaving.
+// How many guests haven't greeted, and aren't leaving.
 fn count_strangers(guests: &Vec<Guest>) -> usize {
     let mut count = 0usize;
     for index in 0..guests.len() {
@@ -215,7 +219,8 @@ fn count_strangers(guests: &Vec<Guest>) -> usize {
     count
 }
 
-// The first who hasn't greeted, and has had its time.
+// The index of the first guest who hasn't greeted, isn't leaving and has had its time; none where there is no such
+// guest.
 fn first_who_may_go(guests: &Vec<Guest>, now: Instant) -> Option<usize> {
     for index in 0..guests.len() {
         if guests[index].may_go(now) {
@@ -235,7 +240,7 @@ fn is_one_leaving(guests: &Vec<Guest>) -> bool {
     false
 }
 
-// The last guest of a name that has more places than it may, if there is one.
+// The index of the last guest of a name that has more places than it may; none where there is no such name.
 fn one_too_many(guests: &Vec<Guest>) -> Option<usize> {
     let mut found = None;
     for index in 0..guests.len() {

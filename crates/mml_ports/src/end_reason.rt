@@ -15,7 +15,7 @@ pub enum EndReason {
 }
 
 impl EndReason {
-    /// The line that is sent.
+    /// The line that the other side is sent for this reason.
     pub fn line(self) -> &'static [u8] {
         match self {
             EndReason::Busy => BUSY,

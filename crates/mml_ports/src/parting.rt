@@ -27,8 +27,9 @@ struct Parting {
 }
 
 impl Parting {
-    // Tells it the denial once its turn has come, and lets go of it a while after. What is still to do is given back.
-    fn goes_on(self, now: Instant) -> Option<Parting> {
+    // Where its time has come: tells one who wasn't told it yet the denial, and that there is no place; lets go of one
+    // who was. Gives what is still to be let go of later; none once nothing is.
+    fn tell_if_due(self, now: Instant) -> Option<Parting> {
         if now < self.next {
             return Some(self);
         }
@@ -52,13 +53,14 @@ impl Parting {
     }
 }
 
-/// Writes a line, if the other side takes it without a wait longer than the stream has.
+/// Writes a line, or as much of it as the other side takes within the stream's own time limit. An error is passed over.
 pub(crate) fn tell(stream: &TcpStream, line: &[u8]) {
     let mut stream = stream;
     let _ = stream.write(line);
 }
 
-/// Takes what has come: a socket that is closed over bytes which nobody took throws away what it has still to send.
+/// Reads and drops what the other side sent, up to 4096 bytes: a socket that is closed over bytes which nobody took
+/// throws away what it has still to send.
 pub(crate) fn take_unwanted(stream: &TcpStream) {
     let mut stream = stream;
     let mut unwanted = [0; PARTING_SIZE];
@@ -72,19 +74,20 @@ pub struct Partings {
 }
 
 impl Partings {
-    /// Nobody is owed anything.
+    /// The partings of a port where nobody is owed a denial.
     pub fn new(alloc: Global) -> Partings {
         Partings {
             all: Mutex::new(VecDeque::new(alloc)),
         }
     }
 
-    /// Whether nobody is owed anything.
+    /// Whether nobody is owed a denial, nor still has time to take it.
     pub fn is_empty<Rt: Wait>(&self, rt: &Rt) -> bool {
         self.all.lock(rt).is_empty()
     }
 
-    /// One has left whose denial has its turn then. Without memory it isn't told.
+    /// Takes the stream of one who has left, and whose denial has this turn. Without memory, or where the system
+    /// doesn't let the stream be used without waits, the stream is closed and the denial isn't told.
     pub fn add<Rt: Wait>(&self, rt: &Rt, stream: TcpStream, turn: Instant) {
         if stream.set_nonblocking(true).is_err() {
             return;
@@ -97,8 +100,9 @@ impl Partings {
         let _ = self.all.lock(rt).push_back(parting);
     }
 
-    /// Tells those whose turn has come, and lets go of those who had time to take it. It waits for none.
-    pub fn go_on<Rt: Wait + Clock>(&self, rt: &Rt) {
+    /// Tells the denial to those whose turn has come, and lets go of those who had time to take it. It waits for
+    /// nobody; where the clock fails it does nothing.
+    pub fn tell_due<Rt: Wait + Clock>(&self, rt: &Rt) {
         let mut all = self.all.lock(rt);
         if all.is_empty() {
             return;
@@ -108,7 +112,7 @@ impl Partings {
         };
         for _ in 0..all.len() {
             if let Some(first) = all.pop_front()
-                && let Some(parting) = first.goes_on(now)
+                && let Some(parting) = first.tell_if_due(now)
             {
                 // It has the room that it had.
                 let _ = all.push_back(parting);
@@ -116,8 +120,8 @@ impl Partings {
         }
     }
 
-    /// Nobody is told a denial any more.
-    pub fn close<Rt: Wait>(&self, rt: &Rt) {
+    /// Lets go of all, since the host is over: who wasn't told its denial yet is told instead that the class has ended.
+    pub fn let_all_go<Rt: Wait>(&self, rt: &Rt) {
         let mut all = self.all.lock(rt);
         for _ in 0..all.len() {
             if let Some(first) = all.pop_front()

@@ -39,7 +39,7 @@ struct Newcomer<'a, Rt> {
 }
 
 impl<'a, Rt: Clock + Wait + Eprint> Newcomer<'a, Rt> {
-    // Hangs up, and says why.
+    // Hangs up on the newcomer, which is told why, unless it has another reason already.
     fn turn_away(self, why: EndReason) {
         let mut newcomer = self;
         newcomer.connection.note_end_reason(why);
@@ -87,12 +87,14 @@ impl<'a, Rt: Clock + Wait + Eprint> Port<'a, Rt> {
         }
     }
 
-    // Whether others wait for a place, or for a denial.
+    // Whether somebody waits for a place, is leaving one, or is owed a denial or the time to take it: then no accept
+    // may wait.
     fn is_hurried(&self) -> bool {
         !self.waiting.is_empty() || self.crowd.is_parting(self.rt)
     }
 
-    // The next connection, for whose sake nothing is done yet. While others wait it isn't waited for.
+    // Accepts the next connection, which isn't queued yet. While the port is hurried it isn't waited for: the error is
+    // `WouldBlock` where none has come. Otherwise an error is the system's, or that memory is lacking.
     fn accept(&mut self) -> io::Result<Newcomer<'a, Rt>> {
         self.listener.set_nonblocking(self.is_hurried())?;
         let (stream, _) = self.listener.accept()?;
@@ -124,7 +126,8 @@ impl<'a, Rt: Clock + Wait + Eprint> Port<'a, Rt> {
         })
     }
 
-    // One who has come waits to be let in.
+    // Puts one who has come behind those who wait for a place. Where too many wait the first is turned away, and
+    // without memory the newcomer.
     fn queue(&mut self, newcomer: Newcomer<'a, Rt>) {
         if self.waiting.len() >= WAITING
             && let Some(first) = self.waiting.pop_front()
@@ -137,7 +140,8 @@ impl<'a, Rt: Clock + Wait + Eprint> Port<'a, Rt> {
         }
     }
 
-    // The first of those who wait, if there is a place. Who has waited too long is turned away.
+    // Gives one of those who wait, to be served, if there is a place. Else none, and the first is turned away once it
+    // has waited for half a second.
     fn let_in(&mut self) -> Option<Brought<'a, Rt>> {
         let Some(first) = self.waiting.front() else {
             self.crowd.note_wanted(false);
@@ -158,7 +162,8 @@ impl<'a, Rt: Clock + Wait + Eprint> Port<'a, Rt> {
         None
     }
 
-    // Who of those who wait comes first: one of whom a line has come goes before who is silent.
+    // The index of the one who is let in next of those who wait: the first of whom a line has come, else the first of
+    // all.
     fn first_to_speak(&self) -> usize {
         for index in 0..self.waiting.len() {
             if let Some(newcomer) = self.waiting.get(index)
@@ -170,7 +175,7 @@ impl<'a, Rt: Clock + Wait + Eprint> Port<'a, Rt> {
         0
     }
 
-    // The first to speak of those who wait is served from now on.
+    // Takes the first to speak out of those who wait, to be served from now on; none where nobody waits.
     fn bring(&mut self, now: Instant) -> Option<Brought<'a, Rt>> {
         // One who waits alone isn't looked at.
         let index = if self.waiting.len() > 1 {
@@ -186,24 +191,30 @@ impl<'a, Rt: Clock + Wait + Eprint> Port<'a, Rt> {
             connection,
             since: _,
         } = first;
-        if self.crowd.enter(self.rt, connection.socket, now).is_err() {
+        if self
+            .crowd
+            .note_served(self.rt, connection.socket, now)
+            .is_err()
+        {
             self.state.note_memory(self.rt);
         }
         Some(Accepted::Came((reader, writer), cut_off))
     }
 
-    // Nobody is let in any more.
-    fn close(&mut self) -> Brought<'a, Rt> {
+    // Turns away all who wait, and lets go of all who are owed a denial, since the host is over; gives that it is.
+    fn turn_all_away(&mut self) -> Brought<'a, Rt> {
         for _ in 0..self.waiting.len() {
             if let Some(first) = self.waiting.pop_front() {
                 first.turn_away(EndReason::Over);
             }
         }
-        self.crowd.partings.close(self.rt);
+        self.crowd.partings.let_all_go(self.rt);
         Accepted::Over
     }
 
-    // Waits for what may let the next accept succeed: a session ends, and gives back what it holds.
+    // After an accept failed, waits for a tenth of a second at most until a session ends, so that the next may succeed;
+    // not where a signal broke it off. `ended` is how many sessions had ended before the accept. Want of memory is
+    // noted; where the system refused the accept otherwise, the first who waits for a place is turned away.
     fn put_off(&mut self, kind: ErrorKind, ended: u64) {
         match kind {
             ErrorKind::OutOfMemory => self.state.note_memory(self.rt),
@@ -225,18 +236,20 @@ impl<'a, Rt: Clock + Wait + Eprint> Accept<
     ReplyWriter<'a, Rt>,
     SocketCutOff<'a, Rt>,
 > for Port<'a, Rt> {
+    // Gives one who waits, if there is a place, before or after it accepts one more; nobody where there is no place or
+    // none could be accepted, and over once the host is.
     fn accept_next(&mut self) -> Brought<'a, Rt> {
         let ended = self.state.ended_count(self.rt);
         if self.state.is_over(self.rt) {
-            return self.close();
+            return self.turn_all_away();
         }
-        self.crowd.partings.go_on(self.rt);
+        self.crowd.partings.tell_due(self.rt);
         if let Some(next) = self.let_in() {
             return next;
         }
         let accepted = self.accept();
         if self.state.is_over(self.rt) {
-            return self.close();
+            return self.turn_all_away();
         }
         match accepted {
             Ok(newcomer) => {
@@ -267,6 +280,8 @@ pub struct EndBell<'a, Rt> {
 
 impl<'a, Rt: Net<Listener = TcpListener, Stream = TcpStream> + Clock + Wait> Bell
     for EndBell<'a, Rt> {
+    // Notes that a session has ended. Where the teacher ended the class with it, the spare descriptor is given back,
+    // and the accepts at both ports are woken.
     fn ring(&self, is_dismissed: bool) {
         self.state.note_end(self.rt, is_dismissed);
         if is_dismissed {
@@ -278,7 +293,8 @@ impl<'a, Rt: Net<Listener = TcpListener, Stream = TcpStream> + Clock + Wait> Bel
     }
 }
 
-// Connects to a port, unless nobody listens there any more.
+// Wakes the accept that waits at a port by a connection to it, which is tried up to 50 times, unless nobody listens
+// there any more.
 fn wake<Rt: Net<Listener = TcpListener, Stream = TcpStream> + Clock>(rt: &Rt, port: SocketAddr) {
     let call = Duration::from_millis(CALL);
     for _ in 0..CALLS {

@@ -35,7 +35,7 @@ pub struct SharedSocket {
 }
 
 impl SharedSocket {
-    /// Holds this socket, from which nobody has read.
+    /// A shared socket over this stream, from which nobody has read.
     pub fn new(stream: TcpStream, number: u64) -> SharedSocket {
         SharedSocket {
             number,
@@ -64,7 +64,8 @@ impl SharedSocket {
         *self.end_reason.lock(rt)
     }
 
-    /// Whether a line has come. It is still to be read.
+    /// Whether a whole line stands in the first 512 bytes that have come, which are left to be read; false where the
+    /// socket was given back, or can't be looked at.
     pub(crate) fn has_line<Rt: Wait>(&self, rt: &Rt) -> bool {
         let stream = self.stream.read(rt);
         match &*stream {
@@ -73,13 +74,13 @@ impl SharedSocket {
         }
     }
 
-    /// Whether it leaves for want of a place.
+    /// Whether the connection is ended for want of a place.
     pub(crate) fn is_turned_away<Rt: Wait>(&self, rt: &Rt) -> bool {
         matches!(self.end_reason(rt), Some(EndReason::Busy))
     }
 
-    /// Ends the connection from another thread than its own, for that reason: nothing more is read, and
-    /// who is writing is hung up.
+    /// Ends the connection from another thread than its own, for this reason unless one is kept already: nothing more
+    /// is read, no reply begins to be written, and a write that is under way is broken off.
     pub(crate) fn end_with<Rt: Wait>(&self, rt: &Rt, why: EndReason) {
         self.begin_end(rt, why);
         let how = if self.is_writing.load(Ordering::SeqCst) {
@@ -94,8 +95,8 @@ impl SharedSocket {
         }
     }
 
-    // Keeps the reason, and tells who waits for the end. Both under the lock of the reason, so that nobody is told
-    // before it is kept.
+    // Keeps the reason, unless one is kept already, and wakes who waits for the end: both under the lock of the reason,
+    // so that nobody is woken before it is kept.
     fn begin_end<Rt: Wait>(&self, rt: &Rt, why: EndReason) {
         let mut reason = self.end_reason.lock(rt);
         if reason.is_none() {
@@ -105,7 +106,7 @@ impl SharedSocket {
         self.ending.notify_all();
     }
 
-    /// Waits until another thread ends the connection, for so long at most.
+    /// Waits until another thread ends the connection, for `time` at most.
     pub(crate) fn wait_for_end<Rt: Wait + Clock>(&self, rt: &Rt, time: Duration) {
         let _ended = self
             .ending
@@ -114,23 +115,23 @@ impl SharedSocket {
             });
     }
 
-    /// A write begins; answers whether it may, since nobody ends the connection.
+    /// Notes that a write begins. Gives whether it may: false where another thread ends the connection.
     pub(crate) fn begin_write(&self) -> bool {
         self.is_writing.store(true, Ordering::SeqCst);
         !self.is_ending.load(Ordering::SeqCst)
     }
 
-    /// The write has ended, or wasn't to be.
+    /// Notes that no write is under way: it has ended, or might not begin.
     pub(crate) fn end_write(&self) {
         self.is_writing.store(false, Ordering::SeqCst);
     }
 
-    /// One of its hellos was denied.
+    /// Notes that a hello of the connection was denied.
     pub(crate) fn note_denial(&self) {
         self.denied.fetch_add(1, Ordering::SeqCst);
     }
 
-    /// Whether one of its hellos was denied.
+    /// Whether a hello of the connection was denied.
     pub(crate) fn was_denied(&self) -> bool {
         self.denied.load(Ordering::SeqCst) > 0
     }
@@ -141,7 +142,8 @@ impl SharedSocket {
     }
 }
 
-// Whether a line has come at a socket, without a wait for it.
+// Whether a newline stands in the first 512 bytes that have come at a socket, without a wait for them; they are left
+// there. False too where the system refuses the look.
 fn has_line(stream: &TcpStream) -> bool {
     let mut seen = [0; GLANCE];
     if stream.set_nonblocking(true).is_err() {

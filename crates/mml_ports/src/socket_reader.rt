@@ -49,7 +49,7 @@ pub struct SocketReader<'a, Rt> {
 pub type Incoming<'a, Rt> = Retrying<SocketReader<'a, Rt>>;
 
 impl<'a, Rt: Clock + Wait> SocketReader<'a, Rt> {
-    /// Reads from the connection's socket. The time for its hello begins now.
+    /// A reader of the connection's socket. The time for its hello begins now.
     pub fn new(connection: Connection<'a, Rt>) -> io::Result<Incoming<'a, Rt>> {
         let now = Instant::now(connection.rt)?;
         let patience = if connection.is_desk {
@@ -69,7 +69,8 @@ impl<'a, Rt: Clock + Wait> SocketReader<'a, Rt> {
         }))
     }
 
-    // How long may still be waited, where there is an end to it. A line that isn't begun has its whole time.
+    // How long a read may still wait, or none where it may wait for ever. Once a hello was granted, a line that isn't
+    // begun has its whole time. The error is that the time is over, or the clock's.
     fn time_left(&self) -> io::Result<Option<Duration>> {
         if self.has_greeted && self.size == 0 {
             return Ok(self.patience);
@@ -84,7 +85,7 @@ impl<'a, Rt: Clock + Wait> SocketReader<'a, Rt> {
         Ok(Some(left))
     }
 
-    // From now on the next line has its own time.
+    // Begins the time of the next line, if there is an end to it; the error is the clock's.
     fn renew(&mut self) -> io::Result<()> {
         self.deadline = match self.patience {
             Some(patience) => Instant::now(self.connection.rt)?.checked_add(patience),
@@ -93,8 +94,8 @@ impl<'a, Rt: Clock + Wait> SocketReader<'a, Rt> {
         Ok(())
     }
 
-    // Reads what has come, or comes within the time that is left. The socket is told that time only where it
-    // is another than before.
+    // Reads what has come, or comes within the time that is left, and gives how many bytes. The socket is told the time
+    // only where it is another than the one that it was told last.
     fn read_in_time(&mut self, buf: &mut [u8]) -> io::Result<usize>
         ensures { ReadsAtMost result buf.new }
     {
@@ -114,7 +115,8 @@ impl<'a, Rt: Clock + Wait> SocketReader<'a, Rt> {
         }
     }
 
-    // Reads what has come, or comes within the time that is left, up to the end of a line.
+    // Reads what has come, or comes within the time that is left, up to the end of a line, and gives how many bytes:
+    // before the hello is granted nothing behind that line is taken.
     fn read_line_in_time(&mut self, buf: &mut [u8]) -> io::Result<usize>
         ensures { ReadsAtMost result buf.new }
     {
@@ -132,7 +134,9 @@ impl<'a, Rt: Clock + Wait> SocketReader<'a, Rt> {
         }
     }
 
-    // Takes note of bytes that were read: how long the line is, and how the first one begins.
+    // Takes note of bytes that were read: how long the line is, which is kept as the reason of the end where it is too
+    // long; how the first line begins; and, after a granted hello, that the time of the next line begins where one
+    // ends.
     fn note_bytes(&mut self, bytes: &[u8]) -> io::Result<()> {
         let mut has_line = false;
         let mut is_long = false;
@@ -155,7 +159,7 @@ impl<'a, Rt: Clock + Wait> SocketReader<'a, Rt> {
         Ok(())
     }
 
-    // Takes note of a byte, if it is one of the first line.
+    // Takes note of a byte, if it is one of the first line: how that begins, and whether it is read to its end.
     fn note_first_line(&mut self, byte: u8) {
         if self.is_first_read {
             return;
@@ -173,6 +177,8 @@ impl<'a, Rt: Clock + Wait> SocketReader<'a, Rt> {
 }
 
 impl<'a, Rt: Clock + Wait> Read for SocketReader<'a, Rt> {
+    // Reads within the time of the hello or of the line, and gives how many bytes; where the time is over that is kept
+    // as the reason of the end. It gives no bytes where nothing more is to be read, or the class is dismissed.
     fn read(&mut self, buf: &mut [u8]) -> io::Result<usize> {
         let socket = &self.connection.socket;
         socket.is_served.store(true, Ordering::SeqCst);
@@ -209,7 +215,8 @@ impl<'a, Rt: Clock + Wait> Read for SocketReader<'a, Rt> {
     }
 }
 
-// Where the first line ends of so many bytes, or where they end.
+// How many bytes the first line among the first `count` bytes has, with its newline; where none ends there, how many
+// bytes there are up to `count`.
 fn end_of_line(bytes: &[u8], count: usize) -> usize
     ensures { result ≤ length bytes.now }
 {

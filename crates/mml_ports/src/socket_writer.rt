@@ -48,8 +48,8 @@ pub struct SocketWriter<'a, Rt> {
 }
 
 impl<'a, Rt: Clock + Wait + Eprint> SocketWriter<'a, Rt> {
-    // Takes note of a reply before it goes out. Of a denial of a name and key it answers the turn, which has come
-    // then, or the connection is being ended.
+    // Takes note of a reply before it goes out, until a hello is granted. Gives the turn of a denial of a name and key,
+    // once that has come, or is near and the connection is being ended; none for any other reply.
     fn note_reply(&mut self, reply: &[u8]) -> io::Result<Option<Instant>> {
         let Connection {
             rt,
@@ -63,9 +63,9 @@ impl<'a, Rt: Clock + Wait + Eprint> SocketWriter<'a, Rt> {
         if socket.is_greeted.load(Ordering::SeqCst) {
             return Ok(None);
         }
-        if let Some(name) = name_in(reply) {
-            self.is_teachers = *is_desk && state.is_teacher(name);
-            crowd.greet(rt, *alloc, socket.number, reply);
+        if let Some(name) = greeted_name(reply) {
+            self.is_teachers = *is_desk && state.is_teachers_name(name);
+            crowd.note_greeting(rt, *alloc, socket.number, reply);
             socket.is_greeted.store(true, Ordering::SeqCst);
         } else if reply == UNKNOWN {
             socket.note_denial();
@@ -82,7 +82,7 @@ impl<'a, Rt: Clock + Wait + Eprint> SocketWriter<'a, Rt> {
         Ok(None)
     }
 
-    // Waits for the turn of a denial, or, where that is near, until the place is wanted.
+    // Waits for the turn of a denial; in the last half second before it, only until another thread ends the connection.
     fn wait_for_turn(&self, turn: Instant) -> io::Result<()> {
         let rt = self.connection.rt;
         let wait = turn.duration_since(Instant::now(rt)?);
@@ -92,7 +92,8 @@ impl<'a, Rt: Clock + Wait + Eprint> SocketWriter<'a, Rt> {
         Ok(())
     }
 
-    // Writes what the other side takes.
+    // Writes what the other side takes within `WRITE_LIMIT`, and gives how many bytes; an error where the socket was
+    // given back, or refuses it. One that takes less than all, after as long as the limit, is deaf from then on.
     fn write_now(&mut self, buf: &[u8]) -> io::Result<usize>
         ensures { WritesAtMost result buf.now }
     {
@@ -111,8 +112,8 @@ impl<'a, Rt: Clock + Wait + Eprint> SocketWriter<'a, Rt> {
         }
     }
 
-    // What is written in place of a reply where the connection is being ended: a denial whose connection leaves for
-    // a newcomer is told in its turn, and counts as taken. Any other reply fails.
+    // Keeps the turn of a denial where the connection is being ended for want of a place: it is told later, and all
+    // bytes of `buf` count as written. Any other reply fails, and so does a denial where the end has another reason.
     fn leave_owed(&mut self, buf: &[u8], turn: Option<Instant>) -> io::Result<usize>
         ensures { WritesAtMost result buf.now }
     {
@@ -124,9 +125,9 @@ impl<'a, Rt: Clock + Wait + Eprint> SocketWriter<'a, Rt> {
         Ok(buf.len())
     }
 
-    // Writes the reply to the teacher's bye, which ends the class. Under the lock, so that a reader that has read
-    // something meanwhile waits until it is known whether the reply is out.
-    fn write_last(&mut self, buf: &[u8]) -> io::Result<usize>
+    // Writes the reply to the teacher's bye, which ends the class, and gives how many bytes went out: under the lock,
+    // so that a reader that has read something meanwhile waits until it is known whether the reply is out.
+    fn write_farewell(&mut self, buf: &[u8]) -> io::Result<usize>
         ensures { WritesAtMost result buf.now }
     {
         let state = self.connection.state;
@@ -137,12 +138,15 @@ impl<'a, Rt: Clock + Wait + Eprint> SocketWriter<'a, Rt> {
     }
 }
 
-// The name in the reply to a hello that is granted.
-fn name_in(reply: &[u8]) -> Option<&[u8]> {
+// The name in the reply to a hello that is granted; none in another reply.
+fn greeted_name(reply: &[u8]) -> Option<&[u8]> {
     reply.strip_prefix(GREETED)?.strip_suffix(GREETED_END)
 }
 
 impl<'a, Rt: Clock + Wait + Eprint> Write for SocketWriter<'a, Rt> {
+    // Takes note of a reply, holds a denial of a name and key back until its turn, and gives how many bytes went out;
+    // the reply to the teacher's bye dismisses the class. It fails where the other side took nothing for too long, or
+    // the connection is being ended, but for a denial that is told later.
     fn write(&mut self, buf: &[u8]) -> io::Result<usize> {
         if self.is_deaf {
             return Err(Error::from(ErrorKind::TimedOut));
@@ -154,7 +158,7 @@ impl<'a, Rt: Clock + Wait + Eprint> Write for SocketWriter<'a, Rt> {
         };
         let written = if self.connection.socket.begin_write() {
             if self.is_teachers && self.is_whole && buf == BID {
-                self.write_last(buf)
+                self.write_farewell(buf)
             } else {
                 self.write_now(buf)
             }
@@ -171,6 +175,7 @@ impl<'a, Rt: Clock + Wait + Eprint> Write for SocketWriter<'a, Rt> {
         Ok(taken)
     }
 
+    // Does nothing: no byte is held back.
     fn flush(&mut self) -> io::Result<()> {
         Ok(())
     }
@@ -183,7 +188,7 @@ pub struct ReplyWriter<'a, Rt> {
 }
 
 impl<'a, Rt: Clock + Wait + Eprint> ReplyWriter<'a, Rt> {
-    /// Writes to the connection's socket.
+    /// A writer to the connection's socket, to which nothing was written yet.
     pub fn new(connection: Connection<'a, Rt>) -> ReplyWriter<'a, Rt> {
         ReplyWriter {
             end: Retrying::new(SocketWriter {
@@ -198,18 +203,21 @@ impl<'a, Rt: Clock + Wait + Eprint> ReplyWriter<'a, Rt> {
 }
 
 impl<'a, Rt: Clock + Wait + Eprint> Write for ReplyWriter<'a, Rt> {
+    // Writes to the connection's socket, again where a signal interrupted it, and gives how many bytes went out.
     fn write(&mut self, buf: &[u8]) -> io::Result<usize> {
         self.end.write(buf)
     }
 
+    // Does nothing: no byte is held back.
     fn flush(&mut self) -> io::Result<()> {
         Ok(())
     }
 }
 
 impl<'a, Rt: Clock + Wait + Eprint> HangUp for ReplyWriter<'a, Rt> {
-    // Where a denial is still owed the connection goes to the partings, which tell it. The thread that accepts hangs up
-    // on who was turned away, and so not for long.
+    // Gives the socket back. Where a denial is owed, the stream goes to the partings, which tell it; else the other
+    // side is told why the connection ends, if a reason is kept and no line is cut, and then has time to take what was
+    // sent: only a moment where it was turned away or never served. Who was never served leaves the crowd here.
     fn hang_up(&mut self) {
         let writer = &self.end.inner;
         let Connection {
@@ -240,12 +248,12 @@ impl<'a, Rt: Clock + Wait + Eprint> HangUp for ReplyWriter<'a, Rt> {
         }
         // Who was served leaves its place when that may be used again, in `SocketSession::keep`.
         if !is_served {
-            crowd.leave(rt, socket.number);
+            crowd.note_left(rt, socket.number);
         }
     }
 }
 
-// Says why it is ended, if the other side takes that within a moment.
+// Says why the connection is ended, if the other side takes that within a moment.
 fn say(stream: &TcpStream, why: EndReason) {
     if stream
         .set_write_timeout(Some(Duration::from_millis(PARTING)))
@@ -255,7 +263,8 @@ fn say(stream: &TcpStream, why: EndReason) {
     }
 }
 
-// Lets go of a connection after a moment, in which what the other side has sent is taken.
+// Says that nothing more comes, and lets go of a connection, after a moment at most in which something that the other
+// side has sent is taken.
 fn part_from(stream: TcpStream) {
     let parting = Some(Duration::from_millis(PARTING));
     // Both are refused where the other side is gone.
@@ -271,13 +280,15 @@ pub struct SocketCutOff<'a, Rt> {
 }
 
 impl<'a, Rt: Wait> SocketCutOff<'a, Rt> {
-    /// What ends this connection.
+    /// What ends this connection from another thread.
     pub fn new(connection: Connection<'a, Rt>) -> SocketCutOff<'a, Rt> {
         SocketCutOff { connection }
     }
 }
 
 impl<'a, Rt: Wait> CutOff for SocketCutOff<'a, Rt> {
+    // Ends the connection: the reason, unless one is kept already, is that the class is over, or else that there is no
+    // place.
     fn cut_off(&self) {
         let Connection {
             rt,
@@ -303,6 +314,8 @@ impl<'a, Rt: Clock + Wait + Eprint> Keep<Incoming<'a, Rt>, ReplyWriter<'a, Rt>>
     for SocketSession<'a, Rt> {
     ghost shows = { λ kept. kept.0.value };
 
+    // Frees the place of a session that has ended, and notes in the host's state if it wanted memory. What is kept
+    // shows the session to contracts alone.
     fn keep(session: ServedSession<Incoming<'a, Rt>, ReplyWriter<'a, Rt>>) -> SocketSession<'a, Rt>
         ensures { result.0.value ≡ session.entry }
     {
@@ -315,7 +328,7 @@ impl<'a, Rt: Clock + Wait + Eprint> Keep<Incoming<'a, Rt>, ReplyWriter<'a, Rt>>
             socket,
             ..
         } = &reader.inner.connection;
-        crowd.leave(*rt, socket.number);
+        crowd.note_left(*rt, socket.number);
         if was_short || reader.lacked_memory || session.writer.end.lacked_memory {
             state.note_memory(*rt);
         }

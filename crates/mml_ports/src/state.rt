@@ -49,7 +49,7 @@ pub struct HostState {
 }
 
 impl HostState {
-    /// Nothing was told yet, in a class of a lab, of whose sessions one is the desk's.
+    /// The state of a host of the lab, where nothing was told yet. One of the lab's sessions is the desk's.
     pub fn new(alloc: Global, lab: &Lab) -> Result<HostState, Memory> {
         let mut teacher = Vec::new(alloc);
         let name = lab.roster().name_of(Who::Teacher);
@@ -73,7 +73,7 @@ impl HostState {
         })
     }
 
-    /// Who is served at the desk, or else who is at the other port.
+    /// Those who are served at the desk, where `is_desk`; else those at the other port.
     pub fn crowd(&self, is_desk: bool) -> &Crowd {
         if is_desk {
             &self.at_desk
@@ -82,8 +82,8 @@ impl HostState {
         }
     }
 
-    /// Whether this is the teacher's name.
-    pub fn is_teacher(&self, name: &[u8]) -> bool {
+    /// Whether `name` is the teacher's.
+    pub fn is_teachers_name(&self, name: &[u8]) -> bool {
         self.teacher.as_slice() == name
     }
 
@@ -92,7 +92,7 @@ impl HostState {
         *self.is_dismissed.read(rt)
     }
 
-    /// A session has ended, and the host with it or not.
+    /// Notes that a session has ended, and the host with it where `is_over`, and wakes who waits for that.
     pub fn note_end<Rt: Wait>(&self, rt: &Rt, is_over: bool) {
         let mut news = self.news.lock(rt);
         news.ended = news.ended.wrapping_add(1);
@@ -102,7 +102,7 @@ impl HostState {
         self.changed.notify_all();
     }
 
-    /// Memory was wanted, and wasn't had.
+    /// Notes that memory was wanted, and wasn't had.
     pub fn note_memory<Rt: Wait>(&self, rt: &Rt) {
         self.news.lock(rt).lacked_memory = true;
     }
@@ -112,7 +112,7 @@ impl HostState {
         self.news.lock(rt).ended
     }
 
-    /// Whether no more are to be served.
+    /// Whether the host is over, so that no more connections are to be served.
     pub fn is_over<Rt: Wait>(&self, rt: &Rt) -> bool {
         self.news.lock(rt).is_over
     }
@@ -122,8 +122,8 @@ impl HostState {
         self.news.lock(rt).lacked_memory
     }
 
-    /// Waits until a session has ended since that count was taken, for a tenth of a second at most, and
-    /// while newcomers wait not for so long.
+    /// Waits until other than `count` sessions have ended, for a tenth of a second at most, or for 5 milliseconds
+    /// where it is hurried.
     pub fn wait_past<Rt: Wait + Clock>(&self, rt: &Rt, count: u64, is_hurried: bool) {
         let pause = Duration::from_millis(if is_hurried { SHORT_PAUSE } else { PAUSE });
         let _ended = self
@@ -131,7 +131,8 @@ impl HostState {
             .wait_timeout_while(rt, self.news.lock(rt), pause, |news| news.ended == count);
     }
 
-    /// When a denial of a name and key is told: each has its turn, some time after the last, at either port.
+    /// The turn of the next denial of a name and key, before which it isn't told: now, or 12 milliseconds after the
+    /// last turn that was given at either port, where that is later. The error is the clock's.
     pub fn turn_of_denial<Rt: Wait + Clock>(&self, rt: &Rt) -> io::Result<Instant> {
         let now = Instant::now(rt)?;
         let mut news = self.news.lock(rt);
@@ -143,7 +144,8 @@ impl HostState {
         Ok(turn)
     }
 
-    /// A name and key were denied; answers how many were, where it is time to tell.
+    /// Notes that a name and key were denied. Gives how many were, where the host is to tell that: at 30, and at ten
+    /// times as many each time; else none.
     pub fn note_denial<Rt: Wait>(&self, rt: &Rt) -> Option<u64> {
         let mut news = self.news.lock(rt);
         news.denials = news.denials.saturating_add(1);

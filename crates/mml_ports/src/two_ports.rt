@@ -17,6 +17,7 @@ pub enum ListenFault {
 }
 
 impl From<io::Error> for ListenFault {
+    // Want of memory is told as such, and any other error of the system as a refusal.
     fn from(error: io::Error) -> ListenFault {
         match error.kind() {
             io::ErrorKind::OutOfMemory => ListenFault::Memory,
@@ -34,7 +35,8 @@ pub struct Ports {
     pub desk: u16,
 }
 
-/// Listens on both ports of this machine alone. Where 0 is asked for, the system chooses.
+/// Listens on a port and on the desk's, for connections of this machine alone. Where 0 is asked for, the system chooses
+/// the number. The error is why one of them can't be listened on.
 pub fn listen_at<R: Net<Listener = TcpListener, Stream = TcpStream>>(
     rt: &R,
     port: u16,
@@ -52,11 +54,13 @@ pub fn listen_at<R: Net<Listener = TcpListener, Stream = TcpStream>>(
     })
 }
 
+// The address of a port that this machine alone reaches.
 fn on_this_machine(port: u16) -> SocketAddr {
     SocketAddr::from((Ipv4Addr::LOCALHOST, port))
 }
 
-/// What ends the accepts at both ports.
+/// The bell that ends the accepts at both ports once the host is over; an error where the system refuses the descriptor
+/// that it holds spare.
 pub fn bell_of<'a, R>(
     rt: &'a R,
     state: &'a HostState,
@@ -78,7 +82,7 @@ pub struct TwoPorts<A: Drop> {
     pub elsewhere: A,
 }
 
-/// Where connections come to both.
+/// The accepts of both ports, which listen already.
 pub fn open_ports<'a, R: Clock + Wait + Eprint>(
     rt: &'a R,
     alloc: Global,

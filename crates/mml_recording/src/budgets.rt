@@ -31,7 +31,7 @@ pub struct Budgets {
 }
 
 impl Budgets {
-    /// Nothing was put yet of any account of the lab.
+    /// The budgets of a class of the lab, where nothing was put yet of any account.
     pub fn new(alloc: Global, lab: &Lab) -> Result<Budgets, FileFault> {
         let roster = lab.roster();
         let mut accounts = Vec::new(alloc);
@@ -47,14 +47,15 @@ impl Budgets {
         })
     }
 
-    // The index of the account with this name.
+    // The index of the account with this name; none where the lab has no such account.
     fn index_of(&self, name: &[u8]) -> Option<usize> {
         self.accounts
             .iter()
             .position(|account| account.name.as_bytes() == name)
     }
 
-    // What was put of an account, or of those who aren't known.
+    // The count of the bytes that were put of the account with this index, or, where it is none, of those who aren't
+    // known.
     fn spent_by(&self, account: Option<usize>) -> &AtomicU64 {
         match account {
             Some(index) => match self.accounts.get(index) {
@@ -66,6 +67,7 @@ impl Budgets {
     }
 }
 
+// An account with this name, of which nothing was put yet.
 fn new_account(alloc: Global, name: &str) -> Result<Account, FileFault> {
     Ok(Account {
         name: String::from_str(alloc, name)?,
@@ -81,7 +83,7 @@ pub struct SeatBudget {
 }
 
 impl SeatBudget {
-    /// Nobody is known yet.
+    /// The budget of a seat at which nobody is known yet.
     pub fn new(budgets: Arc<Budgets, Global>) -> SeatBudget {
         SeatBudget {
             budgets,
@@ -89,7 +91,8 @@ impl SeatBudget {
         }
     }
 
-    // Charges so many bytes, unless that leads beyond a most.
+    // Charges whoever is known, or else all together who aren't, with this many `bytes`, unless more than `most` were
+    // put of that account then. Whether it did.
     fn charge(&self, bytes: u64, most: u64) -> bool {
         let spent = self.budgets.spent_by(self.account);
         spent
@@ -102,27 +105,32 @@ impl SeatBudget {
 }
 
 impl Budget for SeatBudget {
+    // A reply that grants a hello names whom to charge from then on; another reply changes nothing.
     fn hear(&mut self, reply: &[u8]) {
-        if let Some(name) = greeted_in(reply) {
+        if let Some(name) = name_greeted(reply) {
             self.account = self.budgets.index_of(name);
         }
     }
 
+    // An entry may be put, and is charged, where no more than `BUDGET` bytes are put then of whoever is known, or of
+    // all together who aren't.
     fn takes_entry(&mut self, bytes: u64) -> bool {
         self.charge(bytes, BUDGET)
     }
 
+    // A session's end may go `ENDS` bytes beyond `BUDGET`, so that it is put still where entries no longer are.
     fn takes_end(&mut self, bytes: u64) -> bool {
         self.charge(bytes, BUDGET + ENDS)
     }
 
+    // What is put from then on is charged to those who aren't known.
     fn forget(&mut self) {
         self.account = None;
     }
 }
 
-// Who is known after a reply, where that grants a hello.
-fn greeted_in(reply: &[u8]) -> Option<&[u8]> {
+// The name of whoever is known from this reply on, where it grants a hello; none in another reply.
+fn name_greeted(reply: &[u8]) -> Option<&[u8]> {
     let name = reply.strip_prefix(GREETED)?;
     name.split(|byte| *byte == b'"').next()
 }

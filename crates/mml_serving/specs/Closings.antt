@@ -8,13 +8,16 @@ use Rattle.mml_board.specs.Lists.{is_legal_in, world_in}
 use Rattle.mml_serving.specs.declared.serving.ServeFault.{ServeFault}
 use Rattle.mml_serving.specs.declared.serving.ServeFault.TheVariants as fault
 
+-- a server's first line, which names its port
 abbrev pub listening_line : ℕ → List ℕ
 listening_line port = concat (codes "listening on port " ∷ decimal port ∷ codes "\n" ∷ [])
 
+-- a server's last line: how many events there were, and the number of the configuration to which they led
 abbrev pub done_line : ℕ → ℕ → List ℕ
 done_line events number = concat (codes "done: " ∷ decimal events ∷ codes " events, configuration " ∷ decimal number ∷ codes "\n" ∷ [])
 
--- how many events a legal list of the lab has, and the number that it leads to
+-- what is written is a last line, which tells how many events some legal list of the lab has, and the number of the configuration to which
+-- it leads
 abbrev pub Closes : LabValue → Option (List ℕ) → Option (List ℕ) → Type 0
 Closes lab wrote wrote' = (l : List Event) × (is_legal_in lab l ≡ true) × Appends wrote wrote' (done_line (length l) (world_in lab l).number)
 

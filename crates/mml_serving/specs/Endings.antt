@@ -34,7 +34,7 @@ pub record EndsAstray {R W : Type 0} (lab : LabValue) (remaining : R → Option 
   pub serves : ServesWindows lab remaining contents to_come count sessions windows
   pub astray : WentAstray lab windows
 
--- there is no log, though all connections were served, or not all were
+-- why there is no log: memory ran out or a connection couldn't be accepted; or all connections were served, and the windows went astray
 abbrev pub EndsEarly : {R W : Type 0} → LabValue → (R → Option (List ℕ)) → (W → Option (List ℕ)) → Option (List (R × W)) → ℕ → ServeFault → Type 0
 EndsEarly lab remaining contents to_come count fault.Memory = Unit {0}
 EndsEarly lab remaining contents to_come count fault.Accept = Unit {0}

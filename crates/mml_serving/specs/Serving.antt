@@ -24,7 +24,7 @@ IsServed lab remaining contents c s w =
     (s.connection.number ≡ c.number)
     × Ended s.end lab (window [] []) w (remaining c.reader) (remaining s.connection.reader) (contents c.writer) (contents s.connection.writer)
 
--- a connection without its number
+-- the reading and the writing end of a connection, without its number
 abbrev pub ends : {R W : Type 0} → Connection R W → R × W
 ends c = (c.reader, c.writer)
 
@@ -44,7 +44,7 @@ pub record ServesAll {R W : Type 0} (lab : LabValue) (remaining : R → Option (
   pub numbered : Numbered 1 connections
   pub served : Each (IsServed lab remaining contents) connections sessions windows
 
--- they were served through windows of the house; with those through which nobody was served, and which have seen nothing, these are
+-- the connections were served, as ServesAll says, through windows of the house; with those through which nobody was served, and which have seen nothing, these are
 -- all: as many as the lab has sessions
 pub record ServesWindows {R W : Type 0} (lab : LabValue) (remaining : R → Option (List ℕ)) (contents : W → Option (List ℕ))
     (to_come : Option (List (R × W))) (count : ℕ)
@@ -56,7 +56,7 @@ pub record ServesWindows {R W : Type 0} (lab : LabValue) (remaining : R → Opti
   pub idle : All (λ w. w ≡ window [] []) unused
   pub each : ServesAll lab remaining contents to_come count sessions used
 
--- and the house left the log: the lab's legal list of events, of which each window has seen a beginning, and whose places are those
+-- the connections were served, as ServesWindows says, and the house left the log: the lab's legal list of events, of which each window has seen a beginning, and whose places are those
 -- that all windows were told, each once
 pub record ServesHouse {S R W : Type 0} (lab : LabValue) (sink : S → Option (List ℕ)) (remaining : R → Option (List ℕ)) (contents : W → Option (List ℕ))
     (to_come : Option (List (R × W))) (count : ℕ) (sessions : List (EndedSession R W)) (log : Log S) : Type 0 where
@@ -64,6 +64,7 @@ pub record ServesHouse {S R W : Type 0} (lab : LabValue) (sink : S → Option (L
   pub serves : ServesWindows lab remaining contents to_come count sessions windows
   pub kept : IsLog lab sink windows log
 
+-- the session ended because memory ran out
 abbrev pub is_for_memory : SessionEnd → Bool
 is_for_memory end.Memory = true
 is_for_memory _ = false

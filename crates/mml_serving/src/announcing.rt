@@ -11,7 +11,8 @@ use mml_window::Log;
 use std::alloc::Global;
 use std::io::Write;
 
-/// Writes the first line, which names the port.
+/// Writes a server's first line, which names the port on which it listens. The fault is `Memory` where none of it is
+/// written, or `Write`.
 pub fn write_listening<W: Write>(alloc: Global, port: u16, writer: &mut W) -> Result<(), ServeFault>
     ensures { OnOk result
         (Appends (W.contents writer.old) (W.contents writer.new) (listening_line port)) }
@@ -24,7 +25,8 @@ pub fn write_listening<W: Write>(alloc: Global, port: u16, writer: &mut W) -> Re
     write_pieces(alloc, &pieces, writer)
 }
 
-/// Writes the last line, unless the journal was halted.
+/// Writes a server's last line, which tells how many events there were and to which configuration they led. The fault
+/// is `Halted` where the journal was, or `Memory`, and nothing is written; or `Write`, where the writer failed.
 pub fn write_last<S, W: Write>(
     alloc: Global,
     log: &Log<S>,
@@ -43,7 +45,8 @@ pub fn write_last<S, W: Write>(
     write_done(alloc, events, log.board.number(), writer)
 }
 
-// Writes the last line of so many events.
+// Writes the line that ends a server's output: `events` events, which led to configuration `number`. The fault is
+// `Memory` where none of it is written, or `Write`.
 fn write_done<W: Write>(
     alloc: Global,
     events: u64,
@@ -65,7 +68,7 @@ fn write_done<W: Write>(
     write_pieces(alloc, &pieces, writer)
 }
 
-// Writes a text in one go.
+// Writes the text of these pieces in one go. The fault is `Memory` where none of it is written, or `Write`.
 fn write_pieces<W: Write>(alloc: Global, pieces: &[Piece], writer: &mut W) -> Result<(), ServeFault>
     ensures told { OnOk result
         (Appends (W.contents writer.old) (W.contents writer.new) (joined pieces.now)) }

@@ -15,7 +15,7 @@ pub trait Arrivals<R: Read + Drop, W: Write + Drop> {
     // The connections that are still to come, where they are known.
     ghost to_come: { Self → Option (List (R × W)) } = { λ _. None };
 
-    /// The two ends of the next connection, for which it may wait.
+    /// The reading and the writing end of the next connection, for which it may wait, or why none was accepted.
     fn accept_next(&mut self) -> io::Result<(R, W)>
         ensures { MatchResult result
             (λ ends. Takes (to_come self.old) (to_come self.new) (ends ∷ []))
@@ -37,9 +37,11 @@ pub trait HangUp: Write {
 }
 
 impl Arrivals<Socket, Socket> for TcpListener {
+    // The two ends of the next connection, for which it waits: handles of one socket, which sends each write at once.
+    // An error where no connection was accepted, or no second handle could be made.
     fn accept_next(&mut self) -> io::Result<(Socket, Socket)> {
         let (stream, _) = self.accept()?;
-        // Where the system refuses this, replies still go out, only later.
+        // Where the system refuses to send each write at once, replies still go out, only later.
         let _ = stream.set_nodelay(true);
         let writer = Socket::new(stream.try_clone()?);
         Ok((Socket::new(stream), writer))
@@ -50,6 +52,7 @@ impl Arrivals<Socket, Socket> for TcpListener {
 impl<R: Read + Drop, W: Write + Drop> Arrivals<R, W> for IntoIter<(R, W)> {
     ghost to_come = { λ ends. Some (into_iter_items ends) };
 
+    // The two ends of the next of them; the error `NotConnected` behind the last.
     fn accept_next(&mut self) -> io::Result<(R, W)>
         ensures { MatchResult result
             (λ ends. Takes (Some (into_iter_items self.old)) (Some (into_iter_items self.new))
@@ -65,15 +68,18 @@ impl<R: Read + Drop, W: Write + Drop> Arrivals<R, W> for IntoIter<(R, W)> {
 
 /// Bytes in memory.
 impl<'a> LetGo for &'a [u8] {
+    // Does nothing: bytes in memory hold nothing of the system.
     fn let_go(&mut self) {}
 }
 
 /// Bytes in memory that are taken from its front.
 impl LetGo for VecDeque<u8> {
+    // Does nothing: bytes in memory hold nothing of the system.
     fn let_go(&mut self) {}
 }
 
 /// Bytes in memory.
 impl HangUp for Vec<u8> {
+    // Does nothing: bytes in memory hold nothing of the system, and there is no other side to tell.
     fn hang_up(&mut self) {}
 }

@@ -20,13 +20,14 @@ pub struct EndedSession<R: Drop, W: Drop> {
     pub connection: Connection<R, W>,
 }
 
-/// Whether no session of a socket ended because memory ran out, and none of its calls failed for it.
+/// Whether none of these sessions ended because memory ran out, and no read or write of their sockets failed for it.
 pub(crate) fn all_had_memory(sessions: &[EndedSession<Socket, Socket>]) -> bool
     ensures { result ≡ list_all had_memory sessions.now }
 {
     sessions.iter().all(|session| had_memory(session))
 }
 
+// Whether a session didn't end because memory ran out, and no read or write of its socket failed for it.
 fn had_memory(session: &EndedSession<Socket, Socket>) -> bool
     ensures { result ≡ had_memory session.now }
 {

@@ -33,8 +33,8 @@ struct Seated<H: House, R: Drop, W: Drop> {
     connection: Connection<R, W>,
 }
 
-/// Serves so many connections, and gives back their windows and how their sessions ended, in the order
-/// in which they came. All threads have ended when it returns, after an error too.
+/// Serves the next `connections` connections, and gives back their windows, and how their sessions ended, both in
+/// the order in which they came. All threads have ended when it returns, after an error too.
 pub(crate) fn serve_all<
     Rt: Threads + Wait + Sync,
     S: Sink + Send + Drop,
@@ -106,7 +106,7 @@ impl<H: House, R: Read + Drop, W: Write + Drop> Promise<(Window<H>, EndedSession
     ghost kept_by = { λ pledge t. IsServed H.lab R.remaining W.contents pledge.0.value t.1 t.0 };
 }
 
-// The next connection, with its number and a window for it.
+// The next connection, which gets this number, with a window that is taken for it, or why none could be accepted.
 fn next_seat<H: House, R: Read + Drop, W: Write + Drop, A: Arrivals<R, W>>(
     arrivals: &mut A,
     windows: &mut Vec<Window<H>>,
@@ -135,7 +135,7 @@ fn next_seat<H: House, R: Read + Drop, W: Write + Drop, A: Arrivals<R, W>>(
     }
 }
 
-// The two ends of the next connection.
+// The reading and the writing end of the next connection, or why none could be accepted.
 fn accept<R: Read + Drop, W: Write + Drop, A: Arrivals<R, W>>(
     arrivals: &mut A,
 ) -> Result<(R, W), SeatingFault>
@@ -148,7 +148,7 @@ fn accept<R: Read + Drop, W: Write + Drop, A: Arrivals<R, W>>(
     }
 }
 
-// Out of memory where the kind says so.
+// Why a connection couldn't be accepted, by the kind of the error: memory ran out, or something else.
 fn accept_fault(kind: ErrorKind) -> SeatingFault
     ensures memory { kind ≡ ErrorKind.OutOfMemory → result ≡ SeatingFault.Memory }
     ensures other { kind ≢ ErrorKind.OutOfMemory → result ≡ SeatingFault.Accept }
@@ -159,8 +159,8 @@ fn accept_fault(kind: ErrorKind) -> SeatingFault
     }
 }
 
-// Serves the connection of a seat, hangs up and gives it back, so that neither the other side nor the
-// system waits for the other connections.
+// Serves the connection of a seat and hangs up, so that neither the other side nor the system waits for other
+// connections. Gives back the seat's window, and how the session ended with what is left of its connection.
 fn serve_apart<Rt: Wait, S: Sink + Drop, H: House, R: LetGo + Drop, W: HangUp + Drop, G: Gate>(
     rt: &Rt,
     alloc: Global,
@@ -200,7 +200,8 @@ fn serve_apart<Rt: Wait, S: Sink + Drop, H: House, R: LetGo + Drop, W: HangUp + 
     (window, EndedSession { end, connection })
 }
 
-// Waits for all sessions, and parts their windows from them.
+// Waits for all threads, and gives back their windows, and their sessions, both in the order of the threads; `Memory`,
+// without waiting, where it is refused to the lists of these.
 fn join_all<Rt: Threads, H: House, R: Read + Drop, W: Write + Drop>(
     rt: &Rt,
     alloc: Global,

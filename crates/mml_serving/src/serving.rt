@@ -48,10 +48,10 @@ pub enum ServeFault {
     Write,
 }
 
-/// Serves so many connections of a listener in a house of the lab, and then writes how many events
-/// there were and to which configuration they led. After an error of accepting, those connected before
-/// are served to their ends all the same. What the connections are answered is what `serve_arrivals`
-/// says; but what a socket gives and takes no contract knows.
+/// Serves the next `connections` connections of a listener in a house of the lab, and then writes how many events
+/// there were and to which configuration they led. Those that came before an error of accepting are served to their
+/// ends all the same. Where memory ran out in a session or a socket, the fault is `Memory` behind that line. What the
+/// connections are answered is what `serve_arrivals` says; but what a socket gives and takes no contract knows.
 pub fn serve_on<Rt: Threads + Wait + Sync, S: Sink + Send + Drop, G: Gate + Sync, W: Write>(
     rt: &Rt,
     alloc: Global,
@@ -76,11 +76,11 @@ pub fn serve_on<Rt: Threads + Wait + Sync, S: Sink + Send + Drop, G: Gate + Sync
     }
 }
 
-/// Serves the first so many connections that arrive, each as it comes, in a thread of its own and
+/// Serves the first `connections` connections that arrive, each as it comes, in a thread of its own and
 /// through a window of its own, from the opening of a house to its end, and then writes the last line.
-/// Where there is an answer, there is one legal list of events, of which each reply shows a beginning;
-/// the places that the replies name are those of its events, each once; and the last line tells how
-/// many they are and to which configuration they led.
+/// Without a fault there is one legal list of events, of which each reply shows a beginning; the places that the
+/// replies name are those of its events, each once; and the last line tells how many they are and to which
+/// configuration they led.
 pub fn serve_arrivals<
     Rt: Threads + Wait + Sync,
     S: Sink + Send + Drop,
@@ -133,7 +133,8 @@ pub fn serve_arrivals<
     }
 }
 
-// Serves the connections in the house that H names.
+// Serves the next `connections` connections in the house that H names, and ends it: what is left of it, or why there is
+// no log.
 fn serve_in_house<
     H: House + Send + Sync,
     Rt: Threads + Wait + Sync,
@@ -178,7 +179,7 @@ fn serve_in_house<
     }
 }
 
-/// Ends a house after an error, of which nothing else is told.
+/// Ends a house that came to no good end, for this fault, which alone is told: what `finish` gives is let go.
 pub fn end_for<Rt: Wait, S: Sink + Drop, H: House, T, F>(
     fault: F,
     rt: &Rt,
@@ -191,7 +192,8 @@ pub fn end_for<Rt: Wait, S: Sink + Drop, H: House, T, F>(
     Err(fault)
 }
 
-// Ends a house with all its windows, those through which nobody was served last.
+// Ends a house with all its windows: those through which connections were served, and the unused behind them. Gives its
+// log, or `Memory`, or `Astray` where the windows' places aren't those of the events, each once.
 fn end_house<Rt: Wait, S: Sink + Drop, H: House>(
     rt: &Rt,
     alloc: Global,

@@ -23,7 +23,7 @@ pub struct Socket {
 }
 
 impl Socket {
-    /// Holds this handle.
+    /// An end of a connection over this handle.
     pub fn new(stream: TcpStream) -> Socket {
         Socket {
             end: Retrying::new(Handle(Some(stream))),
@@ -32,22 +32,26 @@ impl Socket {
 }
 
 impl Read for Socket {
+    // Reads from the socket, again where a signal interrupts it; `NotConnected` once the handle was given back.
     fn read(&mut self, buf: &mut [u8]) -> io::Result<usize> {
         self.end.read(buf)
     }
 }
 
 impl Write for Socket {
+    // Writes to the socket, again where a signal interrupts it; `NotConnected` once the handle was given back.
     fn write(&mut self, buf: &[u8]) -> io::Result<usize> {
         self.end.write(buf)
     }
 
+    // Does nothing: no bytes are held back here.
     fn flush(&mut self) -> io::Result<()> {
         Ok(())
     }
 }
 
 impl LetGo for Socket {
+    // Gives the handle back; each later read fails.
     fn let_go(&mut self) {
         self.end.inner.0 = None;
     }
@@ -63,9 +67,9 @@ impl HangUp for Socket {
     }
 }
 
-/// Says that nothing more comes, and takes for a while what the other side still sends, since a socket that is
-/// closed over bytes which nobody took throws away what it has still to send. Once it is hurried, this is one
-/// turn.
+/// Says that nothing more comes, and takes for a while what the other side still sends, since a socket that is closed
+/// over bytes which nobody took throws away what it has still to send. Then the handle is given back. Once `is_hurried`
+/// is set, no further turn begins.
 pub fn linger(stream: TcpStream, is_hurried: &AtomicBool) {
     let mut stream = stream;
     let turn = Some(Duration::from_millis(TURN));
@@ -90,7 +94,7 @@ pub fn linger(stream: TcpStream, is_hurried: &AtomicBool) {
     }
 }
 
-// Whether the next turn may find more: the time of this one is over, or a signal came.
+// Whether, after a read that failed so, the next turn may find more: the turn's time is over, or a signal came.
 fn is_passing(kind: ErrorKind) -> bool {
     matches!(kind, ErrorKind::WouldBlock | ErrorKind::Interrupted)
 }
@@ -100,6 +104,7 @@ fn is_passing(kind: ErrorKind) -> bool {
 pub(crate) struct Handle(Option<TcpStream>);
 
 impl Read for Handle {
+    // One read of the socket; `NotConnected` once the handle was given back.
     fn read(&mut self, buf: &mut [u8]) -> io::Result<usize> {
         match &mut self.0 {
             Some(stream) => stream.read(buf),
@@ -109,6 +114,7 @@ impl Read for Handle {
 }
 
 impl Write for Handle {
+    // One write to the socket; `NotConnected` once the handle was given back.
     fn write(&mut self, buf: &[u8]) -> io::Result<usize> {
         match &mut self.0 {
             Some(stream) => stream.write(buf),
@@ -116,6 +122,7 @@ impl Write for Handle {
         }
     }
 
+    // Does nothing: no bytes are held back here.
     fn flush(&mut self) -> io::Result<()> {
         Ok(())
     }

@@ -17,7 +17,8 @@ HoldsBack wrote wrote' bytes held = (sent : List ℕ) × (bytes ≡ sent ++ held
 abbrev pub BreaksOff : Option (List ℕ) → Option (List ℕ) → List ℕ → Type 0
 BreaksOff wrote wrote' bytes = (n : ℕ) × (n < length bytes) × Appends wrote wrote' (take n bytes)
 
--- what was held is out, and the session ended so, or the write failed, and then who was known before the line that was answered last
+-- what was held is out, and the session ended as it was to end; or the write broke off, which is its end, with who was known before the
+-- line that was answered last
 abbrev pub LetsOut : Ending → Option Who → Ending → List ℕ → Option (List ℕ) → Option (List ℕ) → Type 0
 LetsOut ending before result held wrote wrote' =
     ((result ≡ ending) × Appends wrote wrote' held) ⊎ ((result ≡ record { end = end.WriteFault; who = before }) × BreaksOff wrote wrote' held)

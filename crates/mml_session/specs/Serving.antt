@@ -21,7 +21,8 @@ use Rattle.mml_session.specs.Ends.{IsView}
 use Rattle.mml_session.specs.Holding.{IsHeldOrOut, BreaksOff}
 use Rattle.mml_session.specs.Records.{Kept, Records, entry_for, line_entries}
 
--- what was held and the line of a reply are held, or out, as they are with a bye's, or a front of them is
+-- what was held and the line of a reply behind it are all held or all out; with a bye's they are out; where a write failed, a front is out,
+-- and nothing is held
 abbrev pub SendsReply : Said → Reply → List ℕ → List ℕ → List ℕ → Option (List ℕ) → Option (List ℕ) → Type 0
 SendsReply said.Told r whole unsent unsent' wrote wrote' = (is_bye r ≡ false) × IsHeldOrOut wrote wrote' (unsent ++ whole) unsent'
 SendsReply said.Bye r whole unsent unsent' wrote wrote' = (is_bye r ≡ true) × (unsent' ≡ []) × Appends wrote wrote' (unsent ++ whole)
@@ -43,7 +44,8 @@ ServesLine (Ok said) number lab st after line unsent unsent' wrote wrote' given 
 ServesLine (Err closed) number lab st after line unsent unsent' wrote wrote' given given' =
     (after ≡ st) × IsView st line × (unsent' ≡ unsent) × (wrote' ≡ wrote) × Records number given given' []
 
--- a session goes on where its reply is out and isn't that to a bye
+-- a session goes on where its reply is out or held and isn't that to a bye, and else has ended: by the bye, the write that failed, or the
+-- window that shows nothing any more
 abbrev pub next_after : Result Said Closed → Next
 next_after (Ok said.Told) = next.Served
 next_after (Ok said.Bye) = next.Ended end.Bye

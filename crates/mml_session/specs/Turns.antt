@@ -32,7 +32,7 @@ pub record Standing : Type 0 where
   pub known : Option Who
   pub window : WindowValue
 
--- a session stands so
+-- the standing in which this one, or nobody, is known, and the window is this
 abbrev pub standing : Option Who → WindowValue → Standing
 standing known window = record { known = known; window = window }
 
@@ -84,7 +84,7 @@ Asked lab st (Ok request) r next = Settles lab st (greeting lab.roster st.known 
 abbrev pub Unread : Standing → Reply → Standing → Type 0
 Unread st r next = (r ≡ reply.Refuse refused.Memory) × (next ≡ st)
 
--- the turn of a line
+-- the turn of a line: what comes of what it asks, or of memory that was refused while it was read
 abbrev pub Turn : LabValue → Standing → List ℕ → Reply → Standing → Type 0
 Turn lab st line r next = Asked lab st (request_in line) r next ⊎ Unread st r next
 

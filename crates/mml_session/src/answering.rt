@@ -20,8 +20,9 @@ use mml_window::{Answer, Closed, House, SightFault, Window};
 use std::alloc::Global;
 use std::sync::Wait;
 
-/// Answers a line, unless it asks a window that is closed. The reply is put where it stays, since it is
-/// large to hand on.
+/// Answers a line on a connection that is known as `known`, which becomes who is known then. The reply is put where it
+/// stays, since it is large to hand on. `Closed`, and no reply, where one who is known asks for a view of a window that
+/// shows nothing any more.
 pub(crate) fn answer_into<Rt: Wait, S: Sink + Drop, H: House>(
     setting: &Setting<'_, Rt, S, H>,
     window: &mut Window<H>,
@@ -50,8 +51,9 @@ pub(crate) fn answer_into<Rt: Wait, S: Sink + Drop, H: House>(
     }
 }
 
-// Greets, says bye, or lets the window reply: what comes of any request. It is large, and is kept out of the way of
-// the commands of one who is known, which needn't come here.
+// Answers any request: by `greet` a hello, a bye, and a command where nobody is known, and by the window a command of
+// one who is known; `Closed` where that is a view, and the window shows nothing any more. It is large, and is kept out
+// of the way of the commands of one who is known, which needn't come here.
 #[inline(never)]
 fn settle<Rt: Wait, S: Sink + Drop, H: House>(
     setting: &Setting<'_, Rt, S, H>,
@@ -81,7 +83,8 @@ fn settle<Rt: Wait, S: Sink + Drop, H: House>(
     }
 }
 
-/// The window's reply to a command: views are asked of what is published, and acts of the desk.
+/// Puts the window's reply to the command of `who`: views are asked of what is published, and acts of the desk, for
+/// which alone the lock is taken. `Closed`, and no reply, where a view is asked of a window that shows nothing more.
 fn obey<Rt: Wait, S: Sink + Drop, H: House>(
     setting: &Setting<'_, Rt, S, H>,
     window: &mut Window<H>,
@@ -105,13 +108,25 @@ fn obey<Rt: Wait, S: Sink + Drop, H: House>(
         | Command::Link { .. }
         | Command::Cut { .. }
         | Command::Release { .. } => {
-            ask(setting, window, who, command, reply);
+            let answer = setting
+                .desk
+                .ask(setting.rt, setting.alloc, window, who, command);
+            match answer {
+                Answer::Granted {
+                    place,
+                    number,
+                    done,
+                } => put_in(reply, reply_of_done(number, place, done)),
+                Answer::Denied(denial) => put_in(reply, Reply::Deny(denial)),
+                Answer::Refused(refusal) => put_in(reply, Reply::Refuse(Refused::from(refusal))),
+            }
             Ok(())
         }
     }
 }
 
-// The reply to one who asks what a node shows to those who may see it.
+// Puts the reply to one who asks what a node shows to those who may see it. `Closed`, and no reply, where the window
+// shows nothing any more.
 fn see<H: House>(
     window: &mut Window<H>,
     who: Who,
@@ -132,7 +147,8 @@ fn see<H: House>(
     Ok(())
 }
 
-// The reply to one who asks what a node shows to its owners and the teacher.
+// Puts the reply to one who asks what a node shows to its owners and the teacher. `Closed`, and no reply, where the
+// window shows nothing any more.
 fn look<H: House>(
     alloc: Global,
     window: &mut Window<H>,
@@ -154,7 +170,8 @@ fn look<H: House>(
     Ok(())
 }
 
-// The reply to one who asks for the report on the configuration.
+// Puts the reply to one who asks for the report on the configuration. `Closed`, and no reply, where the window shows
+// nothing any more.
 fn report<H: House>(
     alloc: Global,
     window: &mut Window<H>,
@@ -173,28 +190,4 @@ fn report<H: House>(
         Err(SightFault::Closed) => return Err(Closed),
     }
     Ok(())
-}
-
-/// The reply to an act, for which alone the lock is taken.
-fn ask<Rt: Wait, S: Sink + Drop, H: House>(
-    setting: &Setting<'_, Rt, S, H>,
-    window: &mut Window<H>,
-    who: Who,
-    command: &Command,
-    reply: &mut Reply,
-)
-    requires { is_act command.now ≡ true }
-    ensures told { Told H.lab window.old who command.now reply.new window.new }
-    ensures about { IsAbout H.lab.ids H.lab.roster reply.new }
-{
-    let desk = setting.desk;
-    match desk.ask(setting.rt, setting.alloc, window, who, command) {
-        Answer::Granted {
-            place,
-            number,
-            done,
-        } => put_in(reply, reply_of_done(number, place, done)),
-        Answer::Denied(denial) => put_in(reply, Reply::Deny(denial)),
-        Answer::Refused(refusal) => put_in(reply, Reply::Refuse(Refused::from(refusal))),
-    }
 }

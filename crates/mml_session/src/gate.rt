@@ -3,13 +3,13 @@
 pub enum Point {
     /// A line was read and isn't judged yet.
     Line,
-    /// Its reply has gone out.
+    /// The reply of a line has gone out; or it was held, and the write that was to take it failed.
     Told,
 }
 
 /// What may hold a session at its points, for as long as it likes: no lock is held there.
 pub trait Gate {
-    /// Returns when the session of this connection may go on.
+    /// Returns when the session of this connection, which stands at `point`, may go on.
     fn pass(&self, connection: u8, point: Point);
 }
 
@@ -18,5 +18,6 @@ pub trait Gate {
 pub struct NoGate;
 
 impl Gate for NoGate {
+    // Returns at once.
     fn pass(&self, _connection: u8, _point: Point) {}
 }

@@ -21,7 +21,7 @@ pub(crate) struct Held {
 }
 
 impl Held {
-    // Reserves all that it ever needs.
+    // Holds nothing yet, with all the memory that it ever needs; `Memory` where that was refused.
     pub(crate) fn new(alloc: Global) -> Result<Held, Memory>
         ensures { IfOk result (λ held. held.bytes.items ≡ []) }
     {
@@ -31,7 +31,8 @@ impl Held {
         })
     }
 
-    // Takes a line after those that are held. Where it has no room, and where `at_once` says so, all go out.
+    // Takes a line after those that are held. Where it has no room, and where `at_once` says so, all go out. A fault
+    // has how many of all their bytes went out, and nothing is held then.
     pub(crate) fn put<W: Write>(
         &mut self,
         line: &[u8],
@@ -58,7 +59,8 @@ impl Held {
         came
     }
 
-    // Writes all that is held where `at_once` says so, or where that is more than `HELD_BYTES`.
+    // Writes all that is held where `at_once` says so, or where that is more than `HELD_BYTES`. A fault has how many
+    // of these bytes went out, and nothing is held then.
     pub(crate) fn let_out_when_due<W: Write>(
         &mut self,
         at_once: bool,
@@ -81,7 +83,7 @@ impl Held {
         Ok(())
     }
 
-    // Writes all that is held. Nothing is held then, also where that failed.
+    // Writes all that is held. Nothing is held then, also where the write failed; the fault has how many bytes are out.
     pub(crate) fn let_out<W: Write>(&mut self, writer: &mut W) -> Result<(), WriteFault>
         ensures none { self.new.bytes.items ≡ [] }
         ensures ok { OnOk result (Appends (W.contents writer.old) (W.contents writer.new)
@@ -97,7 +99,7 @@ impl Held {
         came
     }
 
-    // Whether there is room for a line, which is then held.
+    // Holds a line behind the others, if there is room, and tells whether there was.
     fn hold(&mut self, line: &[u8]) -> bool
         ensures { self.new.bytes.items
             ≡ (if result then self.old.bytes.items ++ line.now else self.old.bytes.items) }

@@ -45,15 +45,16 @@ pub enum SessionEnd {
     Memory,
 }
 
-/// How a session ended, and who was known then: before the bye, where it ended by one.
+/// How a session ended, and who was known then: before its last line, where that was a bye or its reply wasn't written.
 #[derive(Clone, Copy, Debug, PartialEq, Eq)]
 pub struct Ending {
     pub end: SessionEnd,
     pub who: Option<Who>,
 }
 
-/// Answers the lines of a reader one by one. Replies go out together, so that one write takes many: all
-/// are out before the reader is read again. A granted event stands though its reply couldn't be written.
+/// Answers the lines of a reader one by one through a window, and tells how the session ended. Replies go out together,
+/// so that one write takes many: all are out before the reader is read again. A granted event stands though its reply
+/// couldn't be written. `gate` may hold the session, which it knows by the number `connection`.
 pub fn serve_one<Rt: Wait, S: Sink + Drop, H: House, R: Read, W: Write, G: Gate>(
     rt: &Rt,
     alloc: Global,
@@ -75,8 +76,9 @@ pub fn serve_one<Rt: Wait, S: Sink + Drop, H: House, R: Read, W: Write, G: Gate>
     serve_recorded(&setting, window, reader, writer, gate, connection, recorder).end
 }
 
-/// Answers the lines of a reader one by one, as `serve_one` does, and gives a recorder each line that is
-/// answered, before its reply goes out, and then the session's end. It tells who was known then too.
+/// Answers the lines of a reader one by one, as `serve_one` does, and gives a recorder each line that is answered,
+/// before its reply goes out, unless that shows what was asked for, and at last the end of a session that had memory
+/// to begin. It tells how the session ended, and who was known then.
 pub fn serve_recorded<Rt: Wait, S: Sink + Drop, H: House, R: Read, W: Write, G: Gate, K: Recorder>(
     setting: &Setting<'_, Rt, S, H>,
     window: &mut Window<H>,
@@ -135,7 +137,8 @@ struct Session {
 }
 
 impl Session {
-    // Reserves all that the session ever needs. Nobody is known.
+    // A session in which nobody is known and no reply is held, with the memory that its lines and short replies take;
+    // `Memory` where that was refused.
     fn new(alloc: Global, connection: u8) -> Result<Session, Memory>
         ensures number { IfOk result (λ session. session.connection ≡ connection) }
         ensures nobody { IfOk result (λ session. session.known ≡ None) }
@@ -163,7 +166,8 @@ enum Next {
     Ended(SessionEnd),
 }
 
-// Reads the next line, only where nothing is held, and answers it.
+// Answers the next line, for which the reader is read only where no reply is held, and tells whether the session
+// goes on or how it ended.
 fn serve_next<Rt: Wait, S: Sink + Drop, H: House, R: Read, W: Write, G: Gate, K: Recorder>(
     setting: &Setting<'_, Rt, S, H>,
     session: &mut Session,
@@ -213,7 +217,8 @@ fn serve_next<Rt: Wait, S: Sink + Drop, H: House, R: Read, W: Write, G: Gate, K:
     }
 }
 
-// Lets the session stand at its gate where replies are out, and tells whether it goes on.
+// By what came of a line: where its reply is out or held, counts it, and lets the session stand at its gate if none is
+// held any longer. Tells whether the session goes on or how it ended.
 fn go_on<G: Gate>(said: Result<Said, Closed>, held: &mut Held, gate: &G, connection: u8) -> Next
     ensures next { result ≡ next_after said }
     ensures held { held.new.bytes.items ≡ held.old.bytes.items }
@@ -234,7 +239,8 @@ fn go_on<G: Gate>(said: Result<Said, Closed>, held: &mut Held, gate: &G, connect
     }
 }
 
-// Lets the session stand at its gate once for each reply that went out, where none is held any longer.
+// Where no reply is held any longer, lets the session stand at its gate once for each that was counted since it stood
+// there last: those went out, unless a write failed.
 fn pass_told<G: Gate>(held: &mut Held, gate: &G, connection: u8)
     ensures { held.new.bytes.items ≡ held.old.bytes.items }
 {
@@ -246,8 +252,8 @@ fn pass_told<G: Gate>(held: &mut Held, gate: &G, connection: u8)
     }
 }
 
-// Lets out what is held at the end of a session. Where that fails, that is its end, and who was known is
-// told as it was before the last line that was answered.
+// Lets out what is held at the end of a session, and hands on how it ended. Where the write fails, that is its end, and
+// it has `before`: who was known before the line that was answered last.
 fn let_out<W: Write, G: Gate>(
     session: &mut Session,
     ending: Ending,
@@ -281,7 +287,8 @@ enum Said {
     Unwritten(usize),
 }
 
-// Answers the line that was read last, and its reply, if it has one, goes out or is held.
+// Answers the line that was read last; its reply goes out or is held, and what came of it is told. `Closed` where the
+// line asks for a view of a window that shows nothing any more, and so has no reply.
 fn serve_line<Rt: Wait, S: Sink + Drop, H: House, W: Write, K: Recorder>(
     setting: &Setting<'_, Rt, S, H>,
     session: &mut Session,
@@ -346,8 +353,9 @@ struct Judged<'a> {
     is_next_unknown: bool,
 }
 
-// Lets the reply of a line go out, or holds it, and gives it to the recorder. It is written behind what
-// is held, if it is short.
+// Gives the recorder a line and its reply, unless that shows what was asked for, and lets the reply go out or holds it:
+// a short one is written behind what is held, any other, or `memory` in its place, into `out`. Tells what came of the
+// reply.
 fn tell<H: House, W: Write, K: Recorder>(
     alloc: Global,
     window: &Window<H>,
@@ -378,8 +386,8 @@ fn tell<H: House, W: Write, K: Recorder>(
     send(&told, out, held, judged.is_next_unknown, writer)
 }
 
-// Gives a recorder a line that was answered, unless its reply shows what was asked for. A reply that names the
-// place of an event was judged before that was seen.
+// Gives a recorder a line that was answered with `out`, its reply's line, unless the reply shows what was asked for. A
+// line whose reply names the place of an event was judged before that event was seen.
 fn record<K: Recorder>(recorder: &mut K, judged: Judged<'_>, reply: &Reply, out: &[u8])
     ensures { Records judged.entry.number (K.kept recorder.old) (K.kept recorder.new)
         (entry_for judged.entry.seen judged.entry.line.now reply.now out.now) }
@@ -397,7 +405,8 @@ fn record<K: Recorder>(recorder: &mut K, judged: Judged<'_>, reply: &Reply, out:
     recorder.said(judged.number, before, judged.line, out);
 }
 
-// Lets the line of a reply go out, or holds it where the next line is held too, unless it is a bye's.
+// Lets the line of a reply go out behind what is held, or holds the line where there is room, and neither `at_once`
+// says that all must be out nor the reply is a bye's. Tells what came of the reply.
 fn send<W: Write>(
     reply: &Reply,
     line: &[u8],
@@ -417,8 +426,8 @@ fn send<W: Write>(
     }
 }
 
-// Lets what is held go out, of which the line of a reply is the last, or holds it on where the next line is held
-// too, unless the reply is a bye's.
+// Lets what is held go out, of which the line of a reply is the last, or holds all on where it isn't too much, and
+// neither `at_once` says that all must be out nor the reply is a bye's. Tells what came of the reply.
 fn send_held<W: Write>(reply: &Reply, held: &mut Held, at_once: bool, writer: &mut W) -> Said
     ensures sends { SendsReply result reply.now held.old.bytes.items
         [] held.new.bytes.items

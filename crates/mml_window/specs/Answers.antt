@@ -17,18 +17,20 @@ use Rattle.mml_window.specs.Rulings.{ruling_at}
 use Rattle.mml_window.specs.Windows.{WindowValue, window, window_with}
 use Rattle.mml_window.specs.Books.{BookValue, IsBook, Grows, HaltsBook}
 
--- an event would take place there
+-- the act would be granted, as some event, in the world that the list leaves
 abbrev pub Grants : LabValue → List Event → Who → Command → Type 0
 Grants lab l who command = (e : Event) × (done : Done) × (ruling_at lab (world_in lab l) who command ≡ ruling.Granted e done)
 
--- the event takes place there and does this, at the next place; the number is that of the configuration after it
+-- in the world that the list leaves the act is granted as this event, which does this and has the next place; the number is that of the
+-- configuration after it
 pub record Takes (lab : LabValue) (l : List Event) (who : Who) (command : Command) (e : Event) (place number : ℕ) (done : Done) : Type 0 where
   pub ruled : ruling_at lab (world_in lab l) who command ≡ ruling.Granted e done
   pub next : place ≡ length l + 1
   pub placed : place ≡ (world_in lab (l ++ e ∷ [])).place
   pub numbered : number ≡ (world_in lab (l ++ e ∷ [])).number
 
--- what deciding does to the book
+-- what deciding does to the book, by the answer: a denial, no room and no memory leave it as it was; it halts where the journal fails, if
+-- it wasn't halted already; a grant adds the event
 abbrev pub Decides : {S : Type 0} → LabValue → (S → ℕ) → BookValue S → Who → Command → Answer → BookValue S → Type 0
 Decides lab failures old who command (Denied d) new = (ruling_at lab (world_in lab old.events) who command ≡ ruling.Denied d) × (new ≡ old)
 Decides lab failures old who command (Refused Full) new =
@@ -39,7 +41,8 @@ Decides lab failures old who command (Refused Memory) new = Grants lab old.event
 Decides lab failures old who command (Granted place number done) new =
     (e : Event) × Takes lab old.events who command e place number done × Grows failures old new e
 
--- what letting a legal event take place does to the book, where there is room and the journal isn't halted
+-- what letting a legal event take place does to the book, where there is room and the journal isn't halted: without memory it is as it was,
+-- it halts where the journal fails, and else it has the event
 abbrev pub Lets : {S : Type 0} → LabValue → (S → ℕ) → BookValue S → Event → Done → Answer → BookValue S → Type 0
 Lets lab failures old e done (Denied d) new = ⊥
 Lets lab failures old e done (Refused Full) new = ⊥
@@ -78,7 +81,7 @@ pub record AnswersAtPresent {S : Type 0} (lab : LabValue) (contents : S → Opti
   pub answers : AnswersAt lab (world_in lab before.events) old who command answer new
   pub sees : world_in lab new.seen ≡ world_in lab after.events
 
--- the nodes that an answer names are among these
+-- the nodes that an answer names are ranks in this table of identifiers
 abbrev pub IsAnswered : List ℕ → Answer → Type 0
 IsAnswered ids (Denied d) = Unit {0}
 IsAnswered ids (Refused why) = Unit {0}

@@ -28,7 +28,7 @@ resumed_of name lab begun = record { name = name; lab = lab; begun = begun }
 abbrev pub no_name : Ptr
 no_name = block_ptr 0 0
 
--- its lab, which is empty
+-- the lab of the house that names none: it has no nodes
 abbrev pub no_lab : LabValue
 no_lab = record {
   ids = [];

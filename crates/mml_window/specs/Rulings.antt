@@ -11,6 +11,6 @@ use Rattle.mml_policy.specs.Rulings.{ruling}
 abbrev pub ruling_while : LabValue → Bool → World → Who → Command → Ruling
 ruling_while lab is_halted w who command = ruling lab.ids lab.roster lab.events is_halted w who command
 
--- while it isn't
+-- what comes of a command in a world of the lab while the journal isn't halted
 abbrev pub ruling_at : LabValue → World → Who → Command → Ruling
 ruling_at lab w who command = ruling_while lab false w who command

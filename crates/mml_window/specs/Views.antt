@@ -12,7 +12,7 @@ use Rattle.mml_board.specs.Lists.{world_in}
 use Rattle.mml_window.specs.Rulings.{ruling_at}
 use Rattle.mml_window.specs.Windows.{WindowValue, SeesOn}
 
--- the number of the world of the list that the window has then seen
+-- the number of the world of the list that the window has then seen; a closed window has seen nothing more
 abbrev pub TellsNumber : LabValue → WindowValue → Result ℕ Closed → WindowValue → Type 0
 TellsNumber lab old (Ok n) new = (n ≡ (world_in lab new.seen).number) × SeesOn lab old new
 TellsNumber lab old (Err closed) new = new ≡ old

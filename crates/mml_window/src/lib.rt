@@ -8,7 +8,6 @@ mod desk;
 mod house;
 mod log;
 mod looking;
-mod press;
 mod published;
 mod resumed;
 mod seeing;

@@ -40,7 +40,7 @@ impl<H: House> Reader<H> {
     }
 }
 
-/// Gives a window that has no reader one, where there is a slot for it.
+/// Makes a reader that has seen nothing, where there is none yet and a slot is free.
 pub(crate) fn take_slot<H: House>(press: &Press<H>, reader: &mut Option<Reader<H>>)
     ensures { view_by reader.new ≡ view_by reader.old }
 {
@@ -51,7 +51,8 @@ pub(crate) fn take_slot<H: House>(press: &Press<H>, reader: &mut Option<Reader<H
     }
 }
 
-/// Lets a reader enter what is published, unless there is none, or the writer is gone.
+/// Lets the reader enter what is published: it is taken out, with what it reads, until it leaves. `None` where there is
+/// no reader, or where the writer is gone; then the reader stays.
 pub(crate) fn enter<H: House>(reader: &mut Option<Reader<H>>) -> Option<Entered<H>>
     ensures saw { IfSome result (λ reading.
         Saw H.lab (view_by reader.old) reading.part.value (view reading.place)) }
@@ -69,7 +70,7 @@ pub(crate) fn enter<H: House>(reader: &mut Option<Reader<H>>) -> Option<Entered<
     }
 }
 
-/// Lets a reader, which has seen all that is published, leave; it comes back with how many events these are.
+/// Lets a reader leave what it has entered, and so has seen whole: it comes back with how many events that has.
 pub(crate) fn leave<H: House>(reading: Entered<H>) -> Reader<H>
     requires { view reading.place ≡ viewer reading.part.value.events.items }
     ensures { result ≡ view reading.place }
@@ -81,8 +82,8 @@ pub(crate) fn leave<H: House>(reading: Entered<H>) -> Reader<H>
     }
 }
 
-/// Lets a reader look until it finds what is sought. Under the lock nothing is published meanwhile, so the
-/// first look finds it; that it is found is what the comparison shows.
+/// Lets a reader look until it finds what is sought, with a slot of its own where it had none. While `press` is lent
+/// nothing is published, so the first look finds it; that it does is what `is_sought` shows.
 pub(crate) fn look_for<H: House, R: Wait, F: Fn(&Published) -> bool>(
     rt: &R,
     press: &Press<H>,

@@ -27,7 +27,7 @@ fn course_in<'a>(board: &'a Board, lab: &'a Lab) -> Course<'a>
     }
 }
 
-/// What a node shows to those who may see it. It takes no memory.
+/// What a node shows to those who may see it; `Denied` with the clause that keeps it from `who`. It takes no memory.
 pub(crate) fn see_at(board: &Board, lab: &Lab, who: Who, node: u64) -> Result<See, SightFault>
     requires { length lab.now.ids ≡ length board.now.network.registers }
     ensures shows { Shows rulings.Seen (ruling_at lab.now board.now who (command.See node)) result }
@@ -40,7 +40,7 @@ pub(crate) fn see_at(board: &Board, lab: &Lab, who: Who, node: u64) -> Result<Se
     }
 }
 
-/// What a node shows to its owners and the teacher.
+/// What a node shows to its owners and the teacher; to others `Denied`; `Memory` where memory was refused.
 pub(crate) fn look_at(
     alloc: Global,
     board: &Board,
@@ -61,7 +61,7 @@ pub(crate) fn look_at(
     }
 }
 
-/// The report on the board's configuration, for the teacher.
+/// The report on the board's configuration, for the teacher; to others `Denied`; `Memory` where it was refused.
 pub(crate) fn report_at(
     alloc: Global,
     board: &Board,

@@ -22,8 +22,8 @@ pub(crate) fn told<H: House>(windows: &[Window<H>]) -> u64
     told
 }
 
-/// Whether the windows' places are those above the first number up to the last, each once. The places of
-/// each window climb, so one pass with a cursor for each tells it.
+/// Whether the windows' places are those above `first` and up to `most`, each once; `false` where `first` is above
+/// `most`. The places of each window climb, so one pass with a cursor for each tells it.
 pub(crate) fn is_each_once<H: House>(windows: &[Window<H>], first: u64, most: u64) -> bool
     requires few { length windows.now ≤ MAX_SESSIONS }
     ensures { MatchBool result (IsEachOnceFrom first most (told_of windows.now))
@@ -41,7 +41,7 @@ pub(crate) fn is_each_once<H: House>(windows: &[Window<H>], first: u64, most: u6
     are_counted_off(windows, &cursors)
 }
 
-/// Moves the first cursor on that stands before this place. None may.
+/// Moves on the cursor of the first window whose next place is `place`; `false` where that is no window's next.
 fn count_off<H: House>(windows: &[Window<H>], cursors: &mut Cursors, place: u64) -> bool
     requires few { length windows.now ≤ MAX_SESSIONS }
     ensures { MatchBool result ((p : ℕ) → times p (left_of windows.now cursors.old)

@@ -29,8 +29,8 @@ use std::alloc::Global;
 use std::marker::{Model, PhantomData};
 use std::sync::{Arc, Wait};
 
-/// A reader of what a house publishes, with the places that its asker was granted. No call of it takes
-/// the runtime, so none can wait for the lock.
+/// A reader of what a house publishes, with the places that its asker was granted. No public call of it takes the
+/// runtime, so none of these can wait for the lock.
 #[derive(Drop)]
 pub struct Window<H: House> {
     // None while a call of this crate is at work, and where there was no reader's slot at the start:
@@ -59,7 +59,7 @@ impl<H: House> Model for Window<H> {
 }
 
 impl<H: House> Window<H> {
-    /// A window that has seen nothing and has no reader yet.
+    /// A window that has seen nothing and has no reader yet; `places` has room for the places that it may be granted.
     pub(crate) fn new(lab: Arc<Lab>, places: Vec<u64>) -> Window<H>
         requires lawful { IsLab H.lab }
         requires lab { arc_value lab ≡ H.lab }
@@ -76,7 +76,7 @@ impl<H: House> Window<H> {
         }
     }
 
-    /// Takes a reader's slot, if there is one.
+    /// Takes a reader's slot at what is published, where it has none yet and one is free.
     pub(crate) fn take_slot(&mut self, press: &Press<H>)
         ensures { self.new ≡ self.old }
     {
@@ -100,7 +100,9 @@ impl<H: House> Window<H> {
         self.refused
     }
 
-    /// Keeps what an answer says: why the act was refused, or the place of the event that it saw happen.
+    /// Keeps what an answer says: why the act was refused, if it was; and, where it was granted, the event's place,
+    /// once the window sees the list that ends in that event.
+    #[tactic(auto, using(crate::proofs::ClimbingLemmas::climbs_count))]
     pub(crate) fn keep<R: Wait>(&mut self, rt: &R, press: &Press<H>, answer: &Answer)
         requires { IsNextPlace H.lab self.old.seen press.now.desk.shown.value.events.items answer.now }
         ensures { Keeps press.now.desk.shown.value.events.items self.old answer.now self.new }
@@ -111,7 +113,12 @@ impl<H: House> Window<H> {
             Answer::Granted { place, .. } => {
                 self.refused = None;
                 match press.published().events.last() {
-                    Some(event) => self.read_until_event(rt, press, *place, event),
+                    Some(event) => {
+                        look_for(rt, press, &mut self.reader, |published| {
+                            published.ends_in(*place, event)
+                        });
+                        self.places.push_reserved(*place);
+                    }
                     None => unreachable!(),
                 }
             }
@@ -134,7 +141,7 @@ impl<H: House> Window<H> {
         self.lab.roster()
     }
 
-    /// The number of the published configuration.
+    /// The number of the published configuration; `Closed` where the writer is gone, or there is no reader's slot.
     #[tactic(auto, using(crate::proofs::ClimbingLemmas::climbs_on))]
     pub fn number(&mut self) -> Result<u64, Closed>
         ensures { TellsNumber H.lab self.old result self.new }
@@ -147,7 +154,8 @@ impl<H: House> Window<H> {
         Ok(number)
     }
 
-    /// What a node shows to those who may see it. It takes no memory.
+    /// What a node shows to those who may see it, and to others the clause that denies it. It takes no memory. `Closed`
+    /// where the writer is gone, or there is no reader's slot.
     #[tactic(auto, using(crate::proofs::ClimbingLemmas::climbs_on))]
     pub fn see(&mut self, who: Who, node: u64) -> Result<See, SightFault>
         ensures tells { AnswersView rulings.Seen H.lab self.old who (command.See node) result self.new }
@@ -162,7 +170,8 @@ impl<H: House> Window<H> {
         see
     }
 
-    /// What a node shows to its owners and the teacher.
+    /// What a node shows to its owners and the teacher, and to others the clause that denies it; `Memory` where memory
+    /// was refused, and `Closed` where the writer is gone, or there is no reader's slot.
     #[tactic(auto, using(crate::proofs::ClimbingLemmas::climbs_on))]
     pub fn look(&mut self, alloc: Global, who: Who, node: u64) -> Result<Look, SightFault>
         ensures tells { AnswersView rulings.Looked H.lab self.old who (command.Look node) result
@@ -177,7 +186,8 @@ impl<H: House> Window<H> {
         look
     }
 
-    /// The report on the published configuration, for the teacher.
+    /// The report on the published configuration, for the teacher, and for others the clause that denies it; `Memory`
+    /// where memory was refused, and `Closed` where the writer is gone, or there is no reader's slot.
     #[tactic(auto, using(crate::proofs::ClimbingLemmas::climbs_on))]
     pub fn report(&mut self, alloc: Global, who: Who) -> Result<Report, SightFault>
         ensures tells { AnswersView (λ r. rulings.Reported) H.lab self.old who command.Report result
@@ -193,7 +203,7 @@ impl<H: House> Window<H> {
         report
     }
 
-    /// Looks until it sees a list whose world is this board's.
+    /// Looks until it sees a list whose world is the board that is published.
     #[tactic(auto, using(crate::proofs::ClimbingLemmas::climbs_on))]
     pub(crate) fn read_until_board<R: Wait>(&mut self, rt: &R, press: &Press<H>)
         ensures on { SeesOn H.lab self.old self.new }
@@ -203,21 +213,6 @@ impl<H: House> Window<H> {
         look_for(rt, press, &mut self.reader, |published| {
             published.board.is_same(board)
         });
-    }
-
-    /// Looks until it sees one event more, which is this one, and keeps the place.
-    #[tactic(auto, using(crate::proofs::ClimbingLemmas::climbs_count))]
-    fn read_until_event<R: Wait>(&mut self, rt: &R, press: &Press<H>, place: u64, event: &Event)
-        requires next { place ≡ length self.old.seen + 1 }
-        requires room { place ≤ H.lab.events }
-        ensures { self.new
-            ≡ window_with (self.old.seen ++ event.now ∷ []) (self.old.places ++ place ∷ [])
-            self.old.refused }
-    {
-        look_for(rt, press, &mut self.reader, |published| {
-            published.ends_in(place, event)
-        });
-        self.places.push_reserved(place);
     }
 
     /// Looks until it sees all that is published.
@@ -241,7 +236,8 @@ impl<H: House> Window<H> {
         self.places.len() as u64
     }
 
-    /// Whether this is its place at the cursor.
+    /// Whether the window's place at the cursor, before which all are counted off, is `place`; `false` too where there
+    /// is none at the cursor.
     pub(crate) fn is_next(&self, cursor: usize, place: u64) -> bool
         ensures next { IsTrue result → (drop cursor self.now.places
             ≡ place ∷ drop (cursor + 1) self.now.places) × (cursor < MAX_EVENTS) }

@@ -1,0 +1,7 @@
+-- A read that was interrupted took nothing, and the buffer is as long as it was.
+use Rattle.std.proofs.Common.{◌≡◌, length}
+use Rattle.std.specs.Io.KnownBytes.{Keeps}
+use Rattle.mml_ends.proofs.retrying.RetryingRead.read.Given as goal
+
+abbrev pub invariant-loop : goal.invariant-loop
+invariant-loop g l = (length l.buf ≡ length l.initial.buf) × (l.self.lacked_memory ≡ l.initial.self.lacked_memory) × Keeps (g.R.Read.remaining l.initial.self.inner) (g.R.Read.remaining l.self.inner)

@@ -1,0 +1,45 @@
+use Rattle.std.proofs.Common.{rules, ◌≡◌, ◌+◌, ◌++◌, ◌∷◌, [], List, length, ap, ◌∙◌, arith, subst, sym, None, take, ◌-◌}
+use mathlib.Core.List.{IsPrefix}
+use Rattle.mml_board.specs.declared.event.Event.{Event}
+use Rattle.mml_board.specs.Lists.{is_legal_in}
+use Rattle.mml_window.specs.Windows.{window, window_with}
+use Rattle.mml_window.specs.inside.Keeping.{Keeps}
+use Rattle.mml_window.specs.inside.Readers.{view_by}
+use Rattle.mml_window.proofs.ClimbingLemmas.{climbs_push}
+use Rattle.mml_window.proofs.PrefixLemmas.{before_last, one_more}
+use Rattle.mml_window.proofs.window.Window.keep.Goals as goal
+
+pub invariant_of-self-in-Some : goal.invariant_of-self-in-Some
+invariant_of-self-in-Some g c =
+    let x = c.look_for.ensures.0 in
+    let saw = c.look_for.ensures.2 in
+    let was = c.self.invariant.0 in
+    let seen : (view_by c.look_for.new.reader).seen ≡ x.events.items = ap (λ v. v.seen) saw.view in
+    let count : length x.events.items ≡ c.in-Granted.place = search rules in
+    let more : c.in-Granted.place ≡ length (view_by c.self.inside.reader).seen + 1 = search rules in (
+      record {
+        lawful = was.lawful;
+        legal = ap (is_legal_in g.H.House.lab) seen ∙ saw.published.legal;
+        few = omega (arith, ap length seen, saw.published.few);
+        climbs = rw (c.push_reserved.ensures.items, seen, count)
+            (climbs_push 0 c.self.inside.places.items (length (view_by c.self.inside.reader).seen) c.in-Granted.place (omega (arith, more)) was.climbs);
+      },
+      search rules,
+      search rules,
+    )
+
+pub returns-in-Some : goal.returns-in-Some
+returns-in-Some g c =
+    let x = c.look_for.ensures.0 in
+    let saw = c.look_for.ensures.2 in
+    let e = c.in-Some.event.now in
+    let ends : (front : List Event) × (x.events.items ≡ front ++ e ∷ []) = search rules in
+    let begins = subst (λ l. IsPrefix l x.events.items) (ap (λ w. w.seen) c.self.view_is) saw.begins in
+    let next : x.events.items ≡ c.args.self.now.seen ++ e ∷ [] = one_more _ _ ends.0 e begins (search rules) ends.1 in
+    let seen : (view_by c.look_for.new.reader).seen ≡ c.args.self.now.seen ++ e ∷ [] = ap (λ v. v.seen) saw.view ∙ next in
+    let places : c.push_reserved.new.self.items ≡ c.args.self.now.places ++ c.in-Granted.place ∷ [] = search rules in
+    let all : c.deref.result.now ≡ c.args.press.now.desk.shown.value.events.items = search rules in
+    let final = before_last c.deref.result.now e c.in-Some.ensures.item.3.0 (search rules) in
+    subst (λ a. Keeps c.args.press.now.desk.shown.value.events.items c.args.self.now a
+    (window_with (view_by c.look_for.new.reader).seen c.push_reserved.new.self.items None))
+    (sym c.in-Granted.is) (take (length c.deref.result.now - 1) c.deref.result.now, e, sym all ∙ final, λ t. window (seen t) (places t))
