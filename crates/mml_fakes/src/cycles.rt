@@ -6,7 +6,8 @@ const PEOPLE: &str = r#"teacher = { name = "tess", key = "chalk" }
 student = [{ name = "ana", key = "a-key" }, { name = "ben", key = "b-key" }]
 "#;
 
-/// Nodes from 1 on in a cycle, the first half of ana, the others of ben; the teacher is tess.
+/// The lab file of a cycle of `nodes` nodes (three or more), from 1 on, for so many events and connections. The first
+/// half, rounded down, is of ana, the others of ben; the teacher is tess. An error is want of memory.
 pub fn cycle(alloc: Global, nodes: u64, events: u64, sessions: u64) -> Result<String, AllocError> {
     let mut text = String::from_str(alloc, PEOPLE)?;
     write!(text, "events = {events}\nsessions = {sessions}\n")?;

@@ -2,7 +2,7 @@
 use std::io;
 use std::io::{ErrorKind, Read};
 
-/// Gives at most `step` bytes in a read, and after `good` reads an error of a kind.
+/// Gives at most `step` bytes in a read, and after `good` reads an error of `kind`.
 #[derive(Drop)]
 pub struct FakeReader<'a> {
     /// What was not read yet.
@@ -16,7 +16,7 @@ pub struct FakeReader<'a> {
 }
 
 impl<'a> FakeReader<'a> {
-    /// Gives one byte in a read, and fails after `good` reads.
+    /// A reader that gives one byte of `rest` in each of `good` reads, 0 bytes at its end, and then fails as `Other`.
     pub fn failing_after(good: usize, rest: &'a [u8]) -> FakeReader<'a> {
         FakeReader {
             rest,
@@ -29,6 +29,7 @@ impl<'a> FakeReader<'a> {
 }
 
 impl<'a> Read for FakeReader<'a> {
+    // Counts the read, and gives at most `step` bytes; an error of `kind` where no good read is left.
     fn read(&mut self, buf: &mut [u8]) -> io::Result<usize> {
         self.reads = self.reads.saturating_add(1);
         if self.good == 0 {
@@ -40,7 +41,7 @@ impl<'a> Read for FakeReader<'a> {
     }
 }
 
-/// Gives the first part in one read, and then the second in reads of at most `step` bytes.
+/// Gives the first part, in one read where there is room, and then the second in reads of at most `step` bytes.
 #[derive(Drop)]
 pub struct Parts<'a> {
     pub first: &'a [u8],
@@ -49,6 +50,7 @@ pub struct Parts<'a> {
 }
 
 impl<'a> Read for Parts<'a> {
+    // Gives what fits of the first part, until that is empty; then at most `step` bytes of the second, 0 at its end.
     fn read(&mut self, buf: &mut [u8]) -> io::Result<usize> {
         if self.first.is_empty() {
             let len = self.step.min(buf.len());

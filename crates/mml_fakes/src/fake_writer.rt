@@ -12,8 +12,7 @@ pub enum Refusal {
     TakesNothing,
 }
 
-/// Takes at most `step` bytes in a write, and refuses after `good` writes. A flush fails after
-/// `good_flushes`.
+/// Takes at most `step` bytes in each of `good` writes, and then refuses; a flush fails after `good_flushes` flushes.
 #[derive(Drop)]
 pub struct FakeWriter {
     pub taken: Vec<u8>,
@@ -26,12 +25,12 @@ pub struct FakeWriter {
 }
 
 impl FakeWriter {
-    /// Takes all that it is given.
+    /// A writer that takes all that it is given, and whose flushes are good.
     pub fn patient(alloc: Global) -> FakeWriter {
         FakeWriter::failing_after(usize::MAX, alloc)
     }
 
-    /// Takes each of so many writes whole, and then fails.
+    /// A writer that takes each of `good` writes whole, and then fails as `Other`; its flushes are good.
     pub fn failing_after(good: usize, alloc: Global) -> FakeWriter {
         FakeWriter {
             taken: Vec::new(alloc),
@@ -44,6 +43,7 @@ impl FakeWriter {
 }
 
 impl Write for FakeWriter {
+    // Takes at most `step` bytes and answers how many; where no good write is left, 0 or an error, as `refusal` says.
     fn write(&mut self, buf: &[u8]) -> io::Result<usize> {
         if self.good == 0 {
             return match self.refusal {
@@ -57,6 +57,7 @@ impl Write for FakeWriter {
         Ok(len)
     }
 
+    // Fails where no good flush is left: with the refusal's error, or as `Other` where that says that nothing is taken.
     fn flush(&mut self) -> io::Result<()> {
         if self.good_flushes == 0 {
             return match self.refusal {

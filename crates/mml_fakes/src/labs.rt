@@ -4,13 +4,14 @@ use mml_lab::{Lab, read_lab};
 use std::alloc::{AllocError, Global};
 use std::test::Fail;
 
-/// The lab of a document. It is in a box since each way out of a function that holds a lab drops all of
-/// its parts, which is what the proof of a test then costs.
+/// The lab that a document spells, in a box, so that a way out of what holds it drops one thing, which keeps a test's
+/// proof short. An error where it spells none, or memory lacks.
 pub fn boxed_lab(alloc: Global, document: &str) -> Result<Box<Lab>, Fail> {
     Ok(Box::new(alloc, read_lab(alloc, document.as_bytes())?)?)
 }
 
-/// The board at the beginning of a run, in a box, so that a way out of what holds it drops one thing.
+/// The board of a lab at the beginning of a run, in a box, so that a way out of what holds it drops one thing. An error
+/// is want of memory.
 pub fn boxed_board(alloc: Global, lab: &Lab) -> Result<Box<Board>, Fail> {
     Ok(Box::new(alloc, Board::new(alloc, lab)?)?)
 }
@@ -59,8 +60,8 @@ pub const FAR_APART: &str = lab!(
     [(7, "ana", ""), (65535, "ana", "")]
 );
 
-/// The largest lab: 256 nodes with the greatest identifiers, each linked to each other one and of
-/// two students, as many students with the longest names and keys, and the greatest limits of a run.
+/// The file of the largest lab: 256 nodes with the greatest identifiers, each linked to each other one and of two
+/// students, 256 students with names and keys as long as may be, and the greatest limits. An error is want of memory.
 pub fn greatest(alloc: Global) -> Result<String, AllocError> {
     let mut text = String::from_str(alloc, "events = 100000\nsessions = 16\nlinks = [\n")?;
     for a in 65280..65536u64 {

@@ -65,7 +65,7 @@ macro_rules! lines {
     ($($line:tt)*) => { $crate::lines!(@ ["\n"], $($line)*) };
 }
 
-/// One line of these, without its end.
+/// The text of one line by its word in `lines!`, without its end.
 #[macro_export]
 macro_rules! line {
     ($($word:tt)*) => { $crate::lines!(@ [""], $($word)*) };

@@ -5,7 +5,7 @@ use std::thread;
 /// How often one looks before it gives up.
 const TURNS: u64 = 10_000_000;
 
-/// Waits until the count has come so far, and tells whether it has.
+/// Waits until the count, which other threads raise, is at least `wanted`; `false` where it isn't after `TURNS` looks.
 pub fn wait_for(count: &AtomicU64, wanted: u64) -> bool {
     for _ in 0..TURNS {
         if count.load(Ordering::SeqCst) >= wanted {

@@ -1,7 +1,7 @@
 //! Scripts that several tests speak of, with their replies.
 use crate::lines;
 
-/// The first lines of a text, so many.
+/// The first `count` lines of a text, each with its newline; the whole text where it has fewer newlines than that.
 pub fn first_lines(text: &str, count: u64) -> &str {
     let mut rest = text;
     for _ in 0..count {
@@ -13,7 +13,7 @@ pub fn first_lines(text: &str, count: u64) -> &str {
     text.strip_suffix(rest).unwrap_or(text)
 }
 
-/// How many lines end in a text.
+/// How many lines of a text have their end, which is a newline.
 pub fn ended_lines(text: &[u8]) -> usize {
     text.iter().filter(|byte| **byte == b'\n').count()
 }

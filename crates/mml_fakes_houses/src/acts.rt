@@ -8,12 +8,12 @@ use mml_lab::{Student, Who};
 use mml_policy::{Asked, Command};
 use mml_window::Answer;
 
-/// The student at that place of the file.
-pub fn student(place: u16) -> Who {
-    Who::Student(Student::new(place))
+/// The student with this index, from 0 on in the order of the lab file, as one who asks.
+pub fn student(index: u16) -> Who {
+    Who::Student(Student::new(index))
 }
 
-/// A move of a node by Seduction, asked for in the configuration with this number.
+/// The command of a move by Seduction, of the node with this identifier, in the configuration with the number `at`.
 pub fn seduction(node: u64, at: u64) -> Command
     ensures { is_act result ≡ true }
 {
@@ -24,7 +24,8 @@ pub fn seduction(node: u64, at: u64) -> Command
     }
 }
 
-/// Whether an answer grants the first close as the second event, which applies the move of node 1 alone.
+/// Whether an answer grants a close as the second event, to configuration 1, that applies the move of the first node
+/// alone (rank 0, over the path of three node 1).
 pub fn is_first_close(answer: &Answer) -> bool {
     match answer {
         Answer::Granted {

@@ -9,14 +9,15 @@ use mml_policy::{Asked, Command};
 /// How many acts there are.
 pub const ACTS: u64 = 10;
 
-/// A move of a node by this rule, asked for in the configuration with this number.
+/// The command of a move by this rule, of the node with this identifier, in the configuration with the number `at`.
 fn play(node: u64, rule: Asked, at: u64) -> Command
     ensures { is_act result ≡ true }
 {
     Command::Move { node, rule, at }
 }
 
-/// The act that is granted at this place, whose lines are `scripts::TEN_LINES`.
+/// The act that is granted as the event with this place, from 1; the journal of all ten is `scripts::TEN_LINES`. A
+/// close where there is no such event.
 pub fn act(place: u64) -> Command
     ensures { is_act result ≡ true }
 {
@@ -31,7 +32,7 @@ pub fn act(place: u64) -> Command
     }
 }
 
-/// Who asks for the act at this place.
+/// Who asks for the act that is granted as the event with this place, from 1; the teacher where there is none.
 pub fn asker(place: u64) -> Who {
     match place {
         1 | 9 => student(0),
@@ -41,7 +42,7 @@ pub fn asker(place: u64) -> Who {
     }
 }
 
-/// The number of the configuration in which the act at this place is asked for.
+/// The number of the configuration before the event with this place, from 1; past the tenth the last one's, 4.
 pub fn number_before(place: u64) -> u64 {
     match place {
         0..=3 => 0,

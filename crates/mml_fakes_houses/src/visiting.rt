@@ -13,7 +13,8 @@ use std::alloc::Global;
 use std::sync::Wait;
 use std::test::Fail;
 
-/// A house over the path of three, whose sink fails from that put on.
+/// A house over the path of three, not started yet, whose sink fails from the put with the number `fail_at` on, counted
+/// from 1, or never (`None`). An error is want of memory.
 pub fn open_path<R: Wait>(
     rt: &R,
     alloc: Global,
@@ -29,11 +30,12 @@ pub trait Visit<S: Sink> {
     /// What the visit tells.
     type Told: Drop;
 
-    /// Makes the visit at these seats.
+    /// Makes the visit at these two seats of one house, and gives what it tells.
     fn visit<H: House, R: Wait>(self, seats: &mut Pair<'_, S, H, R>) -> Self::Told;
 }
 
-/// Visits a house through two of these windows, which come back; tells nothing where there were fewer.
+/// Visits a house through the last two of these windows, puts them back, and gives what the visit tells. `None` where
+/// there were fewer windows, of which none is left then, or where memory lacked to put one back.
 pub fn visit_windows<V: Visit<S> + Drop, S: Sink + Drop, H: House, R: Wait>(
     rt: &R,
     alloc: Global,
@@ -50,10 +52,12 @@ pub fn visit_windows<V: Visit<S> + Drop, S: Sink + Drop, H: House, R: Wait>(
     (give_back(windows, two) && is_back).then_some(told)
 }
 
-/// What is told of a visit, if there were windows for it, and how the house ended.
+/// What a visit told, or `None` where there were no two windows for it, or memory lacked to put one back; and how the
+/// house ended: its log, or `Astray` where a window with granted events was missing then.
 pub type Visited<T, S> = (Option<T>, Result<Log<S>, Astray>);
 
-/// Visits a house that was just opened, and ends it.
+/// Starts a house that was opened, visits it through two of its windows, and ends it: what the visit told, and how the
+/// house ended. An error is want of memory at the start.
 pub fn visit_house<V: Visit<S> + Drop, S: Sink + Drop, H: House, R: Wait>(
     rt: &R,
     alloc: Global,
@@ -67,7 +71,8 @@ pub fn visit_house<V: Visit<S> + Drop, S: Sink + Drop, H: House, R: Wait>(
     Ok((told, desk.finish(rt, windows)))
 }
 
-/// Visits a house over the lab that a file spells.
+/// Opens a house over the lab that a file spells, visits it, and ends it: what the visit told, and how the house ended.
+/// An error where the file spells no lab, or memory lacks before the visit.
 pub fn visit_lab<V: Visit<S> + Drop, S: Sink + Drop, R: Wait>(
     rt: &R,
     alloc: Global,
@@ -83,7 +88,8 @@ pub fn visit_lab<V: Visit<S> + Drop, S: Sink + Drop, R: Wait>(
     visit_house::<_, _, Brand, _>(rt, alloc, blank, visit)
 }
 
-/// Visits a house over the path of three.
+/// Opens a house over the path of three, visits it, and ends it: what the visit told, and how the house ended. An error
+/// is want of memory before the visit.
 pub fn visit_path<V: Visit<S> + Drop, S: Sink + Drop, R: Wait>(
     rt: &R,
     alloc: Global,

@@ -2,30 +2,32 @@
 #![tactic(auto)]
 
 use mml_host_program::is_of_class;
-use mml_program::begin;
+use mml_program::begin_program;
 use std::fmt::Display;
 use std::process::ExitCode;
 
+// Serves a class, or judges what one left, as the first of the words asks for, and gives the exit status: 0, or that of
+// the error, whose line is printed.
 fn main(rt: HostRuntime) -> ExitCode {
-    let words = match begin(&rt) {
+    let words = match begin_program(&rt) {
         Ok(words) => words,
-        Err(fault) => return failed(&rt, &fault, fault.status()),
+        Err(fault) => return print_error(&rt, &fault, fault.status()),
     };
     if is_of_class(words.as_slice()) {
         match mml_host_program::run(&rt, words.as_slice()) {
             Ok(()) => ExitCode::SUCCESS,
-            Err(fault) => failed(&rt, &fault, fault.status()),
+            Err(fault) => print_error(&rt, &fault, fault.status()),
         }
     } else {
         match mml_judging_program::run(&rt, words.as_slice()) {
             Ok(()) => ExitCode::SUCCESS,
-            Err(fault) => failed(&rt, &fault, fault.status()),
+            Err(fault) => print_error(&rt, &fault, fault.status()),
         }
     }
 }
 
-// Tells an error's line, and ends with its status.
-fn failed<R: Eprint, E: Display>(rt: &R, fault: &E, status: u8) -> ExitCode {
+// Prints an error's line on standard error, and gives the exit status that goes with it.
+fn print_error<R: Eprint, E: Display>(rt: &R, fault: &E, status: u8) -> ExitCode {
     let _ = eprintln!(rt; "{fault}");
     ExitCode::from(status)
 }

@@ -10,7 +10,7 @@ use Rattle.mml_program.specs.declared.fault.Fault.TheVariants as program
 use Rattle.mml_host_program.specs.declared.fault.Fault.{Fault}
 use Rattle.mml_host_program.specs.declared.fault.Fault.TheVariants as fault
 
--- a halted journal is told as one whose file can't be made
+-- what an error of serving is told as: a halted journal is told as one whose file can't be made
 abbrev pub of_hosting : HostFault → Fault
 of_hosting hosting.Memory = fault.Common program.Memory
 of_hosting hosting.Place = fault.Place
@@ -19,11 +19,12 @@ of_hosting hosting.Astray = fault.Astray
 of_hosting hosting.Halted = fault.Common program.Journal
 of_hosting hosting.Write = fault.Common program.Write
 
+-- what an error of a record's folder, or of a file in it, is told as
 abbrev pub of_record : FileFault → Fault
 of_record file.Refused = fault.Unrecorded
 of_record file.Memory = fault.Common program.Memory
 
--- a file that can't be cut is told as one that can't be made; which words the audit has is tested
+-- the error of going on is told as this: a file that can't be cut as one that can't be made; which words the audit has is tested
 abbrev pub IsToldAs : ResumeFault → Fault → Type 0
 IsToldAs (resuming.Refused why) told = Unit {0}
 IsToldAs resuming.Memory told = told ≡ fault.Common program.Memory

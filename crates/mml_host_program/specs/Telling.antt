@@ -10,6 +10,7 @@ use Rattle.mml_audit.specs.AuditMeaning.{IsJournalOf}
 use Rattle.mml_serving.specs.Closings.{Closes, done_line}
 use Rattle.mml_resuming.specs.Resuming.{whole_of, resumed_line}
 
+-- the first line of a class, which names its ports
 abbrev pub ports_line : ℕ → ℕ → List ℕ
 ports_line port desk = concat (codes "listening on port " ∷ decimal port ∷ codes ", desk on port " ∷ decimal desk ∷ codes "\n" ∷ [])
 

@@ -20,7 +20,8 @@ use std::net::{Net, TcpListener, TcpStream};
 use std::sync::Wait;
 
 impl<C: Recorder + Send + Drop> Ready<C> {
-    /// From its beginning: the first line, the connections, and the last line.
+    /// Serves a class from its beginning: writes the first line, serves the connections, and writes the last line. The
+    /// error is why the class doesn't begin, or doesn't end well.
     pub(crate) fn begin<
         R: System + Net<Listener = TcpListener, Stream = TcpStream> + Sync,
         S: Sink + Send + Drop,
@@ -36,7 +37,8 @@ impl<C: Recorder + Send + Drop> Ready<C> {
         self.serve_with_state(rt, sink, writer)
     }
 
-    // The connections, and the last line.
+    // Serves the connections with a new state, and writes the last line. Where a session lacked memory, that is the
+    // error after the last line.
     fn serve_with_state<
         R: System + Net<Listener = TcpListener, Stream = TcpStream> + Sync,
         S: Sink + Send + Drop,
@@ -52,7 +54,8 @@ impl<C: Recorder + Send + Drop> Ready<C> {
         told_memory(rt, &state)
     }
 
-    // The same, but for want of memory in a session.
+    // Serves the connections with this state until the class is over, and writes the last line. That a session lacked
+    // memory is noted in the state, and no error here.
     fn serve_to_the_end<
         R: System + Net<Listener = TcpListener, Stream = TcpStream> + Sync,
         S: Sink + Send + Drop,
@@ -96,7 +99,7 @@ fn end_of_class<S: Drop, K: Drop, C: Drop>(
     }
 }
 
-/// Whether a session was without memory.
+/// The host's error where a session was without memory, and else none.
 pub(crate) fn told_memory<R: Wait>(rt: &R, state: &HostState) -> Result<(), Fault> {
     if state.lacked_memory(rt) {
         Err(Fault::Common(ProgramFault::Memory))
@@ -105,12 +108,12 @@ pub(crate) fn told_memory<R: Wait>(rt: &R, state: &HostState) -> Result<(), Faul
     }
 }
 
-/// Lets go of what is left of a house.
+/// Drops what is left of a house whose class has ended.
 pub(crate) fn let_go<S: Drop, K: Drop, C: Drop>(house: Hosted<S, K, C>) {
     drop(house);
 }
 
-/// Writes the first line, which names the ports.
+/// Writes the first line of a class, which names its ports.
 pub fn write_listening<W: Write>(
     alloc: Global,
     port: u16,

@@ -43,7 +43,7 @@ pub(crate) struct Class<'a> {
     pub journal: Journal<'a>,
 }
 
-/// What its ports are served with, whatever its journal is.
+/// What the ports of a class are served with, whatever its journal is.
 #[derive(Drop)]
 pub(crate) struct Ready<C: Drop> {
     pub lab: Lab,
@@ -56,7 +56,7 @@ pub(crate) fn serve_class<
     R: System + Files<File = File> + Net<Listener = TcpListener, Stream = TcpStream> + Sync,
 >(rt: &R, class: Class<'_>, folder: Option<RecordFolder>) -> Result<(), Fault> {
     match folder {
-        Some(folder) => serve_recorded(rt, class, folder),
+        Some(folder) => serve_in_folder(rt, class, folder),
         None => serve_unrecorded(rt, class),
     }
 }
@@ -69,8 +69,8 @@ fn serve_unrecorded<
     serve_ports(rt, class, recorders)
 }
 
-// Serves a class, and records it in a folder.
-fn serve_recorded<
+// Serves a class, and records it in a folder. Where something couldn't be recorded, that is the error at the end.
+fn serve_in_folder<
     R: System + Files<File = File> + Net<Listener = TcpListener, Stream = TcpStream> + Sync,
 >(rt: &R, class: Class<'_>, folder: RecordFolder) -> Result<(), Fault> {
     let state = RecordState::new(rt.alloc(), &class.lab).map_err(of_record)?;
@@ -78,7 +78,7 @@ fn serve_recorded<
     told_whole(&state)
 }
 
-// Serves a class, and records each seat.
+// Opens the file of each seat in the folder, and serves a class that is recorded there.
 fn serve_seats<
     R: System + Files<File = File> + Net<Listener = TcpListener, Stream = TcpStream> + Sync,
 >(rt: &R, class: Class<'_>, folder: RecordFolder, state: &RecordState) -> Result<(), Fault> {
@@ -87,7 +87,7 @@ fn serve_seats<
     serve_synced(rt, class, recorders, files.as_slice(), state)
 }
 
-// Serves a class, while its record is synced by a thread of its own.
+// Serves a class, while its record is synced by a thread of its own; once, at the end, where none can be started.
 fn serve_synced<
     R: System + Files<File = File> + Net<Listener = TcpListener, Stream = TcpStream> + Sync,
     C: Recorder + Send + Drop,
@@ -117,7 +117,7 @@ fn serve_synced<
     )
 }
 
-// Whether all that was put in a record has reached the device.
+// The host's error where a put in a record or a sync of its files has failed, and else none.
 fn told_whole(state: &RecordState) -> Result<(), Fault> {
     if state.has_failed() {
         Err(Fault::Unrecorded)
@@ -126,7 +126,7 @@ fn told_whole(state: &RecordState) -> Result<(), Fault> {
     }
 }
 
-// Serves a class at its ports.
+// Serves a class at its ports, and prints its lines. Want of memory at a write is told as such.
 fn serve_ports<
     R: System + Files<File = File> + Net<Listener = TcpListener, Stream = TcpStream> + Sync,
     C: Recorder + Send + Drop,
@@ -140,7 +140,8 @@ fn serve_ports<
     }
 }
 
-// The same, with the journal that it has.
+// Serves a class at its ports, with the sink of its journal: none, a file that is synced, or one that can't be; or
+// goes on in an old one.
 fn serve_journaled<
     R: System + Files<File = File> + Net<Listener = TcpListener, Stream = TcpStream> + Sync,
     C: Recorder + Send + Drop,

@@ -44,7 +44,9 @@ pub enum Fault {
 }
 
 impl Fault {
-    /// The exit status that goes with the error, as of `mml_server`.
+    /// The exit status that goes with the error: 2 where the lab is another, 4 where ports, places or the record
+    /// failed, 5 where a reader's place, files or threads are lacking; of an error that `mml_server` has too, the same
+    /// as there.
     pub fn status(&self) -> u8 {
         match self {
             Fault::Common(fault) => fault.status(),
@@ -60,12 +62,14 @@ impl From<ProgramFault> for Fault {
 
     ghost from_gives = { λ fault e. e ≡ Common fault };
 
+    // Tells an error that `mml_server` has too in the same words.
     fn from(fault: ProgramFault) -> Fault {
         Fault::Common(fault)
     }
 }
 
 impl From<ListenFault> for Fault {
+    // Tells why a port can't be listened on: want of memory as such, and else that it can't.
     fn from(fault: ListenFault) -> Fault {
         match fault {
             ListenFault::Refused => Fault::Listen,
@@ -74,14 +78,14 @@ impl From<ListenFault> for Fault {
     }
 }
 
-/// What is told where the journal's file can't be had.
+/// The host's error where a journal's file can't be had.
 pub(crate) fn of_journal(fault: FileFault) -> Fault
     ensures { result ≡ Fault.Common (of_journal_file fault) }
 {
     Fault::Common(ProgramFault::from(fault))
 }
 
-/// What is told where the record's folder can't be had.
+/// The host's error where a record's folder, or a file in it, can't be had.
 pub(crate) fn of_record(fault: FileFault) -> Fault
     ensures { result ≡ of_record fault }
 {
@@ -92,6 +96,7 @@ pub(crate) fn of_record(fault: FileFault) -> Fault
 }
 
 impl From<Memory> for Fault {
+    // Tells want of memory as `mml_server` does.
     fn from(_memory: Memory) -> Fault
         ensures { result ≡ Fault.Common ProgramFault.Memory }
     {
@@ -104,6 +109,8 @@ impl From<ResumeFault> for Fault {
 
     ghost from_gives = { IsToldAs };
 
+    // Tells why a class doesn't go on: why its journal doesn't pass the audit, want of memory, a journal that can't be
+    // cut as a journal fault, or the error of its host.
     fn from(fault: ResumeFault) -> Fault {
         match fault {
             ResumeFault::Refused(why) => Fault::Common(ProgramFault::from(why)),
@@ -119,6 +126,7 @@ impl From<HostFault> for Fault {
 
     ghost from_gives = { λ fault e. e ≡ of_hosting fault };
 
+    // Tells an error of the house: a halted journal as a journal fault, and each other as that of its cause.
     fn from(fault: HostFault) -> Fault {
         match fault {
             HostFault::Memory => Fault::Common(ProgramFault::Memory),

@@ -16,7 +16,8 @@ const FILES: usize = 7;
 // How many threads there are more at least: the students' port's own, and one for a connection at each.
 const THREADS: usize = 3;
 
-/// Tries whether so many files may be open, and so many threads may be started. All are given back.
+/// Tries whether the files that a class needs at least may be open at once, and then whether its threads may be there
+/// at once; the error says which may not, or that memory is lacking. All are given back.
 pub fn look_at_limits<R: Files<File = File> + Threads + Wait + Sync>(
     rt: &R,
     alloc: Global,
@@ -43,7 +44,7 @@ pub fn look_at_limits<R: Files<File = File> + Threads + Wait + Sync>(
     }
 }
 
-// Whether so many threads may be there at once: none ends before the last is started.
+// Whether `THREADS` threads may be there at once: none ends before the last is started.
 fn has_threads<R: Threads + Wait + Sync>(rt: &R) -> bool {
     let door = Mutex::new(());
     thread::scope(thread::scope_env(), rt, |scope| -> bool {

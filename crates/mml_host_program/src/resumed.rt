@@ -19,7 +19,8 @@ use std::net::{Net, TcpListener, TcpStream};
 use std::rt::Files;
 
 impl<C: Recorder + Send + Drop> Ready<C> {
-    /// From where its journal stopped: the first lines, the connections, and the last line.
+    /// Serves a class from where its journal stopped: writes the first two lines, serves the connections, and writes
+    /// the last line. The error is why the class doesn't go on, or doesn't end well.
     pub(crate) fn go_on<
         R: System + Files<File = File> + Net<Listener = TcpListener, Stream = TcpStream> + Sync,
         W: Write,
@@ -41,7 +42,8 @@ impl<C: Recorder + Send + Drop> Ready<C> {
         self.go_on_after(rt, bytes, store, first.as_slice(), &state, writer)
     }
 
-    // The same, with the first line, which is told together with the next.
+    // Serves a class whose journal has the bytes `old`, which `store` cuts to their whole lines. The line `first`, of
+    // the ports, is written together with the next, which tells where the old journal leads.
     #[tactic(auto, using(crate::proofs::TellingLemmas::told_resumed))]
     fn go_on_after<
         R: System + Net<Listener = TcpListener, Stream = TcpStream> + Sync,
@@ -84,7 +86,7 @@ impl<C: Recorder + Send + Drop> Ready<C> {
     }
 }
 
-// The first line, which names the ports.
+// The first line of a class, which names its ports.
 fn first_line(alloc: Global, ports: &Ports) -> Result<Vec<u8>, ProgramFault>
     ensures { IfOk result (λ line. line.items ≡ ports_line ports.now.port ports.now.desk) }
 {
@@ -93,7 +95,8 @@ fn first_line(alloc: Global, ports: &Ports) -> Result<Vec<u8>, ProgramFault>
     Ok(line)
 }
 
-// What a class that doesn't go on is told as: a journal that couldn't be cut for want of memory is that.
+// The host's error where a class doesn't go on: want of memory where, by `lacked`, that is why the journal couldn't be
+// cut, and else that of the fault.
 fn told_as(fault: ResumeFault, lacked: bool) -> Fault {
     match fault {
         ResumeFault::Store if lacked => Fault::Common(ProgramFault::Memory),

@@ -3,7 +3,7 @@ ghost use Rattle.std.specs.Prelude.{MatchOption};
 ghost use Rattle.mml_host_program.specs.Words.{Names, NamesNone};
 
 use clap::{ArgMatches, Command};
-use mml_program::{Fault as ProgramFault, command_of, match_words, with_optional};
+use mml_program::{Fault as ProgramFault, match_words, subcommand_of, with_optional};
 use mml_serving::read_port as read_some_port;
 use std::alloc::{AllocError, Global};
 
@@ -27,7 +27,8 @@ pub struct HostTask<'a> {
     pub record: Option<&'a str>,
 }
 
-/// The same, where the journal has what was granted before.
+/// A lab's class that goes on at two ports: the journal has what was granted before, and takes what is granted
+/// from now on.
 #[derive(Clone, Copy, Debug, PartialEq, Eq, Drop)]
 pub struct ResumeTask<'a> {
     pub lab: &'a str,
@@ -45,32 +46,38 @@ pub fn is_of_class(words: &[String]) -> bool {
     }
 }
 
-/// Reads the words, of which the first is the program's name.
+/// What the words ask for, of which the first is the program's name; the error is that they ask for no class, or want
+/// of memory.
 pub fn read_words<'a>(alloc: Global, words: &'a [String]) -> Result<Task<'a>, ProgramFault> {
-    let matches = match_words(whole(alloc)?, words)?;
+    let matches = match_words(command_line(alloc)?, words)?;
     match matches.subcommand() {
         None => Err(ProgramFault::CommandLine),
         Some((name, values)) => task_of(name, values).ok_or(ProgramFault::CommandLine),
     }
 }
 
-fn whole<'a>(alloc: Global) -> Result<Command<'a>, AllocError> {
-    let whole = command_of(alloc, "mml_host", &[])?;
+// The whole command line of the words that serve a class, with both subcommands.
+fn command_line<'a>(alloc: Global) -> Result<Command<'a>, AllocError> {
+    let whole = subcommand_of(alloc, "mml_host", &[])?;
     let whole = whole.subcommand(host_words(alloc)?)?;
     whole.subcommand(resume_words(alloc)?)
 }
 
+// The subcommand `host`, with its values.
 fn host_words<'a>(alloc: Global) -> Result<Command<'a>, AllocError> {
-    let command = command_of(alloc, "host", &["lab", "port", "desk"])?;
+    let command = subcommand_of(alloc, "host", &["lab", "port", "desk"])?;
     let command = with_optional(alloc, command, "journal")?;
     with_optional(alloc, command, "record")
 }
 
+// The subcommand `resume`, with its values.
 fn resume_words<'a>(alloc: Global) -> Result<Command<'a>, AllocError> {
     let places = ["lab", "port", "desk", "journal"];
-    with_optional(alloc, command_of(alloc, "resume", &places)?, "record")
+    with_optional(alloc, subcommand_of(alloc, "resume", &places)?, "record")
 }
 
+// What a subcommand of this name with these values asks for; none where a text names no port, a value is missing, or
+// the program has no such name.
 fn task_of<'a>(name: &str, values: &ArgMatches<'a>) -> Option<Task<'a>> {
     let lab = values.get_str("lab")?;
     let port = read_port(values.get_str("port")?)?;
@@ -96,8 +103,8 @@ fn task_of<'a>(name: &str, values: &ArgMatches<'a>) -> Option<Task<'a>> {
     }
 }
 
-/// The port that a text names, or 0 for one that the system chooses: a number in decimal, without sign
-/// or leading zero.
+/// The port that a text names, or 0 for one that the system chooses: a number up to 65535 in decimal, without sign or
+/// leading zero. None for any other text.
 pub fn read_port(text: &str) -> Option<u16>
     ensures { MatchOption result (NamesNone text.now) (Names text.now) }
 {

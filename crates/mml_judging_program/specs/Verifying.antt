@@ -3,6 +3,7 @@ use Rattle.std.specs.Prelude.{ℕ, if◌then◌else◌, List, [], ◌∷◌, cod
 use Rattle.std.specs.List.{concat}
 use Rattle.mml_tally.specs.declared.record_text.Findings.{Findings}
 
+-- the line that tells what a record that passed comes to, and how many events its journal has
 abbrev pub verified_line : Findings → ℕ → List ℕ
 verified_line found events =
     concat (codes "ok: " ∷ decimal found.sessions ∷ codes " sessions, " ∷ decimal found.lines ∷ codes " lines, " ∷ decimal events

@@ -21,7 +21,8 @@ pub enum Fault {
 }
 
 impl Fault {
-    /// The exit status that goes with the error, as of `mml_server`.
+    /// The exit status that goes with the error: 3 where the record is none, 4 where it can't be read; of an error that
+    /// `mml_server` has too, the same as there.
     pub fn status(&self) -> u8 {
         match self {
             Fault::Common(fault) => fault.status(),
@@ -36,12 +37,14 @@ impl From<ProgramFault> for Fault {
 
     ghost from_gives = { λ fault e. e ≡ Common fault };
 
+    // Tells an error that `mml_server` has too in the same words.
     fn from(fault: ProgramFault) -> Fault {
         Fault::Common(fault)
     }
 }
 
 impl From<Memory> for Fault {
+    // Tells want of memory as `mml_server` does.
     fn from(_memory: Memory) -> Fault
         ensures { result ≡ Fault.Common ProgramFault.Memory }
     {

@@ -5,7 +5,7 @@ use std::alloc::Global;
 /// What is amiss with the places that records grant.
 #[derive(Clone, Copy, Debug, PartialEq, Eq, Drop)]
 pub enum Misgranted {
-    /// The event at this place took place before the record began.
+    /// The event at this place took place before the record began; or there is no event at this place.
     Early(u64),
     /// The event at this place is granted again.
     Twice(u64),
@@ -13,8 +13,9 @@ pub enum Misgranted {
     Nowhere(u64),
 }
 
-/// The first of these places that is amiss. Each has to be one from begun + 1 to count, and none may stand
-/// there twice; where nothing is left out, each of those has to be there.
+/// What is first found amiss with the places that records grant, none where nothing is; the error is want of memory.
+/// Each of `places` has to be one from `begun` + 1 to `count`, and none may stand there twice; where the records are
+/// `whole`, each number from `begun` + 1 to `count` has to be there.
 pub fn find_misgranted(
     alloc: Global,
     places: &[u64],
@@ -45,6 +46,7 @@ pub fn find_misgranted(
     Ok(None)
 }
 
+// The first place behind `begun` that has no mark, which is granted nowhere then; none where each is marked.
 fn first_unmarked(marks: &[bool], begun: u64) -> Option<Misgranted> {
     for at in 0..marks.len() {
         let place = at as u64 + 1;

@@ -29,7 +29,8 @@ pub enum RecordRefusal {
 }
 
 impl RecordRefusal {
-    /// What the first bad entry of a seat is told as.
+    /// What the first bad entry of a seat is told as. Where it isn't the journal's event, its place is that of this
+    /// event, one behind the events at which it says that it was judged.
     pub fn of(seat: u8, bad: BadEntry) -> RecordRefusal {
         let BadEntry { line, place, .. } = bad;
         match bad.why {

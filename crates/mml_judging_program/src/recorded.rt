@@ -22,7 +22,8 @@ use std::io;
 use std::io::Write;
 use std::rt::Files;
 
-/// Prints the tally of a journal's file with what its record tells, which is verified first.
+/// Prints the tally of a journal's file with what its record tells, which is verified first. The error is why lab,
+/// journal or record doesn't pass, or can't be read, or that a write failed, or want of memory.
 pub fn tally_recorded<R: Files<File = File> + Print + AllocGlobal>(
     rt: &R,
     task: VerifyTask<'_>,
@@ -49,14 +50,15 @@ pub fn tally_recorded<R: Files<File = File> + Print + AllocGlobal>(
     }
 }
 
-// The events of the journal, which is one of the lab, and the board to which they lead.
+// Audits the text of a journal of the lab: its events, and the board to which they lead; the error is the audit's.
 fn audited_of(alloc: Global, lab: &Lab, text: &[u8]) -> Result<Audited, ProgramFault>
     ensures { IfOk result (λ audited. is_legal_in lab.now audited.events.items ≡ true) }
 {
     Ok(audit_events(alloc, lab, text)?)
 }
 
-// What the records of all seats come to; what their lines asked goes behind.
+// What the records of all seats in the folder come to together; what their lines asked goes behind `asks`. The error is
+// why one is none, or can't be read, or what is amiss with the places that they grant, or want of memory.
 fn read_seats<R: Files<File = File> + AllocGlobal>(
     rt: &R,
     lab: &Lab,
@@ -84,7 +86,8 @@ fn read_seats<R: Files<File = File> + AllocGlobal>(
     )
 }
 
-// What the record of a seat comes to; what its lines asked goes behind where it is one.
+// What a text comes to as the record of a seat, or why it is none; the places that a record grants go behind
+// `granted`, what its lines asked behind `asks`.
 fn read_lines(
     alloc: Global,
     lab: &Lab,

@@ -14,7 +14,8 @@ use std::io;
 use std::io::Write;
 use std::rt::Files;
 
-/// Prints the tally of a journal's file over the lab of a file.
+/// Prints the tally of a journal's file over the lab of a file. The error is why lab or journal doesn't pass, or can't
+/// be read, or that a write failed, or want of memory.
 pub fn tally<R: Files + Print + AllocGlobal>(
     rt: &R,
     task: TallyTask<'_>,
@@ -43,7 +44,7 @@ pub fn write_tally<W: Write>(
     write_text(&text, writer)
 }
 
-// The tally of a journal that passes the audit.
+// The text of a journal's tally; where the journal doesn't pass the audit, the error is the audit's.
 fn text_of(alloc: Global, lab: &Lab, journal: &[u8]) -> Result<Vec<u8>, ProgramFault>
     ensures { IfOk result (λ text. IsTally lab.now journal.now text.items) }
 {
@@ -61,7 +62,7 @@ fn text_of(alloc: Global, lab: &Lab, journal: &[u8]) -> Result<Vec<u8>, ProgramF
     }
 }
 
-// Writes a text in one go.
+// Writes a text in one go; where that fails the error is a write fault, or want of memory.
 pub(crate) fn write_text<W: Write>(text: &[u8], writer: &mut W) -> Result<(), ProgramFault>
     ensures { OnOk result (Appends (W.contents writer.old) (W.contents writer.new) text.now) }
 {

@@ -32,7 +32,8 @@ pub const MAX_RECORD: u32 = 1_073_741_824;
 // The most bytes of the file that tells where the record begins.
 const MAX_BEGUN: u32 = 20;
 
-/// Says what the record of a class comes to, after its journal was audited.
+/// Verifies the record of a class, after its journal was audited, and prints what it comes to. The error is why lab,
+/// journal or record doesn't pass, or can't be read, or that a write failed, or want of memory.
 pub fn verify<R: Files<File = File> + Print + AllocGlobal>(
     rt: &R,
     task: VerifyTask<'_>,
@@ -48,7 +49,8 @@ pub fn verify<R: Files<File = File> + Print + AllocGlobal>(
     }
 }
 
-// The events of the journal, which is one of the lab. Its text isn't kept.
+// The events of a journal's file, which passes the audit over the lab; the error is why it doesn't, or can't be read.
+// Its text isn't kept.
 fn read_events<R: Files<File = File> + AllocGlobal>(
     rt: &R,
     lab: &Lab,
@@ -61,7 +63,8 @@ fn read_events<R: Files<File = File> + AllocGlobal>(
     Ok(audited.events)
 }
 
-// What the records of all seats come to.
+// What the records of all seats in the folder come to together; the journal had `begun` events before they began. The
+// error is why one is none, or can't be read, or what is amiss with the places that they grant, or want of memory.
 fn verify_seats<R: Files<File = File> + AllocGlobal>(
     rt: &R,
     lab: &Lab,
@@ -88,7 +91,7 @@ fn verify_seats<R: Files<File = File> + AllocGlobal>(
     )
 }
 
-// What no record comes to.
+// What is found where there are no records: nothing ended, nothing answered, nothing left out.
 pub(crate) fn no_findings() -> Findings {
     Findings {
         sessions: 0,
@@ -97,7 +100,8 @@ pub(crate) fn no_findings() -> Findings {
     }
 }
 
-// What all records come to, unless something is amiss with the places that they grant.
+// Gives back `all`, what all records come to, unless something is amiss with the places that they grant, behind the
+// first `begun` and up to `count`: then that is the error.
 pub(crate) fn granted_once(
     alloc: Global,
     all: Findings,
@@ -111,19 +115,21 @@ pub(crate) fn granted_once(
     }
 }
 
-// How many events the journal had before the record began.
+// How many events the journal had before the record began, by the file in the record's folder that says it; the
+// record's read fault where that can't be read or spells no number.
 pub(crate) fn read_begun<R: Files<File = File> + AllocGlobal>(
     rt: &R,
     folder: &str,
 ) -> Result<u64, Fault> {
     let path = begun_path(rt.alloc(), folder)?;
     let text = read_up_to(rt, path.as_str(), MAX_BEGUN)?;
-    match number_in(digits_in(text.as_slice())) {
+    match decimal_in(digits_in(text.as_slice())) {
         Some(begun) => Ok(begun),
         None => Err(Fault::ReadRecord),
     }
 }
 
+// The path of the file in a record's folder that says how many events the journal had before the record began.
 fn begun_path(alloc: Global, folder: &str) -> Result<String, ProgramFault> {
     Ok(format!(in alloc; "{folder}/begun")?)
 }
@@ -138,8 +144,8 @@ fn digits_in(text: &[u8]) -> &[u8] {
     }
 }
 
-// The number that up to 19 digits spell.
-fn number_in(digits: &[u8]) -> Option<u64> {
+// The number that 1 to 19 decimal digits spell; none for other bytes.
+fn decimal_in(digits: &[u8]) -> Option<u64> {
     if digits.is_empty() || digits.len() > 19 {
         return None;
     }
@@ -155,7 +161,7 @@ fn number_in(digits: &[u8]) -> Option<u64> {
     Some(number)
 }
 
-// What both come to.
+// What the records that come to a, and those that come to b, come to together.
 pub(crate) fn together(a: Findings, b: Findings) -> Findings {
     Findings {
         sessions: a.sessions.saturating_add(b.sessions),
@@ -164,7 +170,8 @@ pub(crate) fn together(a: Findings, b: Findings) -> Findings {
     }
 }
 
-// The bytes of a seat's record.
+// The bytes of the file of a seat's record; the record's read fault where that can't be opened or read, or is too
+// large.
 pub(crate) fn read_seat<R: Files<File = File> + AllocGlobal>(
     rt: &R,
     folder: &str,
@@ -174,8 +181,9 @@ pub(crate) fn read_seat<R: Files<File = File> + AllocGlobal>(
     read_up_to(rt, path.as_str(), MAX_RECORD)
 }
 
-// What a seat's record is found to be, read by pieces. The places of the events that it grants go behind those
-// that are there.
+// What the file of a seat's record is found to be, read by pieces: a record, or why it is none. The places of the
+// events that it grants go behind `granted`. The error is that it can't be opened or read or is too large, or want of
+// memory.
 fn verify_seat<R: Files<File = File> + AllocGlobal>(
     rt: &R,
     lab: &Lab,
@@ -203,10 +211,13 @@ fn verify_seat<R: Files<File = File> + AllocGlobal>(
     }
 }
 
+// The path of the file of a seat's record in a record's folder.
 fn record_path(alloc: Global, folder: &str, seat: u8) -> Result<String, ProgramFault> {
     Ok(format!(in alloc; "{folder}/{seat}.record")?)
 }
 
+// The bytes of a file of the record; the record's read fault where it can't be opened or read, or has more than the
+// limit.
 fn read_up_to<R: Files<File = File> + AllocGlobal>(
     rt: &R,
     path: &str,
@@ -222,7 +233,7 @@ fn read_up_to<R: Files<File = File> + AllocGlobal>(
     }
 }
 
-// Opens a file of the record.
+// Opens a file of the record; where that fails it is the record's read fault, or out of memory.
 fn open_part<R: Files<File = File> + AllocGlobal>(rt: &R, path: &str) -> Result<File, Fault> {
     match fs::open(rt, path) {
         Ok(file) => Ok(file),
@@ -233,7 +244,7 @@ fn open_part<R: Files<File = File> + AllocGlobal>(rt: &R, path: &str) -> Result<
     }
 }
 
-/// Writes what a record comes to, and how many events its journal has.
+/// Writes the line that tells what a record that passed comes to, and how many events its journal has.
 pub fn write_verified<W: Write>(
     alloc: Global,
     found: Findings,
@@ -250,7 +261,7 @@ pub fn write_verified<W: Write>(
     }
 }
 
-// Writes the line that tells of a record that passed, with this end.
+// Writes the line that tells what a record that passed comes to, with `end` behind the number of events.
 fn write_ended<W: Write>(
     alloc: Global,
     found: Findings,

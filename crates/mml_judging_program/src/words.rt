@@ -1,6 +1,6 @@
 //! The words of the command line.
 use clap::{ArgMatches, Command};
-use mml_program::{Fault as ProgramFault, command_of, match_words, with_optional};
+use mml_program::{Fault as ProgramFault, match_words, subcommand_of, with_optional};
 use std::alloc::{AllocError, Global};
 
 /// What the words ask for.
@@ -12,7 +12,7 @@ pub enum Task<'a> {
     Verify(VerifyTask<'a>),
     /// To tell what a journal tells of its run.
     Tally(TallyTask<'a>),
-    /// The same with what its record tells.
+    /// To tell what a journal and a record beside it tell of a run.
     TallyRecorded(VerifyTask<'a>),
 }
 
@@ -31,26 +31,30 @@ pub struct TallyTask<'a> {
     pub journal: &'a str,
 }
 
-/// Reads the words, of which the first is the program's name.
+/// What the words ask for, of which the first is the program's name; the error is that they ask for nothing that the
+/// program does, or want of memory.
 pub fn read_words<'a>(alloc: Global, words: &'a [String]) -> Result<Task<'a>, ProgramFault> {
-    let matches = match_words(whole(alloc)?, words)?;
+    let matches = match_words(command_line(alloc)?, words)?;
     match matches.subcommand() {
         None => Err(ProgramFault::CommandLine),
         Some((name, values)) => task_of(name, values).ok_or(ProgramFault::CommandLine),
     }
 }
 
-fn whole<'a>(alloc: Global) -> Result<Command<'a>, AllocError> {
-    command_of(alloc, "mml_host", &[])?
-        .subcommand(command_of(alloc, "answer", &["lab"])?)?
-        .subcommand(command_of(alloc, "verify", &["lab", "journal", "record"])?)?
+// The whole command line of the words that serve nobody, with its three subcommands.
+fn command_line<'a>(alloc: Global) -> Result<Command<'a>, AllocError> {
+    subcommand_of(alloc, "mml_host", &[])?
+        .subcommand(subcommand_of(alloc, "answer", &["lab"])?)?
+        .subcommand(subcommand_of(alloc, "verify", &["lab", "journal", "record"])?)?
         .subcommand(with_optional(
             alloc,
-            command_of(alloc, "tally", &["lab", "journal"])?,
+            subcommand_of(alloc, "tally", &["lab", "journal"])?,
             "record",
         )?)
 }
 
+// What a subcommand of this name with these values asks for; none where the program has no such name, or a value is
+// missing.
 fn task_of<'a>(name: &str, values: &ArgMatches<'a>) -> Option<Task<'a>> {
     let lab = values.get_str("lab")?;
     match name {
@@ -65,6 +69,7 @@ fn task_of<'a>(name: &str, values: &ArgMatches<'a>) -> Option<Task<'a>> {
     }
 }
 
+// The task of a tally: of a journal alone, or, where a record is named, with what that tells.
 fn tally_of<'a>(lab: &'a str, journal: &'a str, record: Option<&'a str>) -> Task<'a> {
     match record {
         Some(record) => Task::TallyRecorded(VerifyTask {

@@ -6,20 +6,21 @@ use Rattle.mml_lab.specs.Labs.{LabValue, link_count}
 use Rattle.mml_board.specs.World.{World, configuration, privileged_count}
 use Rattle.mml_audit.specs.Audit.{audited}
 
--- how many nodes, links and students there are
+-- the line that says how many nodes, links and students there are
 abbrev pub size_line : ℕ → ℕ → ℕ → List ℕ
 size_line nodes links students =
     concat (codes "ok: " ∷ decimal nodes ∷ codes " nodes, " ∷ decimal links ∷ codes " links, " ∷ decimal students ∷ codes " students\n" ∷ [])
 
+-- the line that says how large a lab is
 abbrev pub lab_line : LabValue → List ℕ
 lab_line lab = size_line (length lab.ids) (link_count lab.network) (length lab.roster.students)
 
--- whether no node is privileged
+-- the end of a line, which says whether no node is privileged
 abbrev pub standing : Bool → List ℕ
 standing true = codes ", stable\n"
 standing false = codes ", not stable\n"
 
--- how many events there were, the number of the configuration, and whether it is stable
+-- the line that says how many events there were, the number of the configuration, and whether it is stable
 abbrev pub world_line : World → List ℕ
 world_line w =
     concat (codes "ok: " ∷ decimal w.place ∷ codes " events, configuration " ∷ decimal w.number ∷ standing (privileged_count (configuration w) == 0) ∷ [])

@@ -85,7 +85,8 @@ impl Fault {
     }
 }
 
-/// Out of memory where a reader or a writer met it, whatever the error was told as.
+/// The error of what was done with a reader or a writer: out of memory where that `lacked` memory, whatever the
+/// fault was told as, and else the fault.
 pub fn or_memory<F: From<Fault> + Drop>(fault: F, lacked: bool) -> F
     ensures memory { lacked ≡ true → F.from_gives Memory result }
     ensures other { lacked ≡ false → result ≡ fault }
@@ -97,7 +98,7 @@ pub fn or_memory<F: From<Fault> + Drop>(fault: F, lacked: bool) -> F
     }
 }
 
-/// Out of memory where an error of a read or write says so, and else the other error.
+/// The error of the program for one of a read or write: out of memory where that says so, and else `other`.
 pub fn memory_or(error: &IoError, other: Fault) -> Fault
     ensures memory { error_kind error.now ≡ ErrorKind.OutOfMemory → result ≡ Fault.Memory }
     ensures either { (result ≡ other) ⊎ (result ≡ Fault.Memory) }
@@ -113,6 +114,7 @@ pub fn memory_or(error: &IoError, other: Fault) -> Fault
 impl From<AllocError> for Fault {
     ghost from_gives = { λ _ e. e ≡ Memory };
 
+    // Tells that an allocation was refused as out of memory.
     fn from(_error: AllocError) -> Fault {
         Fault::Memory
     }
@@ -123,6 +125,7 @@ impl From<FileFault> for Fault {
 
     ghost from_gives = { λ fault e. e ≡ of_journal_file fault };
 
+    // Tells why a journal's file can't be had: as a journal fault, or out of memory.
     fn from(fault: FileFault) -> Fault {
         match fault {
             FileFault::Refused => Fault::Journal,
@@ -132,6 +135,7 @@ impl From<FileFault> for Fault {
 }
 
 impl From<LabFault> for Fault {
+    // Tells what a lab file is refused for, or out of memory, for which none is refused.
     fn from(fault: LabFault) -> Fault {
         match LabRefusal::of(fault) {
             Some(refusal) => Fault::Lab(refusal),
@@ -141,6 +145,7 @@ impl From<LabFault> for Fault {
 }
 
 impl From<AuditFault> for Fault {
+    // Tells what the text of a journal is refused for, or out of memory, for which none is refused.
     fn from(fault: AuditFault) -> Fault {
         match AuditRefusal::of(fault) {
             Some(refusal) => Fault::Audit(refusal),
@@ -154,6 +159,7 @@ impl From<ScriptFault> for Fault {
 
     ghost from_gives = { λ fault e. e ≡ of_script fault };
 
+    // Tells what ended a script early as the error of its cause; of a failed write not how many bytes went out.
     fn from(fault: ScriptFault) -> Fault {
         match fault {
             ScriptFault::BadLine(line) => Fault::BadLine(line),
@@ -169,6 +175,7 @@ impl From<ServeFault> for Fault {
 
     ghost from_gives = { λ fault e. e ≡ of_serving fault };
 
+    // Tells what ended a server early: a halted journal as a journal fault, and each other error as that of its cause.
     fn from(fault: ServeFault) -> Fault {
         match fault {
             ServeFault::Memory => Fault::Memory,

@@ -44,7 +44,7 @@ pub enum LabRefusal {
 }
 
 impl LabRefusal {
-    /// What the error refuses the file for; out of memory refuses no file.
+    /// What an error refuses a lab file for; none for out of memory, which refuses no file.
     pub fn of(fault: LabFault) -> Option<LabRefusal> {
         let refusal = match fault {
             LabFault::NotToml => LabRefusal::NotToml,
@@ -66,6 +66,7 @@ impl LabRefusal {
         Some(refusal)
     }
 
+    // What an error of the nodes' identifiers refuses a lab file for; none for out of memory.
     fn of_identifiers(fault: IdFault) -> Option<LabRefusal> {
         match fault {
             IdFault::Empty => Some(LabRefusal::NoNodes),
@@ -93,7 +94,7 @@ pub enum AuditRefusal {
 }
 
 impl AuditRefusal {
-    /// What the error refuses the text for; out of memory refuses none.
+    /// What an error refuses the text of a journal for; none for out of memory, which refuses no text.
     pub fn of(fault: AuditFault) -> Option<AuditRefusal> {
         match fault {
             AuditFault::Torn(line) => Some(AuditRefusal::Torn(line)),
@@ -106,7 +107,7 @@ impl AuditRefusal {
     }
 }
 
-// The place of the file by its name in an error line.
+// The name that a place of a lab file has in an error line.
 fn key_name(key: Key) -> &'static str {
     match key {
         Key::Events => "events",

@@ -35,7 +35,8 @@ pub fn write_size<W: Write>(alloc: Global, lab: &Lab, writer: &mut W) -> Result<
     write_pieces(alloc, &pieces, writer)
 }
 
-/// Writes how many events a journal has, and where they lead.
+/// Audits the text of a journal, and writes how many events it has, and where they lead. A text that is no journal of
+/// the lab is an error, and nothing is written.
 pub fn write_audit<W: Write>(
     alloc: Global,
     lab: &Lab,
@@ -49,7 +50,8 @@ pub fn write_audit<W: Write>(
     write_world(alloc, &board, writer)
 }
 
-// Writes the place and the number of a world, and whether it is stable.
+// Writes the line of a journal that passes: how many events it has, the number of the configuration, and whether
+// that is stable.
 fn write_world<W: Write>(alloc: Global, board: &Board, writer: &mut W) -> Result<(), Fault>
     ensures { OnOk result
         (Appends (W.contents writer.old) (W.contents writer.new) (world_line board.now)) }
@@ -61,7 +63,7 @@ fn write_world<W: Write>(alloc: Global, board: &Board, writer: &mut W) -> Result
     }
 }
 
-// Writes the place and the number of a world, and this end of the line.
+// Writes how many events led to the board, and the number of its configuration, and then `end`, the rest of the line.
 fn write_ended<W: Write>(
     alloc: Global,
     board: &Board,
@@ -82,7 +84,7 @@ fn write_ended<W: Write>(
     write_pieces(alloc, &pieces, writer)
 }
 
-/// Writes a text in one go.
+/// Writes pieces of text, one behind the other, in one go; the error is that the write failed, or want of memory.
 pub fn write_pieces<W: Write>(alloc: Global, pieces: &[Piece], writer: &mut W) -> Result<(), Fault>
     ensures { OnOk result
         (Appends (W.contents writer.old) (W.contents writer.new) (joined pieces.now)) }
@@ -97,8 +99,8 @@ pub fn write_pieces<W: Write>(alloc: Global, pieces: &[Piece], writer: &mut W) -
     }
 }
 
-/// Answers the lines of a script. Replies go out together, and all of them before each read. The lines
-/// of the granted events go to the sink.
+/// Answers the lines of a script, and gives the hall that they lead to. Replies go out together, and all of them before
+/// each read. The lines of the granted events go to the sink. The error is what ended the script early.
 pub fn answer_script<R: Read, W: Write, S: Sink + Drop>(
     alloc: Global,
     lab: Lab,

@@ -37,7 +37,7 @@ pub fn run<
         + Print
         + AllocGlobal,
 >(rt: &R) -> Result<(), Fault> {
-    let words = begin(rt)?;
+    let words = begin_program(rt)?;
     match read_words(rt.alloc(), words.as_slice())? {
         Task::BuiltIn => answer_input(rt),
         Task::Check { lab } => check_file(rt, lab),
@@ -47,7 +47,7 @@ pub fn run<
     }
 }
 
-// Says how large the lab of a file is.
+// Prints how many nodes, links and students the lab of a file has.
 fn check_file<R: Files + Print + AllocGlobal>(rt: &R, lab: &str) -> Result<(), Fault> {
     let lab = lab_of(rt, lab)?;
     write_size(rt.alloc(), &lab, &mut io::writer(rt))
@@ -65,7 +65,7 @@ fn answer_input<R: Input + Print + AllocGlobal>(rt: &R) -> Result<(), Fault> {
     }
 }
 
-// Answers the script of a file over the lab of a file.
+// Answers the script of a file over the lab of a file, with a journal where one is named.
 fn script_file<R: Files<File = File> + Print + AllocGlobal>(
     rt: &R,
     task: ScriptTask<'_>,
@@ -85,7 +85,7 @@ fn script_file<R: Files<File = File> + Print + AllocGlobal>(
     }
 }
 
-// Answers the lines of a script over a lab. A journal that was halted is told at the end.
+// Answers the lines of a script over a lab. That the journal was halted is the error at the end.
 fn answer_lines<R: Print + AllocGlobal, S: Sink + Drop>(
     rt: &R,
     lab: Lab,
@@ -103,7 +103,7 @@ fn answer_lines<R: Print + AllocGlobal, S: Sink + Drop>(
     }
 }
 
-// How a script ends whose lines are answered.
+// What the program ends with once all lines of a script are answered: an error where the journal was halted.
 fn end_of_script<S: Sink>(hall: &Hall<S>) -> Result<(), Fault> {
     if hall.halted() {
         return Err(Fault::Journal);
@@ -111,7 +111,7 @@ fn end_of_script<S: Sink>(hall: &Hall<S>) -> Result<(), Fault> {
     Ok(())
 }
 
-// Audits the journal of a file over the lab of a file.
+// Audits the journal of a file over the lab of a file, and prints what it leads to.
 fn audit_file<R: Files + Print + AllocGlobal>(
     rt: &R,
     lab: &str,
@@ -122,7 +122,8 @@ fn audit_file<R: Files + Print + AllocGlobal>(
     write_audit(rt.alloc(), &lab, text.as_slice(), &mut io::writer(rt))
 }
 
-// Serves connections over the lab of a file.
+// Serves connections over the lab of a file, with a journal where one is named; an error where more are asked for than
+// the lab has sessions.
 fn serve_file<
     R: Files<File = File>
         + Net<Listener = TcpListener, Stream = TcpStream>
@@ -168,7 +169,8 @@ struct Service {
     connections: u8,
 }
 
-// Says on which port it listens, and serves so many of the connections that come.
+// Prints on which port it listens, serves as many of the connections that come as the service says, and prints the
+// last line. Want of memory at a write is told as such.
 fn serve_listener<
     R: Net<Listener = TcpListener, Stream = TcpStream>
         + Threads
@@ -190,7 +192,7 @@ fn serve_listener<
     }
 }
 
-// The first line, the connections, and the last line.
+// Writes the line with the port, serves the connections, and writes the last line.
 fn serve_lines<R: Threads + Wait + Sync + AllocGlobal, S: Sink + Send + Drop, W: Write>(
     rt: &R,
     lab: Lab,
@@ -213,7 +215,8 @@ fn serve_lines<R: Threads + Wait + Sync + AllocGlobal, S: Sink + Send + Drop, W:
     serve_on(rt, alloc, lab, listener, connections, sink, &NoGate, writer)
 }
 
-// Listens on a port of this machine alone.
+// Listens on a port, for connections of this machine alone; the error is that it can't be listened on, or out of
+// memory.
 fn listen<R: Net<Listener = TcpListener, Stream = TcpStream>>(
     rt: &R,
     port: u16,
@@ -224,29 +227,32 @@ fn listen<R: Net<Listener = TcpListener, Stream = TcpStream>>(
     }
 }
 
-/// What a program begins with: the words. Before all else each standard stream that is closed is held, so that
-/// no file takes its place. Over stacks that are too small nothing is begun.
-pub fn begin<R: Env + Files<File = File> + AllocGlobal>(rt: &R) -> Result<Vec<String>, Fault> {
+/// Begins a program, and gives its words. Before all else each standard stream that is closed is held, so that no file
+/// takes its place; where that fails the error is a write fault. Over stacks that are too small nothing is begun, and
+/// the error is out of memory.
+pub fn begin_program<R: Env + Files<File = File> + AllocGlobal>(
+    rt: &R,
+) -> Result<Vec<String>, Fault> {
     hold_streams(rt).map_err(|error| memory_or(&error, Fault::Write))?;
     if has_small_stacks() {
         return Err(Fault::Memory);
     }
-    words_of(rt)
+    command_words(rt)
 }
 
-/// The words, the program's name first; one that isn't UTF-8 is not understood.
-pub fn words_of<R: Env + AllocGlobal>(rt: &R) -> Result<Vec<String>, Fault> {
+/// The words of the command line, the program's name first; one that isn't UTF-8 is not understood.
+pub fn command_words<R: Env + AllocGlobal>(rt: &R) -> Result<Vec<String>, Fault> {
     let words = env::args(rt).map_err(|error| memory_or(&error, Fault::CommandLine))?;
     Ok(words.collect(rt.alloc())?)
 }
 
-/// The lab of a file.
+/// The lab of a file; the error is that it can't be read, or why it spells none, or want of memory.
 pub fn lab_of<R: Files + AllocGlobal>(rt: &R, path: &str) -> Result<Lab, Fault> {
     let bytes = read_file(rt, path, Fault::ReadLab)?;
     lab_in(rt.alloc(), bytes.as_slice())
 }
 
-/// The lab that the bytes spell.
+/// The lab that the bytes of a lab file spell; the error is why they spell none.
 pub fn lab_in(alloc: Global, bytes: &[u8]) -> Result<Lab, Fault> {
     Ok(read_lab(alloc, bytes)?)
 }

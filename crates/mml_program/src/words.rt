@@ -39,17 +39,18 @@ pub struct ServeTask<'a> {
     pub journal: Option<&'a str>,
 }
 
-/// Reads the words, of which the first is the program's name.
+/// What the words ask for, of which the first is the program's name; the error is that they ask for nothing that the
+/// program does, or want of memory.
 pub fn read_words<'a>(alloc: Global, words: &'a [String]) -> Result<Task<'a>, Fault> {
-    let matches = match_words(whole(alloc)?, words)?;
+    let matches = match_words(command_line(alloc)?, words)?;
     match matches.subcommand() {
         None => Ok(Task::BuiltIn),
         Some((name, values)) => task_of(name, values).ok_or(Fault::CommandLine),
     }
 }
 
-/// What a command finds in the words, of which the first is the program's name. A word that begins with
-/// `-` is refused before clap is asked, which would take `-` and `--`.
+/// What a command finds in the words, of which the first is the program's name; words that don't fit it aren't
+/// understood. A later word that begins with `-` is refused before clap is asked, which would take `-` and `--`.
 pub fn match_words<'a>(command: Command<'a>, words: &'a [String]) -> Result<ArgMatches<'a>, Fault> {
     if words.iter().skip(1).any(|word| word.starts_with('-')) {
         return Err(Fault::CommandLine);
@@ -61,6 +62,8 @@ pub fn match_words<'a>(command: Command<'a>, words: &'a [String]) -> Result<ArgM
     }
 }
 
+// What a subcommand of this name with these values asks for; none where a number is out of its range, a value is
+// missing, or the program has no such name.
 fn task_of<'a>(name: &str, values: &ArgMatches<'a>) -> Option<Task<'a>> {
     let lab = values.get_str("lab")?;
     match name {
@@ -84,24 +87,25 @@ fn task_of<'a>(name: &str, values: &ArgMatches<'a>) -> Option<Task<'a>> {
     }
 }
 
-fn whole<'a>(alloc: Global) -> Result<Command<'a>, AllocError> {
+// The whole command line of the program, with its four subcommands.
+fn command_line<'a>(alloc: Global) -> Result<Command<'a>, AllocError> {
     command_without_help(alloc, "mml_server")
-        .subcommand(command_of(alloc, "check", &["lab"])?)?
+        .subcommand(subcommand_of(alloc, "check", &["lab"])?)?
         .subcommand(with_optional(
             alloc,
-            command_of(alloc, "script", &["lab", "script"])?,
+            subcommand_of(alloc, "script", &["lab", "script"])?,
             "journal",
         )?)?
-        .subcommand(command_of(alloc, "audit", &["lab", "journal"])?)?
+        .subcommand(subcommand_of(alloc, "audit", &["lab", "journal"])?)?
         .subcommand(with_optional(
             alloc,
-            command_of(alloc, "serve", &["lab", "port", "connections"])?,
+            subcommand_of(alloc, "serve", &["lab", "port", "connections"])?,
             "journal",
         )?)
 }
 
 /// A command or subcommand whose values are all wanted, by their places.
-pub fn command_of<'a>(
+pub fn subcommand_of<'a>(
     alloc: Global,
     name: &'a str,
     values: &[&'a str],
@@ -113,7 +117,7 @@ pub fn command_of<'a>(
     Ok(command)
 }
 
-/// One value more, which may be left out.
+/// The command with one value more, behind its others, which may be left out.
 pub fn with_optional<'a>(
     alloc: Global,
     command: Command<'a>,

@@ -1,8 +1,10 @@
-//! The program: it checks lab files, answers scripts over them, and audits journals.
+//! The program: it checks lab files, answers scripts and serves connections over them, and audits journals.
 #![tactic(auto)]
 
 use std::process::ExitCode;
 
+// Does what the words ask for, and gives the exit status: 0, or that of the error, whose line is printed on standard
+// error.
 fn main(rt: HostRuntime) -> ExitCode {
     match mml_program::run(&rt) {
         Ok(()) => ExitCode::SUCCESS,

@@ -1,5 +1,5 @@
 //! A house whose connections come and go, one after another.
-use crate::texts::{Count, Left, Texts, Timed, lab_of, sent_to};
+use crate::texts::{Count, Left, Texts, Timed, cycle_of_six, sent_to};
 use mml_fakes::lines;
 use mml_fakes::scripts::{CLOSED_JOURNAL, NOTHING_CLOSED, ONE_CLOSED, TESS_CLOSES};
 use mml_hosting::{HostFault, no_recorders, serve_host};
@@ -60,7 +60,7 @@ const AGAIN: Talk = (
 
 const TALKS: &[Talk] = &[ANA, BEN, NOBODY, FALLEN, ELSEWHERE, AGAIN, AGAIN, TESS];
 
-/// What is said at the desk, or else at the port: each talk once the one before has ended.
+/// What of these talks is said at the desk where `is_desk`, else at the port: each once the one before it has ended.
 fn texts_of<'a>(
     alloc: Global,
     talks: &[Talk],
@@ -82,7 +82,8 @@ fn texts_of<'a>(
     Texts::of(alloc, &said, count)
 }
 
-/// Hosts these talks over a cycle of six nodes.
+/// Hosts these talks over a cycle of six nodes: what is left of the house, or the host's fault; a failure where the
+/// test itself goes wrong.
 fn host<R: Threads + Wait + Sync>(
     rt: &R,
     alloc: Global,
@@ -92,12 +93,12 @@ fn host<R: Threads + Wait + Sync>(
     let count = Count::new();
     let at_desk = texts_of(alloc, talks, true, &count)?;
     let at_port = texts_of(alloc, talks, false, &count)?;
-    let lab = lab_of(alloc, 100)?;
+    let lab = cycle_of_six(alloc, 100)?;
     Ok(host_in_memory(rt, alloc, lab, at_desk, at_port, &count, out))
 }
 
-/// Hosts the connections that come to the desk and to the port, over this lab, with a sink in memory; nothing is
-/// recorded.
+/// Hosts the connections that come to the desk and to the port, over this lab, with a sink in memory and no records:
+/// what is left of the house, or the host's fault.
 fn host_in_memory<R: Threads + Wait + Sync>(
     rt: &R,
     alloc: Global,
@@ -116,7 +117,7 @@ fn host_in_memory<R: Threads + Wait + Sync>(
     )
 }
 
-/// Whether each of these talks was answered as it says.
+/// Whether each of these talks was sent just the replies that stand in it.
 fn are_answered(left: &Left, talks: &[Talk]) -> bool {
     let mut number = 0u64;
     for (_, _, replies) in talks {
@@ -128,8 +129,8 @@ fn are_answered(left: &Left, talks: &[Talk]) -> bool {
     true
 }
 
-/// Whether the talks are answered as they say, whether the journal is a move and its close, and whether the last line
-/// tells both.
+/// Whether the talks of `TALKS` are answered as they say, whether the journal is a move and its close, and whether the
+/// last line tells both; an error where the house ends by a fault.
 fn told_of_talks<R: Threads + Wait + Sync>(rt: &R, alloc: Global) -> Result<[bool; 3], Fail> {
     let mut out = Vec::new(alloc);
     match host(rt, alloc, TALKS, &mut out)? {
@@ -142,19 +143,23 @@ fn told_of_talks<R: Threads + Wait + Sync>(rt: &R, alloc: Global) -> Result<[boo
     }
 }
 
+/// Fails where a talk of `TALKS` is answered otherwise, or the journal or the last line is another.
 #[test]
 fn sessions_come_one_after_another(rt: HostRuntime) -> Result<(), Fail> {
     assert_eq!(rt; told_of_talks(&rt, rt.alloc())?, [true; 3]);
     Ok(())
 }
 
-/// Whether a house whose teacher says no bye at the desk isn't dismissed, and tells nothing.
+/// Whether a house whose teacher says bye at the port alone ends with the fault that nobody dismissed it, and without a
+/// last line.
 fn is_undismissed<R: Threads + Wait + Sync>(rt: &R, alloc: Global) -> Result<bool, Fail> {
     let mut out = Vec::new(alloc);
     let left = host(rt, alloc, &[NOBODY, ELSEWHERE], &mut out)?;
     Ok(matches!(left, Err(HostFault::Undismissed)) && out.is_empty())
 }
 
+/// Fails where a house ends otherwise than undismissed, or with a last line, though the teacher said bye at the
+/// students' port alone.
 #[test]
 fn a_bye_at_the_port_ends_no_house(rt: HostRuntime) -> Result<(), Fail> {
     assert!(rt; is_undismissed(&rt, rt.alloc())?);

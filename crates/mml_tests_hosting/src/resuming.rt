@@ -1,7 +1,7 @@
 //! Classes that go on from a journal, or don't.
 ghost use Rattle.std.specs.Prelude.{◌≡◌, ◌<◌, ◌-◌, ◌^◌, IfSome};
 
-use crate::texts::{Count, Left, Texts, Timed, lab_of, sent_to};
+use crate::texts::{Count, Left, Texts, Timed, cycle_of_six, sent_to};
 use mml_audit::AuditFault;
 use mml_fakes::lines;
 use mml_fakes::scripts::CLOSED_JOURNAL;
@@ -57,7 +57,8 @@ const LONG: &str = "1 0 grant ana 1 seduction
 struct Shelf(Global);
 
 impl Store<MemorySink> for Shelf {
-    fn cut_to(self, whole: &[u8]) -> Option<MemorySink>
+    // A new sink that has taken these bytes; none where memory runs out.
+    fn shorten_to(self, whole: &[u8]) -> Option<MemorySink>
         ensures holds { IfSome result (λ sink. sink.bytes ≡ whole.now) }
         ensures countable { IfSome result (λ sink. sink.failures < 2 ^ 64 - 1) }
     {
@@ -72,7 +73,8 @@ impl Store<MemorySink> for Shelf {
     }
 }
 
-/// Goes on from an old journal over a cycle of six nodes, where ana comes and, once she has gone, the teacher.
+/// Goes on from an old journal over a cycle of six nodes with this limit of events, where ana comes and, once she has
+/// gone, the teacher: what is left of the class, or why it didn't go on; a failure where the test itself goes wrong.
 fn resume<R: Threads + Wait + Sync>(
     rt: &R,
     alloc: Global,
@@ -93,11 +95,12 @@ fn resume<R: Threads + Wait + Sync>(
     };
     let at_desk = Texts::of(alloc, &[tess], &count)?;
     let at_port = Texts::of(alloc, &[ana], &count)?;
-    let lab = lab_of(alloc, events)?;
+    let lab = cycle_of_six(alloc, events)?;
     Ok(resume_in(rt, alloc, lab, old, at_desk, at_port, &count, out))
 }
 
-/// Goes on from an old journal over this lab, with what comes to the desk and to the port; nothing is recorded.
+/// Goes on from an old journal over this lab, with what comes to the desk and to the port, and no records: what is left
+/// of the class, or why it didn't go on.
 fn resume_in<R: Threads + Wait + Sync>(
     rt: &R,
     alloc: Global,
@@ -127,8 +130,8 @@ fn resume_in<R: Threads + Wait + Sync>(
     )
 }
 
-/// Why a class didn't go on, and whether nothing was told.
-fn refused<R: Threads + Wait + Sync>(
+/// Why a class over this journal and limit of events didn't go on, none where it did; and whether nothing was told.
+fn fault_of_class<R: Threads + Wait + Sync>(
     rt: &R,
     alloc: Global,
     events: u64,
@@ -139,8 +142,8 @@ fn refused<R: Threads + Wait + Sync>(
     Ok((fault, out.is_empty()))
 }
 
-/// Whether ana and tess are told what they should be, and whether the journal and the class's own lines are as they
-/// should be.
+/// Of a class that goes on from `OLD`: whether ana and whether tess is told what she should be, whether the journal is
+/// ana's move and a close, and whether the class itself tells `TOLD`; an error where it doesn't go on.
 fn told_of_a_class<R: Threads + Wait + Sync>(rt: &R, alloc: Global) -> Result<[bool; 4], Fail> {
     let mut out = Vec::new(alloc);
     match resume(rt, alloc, 100, OLD, &mut out)? {
@@ -155,13 +158,15 @@ fn told_of_a_class<R: Threads + Wait + Sync>(rt: &R, alloc: Global) -> Result<[b
     }
 }
 
+/// Fails where a class doesn't go on from a journal with a torn line, ana or tess is told otherwise there, or its
+/// journal or what it tells is another.
 #[test]
 fn a_class_goes_on_where_its_journal_stopped(rt: HostRuntime) -> Result<(), Fail> {
     assert_eq!(rt; told_of_a_class(&rt, rt.alloc())?, [true; 4]);
     Ok(())
 }
 
-/// Whether a class over this journal doesn't go on for this reason, and nothing is told.
+/// Whether a class over this journal and limit of events doesn't go on for this reason, and nothing is told.
 fn is_refused<R: Threads + Wait + Sync>(
     rt: &R,
     alloc: Global,
@@ -169,10 +174,11 @@ fn is_refused<R: Threads + Wait + Sync>(
     old: &str,
     wanted: AuditFault,
 ) -> Result<bool, Fail> {
-    Ok(refused(rt, alloc, events, old)? == (Some(ResumeFault::Refused(wanted)), true))
+    Ok(fault_of_class(rt, alloc, events, old)? == (Some(ResumeFault::Refused(wanted)), true))
 }
 
-/// Whether journals are refused that are illegal, too long, and torn.
+/// Whether, each for its reason, a journal is refused with an illegal event, one with more events than the limit, and
+/// one whose last line is torn and longer than a line may be.
 fn are_refused<R: Threads + Wait + Sync>(rt: &R, alloc: Global) -> Result<[bool; 3], Fail> {
     let illegal = AuditFault::Illegal(1, Denial::Empty);
     let is_empty = is_refused(rt, alloc, 100, "1 0 close\n", illegal)?;
@@ -181,6 +187,8 @@ fn are_refused<R: Threads + Wait + Sync>(rt: &R, alloc: Global) -> Result<[bool;
     Ok([is_empty, is_long, is_torn])
 }
 
+/// Fails where a class goes on from a journal with an illegal event, too many events, or a torn line that is too long
+/// for one, or is refused for another reason, or something is told.
 #[test]
 fn what_is_no_journal_is_refused(rt: HostRuntime) -> Result<(), Fail> {
     assert_eq!(rt; are_refused(&rt, rt.alloc())?, [true; 3]);

@@ -18,18 +18,19 @@ use std::sync::atomic::{AtomicU64, Ordering};
 use std::test::Fail;
 use std::vec::IntoIter;
 
-/// Counts the sessions that have ended.
+/// Counts how often the bell was rung: for each session that has ended, and for a port that couldn't be served.
 #[derive(Drop)]
 pub struct Count(AtomicU64);
 
 impl Count {
-    /// None has ended yet.
+    /// A count at 0: the bell wasn't rung yet.
     pub fn new() -> Count {
         Count(AtomicU64::new(0))
     }
 }
 
 impl Bell for Count {
+    // Counts one ring more, whatever it is for: a session that has ended, or a port that couldn't be served.
     fn ring(&self, _is_dismissed: bool) {
         self.0.fetch_add(1, Ordering::SeqCst);
     }
@@ -55,6 +56,7 @@ impl Write for NumberedWriter {
 }
 
 impl HangUp for NumberedWriter {
+    // In memory nobody waits for more, and nothing is to be given back.
     fn hang_up(&mut self) {}
 }
 
@@ -63,6 +65,7 @@ impl HangUp for NumberedWriter {
 pub struct Nothing;
 
 impl CutOff for Nothing {
+    // A connection in memory is at its end by itself.
     fn cut_off(&self) {}
 }
 
@@ -86,7 +89,7 @@ pub struct Texts<'a> {
 }
 
 impl<'a> Texts<'a> {
-    /// Connections that send these texts, each at its time.
+    /// Connections that send these texts, each once as many sessions have ended as its time says, by the count.
     pub fn of(
         alloc: Global,
         timed: &[Timed<'_>],
@@ -106,7 +109,8 @@ impl<'a> Texts<'a> {
     }
 }
 
-/// A connection that sends a text, and keeps what it is sent.
+/// The two ends of a connection that sends a text: the bytes to read, and a writer that has its number and keeps what
+/// it is sent.
 fn ends_of(alloc: Global, timed: &Timed<'_>) -> Result<TextEnds, AllocError> {
     let mut bytes = VecDeque::new(alloc);
     for byte in timed.text.as_bytes() {
@@ -122,6 +126,8 @@ fn ends_of(alloc: Global, timed: &Timed<'_>) -> Result<TextEnds, AllocError> {
 impl<'a> Accept<VecDeque<u8>, NumberedWriter, Nothing> for Texts<'a> {
     ghost to_come = { λ t. Some (into_iter_items t.coming) };
 
+    // Gives the next connection, once as many sessions have ended as it wants or after many looks; where none is left,
+    // tells that no more are to be served.
     fn accept_next(&mut self) -> Accepted<VecDeque<u8>, NumberedWriter, Nothing>
         ensures { Brings (Some (into_iter_items self.old.coming))
             (Some (into_iter_items self.new.coming)) result }
@@ -136,8 +142,8 @@ impl<'a> Accept<VecDeque<u8>, NumberedWriter, Nothing> for Texts<'a> {
     }
 }
 
-/// A cycle of six nodes with so many events, and three sessions.
-pub fn lab_of(alloc: Global, events: u64) -> Result<Lab, Fail> {
+/// A lab of six nodes in a cycle, with `events` events and three sessions at most.
+pub fn cycle_of_six(alloc: Global, events: u64) -> Result<Lab, Fail> {
     let text = cycle(alloc, 6, events, 3)?;
     Ok(read_lab(alloc, text.as_bytes())?)
 }

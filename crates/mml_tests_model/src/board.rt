@@ -1,5 +1,5 @@
 //! A board and its copy at the beginning of a run and after each event, also after ones that may not happen;
-//! and a look and a line, which take memory.
+//! and a look and a line, which take memory. An error is want of memory.
 ghost use Rattle.std.specs.Prelude.{◌<◌, length};
 
 use mml_board::{Board, Event};
@@ -20,7 +20,7 @@ const HIGHER_POINTS: &str = lab!(
     [(5, "ana", "p = 3\n"), (3, "ana", "")]
 );
 
-/// The first student's move, by this rule, of the node with this rank.
+/// The first student's move by a rule, of the node with the rank `index`; `None` past the last rank.
 fn grant(index: u64, rule: Rule) -> Option<Event> {
     let node = Rank::new(index)?;
     Some(Event::Grant {
@@ -30,7 +30,7 @@ fn grant(index: u64, rule: Rule) -> Option<Event> {
     })
 }
 
-/// Adds a node's registers, and the rule that is enabled there.
+/// Adds a node's registers p (by rank) and m, and the rule that is enabled there, to a text.
 fn push_node(text: &mut String, board: &Board, node: Rank) -> Result<(), AllocError>
     requires { node < length board.now.network.registers }
 {
@@ -40,7 +40,7 @@ fn push_node(text: &mut String, board: &Board, node: Rank) -> Result<(), AllocEr
     write!(text, "; {p:?} {} {kind:?}", regs.m)
 }
 
-/// Adds whether nothing is chosen for a node, and its links.
+/// Adds to a text whether no move is chosen for a node, and for each node `-` where the two are linked, else `.`.
 fn push_links(text: &mut String, board: &Board, node: Rank) -> Result<(), AllocError>
     requires { node < length board.now.network.registers }
 {
@@ -57,8 +57,8 @@ fn push_links(text: &mut String, board: &Board, node: Rank) -> Result<(), AllocE
     Ok(())
 }
 
-/// The number of the step, the place in the run, how many nodes are privileged and how many moves
-/// are chosen, and then each node, with its links where these are wanted.
+/// A board as text: the configuration's number, how many events were granted, how many nodes are privileged and how
+/// many moves are chosen, and then each node; by `with_links` also whether no move is chosen for it, and its links.
 fn board_text(alloc: Global, board: &Board, with_links: bool) -> Result<String, AllocError> {
     let (number, place) = (board.number(), board.place());
     let (privileged, chosen) = (board.privileged_count(), board.chosen_set().len());
@@ -93,7 +93,7 @@ fn are_both_opening(alloc: Global, board: &Board) -> Result<bool, Fail> {
     Ok(is_opening(alloc, board)? && is_copy_opening(alloc, board)?)
 }
 
-/// What is shown of the first node, whose only neighbour points at it.
+/// What a look at the first node shows, as text; `no node` where the board has none.
 fn look_at_the_first(alloc: Global, board: &Board) -> Result<String, Fail> {
     let node = Rank::at(0);
     if node.index() >= board.size() {
@@ -103,7 +103,7 @@ fn look_at_the_first(alloc: Global, board: &Board) -> Result<String, Fail> {
     Ok(shown(alloc, &look)?)
 }
 
-/// What a look shows, as text.
+/// A look as text: its configuration's number, the node's p, its chosen and its enabled rule, and the nodes near it.
 fn shown(alloc: Global, look: &Look) -> Result<String, AllocError> {
     let (p, chosen, enabled) = (look.regs.p, look.chosen, look.enabled);
     let mut text = format!(in alloc; "{} {p:?} {chosen:?} {enabled:?}", look.at)?;
@@ -111,7 +111,7 @@ fn shown(alloc: Global, look: &Look) -> Result<String, AllocError> {
     Ok(text)
 }
 
-/// Adds the nodes that are near, with their registers.
+/// Adds the nodes near a node to a text: each one's rank, p (by rank) and m.
 fn push_near(text: &mut String, near: &[(Rank, Regs)]) -> Result<(), AllocError> {
     for (other, regs) in near {
         let (index, p) = (other.index(), regs.p.map(Rank::index));
@@ -120,8 +120,9 @@ fn push_near(text: &mut String, near: &[(Rank, Regs)]) -> Result<(), AllocError>
     Ok(())
 }
 
-/// The line of the first event, which the higher node asks for.
-fn first_line(alloc: Global, lab: &Lab, board: &Board) -> Result<Vec<u8>, Fail> {
+/// The journal's line of an abandonment by the second node as the first event; `what stood there` where that isn't
+/// legal on the board, or other events came first.
+fn first_event_line(alloc: Global, lab: &Lab, board: &Board) -> Result<Vec<u8>, Fail> {
     let mut line = Vec::from_slice(alloc, b"what stood there")?;
     if let Some(event) = &grant(1, Rule::Abandonment) {
         if lab.node_count() == board.size()
@@ -134,24 +135,26 @@ fn first_line(alloc: Global, lab: &Lab, board: &Board) -> Result<Vec<u8>, Fail> 
     Ok(line)
 }
 
-/// Whether a board and its copy are told as `OPENING`; and whether the first node and the first line are shown as
-/// they should be.
+/// Whether a lab's board and its copy are told as `OPENING`; and whether a look at the first node and the line of the
+/// first event are as they stand here.
 fn are_told_at_first(alloc: Global, lab: &Lab) -> Result<(bool, bool), Fail> {
     let board = boxed_board(alloc, lab)?;
     let are_opening = are_both_opening(alloc, &board)?;
     let look = look_at_the_first(alloc, &board)?;
-    let line = first_line(alloc, lab, &board)?;
+    let line = first_event_line(alloc, lab, &board)?;
     let is_shown = look.as_str() == "0 None None Some(Marriage) 1 Some(0) false";
     let is_line = line.as_slice() == b"1 0 grant ana 5 abandonment\n".as_slice();
     Ok((are_opening, is_shown && is_line))
 }
 
-/// Whether board, copy, first node and first line are told so where the higher node points.
+/// Over `HIGHER_POINTS`: whether a board and its copy are told as `OPENING`, and whether a look at the first node and
+/// the line of the first event are as they should be.
 fn are_told_where_higher_points(alloc: Global) -> Result<(bool, bool), Fail> {
     let lab = boxed_lab(alloc, HIGHER_POINTS)?;
     are_told_at_first(alloc, &lab)
 }
 
+/// Fails where a new board, its copy, a look or the first line of a journal isn't what follows from `HIGHER_POINTS`.
 #[test]
 fn opening_board(rt: HostRuntime) -> Result<(), Fail> {
     assert_eq!(rt; are_told_where_higher_points(rt.alloc())?, (true, true));
@@ -161,8 +164,9 @@ fn opening_board(rt: HostRuntime) -> Result<(), Fail> {
 /// An event, if there is one, and what is told after it.
 type Part = (Option<Event>, &'static str);
 
-/// Moves are chosen and applied at once.
-fn moves() -> [Part; 5] {
+/// Two moves that are chosen and then applied by one close, and two events that may not happen and so change nothing:
+/// each event, with the board's text after it.
+fn story_of_moves() -> [Part; 5] {
     [
         (
             grant(0, Rule::Seduction),
@@ -190,8 +194,9 @@ fn moves() -> [Part; 5] {
     ]
 }
 
-/// A fault, a cut and a link.
-fn changes() -> [Part; 5] {
+/// After `moves`: a move that is chosen, a fault that takes it back, a cut, a link, and a cut that may not happen: each
+/// event, with the board's text after it.
+fn story_of_changes() -> [Part; 5] {
     let [a, b, c] = [Rank::at(0), Rank::at(1), Rank::at(2)];
     let fault = Event::Fault {
         node: c,
@@ -217,7 +222,7 @@ fn changes() -> [Part; 5] {
             Some(Event::Link { a, b: c }),
             "4 7 2 0; Some(1) false None; None false Some(Marriage); None true Some(Update)",
         ),
-        // No pointer over a link that isn't there.
+        // Not where there is no link.
         (
             Some(Event::Cut { a: b, b: c }),
             "4 7 2 0; Some(1) false None; None false Some(Marriage); None true Some(Update)",
@@ -225,7 +230,8 @@ fn changes() -> [Part; 5] {
     ]
 }
 
-/// Whether a board is told as it should be after each event of a story.
+/// Whether a board is told as a story says after each of its events, which happen to it where they may; a part without
+/// an event just has the board told.
 fn is_story_told(alloc: Global, board: &mut Board, story: &[Part]) -> Result<bool, AllocError> {
     let mut is_told = true;
     for (event, expected) in story {
@@ -240,25 +246,26 @@ fn is_story_told(alloc: Global, board: &mut Board, story: &[Part]) -> Result<boo
     Ok(is_told)
 }
 
-/// Whether a board is told as it should be after the moves, and whether after the changes.
+/// Whether a board is told as `moves` says after each event of that, and whether then as `changes` says.
 fn are_stories_told(alloc: Global, board: &mut Board) -> Result<(bool, bool), Fail> {
-    let moved = is_story_told(alloc, board, &moves())?;
-    let changed = is_story_told(alloc, board, &changes())?;
+    let moved = is_story_told(alloc, board, &story_of_moves())?;
+    let changed = is_story_told(alloc, board, &story_of_changes())?;
     Ok((moved, changed))
 }
 
-/// Whether a lab's board is told as it should be after the moves, and whether after the changes.
+/// Whether a lab's board is told as `moves` says after each event of that, and whether then as `changes` says.
 fn are_stories_of_lab_told(alloc: Global, lab: &Lab) -> Result<(bool, bool), Fail> {
     let mut board = boxed_board(alloc, lab)?;
     are_stories_told(alloc, &mut board)
 }
 
-/// Whether the path of three is told as it should be after the moves, and whether after the changes.
+/// Whether the board of the path of three is told as `moves` says, and whether then as `changes` says.
 fn are_stories_of_path_told(alloc: Global) -> Result<(bool, bool), Fail> {
     let lab = boxed_lab(alloc, PATH_OF_THREE)?;
     are_stories_of_lab_told(alloc, &lab)
 }
 
+/// Fails where a board isn't as `moves` and `changes` say after an event, or is changed by one that may not happen.
 #[test]
 fn events_in_a_row_of_three(rt: HostRuntime) -> Result<(), Fail> {
     assert_eq!(rt; are_stories_of_path_told(rt.alloc())?, (true, true));

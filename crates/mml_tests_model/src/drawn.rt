@@ -1,4 +1,5 @@
-//! Events that are drawn, legal or not, over a cycle of 64 nodes and one of 256: which of them are legal.
+//! Events that are drawn, legal or not, over a cycle of 64 nodes and one of 256: which of them are legal, as the plain
+//! model in Python, `tests/model`, says too. An error is want of memory.
 use mml_board::{Board, Event};
 use mml_fakes::Numbers;
 use mml_fakes::cycles::cycle;
@@ -12,8 +13,8 @@ use std::test::Fail;
 // How many events are drawn.
 const DRAWS: u64 = 5000;
 
-// How many of these are illegal before each legal one: a letter for each, from `a` for none. The plain model
-// says so (`tests/random/tables.py`).
+// How many of the drawn events are illegal before each legal one, over the cycle of 64 nodes (`OF_256`: of 256): a
+// letter for each legal one, from `a` for none. The plain model says so (`tests/random/tables.py`).
 const OF_64: &str = concat!(
     "aabgdaaabdcaaaabcbacbbbccdcdaabacbebbbaafcofdecababaddabcbbdadbacegdjafkaaecaada",
     "baddaaaacabcaaecadbdaababcabccbaabebababehaababacabaaagbabaaafaaccabeccebaaabecb",
@@ -56,13 +57,14 @@ const OF_256: &str = concat!(
     "aaaejb",
 );
 
-/// The node at that place round the cycle.
+/// The node at that place round a cycle of `nodes` nodes, at most 256, counted on past the last one.
 fn node_at(nodes: u64, place: u64) -> Rank {
     Rank::at((place % nodes.max(1)).min(255))
 }
 
-/// The rule that is enabled at a node, a marriage with that partner; an update where none is.
-fn rule_at(board: &Board, node: Rank, partner: Rank) -> Rule {
+/// The rule that is enabled at a node, where that is Marriage with this partner; Update where none is, or the board has
+/// no such node.
+fn enabled_rule(board: &Board, node: Rank, partner: Rank) -> Rule {
     if node.index() >= board.size() {
         return Rule::Update;
     }
@@ -74,17 +76,18 @@ fn rule_at(board: &Board, node: Rank, partner: Rank) -> Rule {
     }
 }
 
-/// A move of a node by the rule that is enabled there, mostly for its owner.
+/// A move of a node by the rule that `rule_at` gives, mostly by the student who owns it, at times by the other one; it
+/// need not be legal.
 fn grant(board: &Board, numbers: &mut Numbers, node: Rank, partner: Rank) -> Event {
     let is_ana = (node.index() < board.size() / 2) != (numbers.below(8) == 0);
     Event::Grant {
         who: Student::new(u16::from(!is_ana)),
         node,
-        rule: rule_at(board, node, partner),
+        rule: enabled_rule(board, node, partner),
     }
 }
 
-/// A fault that has the node point at another, or at none.
+/// A fault with drawn registers: the node points at `other`, or at times at none, and m is either.
 fn fault(numbers: &mut Numbers, node: Rank, other: Rank) -> Event {
     let p = if numbers.below(4) == 0 {
         None
@@ -98,7 +101,8 @@ fn fault(numbers: &mut Numbers, node: Rank, other: Rank) -> Event {
     }
 }
 
-/// The next event, of nodes round the cycle that are near to each other, and to those of the last ones.
+/// The event drawn as the one with this index, legal or not: mostly a move. Its nodes are near to each other round the
+/// cycle, at places that move on by one every eight events.
 fn drawn(board: &Board, numbers: &mut Numbers, index: u64) -> Event {
     let place = (index / 8).wrapping_add(numbers.below(8));
     let other = place
@@ -116,7 +120,8 @@ fn drawn(board: &Board, numbers: &mut Numbers, index: u64) -> Event {
     }
 }
 
-/// The letters of the events that are drawn over a board.
+/// A letter for each legal one of the events drawn over a board, where it then happens: how many illegal ones came
+/// since the last legal one, from `a` for none to `z` for 25 or more.
 fn letters_on(alloc: Global, lab: &Lab, board: &mut Board) -> Result<Vec<u8>, AllocError> {
     let mut numbers = Numbers {
         state: board.size(),
@@ -136,30 +141,31 @@ fn letters_on(alloc: Global, lab: &Lab, board: &mut Board) -> Result<Vec<u8>, Al
     Ok(letters)
 }
 
-/// The letters of the events that are drawn from the beginning of a run.
+/// The letters that `letters_on` gives from the beginning of a lab's run.
 fn letters_over(alloc: Global, lab: &Lab) -> Result<Vec<u8>, Fail> {
     let mut board = boxed_board(alloc, lab)?;
     Ok(letters_on(alloc, lab, &mut board)?)
 }
 
-/// A cycle of so many nodes.
-fn lab_of(alloc: Global, nodes: u64) -> Result<Box<Lab>, Fail> {
+/// The lab of a cycle of `nodes` nodes, with 100 events and one connection.
+fn cycle_lab(alloc: Global, nodes: u64) -> Result<Box<Lab>, Fail> {
     let file = cycle(alloc, nodes, 100, 1)?;
     boxed_lab(alloc, file.as_str())
 }
 
-/// Whether these are the letters over a cycle of so many nodes.
+/// Whether `wanted` are the letters that `letters_over` gives over a cycle of `nodes` nodes.
 fn are_letters(alloc: Global, nodes: u64, wanted: &str) -> Result<bool, Fail> {
-    let lab = lab_of(alloc, nodes)?;
+    let lab = cycle_lab(alloc, nodes)?;
     Ok(letters_over(alloc, &lab)?.as_slice() == wanted.as_bytes())
 }
 
-/// Whether the letters over each of the two cycles are those of the plain model.
+/// Whether the letters over the cycle of 64 nodes are those of the plain model, and whether those over that of 256.
 fn are_both_letters(alloc: Global) -> Result<(bool, bool), Fail> {
     let of_64 = are_letters(alloc, 64, OF_64)?;
     Ok((of_64, are_letters(alloc, 256, OF_256)?))
 }
 
+/// Fails where a drawn event is legal on the board and not by the plain model's letters, or the other way round.
 #[test]
 fn drawn_events_are_legal_or_not(rt: HostRuntime) -> Result<(), Fail> {
     assert_eq!(rt; are_both_letters(rt.alloc())?, (true, true));

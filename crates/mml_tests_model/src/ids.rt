@@ -1,11 +1,11 @@
-//! Identifiers, ranks, and pieces of text.
+//! Identifiers, ranks, and pieces of text. An error is want of memory, or says why a table can't be made.
 use mml_ids::{
     IdFault, IdTable, Items, MAX_NODES, Memory, NodeId, Piece, Rank, Word, make_room, put,
 };
 use std::alloc::{AllocError, Global};
 use std::test::Fail;
 
-/// The rank of an identifier, if it stands in the table.
+/// The rank of an identifier; `None` where it doesn't stand in the table.
 fn index_of(table: &IdTable, id: u64) -> Option<u64> {
     Some(table.rank_of(id)?.index())
 }
@@ -13,7 +13,7 @@ fn index_of(table: &IdTable, id: u64) -> Option<u64> {
 /// Whether the identifier stands in the table, and its rank gives it back.
 fn comes_back(table: &IdTable, id: u64) -> bool {
     match table.rank_of(id) {
-        Some(node) => table.id_of(node) == id && table.node_id(node).get() == id,
+        Some(node) => table.id_of(node) == id,
         None => false,
     }
 }
@@ -28,7 +28,8 @@ const RANKS: [(u64, Option<u64>); 6] = [
     (0, None),
 ];
 
-/// The first identifier of these with another rank.
+/// The first identifier of `RANKS` that has another rank in the table, or whose rank doesn't give it back; `None` where
+/// each is as `RANKS` says.
 fn first_other_rank(table: &IdTable) -> Option<u64> {
     for (id, index) in RANKS {
         if (index_of(table, id), comes_back(table, id)) != (index, index.is_some()) {
@@ -38,18 +39,18 @@ fn first_other_rank(table: &IdTable) -> Option<u64> {
     None
 }
 
-/// How many identifiers a table has, and the first with another rank.
+/// How many identifiers the table of 9, 1, 7 and 4 has, and the first one that isn't in it as `RANKS` says, if any.
 fn told_of_ranks(alloc: Global) -> Result<(u64, Option<u64>), IdFault> {
     let table = IdTable::new(alloc, &[9, 1, 7, 4])?;
     Ok((table.len(), first_other_rank(&table)))
 }
 
-/// The number itself, where it is an identifier.
+/// The number itself where `NodeId` takes it for an identifier, else `None`.
 fn identifier(id: u64) -> Option<u64> {
     Some(NodeId::new(id)?.get())
 }
 
-/// The number itself, where it is a rank.
+/// The number itself where `Rank` takes it for a rank, else `None`.
 fn rank(index: u64) -> Option<u64> {
     Some(Rank::new(index)?.index())
 }
@@ -65,7 +66,8 @@ const RANGES: [(u64, bool, bool); 7] = [
     (65536, false, false),
 ];
 
-/// The first number of these in another range.
+/// The first number of `RANGES` that is taken for an identifier or a rank and isn't one, or isn't taken and is; `None`
+/// where there is none.
 fn first_other_range() -> Option<u64> {
     for (number, is_identifier, is_rank) in RANGES {
         let wanted = (is_identifier.then_some(number), is_rank.then_some(number));
@@ -76,6 +78,8 @@ fn first_other_range() -> Option<u64> {
     None
 }
 
+/// Fails where an identifier of a table of four has a wrong rank, a number is wrongly taken (or not) for an identifier
+/// or a rank, or `MAX_NODES` isn't 256.
 #[test]
 fn identifiers_have_ranks(rt: HostRuntime) {
     assert_eq!(rt;
@@ -96,7 +100,8 @@ fn keeps_a_word(alloc: Global) -> Result<bool, AllocError> {
     Ok(word.as_str() == "ana")
 }
 
-/// Whether pieces, the last of them an identifier, are put as their text, behind which there is room then.
+/// Whether pieces, the last of them an identifier that should be 65535, are put as their text, and whether `make_room`
+/// then makes room for 100 bytes behind it.
 fn are_put(alloc: Global, id: NodeId) -> Result<bool, Memory> {
     let mut out = Vec::new(alloc);
     let text = [
@@ -110,13 +115,14 @@ fn are_put(alloc: Global, id: NodeId) -> Result<bool, Memory> {
     Ok(out.capacity() >= 129 && out.as_slice() == b"at 18446744073709551615,65535".as_slice())
 }
 
-/// Whether lists and words are kept, and whether pieces are put with the greatest identifier.
+/// Whether a list and a word are kept as they were given, and whether pieces are put with the greatest identifier.
 fn told_of_texts(alloc: Global) -> Result<(bool, bool), Fail> {
     let id = NodeId::new(65535).ok_or("the greatest identifier")?;
     let are_kept = keeps_a_list(alloc)? && keeps_a_word(alloc)?;
     Ok((are_kept, are_put(alloc, id)?))
 }
 
+/// Fails where a list, a word or the text of pieces isn't what was put in, or room lacks behind that text.
 #[test]
 fn lists_words_and_pieces(rt: HostRuntime) -> Result<(), Fail> {
     assert_eq!(rt; told_of_texts(rt.alloc())?, (true, true));

@@ -1,4 +1,5 @@
-//! Lines of a journal that are read and written: of events that need not be legal, and ones that say nothing.
+//! Lines of a journal that are read and written: of events that need not be legal, and ones that say no event. An error
+//! is want of memory.
 mod replaced;
 
 use mml_board::Event;
@@ -10,7 +11,7 @@ use mml_rules::{Regs, Rule};
 use std::alloc::Global;
 use std::test::Fail;
 
-/// A student's move, which need not be his to make.
+/// A student's move at any node, which the student need not own.
 fn grant(who: u16, node: Rank, rule: Rule) -> Event {
     Event::Grant {
         who: Student::new(who),
@@ -19,8 +20,8 @@ fn grant(who: u16, node: Rank, rule: Rule) -> Event {
     }
 }
 
-/// Why a line says no event of this lab, if it says none.
-fn fault_of(lab: &Lab, line: &[u8]) -> Option<JournalFault> {
+/// The error that says why a line is no event of this lab; `None` where it is one.
+fn journal_error_of(lab: &Lab, line: &[u8]) -> Option<JournalFault> {
     match read_event(line, lab.ids(), lab.roster()) {
         Ok(_) => None,
         Err(fault) => Some(fault),
@@ -59,10 +60,10 @@ const UNKNOWNS: &str = "1 0 release 0
 1 0 fault 1 9 true
 1 0 cut 1 4";
 
-/// Whether each of the lines has that error.
+/// Whether each of the lines is no event of this lab, with that error.
 fn have_fault(lab: &Lab, lines: &str, fault: JournalFault) -> bool {
     for line in lines.split('\n') {
-        if fault_of(lab, line.as_bytes()) != Some(fault) {
+        if journal_error_of(lab, line.as_bytes()) != Some(fault) {
             return false;
         }
     }
@@ -79,7 +80,7 @@ const OTHERS: [&[u8]; 6] = [
     b"1 0 grant ana 3 update",
 ];
 
-/// What the lines of `OTHERS` say.
+/// The events that the lines of `OTHERS` say, in their order.
 fn other_events() -> [Event; 6] {
     let (first, second, third) = (Rank::at(0), Rank::at(1), Rank::at(2));
     [
@@ -101,7 +102,7 @@ fn other_events() -> [Event; 6] {
     ]
 }
 
-/// The event that a line says, and whether the line is that event's text; nothing, where it says none.
+/// The event that a line says, and whether the line is that event's text; `None` where it says none.
 fn read_and_written(
     alloc: Global,
     lab: &Lab,
@@ -119,7 +120,7 @@ fn is_line_of(alloc: Global, lab: &Lab, line: &[u8], event: &Event) -> Result<bo
     Ok(read_and_written(alloc, lab, line)? == Some((*event, true)))
 }
 
-/// Whether each line of `OTHERS` says its event, and is that one's text.
+/// Whether each line of `OTHERS` says its event of `other_events`, and is that one's text.
 fn are_read_and_written(alloc: Global, lab: &Lab) -> Result<bool, Fail> {
     for (line, event) in OTHERS.iter().zip(other_events().iter()) {
         if !is_line_of(alloc, lab, line, event)? {
@@ -129,14 +130,16 @@ fn are_read_and_written(alloc: Global, lab: &Lab) -> Result<bool, Fail> {
     Ok(true)
 }
 
-/// Whether the shapes have their error, the unknowns theirs, and the events are read and written.
+/// Whether each line of `SHAPES` has the error `Shape`, whether each of `UNKNOWNS` has `Unknown`, and whether each of
+/// `OTHERS` is read and written as its event.
 fn are_rows_read(alloc: Global, lab: &Lab) -> Result<(bool, bool, bool), Fail> {
     let shapes = have_fault(lab, SHAPES, JournalFault::Shape);
     let unknowns = have_fault(lab, UNKNOWNS, JournalFault::Unknown);
     Ok((shapes, unknowns, are_read_and_written(alloc, lab)?))
 }
 
-/// Whether each row of lines, and each line with a byte replaced, is read as it should be.
+/// Over the path of three: what `are_rows_read` tells, and whether the ten lines, each with each byte replaced, are
+/// read as `replaced::REPLACED` marks.
 fn are_lines_read(alloc: Global) -> Result<((bool, bool, bool), bool), Fail> {
     let lab = boxed_lab(alloc, PATH_OF_THREE)?;
     Ok((
@@ -145,6 +148,8 @@ fn are_lines_read(alloc: Global) -> Result<((bool, bool, bool), bool), Fail> {
     ))
 }
 
+/// Fails where a line of no event is read as one or has another error, or an event's line isn't read or written as it
+/// stands.
 #[test]
 fn lines_are_read_and_written(rt: HostRuntime) -> Result<(), Fail> {
     assert_eq!(rt; are_lines_read(rt.alloc())?, ((true, true, true), true));

@@ -1,4 +1,4 @@
-//! What a document is read as, through the readers of a lab.
+//! What a document is read as, through the readers of a lab. An error is want of memory, or that of a lab file.
 ghost use Rattle.std.specs.Prelude.{◌<◌, length};
 
 use mml_fakes::labs::boxed_lab;
@@ -8,8 +8,8 @@ use mml_rules::Network;
 use std::alloc::{AllocError, Global};
 use std::test::Fail;
 
-/// How a node stands to another: `-` where they are linked, `>` where it points at the other too, `!` where it points
-/// at one that it isn't linked to.
+/// How a node stands to another: `-` where the two are linked, `>` where they are and the node points at the other,
+/// `!` where it points there without a link, `.` where neither.
 fn mark(lab: &Lab, node: Rank, other: Rank) -> &'static str
     requires { node < length lab.now.ids }
 {
@@ -22,7 +22,7 @@ fn mark(lab: &Lab, node: Rank, other: Rank) -> &'static str
     }
 }
 
-/// Adds the names of a node's owners.
+/// Adds the names of a node's owners to a text, with nothing between them, in the order of the lab's students.
 fn push_owners(text: &mut String, lab: &Lab, node: Rank) -> Result<(), AllocError> {
     let roster = lab.roster();
     for place in 0..roster.student_count() {
@@ -34,7 +34,7 @@ fn push_owners(text: &mut String, lab: &Lab, node: Rank) -> Result<(), AllocErro
     Ok(())
 }
 
-/// Adds how a node stands to each node.
+/// Adds to a text the `mark` that tells how a node stands to each node, in the order of ranks.
 fn push_marks(text: &mut String, lab: &Lab, node: Rank) -> Result<(), AllocError>
     requires { node < length lab.now.ids }
 {
@@ -44,7 +44,7 @@ fn push_marks(text: &mut String, lab: &Lab, node: Rank) -> Result<(), AllocError
     Ok(())
 }
 
-/// Adds a node's line: its identifier, m, its owners, and how it stands to each node.
+/// Adds a node's line to a text: its identifier, m, its owners, and how it stands to each node.
 fn push_node(text: &mut String, lab: &Lab, node: Rank) -> Result<(), AllocError>
     requires { node < length lab.now.ids }
 {
@@ -56,7 +56,7 @@ fn push_node(text: &mut String, lab: &Lab, node: Rank) -> Result<(), AllocError>
     push_marks(text, lab, node)
 }
 
-/// The counts of a lab on a line, and a line for each node.
+/// A lab as text: on a line its events, connections, nodes, links and students, and then a line for each node.
 fn shown(alloc: Global, lab: &Lab) -> Result<String, AllocError> {
     let mut text = String::new(alloc);
     for count in [
@@ -107,7 +107,7 @@ const INDEXES: [(&str, Option<u16>); 7] = [
     ("", None),
 ];
 
-/// The first name of these whose student has another index.
+/// The first name of `INDEXES` whose student in a roster has another index than there; `None` where none has.
 fn first_other_index(roster: &Roster) -> Option<&'static str> {
     for (name, index) in INDEXES {
         if roster.student_named(name).map(Student::index) != index {
@@ -117,7 +117,7 @@ fn first_other_index(roster: &Roster) -> Option<&'static str> {
     None
 }
 
-/// Whether a network has the links and registers of another at a node.
+/// Whether a network has the links and registers of another at a node; `false` too where one of them lacks the node.
 fn is_same_at(network: &Network, other: &Network, node: Rank) -> bool {
     if node.index() >= network.size() || node.index() >= other.size() {
         return false;
@@ -138,7 +138,8 @@ fn is_copied(alloc: Global, network: &Network) -> Result<bool, Memory> {
     Ok(copy.size() == network.size())
 }
 
-/// What a lab shows, whether its network is copied, and the first name with another index.
+/// A lab as text, whether its network is copied as it is, and the first name with another index than in `INDEXES`, if
+/// any.
 fn shown_of_lab(alloc: Global, lab: &Lab) -> Result<(String, bool, Option<&'static str>), Fail> {
     let text = shown(alloc, lab)?;
     Ok((
@@ -148,8 +149,8 @@ fn shown_of_lab(alloc: Global, lab: &Lab) -> Result<(String, bool, Option<&'stat
     ))
 }
 
-/// Whether a document's lab shows what is wanted, whether its network is copied, and the first name with
-/// another index.
+/// Whether the lab of a document is the text `wanted`, whether its network is copied as it is, and the first name with
+/// another index than in `INDEXES`, if any.
 fn is_document_shown(
     alloc: Global,
     document: &str,
@@ -160,6 +161,7 @@ fn is_document_shown(
     Ok((text.as_str() == wanted, is_copied, other))
 }
 
+/// Fails where a number, link, register, owner or name of `DOCUMENT` is read as another, or its network isn't copied.
 #[test]
 fn a_document_is_read(rt: HostRuntime) -> Result<(), Fail> {
     assert_eq!(rt;

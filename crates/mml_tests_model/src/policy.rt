@@ -1,4 +1,4 @@
-//! What comes of a command where the limit of events is reached, or the journal is halted, and a look.
+//! What comes of a command where the limit of events is reached, or the journal is halted. An error is want of memory.
 use mml_board::Board;
 use mml_fakes::labs::{PATH_OF_THREE, boxed_board, boxed_lab};
 use mml_ids::{Memory, Rank};
@@ -24,7 +24,7 @@ fn ruling_name(ruling: &Ruling) -> &'static str {
 /// How many events may take place, whether the journal is halted, and a command.
 type Case = (u64, bool, Command);
 
-/// What comes of a case of one who takes part, if board and identifiers are of one size.
+/// The name of what is ruled on a case of `who`; `another size` where board and lab aren't of one size.
 fn ruled(
     alloc: Global,
     lab: &Lab,
@@ -42,7 +42,7 @@ fn ruled(
     Ok(ruling_name(&ruling))
 }
 
-/// What comes of ana's command in each of these cases, in a row.
+/// The names of what is ruled on ana's command in each case, in a row; `nobody` for each where the lab has no ana.
 fn rulings(alloc: Global, lab: &Lab, board: &Board, cases: &[Case]) -> Result<String, Fail> {
     let mut text = String::new(alloc);
     for case in cases {
@@ -55,19 +55,19 @@ fn rulings(alloc: Global, lab: &Lab, board: &Board, cases: &[Case]) -> Result<St
     Ok(text)
 }
 
-/// What is ruled in each case at the beginning of a run.
+/// The names of what is ruled on ana's command in each case, at the beginning of a lab's run.
 fn first_rulings(alloc: Global, lab: &Lab, cases: &[Case]) -> Result<String, Fail> {
     let board = boxed_board(alloc, lab)?;
     rulings(alloc, lab, &board, cases)
 }
 
-/// What is ruled in each case at the beginning of a run over a path of three.
+/// The names of what is ruled on ana's command in each case, at the beginning of a run over the path of three.
 fn rulings_over_the_path(alloc: Global, cases: &[Case]) -> Result<String, Fail> {
     let lab = boxed_lab(alloc, PATH_OF_THREE)?;
     first_rulings(alloc, &lab, cases)
 }
 
-/// A move by Seduction in configuration 0.
+/// The command of a move by Seduction, of the node with this identifier, in configuration 0.
 fn seduction(node: u64) -> Command {
     Command::Move {
         node,
@@ -76,6 +76,8 @@ fn seduction(node: u64) -> Command {
     }
 }
 
+/// Fails where a legal move isn't granted, or isn't told `journal` once the journal is halted, or `full` where the
+/// limit is reached too; or where what is denied, a see or a look is told one of these in a halted journal.
 #[test]
 fn a_halted_journal_comes_after_the_limit(rt: HostRuntime) -> Result<(), Fail> {
     let told = rulings_over_the_path(

@@ -1,4 +1,4 @@
-//! The text of a report.
+//! The text of a report. An error is want of memory, or that of a lab file.
 use mml_board::Board;
 use mml_fakes::labs::{boxed_board, boxed_lab};
 use mml_ids::Rank;
@@ -7,14 +7,14 @@ use mml_stable::{OpenLink, Report, report};
 use std::alloc::{AllocError, Global};
 use std::test::Fail;
 
-/// The lists of a report, by ranks.
+/// A report as text: its configuration's number, whether it is stable, and its four lists, by ranks.
 fn report_text(alloc: Global, report: &Report) -> Result<String, Fail> {
     let mut text = format!(in alloc; "{} {};", report.at, report.stable)?;
     push_lists(&mut text, report)?;
     Ok(text)
 }
 
-/// Adds the four lists of a report.
+/// Adds the lists of a report to a text: its pairs, free nodes, privileged nodes and open links.
 fn push_lists(text: &mut String, report: &Report) -> Result<(), AllocError> {
     push_pairs(text, report.pairs.as_slice())?;
     push_free(text, report.free.as_slice())?;
@@ -25,7 +25,7 @@ fn push_lists(text: &mut String, report: &Report) -> Result<(), AllocError> {
     Ok(())
 }
 
-/// Adds the pairs.
+/// Adds a report's pairs to a text, each as its two ranks with `=` between, and `;` behind them.
 fn push_pairs(text: &mut String, pairs: &[(Rank, Rank)]) -> Result<(), AllocError> {
     for (lower, greater) in pairs {
         write!(text, " {}={}", lower.index(), greater.index())?;
@@ -33,7 +33,7 @@ fn push_pairs(text: &mut String, pairs: &[(Rank, Rank)]) -> Result<(), AllocErro
     text.push_str(";")
 }
 
-/// Adds the nodes of no pair.
+/// Adds the ranks of a report's nodes in no pair to a text, and `;` behind them.
 fn push_free(text: &mut String, nodes: &[Rank]) -> Result<(), AllocError> {
     for node in nodes {
         write!(text, " {}", node.index())?;
@@ -41,7 +41,7 @@ fn push_free(text: &mut String, nodes: &[Rank]) -> Result<(), AllocError> {
     text.push_str(";")
 }
 
-/// Adds the privileged nodes, each with its rule.
+/// Adds the ranks of a report's privileged nodes to a text, each with its enabled rule, and `;` behind them.
 fn push_privileged(text: &mut String, nodes: &[(Rank, Kind)]) -> Result<(), AllocError> {
     for (node, kind) in nodes {
         write!(text, " {} {kind:?}", node.index())?;
@@ -49,13 +49,14 @@ fn push_privileged(text: &mut String, nodes: &[(Rank, Kind)]) -> Result<(), Allo
     text.push_str(";")
 }
 
-/// Adds an open link, with a privileged node that shows it.
+/// Adds an open link (one between two nodes in no pair) to a text, with its privileged witness and the rule enabled
+/// there.
 fn push_link(text: &mut String, link: &OpenLink) -> Result<(), AllocError> {
     let [a, b, node] = [link.a.index(), link.b.index(), link.node.index()];
     write!(text, " {a}-{b} {node} {:?}", link.kind)
 }
 
-// Two pairs, of which one isn't written down, and a link between two that are free.
+// Two pairs, in one of which a node's m doesn't say so yet, and a link between two free nodes.
 const DOCUMENT: &str = r#"
 events = 100
 sessions = 1
@@ -80,13 +81,14 @@ fn board_report_text(alloc: Global, board: &Board) -> Result<String, Fail> {
     report_text(alloc, &report)
 }
 
-/// The report of a lab's board at the beginning, as text.
+/// The report of the board at the beginning of a run over a document's lab, as text.
 fn lab_report_text(alloc: Global, document: &str) -> Result<String, Fail> {
     let lab = boxed_lab(alloc, document)?;
     let board = boxed_board(alloc, &lab)?;
     board_report_text(alloc, &board)
 }
 
+/// Fails where the report of `DOCUMENT` has other pairs, free or privileged nodes or open links than `TOLD`, by hand.
 #[test]
 fn report_of_two_pairs_and_an_open_link(rt: HostRuntime) -> Result<(), Fail> {
     assert_eq!(rt; lab_report_text(rt.alloc(), DOCUMENT)?.as_str(), TOLD);

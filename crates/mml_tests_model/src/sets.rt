@@ -1,24 +1,24 @@
 //! Sets of ranks, beside plain lists.
 use mml_ids::{MAX_NODES, NodeSet, Rank};
 
-/// Whether these ranks are taken out of the set in this order, and then none.
+/// Whether `ranks` are what is taken out of a set, one by one and in their order, and nothing is left then.
 fn gives_in_order(set: NodeSet, ranks: &[u64]) -> bool {
     let mut left = set;
     for index in ranks {
-        if taken(&mut left) != Some(*index) {
+        if least_taken(&mut left) != Some(*index) {
             return false;
         }
     }
-    taken(&mut left).is_none()
+    least_taken(&mut left).is_none()
 }
 
-/// The least rank of a set, which is taken out.
-fn taken(left: &mut NodeSet) -> Option<u64> {
+/// Takes the least rank out of a set, and answers it; `None` where the set is empty.
+fn least_taken(left: &mut NodeSet) -> Option<u64> {
     Some(left.take_least()?.index())
 }
 
-/// Whether a set has these ranks, of which the first is the least and the last the greatest, and no
-/// other.
+/// Whether a set has just `ranks`, given from the least to the greatest: by membership, length, least, greatest, and
+/// the order in which they are taken out.
 fn has_only(set: NodeSet, ranks: &[u64]) -> bool {
     ranks.iter().all(|index| has(set, *index))
         && set.len() == ranks.len() as u64
@@ -27,7 +27,8 @@ fn has_only(set: NodeSet, ranks: &[u64]) -> bool {
         && gives_in_order(set, ranks)
 }
 
-/// The place of the first set of a table that has other ranks, and how many ranks are above 63.
+/// The place of the first of seven sets that has other ranks than stand beside it, `None` where none has; and how many
+/// ranks are above 63.
 fn told_of_sets() -> (Option<usize>, u64) {
     let none = NodeSet::empty();
     let some = none
@@ -50,7 +51,7 @@ fn told_of_sets() -> (Option<usize>, u64) {
     (other, above.len())
 }
 
-/// Whether a rank is in the set drawn by a seed: in some words many are, in others few.
+/// Whether a rank is in the set drawn by a seed, which has many ranks of some words (of 64 ranks) and few of others.
 fn is_drawn(seed: u64, index: u64) -> bool {
     let spread = seed.wrapping_add(index.wrapping_mul(37));
     spread % 16 < 1 + (index / 64).wrapping_mul(seed) % 16
@@ -67,7 +68,7 @@ fn drawn_set(seed: u64) -> NodeSet {
     set
 }
 
-/// Whether a rank is in a set.
+/// Whether a set has the rank with this index; `false` too where there is no such rank.
 fn has(set: NodeSet, index: u64) -> bool {
     match Rank::new(index) {
         Some(rank) => set.has(rank),
@@ -75,18 +76,19 @@ fn has(set: NodeSet, index: u64) -> bool {
     }
 }
 
-/// The least rank of a set.
+/// The least rank of a set, if it has one.
 fn least_of(set: NodeSet) -> Option<u64> {
     let mut left = set;
-    taken(&mut left)
+    least_taken(&mut left)
 }
 
-/// The greatest rank of a set.
+/// The greatest rank of a set, if it has one.
 fn greatest_of(set: NodeSet) -> Option<u64> {
     Some(set.greatest()?.index())
 }
 
-/// Whether a set has the ranks whose places are true in a list, and no others.
+/// Whether a set has just the ranks whose places are true in a list of all ranks, by membership, length, least and
+/// greatest.
 fn is_list(set: NodeSet, list: &[bool]) -> bool {
     let (mut count, mut least, mut greatest) = (0u64, None, None);
     for (index, there) in list.iter().enumerate() {
@@ -102,8 +104,8 @@ fn is_list(set: NodeSet, list: &[bool]) -> bool {
     (set.len(), least_of(set), greatest_of(set)) == (count, least, greatest)
 }
 
-/// Whether the first of two drawn sets, what both have, what only the first has, and the ranks above one are as
-/// in plain lists.
+/// Whether the set drawn by seed `a`, what it shares with that of `b`, what it has alone, and the ranks above `rank`
+/// are as in plain lists.
 fn sets_are_lists(a: u64, b: u64, rank: Rank) -> bool {
     let mut first = [false; 256];
     let mut both = [false; 256];
@@ -135,7 +137,7 @@ const SEEDS: [(u64, u64, u64); 8] = [
     (15, 4, 255),
 ];
 
-/// The first seeds of these whose sets aren't as plain lists.
+/// The first row of `SEEDS` whose sets aren't as plain lists say; `None` where all are.
 fn first_unlike_lists() -> Option<(u64, u64, u64)> {
     for (a, b, index) in SEEDS {
         let agree = match Rank::new(index) {
@@ -149,6 +151,7 @@ fn first_unlike_lists() -> Option<(u64, u64, u64)> {
     None
 }
 
+/// Fails where a set has other ranks, another least or greatest one or another length than a plain list.
 #[test]
 fn sets_of_ranks(rt: HostRuntime) {
     assert_eq!(rt; (told_of_sets(), first_unlike_lists()), ((None, 192), None));

@@ -1,4 +1,4 @@
-//! Sinks that fail at each put, and at each byte.
+//! Sinks that fail at each put, and at each byte. An error is want of memory.
 use mml_fakes::Drip;
 use mml_fakes::labs::{PATH_OF_THREE, boxed_lab};
 use mml_fakes::scripts::{TEN_LINES, first_lines};
@@ -8,7 +8,8 @@ use mml_lab::Lab;
 use std::alloc::Global;
 use std::test::Fail;
 
-/// Puts the line of an event, and tells whether it was taken.
+/// Puts the text of the event that a line says into a journal; `false` where it says none, or a put failed, or one has
+/// failed before.
 fn put_line<S: Sink>(
     alloc: Global,
     lab: &Lab,
@@ -22,7 +23,7 @@ fn put_line<S: Sink>(
     Ok(journal.append(&text).is_ok())
 }
 
-/// Puts the lines of the ten events, and tells how many were taken.
+/// Puts the lines of `TEN_LINES` into a journal one by one, and tells how many were taken whole.
 fn put_lines<S: Sink>(alloc: Global, lab: &Lab, journal: &mut Journal<S>) -> Result<usize, Memory> {
     let mut count = 0usize;
     for line in TEN_LINES.lines() {
@@ -32,8 +33,8 @@ fn put_lines<S: Sink>(alloc: Global, lab: &Lab, journal: &mut Journal<S>) -> Res
     Ok(count)
 }
 
-/// Whether a sink that fails from that put on has exactly so many lines of the ten, and the journal is then halted
-/// unless these are all.
+/// Whether a sink that fails from the put `fail_at` on, counted from 1, or never (`None`), is left with exactly the
+/// first `lines` of the ten lines, and its journal halted unless those are all.
 fn takes_lines(alloc: Global, lab: &Lab, fail_at: Option<u64>, lines: usize) -> Result<bool, Fail> {
     let text = first_lines(TEN_LINES, lines as u64);
     let mut journal = Journal::new(MemorySink::new(alloc, fail_at));
@@ -42,7 +43,7 @@ fn takes_lines(alloc: Global, lab: &Lab, fail_at: Option<u64>, lines: usize) -> 
     Ok(count == lines && is_halted && journal.into_sink().bytes() == text.as_bytes())
 }
 
-/// How many lines come through before the first put that fails and takes others with it.
+/// The first number of lines, from 0 to 10, with which a sink whose next put fails isn't left; 11 where there is none.
 fn lines_that_hold(alloc: Global, lab: &Lab) -> Result<usize, Fail> {
     for lines in 0..=10usize {
         if !takes_lines(alloc, lab, Some(lines as u64 + 1), lines)? {
@@ -52,8 +53,8 @@ fn lines_that_hold(alloc: Global, lab: &Lab) -> Result<usize, Fail> {
     Ok(11)
 }
 
-/// How many lines come through before a put that fails takes others with it; and what comes of a first put
-/// numbered 0, and with no put that fails.
+/// What `lines_that_hold` finds; whether a sink that fails from the beginning has no line; and whether one that never
+/// fails has all ten.
 fn lines_taken(alloc: Global, lab: &Lab) -> Result<(usize, bool, bool), Fail> {
     let hold = lines_that_hold(alloc, lab)?;
     let none = takes_lines(alloc, lab, Some(0), 0)?;
@@ -61,7 +62,8 @@ fn lines_taken(alloc: Global, lab: &Lab) -> Result<(usize, bool, bool), Fail> {
     Ok((hold, none, all))
 }
 
-/// Whether the sink has exactly that many bytes of the text, and the journal is then halted.
+/// Whether a sink that fails after `left` bytes is left with just so many of `text`, the ten lines, or with all where
+/// there are no more, and its journal halted unless those are all.
 fn takes_bytes(alloc: Global, lab: &Lab, text: &[u8], left: usize) -> Result<bool, Memory> {
     let mut journal = Journal::new(Drip::failing_after(left, alloc));
     put_lines(alloc, lab, &mut journal)?;
@@ -70,7 +72,7 @@ fn takes_bytes(alloc: Global, lab: &Lab, text: &[u8], left: usize) -> Result<boo
     Ok(is_halted && taken.len() == left.min(text.len()) && text.starts_with(taken.as_slice()))
 }
 
-/// Whether a sink that fails after any number of bytes has just these.
+/// Whether a sink that fails after any number of bytes, from 0 to all of the ten lines, is left with just that many.
 fn takes_each_number_of_bytes(alloc: Global, lab: &Lab) -> Result<bool, Fail> {
     let text = TEN_LINES.as_bytes();
     for left in 0..=text.len() {
@@ -81,15 +83,15 @@ fn takes_each_number_of_bytes(alloc: Global, lab: &Lab) -> Result<bool, Fail> {
     Ok(true)
 }
 
-/// Over the path of three: how many lines come through before a failed put takes others with it, whether none
-/// comes where the first put fails and all where none does, and whether a sink that fails after any number of
-/// bytes has just these.
+/// Over the path of three: what `lines_taken` tells, and whether a sink that fails after any number of bytes is left
+/// with just that many.
 fn lines_and_bytes_taken(alloc: Global) -> Result<((usize, bool, bool), bool), Fail> {
     let lab = boxed_lab(alloc, PATH_OF_THREE)?;
     let lines = lines_taken(alloc, &lab)?;
     Ok((lines, takes_each_number_of_bytes(alloc, &lab)?))
 }
 
+/// Fails where a failed put leaves more or fewer lines or bytes in the sink, or the journal isn't halted by it.
 #[test]
 fn sinks_fail_at_each_put_and_at_each_byte(rt: HostRuntime) -> Result<(), Fail> {
     assert_eq!(rt;

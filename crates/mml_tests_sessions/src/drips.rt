@@ -9,8 +9,9 @@ use std::alloc::Global;
 use std::sync::Wait;
 use std::test::Fail;
 
-/// Whether an answer is that of the act at this place, where the sink fails at the line of the last one.
-fn is_wanted(answer: &Answer, place: u64, last: u64) -> bool {
+/// Whether an answer to the act with this place is right, where the sink fails at the line of event `last`: granted
+/// before that, refused for the journal at it, and denied or refused so behind it.
+fn is_right_answer(answer: &Answer, place: u64, last: u64) -> bool {
     match answer {
         Answer::Granted { place: granted, .. } => place < last && *granted == place,
         Answer::Denied(_) => place > last,
@@ -18,20 +19,20 @@ fn is_wanted(answer: &Answer, place: u64, last: u64) -> bool {
     }
 }
 
-/// Whether each act is granted before the last line, and denied or refused from there on, while the
-/// number stays.
+/// Whether each of the ten acts is granted before event `last`, at whose line the sink fails, and denied or refused
+/// from it on, and the number of the configuration after each is the one after those that were granted.
 fn plays<H: House, R: Wait>(seat: &mut Seat<'_, Drip, H, R>, last: u64) -> bool {
     for place in 1..=ACTS {
         let answer = seat.ask(asker(place), &act(place));
         let number = number_before(last.min(place.saturating_add(1)));
-        if !is_wanted(&answer, place, last) || seat.window.number() != Ok(number) {
+        if !is_right_answer(&answer, place, last) || seat.window.number() != Ok(number) {
             return false;
         }
     }
     true
 }
 
-/// All acts, where the sink fails at the line of the last one.
+/// All ten acts, where the sink fails at the line of event `last`, or at none where that is 11.
 #[derive(Clone, Copy)]
 struct Acts {
     last: u64,
@@ -40,12 +41,14 @@ struct Acts {
 impl Visit<Drip> for Acts {
     type Told = bool;
 
+    // Asks for all ten acts through the first seat: whether each is answered as it should be by such a sink.
     fn visit<H: House, R: Wait>(self, seats: &mut Pair<'_, Drip, H, R>) -> bool {
         plays(&mut seats.one, self.last)
     }
 }
 
-/// How a house ends that was asked for all acts, whose sink failed at the line of the last one.
+/// How a house ends that was asked for all ten acts, and whose sink failed at the line of event `last`, or at none
+/// where that is 11.
 fn ending_at(last: u64) -> Ending {
     Ending::Log {
         events: last.saturating_sub(1) as usize,
@@ -54,7 +57,8 @@ fn ending_at(last: u64) -> Ending {
     }
 }
 
-/// Whether a house ended with these bytes, and asked its sink for nothing after one failed put.
+/// Whether a house ended with a log, with these bytes in its sink, and with one failed put there if it halted, else
+/// none.
 fn has_dripped(end: &Result<Log<Drip>, Astray>, wanted: &[u8]) -> bool {
     match end {
         Ok(log) => {
@@ -64,8 +68,8 @@ fn has_dripped(end: &Result<Log<Drip>, Astray>, wanted: &[u8]) -> bool {
     }
 }
 
-/// Whether a house over a sink that takes so many bytes ends with these, its events those of the whole
-/// lines.
+/// Whether a house over a sink that takes `puts` bytes answers the ten acts as it should, and ends with just so many
+/// bytes of their journal, and with the events of the whole lines in them.
 fn drips<R: Wait>(rt: &R, alloc: Global, puts: usize) -> Result<bool, Fail> {
     let (wanted, _) = TEN_LINES.as_bytes().split_at(puts.min(TEN_LINES.len()));
     let last = (ended_lines(wanted) as u64).saturating_add(1);
@@ -73,7 +77,8 @@ fn drips<R: Wait>(rt: &R, alloc: Global, puts: usize) -> Result<bool, Fail> {
     Ok(plays == Some(true) && ending_of(&end) == ending_at(last) && has_dripped(&end, wanted))
 }
 
-/// The first number of bytes that a sink takes where the house doesn't end with just these, if there is one.
+/// The first number of bytes, up to those of the journal of ten acts, such that a house whose sink takes so many
+/// answers or ends otherwise than it should, if there is one.
 fn first_byte_told_otherwise<R: Wait>(rt: &R, alloc: Global) -> Result<Option<usize>, Fail> {
     for puts in 0..=TEN_LINES.len() {
         if !drips(rt, alloc, puts)? {
@@ -83,6 +88,8 @@ fn first_byte_told_otherwise<R: Wait>(rt: &R, alloc: Global) -> Result<Option<us
     Ok(None)
 }
 
+/// Fails where a sink that takes the journal up to some byte is left with other bytes, or its house with other events,
+/// or an act there is answered otherwise.
 #[test]
 fn each_byte_of_a_house_may_be_the_last(rt: HostRuntime) -> Result<(), Fail> {
     assert_eq!(rt; first_byte_told_otherwise(&rt, rt.alloc())?, None);

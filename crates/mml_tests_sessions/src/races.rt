@@ -42,20 +42,21 @@ fn arrivals_of<'a>(alloc: Global, scripts: &[&'a str]) -> Result<IntoIter<Ends<'
     Ok(coming.into_iter())
 }
 
-/// The document of the path of three with as many sessions as there may be, and a node of two.
+/// The document of the path of three with sixteen sessions, as many as there may be, and with node 2 of ben and ana.
 fn document_of_sixteen(alloc: Global) -> Result<String, AllocError> {
     let file = PATH_OF_THREE.replacen(alloc, "sessions = 4", "sessions = 16", 1)?;
     file.replacen(alloc, "owner = \"ben\"", "owners = [\"ben\", \"ana\"]", 1)
 }
 
-/// The path of three with as many sessions as there may be.
+/// The lab of the path of three with sixteen sessions, as many as there may be, and with node 2 of ben and ana.
 fn lab_of_sixteen(alloc: Global) -> Result<Lab, Fail> {
     let file = document_of_sixteen(alloc)?;
     Ok(read_lab(alloc, file.as_bytes())?)
 }
 
-/// What comes of the first so many of these scripts over the path of three and a sink, with as many
-/// sessions as there may be; the last line goes out.
+/// What comes of the first `connections` of these scripts over the path of three and a sink, with as many sessions
+/// as there may be: the house or why there is none; a failure where the test itself goes wrong. The server's last
+/// line goes to `out`.
 fn serve<'a, S: Sink + Send + Drop, R: Threads + Wait + Sync, G: Gate + Sync>(
     rt: &R,
     alloc: Global,
@@ -76,7 +77,7 @@ fn serve<'a, S: Sink + Send + Drop, R: Threads + Wait + Sync, G: Gate + Sync>(
     Ok(serve_arrivals(rt, alloc, lab, arrivals, connections, sink, gate, out))
 }
 
-/// Whether the connections, by their numbers, were answered so.
+/// Whether the connections have the numbers from 1 on in their order, and were sent just these replies.
 fn are_answered<S: Drop>(house: &ServedHouse<S, Bytewise<'_>, Vec<u8>>, replies: &[&str]) -> bool {
     let mut number = 0u8;
     for session in house.sessions.iter() {
@@ -102,7 +103,8 @@ type Race = (
     &'static [Outcome],
 );
 
-/// Whether this outcome came of the sessions of a house.
+/// Whether the outcome `wanted` came of the sessions of a house: its journal, the replies to each, and the server's
+/// last line, which is `out`.
 fn is_outcome(
     house: &ServedHouse<MemorySink, Bytewise<'_>, Vec<u8>>,
     out: &[u8],
@@ -128,7 +130,8 @@ fn is_some_outcome(
     false
 }
 
-/// Whether one of these outcomes comes of a race in which all were held.
+/// Whether one of a race's outcomes comes of it, and each session was held where the race says, and passed as many
+/// steps; false where the sessions couldn't be served to their end.
 fn is_run<R: Threads + Wait + Sync>(rt: &R, alloc: Global, race: &Race) -> Result<bool, Fail> {
     let (scripts, holds, steps, outcomes) = race;
     let connections = u8::try_from(scripts.len()).map_err(|_| "too many scripts")?;
@@ -263,7 +266,8 @@ const RACES: &[Race] = &[
     ),
 ];
 
-/// The first race of which something else comes.
+/// The index of the first of `RACES` of which none of its outcomes comes, or whose sessions aren't held as it says, if
+/// there is one.
 fn first_other<R: Threads + Wait + Sync>(rt: &R, alloc: Global) -> Result<Option<usize>, Fail> {
     for (number, race) in RACES.iter().enumerate() {
         if !is_run(rt, alloc, race)? {
@@ -273,13 +277,16 @@ fn first_other<R: Threads + Wait + Sync>(rt: &R, alloc: Global) -> Result<Option
     Ok(None)
 }
 
+/// Fails where sessions that are held at their steps are answered, written to the journal or ended as by no order of
+/// their lines that their holds allow, or one gave up waiting.
 #[test]
 fn held_sessions_are_answered_one_by_one(rt: HostRuntime) -> Result<(), Fail> {
     assert_eq!(rt; first_other(&rt, rt.alloc())?, None);
     Ok(())
 }
 
-/// Whether of three connections the first two are served and left in their order.
+/// Whether of three connections, where two are wanted, the first two alone are served, answered as they should be, and
+/// left in their order.
 fn are_two_left<R: Threads + Wait + Sync>(rt: &R, alloc: Global) -> Result<bool, Fail> {
     let mut out = Vec::new(alloc);
     let sink = MemorySink::new(alloc, None);
@@ -291,7 +298,7 @@ fn are_two_left<R: Threads + Wait + Sync>(rt: &R, alloc: Global) -> Result<bool,
     }
 }
 
-/// Whether it is an error where one comes of two that are wanted, and no last line is written.
+/// Whether it is the error of an accept where one connection comes of two that are wanted, and no last line is written.
 fn is_lack_told<R: Threads + Wait + Sync>(rt: &R, alloc: Global) -> Result<bool, Fail> {
     let mut out = Vec::new(alloc);
     let sink = MemorySink::new(alloc, None);
@@ -304,6 +311,8 @@ fn told_of_arrivals<R: Threads + Wait + Sync>(rt: &R, alloc: Global) -> Result<(
     Ok((are_two_left(rt, alloc)?, is_lack_told(rt, alloc)?))
 }
 
+/// Fails where the third of three connections is served where two are wanted, the first two are left in another
+/// order, or one that comes where two are wanted is no error.
 #[test]
 fn connections_are_left_in_the_order_in_which_they_came(rt: HostRuntime) -> Result<(), Fail> {
     assert_eq!(rt; told_of_arrivals(&rt, rt.alloc())?, (true, true));

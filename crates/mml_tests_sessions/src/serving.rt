@@ -26,6 +26,8 @@ struct After {
 }
 
 impl Gate for After {
+    // Counts the replies of connection 1. At each point any other connection waits until they are as many as wanted, or
+    // gives up after many looks.
     fn pass(&self, connection: u8, point: Point) {
         if connection == 1 && point == Point::Told {
             self.replies.fetch_add(1, Ordering::SeqCst);
@@ -36,7 +38,7 @@ impl Gate for After {
     }
 }
 
-/// Connects a client, which sends all that it says.
+/// Connects a client to this address, which sends this text and then nothing more: the stream of its replies.
 fn client<R: Net<Listener = TcpListener, Stream = TcpStream>>(
     rt: &R,
     address: SocketAddr,
@@ -48,8 +50,8 @@ fn client<R: Net<Listener = TcpListener, Stream = TcpStream>>(
     Ok(stream)
 }
 
-/// Serves two connections of a listener over the path of three, and tells whether that went well and it
-/// wrote this of itself.
+/// Serves two connections of a listener over the path of three, and tells whether that went well and the server
+/// wrote just `last`.
 fn is_served<R: Threads + Wait + Sync>(
     rt: &R,
     alloc: Global,
@@ -70,7 +72,7 @@ fn is_served<R: Threads + Wait + Sync>(
     Ok(ended == Ok(()) && out.as_slice() == last.as_bytes())
 }
 
-/// Whether a client was answered so, and its connection ended.
+/// Whether a client was sent just these replies before its connection ended.
 fn is_answered(alloc: Global, stream: TcpStream, replies: &str) -> io::Result<bool> {
     let found = io::read_to_string(alloc, &stream)?;
     Ok(found.as_str() == replies)
@@ -95,6 +97,8 @@ fn told_of_two<
     Ok((is_served, is_granted, is_closed))
 }
 
+/// Fails where two clients aren't served or answered as they should be, as where the gate, which holds all but
+/// connection 1, is told other numbers: then the close comes first, and is answered otherwise.
 #[test]
 fn connections_are_numbered_as_they_come(rt: HostRuntime) -> Result<(), Fail> {
     assert_eq!(rt; told_of_two(&rt)?, (true, true, true));

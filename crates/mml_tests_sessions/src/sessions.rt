@@ -31,6 +31,7 @@ struct Served<'a> {
 impl<'a> Visit<MemorySink> for Session<'a> {
     type Told = Served<'a>;
 
+    // Serves the session through the first seat, and then asks for the teacher's close through the second.
     fn visit<H: House, R: Wait>(self, seats: &mut Pair<'_, MemorySink, H, R>) -> Served<'a> {
         let Session {
             mut reader,
@@ -47,8 +48,8 @@ impl<'a> Visit<MemorySink> for Session<'a> {
     }
 }
 
-/// What came of a session over the path of three, and whether its house ended well, with a move and its
-/// close or with no event.
+/// What came of a session over the path of three, and whether its house ended well, with a move and its close where the
+/// close applied that, else with no event; an error where there were fewer than two windows.
 fn serve<'a, R: Wait>(
     rt: &R,
     alloc: Global,
@@ -75,7 +76,7 @@ fn ending_after(is_closed: bool) -> Ending {
     }
 }
 
-/// A bye with so many spaces behind it, and then these bytes.
+/// The line of a bye with `spaces` spaces behind it, and then the bytes of `end`.
 fn bye(alloc: Global, spaces: usize, end: &str) -> Result<Vec<u8>, AllocError> {
     let mut line = line!(bye).as_bytes().to_vec(alloc)?;
     for _ in 0..spaces {
@@ -99,7 +100,7 @@ const BYES: &[Row] = &[
     (0, "\n{\"do\":\"bye\"}\n", SessionEnd::Bye, LEFT, 13, 13),
 ];
 
-/// Whether a session over the line of a row ends, writes and reads as the row says.
+/// Whether a session over the line of a row ends, writes and reads as the row says, and its house ends well.
 fn ends_as_in<R: Wait>(rt: &R, alloc: Global, row: &Row) -> Result<bool, Fail> {
     let (spaces, after, end, written, reads, rest) = row;
     let line = bye(alloc, *spaces, after)?;
@@ -113,7 +114,7 @@ fn ends_as_in<R: Wait>(rt: &R, alloc: Global, row: &Row) -> Result<bool, Fail> {
     )
 }
 
-/// The first row of `BYES` that ends otherwise.
+/// The index of the first row of `BYES` whose session ends, writes or reads otherwise than it says, if there is one.
 fn first_row_told_otherwise<R: Wait>(rt: &R, alloc: Global) -> Result<Option<usize>, Fail> {
     for (number, row) in BYES.iter().enumerate() {
         if !ends_as_in(rt, alloc, row)? {
@@ -123,21 +124,22 @@ fn first_row_told_otherwise<R: Wait>(rt: &R, alloc: Global) -> Result<Option<usi
     Ok(None)
 }
 
+/// Fails at a row of `BYES` whose session ends, writes or reads otherwise.
 #[test]
 fn lines_have_limits_and_nothing_is_read_after_a_bye(rt: HostRuntime) -> Result<(), Fail> {
     assert_eq!(rt; first_row_told_otherwise(&rt, rt.alloc())?, None);
     Ok(())
 }
 
-/// A reader that gives `ANA_MOVES`, so many bytes at a time.
+/// A reader that gives `ANA_MOVES`, at most `step` bytes in a read.
 fn all_at(step: usize) -> FakeReader<'static> {
     let mut reader = FakeReader::failing_after(usize::MAX, ANA_MOVES.as_bytes());
     reader.step = step;
     reader
 }
 
-/// Whether a writer that fails after so many bytes ends the session, and has the beginning of what is
-/// wanted, while a granted event stands though no reply could be written, so that the close applies it.
+/// Whether a session whose writer fails after `good` bytes ends by that, or at its reader's end where they are all, has
+/// written just these, and its move stands even where its reply isn't out, so that the close applies it.
 fn tells_a_write<R: Wait>(rt: &R, alloc: Global, good: usize) -> Result<bool, Fail> {
     let reader = all_at(usize::MAX);
     let mut writer = FakeWriter::failing_after(good, alloc);
@@ -157,7 +159,7 @@ fn tells_a_write<R: Wait>(rt: &R, alloc: Global, good: usize) -> Result<bool, Fa
     )
 }
 
-/// The first number of good writes after which something else is told.
+/// The first number of good writes, of a byte each, after which a session ends or writes otherwise, if there is one.
 fn first_untold_write<R: Wait>(rt: &R, alloc: Global) -> Result<Option<usize>, Fail> {
     for good in 0..=ANA_GRANTED.len() {
         if !tells_a_write(rt, alloc, good)? {
@@ -167,14 +169,16 @@ fn first_untold_write<R: Wait>(rt: &R, alloc: Global) -> Result<Option<usize>, F
     Ok(None)
 }
 
+/// Fails where a session whose writer fails after some byte of the replies, or after all, ends or writes otherwise, or
+/// its move doesn't stand.
 #[test]
 fn failed_writes_are_told(rt: HostRuntime) -> Result<(), Fail> {
     assert_eq!(rt; first_untold_write(&rt, rt.alloc())?, None);
     Ok(())
 }
 
-/// What is answered to the whole lines among so many bytes.
-fn answered(good: usize) -> &'static str {
+/// What is answered to the whole lines among the first `good` bytes of `ANA_MOVES`.
+fn replies_after(good: usize) -> &'static str {
     if good == ANA_MOVES.len() {
         ANA_GRANTED
     } else if good > 41 {
@@ -184,20 +188,20 @@ fn answered(good: usize) -> &'static str {
     }
 }
 
-/// Whether a reader that fails after so many bytes ends the session, where exactly the lines that it
-/// gave were answered.
+/// Whether a session whose reader fails after `good` bytes ends by that, exactly the whole lines among these are
+/// answered, and the close applies the move exactly where its line is among them.
 fn tells_a_read<R: Wait>(rt: &R, alloc: Global, good: usize) -> Result<bool, Fail> {
     let reader = FakeReader::failing_after(good, ANA_MOVES.as_bytes());
     let (served, is_ended) = serve(rt, alloc, reader, FakeWriter::patient(alloc))?;
     Ok(
         is_ended
             && served.end == SessionEnd::ReadFault
-            && served.writer.taken.as_slice() == answered(good).as_bytes()
+            && served.writer.taken.as_slice() == replies_after(good).as_bytes()
             && served.is_closed == (good == ANA_MOVES.len()),
     )
 }
 
-/// The first number of good reads after which something else is told.
+/// The first number of good reads, of a byte each, after which a session ends or writes otherwise, if there is one.
 fn first_untold_read<R: Wait>(rt: &R, alloc: Global) -> Result<Option<usize>, Fail> {
     for good in 0..=ANA_MOVES.len() {
         if !tells_a_read(rt, alloc, good)? {
@@ -207,13 +211,16 @@ fn first_untold_read<R: Wait>(rt: &R, alloc: Global) -> Result<Option<usize>, Fa
     Ok(None)
 }
 
+/// Fails where a session whose reader fails after some byte of the lines ends or writes otherwise, or its move doesn't
+/// stand exactly where its whole line was read.
 #[test]
 fn failed_reads_are_told(rt: HostRuntime) -> Result<(), Fail> {
     assert_eq!(rt; first_untold_read(&rt, rt.alloc())?, None);
     Ok(())
 }
 
-/// How many writes a session takes whose reader gives so many bytes at a time, where all is answered well.
+/// How many writes the replies to `ANA_MOVES` take where the reader gives at most `step` bytes in a read; none where
+/// they are other replies, or the house doesn't end well.
 fn writes_at<R: Wait>(rt: &R, alloc: Global, step: usize) -> Result<Option<usize>, Fail> {
     let reader = all_at(step);
     let (served, is_ended) = serve(rt, alloc, reader, FakeWriter::patient(alloc))?;
@@ -221,12 +228,14 @@ fn writes_at<R: Wait>(rt: &R, alloc: Global, step: usize) -> Result<Option<usize
     Ok(is_well.then_some(usize::MAX - served.writer.good))
 }
 
+/// Fails where the replies to two lines of one read take more than one write, or are other ones.
 #[test]
 fn replies_to_lines_that_came_together_are_one_write(rt: HostRuntime) -> Result<(), Fail> {
     assert_eq!(rt; writes_at(&rt, rt.alloc(), usize::MAX)?, Some(1));
     Ok(())
 }
 
+/// Fails where the replies to two lines that came byte by byte don't take a write each, or are other ones.
 #[test]
 fn a_line_that_came_alone_is_answered_before_the_next_read(rt: HostRuntime) -> Result<(), Fail> {
     assert_eq!(rt; writes_at(&rt, rt.alloc(), 1)?, Some(2));

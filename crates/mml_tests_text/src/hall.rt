@@ -1,4 +1,5 @@
-//! Scripts from the bytes that come in to the bytes that go out, over the path of three.
+//! Scripts from the bytes that come in to the bytes that go out, over the path of three. An error (`Fail`) is want of
+//! memory, or that of a lab file.
 mod answers;
 mod journals;
 mod reads;
@@ -13,8 +14,8 @@ use std::alloc::Global;
 use std::io::{Read, Write};
 use std::test::Fail;
 
-/// The error that a script over the path of three ends with, if it does.
-fn fault_of<R: Read, W: Write>(
+/// The error that a script over the path of three ends with; `None` where it ends well.
+fn script_error_of<R: Read, W: Write>(
     alloc: Global,
     reader: &mut R,
     writer: &mut W,

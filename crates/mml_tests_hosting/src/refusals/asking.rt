@@ -20,8 +20,8 @@ fn granted_or_refused(answer: &Answer, place: u64, was_none: bool) -> Option<boo
     }
 }
 
-/// Asks for the act at this place with that request refused, and tells whether it was granted; nothing,
-/// where it was answered otherwise, or was refused with another number than before.
+/// Asks for the act with this place, whose nth request for memory is refused, if there is one: whether it was granted,
+/// or else refused for that; none where it was answered otherwise, or refused with a new number of the configuration.
 fn asked<H: House, R: Wait>(
     seat: &mut Seat<'_, NullSink, H, R>,
     place: u64,
@@ -36,7 +36,7 @@ fn asked<H: House, R: Wait>(
     is_kept.then_some(is_granted)
 }
 
-/// How often an act was refused until it was granted.
+/// How often the act with this place was refused until it was granted; none where something else came of it.
 fn refusals_of<H: House, R: Wait>(
     seat: &mut Seat<'_, NullSink, H, R>,
     place: u64,
@@ -57,7 +57,7 @@ struct Acts {
 }
 
 impl Visit<NullSink> for Acts {
-    /// How often all acts were refused, each until it was granted.
+    /// How often all acts were refused, each until it was granted; none where something else came of one.
     type Told = Option<usize>;
 
     fn visit<H: House, R: Wait>(self, seats: &mut Pair<'_, NullSink, H, R>) -> Option<usize> {
@@ -70,7 +70,8 @@ impl Visit<NullSink> for Acts {
     }
 }
 
-/// How often the acts were refused over the path of three, if the house ended with all of them.
+/// How often the ten acts were refused over the path of three, each until it was granted; none where something else
+/// came of one, or the house didn't end with all of them.
 fn told_of_acts<R: Wait>(rt: &R, alloc: Global, is_there: bool) -> Result<Option<usize>, Fail> {
     let (refused, end) = visit_path(rt, alloc, NullSink::new(), Acts { is_there })?;
     let wanted = Ending::Log {
@@ -81,7 +82,7 @@ fn told_of_acts<R: Wait>(rt: &R, alloc: Global, is_there: bool) -> Result<Option
     Ok(refused.flatten().filter(|_| ending_of(&end) == wanted))
 }
 
-/// The first act with that request refused, and then another one, for which none is.
+/// The first act, whose nth request for memory is refused, and then the second one, for which none is.
 #[derive(Clone, Copy)]
 struct Instead {
     nth: usize,
@@ -89,7 +90,8 @@ struct Instead {
 }
 
 impl Visit<NullSink> for Instead {
-    /// Whether the first was granted, where the other then has the next place.
+    /// Whether the first was granted, or else refused; none where it was answered otherwise, or the second wasn't
+    /// granted with the next place.
     type Told = Option<bool>;
 
     fn visit<H: House, R: Wait>(self, seats: &mut Pair<'_, NullSink, H, R>) -> Option<bool> {
@@ -101,7 +103,8 @@ impl Visit<NullSink> for Instead {
     }
 }
 
-/// Whether the first act was granted, where of it and the other just those that were granted are events.
+/// Whether the first act, whose nth request for memory is refused, if there is one, was granted, in a house that ends
+/// with just the granted ones of that act and the second; none where something else came of them.
 fn told_of_another<R: Wait>(
     rt: &R,
     alloc: Global,
@@ -120,7 +123,8 @@ fn told_of_another<R: Wait>(
     Ok((ending_of(&end) == wanted).then_some(was_granted))
 }
 
-/// How often the first act was refused before it was granted.
+/// How often the first act was refused before it was granted, each time in a house of its own; none where something
+/// else came of it or of the second act.
 fn told_of_others<R: Wait>(rt: &R, alloc: Global, is_there: bool) -> Result<Option<usize>, Fail> {
     for nth in 1..MOST {
         match told_of_another(rt, alloc, nth, is_there)? {
@@ -132,6 +136,8 @@ fn told_of_others<R: Wait>(rt: &R, alloc: Global, is_there: bool) -> Result<Opti
     Ok(None)
 }
 
+/// Fails where an act with a request refused is neither granted nor refused for memory, or leaves a trace; or where no
+/// request is refused though the library is there.
 #[test]
 fn refusals_of_an_act_lose_nothing(rt: HostRuntime) -> Result<(), Fail> {
     let is_there = is_there(rt.alloc());

@@ -12,9 +12,9 @@ use mml_lab::read_lab;
 use std::alloc::Global;
 use std::test::Fail;
 
-/// The reply line to a request of connection 1 whose nth request for memory is refused, and whether none
-/// was; none where the lab has no such connection.
-fn answered(
+/// The reply line to a request of connection 1, for which the nth request for memory is refused, and whether none was
+/// refused; none where the lab has no such connection, or the line can't be written.
+fn answer_with_refusal(
     alloc: Global,
     hall: &mut Hall<MemorySink>,
     request: &str,
@@ -49,7 +49,8 @@ enum Grant {
     Halted,
 }
 
-/// What became of a grant that got this reply, where the hall is as it should be then.
+/// What became of the first grant, by its reply; none where that is another one, or the hall's events, its journal or
+/// whether it halted aren't as they should be then.
 fn grant_of(hall: &Hall<MemorySink>, reply: &[u8]) -> Option<Grant> {
     let (found, events) = if reply == GRANTED.as_bytes() {
         (Grant::Made, 1)
@@ -67,41 +68,47 @@ fn grant_of(hall: &Hall<MemorySink>, reply: &[u8]) -> Option<Grant> {
     is_so.then_some(found)
 }
 
-/// Whether a move that is asked once more gets the line of a halted journal.
+/// Whether a move that is asked for once more, with no request for memory refused, gets the line of a halted journal.
 fn stays_halted(alloc: Global, hall: &mut Hall<MemorySink>, is_there: bool) -> bool {
-    match answered(alloc, hall, MOVE, 0, is_there) {
+    match answer_with_refusal(alloc, hall, MOVE, 0, is_there) {
         Some((reply, _)) => reply.as_slice() == JOURNAL_LINE.as_bytes(),
         None => false,
     }
 }
 
-/// What became of a grant whose nth request for memory was refused, and whether none was. What halted is
-/// asked once more, and stays so.
+/// Greets ana and has her move node 1, for which the nth request for memory is refused, if there is one: what became of
+/// the grant, and whether none was refused; none where the reply or the hall is otherwise, or a halt doesn't last.
 fn grant_in(
     alloc: Global,
     hall: &mut Hall<MemorySink>,
     nth: usize,
     is_there: bool,
 ) -> Option<(Grant, bool)> {
-    answered(alloc, hall, HELLO, 0, is_there);
-    let (reply, was_none) = answered(alloc, hall, MOVE, nth, is_there)?;
+    answer_with_refusal(alloc, hall, HELLO, 0, is_there);
+    let (reply, was_none) = answer_with_refusal(alloc, hall, MOVE, nth, is_there)?;
     let found = grant_of(hall, reply.as_slice())?;
     let is_so = found != Grant::Halted || stays_halted(alloc, hall, is_there);
     is_so.then_some((found, was_none))
 }
 
-/// What became, in a hall of its own, of a grant whose nth request for memory was refused, and whether none was.
-fn granted(alloc: Global, nth: usize, is_there: bool) -> Result<Option<(Grant, bool)>, Fail> {
+/// What became, in a hall of its own, of a grant for which the nth request for memory is refused, if there is one, and
+/// whether none was refused; none where the reply or the hall isn't as it should be.
+fn grant_in_new_hall(
+    alloc: Global,
+    nth: usize,
+    is_there: bool,
+) -> Result<Option<(Grant, bool)>, Fail> {
     let lab = read_lab(alloc, PATH_OF_THREE.as_bytes())?;
     let mut hall = Hall::new(alloc, lab, MemorySink::new(alloc, None))?;
     Ok(grant_in(alloc, &mut hall, nth, is_there))
 }
 
-/// How often a grant was refused, and how often it halted, until it was made.
+/// How often a grant was refused, and how often it halted the hall, until it was made; none where something else came
+/// of it.
 fn told_of_grants(alloc: Global, is_there: bool) -> Result<Option<(usize, usize)>, Fail> {
     let (mut refused, mut halted) = (0usize, 0usize);
     for nth in 1..MOST {
-        match granted(alloc, nth, is_there)? {
+        match grant_in_new_hall(alloc, nth, is_there)? {
             Some((Grant::Made, true)) => return Ok(Some((refused, halted))),
             Some((Grant::Refused, false)) => refused = refused.saturating_add(1),
             Some((Grant::Halted, false)) => halted = halted.saturating_add(1),
@@ -111,6 +118,8 @@ fn told_of_grants(alloc: Global, is_there: bool) -> Result<Option<(usize, usize)
     Ok(None)
 }
 
+/// Fails where a refused request of the sink doesn't halt a hall, just once, any other refused one changes the hall,
+/// or, where the library is there, no other is refused.
 #[test]
 fn refusals_of_a_sink_halt(rt: HostRuntime) -> Result<(), Fail> {
     let is_there = is_there(rt.alloc());

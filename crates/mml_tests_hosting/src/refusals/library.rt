@@ -8,10 +8,10 @@ const ARM: usize = 0x11 << 56;
 /// Arms the library to refuse each request from the one on whose number is added.
 const FROM: usize = 0x12 << 56;
 
-/// Granted exactly where no request was made since.
+/// Granted exactly where the library is there, and no request was made since it was armed.
 const MADE: usize = 0x13 << 56;
 
-/// Granted exactly where no request was refused since.
+/// Granted exactly where the library is there, and no request was refused since it was armed.
 const MET: usize = 0x14 << 56;
 
 /// Whether a request for so many bytes is granted.
@@ -20,23 +20,23 @@ fn is_granted(alloc: Global, bytes: usize) -> bool {
     block.is_ok()
 }
 
-/// Has the request for memory with this number refused, of those that follow, or none of them where it
-/// is 0.
+/// Has the request for memory with this number refused, of those that follow, or none of them where it is 0. Without
+/// the library nothing happens.
 pub fn refuse(alloc: Global, nth: usize) {
     is_granted(alloc, ARM.saturating_add(nth.min(1_000_000)));
 }
 
-/// Has each request for memory that follows refused.
+/// Has each request for memory that follows refused. Without the library nothing happens.
 pub fn refuse_all(alloc: Global) {
     is_granted(alloc, FROM.saturating_add(1));
 }
 
-/// Whether no request for memory was made since `refuse` was called.
+/// Whether the library is there, and no request for memory was made since `refuse` was called.
 pub fn was_none_made(alloc: Global) -> bool {
     is_granted(alloc, MADE)
 }
 
-/// Whether the library is there.
+/// Whether the library that refuses requests for memory is there; no request is refused from here on.
 pub fn is_there(alloc: Global) -> bool {
     refuse(alloc, 0);
     was_none_made(alloc)

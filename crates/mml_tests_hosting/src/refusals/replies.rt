@@ -15,7 +15,7 @@ teacher = { name = "tess", key = "chalk" }
 student = [{ name = "ana", key = "a-key" }]
 "#;
 
-/// Nodes 65280 to 65535 in a row, all of ana.
+/// The lab file of nodes 65280 to 65535 in a row, all of ana.
 fn row_of_256(alloc: Global) -> Result<String, AllocError> {
     let mut text = format!(in alloc; "{LIMITS_AND_PEOPLE}links = [")?;
     for id in 65280..65535u64 {
@@ -77,8 +77,8 @@ const AFTER: &[(u8, &str, &str)] = &[
     (1, line!(bye), line!(left)),
 ];
 
-/// Writes the reply line to a connection's request into `out` while each request for memory is refused; an error
-/// where memory was wanted.
+/// Answers a connection's request, and writes the reply line into `out` while each request for memory is refused; an
+/// error where memory was wanted for that, or the lab has no such connection.
 fn written(
     alloc: Global,
     hall: &mut Hall<NullSink>,
@@ -96,7 +96,7 @@ fn written(
     told
 }
 
-/// Whether the wanted reply to a connection's request is written without memory.
+/// Whether the reply to a connection's request is the wanted one, and is written without more memory than `out` has.
 fn is_written(
     alloc: Global,
     hall: &mut Hall<NullSink>,
@@ -176,6 +176,8 @@ fn told_of_replies(alloc: Global) -> Result<(bool, bool), Fail> {
     Ok((is_before && is_moved && is_closed && is_after, is_reported))
 }
 
+/// Fails where a reply that fits into its room wants memory or is another one, or where, with each request for memory
+/// refused by the library, a report of all nodes is written, or isn't without the library.
 #[test]
 fn refusals_do_not_keep_a_reply_from_its_room(rt: HostRuntime) -> Result<(), Fail> {
     let is_there = is_there(rt.alloc());

@@ -11,8 +11,8 @@ use std::alloc::Global;
 use std::sync::Wait;
 use std::test::Fail;
 
-/// Whether an act is answered by this refusal, or denied where none is wanted, and no memory is taken
-/// for it or, if the library isn't there, this isn't known.
+/// Whether the act with this place is answered by the wanted refusal, or denied where none is wanted, and no memory is
+/// taken for it or, if the library isn't there, this isn't known.
 fn takes_none<H: House, R: Wait>(
     seat: &mut Seat<'_, MemorySink, H, R>,
     place: u64,
@@ -29,7 +29,8 @@ fn takes_none<H: House, R: Wait>(
     }
 }
 
-/// Whether a view of a node and the number take none.
+/// Whether a node and the number of the configuration, which is 0, are shown, and no memory is taken for them or, if
+/// the library isn't there, this isn't known.
 fn views_take_none<H: House, R: Wait>(
     seat: &mut Seat<'_, MemorySink, H, R>,
     is_there: bool,
@@ -48,7 +49,8 @@ struct Asked {
 }
 
 impl Visit<MemorySink> for Asked {
-    /// Whether, once the first act was granted, the same again and the second take none.
+    /// Whether, once the first act was granted and the second refused, the first is denied, the second refused as is
+    /// wanted, and a view answered, all without memory.
     type Told = bool;
 
     fn visit<H: House, R: Wait>(self, seats: &mut Pair<'_, MemorySink, H, R>) -> bool {
@@ -65,8 +67,8 @@ impl Visit<MemorySink> for Asked {
 }
 
 /// Whether what is asked after a first act that is granted takes no memory, in a house over the path of three with
-/// this line as its limit of events and a sink that fails at this put, if at any, and whether the last act gets the
-/// wanted refusal; none where there were fewer than two windows. `is_there`: whether the library that counts is.
+/// this line as its limit of events and a sink that fails at this put, if at any, and the second act gets the wanted
+/// refusal; none where there were fewer than two windows. `is_there`: whether the library that counts is.
 fn takes_none_after_first<R: Wait>(
     rt: &R,
     alloc: Global,
@@ -86,6 +88,8 @@ fn takes_none_after_first<R: Wait>(
     Ok(hold)
 }
 
+/// Fails where a denied act, one over the limit of events or after the journal halted, or a view takes memory or is
+/// answered otherwise.
 #[test]
 fn refusals_that_take_no_memory(rt: HostRuntime) -> Result<(), Fail> {
     let is_there = is_there(rt.alloc());

@@ -9,7 +9,7 @@ use mml_serving::write_listening;
 use std::alloc::Global;
 use std::test::Fail;
 
-/// Whether a call ended with the error that is wanted, and has written these bytes.
+/// Whether a call ended with the wanted error, or well where none is wanted, and its writer has taken just these bytes.
 fn has_written(
     ended: Result<(), Fault>,
     writer: &FakeWriter,
@@ -25,13 +25,14 @@ const AUDITED: &[u8] = b"ok: 10 events, configuration 4, stable\n";
 
 const LISTENING: &[u8] = b"listening on port 7000\n";
 
-/// Whether a server's first line goes out in one write.
+/// Whether a server's first line, which names its port, goes out in one write.
 fn is_listening_told(alloc: Global) -> bool {
     let mut first = FakeWriter::failing_after(1, alloc);
     write_listening(alloc, 7000, &mut first) == Ok(()) && first.taken.as_slice() == LISTENING
 }
 
-/// Whether the lines of a lab and of a journal each go out in one write, and a write that fails is told.
+/// Whether, of the path of three, the line of a lab's size and that of a journal's audit each go out in one write, and
+/// a write of the former that fails is told, with nothing written.
 fn are_lines_told(alloc: Global, lab: &Lab) -> bool {
     let mut size = FakeWriter::failing_after(1, alloc);
     let is_size = write_size(alloc, lab, &mut size);
@@ -44,12 +45,15 @@ fn are_lines_told(alloc: Global, lab: &Lab) -> bool {
         && has_written(is_failed, &failing, Some(Fault::Write), b"")
 }
 
-/// Whether the lines of a server, of a lab and of a journal are told as they should be.
+/// Whether a server's first line and, of the built-in lab, the lines of its size and of an audit each go out in one
+/// write, and a failed write is told; an error where that lab isn't read.
 fn told_of_lines(alloc: Global) -> Result<bool, Fail> {
     let lab = boxed_lab(alloc, BUILT_IN)?;
     Ok(is_listening_told(alloc) && are_lines_told(alloc, &lab))
 }
 
+/// Fails where the line of a port, a lab's size or an audit is another or takes more than one write, a failed write
+/// isn't told, or the built-in lab isn't the path of three.
 #[test]
 fn lines_go_out_in_one_write(rt: HostRuntime) -> Result<(), Fail> {
     let are_told = told_of_lines(rt.alloc())?;
@@ -99,14 +103,15 @@ const ROWS: &[Row] = &[
     (BYE, 1000, 100, 100, None, LEFT, 1000),
 ];
 
-/// How a script over the built-in lab ends.
+/// The fault by which a script over the built-in lab ends, none where it ends well; what is replied goes to the
+/// writer. It is an error where that lab isn't read.
 fn fault_of(alloc: Global, script: &str, writer: &mut FakeWriter) -> Result<Option<Fault>, Fail> {
     let lab = read_lab(alloc, BUILT_IN.as_bytes())?;
     let mut reader = script.as_bytes();
     Ok(answer_script(alloc, lab, &mut reader, writer, NullSink::new()).err())
 }
 
-/// Whether what a row says comes of its script.
+/// Whether the script of a row ends and is answered as the row says.
 fn is_answered(alloc: Global, row: &Row) -> Result<bool, Fail> {
     let (script, times, writes, flushes, wanted, replies, count) = row;
     let mut writer = FakeWriter::failing_after(*writes, alloc);
@@ -117,7 +122,7 @@ fn is_answered(alloc: Global, row: &Row) -> Result<bool, Fail> {
     Ok(fault == *wanted && writer.taken.as_slice() == replies.as_bytes())
 }
 
-/// The first row of `ROWS` of which something else comes.
+/// The index of the first row of `ROWS` whose script ends or is answered otherwise than it says, if there is one.
 fn first_other(alloc: Global) -> Result<Option<usize>, Fail> {
     for (number, row) in ROWS.iter().enumerate() {
         if !is_answered(alloc, row)? {
@@ -127,6 +132,7 @@ fn first_other(alloc: Global) -> Result<Option<usize>, Fail> {
     Ok(None)
 }
 
+/// Fails at a row of `ROWS` whose script ends or is answered otherwise.
 #[test]
 fn scripts_are_answered_up_to_a_failed_write(rt: HostRuntime) -> Result<(), Fail> {
     assert_eq!(rt; first_other(rt.alloc())?, None);

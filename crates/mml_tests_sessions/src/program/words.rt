@@ -3,7 +3,7 @@ use mml_program::read_words;
 use std::alloc::Global;
 use std::test::Fail;
 
-/// The words of a line, the program's name first; two spaces have an empty word between them.
+/// The words between the spaces of a line: two spaces have an empty word between them, one at the end has one after it.
 fn given(alloc: Global, line: &str) -> Result<Vec<String>, Fail> {
     let mut words = Vec::new(alloc);
     for word in line.split(' ') {
@@ -59,27 +59,28 @@ const FORMS: &[(&str, &str)] = &[
     ),
 ];
 
-/// Whether words ask for the wanted task.
-fn is_asked(alloc: Global, words: &[String], wanted: &str) -> Result<bool, Fail> {
+/// Whether words ask for the task that has the wanted text for debugging; an error where they ask for none.
+fn is_task(alloc: Global, words: &[String], wanted: &str) -> Result<bool, Fail> {
     let task = read_words(alloc, words)?;
     let found = format!(in alloc; "{task:?}")?;
     Ok(found.as_str() == wanted)
 }
 
-/// The first line that asks for something else.
+/// The first line of `FORMS` that asks for something else, if there is one.
 fn first_other(alloc: Global) -> Result<Option<&'static str>, Fail> {
     for (line, wanted) in FORMS {
         let words = given(alloc, line)?;
-        if !is_asked(alloc, words.as_slice(), wanted)? {
+        if !is_task(alloc, words.as_slice(), wanted)? {
             return Ok(Some(*line));
         }
     }
     Ok(None)
 }
 
+/// Fails where a line of `FORMS` asks for another task, or no words ask for another one than the built-in lab.
 #[test]
 fn each_form_is_taken(rt: HostRuntime) -> Result<(), Fail> {
-    let are_none_taken = is_asked(rt.alloc(), &[], "BuiltIn")?;
+    let are_none_taken = is_task(rt.alloc(), &[], "BuiltIn")?;
     assert_eq!(rt; (first_other(rt.alloc())?, are_none_taken), (None, true));
     Ok(())
 }

@@ -10,6 +10,7 @@ pub struct Bytewise<'a> {
 }
 
 impl<'a> Read for Bytewise<'a> {
+    // The next byte; nothing where none is left, or there is no room for it.
     fn read(&mut self, buf: &mut [u8]) -> io::Result<usize> {
         let len = buf.len().min(1);
         self.rest.read(&mut buf[..len])
@@ -17,5 +18,6 @@ impl<'a> Read for Bytewise<'a> {
 }
 
 impl<'a> LetGo for Bytewise<'a> {
+    // A reader in memory holds nothing that could be given back.
     fn let_go(&mut self) {}
 }

@@ -30,7 +30,7 @@ pub struct Steps<'a> {
 }
 
 impl<'a> Steps<'a> {
-    /// For so many connections.
+    /// A gate for the connections 1 to `connections`, none of which has come to a step.
     pub fn new(alloc: Global, connections: u8, holds: Holds<'a>) -> Result<Steps<'a>, AllocError> {
         let mut steps = Vec::new(alloc);
         for _ in 0..connections {
@@ -44,12 +44,13 @@ impl<'a> Steps<'a> {
         })
     }
 
-    /// How many steps a connection has come to.
+    /// The count of the steps that a connection, from 1 on, has come to; none where there are fewer connections.
     fn come_of(&self, connection: u8) -> Option<&AtomicU64> {
         self.steps.get(usize::from(connection.saturating_sub(1)))
     }
 
-    /// Waits until a connection has come to so many steps, and counts that it gave up where it hasn't.
+    /// Waits until the count of a connection's steps is at least `wanted`; notes that it gave up where that takes too
+    /// long, or there is no such connection.
     fn wait_until(&self, come: Option<&AtomicU64>, wanted: u64) {
         let has_come = match come {
             Some(come) => wait_for(come, wanted),
@@ -60,7 +61,7 @@ impl<'a> Steps<'a> {
         }
     }
 
-    /// Waits at a step until all connections have come to it.
+    /// Waits until all connections have come to this step, or gives up and notes that.
     fn hold_together(&self, step: u64) {
         for come in self.steps.iter() {
             self.wait_until(Some(come), step.saturating_add(1));
@@ -77,7 +78,7 @@ impl<'a> Steps<'a> {
     }
 
     /// Waits at a step of a connection as long as it is held there.
-    fn hold(&self, connection: u8, step: u64) {
+    fn wait_at(&self, connection: u8, step: u64) {
         match self.holds {
             Holds::Together => self.hold_together(step),
             Holds::Each(holds) => self.hold_each(holds, connection, step),
@@ -89,7 +90,7 @@ impl<'a> Steps<'a> {
         self.given_up.load(Ordering::SeqCst) == 0 && self.misled.load(Ordering::SeqCst) == 0
     }
 
-    /// Whether all passed lines and replies in turn, nobody gave up, and each connection passed so many steps.
+    /// Whether all passed lines and replies in turn, nobody gave up, and each connection passed `steps` steps.
     pub fn were_kept(&self, steps: u64) -> bool {
         self.were_led()
             && self
@@ -98,7 +99,8 @@ impl<'a> Steps<'a> {
                 .all(|come| come.load(Ordering::SeqCst) == steps)
     }
 
-    /// Comes to the next step of a connection, and is held there.
+    /// Counts the next step of a connection, notes where it is a line in the place of a reply or a reply in that of a
+    /// line, and waits as long as the connection is held there.
     pub fn come(&self, connection: u8, point: Point) {
         let step = match self.come_of(connection) {
             Some(come) => come.fetch_add(1, Ordering::SeqCst),
@@ -108,11 +110,12 @@ impl<'a> Steps<'a> {
         if is_line != (step % 2 == 0) {
             self.misled.fetch_add(1, Ordering::SeqCst);
         }
-        self.hold(connection, step);
+        self.wait_at(connection, step);
     }
 }
 
 impl<'a> Gate for Steps<'a> {
+    // Each point that a session comes to is its connection's next step, at which it is held.
     fn pass(&self, connection: u8, point: Point) {
         self.come(connection, point);
     }

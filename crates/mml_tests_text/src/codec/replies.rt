@@ -1,4 +1,4 @@
-//! Replies, over a lab of two nodes far apart.
+//! Replies, over a lab of two nodes far apart. An error is want of memory.
 ghost use Rattle.mml_codec.specs.Replies.{IsAbout};
 
 use mml_board::Board;
@@ -12,7 +12,7 @@ use mml_stable::{Report, report};
 use std::alloc::Global;
 use std::test::Fail;
 
-/// The line of a reply, written over an older text.
+/// The line that `write_reply` writes for a reply in the place of an older text.
 fn line_of(alloc: Global, lab: &Lab, reply: &Reply) -> Result<String, Fail>
     requires { IsAbout lab.now.ids lab.now.roster reply.now }
 {
@@ -21,7 +21,8 @@ fn line_of(alloc: Global, lab: &Lab, reply: &Reply) -> Result<String, Fail>
     Ok(String::from_utf8(out)?)
 }
 
-/// What is shown of the node 65535, whose pointer leads to the node 7.
+/// The line of a see's reply that shows the node 65535, with m and a pointer to the node 7 (none where the lab lacks
+/// that), in the configuration with the greatest number; no text where the lab lacks the node 65535.
 fn sight(alloc: Global, lab: &Lab) -> Result<String, Fail> {
     let p = lab.ids().rank_of(7);
     let Some(node) = lab.ids().rank_of(65535) else {
@@ -32,7 +33,7 @@ fn sight(alloc: Global, lab: &Lab) -> Result<String, Fail> {
     line_of(alloc, lab, &Reply::See(See { at, node, regs }))
 }
 
-/// Whether the reply to a report that is granted is this one.
+/// Whether `reply_of` answers an allowed report on a board by a report with the number and the stability of `told`.
 fn is_reported(alloc: Global, board: &Board, told: &Report) -> Result<bool, Fail> {
     match reply_of(alloc, board, Ruling::Reported)? {
         Reply::Report(other) => Ok(other.at == told.at && other.stable == told.stable),
@@ -40,8 +41,8 @@ fn is_reported(alloc: Global, board: &Board, told: &Report) -> Result<bool, Fail
     }
 }
 
-/// The report on the lab's opening world, or no text where it isn't of the lab's size, or where the reply
-/// to a report that is granted is another.
+/// The line of the report on the board at the beginning of a lab's run; no text where that isn't of the lab's size, or
+/// `reply_of` gives a report with another number or stability.
 fn report_line(alloc: Global, lab: &Lab) -> Result<String, Fail> {
     let board = &*boxed_board(alloc, lab)?;
     if lab.ids().len() != board.size() {
@@ -54,14 +55,14 @@ fn report_line(alloc: Global, lab: &Lab) -> Result<String, Fail> {
     line_of(alloc, lab, &Reply::Report(told))
 }
 
-/// The room of a vector once a denial was written into it.
+/// The capacity of a vector once a denial was written into it, in the place of what it held.
 fn room_after(alloc: Global, lab: &Lab, denial: Denial, out: &mut Vec<u8>) -> Result<usize, Fail> {
     write_reply(alloc, lab.ids(), lab.roster(), &Reply::Deny(denial), out)?;
     Ok(out.capacity())
 }
 
-/// The room of a vector at first, and after each of two denials: one with room doesn't grow, and isn't
-/// given back.
+/// The capacity of a vector with room for a reply, at first and after each of two denials that are written into it; the
+/// three should be the same.
 fn rooms(alloc: Global, lab: &Lab) -> Result<[usize; 3], Fail> {
     let mut out = Vec::with_capacity(alloc, REPLY_ROOM)?;
     let first = out.capacity();
@@ -70,19 +71,23 @@ fn rooms(alloc: Global, lab: &Lab) -> Result<[usize; 3], Fail> {
     Ok([first, second, third])
 }
 
-/// What is shown, the report, and whether a vector stays in its room.
+/// Of a lab: the line of a see's reply, the line of its report, and whether a vector with room for a reply keeps its
+/// capacity when one is written.
 fn replies_of_lab(alloc: Global, lab: &Lab) -> Result<(String, String, bool), Fail> {
     let rooms = rooms(alloc, lab)?;
     let stays = rooms[1] == rooms[0] && rooms[2] == rooms[0];
     Ok((sight(alloc, lab)?, report_line(alloc, lab)?, stays))
 }
 
-/// What is shown of two nodes far apart, the report, and whether a vector stays in its room.
+/// Of the lab with two nodes far apart: the line of a see's reply, the line of its report, and whether a vector with
+/// room for a reply keeps its capacity when one is written.
 fn replies_far_apart(alloc: Global) -> Result<(String, String, bool), Fail> {
     let lab = boxed_lab(alloc, FAR_APART)?;
     replies_of_lab(alloc, &lab)
 }
 
+// Fails where a see's or a report's line isn't the one wanted, or a reply for which there was room changed the
+// capacity.
 #[test]
 fn replies_are_written(rt: HostRuntime) -> Result<(), Fail> {
     let (sight, report, stays) = replies_far_apart(rt.alloc())?;

@@ -1,4 +1,5 @@
-//! A sink in which each byte may be the last: what it has then, and what the hall and audits say of it.
+//! A sink in which each byte may be the last: what it has then, and what the hall and audits say of it. An error is
+//! want of memory, or that of a script.
 use mml_audit::{audit, audit_events};
 use mml_fakes::labs::PATH_OF_THREE;
 use mml_fakes::scripts::{GREETINGS, TEN_ACTS, TEN_LINES, ended_lines};
@@ -8,8 +9,8 @@ use mml_lab::read_lab;
 use std::alloc::Global;
 use std::test::Fail;
 
-/// Whether a hall has the first bytes of the journal, so many at most, and the events of its whole lines,
-/// and is halted by one failed put unless these are all.
+/// Whether a hall's sink has the first `puts` bytes of `TEN_LINES`, the hall as many events as those have whole lines,
+/// and one failed put halted it, unless those bytes are all.
 fn has_dripped(hall: &Hall<Drip>, puts: usize) -> bool {
     let (wanted, _) = TEN_LINES.as_bytes().split_at(puts.min(TEN_LINES.len()));
     let lines = ended_lines(wanted);
@@ -20,7 +21,7 @@ fn has_dripped(hall: &Hall<Drip>, puts: usize) -> bool {
         && hall.board().place() == lines as u64
 }
 
-/// Whether an audit passes the journal, and the board after it is the hall's.
+/// Whether the audit `audit` passes a journal over the hall's lab, and leaves the world of the hall's board.
 fn leads_to_board(alloc: Global, hall: &Hall<Drip>, journal: &[u8]) -> bool {
     match audit(alloc, hall.lab(), journal) {
         Ok(board) => board.is_same(hall.board()),
@@ -28,7 +29,7 @@ fn leads_to_board(alloc: Global, hall: &Hall<Drip>, journal: &[u8]) -> bool {
     }
 }
 
-/// Whether the audit that tells the events passes the journal, and board and events are the hall's.
+/// Whether `audit_events` passes a journal over the hall's lab, with the hall's events, and the world of its board.
 fn is_listed(alloc: Global, hall: &Hall<Drip>, journal: &[u8]) -> bool {
     match audit_events(alloc, hall.lab(), journal) {
         Ok(audited) => {
@@ -38,7 +39,8 @@ fn is_listed(alloc: Global, hall: &Hall<Drip>, journal: &[u8]) -> bool {
     }
 }
 
-/// Whether both audits pass the journal of a hall, with the hall's board and events, unless its last line is torn.
+/// Whether `audit` and `audit_events` both pass the journal in a hall's sink, with the hall's board and events, where
+/// its last line is whole, and neither does where it is torn.
 fn is_audited(alloc: Global, hall: &Hall<Drip>) -> bool {
     let journal = hall.sink().bytes.as_slice();
     let is_whole = match journal.last() {
@@ -48,7 +50,7 @@ fn is_audited(alloc: Global, hall: &Hall<Drip>) -> bool {
     leads_to_board(alloc, hall, journal) == is_whole && is_listed(alloc, hall, journal) == is_whole
 }
 
-/// The hall of a script over a sink that takes one byte a put and fails after so many.
+/// The hall that a script leaves, over the path of three and a sink that takes one byte a put and fails after `puts`.
 fn hall_of(alloc: Global, script: &str, puts: usize) -> Result<Box<Hall<Drip>>, Fail> {
     let lab = read_lab(alloc, PATH_OF_THREE.as_bytes())?;
     let sink = Drip::failing_after(puts, alloc);
@@ -57,14 +59,14 @@ fn hall_of(alloc: Global, script: &str, puts: usize) -> Result<Box<Hall<Drip>>, 
     Ok(Box::new(alloc, hall)?)
 }
 
-/// Whether a script over a sink that fails after so many bytes leaves a hall with just these, which audits pass if they
-/// are whole lines.
+/// Whether a script over a sink that fails after `puts` bytes leaves a hall with just those bytes and their events, and
+/// audits pass these bytes exactly where they are whole lines.
 fn drips(alloc: Global, script: &str, puts: usize) -> Result<bool, Fail> {
     let hall = hall_of(alloc, script, puts)?;
     Ok(has_dripped(&hall, puts) && is_audited(alloc, &hall))
 }
 
-/// The first number of bytes that a sink takes where the hall isn't left with just these, if there is one.
+/// The first number of bytes for which `drips` is false of the script of the ten acts; `None` where it is of none.
 fn first_byte_told_otherwise(alloc: Global) -> Result<Option<usize>, Fail> {
     let script = format!(in alloc; "{GREETINGS}{TEN_ACTS}")?;
     for puts in 0..=TEN_LINES.len() {
@@ -75,6 +77,8 @@ fn first_byte_told_otherwise(alloc: Global) -> Result<Option<usize>, Fail> {
     Ok(None)
 }
 
+// Fails where a sink that fails after any number of bytes is left with others, or the hall with other events than their
+// whole lines, or where an audit doesn't pass exactly those of whole lines.
 #[test]
 fn each_byte_of_a_journal_may_be_the_last(rt: HostRuntime) -> Result<(), Fail> {
     assert_eq!(rt; first_byte_told_otherwise(rt.alloc())?, None);

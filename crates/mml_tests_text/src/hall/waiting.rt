@@ -1,5 +1,6 @@
-//! Replies wait for no line: all of them are out and flushed before each read, many in one write.
-use super::fault_of;
+//! Replies wait for no line: all of them are out and flushed before each read, many in one write. An error (`Fail`) is
+//! want of memory.
+use super::script_error_of;
 use mml_fakes::scripts::{FIRST_LOOK, FIRST_LOOK_REPLIES, GREETING, GREETING_REPLIES, ended_lines};
 use mml_fakes::{FakeWriter, Parts};
 use std::alloc::Global;
@@ -16,7 +17,7 @@ struct Line {
     unflushed: Cell<usize>,
 }
 
-/// Gives one line in each read, and sees by then one reply more, flushed.
+/// Gives one line in each read, and notes whether by then a reply to each earlier line isn't written and flushed.
 #[derive(Drop)]
 struct Asker<'a> {
     script: &'a str,
@@ -26,6 +27,8 @@ struct Asker<'a> {
 }
 
 impl<'a> Read for Asker<'a> {
+    // Gives what fits of the next line, 0 bytes at the end; `is_late` is set where not each line before has its reply
+    // written, or bytes of replies aren't flushed.
     fn read(&mut self, buf: &mut [u8]) -> io::Result<usize> {
         if self.line.unflushed.get() > 0 || self.line.replies.get() != self.reads {
             self.is_late = true;
@@ -37,7 +40,7 @@ impl<'a> Read for Asker<'a> {
     }
 }
 
-/// Keeps what it is given, and counts it.
+/// Keeps the replies that it is given, and counts them and their unflushed bytes in `line`.
 #[derive(Drop)]
 struct Answered<'a> {
     taken: Vec<u8>,
@@ -45,6 +48,7 @@ struct Answered<'a> {
 }
 
 impl<'a> Write for Answered<'a> {
+    // Takes all bytes, and counts them as unflushed, and their newlines as replies; fails where memory lacks.
     fn write(&mut self, buf: &[u8]) -> io::Result<usize> {
         self.taken.extend_from_slice(buf)?;
         let replies = &self.line.replies;
@@ -54,14 +58,15 @@ impl<'a> Write for Answered<'a> {
         Ok(buf.len())
     }
 
+    // Counts no byte as unflushed from then on, until the next write.
     fn flush(&mut self) -> io::Result<()> {
         self.line.unflushed.set(0);
         Ok(())
     }
 }
 
-/// Whether a conversation has these replies, each out and flushed before the next line is asked for, and
-/// how often it was asked.
+/// Whether a script, read a line a read, ends well with just the given replies, each out and flushed before the next
+/// read, the last at the end; and how many reads there were.
 fn asked(alloc: Global, script: &str, replies: &str) -> Result<(bool, usize), Fail> {
     let line = Line {
         replies: Cell::new(0),
@@ -77,7 +82,7 @@ fn asked(alloc: Global, script: &str, replies: &str) -> Result<(bool, usize), Fa
         taken: Vec::new(alloc),
         line: &line,
     };
-    let fault = fault_of(alloc, &mut asker, &mut writer)?;
+    let fault = script_error_of(alloc, &mut asker, &mut writer)?;
     let is_told = fault.is_none() && writer.taken.as_slice() == replies.as_bytes();
     Ok((
         is_told && !asker.is_late && line.unflushed.get() == 0,
@@ -85,7 +90,7 @@ fn asked(alloc: Global, script: &str, replies: &str) -> Result<(bool, usize), Fa
     ))
 }
 
-/// How often a writer was written to and flushed.
+/// How often a writer that was made patient was written to, and how often it was flushed.
 fn calls(writer: &FakeWriter) -> (usize, usize) {
     (
         usize::MAX.saturating_sub(writer.good),
@@ -93,8 +98,8 @@ fn calls(writer: &FakeWriter) -> (usize, usize) {
     )
 }
 
-/// Whether a pipe that is cut in two has the replies of the whole script in at most two writes, with a
-/// flush before each read.
+/// Whether `FIRST_LOOK`, cut in two parts that come in a read each, ends well with just its replies, in at most two
+/// writes and three flushes, one for each read.
 fn is_the_same_cut(alloc: Global, cut: usize) -> Result<bool, Fail> {
     let (first, second) = FIRST_LOOK.as_bytes().split_at(cut.min(FIRST_LOOK.len()));
     let mut reader = Parts {
@@ -103,13 +108,14 @@ fn is_the_same_cut(alloc: Global, cut: usize) -> Result<bool, Fail> {
         step: usize::MAX,
     };
     let mut writer = FakeWriter::patient(alloc);
-    let fault = fault_of(alloc, &mut reader, &mut writer)?;
+    let fault = script_error_of(alloc, &mut reader, &mut writer)?;
     let (writes, flushes) = calls(&writer);
     let is_told = fault.is_none() && writer.taken.as_slice() == FIRST_LOOK_REPLIES.as_bytes();
     Ok(is_told && writes <= 2 && flushes <= 3)
 }
 
-/// The first cut that changes something.
+/// The first place of `FIRST_LOOK` where a cut gives other replies, or more than two writes or three flushes; `None`
+/// where there is none.
 fn first_cut_that_changes(alloc: Global) -> Result<Option<usize>, Fail> {
     for cut in 0..=FIRST_LOOK.len() {
         if !is_the_same_cut(alloc, cut)? {
@@ -119,16 +125,20 @@ fn first_cut_that_changes(alloc: Global) -> Result<Option<usize>, Fail> {
     Ok(None)
 }
 
-/// Whether looks, and greetings, are answered, after how many writes, and the first cut that changes something.
+/// For a script with looks, and then for one with greetings, whether it is answered in time and how many reads there
+/// were; and the first cut that changes something.
 type Writes = ((bool, usize), (bool, usize), Option<usize>);
 
-/// What is told of looks, of greetings, and of a pipe that is cut.
+/// What `asked` tells of a script with looks and of one with greetings, and the first cut of the former that changes
+/// its replies, or takes more writes or flushes.
 fn writes_before_reads(alloc: Global) -> Result<Writes, Fail> {
     let looks = asked(alloc, FIRST_LOOK, FIRST_LOOK_REPLIES)?;
     let greets = asked(alloc, GREETING, GREETING_REPLIES)?;
     Ok((looks, greets, first_cut_that_changes(alloc)?))
 }
 
+// Fails where a line is read before all replies are out and flushed, there are other replies or reads, or where a cut
+// of what comes in changes the replies, or takes more writes or flushes.
 #[test]
 fn replies_go_out_before_the_next_read(rt: HostRuntime) -> Result<(), Fail> {
     // A read for each line, and one that finds the end.

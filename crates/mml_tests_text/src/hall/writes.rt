@@ -1,5 +1,6 @@
-//! Writes and flushes that fail: the replies that went out before, and what the error tells of them.
-use super::fault_of;
+//! Writes and flushes that fail: the replies that went out before, and what the error tells of them. An error (`Fail`)
+//! is want of memory.
+use super::script_error_of;
 use mml_fakes::scripts::{FIRST_LOOK, FIRST_LOOK_REPLIES, GREETING, GREETING_REPLIES};
 use mml_fakes::{FakeReader, FakeWriter, Refusal};
 use mml_hall::ScriptFault;
@@ -7,14 +8,15 @@ use std::alloc::Global;
 use std::io::ErrorKind;
 use std::test::Fail;
 
-/// How many bytes follow the last line end.
+/// How many of these bytes follow the last newline; all where there is none.
 fn after_last_line(bytes: &[u8]) -> usize {
     let last = bytes.iter().rev().position(|byte| *byte == b'\n');
     last.unwrap_or(bytes.len())
 }
 
-/// Whether a writer that takes so many bytes a write, and so many writes, has exactly that front of the
-/// replies, and the error tells how much of the first line that isn't wholly out it has.
+/// Whether a writer that takes `step` bytes in each of `good` writes and then refuses is left with just as many bytes
+/// of the replies to `FIRST_LOOK`; the error tells how many of them belong to a line that isn't wholly out, and there
+/// is none where all replies are out.
 fn tells_a_write(alloc: Global, step: usize, good: usize, refusal: Refusal) -> Result<bool, Fail> {
     let replies = FIRST_LOOK_REPLIES.as_bytes();
     let (out, rest) = replies.split_at(usize::saturating_mul(step, good).min(replies.len()));
@@ -27,7 +29,7 @@ fn tells_a_write(alloc: Global, step: usize, good: usize, refusal: Refusal) -> R
     let mut writer = FakeWriter::failing_after(good, alloc);
     writer.step = step;
     writer.refusal = refusal;
-    let fault = fault_of(alloc, &mut FIRST_LOOK.as_bytes(), &mut writer)?;
+    let fault = script_error_of(alloc, &mut FIRST_LOOK.as_bytes(), &mut writer)?;
     Ok(fault == wanted && writer.taken.as_slice() == out)
 }
 
@@ -36,7 +38,8 @@ const FAILS: Refusal = Refusal::Fails(ErrorKind::Other);
 // How many bytes a write takes, and what comes in its place once it fails.
 const WRITERS: [(usize, Refusal); 3] = [(1, FAILS), (1, Refusal::TakesNothing), (7, FAILS)];
 
-/// The first number of good writes after which the error isn't told, and of how many bytes they are.
+/// The first number of good writes for which `tells_a_write` is false over one of `WRITERS`, and how many bytes that
+/// takes a write; `None` where there is none.
 fn first_untold_write(alloc: Global) -> Result<Option<(usize, usize)>, Fail> {
     for good in 0..=FIRST_LOOK_REPLIES.len() {
         for (step, refusal) in WRITERS {
@@ -48,21 +51,21 @@ fn first_untold_write(alloc: Global) -> Result<Option<(usize, usize)>, Fail> {
     Ok(None)
 }
 
-/// Whether a flush that fails ends a script with no part of a further line, and the replies to the
-/// lines before it are out.
+/// Whether a flush of the replies to `GREETING` that fails after `good` good ones ends the script, told as a write of
+/// no bytes, with whole lines of replies out, and at most two reads for each good flush.
 fn tells_a_flush(alloc: Global, good: usize) -> Result<bool, Fail> {
     let mut reader = FakeReader::failing_after(usize::MAX, GREETING.as_bytes());
     reader.step = 40;
     let mut writer = FakeWriter::patient(alloc);
     writer.good_flushes = good;
-    let fault = fault_of(alloc, &mut reader, &mut writer)?;
+    let fault = script_error_of(alloc, &mut reader, &mut writer)?;
     let out = writer.taken.as_slice();
     let is_front = GREETING_REPLIES.as_bytes().starts_with(out) && after_last_line(out) == 0;
     let is_unread = reader.reads <= good.saturating_mul(2);
     Ok(fault == Some(ScriptFault::Write { written: 0 }) && is_front && is_unread)
 }
 
-/// The first number of good flushes after which the error isn't told.
+/// The first number of good flushes, below four, for which `tells_a_flush` is false; `None` where there is none.
 fn first_untold_flush(alloc: Global) -> Result<Option<usize>, Fail> {
     for good in 0..4 {
         if !tells_a_flush(alloc, good)? {
@@ -72,14 +75,17 @@ fn first_untold_flush(alloc: Global) -> Result<Option<usize>, Fail> {
     Ok(None)
 }
 
-/// The first write and the first flush that aren't told.
+/// What `first_untold_write` gives, how many writes were good and how many bytes each took, and then how many flushes
+/// were good, by `first_untold_flush`; `None` each where all is told as it should be.
 type Untold = (Option<(usize, usize)>, Option<usize>);
 
-/// What isn't told of failed writes and flushes.
+/// The first failed write and the first failed flush that are told otherwise than they should be, `None` each where
+/// there is none.
 fn first_untold(alloc: Global) -> Result<Untold, Fail> {
     Ok((first_untold_write(alloc)?, first_untold_flush(alloc)?))
 }
 
+// Fails where a failed write or flush doesn't end a script, or other bytes are out by then than the error says.
 #[test]
 fn failed_writes_and_flushes_are_told(rt: HostRuntime) -> Result<(), Fail> {
     assert_eq!(rt; first_untold(rt.alloc())?, (None, None));

@@ -1,12 +1,12 @@
-//! Whole reads and writes, and lines that go out together.
+//! Whole reads and writes, and lines that go out together. An error is want of memory.
 use mml_fakes::{FakeReader, FakeWriter, Refusal};
 use mml_lines::{Outgoing, WriteFault, put_all, read_whole};
 use std::alloc::Global;
 use std::io::ErrorKind;
 use std::test::Fail;
 
-/// The bytes, or the error, of a reader that gives one byte a read and fails after so many reads, where
-/// six bytes may come.
+/// What `read_whole` gives, as a text, with a limit of six bytes over a reader that gives one byte a read and fails
+/// after `good` reads by an error of a kind: the bytes, or the name of the error.
 fn bytes_or_fault(
     alloc: Global,
     input: &[u8],
@@ -34,7 +34,7 @@ const INPUTS: &[(&str, usize, ErrorKind, &str)] = &[
     ("abc", 1, ErrorKind::OutOfMemory, "Memory"),
 ];
 
-/// The first row of `INPUTS` of which something else is told.
+/// The first row of `INPUTS` for which `bytes_or_fault` gives another text than the row says; `None` where none does.
 fn first_told_otherwise(alloc: Global) -> Result<Option<usize>, Fail> {
     for (row, (input, good, kind, wanted)) in INPUTS.iter().enumerate() {
         if bytes_or_fault(alloc, input.as_bytes(), *good, *kind)?.as_str() != *wanted {
@@ -44,14 +44,16 @@ fn first_told_otherwise(alloc: Global) -> Result<Option<usize>, Fail> {
     Ok(None)
 }
 
+// Fails where a reader isn't read whole within a limit of six bytes, or a longer one or a failed read is told
+// otherwise.
 #[test]
 fn readers_are_read_up_to_a_limit(rt: HostRuntime) -> Result<(), Fail> {
     assert_eq!(rt; first_told_otherwise(rt.alloc())?, None);
     Ok(())
 }
 
-/// Whether `put_all`, over a writer that takes so many bytes a write and refuses so after so many writes, puts
-/// just that front of the bytes and no flush, and its error, where some are left, tells how many went out.
+/// Whether `put_all`, over a writer that takes `step` bytes in each of `good` writes and then refuses, puts just as
+/// many bytes and doesn't flush, and fails where bytes are left, with an error that tells how many went out.
 fn puts(alloc: Global, bytes: &[u8], step: usize, good: usize, refusal: Refusal) -> bool {
     let mut writer = FakeWriter::failing_after(good, alloc);
     writer.step = step;
@@ -91,7 +93,7 @@ const PUTS: &[(usize, usize, usize)] = &[
     (200, 7, 2001),
 ];
 
-/// The first row of `PUTS` of which something else is told, over writers that refuse so.
+/// The first row of `PUTS` for which `puts` is false, over writers that refuse as `refusal` says; `None` where none is.
 fn first_other_put(alloc: Global, refusal: Refusal) -> Result<Option<usize>, Fail> {
     for (row, (times, step, good)) in PUTS.iter().enumerate() {
         let text = "0123456789".repeat(alloc, *times)?;
@@ -102,7 +104,8 @@ fn first_other_put(alloc: Global, refusal: Refusal) -> Result<Option<usize>, Fai
     Ok(None)
 }
 
-/// How many bytes are out once the room for lines is full, after one line more, and after a flush.
+/// How many bytes of lines that go out together are out once 512 lines are put, of four bytes each, then after one line
+/// more, and then after a flush.
 fn sent(alloc: Global) -> Result<[usize; 3], Fail> {
     let mut outgoing = Outgoing::new(alloc)?;
     let mut writer = FakeWriter::patient(alloc);
@@ -118,16 +121,20 @@ fn sent(alloc: Global) -> Result<[usize; 3], Fail> {
     Ok(out)
 }
 
-/// The first other rows over writers that fail and that take nothing, and what was sent.
+/// The first row of `PUTS` that is put otherwise over writers that fail, the first over writers that take nothing
+/// (`None` where there is none), and how many bytes were out at each of three times, as `sent` has them.
 type Written = (Option<usize>, Option<usize>, [usize; 3]);
 
-/// What is told over writers that fail, that take nothing, and that take all.
+/// The first row of `PUTS` that is put otherwise over writers that fail, the first over writers that take nothing, and
+/// how many bytes of lines that go out together were out at each of the three times of `sent`.
 fn told_of_writes(alloc: Global) -> Result<Written, Fail> {
     let failed = first_other_put(alloc, Refusal::Fails(ErrorKind::Other))?;
     let refused = first_other_put(alloc, Refusal::TakesNothing)?;
     Ok((failed, refused, sent(alloc)?))
 }
 
+// Fails where other bytes go out than a writer takes, an error doesn't tell how many did, or held lines go out before
+// 512 are held and one more comes, or then not at once.
 #[test]
 fn writes_tell_what_went_out(rt: HostRuntime) -> Result<(), Fail> {
     assert_eq!(rt; told_of_writes(rt.alloc())?, (None, None, [0, 2048, 2052]));
