@@ -34,7 +34,7 @@ def time_serve(lab: Path) -> Timed:
 
 
 def time_host(lab: Path) -> Timed:
-    """What they take over the host, which the teacher's bye at the desk ends."""
+    """What the clients take over the host, which the teacher's bye at the desk ends."""
     with subprocess.Popen([built(HOST), "host", lab, "0", "0"], stdout=subprocess.PIPE) as server:
         assert server.stdout is not None
         port, desk = map(int, re.findall(rb"\d+", server.stdout.readline()))
@@ -47,7 +47,7 @@ def time_host(lab: Path) -> Timed:
 
 
 def main() -> None:
-    """Times both in turn."""
+    """Times `serve` and the host in turn."""
     ways: dict[str, Callable[[Path], Timed]] = {"serve": time_serve, "host": time_host}
     times: dict[str, list[float]] = {name: [] for name in ways}
     seen: set[Optional[bytes]] = set()

@@ -44,7 +44,7 @@ def sees(turns: int) -> Iterable[str]:
 
 
 def sees_and_more(turns: int) -> Iterable[str]:
-    """The same requests, each with a member of another kind than a request's."""
+    """The teacher sees three nodes in turn, each time with a member of another kind than a request's."""
     yield TESS
     for turn in range(turns):
         yield f'1 {{"do":"see","node":{turn % 3 + 1},"x":[]}}'

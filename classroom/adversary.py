@@ -43,7 +43,7 @@ class Adversary:
         return self.bench
 
     def some(self, nodes: Sequence[int], most: int) -> list[int]:
-        """At most so many of them."""
+        """At most so many of the nodes."""
         return list(nodes) if len(nodes) <= most else self.chance.sample(list(nodes), most)
 
     def tried(self, bench: Bench, report: dict[str, Any], nodes: list[int], steps: int) -> int:

@@ -54,7 +54,7 @@ def limit_of(process: int) -> int | None:
 
 
 def told_of_limit(left: int, folder: Path) -> tuple[str, str]:
-    """The same of a journal that may grow by so many bytes, since a file of its server has a limit."""
+    """How much room a journal has that may grow by so many bytes, `little`, `full` or neither, and the line that tells it."""
     how = f"(ulimit -f): end, and go on with {CLASS} run --resume {folder} where there is no such limit"
     if left >= LITTLE:
         return "", ""

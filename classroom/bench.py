@@ -41,7 +41,7 @@ class Bench:
         return self.all_asked([(connection, request) for request in requests])
 
     def all_asked(self, requests: list[tuple[int, dict[str, Any]]]) -> list[dict[str, Any]]:
-        """The same, of several connections."""
+        """The replies to requests of several connections, each of which is answered by `ok`."""
         lines = [(connection, json.dumps(request, separators=(",", ":")).encode()) for connection, request in requests]
         replies: list[dict[str, Any]] = [json.loads(reply) for reply in self.program.answers(lines)]
         for (_, request), reply in zip(requests, replies):

@@ -101,7 +101,7 @@ class Kept:
             raise Fault(f"{error.filename or folder}: {error.strerror}", 4) from None
 
     def ended(self) -> str:
-        """How it has ended, where it has: `ended STATUS`, or `killed REASON`."""
+        """How the bot has ended, where it has: `ended STATUS`, or `killed REASON`."""
         if self.process.poll() is None:
             return ""
         assert self.process.stdout is not None
@@ -114,7 +114,7 @@ class Kept:
         return self.how
 
     def stop(self) -> str:
-        """Ends it with all that it started."""
+        """Ends the bot with all that it started."""
         assert self.process.stdin is not None
         try:
             self.process.stdin.close()
@@ -124,7 +124,7 @@ class Kept:
         return self.ended()
 
     def printed(self) -> str:
-        """What it printed last."""
+        """The last line that the bot printed."""
         try:
             with self.output.open("rb") as it:
                 it.seek(max(0, self.output.stat().st_size - SHOWN))

@@ -17,8 +17,8 @@ NAME = "teacher", "teacher"
 
 @functools.cache
 def of(nodes: int, links: int) -> Bounds:
-    """Those of a network of so many nodes and links: which links they are doesn't matter. Its lab is a file without a name, so
-    that a full disk keeps nobody from them."""
+    """The bounds for a network of so many nodes and links: which links they are doesn't matter. Its lab is a file without a
+    name, so that a full disk keeps nobody from them."""
     file = os.memfd_create("lab")
     try:
         with open(file, "wb", closefd=False) as it:
@@ -39,7 +39,7 @@ def some(nodes: int, links: int) -> labs.Lab:
 
 
 def told(nodes: int, links: int) -> Bounds | None:
-    """The same, or nothing where the host's program isn't built or doesn't tell them: a run goes on without."""
+    """The bounds, or nothing where the host's program isn't built or doesn't tell them: a run goes on without."""
     try:
         return of(nodes, links) if host() else None
     except (Fault, OSError):
@@ -47,5 +47,5 @@ def told(nodes: int, links: int) -> Bounds | None:
 
 
 def of_lab(lab: labs.Lab) -> Bounds:
-    """Those of a lab's network as it begins."""
+    """The bounds for a lab's network as it begins."""
     return of(len(lab.nodes), len(lab.links))

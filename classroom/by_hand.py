@@ -48,7 +48,7 @@ class Hands(Web):
         return f"http://127.0.0.1:{self.server_port}/"
 
     def show(self, students: int, tell: Callable[[str], None]) -> None:
-        """Serves it from now on; the server's port is that of the students."""
+        """Serves the page from now on; `students` is the port of the server to which it comes."""
         self.students, self.tell = students, tell
         self.open()
 
@@ -178,5 +178,5 @@ def last_word(seat: Seat) -> str:
 
 
 def open_hands(port: int, title: str, lab: Lab) -> Hands:
-    """At that port, or the next that is free."""
+    """The page at a port, or at the next that is free."""
     return opened(port, lambda number: Hands(number, title, lab))

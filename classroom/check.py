@@ -41,7 +41,8 @@ def refused(path: Path, error: str) -> Iterator[str]:
 
 
 def standing(text: str, error: str) -> tuple[int | None, str]:
-    """The line that an error is about, and the identifier of its node."""
+    """The line that an error is about, where there is one, and what is told behind its number: what the document's reader
+    says, or the identifier of its node."""
     if error == "lab: not a TOML document":
         try:
             tomllib.loads(text)

@@ -239,7 +239,7 @@ class Client:
 
     @staticmethod
     def of(slip: Slip, limit: float = 30.0) -> Client:
-        """The same, of a slip that was read."""
+        """A connection as a slip says that was read."""
         return Client(slip.port, slip.name, slip.key, limit=limit)
 
     def own_port(self) -> int:

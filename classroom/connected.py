@@ -87,7 +87,7 @@ class Connected:
         return {other for own, other, state, _ in found if own == self.port and state == ESTABLISHED} - {self.but}
 
     def compared(self, found: list[Row]) -> list[str]:
-        """The same, of these connections."""
+        """Lines of who has come and gone between what was seen before and these connections, and whether all seats are taken."""
         ends, here = self.ends(found), self.served(found)
         gone = [self.known.pop(port) for port in sorted(self.known.keys() - here)]
         come = sorted(here - self.known.keys())

@@ -22,7 +22,7 @@ class Daemon:
 
     @staticmethod
     def of(word: str, seconds: float = 2.0) -> Daemon:
-        """That of a word; `seconds` are those of a kind that names none."""
+        """The daemon that a word names; `seconds` are those of a kind whose word names none."""
         found = re.fullmatch(r"(random|every|when-idle)(?::(\d+(?:\.\d+)?))?", word)
         if word in PLAIN:
             return Daemon(word)
@@ -31,12 +31,12 @@ class Daemon:
         return Daemon(found[1], float(found[2]) if found[2] else 0.5 if found[1] == "random" else seconds)
 
     def spelled(self) -> str:
-        """The word."""
+        """The word that names the daemon."""
         return self.kind if self.kind in PLAIN else f"{self.kind}:{self.value:g}"
 
 
 def daemon(word: str) -> Daemon:
-    """The same as a word of the command line."""
+    """The daemon that a word of the command line names."""
     try:
         return Daemon.of(word)
     except ValueError as error:
@@ -44,7 +44,7 @@ def daemon(word: str) -> Daemon:
 
 
 def daemons(word: str) -> list[Daemon]:
-    """Several with commas between them."""
+    """The daemons that a word of the command line names, with commas between them."""
     return [daemon(each) for each in word.split(",")]
 
 

@@ -168,7 +168,7 @@ class Drawing:
         return f'<path class="pointer" data-of="{node}" d="{drawn}" marker-end="url(#arrow)"/>'
 
     def arrow(self, a: int, b: int) -> str:
-        """From rim to rim."""
+        """A line from the rim of one node to that of another."""
         start, end = self.layout.points[a], self.layout.points[b]
         length = math.dist(start, end) or 1.0
         along = ((end[0] - start[0]) / length, (end[1] - start[1]) / length)
@@ -211,7 +211,7 @@ class Drawing:
         return self.layout.radius + (1 + 0.9 * self.size if self.small else 16 + labels.LINE * line)
 
     def rule_at(self, line: int) -> str:
-        """Beside the node where it is a letter, else below that many lines."""
+        """Where a node's rule stands: beside the node where it is a letter, else below so many lines."""
         radius = self.layout.radius
         x, y = (radius + 0.6 * self.size, 0.4 * radius) if self.small else self.form.rule_at(radius, self.below(line))
         return f'x="{x:g}" y="{y:g}"' if x else f'y="{y:g}"'

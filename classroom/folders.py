@@ -63,7 +63,7 @@ class Process:
 
     @staticmethod
     def of(number: int) -> Process:
-        """The one that has the number now."""
+        """The process that has the number now."""
         try:
             stat = Path(f"/proc/{number}/stat").read_text(encoding="utf-8", errors="replace")
         except OSError:
@@ -72,7 +72,7 @@ class Process:
         return Process(number, "" if state == "Z" else rest[18])
 
     def lives(self) -> bool:
-        """Whether it hasn't ended."""
+        """Whether the process hasn't ended."""
         return self.start != "" and Process.of(self.number) == self
 
 
@@ -97,7 +97,7 @@ class Record:
 
     @staticmethod
     def read(folder: Path) -> Record | None:
-        """That of a folder, where it has one."""
+        """The record that a folder keeps, where it has one."""
         try:
             it = json.loads((folder / RECORD).read_text(encoding="utf-8"))
             return Record(**it | {"run": Process(**it["run"]), "server": Process(**it["server"])})
@@ -106,11 +106,11 @@ class Record:
 
     @staticmethod
     def lacking(folder: Path, port: int) -> Record:
-        """That of a folder which keeps none, as those that 0.9.0 made first: ports and closing are a new run's."""
+        """A record for a folder which keeps none, as those that 0.9.0 made first: ports and closing are a new run's."""
         return Record(str(folder / "lab.toml"), port, 0, None, "when-idle:2", None, Process(0, ""), Process(0, ""))
 
     def write(self, folder: Path) -> None:
-        """Keeps it; a full disk, which keeps what stood there, ends nothing."""
+        """Keeps the record in a folder; a full disk, which keeps what stood there, ends nothing."""
         new = folder / f"{RECORD}.new"
         try:
             new.write_text(json.dumps(asdict(self)) + "\n", encoding="utf-8")
@@ -124,7 +124,7 @@ class Record:
 
 
 def going(into: Path, lab: Path) -> tuple[Path, Record] | None:
-    """The folder of a run of that lab which goes on, where there is one; else that of the last one, where it didn't end."""
+    """Folder and record of a run of that lab which goes on, where there is one; else those of its last run, where it didn't end."""
     files = sorted(into.glob(f"*/{RECORD}"), key=lambda file: file.parent.stat().st_mtime)
     records = [(file.parent, Record.read(file.parent)) for file in files]
     same = [(folder, record) for folder, record in records if record is not None and record.lab == str(lab.resolve())]

@@ -91,7 +91,7 @@ class Heard:
         return self.look(step, now) if now >= self.due else []
 
     def look(self, step: int, now: float) -> list[str]:
-        """The same at this moment."""
+        """Lines of what is new since the last look, at this moment."""
         seconds = max(now - self.last, PAUSE)
         self.last, self.due = now, now + PAUSE
         self.read()

@@ -57,7 +57,7 @@ class Hider:
 
 
 def is_object(text: str) -> bool:
-    """Whether it is a JSON object, as Python reads it."""
+    """Whether a text is a JSON object, as Python reads it."""
     try:
         return isinstance(json.loads(text), dict)
     except (ValueError, RecursionError):

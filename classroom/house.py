@@ -26,8 +26,8 @@ class House:
 
     def __init__(self, lab: Lab, port: int, seconds: float | None, tell: Callable[[str], None], played: Collection[str] = (),
                  keep: Callable[[list[str]], None] = lambda names: None) -> None:
-        """It plays by itself where a node has waited for so many seconds, if any; and at once for those that are named, which
-        are kept where they become others."""
+        """The house plays by itself where a node has waited for so many seconds, if any; and at once for the students that
+        are named in `played`. `keep` keeps their names where they become others."""
         self.port, self.seconds, self.tell = port, seconds, tell
         self.key = lab.students[HOUSE]
         self.held = set(lab.held())
@@ -45,7 +45,7 @@ class House:
         return f"the house plays for {name}: {', '.join(map(str, sorted(self.students[name])))}"
 
     def stop(self, name: str) -> str:
-        """Leaves them to the student again."""
+        """Leaves a student's nodes to the student again."""
         if self.student(name) not in self.played:
             raise ValueError(f"the house doesn't play for {name}")
         self.played.discard(name)
@@ -59,13 +59,13 @@ class House:
         return name
 
     def told(self) -> str:
-        """For whom it plays."""
+        """For whom the house plays."""
         names = ", ".join(name for name in self.students if name in self.played) or "nobody"
         late = f", and each node that has waited for {self.seconds:g} seconds" if self.seconds is not None else ""
         return f"the house plays for {names}{late}{f'; {WAITS}' if self.waits() else ''}"
 
     def waits(self) -> bool:
-        """Whether it would play by itself, and doesn't yet: nobody has come who could have played."""
+        """Whether the house would play by itself, and doesn't yet: nobody has come who could have played."""
         return self.seconds is not None and not self.begun
 
     def note(self, event: Event) -> None:
@@ -74,8 +74,8 @@ class House:
             self.since.pop(event.nodes[0], None)
 
     def due(self, waiting: Collection[int], now: float) -> list[int]:
-        """Those that are its to play now, of the nodes for which the class waits; who has waited longest comes first.
-        Before a first student has come no time passes."""
+        """The nodes that are the house's to play now, of those for which the class waits; the one that has waited longest
+        comes first. Before a first student has come no time passes."""
         before = self.since if self.begun else {}
         self.since = {node: before.get(node, now) for node in waiting if node in self.held}
         at_once = set[int]().union(*(self.students[name] for name in self.played))
@@ -83,7 +83,7 @@ class House:
         return sorted(at_once.intersection(self.since).union(late), key=lambda node: (self.since[node], node))
 
     def turn(self, waiting: Collection[int], most: int) -> None:
-        """Asks for the moves that are its to ask for now, at most so many."""
+        """Asks for the moves that are the house's to ask for now, at most so many."""
         now = time.monotonic()
         nodes = self.due(waiting, now)[:most]
         if not nodes or now < self.again:

@@ -97,7 +97,7 @@ class Witnesses:
         self.are_free = True
 
     def spot(self, a: int, b: int) -> Point:
-        """That of a link, which stays."""
+        """Where the witness of a link stands, from the first time on."""
         if (a, b) not in self.spots:
             self.spots[a, b] = self.found(a, b)
         return self.spots[a, b]
@@ -117,7 +117,7 @@ class Witnesses:
         return best
 
     def places(self, a: int, b: int) -> Iterator[Point]:
-        """Where it may stand, the best first."""
+        """Where the witness of a link may stand, the best place first."""
         (x, y), (u, v) = self.layout.points[a], self.layout.points[b]
         length = math.dist((x, y), (u, v)) or 1.0
         for aside in ASIDE:

@@ -30,7 +30,7 @@ class Layout:
 
     @property
     def radius(self) -> float:
-        """As large as leaves a gap between the nearest two."""
+        """The radius of a node's circle, which leaves a gap between the nearest two."""
         return round(max(4.0, min(26.0, 0.3 * self.nearest)), 1)
 
 

@@ -44,7 +44,7 @@ class Row:
     stable: bool
 
     def breaks(self) -> bool:
-        """Whether this would be news: what is proved doesn't hold of it."""
+        """Whether the run would be news: what is proved doesn't hold of it."""
         most = bounds.of(self.nodes, self.links)
         return not self.stable or self.moves > most.moves or self.rounds > most.rounds
 

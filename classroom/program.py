@@ -41,7 +41,7 @@ class Answer:
 
 
 def is_clone() -> bool:
-    """Whether this is no release: the programs are built here."""
+    """Whether the programs are built here, in a clone, and don't come with a release."""
     return (TOP / "crates").is_dir()
 
 

@@ -56,7 +56,7 @@ class Pages(Web):
             self.present.put()
 
     def show(self, present: Present, tell: Callable[[str], None]) -> None:
-        """Serves it from now on."""
+        """Serves the pages from now on."""
         self.present, self.tell = present, tell
         self.open()
 
@@ -141,5 +141,5 @@ def message(rows: Frames, present: Present, before: Now | None, now: Now) -> dic
 
 
 def open_pages(port: int, title: str, lab: Lab, typed: queue.SimpleQueue[str], looks: str | None = None) -> Pages:
-    """At that port, or the next that is free; with the token of the address to look at, where it had one before."""
+    """The pages at a port, or at the next that is free; with the token of the address to look at, where it had one before."""
     return opened(port, lambda number: Pages(number, title, lab, typed, looks))

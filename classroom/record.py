@@ -59,7 +59,7 @@ class Reader:
                 yield entry
 
     def entry(self, line: bytes) -> Entry | None:
-        """That of a line, where one ends with it."""
+        """The entry that ends with a line, where one does."""
         words = line.split(b" ", 3)
         if len(words) < 3 or not (words[0].isdigit() and words[1].isdigit()):
             return None

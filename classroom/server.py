@@ -56,7 +56,7 @@ class Server:
         return f"{told}: {printed}" if printed else told
 
     def lacks_record(self) -> bool:
-        """Whether it ended as it should, but its record didn't take all."""
+        """Whether the server ended as it should, but its record didn't take all."""
         lines = self.printed().splitlines()
         return lines[-1:] == ["record fault"] and any(line.startswith("done: ") for line in lines)
 
@@ -69,7 +69,7 @@ class Server:
         return self.status()
 
     def printed(self) -> str:
-        """What it printed, after the line that tells its ports."""
+        """What the server printed, after the line that tells its ports."""
         text = self.output.read_text(encoding="utf-8", errors="replace")
         return LISTENING.split(text)[-1].strip()
 

@@ -103,18 +103,18 @@ def read(text: str) -> Tally:
 
 
 def by_owner(words: list[str]) -> dict[str, Counter[str]]:
-    """A name and four numbers, for each owner."""
+    """How many moves of each rule, by owner: for each a name, and four numbers."""
     return {words[at]: by_rule(words[at + 1 : at + 5]) for at in range(0, len(words), 5)}
 
 
 def marks(words: list[str]) -> Marks:
-    """Those of a student's line."""
+    """The marks that a student's line tells."""
     steps, first, last, shared = words[8:]
     return Marks(by_rule(words[:4]), by_rule(words[4:8]), int(steps), place(first), place(last), int(shared))
 
 
 def by_rule(words: list[str]) -> Counter[str]:
-    """Four numbers in the rules' order."""
+    """How many moves of each rule: four numbers in the rules' order."""
     return Counter(dict(zip(RULES, map(int, words), strict=True)))
 
 
@@ -124,7 +124,7 @@ def place(word: str) -> int | None:
 
 
 def take_run(tally: Tally, words: list[str]) -> None:
-    """What the last line tells."""
+    """Takes what the line of the run tells, which is the last."""
     tally.stable = words.pop(2) == "stable"
     (tally.events, tally.configuration, tally.closes, tally.faults, tally.links, tally.cuts, tally.moves, *since) = map(int, words)
     tally.since = (since[0], since[1])

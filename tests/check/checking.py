@@ -48,7 +48,7 @@ class Count:
         return not it.failed
 
     def with_needs(self, parts: list[Part]) -> list[Part]:
-        """Those of these parts that have what they need; the others are told, or fail where none may be left out."""
+        """The parts that have what they need; the others are told, or fail where none may be left out."""
         lacks = missing(parts)
         for name, need in lacks.items():
             names = [it.name for it in parts if name in it.needs + it.likes]

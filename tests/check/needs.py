@@ -56,7 +56,7 @@ def is_built() -> bool:
 
 
 def is_built_or_named() -> bool:
-    """The same, or whether the environment names others."""
+    """Whether both programs are built from these sources, or the environment names others."""
     return bool(os.environ.get("MML_PROGRAM") and os.environ.get("MML_HOST")) or is_built()
 
 

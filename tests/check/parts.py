@@ -30,11 +30,11 @@ class Part:
     is_beside: bool = False  # whether it runs from the beginning on, beside the others, with what they leave idle
 
     def minutes(self, processors: int) -> float:
-        """What it takes of the clock."""
+        """How many minutes of the clock the part takes."""
         return max(self.least, self.work / min(self.width, processors))
 
     def over(self, crates: list[str], share: float) -> Part:
-        """The same over some crates, which have that share of its work."""
+        """The part over some crates, which have that share of its work."""
         return replace(self, command=(*self.command, *crates), work=self.work * share, least=self.least * share)
 
 

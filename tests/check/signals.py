@@ -10,7 +10,7 @@ ALL = (signal.SIGINT, signal.SIGTERM, signal.SIGHUP)
 
 
 class Killed(Exception):
-    """One of them has come."""
+    """A signal has come that ends a check."""
 
     def __init__(self, number: int) -> None:
         super().__init__(number)
@@ -18,7 +18,7 @@ class Killed(Exception):
 
 
 class Heed:
-    """What they do: they raise `Killed`, at once or at the end of a block that mustn't be broken off."""
+    """What the signals do: they raise `Killed`, at once or at the end of a block that mustn't be broken off."""
 
     def __init__(self) -> None:
         self.is_held = False
@@ -30,13 +30,13 @@ class Heed:
             raise Killed(number)
 
     def begin(self) -> None:
-        """From now on; what whoever called the check has it ignore goes on to be ignored."""
+        """Heeds the signals from now on; those that whoever called the check has it ignore go on to be ignored."""
         for number in ALL:
             if signal.getsignal(number) is not signal.SIG_IGN:
                 signal.signal(number, self)
 
     def end(self) -> None:
-        """From now on they do nothing, since the check clears up."""
+        """Ignores the signals from now on, since the check clears up."""
         for number in ALL:
             signal.signal(number, signal.SIG_IGN)
 

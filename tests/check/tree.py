@@ -73,7 +73,7 @@ class InTree(unittest.TestCase):
         return done
 
     def check_beside(self, *words: str, program: str = "check", **more: str) -> subprocess.CompletedProcess[str]:
-        """The same beside another, or after one that was killed at once."""
+        """Calls the check to its end, beside another one, or after one that was killed at once and left something."""
         return subprocess.run(
             [self.tree / program, *words], cwd="/", stdin=subprocess.DEVNULL, capture_output=True, text=True,
             env=self.environment(**more), timeout=LIMIT, check=False,
@@ -97,7 +97,7 @@ class InTree(unittest.TestCase):
         return going
 
     def waits(self, holds: object) -> None:
-        """Waits until that holds."""
+        """Waits until something holds."""
         assert callable(holds)
         until = time.monotonic() + LIMIT
         while not holds():

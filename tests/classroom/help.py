@@ -114,7 +114,7 @@ class Going:
         raise AssertionError(f"no {pattern} in {self.lines}")
 
     def until_each(self, *patterns: str) -> None:
-        """The same, until each pattern was in one, in whichever order."""
+        """Reads lines until each pattern was in one, in whichever order."""
         left = list(patterns)
         while left:
             line = self.until("|".join(left))
@@ -137,6 +137,11 @@ class Going:
         assert self.process.stdin is not None
         self.process.stdin.write(line + "\n")
         self.process.stdin.flush()
+
+    def ended(self) -> int:
+        """Ends the class by its word, which is typed twice, and gives the status."""
+        self.type("end\nend")
+        return self.ends()
 
     def ends(self) -> int:
         """Reads to the end, and gives the status."""

@@ -54,8 +54,7 @@ class Attach(Cycle):
             gus.move(gus.look(1))
         again.type("close")
         again.until("^configuration 3: 1 \\(gus\\) update; .* 1 of at most 35 moves; events 5 of 1000$")
-        again.type("end\nend")
-        self.assertEqual(again.ends(), 0, again.lines)
+        self.assertEqual(again.ended(), 0, again.lines)
         self.assertEqual(self.whole(going.folder), 5)
         self.assertEqual(self.marks(going.folder), {"gus": 2, "hana": 0, "ines": 0, "jonas": 0})
         told = (going.folder / "run.txt").read_text(encoding="utf-8")
@@ -68,8 +67,7 @@ class Attach(Cycle):
         self.assertRegex(again.until("^page "), "^page http://127.0.0.1:295")
         again.type("link 1 3")
         again.until("^configuration 3: link 1 3")
-        again.type("end\nend")
-        self.assertEqual(again.ends(), 0, again.lines)
+        self.assertEqual(again.ended(), 0, again.lines)
 
     def test_a_second_run_offers_it(self) -> None:
         going = self.killed()
@@ -89,8 +87,7 @@ class Attach(Cycle):
         terminal.process.wait(LIMIT)
         again.type("link 1 3")
         again.until("^configuration 2: link 1 3")
-        again.type("end\nend")
-        self.assertEqual(again.ends(), 0, again.lines)
+        self.assertEqual(again.ended(), 0, again.lines)
         self.assertEqual(self.whole(folder), 2)
 
     def test_a_server_that_is_late_may_be_left(self) -> None:
@@ -125,8 +122,7 @@ class Attach(Cycle):
         going = Going(self, CYCLE, "--close", "by-hand")
         done = words("attach", going.folder)
         self.assertEqual((done.returncode, done.stderr), (1, f"class: {going.folder}: process {going.process.pid} holds its desk\n"))
-        going.type("end\nend")
-        self.assertEqual(going.ends(), 0, going.lines)
+        self.assertEqual(going.ended(), 0, going.lines)
         done = words("attach", going.folder)
         self.assertEqual((done.returncode, done.stderr), (1, f"class: {going.folder}: its server has ended: {CLASS} run --resume {going.folder}\n"))
         self.assertEqual(words("attach", self.room / "none").returncode, 1)

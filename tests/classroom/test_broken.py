@@ -189,8 +189,7 @@ class Broken(Cycle):
             Client(going.port, "ines", KEYS["ines"])
         gus.kill()
         going.until("^gone: gus$")
-        going.type("end\nend")
-        self.assertEqual(going.ends(), 0, going.lines)
+        self.assertEqual(going.ended(), 0, going.lines)
         self.whole(going.folder)
 
     def test_who_is_connected(self) -> None:

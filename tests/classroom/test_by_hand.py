@@ -164,8 +164,7 @@ class Playing(InRoom):
         self.compare(gus, [1, 4])
         gus.bye()
         self.seats("1 of 7 seats: gus, by hand")
-        self.going.type("end\nend")
-        self.assertEqual(self.going.ends(), 0, self.going.lines)
+        self.assertEqual(self.going.ended(), 0, self.going.lines)
         self.is_told("the class is over")
         marks = json.loads((self.going.folder / "marks.json").read_text(encoding="utf-8"))
         granted = {name: row["granted"] for name, row in marks["runs"][0]["students"].items()}
@@ -290,8 +289,7 @@ class Wire(InRoom):
         last = rows.at(5)
         self.assertEqual([look["node"] for look in last["nodes"]], [1, 4])
         self.assertEqual({near["node"] for look in last["nodes"] for near in look["near"]}, {2, 7, 3, 5})
-        going.type("end\nend")
-        self.assertEqual(going.ends(), 0, going.lines)
+        self.assertEqual(going.ended(), 0, going.lines)
         self.assertEqual(rows.rest()[-1], {"ended": "the class is over"})
         lab = read(CYCLE)
         others = [name for name in (*lab.students, lab.teacher[0]) if name != "gus"]

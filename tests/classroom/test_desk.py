@@ -55,7 +55,7 @@ class Completed(unittest.TestCase):
     """What the tab key offers."""
 
     def offers(self, line: str) -> list[str]:
-        """What it offers at the end of a line, where nodes are 1, 12 and 7."""
+        """What the tab key offers at the end of a line, where nodes are 1, 12 and 7."""
         terminal = object.__new__(Terminal)
         terminal.words, terminal.readline = ["1", "12", "7"], unittest.mock.Mock()
         terminal.readline.get_line_buffer.return_value = line
@@ -293,7 +293,7 @@ class Disk(InRoom):
         self.assertEqual(told, [[], [], ["the disk has little room"], [], ["the disk is full"], [], ["the disk has room again"], []])
 
     def disk(self) -> Room:
-        """That of the test's folder."""
+        """The room on the disk of the test's folder."""
         room = Room(self.room)
         self.addCleanup(room.close)
         return room

@@ -96,7 +96,7 @@ class DoorsOfHands(Doors):
     path = "/events"
 
     def opened(self, port: int) -> Web:
-        """That page."""
+        """The page at which students play by hand."""
         hands = open_hands(port, "cycle", read(CYCLE))
         hands.show(1, print)
         self.addCleanup(hands.stop)

@@ -107,8 +107,7 @@ class Disputed(Cycle):
 
     def ended(self, going: Going) -> Path:
         """Its folder, after its end."""
-        going.type("end\nend")
-        self.assertEqual(going.ends(), 0, going.lines)
+        self.assertEqual(going.ended(), 0, going.lines)
         return going.folder
 
     def seat(self, folder: Path) -> Path:
@@ -324,8 +323,7 @@ class Verified(Disputed):
             for _ in range(500):
                 self.assertIn('"deny":"stale"', gus.ask(MOVE % 7))
             going.until("^the rest of what gus sends isn't recorded: ")
-        going.type("end\nend")
-        self.assertEqual(going.ends(), 5, going.lines)
+        self.assertEqual(going.ended(), 5, going.lines)
         self.assertIn("the record isn't whole: the disk didn't take all of it; the journal is", going.lines)
         self.assertIn("the run is ended", going.lines)
         self.assertRegex((going.folder / "marks.txt").read_text(encoding="utf-8"), r"(?m)^record: ok: .*, not whole$")

@@ -194,8 +194,7 @@ class Standing(InRoom):
         before = self.grants(going.folder)
         self.assertEqual(set(before), {HOUSE})
         self.assertLessEqual(before[HOUSE], set(nodes))
-        going.type("end\nend")
-        self.assertEqual(going.ends(), 0, going.lines)
+        self.assertEqual(going.ended(), 0, going.lines)
         self.assertEqual(self.grants(going.folder), before)
 
     def comes_back_without(self, going: Going, nodes: list[int]) -> None:

@@ -55,7 +55,7 @@ class Languages(unittest.TestCase):
 
 
 class Bots(Cycle):
-    """What they do at a run."""
+    """What the bots of each language do at a run."""
 
     def test_all_in_one_run(self) -> None:
         going = Going(self, CYCLE, "--close", "when-idle:0.5", "--until", "stable")
@@ -104,8 +104,7 @@ class Bots(Cycle):
         all_are_in = f"connected: gus, {len(playing)} connections" if len(playing) > 1 else "connected: gus"
         if all_are_in not in again.lines:
             again.until(f"^{all_are_in}$")
-        again.type("end\nend")
-        self.assertEqual(again.ends(), 0, again.lines)
+        self.assertEqual(again.ended(), 0, again.lines)
         self.are_ended(playing, 0, "the run is over")
 
     def test_a_connection_that_stays_lost_is_no_end_of_the_run(self) -> None:
@@ -142,7 +141,7 @@ class Reset(InRoom):
 
 
 class Graded(InRoom):
-    """What they are worth."""
+    """What the bots of each language are worth."""
 
     def test_each_passes_all_of_small(self) -> None:
         given = [command[-1] for name, command in bots().items() if name != "Bot.java"]  # That one is graded in test_grade.py.

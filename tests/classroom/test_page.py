@@ -59,6 +59,14 @@ class Live(InRoom):
         seconds.clear()
         seconds.send_keys(text)
 
+    def close_by(self, button: str, seconds: str = "") -> None:
+        """Chooses when steps are closed, and waits until the page says so."""
+        if seconds:
+            self.fill_seconds(seconds)
+        self.find(button)
+        wanted = f"{button}:{seconds}" if seconds else button
+        until(self.driver, lambda driver: driver.find_element("id", "closing").text == wanted)
+
     def sees(self, event: str) -> Shown:
         """Waits until the page's newest event is this one, after its place."""
         until(self.driver, lambda driver: shown(driver)[2].partition(": ")[2] == event)
@@ -76,8 +84,7 @@ class Live(InRoom):
 
     def end(self) -> Path:
         """Ends the run, whose last frame is what the page has shown; gives its folder."""
-        self.going.type("end\nend")
-        self.assertEqual(self.going.ends(), 0, self.going.lines)
+        self.assertEqual(self.going.ended(), 0, self.going.lines)
         until(self.driver, lambda driver: "over" in driver.find_element("id", "connection").text)
         last = shown(self.driver)
         folder = self.going.folder
@@ -141,14 +148,11 @@ class Live(InRoom):
 
     def test_every_so_many_seconds_and_frozen(self) -> None:
         self.begin()
-        self.fill_seconds("0.2")
-        self.find("every")
-        until(self.driver, lambda driver: driver.find_element("id", "closing").text == "every:0.2")
+        self.close_by("every", "0.2")
         gus = self.student("gus")
         gus.move(gus.look(4))
         self.sees("close")
-        self.find("by-hand")
-        until(self.driver, lambda driver: driver.find_element("id", "closing").text == "by-hand")
+        self.close_by("by-hand")
         self.find("freeze")
         before = shown(self.driver)
         self.going.type("fault 1 7 true")
@@ -314,10 +318,8 @@ class Live(InRoom):
 
     def test_back_to_when_idle(self) -> None:
         self.begin()
-        self.find("by-hand")
-        self.fill_seconds("0.3")
-        self.find("when-idle")
-        until(self.driver, lambda driver: driver.find_element("id", "closing").text == "when-idle:0.3")
+        self.close_by("by-hand")
+        self.close_by("when-idle", "0.3")
         gus = self.student("gus")
         gus.move(gus.look(4))
         self.sees("close")

@@ -101,7 +101,7 @@ class Resume(Cycle):
         return dict(applied)
 
     def marks(self, folder: Path) -> dict[str, int]:
-        """The same by the folder's marks."""
+        """How many moves of each student were applied, by the folder's marks."""
         students = json.loads((folder / "marks.json").read_text(encoding="utf-8"))["runs"][0]["students"]
         return {name: total for name, it in students.items() if (total := sum(it["applied"].values()))}
 
@@ -159,8 +159,7 @@ class Resume(Cycle):
         going.type("fault 1 2 true")  # The last kill may have left it stable.
         going.until("; stable, ")
         players.ended()
-        going.type("end\nend")
-        self.assertEqual(going.ends(), 0, going.lines)
+        self.assertEqual(going.ended(), 0, going.lines)
         self.assertGreater(self.whole(folder), KILLS)
         self.assertEqual(self.marks(folder), self.counted(folder))
         self.assertIn(", stable", (folder / "audit.txt").read_text(encoding="utf-8"))
@@ -214,8 +213,7 @@ class Resume(Cycle):
         with Client(going.port, "gus", KEYS["gus"]) as gus:
             gus.move(gus.look(4))
         lab = going.folder / "lab.toml"
-        going.type("end\nend")
-        self.assertEqual(going.ends(), 0, going.lines)
+        self.assertEqual(going.ended(), 0, going.lines)
         shutil.copy(CYCLE, self.room / "mine.toml")
         record = json.loads((going.folder / "run.json").read_text(encoding="utf-8"))
         (going.folder / "run.json").write_text(json.dumps({**record, "lab": str(self.room / "mine.toml")}), encoding="utf-8")
@@ -231,8 +229,7 @@ class Resume(Cycle):
             Client(again.port, "gus", KEYS["gus"])
         with Client.of(slip) as gus:
             self.assertEqual(gus.look(4).chosen, "update")
-        again.type("end\nend")
-        self.assertEqual(again.ends(), 0, again.lines)
+        self.assertEqual(again.ended(), 0, again.lines)
 
     def test_a_limit_that_was_reached_is_raised(self) -> None:
         lab = self.file("cycle.toml", re.sub(r"(?m)^events = \d+", "events = 2", CYCLE.read_text(encoding="utf-8")))
@@ -248,16 +245,14 @@ class Resume(Cycle):
         again = Going(self, None, "run", "--resume", going.folder, "--again", "--close", "by-hand")
         again.type("fault 1 2 true")
         again.until("^configuration 2: fault 1 2 true; .*; events 3 of 100$")
-        again.type("end\nend")
-        self.assertEqual(again.ends(), 0, again.lines)
+        self.assertEqual(again.ended(), 0, again.lines)
         self.assertEqual(self.whole(going.folder), 3)
 
     def test_a_class_that_was_ended_is_opened_again_where_that_is_meant(self) -> None:
         going = Going(self, CYCLE, "--close", "by-hand")
         going.type("fault 1 2 true")
         going.until("^configuration 1: ")
-        going.type("end\nend")
-        self.assertEqual(going.ends(), 0, going.lines)
+        self.assertEqual(going.ended(), 0, going.lines)
         folder = going.folder
         before = {file.name: file.read_bytes() for file in folder.iterdir() if file.is_file()}
         done = words("run", "--resume", folder)
@@ -269,8 +264,7 @@ class Resume(Cycle):
         os.kill(again.server(), signal.SIGKILL)
         self.assertEqual(again.ends(), 4, again.lines)
         again = Going(self, None, "run", "--resume", folder)  # It is open, and its server died.
-        again.type("end\nend")
-        self.assertEqual(again.ends(), 0, again.lines)
+        self.assertEqual(again.ended(), 0, again.lines)
         self.assertEqual(words("run", CYCLE, "--again").stderr, "class: run: --again is for --resume FOLDER\n")
 
     def test_a_torn_line_and_another_lab(self) -> None:
@@ -290,8 +284,7 @@ class Resume(Cycle):
         again = Going(self, None, "run", "--resume", going.folder)
         self.assertIn("gone on from configuration 1, events 1 of 1000", again.lines)
         self.assertRegex(words("run", "--resume", going.folder).stderr, f"its run goes on: {CLASS} attach ")
-        again.type("end\nend")
-        self.assertEqual(again.ends(), 0, again.lines)
+        self.assertEqual(again.ended(), 0, again.lines)
         self.assertEqual(call("audit", kept, going.folder / "journal").status, 0)
 
     def test_words(self) -> None:

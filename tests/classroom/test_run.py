@@ -56,8 +56,7 @@ class Run(Cycle):
         going.until(r"^configuration \d+, not stable: .*privileged .*\((seduction|abandonment|marriage|update)\)")
         going.type("link 1 1")
         going.until("^no: loop")
-        going.type("end\nend")
-        self.assertEqual(going.ends(), 0, going.lines)
+        self.assertEqual(going.ended(), 0, going.lines)
         self.assertGreaterEqual(self.whole(going.folder), 4)
 
     def test_a_bot_in_another_language(self) -> None:
@@ -108,8 +107,7 @@ class Run(Cycle):
             gus.move(gus.look(4))
         going.type("close")
         going.until("^configuration 1: 4 \\(gus\\) update")
-        going.type("end\nend")
-        self.assertEqual(going.ends(), 1, going.lines)
+        self.assertEqual(going.ended(), 1, going.lines)
         self.assertTrue(any("mml_host isn't built" in line for line in going.lines), going.lines)
         self.assertTrue((going.folder / "run.html").is_file())
         self.assertIn("2 events, configuration 1", words("mark", going.folder).stdout)

@@ -170,8 +170,7 @@ class Told(InRoom):
             self.going.type(line)
             self.going.until("^configuration ")
             self.compare()
-        self.going.type("end\nend")
-        self.assertEqual(self.going.ends(), 0, self.going.lines)
+        self.assertEqual(self.going.ended(), 0, self.going.lines)
 
     def test_a_screen_reader_reaches_each_node(self) -> None:
         self.assertEqual(self.driver.find_elements("css selector", "[role=img] [role=button], [role=img] button, [role=img] [role=img]"), [])
@@ -232,8 +231,7 @@ class Sizes(Played):
             until(self.driver, is_ready)
             self.fits(address == acts)
             self.whole_screen()
-        going.type("end\nend")
-        self.assertEqual(going.ends(), 0, going.lines)
+        self.assertEqual(going.ended(), 0, going.lines)
         self.open(going.folder / "run.html")
         self.fits(True)
         self.whole_screen()

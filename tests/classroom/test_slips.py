@@ -317,8 +317,7 @@ class Talking(Cycle):
         for command in BOTS:  # One by one: two of a name that come at once have one line.
             bots.append(subprocess.Popen([*command, slip], stdout=subprocess.DEVNULL, stderr=subprocess.PIPE, text=True))
             going.until("^connected: ")
-        going.type("end\nend")
-        self.assertEqual(going.ends(), 0, going.lines)
+        self.assertEqual(going.ended(), 0, going.lines)
         for bot in bots:
             self.assertRegex(bot.communicate(timeout=LIMIT)[1], r"^\w+(\.py)?: the run is over\n$")
             self.assertEqual(bot.returncode, 0)

@@ -14,19 +14,11 @@ from pathlib import Path
 from types import TracebackType
 from typing import Optional
 
+from tests.common.lines import BUSY, BYE, BID
 from tests.common.preload import LIMIT, TOP, Ended, built_in, fail, good
 
 HOST = Path(os.environ.get("MML_HOST") or TOP / "crates/mml_host/out/mml_host")
 LISTENS = re.compile(rb"listening on port (\d+), desk on port (\d+)\n")
-BUSY = b'{"refuse":"busy"}\n'
-LATE = b'{"refuse":"late"}\n'
-LONG = b'{"refuse":"long"}\n'
-OVER = b'{"refuse":"over"}\n'
-UNKNOWN = b'{"clause":2,"deny":"unknown","text":"name and key do not match"}\n'
-BYE = b'{"do":"bye"}\n'
-BID = b'{"ok":"bye"}\n'
-KEYS = {"ana": "a-key", "ben": "b-key", "cyd": "c-key", "tess": "chalk"}
-NODES = {"ana": 1, "ben": 2, "cyd": 3}
 # Asks each line of its words at a port, prints the replies, sends half a line, says so, and waits for its end.
 BOT = """
 import socket, sys
@@ -38,16 +30,6 @@ with socket.create_connection(("127.0.0.1", int(sys.argv[1]))) as it, it.makefil
     print("half", flush=True)
     replies.read()
 """
-
-
-def hello(name: str) -> bytes:
-    """A greeting of one who takes part in the lab that is built into the program."""
-    return b'{"do":"hello","key":"%s","name":"%s"}\n' % (KEYS[name].encode(), name.encode())
-
-
-def look(name: str) -> bytes:
-    """A look at a student's node."""
-    return b'{"do":"look","node":%d}\n' % NODES[name]
 
 
 def lab_of(room: Path, sessions: int, events: int = 1000) -> Path:
@@ -87,13 +69,13 @@ class Host:
         self.process.communicate()
 
     def killed(self) -> Ended:
-        """Kills it; answers what it wrote after its first line."""
+        """Kills the host; answers what it wrote after its first line."""
         self.process.kill()
         out, error = self.process.communicate()
         return Ended(self.process.returncode, out, error)
 
     def runs(self) -> bool:
-        """Whether it hasn't ended."""
+        """Whether the host hasn't ended."""
         return self.process.poll() is None
 
     def end(self, seconds: float = LIMIT) -> Ended:
@@ -105,7 +87,7 @@ class Host:
         return Ended(self.process.returncode, out, error)
 
     def dismissed(self, teacher: "Caller", seconds: float = LIMIT) -> Ended:
-        """The same after the teacher's bye at the desk, who has greeted there."""
+        """How the host ends after the bye of the teacher, who has greeted at the desk, and what it writes after its first line."""
         if (teacher.ask(BYE), teacher.line()) != (BID, b""):
             fail("host: another reply to the teacher's bye at the desk, or none")
         return self.end(seconds)
@@ -167,7 +149,7 @@ class Caller:
         self.socket.close()
 
     def reset(self) -> None:
-        """Ends it so that the host's next read or write fails."""
+        """Ends the connection so that the host's next read or write fails."""
         self.socket.setsockopt(socket.SOL_SOCKET, socket.SO_LINGER, struct.pack("ii", 1, 0))
         self.close()
 
@@ -286,7 +268,7 @@ class Bot:
             fail("host: a bot doesn't come to its half line")
 
     def killed(self) -> None:
-        """Kills it."""
+        """Kills the program, and notes that its connection has ended."""
         self.process.kill()
         self.process.communicate()
         self.talk.gone(self)

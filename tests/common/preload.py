@@ -16,12 +16,14 @@ from dataclasses import dataclass
 from pathlib import Path
 from typing import NoReturn, Optional
 
+from tests.common.lines import refusal_of
+
 HERE = Path(__file__).resolve().parent
 TOP = HERE.parent.parent
 PROGRAM = Path(os.environ.get("MML_PROGRAM") or TOP / "crates/mml_server/out/mml_server")
 LIMIT = 300.0
 # Replies that change nothing, whatever was asked.
-REFUSED = (b'{"refuse":"memory"}\n', b'{"refuse":"journal"}\n')
+REFUSED = (refusal_of("memory"), refusal_of("journal"))
 
 
 def fail(why: str) -> NoReturn:

@@ -47,7 +47,7 @@ def scripted(lab: Path, room: Path, library: Preloaded) -> None:
 
 
 def served(lab: Path, room: Path, library: Preloaded) -> None:
-    """The same of a server: that put comes after the first line, four replies and the first put."""
+    """The put of a server's second event fails: the seventh write, after the first line, four replies and the first put."""
     journal = room / "halted.journal"
     journal.unlink(missing_ok=True)
     words = ["serve", str(lab)]

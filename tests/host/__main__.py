@@ -10,21 +10,18 @@ import threading
 import time
 from pathlib import Path
 
-from tests.common.hosting import (
-    BID, BUSY, BYE, LATE, NODES, OVER, Bot, Caller, Host, Talk, audit, called, hello, lab_of, let_in, look
-)
+from tests.common.hosting import Bot, Caller, Host, Talk, audit, called, lab_of, let_in
+from tests.common.lines import BID, BUSY, BYE, CLOSE, LATE, NODES, OVER, REPORT, fault_at, greeted, hello, line_of, look
 from tests.common.preload import Ended, fail, good
 from tests.common.side_by_side import Test, try_all
 
 NOT_LISTENING = Ended(4, b"", b"host: cannot listen\n")
 NONE = Ended(0, b"done: 0 events, configuration 0\n", b"")
-CLOSE = b'{"do":"close"}\n'
-REPORT = b'{"do":"report"}\n'
 
 
 def move(at: int, node: int, rule: str) -> bytes:
     """A move by that number."""
-    return b'{"at":%d,"do":"move","node":%d,"rule":"%s"}\n' % (at, node, rule.encode())
+    return line_of(at=at, do="move", node=node, rule=rule)
 
 
 def acts(talk: Talk, student: Caller, teacher: Caller, turn: int) -> None:
@@ -32,7 +29,7 @@ def acts(talk: Talk, student: Caller, teacher: Caller, turn: int) -> None:
     talk.ask(student, move(2 * turn, 1, "seduction"))
     talk.ask(teacher, CLOSE)
     talk.ask(student, look("ana"))
-    talk.ask(teacher, b'{"do":"fault","m":false,"node":1,"p":null}\n')
+    talk.ask(teacher, fault_at(1))
 
 
 def goes_on(talk: Talk, student: Caller, teacher: Caller, turn: int) -> None:
@@ -53,8 +50,8 @@ def one_after_another(room: Path) -> None:
         for turn in range(200):
             name = list(NODES)[turn % 3]
             caller = talk.comes(host.port, hello(name))
-            see = b'{"do":"see","node":%d}\n' % (turn % 4)
-            for line in (look(name), see, b'{"do":"dance"}\n', hello("ben"), REPORT):
+            see = line_of(do="see", node=turn % 4)
+            for line in (look(name), see, line_of(do="dance"), hello("ben"), REPORT):
                 talk.ask(caller, line)
             if name == "ana":
                 acts(talk, caller, teacher, turn // 3)
@@ -103,7 +100,7 @@ def killed_in_a_line(room: Path) -> None:
         for turn in range(3):
             talk.ask(again, CLOSE)
             talk.ask(student, look("ana"))
-            talk.ask(again, b'{"do":"fault","m":false,"node":1,"p":null}\n')
+            talk.ask(again, fault_at(1))
             talk.ask(student, move(2 * turn + 2, 1, "seduction"))
         ended = host.dismissed(again)
     talk.heard(again, BYE, BID)
@@ -230,7 +227,7 @@ def says_busy(room: Path) -> None:
         if (ana.ask(BYE), ana.line()) != (BID, b""):
             fail("host: no end after a bye")
         cyd, reply = let_in(host.port, hello("cyd"))
-        if reply != b'{"ok":"hello","who":"cyd"}\n' or not ben.ask(look("ben")).startswith(b'{"at":0'):
+        if reply != greeted("cyd") or not ben.ask(look("ben")).startswith(b'{"at":0'):
             fail("host: a place that was left isn't given to the next")
         told_busy(host.port)
         if host.dismissed(tess) != NONE or (ben.line(), ben.line(), cyd.line()) != (OVER, b"", OVER):
@@ -276,7 +273,7 @@ def raced(room: Path) -> None:
                 caller.send(line)
             told += [caller.line() for caller, _ in three]
             told.append(tess.ask(CLOSE))
-            told += [tess.ask(b'{"do":"fault","m":false,"node":%d,"p":null}\n' % node) for node in (1, 2)]
+            told += [tess.ask(fault_at(node)) for node in (1, 2)]
             if turn % 20 == 19:
                 for caller in (ana, ben):
                     caller.close()
@@ -296,7 +293,7 @@ def byes_that_end_nothing(room: Path) -> None:
     with Host(lab, 0, 0, journal) as host:
         talk = Talk(lab, 4, room)
         student = talk.comes(host.port, hello("ana"))
-        unknown = b'{"do":"hello","key":"chalk-","name":"tess"}\n'
+        unknown = line_of(do="hello", key="chalk-", name="tess")
         said: list[tuple[int, list[bytes]]] = [
             (host.desk, []), (host.desk, [hello("ana")]), (host.desk, [unknown]),
             (host.desk, [hello("ana"), hello("tess")]),
@@ -368,7 +365,7 @@ def ended_while_asked(room: Path) -> None:
             for _ in range(20):
                 asked.acquire()
             teacher.ask(CLOSE)
-            teacher.ask(b'{"do":"fault","m":false,"node":1,"p":null}\n')
+            teacher.ask(fault_at(1))
         said, looks = [teacher.ask(BYE), teacher.line()], 0
         while host.runs() and looks < 160:
             time.sleep(0.05)

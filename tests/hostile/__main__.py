@@ -18,7 +18,8 @@ from collections.abc import Callable
 from concurrent.futures import Future, ProcessPoolExecutor
 from pathlib import Path
 
-from tests.common.hosting import BID, BYE, HOST, LONG, Host, hello, let_in
+from tests.common.hosting import HOST, Host, let_in
+from tests.common.lines import BID, BYE, LONG, MALFORMED, denial_of, hello, line_of
 from tests.common.preload import LIMIT, Client, Ended, Server, Story, built_in, fail, in_room
 
 SECONDS = 20.0
@@ -28,12 +29,11 @@ UNREAD = 10.0
 OVER_HOST = "host" in sys.argv[1:]
 MOST_LINES = 18_000
 PAUSE = 0.001
-SEE = b'{"do":"see","node":99}\n'
-NOT_GREETED = b'{"clause":0,"deny":"not-greeted","text":"say hello first"}\n'
-HIDDEN = b'{"clause":1,"deny":"hidden","text":"this node is not shown to you"}\n'
+SEE = line_of(do="see", node=99)
+NOT_GREETED = denial_of("not-greeted")
+HIDDEN = denial_of("hidden")
 # A host lets nobody stay who doesn't greet.
 DENIED = HIDDEN if OVER_HOST else NOT_GREETED
-MALFORMED = b'{"refuse":"malformed"}\n'
 Program = Server | Host
 # A hostile client: a port, the time to end at, and what it draws from. It answers what is wrong with its replies.
 Hostile = Callable[[int, float, random.Random], str]

@@ -15,7 +15,7 @@ def student(number: int) -> tuple[str, str]:
 
 
 def students(count: int) -> str:
-    """So many students."""
+    """The lines of so many students with the longest names and keys."""
     return "".join('[[student]]\nname = "{}"\nkey = "{}"\n'.format(*student(number)) for number in range(count))
 
 
@@ -98,5 +98,5 @@ def greatest() -> Row:
 
 
 def computed_rows() -> list[Row]:
-    """All of these."""
+    """All rows that are computed."""
     return [*sizes(), *lengths(), loose(), greatest()]

@@ -12,19 +12,19 @@ import time
 from collections.abc import Callable
 from pathlib import Path
 
-from tests.common.hosting import (
-    BID, BUSY, BYE, HOST, LATE, LONG, NODES, OVER, UNKNOWN, Caller, Host, audit, hello, lab_of, let_in, look
+from tests.common.hosting import HOST, Caller, Host, audit, lab_of, let_in
+from tests.common.lines import (
+    BID, BUSY, BYE, CLOSE, LATE, LONG, MALFORMED, NODES, OVER, UNKNOWN, WRONG, fault_at, hello, line_of, look, refusal_of,
+    seduction,
 )
 from tests.common.preload import LIMIT, PROGRAM, TOP, Ended, Preloaded, Server, fail
 from tests.common.side_by_side import Test, try_all
 
 NONE = Ended(0, b"done: 0 events, configuration 0\n", b"")
 FAULT = Ended(4, b"", b"journal fault\n")
-MALFORMED = b'{"refuse":"malformed"}\n'
 EAGAIN = 11
 LOOKS = 3  # threads that a host starts before it listens, to see whether it may
-MOVE = b'{"at":0,"do":"move","node":1,"rule":"seduction"}\n'
-WRONG = b'{"do":"hello","key":"a-kez","name":"ana"}\n'
+MOVE = seduction(0)
 FREE = ["setpriv", "--reuid", "65534", "--regid", "65534", "--clear-groups"] if os.geteuid() == 0 else []
 
 
@@ -137,7 +137,7 @@ def a_web_form(room: Path) -> None:
             caller.close()
         # A line that is an object, and no request, ends nothing.
         caller = Caller(host.port)
-        if caller.ask(b'{"do":"dance"}\n') != MALFORMED or b'"ok":"hello"' not in caller.ask(hello("ana")):
+        if caller.ask(line_of(do="dance")) != MALFORMED or b'"ok":"hello"' not in caller.ask(hello("ana")):
             fail("outsiders: a first line that is no request ends a connection")
         ends(host, let_in(host.desk, hello("tess"))[0])
 
@@ -327,7 +327,7 @@ def guesses(host: Host, quiet: float) -> tuple[int, int, float]:
             taken: list[float] = []
             for _ in range(20):
                 caller = comes(port, hello(name), taken)
-                if b'"ok":"look"' not in caller.ask(b'{"do":"look","node":1}\n'):
+                if b'"ok":"look"' not in caller.ask(look("ana")):
                     fail(f"outsiders: {name} loses a place to those who guess")
                 caller.close()
             waits_little(taken, quiet, 0.1)
@@ -477,9 +477,9 @@ def limits_of_files(room: Path) -> None:
             teacher, student = let_in(host.desk, hello("tess"))[0], let_in(host.port, hello("ana"))[0]
             for turn in range(100):
                 move = MOVE.replace(b'"at":0', b'"at":%d' % (2 * turn))
-                said = [student.ask(move), teacher.ask(b'{"do":"close"}\n'),
-                        teacher.ask(b'{"do":"fault","m":false,"node":1,"p":null}\n')]
-                if b'{"refuse":"journal"}\n' in said:
+                said = [student.ask(move), teacher.ask(CLOSE),
+                        teacher.ask(fault_at(1))]
+                if refusal_of("journal") in said:
                     break
             else:
                 fail(f"outsiders: a host whose journal can't grow says {said}")

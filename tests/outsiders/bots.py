@@ -16,7 +16,8 @@ from collections.abc import Callable
 from dataclasses import dataclass, field
 from pathlib import Path
 
-from tests.common.hosting import BUSY, BYE, HOST, LATE, Caller, Host, audit
+from tests.common.hosting import HOST, Caller, Host, audit
+from tests.common.lines import BUSY, BYE, CLOSE, LATE, REPORT, fault_at, hello, line_of
 from tests.common.preload import LIMIT, fail, in_room
 from tests.resume.players import asked
 
@@ -26,8 +27,7 @@ STUDENTS = 14
 WAIT = 2.0  # seconds that an honest client may wait
 SLOWER = 20  # times what it waits where nobody disturbs it, at most
 KNOCK = 0.05  # seconds between two silent connections of an outsider
-TEACHER = b'{"do":"hello","key":"chalk","name":"tess"}\n'
-GUESS = b'{"do":"hello","key":"no-key","name":"s-1"}\n'
+GUESS = line_of(do="hello", key="no-key", name="s-1")
 
 
 def lab_of_bots(room: Path) -> Path:
@@ -111,7 +111,7 @@ class Honest:
 
     def __init__(self, port: int, line: bytes, waits: Waits) -> None:
         self.port, self.line, self.waits = port, line, waits
-        found = waits.desk if line == TEACHER else waits.places
+        found = waits.desk if line == hello("tess") else waits.places
         begun = time.monotonic()
         while b'"ok":"hello"' not in (said := self.greets()):
             if said not in (b"", BUSY):
@@ -151,9 +151,9 @@ class Class:
         """A student's bot: it looks and asks for the move that is enabled, and comes again after some looks."""
         draw = random.Random(node)
         while not self.is_over.is_set():
-            it = Honest(self.host.port, b'{"do":"hello","key":"key-%d","name":"s-%d"}\n' % (node, node), self.waits)
+            it = Honest(self.host.port, line_of(do="hello", key=f"key-{node}", name=f"s-{node}"), self.waits)
             for _ in range(draw.randrange(1, 8)):
-                seen = it.ask(b'{"do":"look","node":%d}\n' % node)
+                seen = it.ask(line_of(do="look", node=node))
                 if seen["rule"] is not None and seen["chosen"] is None:
                     it.ask(asked(seen, node))
                 self.is_over.wait(0.1)
@@ -165,18 +165,18 @@ class Class:
         """The teacher closes steps, and disturbs a node now and then for so long."""
         draw, end = random.Random(0), time.monotonic() + seconds
         while time.monotonic() < end:
-            it = Honest(self.host.desk, TEACHER, self.waits)
+            it = Honest(self.host.desk, hello("tess"), self.waits)
             for _ in range(10):
-                it.ask(b'{"do":"close"}\n')
+                it.ask(CLOSE)
                 time.sleep(0.1)
-            it.ask(b'{"do":"fault","m":true,"node":%d,"p":null}\n' % draw.randrange(1, STUDENTS + 1))
+            it.ask(fault_at(draw.randrange(1, STUDENTS + 1), m=True))
             it.caller.close()
 
     def come_to_rest(self) -> Honest:
         """The teacher closes steps until no node is privileged; answers the teacher's connection."""
-        it, end = Honest(self.host.desk, TEACHER, self.waits), time.monotonic() + LIMIT
-        while not it.ask(b'{"do":"report"}\n')["stable"]:
-            it.ask(b'{"do":"close"}\n')
+        it, end = Honest(self.host.desk, hello("tess"), self.waits), time.monotonic() + LIMIT
+        while not it.ask(REPORT)["stable"]:
+            it.ask(CLOSE)
             time.sleep(0.05)
             if time.monotonic() > end:
                 fail("outsiders: the class doesn't reach a stable end")

@@ -19,7 +19,8 @@ from dataclasses import dataclass
 from pathlib import Path
 
 from classroom.folders import RECORD, Record
-from tests.common.hosting import BYE, HOST, NODES, Caller, hello, lab_of, let_in, look
+from tests.common.hosting import HOST, Caller, lab_of, let_in
+from tests.common.lines import BYE, NODES, WRONG, hello, line_of, look
 from tests.common.preload import LIMIT, PROGRAM, TOP, fail
 
 SECONDS = 3600.0
@@ -27,7 +28,6 @@ ROUND = 60.0
 COMING = 12  # clients at a time
 PAUSE = 0.02
 MORE = 6144  # kilobytes that the events of an hour may add
-WRONG = b'{"do":"hello","key":"a-kez","name":"ana"}\n'
 FORM = b"POST / HTTP/1.1\r\nContent-Type: text/plain\r\n\r\n"
 
 
@@ -129,10 +129,10 @@ class Comings:
         caller, _ = let_in(self.port, hello(name))
         seen = json.loads(caller.ask(look(name)) or b"{}")
         if seen.get("rule") not in (None, "marriage"):
-            caller.ask(b'{"at":%d,"do":"move","node":%d,"rule":"%s"}\n' % (seen["at"], NODES[name], seen["rule"].encode()))
+            caller.ask(line_of(at=seen["at"], do="move", node=NODES[name], rule=seen["rule"]))
         elif seen.get("rule"):
             other = next(each["node"] for each in seen["near"] if each["p"] == NODES[name])
-            caller.ask(b'{"at":%d,"do":"move","node":%d,"rule":"marriage","with":%d}\n' % (seen["at"], NODES[name], other))
+            caller.ask(line_of(**{"at": seen["at"], "do": "move", "node": NODES[name], "rule": "marriage", "with": other}))
         caller.close()
 
     def is_no_one(self, draw: random.Random) -> None:

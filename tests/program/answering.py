@@ -92,7 +92,7 @@ def ends(room: Path) -> int:
 
 
 def work(room: Path) -> str:
-    """All of it."""
+    """Lines as they come, and each end."""
     return f"answering: {line_by_line(room)} lines as they came, {ends(room)} ends as wanted"
 
 

@@ -101,7 +101,7 @@ class Replay:
         return True
 
     def tells(self, line: bytes, reply: bytes) -> bool:
-        """Whether this is what is answered here. What is granted here is the list's next event."""
+        """Whether the model answers a line so at this point, where a grant has to be the list's next event."""
         asked = read_request(line[:-1])
         assert asked is not None
         world = self.model.world

@@ -128,7 +128,7 @@ def scripted(room: Path, lab: Path) -> None:
 
 
 def served(lab: Path) -> None:
-    """The same world over a connection: both copies that are published begin as the script's, and change alike."""
+    """The largest lab over a connection: both copies that are published begin as the script's, and change alike."""
     server = Server(lambda port: ["serve", str(lab), str(port), "1"], {})
     teacher = Client(server.port)
     node, form = NODES[0], '{{"at":{0},"dropped":0,"node":{1},"ok":"fault","place":{0}}}'

@@ -10,10 +10,11 @@ import signal
 import subprocess
 from pathlib import Path
 
+from tests.common.lines import refusal_of
 from tests.common.preload import LIMIT, PROGRAM, TOP, Ended, built_in, fail, in_room
 
 JOURNAL = (TOP / "examples/whole-run.journal").read_bytes()
-HALT = b'{"refuse":"journal"}\n'
+HALT = refusal_of("journal")
 GREETINGS = b"""1 {"do":"hello","key":"a-key","name":"ana"}
 2 {"do":"hello","key":"b-key","name":"ben"}
 3 {"do":"hello","key":"c-key","name":"cyd"}

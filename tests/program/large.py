@@ -94,7 +94,7 @@ def scripted(room: Path) -> None:
 
 
 def events(room: Path) -> None:
-    """The same through a server."""
+    """A link that is cut and made again through a server, as often as a lab may allow and once more."""
     file, journal = pair(room), room / "large.journal"
     server = Server(lambda port: ["serve", str(file), str(port), "1", str(journal)], {})
     with socket.create_connection(("127.0.0.1", server.port), timeout=LIMIT) as it:

@@ -6,19 +6,9 @@ import socket
 import time
 from pathlib import Path
 
+from tests.common.lines import BID, BYE, CLOSE, closed, denial_of, fault_at, greeted, hello, line_of, seduced, seduction
 from tests.common.preload import LIMIT, TOP, Client, Ended, Server, built_in, fail, in_room
 
-HELLO_ANA = b'{"do":"hello","key":"a-key","name":"ana"}\n'
-HELLO_BEN = b'{"do":"hello","key":"b-key","name":"ben"}\n'
-HELLO_TESS = b'{"do":"hello","key":"chalk","name":"tess"}\n'
-MOVE = b'{"at":%d,"do":"move","node":1,"rule":"seduction"}\n'
-CLOSE = b'{"do":"close"}\n'
-FAULT = b'{"do":"fault","m":false,"node":1,"p":null}\n'
-GRANTED = b'{"at":%d,"node":1,"ok":"move","place":%d,"rule":"seduction"}\n'
-CLOSED = b'{"at":%d,"moved":[1],"ok":"close","place":%d}\n'
-FAULTED = b'{"at":%d,"dropped":0,"node":1,"ok":"fault","place":%d}\n'
-CHOSEN = b'{"clause":3,"deny":"chosen","text":"this node is already chosen"}\n'
-EMPTY = b'{"clause":2,"deny":"empty","text":"no node is chosen"}\n'
 ROUNDS = 300
 
 
@@ -58,8 +48,8 @@ def whole(it: socket.socket) -> bytes:
 def in_a_line(room: Path) -> None:
     """A line that isn't ended is not answered, and ends its own connection alone."""
     server = serving(built_in(room), 4)
-    texts = [b'{"do":"hel', HELLO_ANA + MOVE % 0, b"", b'{"do":"bye"}\n{"do":"bye"}']
-    wanted = [b"", b'{"ok":"hello","who":"ana"}\n' + GRANTED % (0, 1), b"", b'{"ok":"bye"}\n']
+    texts = [b'{"do":"hel', hello("ana") + seduction(0), b"", BYE + BYE[:-1]]
+    wanted = [b"", greeted("ana") + seduced(0, 1), b"", BID]
     clients = [opened(server) for _ in texts]
     for client, text in zip(clients, texts):
         client.sendall(text)
@@ -76,13 +66,13 @@ def gone(room: Path) -> None:
     """A client that is gone before it is answered leaves its event, and another to be served to its end."""
     server = serving(built_in(room), 2)
     with opened(server) as client:
-        client.sendall(HELLO_ANA + MOVE % 0)
+        client.sendall(hello("ana") + seduction(0))
     teacher = Client(server.port)
-    if teacher.ask(HELLO_TESS) != b'{"ok":"hello","who":"tess"}\n':
+    if teacher.ask(hello("tess")) != greeted("tess"):
         fail("serving: another reply beside a client that is gone")
-    while (reply := teacher.ask(CLOSE)) == EMPTY:
+    while (reply := teacher.ask(CLOSE)) == denial_of("empty"):
         time.sleep(0.01)
-    if reply != CLOSED % (1, 2):
+    if reply != closed(1, 2, 1):
         fail(f"serving: the move of a client that is gone doesn't stand: {reply!r}")
     teacher.close()
     ends(server, b"done: 2 events, configuration 1\n")
@@ -131,16 +121,16 @@ def races(room: Path) -> None:
     lab = lab_of(room, 'owner = "ana"', 'owners = ["ana", "ben"]')
     server = serving(lab_of_more(lab), 4, str(journal))
     clients = [Client(server.port) for _ in range(4)]
-    for client, line in zip(clients, (HELLO_ANA, HELLO_BEN, HELLO_TESS, HELLO_TESS)):
-        client.ask(line)
+    for client, name in zip(clients, ("ana", "ben", "tess", "tess")):
+        client.ask(hello(name))
     ana, ben, tess, other = clients
     lines = []
     for turn in range(ROUNDS):
         number, place = 2 * turn, 3 * turn
         pairs = ((ana, ben), (tess, other)) if turn % 2 else ((ben, ana), (other, tess))
-        winner = won(*pairs[0], MOVE % number, GRANTED % (number, place + 1), CHOSEN)
-        won(*pairs[1], CLOSE, CLOSED % (number + 1, place + 2), EMPTY)
-        if tess.ask(FAULT) != FAULTED % (number + 2, place + 3):
+        winner = won(*pairs[0], seduction(number), seduced(number, place + 1), denial_of("chosen"))
+        won(*pairs[1], CLOSE, closed(number + 1, place + 2, 1), denial_of("empty"))
+        if tess.ask(fault_at(1)) != line_of(at=number + 2, dropped=0, node=1, ok="fault", place=place + 3):
             fail("serving: another reply to a fault after a race")
         name = "ana" if pairs[0][winner] is ana else "ben"
         lines += [f"{place + 1} {number} grant {name} 1 seduction", f"{place + 2} {number} close",
@@ -153,7 +143,7 @@ def races(room: Path) -> None:
 
 
 def lab_of_more(lab: Path) -> Path:
-    """The same lab with more events."""
+    """A lab with more events, in its own file."""
     lab.write_text(lab.read_text(encoding="utf-8").replace("events = 100\n", "events = 10000\n"), encoding="utf-8")
     return lab
 

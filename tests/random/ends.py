@@ -76,7 +76,7 @@ class Course:
     rounds: int
 
     def is_dense(self) -> bool:
-        """Whether it has more links than the bound on moves counts."""
+        """Whether the network has more links than the bound on moves counts."""
         return self.links > self.nodes * self.nodes // 4
 
     def moves(self, replies: list[dict[str, Any]]) -> int:

@@ -96,7 +96,7 @@ class Drawing:
         return odd(self.rng, asked) if self.rng.random() < 0.06 else spelled(self.rng, asked)
 
     def line(self, connection: int) -> bytes:
-        """The same, which the model answers."""
+        """The next line of a connection, which the model answers."""
         line = self.drawn(connection)
         self.model.answer(connection, line)
         return line

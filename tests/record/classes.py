@@ -3,16 +3,17 @@ import resource
 import subprocess
 from pathlib import Path
 
-from tests.common.hosting import BID, BYE, HOST, UNKNOWN, Caller, Host, hello, lab_of, let_in, look
+from tests.common.hosting import HOST, Caller, Host, lab_of, let_in
+from tests.common.lines import BID, BYE, CLOSE, REPORT, UNKNOWN, hello, look, seduction
 from tests.common.preload import LIMIT, Ended, fail
 from tests.record.floods import flooded
 
 SEATS = 4
 STUDENT = SEATS  # the first who comes to the port has the last seat
+# Its members aren't in the order of their keys, and so it is recorded.
 WRONG = b'{"do":"hello","name":"ana","key":"wrong"}\n'
-MOVE = b'{"at":0,"do":"move","node":1,"rule":"seduction"}\n'
-OTHER = b'{"at":1,"do":"move","node":2,"rule":"seduction"}\n'
-CLOSE = b'{"do":"close"}\n'
+MOVE = seduction(0)
+OTHER = seduction(1, node=2)
 # What ana at the port and tess at the desk say and are told, in the class that is played first.
 ANA = b"""\
 4 0 > {"do":"hello","name":"ana","key":"wrong"}
@@ -74,14 +75,14 @@ def begin(host: Host) -> tuple[Caller, Caller]:
 
 
 def whole_class(room: Path) -> tuple[Path, Path, Path]:
-    """A class from its beginning to its end is recorded but for what was shown; answers its files."""
+    """A class from its beginning to its end is recorded but for what was shown; answers its lab, journal and record."""
     lab, journal, record = lab_of(room, SEATS), room / "whole.journal", room / "whole record"
     with Host(lab, 0, 0, journal, record) as host:
         tess, _ = let_in(host.desk, hello("tess"))
         ana, _ = let_in(host.port, WRONG)
         for line in (hello("ana"), MOVE, MOVE, look("ana")):
             ana.ask(line)
-        tess.ask(b'{"do":"report"}\n')
+        tess.ask(REPORT)
         tess.ask(CLOSE)
         ana.ask(look("ana"))
         if (ana.ask(BYE), ana.line()) != (BID, b""):

@@ -3,17 +3,18 @@ import subprocess
 from dataclasses import dataclass
 from pathlib import Path
 
-from tests.common.hosting import BID, BYE, HOST, Caller, Host, hello, lab_of, let_in, look
+from tests.common.hosting import HOST, Caller, Host, lab_of, let_in
+from tests.common.lines import BID, BYE, CLOSE, MALFORMED, hello, look, seduction
 from tests.common.preload import LIMIT, Ended, fail
 
 SEATS = 4
 BUDGET = 8 << 20
 LONG = b'{"do":"dance"%s}\n' % (b" " * 4000)
-ENTRY = 2 * len(b"4 0 > ") + len(LONG) + len(b'{"refuse":"malformed"}\n')
+ENTRY = 2 * len(b"4 0 > ") + len(LONG) + len(MALFORMED)
 VISIT = 200  # at least as many bytes has the record of a visit
 LINES = BUDGET // ENTRY + 50  # more than a budget takes
 BATCH = 25
-MOVE = b'{"at":0,"do":"move","node":1,"rule":"seduction"}\n'
+MOVE = seduction(0)
 
 
 @dataclass
@@ -24,7 +25,7 @@ class Session:
     marks: list[bytes]
 
     def is_of(self, name: str) -> bool:
-        """Whether it begins with somebody's hello."""
+        """Whether the session begins with this one's hello."""
         return bool(self.said) and b'"ok":"hello","who":"%s"' % name.encode() in self.said[1]
 
     def size(self) -> int:
@@ -70,7 +71,7 @@ def leave(caller: Caller) -> None:
 def whole_visit(host: Host, name: str) -> None:
     """Somebody comes, asks in vain, and says bye."""
     caller, reply = let_in(host.port, hello(name))
-    said = caller.ask(b'{"do":"close"}\n')
+    said = caller.ask(CLOSE)
     if b'"ok":"hello"' not in reply or b'"deny"' not in said:
         fail(f"record: after a flood {name} is told {reply!r} and {said!r}")
     leave(caller)

@@ -28,7 +28,7 @@ def names(field: str) -> list[str]:
 
 
 def closure(wanted: list[str], packages: dict[str, dict[str, str]]) -> set[str]:
-    """These packages and all installed ones that they depend on."""
+    """The wanted packages, and all installed ones that they depend on."""
     providers: dict[str, list[str]] = {}
     for name, fields in packages.items():
         for provided in [name, *names(fields.get("Provides", ""))]:

@@ -11,16 +11,17 @@ import time
 from collections.abc import Sequence
 from pathlib import Path
 
-from tests.common.hosting import Caller, Host, audit, called, hello, lab_of, let_in
+from tests.common.hosting import Caller, Host, audit, called, lab_of, let_in
+from tests.common.lines import CLOSE, closed, denial_of, fault_at, greeted, hello, refusal_of, seduction
 from tests.common.preload import Ended, Preloaded, fail
 from tests.common.side_by_side import Test, try_all
-from tests.resume.players import CLOSE, Players
+from tests.resume.players import Players
 
 NO_COPY = b"resume: no copy of the lab beside the journal, the audit alone vouches for it\n"
 OTHER = Ended(2, b"", b"resume: another lab\n")
 FAULT = Ended(4, b"", b"journal fault\n")
-BREAK = b'{"do":"fault","m":false,"node":1,"p":null}\n'
-SEDUCES = b'{"at":0,"do":"move","node":1,"rule":"seduction"}\n'
+BREAK = fault_at(1)
+SEDUCES = seduction(0)
 # Two whole lines of the lab that is built into the program, and the longest that may come third.
 FIRST = b"1 0 grant ana 1 seduction\n2 0 close\n"
 THIRD = b"3 1 grant ben 2 marriage 1"
@@ -145,7 +146,7 @@ def failed_sync(room: Path) -> None:
         ana, tess = let_in(host.port, hello("ana"))[0], let_in(host.desk, hello("tess"))[0]
         said = ana.ask(SEDUCES), tess.ask(CLOSE), tess.ask(CLOSE)
         ended = host.dismissed(tess)
-    refusal = b'{"refuse":"journal"}\n'
+    refusal = refusal_of("journal")
     if b'"place":1' not in said[0] or said[1:] != (refusal, refusal) or ended != FAULT:
         fail(f"resume: where a sync fails: {said} and {ended}")
     if journal.read_bytes() != FIRST[:26]:
@@ -157,10 +158,10 @@ def told_until_halted(ana: Caller, tess: Caller) -> int:
     """How many events they are told of until the journal halts: a move, its step and a fault again and again."""
     told = 0
     for turn in range(200):
-        move = b'{"at":%d,"do":"move","node":1,"rule":"seduction"}\n' % (2 * turn)
+        move = seduction(2 * turn)
         replies = [ana.ask(move), tess.ask(CLOSE), tess.ask(BREAK)]
         told += sum(b'"place":' in reply for reply in replies)
-        if replies[2] == b'{"refuse":"journal"}\n':
+        if replies[2] == refusal_of("journal"):
             break
     return told
 
@@ -318,10 +319,8 @@ def asks_again(room: Path) -> None:
         replies = [ana.ask(SEDUCES), ana.ask(hello("ana")), ana.ask(SEDUCES), tess.ask(hello("tess")), tess.ask(CLOSE), ana.ask(SEDUCES)]
         ended = host.dismissed(tess)
     wanted = [
-        b'{"clause":0,"deny":"not-greeted","text":"say hello first"}\n', b'{"ok":"hello","who":"ana"}\n',
-        b'{"clause":3,"deny":"chosen","text":"this node is already chosen"}\n', b'{"ok":"hello","who":"tess"}\n',
-        b'{"at":1,"moved":[1],"ok":"close","place":2}\n',
-        b'{"at":1,"clause":2,"deny":"stale","text":"this is not the current configuration"}\n',
+        denial_of("not-greeted"), greeted("ana"), denial_of("chosen"), greeted("tess"), closed(1, 2, 1),
+        denial_of("stale", at=1),
     ]
     if replies != wanted or line != b"resumed at place 1, configuration 0, 1 chosen\n" or journal.read_bytes() != FIRST:
         fail(f"resume: who asks again is answered {replies}")

@@ -3,10 +3,9 @@ import json
 import random
 from typing import Any, Optional
 
-from tests.common.hosting import NODES, Caller, Host, hello, look
+from tests.common.hosting import Caller, Host
+from tests.common.lines import CLOSE, NODES, REPORT, fault_at, hello, look
 
-CLOSE = b'{"do":"close"}\n'
-REPORT = b'{"do":"report"}\n'
 TEACHER = "tess"
 
 
@@ -53,7 +52,7 @@ class Players:
     def disturb(self) -> None:
         """The teacher sets the registers of a node."""
         node = self.random.choice([*NODES.values()])
-        self.ask(TEACHER, b'{"do":"fault","m":%s,"node":%d,"p":null}\n' % (self.random.choice([b"true", b"false"]), node))
+        self.ask(TEACHER, fault_at(node, self.random.choice([True, False])))
 
     def play_on(self, host: Host) -> None:
         """Plays until the host is gone."""

@@ -113,7 +113,7 @@ def drawn(room: Path, seed: int) -> bool:
 
 
 def test(room: Path) -> str:
-    """All of them."""
+    """The runs by hand, and the drawn ones."""
     count = int(sys.argv[1]) if len(sys.argv) > 1 else JOURNALS
     hands = by_hand(room)
     some = sum(drawn(room, seed) for seed in range(1, count + 1))

@@ -1,0 +1,78 @@
+"""Lines between a client and the server, written by hand: what is asked, and what is replied."""
+import json
+
+# The keys of those who take part in the lab that is built into the program, and the nodes of its students.
+KEYS = {"ana": "a-key", "ben": "b-key", "cyd": "c-key", "tess": "chalk"}
+NODES = {"ana": 1, "ben": 2, "cyd": 3}
+# The number of a denial's clause, and its text.
+DENIALS = {
+    "chosen": (3, "this node is already chosen"),
+    "empty": (2, "no node is chosen"),
+    "hidden": (1, "this node is not shown to you"),
+    "not-greeted": (0, "say hello first"),
+    "stale": (2, "this is not the current configuration"),
+    "unknown": (2, "name and key do not match"),
+}
+
+
+def line_of(**members: object) -> bytes:
+    """A line with members in the order of their keys."""
+    return json.dumps(members, separators=(",", ":"), sort_keys=True).encode() + b"\n"
+
+
+def hello(name: str) -> bytes:
+    """A greeting of one who takes part in the lab that is built into the program."""
+    return line_of(do="hello", key=KEYS[name], name=name)
+
+
+def look(name: str) -> bytes:
+    """A look at a student's node."""
+    return line_of(do="look", node=NODES[name])
+
+
+def seduction(at: int, node: int = 1) -> bytes:
+    """A move by which a node points at its greatest candidate, asked for at a configuration."""
+    return line_of(at=at, do="move", node=node, rule="seduction")
+
+
+def fault_at(node: int, m: bool = False) -> bytes:
+    """A fault by which a node points at none."""
+    return line_of(do="fault", m=m, node=node, p=None)
+
+
+def greeted(name: str) -> bytes:
+    """The reply to a greeting."""
+    return line_of(ok="hello", who=name)
+
+
+def seduced(at: int, place: int, node: int = 1) -> bytes:
+    """The reply to a seduction that is granted."""
+    return line_of(at=at, node=node, ok="move", place=place, rule="seduction")
+
+
+def closed(at: int, place: int, *moved: int) -> bytes:
+    """The reply to a close that moved some nodes."""
+    return line_of(at=at, moved=moved, ok="close", place=place)
+
+
+def denial_of(word: str, **more: object) -> bytes:
+    """A denial, with what it tells beside its text."""
+    clause, text = DENIALS[word]
+    return line_of(clause=clause, deny=word, text=text, **more)
+
+
+def refusal_of(word: str) -> bytes:
+    """A refusal."""
+    return line_of(refuse=word)
+
+
+BYE = line_of(do="bye")
+BID = line_of(ok="bye")
+CLOSE = line_of(do="close")
+REPORT = line_of(do="report")
+# Another's key.
+WRONG = line_of(do="hello", key="a-kez", name="ana")
+UNKNOWN = denial_of("unknown")
+MALFORMED = refusal_of("malformed")
+# Why a host ends a connection.
+BUSY, LATE, LONG, OVER = (refusal_of(word) for word in ("busy", "late", "long", "over"))
