@@ -151,35 +151,37 @@ def built_in(room: Path) -> Path:
     return lab
 
 
-def free_port() -> int:
-    """A port that nobody listens on."""
-    with socket.socket() as it:
-        it.bind(("127.0.0.1", 0))
-        port: int = it.getsockname()[1]
-        return port
+def held_port() -> socket.socket:
+    """A socket that is bound to a port that nobody had, and doesn't listen.
+
+    While it is open, the system gives that port to no one who leaves the choice to it. Who asks for it by
+    number may still listen there, since the program and this socket both allow it (SO_REUSEADDR).
+    """
+    held = socket.socket()
+    held.setsockopt(socket.SOL_SOCKET, socket.SO_REUSEADDR, 1)
+    held.bind(("127.0.0.1", 0))
+    return held
 
 
 class Server:
     """The program as it serves a lab, under a library or not. `before` is what calls it."""
 
     def __init__(self, words: Callable[[int], list[str]], variables: Mapping[str, str], before: Sequence[str] = ()) -> None:
-        for _ in range(20):
-            self.port = free_port()
-            self.process = subprocess.Popen(
-                [*before, PROGRAM, *words(self.port)],
-                stdin=subprocess.DEVNULL,
-                stdout=subprocess.PIPE,
-                stderr=subprocess.PIPE,
-                env=variables,
-            )
-            assert self.process.stdout is not None
-            self.first = self.process.stdout.readline()
-            self.listens = self.first == b"listening on port %d\n" % self.port
-            if self.listens:
-                break
+        # A port that somebody took in between would want a second try, whose calls a library counts on from the first's.
+        self.held = held_port()
+        self.port: int = self.held.getsockname()[1]
+        self.process = subprocess.Popen(
+            [*before, PROGRAM, *words(self.port)],
+            stdin=subprocess.DEVNULL,
+            stdout=subprocess.PIPE,
+            stderr=subprocess.PIPE,
+            env=variables,
+        )
+        assert self.process.stdout is not None
+        self.first = self.process.stdout.readline()
+        self.listens = self.first == b"listening on port %d\n" % self.port
+        if not self.listens:
             self.ended = self._end()
-            if self.ended.error != b"serve: cannot listen\n":
-                break
 
     def _end(self) -> Ended:
         try:
@@ -187,6 +189,7 @@ class Server:
         except subprocess.TimeoutExpired:
             self.process.kill()
             fail("a server doesn't end")
+        self.held.close()
         return Ended(self.process.returncode, out, error)
 
     def end(self) -> Ended:
