@@ -20,7 +20,7 @@ use Rattle.mml_codec.specs.declared.reply.Reply.TheVariants as replies
 use Rattle.mml_codec.specs.Facts as fact
 use Rattle.mml_codec.specs.Facts.{Fact, Fields, object_text}
 
--- ---- the table: each key in its place, and what it tells
+-- ---- the table: each key where it comes, and what it tells
 
 -- the key that tells which request was granted, by its word
 abbrev pub ok : List ℕ → List ℕ × Fact
@@ -133,7 +133,7 @@ is_short (replies.Look l) = false
 is_short (replies.Report r) = false
 is_short _ = true
 
--- the reply that is told is the one that was given, or out of memory in the place of one that isn't short
+-- the reply that is told is the one that was given, or out of memory instead of one that isn't short
 abbrev pub TellsFor : Reply → Reply → Type 0
 TellsFor reply told = (told ≡ reply) ⊎ ((is_short reply ≡ false) × (told ≡ replies.Refuse refused.Memory))
 

@@ -13,7 +13,7 @@ use Rattle.mml_codec.specs.declared.reply.Refused.TheVariants as refused
 use Rattle.mml_codec.specs.declared.reply.Reply.{Reply}
 use Rattle.mml_codec.specs.declared.reply.Reply.TheVariants as replies
 
--- the reply to an event that took place, with the number and the place after it
+-- the reply to an event that happened, with the number and the place after it
 abbrev pub reply_of_done : ℕ → ℕ → Done → Reply
 reply_of_done at place (done.Move node kind) = replies.Move at place node kind
 reply_of_done at place (done.Close moved) = replies.Close at place moved
@@ -22,7 +22,7 @@ reply_of_done at place (done.Link a b dropped) = replies.Link at place a b dropp
 reply_of_done at place (done.Cut a b dropped) = replies.Cut at place a b dropped
 reply_of_done at place (done.Release node) = replies.Release at place node
 
--- how it is told that an act which all clauses allow doesn't take place, or that what was ruled can't be told
+-- how it is told that an act which all clauses allow doesn't happen, or that what was ruled can't be told
 abbrev pub refusal_for : Refusal → Refused
 refusal_for refusal.Full = refused.Full
 refusal_for refusal.Journal = refused.Journal

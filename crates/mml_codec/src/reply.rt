@@ -111,10 +111,10 @@ pub enum Reply {
     Refuse(Refused),
 }
 
-/// Puts a reply in the place of another, where it stays, since it is large to hand on.
+/// Puts a reply where it stays, instead of another: it is large to hand on.
 #[inline(always)]
-pub fn put_in(place: &mut Reply, reply: Reply)
-    ensures { place.new ≡ reply }
+pub fn put_in(out: &mut Reply, reply: Reply)
+    ensures { out.new ≡ reply }
 {
-    *place = reply;
+    *out = reply;
 }

@@ -28,7 +28,7 @@ const TEXT_ROOM: usize = 2000;
 // Enough for what a look says before the nodes that are linked, or after them.
 const LOOK_ROOM: usize = 128;
 
-// When an event took place: the number after it, and its place.
+// When an event happened: the number after it, and its place.
 #[derive(Clone, Copy)]
 struct Moment {
     at: u64,
@@ -47,7 +47,7 @@ fn moment_of(at: &u64, place: &u64) -> Moment
     }
 }
 
-/// Puts the line of a reply, with its newline, in the place of what the vector holds, which grows by its own
+/// Puts the line of a reply, with its newline, instead of what the vector holds, which grows by its own
 /// allocator. Where memory runs out, it is left empty: `REPLY_ROOM` is enough but for a look or a report.
 pub fn write_reply(
     _alloc: Global,
@@ -73,7 +73,7 @@ pub fn write_reply(
     written
 }
 
-/// Puts the line of a reply, or the refusal `memory` where there is no memory for that, in the place of what the
+/// Puts the line of a reply, or the refusal `memory` where there is no memory for that, instead of what the
 /// vector holds, and gives the reply whose line it is.
 pub fn tell_reply(
     alloc: Global,
@@ -119,7 +119,7 @@ fn is_short(reply: &Reply) -> bool
     !matches!(reply, Reply::Look(_) | Reply::Report(_))
 }
 
-// Puts the line of the refusal `memory` in the place of what the vector holds, and gives that refusal.
+// Puts the line of the refusal `memory` instead of what the vector holds, and gives that refusal.
 fn tell_want_of_memory(alloc: Global, ids: &IdTable, roster: &Roster, out: &mut Vec<u8>) -> Reply
     requires room { REPLY_ROOM ≤ vec_capacity out.old }
     ensures told { result ≡ Reply.Refuse Refused.Memory }

@@ -15,7 +15,7 @@ use mml_ids::Memory;
 use mml_policy::{Asked, Command};
 use std::alloc::{AllocError, Global};
 
-/// Puts the text of a request, without its newline, in the place of what the vector holds. Where memory runs
+/// Puts the text of a request, without its newline, instead of what the vector holds. Where memory runs
 /// out, it is left empty.
 pub fn write_request(alloc: Global, request: &Request, out: &mut Vec<u8>) -> Result<(), Memory>
     ensures text { OnOk result (out.new.items ≡ canonical request.now) }

@@ -27,7 +27,7 @@ use Rattle.mml_convergence.specs.Potential.{potential, whole_potential}
 use Rattle.mml_convergence.specs.Moves.{applied_over}
 use Rattle.mml_convergence.specs.Examples.{unlinked, triangle, triangle_world, sole_owner, twenty_moves}
 
--- ---- a run, computed over registers: the links are a test, in the place of sets
+-- ---- a run, computed over registers: the links are a test, instead of sets
 
 -- the configuration of these links and registers
 abbrev shape : (ℕ → ℕ → Bool) → List Regs → Configuration

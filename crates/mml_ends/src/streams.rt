@@ -4,8 +4,8 @@ use std::io;
 use std::os::fd::{AsRawFd, IntoRawFd, RawFd};
 use std::rt::Files;
 
-/// Opens the null device in the place of each standard stream that is closed: input to write to, output and error
-/// to read from. So each use of it fails, and no file that is opened later takes its place. It is called
+/// Opens the null device for each standard stream that is closed: input to write to, output and error
+/// to read from. So each use of it fails, and no file that is opened later gets its descriptor. It is called
 /// before any other file is opened. The error is that the null device couldn't be opened.
 pub fn hold_streams<R: Files<File = File>>(rt: &R) -> io::Result<()> {
     for stream in 0..3 {
@@ -14,7 +14,7 @@ pub fn hold_streams<R: Files<File = File>>(rt: &R) -> io::Result<()> {
     Ok(())
 }
 
-// Opens the null device in the place of a standard stream, if that is closed: the system gives the least descriptor
+// Opens the null device for a standard stream, if that is closed: the system gives the least descriptor
 // that is free, and the streams before `stream` are open. An open one stays as it is. Fails where opening does.
 fn hold_stream<R: Files<File = File>>(rt: &R, stream: RawFd) -> io::Result<()> {
     let is_input = stream == 0;

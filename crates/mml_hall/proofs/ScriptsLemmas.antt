@@ -13,8 +13,8 @@ use Rattle.mml_lines.specs.declared.write_fault.WriteFault.{WriteFault}
 use Rattle.mml_lines.proofs.KnownBytesLemmas.{none_taken, nothing_held}
 use Rattle.mml_lines.proofs.RunsLemmas.{by_steps, empty, flat_longer, longer}
 use Rattle.mml_lines.proofs.SendingLemmas.{nothing_sent, sends_on, sends_more, all_out, breaks_on, breaks_more}
-use Rattle.mml_hall.specs.declared.script.Next.{Next}
-use Rattle.mml_hall.specs.declared.script.Next.TheVariants as next
+use Rattle.mml_hall.specs.declared.script.ScriptStep.{ScriptStep}
+use Rattle.mml_hall.specs.declared.script.ScriptStep.TheVariants as next
 use Rattle.mml_hall.specs.declared.script.ScriptFault.{ScriptFault}
 use Rattle.mml_hall.specs.declared.script.ScriptFault.TheVariants as fault
 use Rattle.mml_hall.specs.Turns.{State, TurnOf, Halts, opening}
@@ -112,7 +112,7 @@ module _ {S : Type 0} {contents : S → Option (List ℕ)} {failures : S → ℕ
   GoesOn = (hall'.lab ≡ hall.lab) × TellsJournal hall'.lab hall'.state (contents hall'.sink)
       × Halts hall.state.halted hall'.state.halted (failures hall.sink) (failures hall'.sink)
 
-  from_end : (came : Next) → ServesNext came hall.lab hall.state hall'.state a held left unsent unsent' c d
+  from_end : (came : ScriptStep) → ServesNext came hall.lab hall.state hall'.state a held left unsent unsent' c d
       → ServesNext came lab so.transcript.end hall'.state a held left unsent unsent' c d
   from_end came serves =
       subst (λ (t : State). ServesNext came lab t hall'.state a held left unsent unsent' c d) (sym so.stands)

@@ -13,8 +13,8 @@ use Rattle.mml_lines.specs.declared.lines.TheConstants.{READ_SIZE}
 use Rattle.mml_lines.specs.declared.write_fault.WriteFault.{WriteFault}
 use Rattle.mml_codec.specs.declared.reply.Reply.{Reply}
 use Rattle.mml_hall.specs.declared.TheConstants.{MAX_SCRIPT_LINE}
-use Rattle.mml_hall.specs.declared.script.Next.{Next}
-use Rattle.mml_hall.specs.declared.script.Next.TheVariants as next
+use Rattle.mml_hall.specs.declared.script.ScriptStep.{ScriptStep}
+use Rattle.mml_hall.specs.declared.script.ScriptStep.TheVariants as next
 use Rattle.mml_hall.specs.Turns.{State, RequestLine, Turn}
 use Rattle.mml_hall.specs.ScriptLines.{IsScriptLine, script_line}
 use Rattle.mml_hall.specs.Scripts.{LineTurn, line_read}
@@ -50,7 +50,7 @@ module _ (lab : LabValue) (st after : State) (a left wrote wrote' : Option (List
   taken_by : (s : RequestLine) (t : LineTurn lab st after) → line ≡ script_line s → t.line ≡ s → Consumes a (prepend_known held left) (line_read t)
   taken_by s t spelled same = subst (λ (bytes : List ℕ). Consumes a (prepend_known held left) (ended bytes)) (spelled ∙ ap script_line (sym same)) taken
 
-  pub serves_next : (n : Next) → ServesText n lab st after line unsent unsent' wrote wrote' → ServesNext n lab st after a held left unsent unsent' wrote wrote'
+  pub serves_next : (n : ScriptStep) → ServesText n lab st after line unsent unsent' wrote wrote' → ServesNext n lab st after a held left unsent unsent' wrote wrote'
   serves_next next.Answered had = (had.2.0, taken_by had.0 had.2.0 had.1 had.2.1, had.2.2)
   serves_next next.End had = absurd had
   serves_next next.BadLine had =

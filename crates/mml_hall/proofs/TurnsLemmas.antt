@@ -1,4 +1,4 @@
--- What turns leave as it was, and where out of memory may stand in the place of a reply.
+-- What turns leave as it was, and where out of memory may stand instead of a reply.
 use Rattle.std.proofs.lemmas.Bool.Decides.{nat_tests}
 use Rattle.std.proofs.Common.{◌≡◌, ◌≢◌, ◌⊎◌, ◌<◌, ◌-◌, ℕ, Bool, true, false, true≢false, not, cond, List, Option, Some, None, Result, Ok, Err, refl, sym, ap, ◌∙◌}
 use Rattle.std.proofs.Common.{arith, subst, inl, inr}
@@ -26,7 +26,7 @@ use Rattle.mml_codec.specs.Replies.{is_short, place_in, TellsFor}
 use Rattle.mml_codec.specs.Rulings.{reply_of_done}
 use Rattle.mml_codec.proofs.RulingsLemmas.{place_of_done, short_done}
 use Rattle.mml_hall.specs.Turns.{State, Outcome, Mishap, Turn, IsRefusal, GrowsByGrant, is_grant, nothing, while_read, later, sink_failed, turn, known_on}
-use Rattle.mml_hall.specs.Turns.{with_known, with_event, told, settled, answer_to, plain_turn, takes_memory, without_memory, halting, IsKept}
+use Rattle.mml_hall.specs.Turns.{with_known, with_event, outcome_of, settled, answer_to, plain_turn, takes_memory, without_memory, halting, IsKept}
 
 -- ---- whatever befell a turn
 
@@ -36,7 +36,7 @@ either_of P false one other p q = q
 
 module _ (lab : LabValue) (st : State) (k : ℕ) (line : List ℕ) (P : Outcome → Type 0) (plain : P (plain_turn lab st k line)) (memory : P (without_memory st))
     (journal : P (halting st)) where
-  -- what holds of a plain turn, and of what may come in its place, holds whatever befell the turn
+  -- what holds of a plain turn, and of what may come instead, holds whatever befell the turn
   pub whatever_befell : (mishap : Mishap) → P (turn mishap lab st k line)
   whatever_befell nothing = plain
   whatever_befell while_read = memory
@@ -88,7 +88,7 @@ module _ (lab : LabValue) (st : State) (k : ℕ) where
       inl (record { state = subst (λ (y : Option Who). with_known st k y ≡ st) e (with_known-known_on st k); nameless = none })
 
   does_told : (x : Who) (c : Command) (ruled : Ruling) → ruling lab.ids lab.roster lab.events st.halted st.world x c ≡ ruled → known_on st k ≡ Some x
-      → Does (Ok (requests.Do c)) (told st ruled)
+      → Does (Ok (requests.Do c)) (outcome_of st ruled)
   does_told x c (Granted f d) e known = inr (inr (record {
     who = x;
     command = c;
@@ -170,7 +170,7 @@ long_turn lab st k line long = elim (plain_does lab st k line) [
 long_takes_memory : (r : Reply) → is_short r ≡ false → takes_memory r ≡ true
 long_takes_memory r h = or_right (is_grant r) (not (is_short r)) (ap not h)
 
--- the plain outcome isn't short: out of memory may stand in its place
+-- the plain outcome isn't short: out of memory may stand instead
 wanting : (lab : LabValue) (st : State) (k : ℕ) (line : List ℕ) (told : Reply) → told ≡ (without_memory st).reply
     → is_short (plain_turn lab st k line).reply ≡ false → Turn lab st k line (record { reply = told; state = (plain_turn lab st k line).state })
 wanting lab st k line told want long = (
@@ -190,7 +190,7 @@ told_turn lab st k line out told t (inr want) =
 
 -- ---- the events that turns make
 
--- no event takes place, and the reply names no place
+-- no event happens, and the reply names no place
 pub record IsQuiet (st : State) (out : Outcome) : Type 0 where
   pub nameless : place_in out.reply ≡ None
   pub events : out.state.events ≡ st.events

@@ -11,8 +11,8 @@ use Rattle.mml_codec.specs.declared.reply.Reply.TheVariants as replies
 use Rattle.mml_codec.specs.declared.reply.Refused.TheVariants as refused
 use Rattle.mml_codec.specs.Replies.{reply_line, TellsFor}
 use Rattle.mml_hall.specs.declared.TheConstants.{MAX_SCRIPT_LINE}
-use Rattle.mml_hall.specs.declared.script.Next.{Next}
-use Rattle.mml_hall.specs.declared.script.Next.TheVariants as next
+use Rattle.mml_hall.specs.declared.script.ScriptStep.{ScriptStep}
+use Rattle.mml_hall.specs.declared.script.ScriptStep.TheVariants as next
 use Rattle.mml_hall.specs.Turns.{State, RequestLine}
 use Rattle.mml_hall.specs.ScriptLines.{IsScriptLine, IsBad, script_line}
 use Rattle.mml_hall.specs.Scripts.{LineTurn, line_read, line_written}
@@ -22,7 +22,7 @@ abbrev pub told_of : Reply → Bool → Reply
 told_of reply true = reply
 told_of reply false = replies.Refuse refused.Memory
 
--- the line of a reply, or of out of memory in the place of one that isn't short, comes behind its front after those that aren't
+-- the line of a reply, or of out of memory instead of one that isn't short, comes behind its front after those that aren't
 -- written, of which the first are out
 abbrev pub Tells : Result ⊤ WriteFault → LabValue → Reply → List ℕ → List (List ℕ) → List (List ℕ) → Option (List ℕ) → Option (List ℕ) → Type 0
 Tells r lab reply front unsent unsent' wrote wrote' = (told : Reply) × TellsFor reply told
@@ -38,7 +38,7 @@ ServesLine (Err fault) lab st after line unsent unsent' wrote wrote' =
     (t : LineTurn lab st after) × (t.line ≡ line) × BreaksOff fault wrote wrote' (unsent ++ line_written t ∷ [])
 
 -- what came of a line that was read, by what it is: a script line, which had its turn, or none
-abbrev pub ServesText : Next → LabValue → State → State → List ℕ → List (List ℕ) → List (List ℕ) → Option (List ℕ) → Option (List ℕ) → Type 0
+abbrev pub ServesText : ScriptStep → LabValue → State → State → List ℕ → List (List ℕ) → List (List ℕ) → Option (List ℕ) → Option (List ℕ) → Type 0
 ServesText next.Answered lab st after line unsent unsent' wrote wrote' =
     (s : RequestLine) × (line ≡ script_line s) × ServesLine (Ok tt) lab st after s unsent unsent' wrote wrote'
 ServesText next.End lab st after line unsent unsent' wrote wrote' = ⊥
@@ -50,7 +50,7 @@ ServesText (next.WriteFault fault) lab st after line unsent unsent' wrote wrote'
 
 -- what came of the next line: what it made of the state, of the bytes to come, of which those held are first, of the lines that
 -- aren't written and of the bytes that are
-abbrev pub ServesNext : Next → LabValue → State → State → Option (List ℕ) → List ℕ → Option (List ℕ) → List (List ℕ) → List (List ℕ) → Option (List ℕ)
+abbrev pub ServesNext : ScriptStep → LabValue → State → State → Option (List ℕ) → List ℕ → Option (List ℕ) → List (List ℕ) → List (List ℕ) → Option (List ℕ)
     → Option (List ℕ) → Type 0
 ServesNext next.Answered lab st after input held left unsent unsent' wrote wrote' =
     (t : LineTurn lab st after) × Consumes input (prepend_known held left) (line_read t) × Sends wrote wrote' (unsent ++ line_written t ∷ []) unsent'

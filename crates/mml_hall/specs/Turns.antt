@@ -63,14 +63,14 @@ abbrev pub entered : State → Option Event → State
 entered st None = st
 entered st (Some e) = with_event st e
 
--- what comes of a ruling: its event takes place, if one is granted, and the reply is told of the world after that
-abbrev pub told : State → Ruling → Outcome
-told st r = let after = entered st (event_of r) in record { reply = reply_of after.world r; state = after }
+-- what comes of a ruling: its event happens, if one is granted, and the reply is told of the world after that
+abbrev pub outcome_of : State → Ruling → Outcome
+outcome_of st r = let after = entered st (event_of r) in record { reply = reply_of after.world r; state = after }
 
 -- what comes of a request: it greets or says bye, or its command is ruled on
 abbrev pub settled : LabValue → State → ℕ → Greeting → Outcome
 settled lab st k (Answered r x) = record { reply = r; state = with_known st k x }
-settled lab st k (LeftToJudge x c) = told st (ruling lab.ids lab.roster lab.events st.halted st.world x c)
+settled lab st k (LeftToJudge x c) = outcome_of st (ruling lab.ids lab.roster lab.events st.halted st.world x c)
 
 -- what comes of what a line asks
 abbrev pub answer_to : LabValue → State → ℕ → Result Request LineFault → Outcome
@@ -85,7 +85,7 @@ plain_turn lab st k line = answer_to lab st k (request_in line)
 abbrev pub without_memory : State → Outcome
 without_memory st = replied st (reply.Refuse refused.Memory)
 
--- the line of the journal isn't taken: the event doesn't take place, and the journal is halted for good
+-- the line of the journal isn't taken: the event doesn't happen, and the journal is halted for good
 abbrev pub halting : State → Outcome
 halting st = record { reply = reply.Refuse refused.Journal; state = record st { halted = true } }
 
@@ -155,7 +155,7 @@ IsRefusal (reply.Deny d) = Unit {0}
 IsRefusal (reply.Refuse r) = Unit {0}
 IsRefusal _ = ⊥
 
--- one event more takes place, and the reply names its place; or none does, and the reply names no place
+-- one event more happens, and the reply names its place; or none does, and the reply names no place
 abbrev pub GrowsByGrant : State → Outcome → Type 0
 GrowsByGrant st out =
     ((out.state.events ≡ st.events) × (out.state.world ≡ st.world) × (place_in out.reply ≡ None))

@@ -46,7 +46,7 @@ pub fn events_grow_by_grants()
         → Turn lab st connection line out → GrowsByGrant st out }
 {}
 
-/// A put that failed halts the journal, in the place of a grant, and nothing else does; a journal that is
+/// A put that failed halts the journal, instead of a grant, and nothing else does; a journal that is
 /// halted stays so. The refusal `journal` comes only where the journal is halted then.
 pub fn failed_puts_halt_for_good()
     ensures failed { (lab : LabValue) (st : State) (connection : ℕ) (line : List ℕ)

@@ -161,14 +161,14 @@ fn answer_lines<R: Read, W: Write, S: Sink>(
     loop {
         flush_before_read(&buffers.lines, &mut buffers.outgoing, writer)?;
         match serve_next(alloc, hall, buffers, reader, writer) {
-            Next::Answered => answered += 1,
-            Next::End => return Ok(()),
-            Next::BadLine => {
+            ScriptStep::Answered => answered += 1,
+            ScriptStep::End => return Ok(()),
+            ScriptStep::BadLine => {
                 buffers.outgoing.flush(writer)?;
                 return Err(bad_line_after(answered));
             }
-            Next::ReadFault => return Err(ScriptFault::Read),
-            Next::WriteFault(fault) => {
+            ScriptStep::ReadFault => return Err(ScriptFault::Read),
+            ScriptStep::WriteFault(fault) => {
                 return Err(ScriptFault::Write {
                     written: fault.written,
                 });
@@ -187,7 +187,7 @@ fn bad_line_after(answered: u64) -> ScriptFault
 
 // What came of the next line.
 #[derive(Clone, Copy)]
-enum Next {
+enum ScriptStep {
     Answered,
     End,
     BadLine,
@@ -226,22 +226,22 @@ fn serve_next<R: Read, W: Write, S: Sink>(
     buffers: &mut Buffers,
     reader: &mut R,
     writer: &mut W,
-) -> Next
+) -> ScriptStep
     requires going { buffers.old.lines.ending ≡ None }
     requires limit { buffers.old.lines.limit ≡ MAX_SCRIPT_LINE }
     requires room { REPLY_ROOM ≤ vec_capacity buffers.old.reply }
     // Nothing is unwritten at a read.
     requires written { IsWithinLimit buffers.old.lines.limit buffers.old.lines.unread → buffers.old.outgoing ≡ [] }
-    ensures going { result ≡ Next.Answered → buffers.new.lines.ending ≡ None }
+    ensures going { result ≡ ScriptStep.Answered → buffers.new.lines.ending ≡ None }
     ensures limit { buffers.new.lines.limit ≡ MAX_SCRIPT_LINE }
-    ensures few { result ≡ Next.Answered → length buffers.new.lines.unread < READ_SIZE }
+    ensures few { result ≡ ScriptStep.Answered → length buffers.new.lines.unread < READ_SIZE }
     ensures room { REPLY_ROOM ≤ vec_capacity buffers.new.reply }
     ensures lab { hall.new.lab ≡ hall.old.lab }
     ensures halts { Halts hall.old.state.halted hall.new.state.halted
         (S.failures hall.old.sink) (S.failures hall.new.sink) }
     ensures journal { TellsJournal hall.new.lab hall.new.state (S.contents hall.new.sink) }
     // Each line brings the end nearer, since there is a most of reads.
-    ensures progress { result ≡ Next.Answered → bytes_ahead buffers.new.lines < bytes_ahead buffers.old.lines }
+    ensures progress { result ≡ ScriptStep.Answered → bytes_ahead buffers.new.lines < bytes_ahead buffers.old.lines }
     ensures serves { ServesNext result hall.old.lab hall.old.state hall.new.state
         (prepend_known buffers.old.lines.unread (R.remaining reader.old))
         buffers.new.lines.unread (R.remaining reader.new) buffers.old.outgoing buffers.new.outgoing
@@ -258,9 +258,9 @@ fn serve_next<R: Read, W: Write, S: Sink>(
             &mut buffers.outgoing,
             writer,
         ),
-        Step::TooLong => Next::BadLine,
-        Step::End => Next::End,
-        Step::ReadFault => Next::ReadFault,
+        Step::TooLong => ScriptStep::BadLine,
+        Step::End => ScriptStep::End,
+        Step::ReadFault => ScriptStep::ReadFault,
     }
 }
 
@@ -273,7 +273,7 @@ fn serve_line<W: Write, S: Sink>(
     out: &mut Vec<u8>,
     outgoing: &mut Outgoing,
     writer: &mut W,
-) -> Next
+) -> ScriptStep
     requires line { IsWithinLimit MAX_SCRIPT_LINE line.now }
     requires room { REPLY_ROOM ≤ vec_capacity out.old }
     ensures room { REPLY_ROOM ≤ vec_capacity out.new }
@@ -286,10 +286,10 @@ fn serve_line<W: Write, S: Sink>(
 {
     match read_script_line(line, hall.lab().sessions()) {
         Some(line) => match serve_script_line(alloc, hall, line, out, outgoing, writer) {
-            Ok(()) => Next::Answered,
-            Err(fault) => Next::WriteFault(fault),
+            Ok(()) => ScriptStep::Answered,
+            Err(fault) => ScriptStep::WriteFault(fault),
         },
-        None => Next::BadLine,
+        None => ScriptStep::BadLine,
     }
 }
 
@@ -317,24 +317,24 @@ fn serve_script_line<W: Write, S: Sink>(
 {
     let mut reply = Reply::Bye;
     hall.answer_into(alloc, line.connection, line.request, &mut reply);
-    let told = Told {
+    let rest = ReplyRest {
         lab: hall.lab(),
         reply: &reply,
     };
-    if outgoing.append(line.front, &told) {
+    if outgoing.append(line.front, &rest) {
         return Ok(());
     }
-    tell_apart(alloc, told, line.front, out, outgoing, writer)
+    tell_apart(alloc, rest, line.front, out, outgoing, writer)
 }
 
 // A reply, as what its output line has behind the connection.
 #[derive(Clone, Copy)]
-struct Told<'a> {
+struct ReplyRest<'a> {
     lab: &'a Lab,
     reply: &'a Reply,
 }
 
-impl LineRest for Told<'_> {
+impl LineRest for ReplyRest<'_> {
     ghost may_tell = { λ t. IsAbout t.lab.now.ids t.lab.now.roster t.reply.now };
 
     ghost text = { λ t. reply_line t.lab.now.ids t.lab.now.roster t.reply.now };
@@ -352,23 +352,23 @@ impl LineRest for Told<'_> {
 #[inline(never)]
 fn tell_apart<W: Write>(
     alloc: Global,
-    told: Told<'_>,
+    rest: ReplyRest<'_>,
     front: &[u8],
     out: &mut Vec<u8>,
     outgoing: &mut Outgoing,
     writer: &mut W,
 ) -> Result<(), WriteFault>
     requires room { REPLY_ROOM ≤ vec_capacity out.old }
-    requires about { IsAbout told.lab.now.ids told.lab.now.roster told.reply.now }
+    requires about { IsAbout rest.lab.now.ids rest.lab.now.roster rest.reply.now }
     ensures room { REPLY_ROOM ≤ vec_capacity out.new }
-    ensures tells { Tells result told.entry.lab.now told.entry.reply.now front.now outgoing.old outgoing.new
+    ensures tells { Tells result rest.entry.lab.now rest.entry.reply.now front.now outgoing.old outgoing.new
         (W.contents writer.old) (W.contents writer.new) }
 {
-    let _is_whole = put_reply(alloc, told.lab, told.reply, out);
+    let _is_whole = put_reply(alloc, rest.lab, rest.reply, out);
     outgoing.put(front, out, writer)
 }
 
-// Puts the line of a reply in the place of what the vector holds, or the line of the refusal `memory`, where a
+// Puts the line of a reply instead of what the vector holds, or the line of the refusal `memory`, where a
 // growth was refused, and tells whether it was the reply's own.
 fn put_reply(alloc: Global, lab: &Lab, reply: &Reply, out: &mut Vec<u8>) -> bool
     requires room { REPLY_ROOM ≤ vec_capacity out.old }
@@ -386,7 +386,7 @@ fn put_reply(alloc: Global, lab: &Lab, reply: &Reply, out: &mut Vec<u8>) -> bool
     }
 }
 
-// Puts the line of the refusal `memory` in the place of what the vector holds, for which that has room.
+// Puts the line of the refusal `memory` instead of what the vector holds, for which that has room.
 fn put_want_of_memory(alloc: Global, lab: &Lab, out: &mut Vec<u8>)
     requires room { REPLY_ROOM ≤ vec_capacity out.old }
     ensures room { REPLY_ROOM ≤ vec_capacity out.new }

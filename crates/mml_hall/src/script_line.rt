@@ -56,13 +56,13 @@ fn connection_of(line: &[u8]) -> u8
     }
 }
 
-// The value of the digit at a place of a line, from 0; `None` where no digit stands there.
-fn digit_at(line: &[u8], place: usize) -> Option<u8>
-    ensures digit { IfSome result (λ d. (d < 10) × (place < length line.now) × (slice_index line.now place ≡ 48 + d)) }
-    ensures none { IfNone result (place < length line.now → (d : ℕ) → d < 10 → slice_index line.now place ≢ 48 + d) }
+// The value of the digit at an index of a line, from 0; `None` where no digit stands there.
+fn digit_at(line: &[u8], index: usize) -> Option<u8>
+    ensures digit { IfSome result (λ d. (d < 10) × (index < length line.now) × (slice_index line.now index ≡ 48 + d)) }
+    ensures none { IfNone result (index < length line.now → (d : ℕ) → d < 10 → slice_index line.now index ≢ 48 + d) }
 {
-    if place < line.len() && line[place].is_ascii_digit() {
-        Some(line[place] - b'0')
+    if index < line.len() && line[index].is_ascii_digit() {
+        Some(line[index] - b'0')
     } else {
         None
     }

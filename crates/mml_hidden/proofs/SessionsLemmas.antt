@@ -50,7 +50,7 @@ seen_plainly : (w : World) (l : List Event) (g : Ruling)
     → take (length (entered l (event_of g)) - length (places_in (reply_of w g))) (entered l (event_of g)) ≡ l
 seen_plainly w l g = grind (arith, nat_tests, but_last, all_of)
 
--- a refusal in the place of a ruling tells what hindered it
+-- a refusal instead of a ruling tells what hindered it
 hindered : (g : Ruling) (why : Refused) (kept : Option Refusal) → MayRefuse g why kept → IsUnhindered (reply.Refuse why) → ⊥
 hindered g why kept may free = grind (arith, nat_tests)
 

@@ -23,7 +23,7 @@ use Rattle.mml_codec.specs.declared.greeting.Greeting.TheVariants.{Answered}
 use Rattle.mml_codec.specs.Greetings.{greeting, admitted}
 use Rattle.mml_codec.specs.Lines.{request_in}
 use Rattle.mml_codec.specs.Replies.{reply_line}
-use Rattle.mml_hall.specs.Turns.{State, Outcome, Mishap, nothing, while_read, later, sink_failed, turn, known_on, entered, told, settled, answer_to}
+use Rattle.mml_hall.specs.Turns.{State, Outcome, Mishap, nothing, while_read, later, sink_failed, turn, known_on, entered, outcome_of, settled, answer_to}
 use Rattle.mml_hall.specs.Turns.{plain_turn, takes_memory, without_memory, is_grant, halting}
 use Rattle.mml_hall.proofs.TurnsLemmas.{plain_does, whatever_befell, either_of}
 use Rattle.mml_hidden.specs.Twins.{AreTwins, StatesAlike, is_hers}
@@ -32,7 +32,7 @@ use Rattle.std.proofs.lemmas.Bool.Decides.{nat_tests}
 
 -- ---- what comes of a turn, in one lab
 
--- an event that takes place, or none, leaves who is known, and whether the journal is halted
+-- an event that happens, or none, leaves who is known, and whether the journal is halted
 pub entered_is : (st : State) (o : Option Event)
     → ((entered st o).world ≡ option_map_or (after st.world) o st.world) × ((entered st o).greeted ≡ st.greeted) × ((entered st o).halted ≡ st.halted)
 entered_is st o = grind (arith, nat_tests)
@@ -74,10 +74,10 @@ module _ (lab : LabValue) (s : ℕ) (st : State) (v : World) (es : List Event) (
 
   -- the outcomes of a command, before each world
   abbrev told_st : Who → Command → Outcome
-  told_st x c = told st (ruling lab.ids lab.roster lab.events st.halted st.world x c)
+  told_st x c = outcome_of st (ruling lab.ids lab.roster lab.events st.halted st.world x c)
 
   abbrev told_su : Who → Command → Outcome
-  told_su x c = told su (ruling lab.ids lab.roster lab.events st.halted v x c)
+  told_su x c = outcome_of su (ruling lab.ids lab.roster lab.events st.halted v x c)
 
   told_alike : (c : Command) → TurnsAlike lab s (told_st (who.Student s) c) (told_su (who.Student s) c)
   told_alike c = grind (arith, nat_tests, entered_is, same_reply_to, alike_afterwards)

@@ -166,7 +166,7 @@ pub fn events_are_told_by_place_and_number()
         Alike r s (after w e) (after v f) → makes_configuration e ≡ makes_configuration f }
 {}
 
-/// One event that takes place in two worlds that are alike for a student keeps them alike exactly where it shows her
+/// One event that happens in two worlds that are alike for a student keeps them alike exactly where it shows her
 /// the same. Only a link to a node of hers and a close may show her something else; a close doesn't where the same
 /// moves are chosen for the neighbours of her nodes, and their rules read the same.
 pub fn one_event_keeps_worlds_alike()

@@ -28,7 +28,7 @@ pub(crate) struct Past<'a> {
 
 /// What takes the lines of the events that are granted.
 #[derive(Drop)]
-pub(crate) enum Journal<'a> {
+pub(crate) enum ClassJournal<'a> {
     /// None, or one that was begun. What isn't a plain file can't be synced.
     New(Option<BegunJournal>),
     /// One in which the class goes on.
@@ -40,7 +40,7 @@ pub(crate) enum Journal<'a> {
 pub(crate) struct Class<'a> {
     pub lab: Lab,
     pub ports: Ports,
-    pub journal: Journal<'a>,
+    pub journal: ClassJournal<'a>,
 }
 
 /// What the ports of a class are served with, whatever its journal is.
@@ -160,13 +160,13 @@ fn serve_journaled<
         recorders,
     };
     match journal {
-        Journal::New(None) => ready.begin(rt, NullSink::new(), writer),
-        Journal::New(Some(BegunJournal::Plain(file))) => {
+        ClassJournal::New(None) => ready.begin(rt, NullSink::new(), writer),
+        ClassJournal::New(Some(BegunJournal::Plain(file))) => {
             ready.begin(rt, FileSink::synced(file, 0, file_size_limit()), writer)
         }
-        Journal::New(Some(BegunJournal::Other(file))) => {
+        ClassJournal::New(Some(BegunJournal::Other(file))) => {
             ready.begin(rt, FileSink::new(file), writer)
         }
-        Journal::Old(past) => ready.go_on(rt, past, writer),
+        ClassJournal::Old(past) => ready.go_on(rt, past, writer),
     }
 }

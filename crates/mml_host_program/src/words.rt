@@ -72,8 +72,8 @@ fn host_words<'a>(alloc: Global) -> Result<Command<'a>, AllocError> {
 
 // The subcommand `resume`, with its values.
 fn resume_words<'a>(alloc: Global) -> Result<Command<'a>, AllocError> {
-    let places = ["lab", "port", "desk", "journal"];
-    with_optional(alloc, subcommand_of(alloc, "resume", &places)?, "record")
+    let values = ["lab", "port", "desk", "journal"];
+    with_optional(alloc, subcommand_of(alloc, "resume", &values)?, "record")
 }
 
 // What a subcommand of this name with these values asks for; none where a text names no port, a value is missing, or

@@ -91,7 +91,7 @@ module _ {H K C R W : Type 0} (t : Terms K C R W) where
         → ServesPort t to_desk desk_old desks → ServesPort t to_come old others
         → IfOk r (λ house. IsLogFrom (length t.begun) t.lab sink (windows_of desks ++ windows_of others) house.log)
         → IfOk r (λ _. All (λ s. s.is_dismissed ≡ true) desks)
-        → IfOk r (λ house. house.desk.items ≡ records_of desks) → IfOk r (λ house. house.others.items ≡ records_of others)
+        → IfOk r (λ house. house.at_desk.items ≡ records_of desks) → IfOk r (λ house. house.others.items ≡ records_of others)
         → IfOk r (λ house. HostsFrom t.begun t.given t.lab sink t.remaining t.contents t.recorded t.shows to_desk to_come house)
     hosted (Ok house) count one desk_first rest desk_fresh fresh at_desk at_port kept dismissed desk_is others_is =
         let single : length desks ≡ 1 = at_desk.count ∙ one in

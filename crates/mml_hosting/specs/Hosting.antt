@@ -33,12 +33,12 @@ pub record HostsFrom {S K C R W : Type 0} (begun : List Event) (given : ℕ → 
   pub begins : IsPrefix begun house.log.events
   pub at_least : All (λ w. IsPrefix begun w.seen) (desk_windows ++ windows)
   pub kept : IsLogFrom (length begun) lab sink (desk_windows ++ windows) house.log
-  pub numbers : HaveSame (range_with_len 1 lab.sessions) (numbers_of (house.desk.items ++ house.others.items))
-  pub at_desk : AllZip (Led (terms lab begun given remaining contents recorded shows)) house.desk.items desk_windows
+  pub numbers : HaveSame (range_with_len 1 lab.sessions) (numbers_of (house.at_desk.items ++ house.others.items))
+  pub at_desk : AllZip (Led (terms lab begun given remaining contents recorded shows)) house.at_desk.items desk_windows
   pub elsewhere : AllZip (Led (terms lab begun given remaining contents recorded shows)) house.others.items windows
-  pub one : length house.desk.items ≡ 1
-  pub dismissed : All (λ r. IsDismissed (sessions_of shows r)) house.desk.items
-  pub came_to_desk : Attends to_desk [] (flat_map (came_to shows) house.desk.items)
+  pub one : length house.at_desk.items ≡ 1
+  pub dismissed : All (λ r. IsDismissed (sessions_of shows r)) house.at_desk.items
+  pub came_to_desk : Attends to_desk [] (flat_map (came_to shows) house.at_desk.items)
   pub came : Attends to_come [] (flat_map (came_to shows) house.others.items)
 
 -- what `HostsFrom` says, of a house before whose opening no event came

@@ -5,13 +5,13 @@ use Rattle.std.proofs.lemmas.Bool.{false≢true}
 
 -- x stands in the list, and passes
 pub record IsFound {X : Type 0} (p : X → Bool) (xs : List X) (x : X) : Type 0 where
-  pub place : ℕ
-  pub within : place < length xs
-  pub there : get_or xs place x ≡ x
+  pub index : ℕ
+  pub within : index < length xs
+  pub there : get_or xs index x ≡ x
   pub passes : p x ≡ true
 
 later : {X : Type 0} (p : X → Bool) (y : X) (xs : List X) (x : X) → IsFound p xs x → IsFound p (y ∷ xs) x
-later p y xs x found = let lt = found.within in record { place = suc found.place; within = omega arith; there = found.there; passes = found.passes }
+later p y xs x found = let lt = found.within in record { index = suc found.index; within = omega arith; there = found.there; passes = found.passes }
 
 -- what is found stands in the list and passes
 pub find-is : {X : Type 0} (p : X → Bool) (xs : List X) (x : X) → find p xs ≡ Some x → IsFound p xs x

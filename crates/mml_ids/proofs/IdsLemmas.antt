@@ -188,7 +188,7 @@ module _ (ns sorted : List ℕ) (moved : IsPermutation ns sorted) (climbs : IsSo
 position_at : (id : ℕ) (ids : List ℕ) (k : ℕ) → k < length ids → get_or ids k 0 ≡ id → ((i : ℕ) → i < k → get_or ids i 0 ≢ id) → rank_in ids id ≡ Some k
 position_at id ids k l e before = grind (arith, position_or_len_is, ne_eqb, eq-eqb, lt-ltb)
 
--- an identifier stands at one place
+-- an identifier stands at one index
 pub rank_of_id : (ids : List ℕ) (k id : ℕ) → IsTable ids → k < length ids → id ≡ get_or ids k id → rank_in ids id ≡ Some k
 rank_of_id ids k id t l e = grind (arith, get_or_default, position_at)
 

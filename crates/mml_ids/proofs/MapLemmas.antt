@@ -14,34 +14,34 @@ pub find-map : {X Y : Type 0} (p : Y → Bool) (f : X → Y) (xs : List X) → o
 find-map p f [] = refl
 find-map p f (x ∷ xs) = grind (arith, find-map p f xs)
 
-place-map : {X Y : Type 0} (p : Y → Bool) (f : X → Y) (xs : List X) → position_or_len (λ x. p (f x)) xs ≡ position_or_len p (map f xs)
-place-map p f [] = refl
-place-map p f (x ∷ xs) = rw (place-map p f xs) refl
+index-map : {X Y : Type 0} (p : Y → Bool) (f : X → Y) (xs : List X) → position_or_len (λ x. p (f x)) xs ≡ position_or_len p (map f xs)
+index-map p f [] = refl
+index-map p f (x ∷ xs) = rw (index-map p f xs) refl
 
 length-mapped : {X Y : Type 0} (f : X → Y) (xs : List X) → length xs ≡ length (map f xs)
 length-mapped f [] = refl
 length-mapped f (x ∷ xs) = rw (length-mapped f xs) refl
 
--- the place of the first that passes is the same in the list of what the elements stand for
+-- the index of the first that passes is the same in the list of what the elements stand for
 pub position-map : {X Y : Type 0} (p : Y → Bool) (f : X → Y) (xs : List X) → position (λ x. p (f x)) xs ≡ position p (map f xs)
-position-map p f xs = rw (place-map p f xs, length-mapped f xs) refl
+position-map p f xs = rw (index-map p f xs, length-mapped f xs) refl
 
 -- two maps, one after the other, are one
 pub map-map : {X Y Z : Type 0} (g : Y → Z) (f : X → Y) (xs : List X) → map (λ x. g (f x)) xs ≡ map g (map f xs)
 map-map g f [] = refl
 map-map g f (x ∷ xs) = ap (λ zs. g (f x) ∷ zs) (map-map g f xs)
 
--- where the first element passes, its place is 0
+-- where the first element passes, its index is 0
 pub position-first : {X : Type 0} (p : X → Bool) (x : X) (xs : List X) → p x ≡ true → position p (x ∷ xs) ≡ Some 0
 position-first p x xs here = rw (here, lt-ltb 0 (suc (length xs)) (omega arith)) refl
 
 shift : (n m : ℕ) → cond (nat_lt (suc n) (suc m)) (Some (suc n)) None ≡ option_map suc (cond (nat_lt n m) (Some n) None)
 shift n m = grind (arith, cases_lt, lt-ltb, le-ltb)
 
--- one past the place in the rest
-place-later : {X : Type 0} (p : X → Bool) (x : X) (xs : List X) → p x ≡ false → position_or_len p (x ∷ xs) ≡ suc (position_or_len p xs)
-place-later p x xs not_here = rw not_here (omega arith)
+-- one past the index in the rest
+index-later : {X : Type 0} (p : X → Bool) (x : X) (xs : List X) → p x ≡ false → position_or_len p (x ∷ xs) ≡ suc (position_or_len p xs)
+index-later p x xs not_here = rw not_here (omega arith)
 
--- where the first element doesn't pass, the place is one past that in the rest
+-- where the first element doesn't pass, the index is one past that in the rest
 pub position-later : {X : Type 0} (p : X → Bool) (x : X) (xs : List X) → p x ≡ false → position p (x ∷ xs) ≡ option_map suc (position p xs)
-position-later p x xs not_here = grind (arith, place-later, shift)
+position-later p x xs not_here = grind (arith, index-later, shift)

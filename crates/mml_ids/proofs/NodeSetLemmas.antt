@@ -142,19 +142,19 @@ pub len-set_of_none : (words : List ℕ) → sets.len (set_of 0 words) ≡ 0
 unfolding set_of those_below
 len-set_of_none words = sets.len-empty nat_cmp
 
--- the lowest bits of the word at a place add their ones
+-- the lowest bits of the word at an index add their ones
 len-part : (words : List ℕ) (w j : ℕ) → j ≤ 64 → sets.len (set_of (64 * w + j) words) ≡ count_ones (get_or words w 0 % 2 ^ j) + sets.len (set_of (64 * w) words)
 len-part words w zero l = grind (arith, none_counted)
 len-part words w (suc j) l =
     let b : ℕ = get_or words w 0 in
     let next : 64 * w + suc j ≡ suc (64 * w + j) = omega arith in
-    let place : (64 * w + j) / 64 ≡ w = omega arith in
+    let index : (64 * w + j) / 64 ≡ w = omega arith in
     let bit : (64 * w + j) % 64 ≡ j = omega arith in
     let some = pow_pos j in
     let counted : count_ones (b % 2 ^ suc j) ≡ bit_at b j + count_ones (b % 2 ^ j) =
     ap count_ones (low_digits b j) ∙ ones_cat j (bit_at b j) (b % 2 ^ j) (omega arith)
     ∙ ap (λ k. k + count_ones (b % 2 ^ j)) (count_bit (bit_at b j) (bit_at-lt b j)) in
-    let more : digit words (64 * w + j) ≡ bit_at b j = ap (λ x. bit_at (get_or words x 0) ((64 * w + j) % 64)) place ∙ ap (bit_at b) bit in
+    let more : digit words (64 * w + j) ≡ bit_at b j = ap (λ x. bit_at (get_or words x 0) ((64 * w + j) % 64)) index ∙ ap (bit_at b) bit in
     ap (λ n. sets.len (set_of n words)) next ∙ len-set_of_step (64 * w + j) words
     ∙ omega (arith, len-part words w j (omega arith))
 
@@ -174,12 +174,12 @@ none_of_zeros n words zeros = grind (arith, same_ranks, has-set_of, has_empty, c
 pub has-highest : (n : ℕ) (words : List ℕ) (w k : ℕ) → 64 * w + k < n → k < 64 → 2 ^ k ≤ get_or words w 0 → get_or words w 0 < 2 * 2 ^ k
     → sets.contains (set_of n words) (64 * w + k) ≡ true
 has-highest n words w k inside below low high =
-    let place : (64 * w + k) / 64 ≡ w = omega arith in
+    let index : (64 * w + k) / 64 ≡ w = omega arith in
     let bit : (64 * w + k) % 64 ≡ k = omega arith in
     let one : get_or words w 0 / 2 ^ k ≡ 1 = div-eq_of_lt-le {k = 1} (2 ^ k) {m = get_or words w 0} (omega arith) (omega arith) in
     has-set_of n words (64 * w + k)
     ∙ ap (λ b. b && bit_in words (64 * w + k)) (lt-ltb (64 * w + k) n inside)
-    ∙ ap (λ x. eqb (bit_at (get_or words x 0) ((64 * w + k) % 64)) 1) place
+    ∙ ap (λ x. eqb (bit_at (get_or words x 0) ((64 * w + k) % 64)) 1) index
     ∙ ap (λ x. eqb (bit_at (get_or words w 0) x) 1) bit
     ∙ eq-eqb (bit_at (get_or words w 0) k) 1 (ap (λ x. x % 2) one)
 

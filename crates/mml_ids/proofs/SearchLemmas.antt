@@ -65,22 +65,22 @@ first_next bad k n h e = sym (next_step bad k (n - k) (n - (k + 1)) (omega arith
 pub first_end : (bad : ℕ → Bool) (k n : ℕ) → n ≤ k → first_from bad k (n - k) ≡ None
 first_end bad k n h = let e : n - k ≡ 0 = omega arith in rw e
 
--- where no element passes, there is no place to name
+-- where no element passes, there is no index to name
 pub position-none : {X : Type 0} (p : X → Bool) (xs : List X) (d : X) → ((k : ℕ) → k < length xs → p (get_or xs k d) ≡ false) → position p xs ≡ None
 position-none p xs d nowhere =
     let e : position_or_len p xs ≡ length xs = position_or_len_is p xs (length xs) d (omega arith) nowhere (λ lt. absurd (omega arith)) in
     rw (e, le-ltb (length xs) (length xs) (omega arith))
 
--- the place of an element that passes, where none before it does
+-- the index of an element that passes, where none before it does
 pub position-at : {X : Type 0} (p : X → Bool) (xs : List X) (i : ℕ) (d : X) → i < length xs → p (get_or xs i d) ≡ true
     → ((k : ℕ) → k < i → p (get_or xs k d) ≡ false) → position p xs ≡ Some i
 position-at p xs i d lt here before = grind (arith, position_or_len_is, lt-ltb)
 
--- where no place is named, no element passes
+-- where no index is named, no element passes
 pub position-None : {X : Type 0} (p : X → Bool) (xs : List X) (d : X) → position p xs ≡ None → (k : ℕ) → k < length xs → p (get_or xs k d) ≡ false
 position-None p xs d none k lt = grind (arith, fails_before_first, nat_lt, ltb-false)
 
--- the one place at which the test is true
+-- the one index at which the test is true
 pub position-only : {X : Type 0} (p : X → Bool) (xs : List X) (i : ℕ) (d : X) → i < length xs → p (get_or xs i d) ≡ true
     → ((k : ℕ) → k < length xs → p (get_or xs k d) ≡ true → k ≡ i) → position p xs ≡ Some i
 position-only p xs i d lt here only = grind (arith, position-at, cases_Bool)

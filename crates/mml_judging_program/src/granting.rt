@@ -5,7 +5,7 @@ use std::alloc::Global;
 /// What is amiss with the places that records grant.
 #[derive(Clone, Copy, Debug, PartialEq, Eq, Drop)]
 pub enum Misgranted {
-    /// The event at this place took place before the record began; or there is no event at this place.
+    /// The event at this place happened before the record began; or there is no event at this place.
     Early(u64),
     /// The event at this place is granted again.
     Twice(u64),

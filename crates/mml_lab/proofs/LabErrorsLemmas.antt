@@ -16,7 +16,7 @@ abbrev pub first_of : List (Option LabFault) → Option LabFault
 first_of [] = None
 first_of (t ∷ ts) = first_fault t (first_of ts)
 
--- ---- each has its place in the order
+-- ---- where each comes in the order
 
 abbrev HasOrder : ℕ → Option LabFault → Type 0
 HasOrder n t = (f : LabFault) → t ≡ Some f → order_of f ≡ n

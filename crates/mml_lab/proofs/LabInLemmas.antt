@@ -18,7 +18,7 @@ use Rattle.mml_rules.specs.Network.{Network, no_regs, registers_at, configuratio
 use Rattle.mml_lab.specs.declared.TheConstants.{MAX_EVENTS, MAX_SESSIONS}
 use Rattle.mml_lab.specs.Shape.{Account, NodeSpec, RawSpec}
 use Rattle.mml_lab.specs.Rosters.{has_name, no_account, with_owners, IsRoster}
-use Rattle.mml_lab.specs.Labs.{IsLab, number_of, file_ids, joins, is_linked, is_loop, is_within, lacks_owner, points_at_unlinked, node_with, place_of, owners_in}
+use Rattle.mml_lab.specs.Labs.{IsLab, number_of, file_ids, joins, is_linked, is_loop, is_within, lacks_owner, points_at_unlinked, node_with, student_index, owners_in}
 use Rattle.mml_lab.specs.Labs.{owners_with, registers_in, registers_with, neighbours_of, network_in, lab_in, lab_from, LabValue}
 use Rattle.mml_ids.proofs.MapLemmas.{list_any-map}
 use Rattle.mml_ids.proofs.SearchLemmas.{position-None}
@@ -50,10 +50,10 @@ pub record IsNodeAt (nodes : List NodeSpec) (id : ℕ) (node : NodeSpec) : Type 
   pub stands : IsFound (λ n. number_of n.id == id) nodes node
   pub named : node.id ≡ pos id
 
--- a student's name has a place among the students
-pub place-position : (students : List Account) (name : List ℕ) → list_any (has_name name) students ≡ true
-    → position (has_name name) students ≡ Some (place_of students name)
-place-position students name some = grind (arith, IsFound, list_any-found, both_ways, position-None)
+-- a student's name has an index among the students
+pub index-position : (students : List Account) (name : List ℕ) → list_any (has_name name) students ≡ true
+    → position (has_name name) students ≡ Some (student_index students name)
+index-position students name some = grind (arith, IsFound, list_any-found, both_ways, position-None)
 
 -- each owner is a student
 pub owners-known : (students : List Account) (node : NodeSpec) → lacks_owner students node ≡ false
@@ -61,9 +61,9 @@ pub owners-known : (students : List Account) (node : NodeSpec) → lacks_owner s
 owners-known students node right k d lt = grind (arith, cases_Bool, both_ways, list_any_at)
 
 owners-in : (students : List Account) (node : NodeSpec) → lacks_owner students node ≡ false → All (λ s. s < length students) (owners_in students node)
-owners-in students node right = All-map (λ s. s < length students) (place_of students) node.owners
+owners-in students node right = All-map (λ s. s < length students) (student_index students) node.owners
     (λ k d lt. let name = get_or node.owners k d in
-    (position-Some (has_name name) students (place_of students name) no_account (place-position students name (owners-known students node right k d lt))).0)
+    (position-Some (has_name name) students (student_index students name) no_account (index-position students name (owners-known students node right k d lt))).0)
 
 module _ (raw : RawSpec) (right : IsFaultless raw) where
   abbrev pub ids : List ℕ
@@ -124,7 +124,7 @@ module _ (raw : RawSpec) (right : IsFaultless raw) where
         registers-in i lt ∙ ap (λ (o : Option NodeSpec). option_map_or (registers_in ids) o no_regs) n.1.found in
         let kept : points_at_unlinked raw.links node ≡ false =
         ap (points_at_unlinked raw.links) (sym n.1.stands.there)
-        ∙ position-None (points_at_unlinked raw.links) raw.nodes node right.pointers n.1.stands.place n.1.stands.within in
+        ∙ position-None (points_at_unlinked raw.links) raw.nodes node right.pointers n.1.stands.index n.1.stands.within in
         by i lt node n.1.named node.p (ap (λ (r : Regs). r.p) (sym regs) ∙ points) kept
     | inr past ↦ grind (arith, length-map, get_or_past)
   ]
@@ -159,7 +159,7 @@ module _ (raw : RawSpec) (right : IsFaultless raw) where
       let node = n.0 in
       let owned : lacks_owner raw.students node ≡ false =
       ap (lacks_owner raw.students) (sym n.1.stands.there)
-      ∙ position-None (lacks_owner raw.students) raw.nodes node right.owners n.1.stands.place n.1.stands.within in
+      ∙ position-None (lacks_owner raw.students) raw.nodes node right.owners n.1.stands.index n.1.stands.within in
       subst (λ (o : Option NodeSpec). All (λ s. s < length raw.students) (option_map_or (owners_in raw.students) o [])) (sym n.1.found)
       (owners-in raw.students node owned)))
 

@@ -20,7 +20,7 @@ use Rattle.mml_lab.specs.declared.who.Who.TheVariants as who
 use Rattle.mml_lab.specs.Shape.{NodeSpec, RawSpec, spelled}
 use Rattle.mml_lab.specs.Rosters.{RosterValue, has_name, with_owners, owns, owners_of, name_of}
 use Rattle.mml_lab.specs.Labs.{LabValue, IsLab, number_of, file_ids, is_node, joins, is_linked, is_loop, lacks_owner, lacks_end, points_at_unlinked}
-use Rattle.mml_lab.specs.Labs.{node_with, registers_in, place_of, owners_in, owners_with, lab_from, lab_of}
+use Rattle.mml_lab.specs.Labs.{node_with, registers_in, student_index, owners_in, owners_with, lab_from, lab_of}
 use Rattle.mml_lab.specs.LabMeaning.{Joins, HasLink, HasNode, JoinNodes}
 use Rattle.mml_ids.proofs.MapLemmas.{list_any-map}
 use Rattle.mml_ids.proofs.SearchLemmas.{position-None, position-none, none-is}
@@ -28,7 +28,7 @@ use Rattle.mml_lab.proofs.RosterMeaningLemmas.{student_of_name, name_of_student}
 use Rattle.mml_ids.proofs.InOrderLemmas.{in_order-moves}
 use Rattle.mml_lab.proofs.LabFaultLemmas.{IsFaultless}
 use Rattle.mml_ids.proofs.FindLemmas.{list_any-found}
-use Rattle.mml_lab.proofs.LabInLemmas.{positive, lawful_from, node_at, IsNodeAt, linked-in, registers-in, net, table, roster, place-position, owners-known}
+use Rattle.mml_lab.proofs.LabInLemmas.{positive, lawful_from, node_at, IsNodeAt, linked-in, registers-in, net, table, roster, index-position, owners-known}
 
 -- a link is found to join two numbers exactly where it does
 pub joins-means : (a b : ℤ) (link : ℤ × ℤ) → (joins a b link ≡ true) ↔ Joins a b link
@@ -106,7 +106,7 @@ module _ (raw : RawSpec) (right : IsFaultless raw) where
   ids-same id = (
     λ stands. let n = node_at raw right stands.0 stands.1 in
         let here : slice_index ids stands.0 ≡ id = get_or_default ids stands.0 0 id stands.1 ∙ stands.2 in
-        (n.1.stands.place, n.0, n.1.stands.within, n.1.stands.there, n.1.named ∙ ap pos here),
+        (n.1.stands.index, n.0, n.1.stands.within, n.1.stands.there, n.1.named ∙ ap pos here),
     λ node. let some : list_any (λ n. n == id) ids ≡ true = listed raw.nodes id
         ∙ list_any-from_Any (λ (n : NodeSpec). number_of n.id == id) raw.nodes
         (node.0, node.1, node.2, node.3, eq-eqb (number_of node.1.id) id (ap number_of node.4)) in
@@ -114,9 +114,9 @@ module _ (raw : RawSpec) (right : IsFaultless raw) where
         (a.0, a.2, get_or_default ids a.0 id a.1 a.2 ∙ a.3 ∙ eqb-true a.1 id a.4),
   )
 
-  -- an identifier stands at one place of the file
-  one_place : (j k : ℕ) (x y : NodeSpec) → j < k → k < length raw.nodes → get_or raw.nodes j x ≡ x → get_or raw.nodes k y ≡ y → number_of x.id ≢ number_of y.id
-  one_place j k x y less lt at_j at_k same =
+  -- an identifier stands at one index of the file
+  one_index : (j k : ℕ) (x y : NodeSpec) → j < k → k < length raw.nodes → get_or raw.nodes j x ≡ x → get_or raw.nodes k y ≡ y → number_of x.id ≢ number_of y.id
+  one_index j k x y less lt at_j at_k same =
       let ns : List ℕ = file_ids raw.nodes in
       let long : length ns ≡ length raw.nodes = length-map raw.nodes (λ node. number_of node.id) in
       let apart : is_again_at ns k ≡ false = none-is (is_again_at ns) (length ns) (sound ns right.ids).differ k (omega arith) in
@@ -126,7 +126,7 @@ module _ (raw : RawSpec) (right : IsFaultless raw) where
 
   pub node_is : (i : ℕ) (node : NodeSpec) → i < length ids → Contains raw.nodes node → node.id ≡ pos (slice_index ids i)
       → node_with raw.nodes (slice_index ids i) ≡ Some node
-  node_is i node lt stands named = n.1.found ∙ ap Some (by (cases_order n.1.stands.place stands.0))
+  node_is i node lt stands named = n.1.found ∙ ap Some (by (cases_order n.1.stands.index stands.0))
     where
       n : (x : NodeSpec) × IsNodeAt raw.nodes (slice_index ids i) x
       n = node_at raw right i lt
@@ -134,11 +134,11 @@ module _ (raw : RawSpec) (right : IsFaultless raw) where
       same : number_of n.0.id ≡ number_of node.id
       same = ap number_of (n.1.named ∙ sym named)
 
-      by : (n.1.stands.place ≡ stands.0) ⊎ ((n.1.stands.place < stands.0) ⊎ (stands.0 < n.1.stands.place)) → n.0 ≡ node
+      by : (n.1.stands.index ≡ stands.0) ⊎ ((n.1.stands.index < stands.0) ⊎ (stands.0 < n.1.stands.index)) → n.0 ≡ node
       by (inl here) =
-          sym n.1.stands.there ∙ get_or_default raw.nodes n.1.stands.place n.0 node n.1.stands.within ∙ ap (λ k. get_or raw.nodes k node) here ∙ stands.2
-      by (inr (inl less)) = absurd (one_place n.1.stands.place stands.0 n.0 node less stands.1 n.1.stands.there stands.2 same)
-      by (inr (inr less)) = absurd (one_place stands.0 n.1.stands.place node n.0 less n.1.stands.within stands.2 n.1.stands.there (sym same))
+          sym n.1.stands.there ∙ get_or_default raw.nodes n.1.stands.index n.0 node n.1.stands.within ∙ ap (λ k. get_or raw.nodes k node) here ∙ stands.2
+      by (inr (inl less)) = absurd (one_index n.1.stands.index stands.0 n.0 node less stands.1 n.1.stands.there stands.2 same)
+      by (inr (inr less)) = absurd (one_index stands.0 n.1.stands.index node n.0 less n.1.stands.within stands.2 n.1.stands.there (sym same))
 
   registers-are : (i : ℕ) (node : NodeSpec) → i < length ids → Contains raw.nodes node → node.id ≡ pos (slice_index ids i)
       → registers_at (net raw right).registers i ≡ registers_in ids node
@@ -199,25 +199,25 @@ module _ (raw : RawSpec) (right : IsFaultless raw) where
           get_or-map (owners_with raw.students raw.nodes) ids i 0 [] lt
           ∙ ap (λ (o : Option NodeSpec). option_map_or (owners_in raw.students) o []) (node_is i node lt stands named)
 
-      test : owns members (who.Student s) i ≡ list_any (λ name. place_of raw.students name == s) node.owners
-      test = ap (list_any (λ o. o == s)) theirs ∙ sym (list_any-map (λ o. o == s) (place_of raw.students) node.owners)
+      test : owns members (who.Student s) i ≡ list_any (λ name. student_index raw.students name == s) node.owners
+      test = ap (list_any (λ o. o == s)) theirs ∙ sym (list_any-map (λ o. o == s) (student_index raw.students) node.owners)
 
       there : owns members (who.Student s) i ≡ true → Contains node.owners name
       there holds =
-          let found = list_any-found (λ name. place_of raw.students name == s) node.owners (sym test ∙ holds) in
-          let at = found.1.place in
+          let found = list_any-found (λ name. student_index raw.students name == s) node.owners (sym test ∙ holds) in
+          let at = found.1.index in
           let known : list_any (has_name found.0) raw.students ≡ true =
           ap (λ n. list_any (has_name n) raw.students) (sym found.1.there) ∙ owners-known raw.students node owned at found.0 found.1.within in
-          let place : position (has_name found.0) raw.students ≡ Some s =
-          place-position raw.students found.0 known ∙ ap Some (eqb-true (place_of raw.students found.0) s found.1.passes) in
-          let same : name ≡ found.0 = name_of_student members found.0 s place in
+          let index : position (has_name found.0) raw.students ≡ Some s =
+          index-position raw.students found.0 known ∙ ap Some (eqb-true (student_index raw.students found.0) s found.1.passes) in
+          let same : name ≡ found.0 = name_of_student members found.0 s index in
           (at, found.1.within, get_or_default node.owners at name found.0 found.1.within ∙ found.1.there ∙ sym same)
 
       back : Contains node.owners name → owns members (who.Student s) i ≡ true
       back among =
-          let is : place_of raw.students name ≡ s = ap (λ o. unwrap_or o 0) (student_of_name members s (roster raw right) in_s) in
-          test ∙ list_any_at (λ name. place_of raw.students name == s) node.owners among.0 name among.1
-          (ap (λ n. place_of raw.students n == s) among.2 ∙ eq-eqb (place_of raw.students name) s is)
+          let is : student_index raw.students name ≡ s = ap (λ o. unwrap_or o 0) (student_of_name members s (roster raw right) in_s) in
+          test ∙ list_any_at (λ name. student_index raw.students name == s) node.owners among.0 name among.1
+          (ap (λ n. student_index raw.students n == s) among.2 ∙ eq-eqb (student_index raw.students name) s is)
 
 -- a lab that bytes spell is lawful
 pub lawful : (bytes : List ℕ) (lab : LabValue) → lab_of bytes ≡ Ok lab → IsLab lab

@@ -48,10 +48,10 @@ pub taken_at : (teacher : KeptAccount) (all done rest : List KeptAccount) (x : K
 taken_at teacher all done rest x es t name r b parts seen same_teacher same is at =
     let accounts : map account_view all ≡ map account_view done ++ account_view x ∷ map account_view rest =
     ap (map account_view) (sym parts) ∙ map-append account_view done (x ∷ rest) in
-    let place : length done + 1 ≡ suc (length (map account_view done)) = omega (arith, length-map done account_view) in
+    let index : length done + 1 ≡ suc (length (map account_view done)) = omega (arith, length-map done account_view) in
     let here : is_name_again (account_view teacher ∷ map account_view all) (length done + 1)
     ≡ (bytes_eq (string_bytes x.name) (string_bytes teacher.name) || list_any (has_name (string_bytes x.name)) (map account_view done)) =
-    rw (accounts, place) (again_at (account_view teacher) (map account_view done) (account_view x) (map account_view rest)) in
+    rw (accounts, index) (again_at (account_view teacher) (map account_view done) (account_view x) (map account_view rest)) in
     grind (arith, nat_tests, lookup_any)
 
 -- nothing stands before the teacher
@@ -115,8 +115,8 @@ module _ (teacher : KeptAccount) (all done rest : List KeptAccount) (x : KeptAcc
   at_fault n so_far parts count same_teacher same is at =
       let again : is_name_again (account_view teacher ∷ map account_view all) (length done + 1) ≡ true =
       taken_at teacher all done rest x es t name r true parts so_far.seen same_teacher same is at in
-      let place : n + 1 ≡ length done + 1 = omega (arith, ap length so_far.seen, length-map es entry_account, length-map done account_view) in
-      rw place (fault_at (account_view teacher ∷ map account_view all) (map account_view all)
+      let index : n + 1 ≡ length done + 1 = omega (arith, ap length so_far.seen, length-map es entry_account, length-map done account_view) in
+      rw index (fault_at (account_view teacher ∷ map account_view all) (map account_view all)
       (length done + 1) (is_within (account_view teacher) all done rest x parts) again so_far.none)
 
   pub at_next : (new : List Entry) → IsSoFar teacher all done es → done ++ x ∷ rest ≡ all → new ≡ es ++ (x.name, x.key) ∷ [] → t ≡ string_bytes teacher.name

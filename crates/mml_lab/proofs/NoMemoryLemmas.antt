@@ -33,25 +33,25 @@ or_fault o f tells = grind arith
 of_cond : {A : Type 0} (b : Bool) (r s : Result A LabFault) → OfResult r → OfResult s → OfResult (cond b r s)
 of_cond b r s p q = grind arith
 
-kind : {A : Type 0} (place : Key) (f : Data → Option A) (value : Data) → OfResult (of_kind place f value)
-kind place f value = or_fault (f value) (fault.WrongKind place) tt
+kind : {A : Type 0} (key : Key) (f : Data → Option A) (value : Data) → OfResult (of_kind key f value)
+kind key f value = or_fault (f value) (fault.WrongKind key) tt
 
-there : {A : Type 0} (place : Key) (name : List ℕ) (f : Data → Option A) (members : Members) → OfResult (needed place name f members)
-there place name f members = grind (arith, then, or_fault, kind)
+there : {A : Type 0} (key : Key) (name : List ℕ) (f : Data → Option A) (members : Members) → OfResult (needed key name f members)
+there key name f members = grind (arith, then, or_fault, kind)
 
 may_lack : {A : Type 0} (read : Data → Result A LabFault) (o : Option Data) → ((value : Data) → OfResult (read value)) → OfResult (optional read o)
 may_lack read o h = grind (arith, then)
 
-may_lack_kind : {A : Type 0} (place : Key) (f : Data → Option A) (o : Option Data) → OfResult (optional_of place f o)
-may_lack_kind place f o = may_lack (of_kind place f) o (kind place f)
+may_lack_kind : {A : Type 0} (key : Key) (f : Data → Option A) (o : Option Data) → OfResult (optional_of key f o)
+may_lack_kind key f o = may_lack (of_kind key f) o (kind key f)
 
 in_turn : {A : Type 0} (f : Data → Result A LabFault) (items : Items) → ((value : Data) → OfResult (f value)) → OfResult (each f items)
 in_turn f no_items h = tt
 in_turn f (item first rest) h = grind (arith, then, in_turn f rest h)
 
-account : (name_place key_place : Key) (members : Members) → OfResult (account_in name_place key_place members)
+account : (of_name of_key : Key) (members : Members) → OfResult (account_in of_name of_key members)
 unfolding account_in
-account name_place key_place members = grind (arith, then, there)
+account of_name of_key members = grind (arith, then, there)
 
 student : (value : Data) → OfResult (student_of value)
 unfolding student_of

@@ -17,14 +17,14 @@ or_false : (b : Bool) → (b || false) ≡ b
 or_false b = grind arith
 
 -- the node is in the row of one owner more
-pub one_owner : (old rows rows' : Rows) (node place k d : ℕ) (owners : List ℕ) (row new : FinSet nat_cmp) → place < length rows → k < length owners
-    → place ≡ get_or owners k d → row ≡ get_or rows place row → new ≡ sets.insert row node → rows' ≡ set rows place new
+pub one_owner : (old rows rows' : Rows) (node index k d : ℕ) (owners : List ℕ) (row new : FinSet nat_cmp) → index < length rows → k < length owners
+    → index ≡ get_or owners k d → row ≡ get_or rows index row → new ≡ sets.insert row node → rows' ≡ set rows index new
     → ((s i : ℕ) → sets.contains (row_at rows s) i ≡ (sets.contains (row_at old s) i || (eqb i node && list_any (λ o. eqb o s) (take k owners))))
     → (s i : ℕ) → sets.contains (row_at rows' s) i ≡ (sets.contains (row_at old s) i || (eqb i node && list_any (λ o. eqb o s) (take (k + 1) owners)))
-one_owner old rows rows' node place k d owners row new within at here is_row is_new are before s i =
-    ap (λ r. sets.contains (row_at r s) i) are ∙ inserted rows place node row new within is_row is_new s i
-    ∙ (λ t. before s i t || (eqb place s && turned node i t))
-    ∙ joined (sets.contains (row_at old s) i) (eqb i node) (list_any (λ o. eqb o s) (take k owners)) (eqb place s)
+one_owner old rows rows' node index k d owners row new within at here is_row is_new are before s i =
+    ap (λ r. sets.contains (row_at r s) i) are ∙ inserted rows index node row new within is_row is_new s i
+    ∙ (λ t. before s i t || (eqb index s && turned node i t))
+    ∙ joined (sets.contains (row_at old s) i) (eqb i node) (list_any (λ o. eqb o s) (take k owners)) (eqb index s)
     ∙ ap (λ b. sets.contains (row_at old s) i || (eqb i node && b))
     ((λ t. list_any (λ o. eqb o s) (take k owners) || eqb (here t) s) ∙ sym (list_any_more (λ o. eqb o s) owners k d at))
   where
@@ -55,7 +55,7 @@ all_nodes students n owners rows end count each = grind (arith, cases_lt, lt-ltb
 nobody_past : (students s i : ℕ) (owners : List (List ℕ)) → All (All (λ o. o < students)) owners → students ≤ s → is_owner owners s i ≡ false
 nobody_past students s i owners known past = grind (arith, cases_lt, list_any_none, ne_eqb, get_or_past)
 
--- the row of a place, or the empty one where it is past the last student
-pub owned_by : (students s place i : ℕ) (owners : List (List ℕ)) (rows : Rows) → AreOwned students owners rows → All (All (λ o. o < students)) owners
-    → ((s ≤ students) × (place ≡ s)) ⊎ ((students ≤ s) × (place ≡ students)) → sets.contains (row_at rows place) i ≡ is_owner owners s i
-owned_by students s place i owners rows are known at = grind (arith, nobody_past)
+-- the row at an index, or the empty one where it is past the last student
+pub owned_by : (students s index i : ℕ) (owners : List (List ℕ)) (rows : Rows) → AreOwned students owners rows → All (All (λ o. o < students)) owners
+    → ((s ≤ students) × (index ≡ s)) ⊎ ((students ≤ s) × (index ≡ students)) → sets.contains (row_at rows index) i ≡ is_owner owners s i
+owned_by students s index i owners rows are known at = grind (arith, nobody_past)

@@ -144,9 +144,9 @@ name_twice-none accounts = (
 
 -- ---- a roster of accounts that have their forms and differ
 
-same_place : (accounts : List Account) → AreDistinctBelow accounts (length accounts) → (j k : ℕ) → j < length accounts → k < length accounts
+same_index : (accounts : List Account) → AreDistinctBelow accounts (length accounts) → (j k : ℕ) → j < length accounts → k < length accounts
     → name_at accounts j ≡ name_at accounts k → j ≡ k
-same_place accounts differ j k in_j in_k same = grind (arith, cases_order)
+same_index accounts differ j k in_j in_k same = grind (arith, cases_order)
 
 -- accounts of their forms, each name once, and owners who are students make a lawful roster
 pub is_roster : (teacher : Account) (students : List Account) (owners : List (List ℕ)) → length students ≤ MAX_STUDENTS
@@ -163,15 +163,15 @@ is_roster teacher students owners few formed twice owned = record {
     form who.Teacher member = not-false _ (position-None (λ a. not (is_account a)) (teacher ∷ students) no_account formed 0 (omega arith))
     form (who.Student s) member = not-false _ (position-None (λ a. not (is_account a)) (teacher ∷ students) no_account formed (suc s) (omega arith))
 
-    one_place : (j k : ℕ) → j < length (teacher ∷ students) → k < length (teacher ∷ students)
+    one_index : (j k : ℕ) → j < length (teacher ∷ students) → k < length (teacher ∷ students)
         → name_at (teacher ∷ students) j ≡ name_at (teacher ∷ students) k → j ≡ k
-    one_place = same_place (teacher ∷ students) ((name_twice-none (teacher ∷ students)).0 twice)
+    one_index = same_index (teacher ∷ students) ((name_twice-none (teacher ∷ students)).0 twice)
 
     differ : (a b : Who) → IsPrincipal (with_owners teacher students owners) a → IsPrincipal (with_owners teacher students owners) b
         → name_of (with_owners teacher students owners) a ≡ name_of (with_owners teacher students owners) b → a ≡ b
     differ who.Teacher who.Teacher in_a in_b same = refl
-    differ who.Teacher (who.Student t) in_a in_b same = let no_such : 0 ≡ suc t = one_place 0 (suc t) (omega arith) (omega arith) same in absurd (omega arith)
-    differ (who.Student s) who.Teacher in_a in_b same = let no_such : suc s ≡ 0 = one_place (suc s) 0 (omega arith) (omega arith) same in absurd (omega arith)
+    differ who.Teacher (who.Student t) in_a in_b same = let no_such : 0 ≡ suc t = one_index 0 (suc t) (omega arith) (omega arith) same in absurd (omega arith)
+    differ (who.Student s) who.Teacher in_a in_b same = let no_such : suc s ≡ 0 = one_index (suc s) 0 (omega arith) (omega arith) same in absurd (omega arith)
     differ (who.Student s) (who.Student t) in_a in_b same =
-        let one_more : suc s ≡ suc t = one_place (suc s) (suc t) (omega arith) (omega arith) same in
+        let one_more : suc s ≡ suc t = one_index (suc s) (suc t) (omega arith) (omega arith) same in
         grind (arith, nat_tests)

@@ -17,10 +17,10 @@ Entry = String Global × String Global
 abbrev pub account_at : List Account → ℕ → Account
 account_at accounts k = get_or accounts k no_account
 
-place_same : (name : List ℕ) (es : List Entry)
+index_same : (name : List ℕ) (es : List Entry)
     → position_or_len (λ k. bytes_eq name (string_bytes k)) (keys_of es) ≡ position_or_len (has_name name) (map entry_account es)
-place_same name [] = refl
-place_same name (e ∷ es) = rw (place_same name es)
+index_same name [] = refl
+index_same name (e ∷ es) = rw (index_same name es)
 
 length_same : (es : List Entry) → length (keys_of es) ≡ length (map entry_account es)
 length_same [] = refl
@@ -29,7 +29,7 @@ length_same (e ∷ es) = rw (length_same es)
 -- the map's search for a name is the roster's
 pub position_same : (name : List ℕ) (es : List Entry)
     → position (λ k. bytes_eq name (string_bytes k)) (keys_of es) ≡ position (has_name name) (map entry_account es)
-position_same name es = rw (place_same name es, length_same es)
+position_same name es = rw (index_same name es, length_same es)
 
 -- the map's search for a name, where the map holds the roster's students
 pub search_same : (r : RosterValue) (name : List ℕ) (es : List Entry) (o : Option ℕ) → map entry_account es ≡ r.students

@@ -185,12 +185,12 @@ abbrev pub registers_in : List ℕ → NodeSpec → Regs
 registers_in ids node = record { p = option_and_then (λ p. rank_in ids (number_of p)) node.p; m = node.m }
 
 -- the index of that name among the students; 0 where none has it, which is an error
-abbrev pub place_of : List Account → List ℕ → ℕ
-place_of students name = unwrap_or (position (has_name name) students) 0
+abbrev pub student_index : List Account → List ℕ → ℕ
+student_index students name = unwrap_or (position (has_name name) students) 0
 
 -- the indexes of a node's owners among the students
 abbrev pub owners_in : List Account → NodeSpec → List ℕ
-owners_in students node = map (place_of students) node.owners
+owners_in students node = map (student_index students) node.owners
 
 -- the registers of the node with that identifier; null and false where there is none
 abbrev pub registers_with : List ℕ → List NodeSpec → ℕ → Regs

@@ -5,7 +5,7 @@ ghost use Rattle.mml_ids.specs.Gives.{Gives};
 ghost use Rattle.mml_lab.specs.declared.TheConstants.{MAX_STUDENTS};
 ghost use Rattle.mml_lab.specs.Shape.{is_lab_memory};
 ghost use Rattle.mml_lab.specs.inside.Raw.{node_view, entry_account};
-ghost use Rattle.mml_lab.specs.Labs.{IsLab, number_of, registers_in, registers_with, place_of, owners_in, owners_with, node_with};
+ghost use Rattle.mml_lab.specs.Labs.{IsLab, number_of, registers_in, registers_with, student_index, owners_in, owners_with, node_with};
 ghost use Rattle.mml_lab.specs.inside.ChecksView.{checked_view};
 ghost use Rattle.mml_lab.specs.declared.lab_fault.LabFault.TheVariants.{Memory};
 
@@ -149,7 +149,7 @@ fn owners_in(
 ) -> Result<Vec<Student>, LabFault>
     requires { length students.now.entries ≤ MAX_STUDENTS }
     ensures ok { IfOk result (λ owners. owners.items ≡
-        map (λ name. place_of (map entry_account students.now.entries) (string_bytes name)) names.now) }
+        map (λ name. student_index (map entry_account students.now.entries) (string_bytes name)) names.now) }
     ensures err { IfErr result (λ fault. fault ≡ Memory) }
 {
     let mut found = Vec::new(alloc);
@@ -162,7 +162,7 @@ fn owners_in(
 /// The student with a name; the first one where none has it, which a checked file rules out.
 fn student_named(students: &IndexMap<String, String>, name: &str) -> Student
     requires { length students.now.entries ≤ MAX_STUDENTS }
-    ensures { result ≡ place_of (map entry_account students.now.entries) name.now }
+    ensures { result ≡ student_index (map entry_account students.now.entries) name.now }
 {
     match students.get_index_of(name) {
         Some(index) => Student::new(index as u16),

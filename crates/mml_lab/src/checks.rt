@@ -16,7 +16,7 @@ ghost use Rattle.mml_lab.specs.inside.ChecksView.{checked_view, found_view};
 use crate::accounts::first_malformed;
 use crate::lab_fault::{Key, LabFault};
 use crate::links::neighbours;
-use crate::raw_lab::{Account, Bounds, RawLab, RawNode};
+use crate::raw_lab::{Account, RawLimits, RawLab, RawNode};
 use crate::roster::students_map;
 use crate::{MAX_EVENTS, MAX_SESSIONS, MAX_STUDENTS};
 use indexmap::IndexMap;
@@ -90,7 +90,7 @@ fn check_parts(
     students: Vec<Account>,
     nodes: &[RawNode],
     links: &[(i64, i64)],
-    bounds: Bounds,
+    bounds: RawLimits,
 ) -> Result<Found, LabFault>
     ensures { Gives is_lab_memory (found_view teacher.now nodes.now) result (lab_from (record {
       events = bounds.events;
@@ -317,7 +317,7 @@ fn within(greatest: u64, number: i64, key: Key) -> Result<u64, LabFault>
 /// The numbers of events (first) and sessions (second), if they and that of the students are within their limits; else
 /// the error of the first of the three that isn't.
 #[tactic(auto, unfolding(crate::specs::Labs::limited))]
-fn limits(bounds: Bounds, students: usize) -> Result<(u64, u8), LabFault>
+fn limits(bounds: RawLimits, students: usize) -> Result<(u64, u8), LabFault>
     ensures tests { Gives is_lab_memory (λ _. tt {0}) result
         (limited bounds.events bounds.sessions students) }
     ensures events { IfOk result (λ e. e.0 ≡ number_of bounds.events) }

@@ -32,7 +32,7 @@ pub struct RawNode {
 
 /// How many events and connections a file allows.
 #[derive(Clone, Copy)]
-pub struct Bounds {
+pub struct RawLimits {
     pub events: i64,
     pub sessions: i64,
 }
@@ -40,7 +40,7 @@ pub struct Bounds {
 /// What the file spells, before its values are compared with one another.
 #[derive(Drop)]
 pub struct RawLab {
-    pub bounds: Bounds,
+    pub bounds: RawLimits,
     pub teacher: Account,
     pub students: Vec<Account>,
     pub nodes: Vec<RawNode>,
@@ -384,7 +384,7 @@ pub fn read_raw(alloc: Global, table: &Table) -> Result<RawLab, LabFault>
     let nodes = nodes(alloc, array_at(table, "node", Key::Node)?)?;
     let links = links_at(alloc, table)?;
     Ok(RawLab {
-        bounds: Bounds { events, sessions },
+        bounds: RawLimits { events, sessions },
         teacher,
         students,
         nodes,

@@ -93,7 +93,7 @@ impl Roster {
             return Some(Who::Teacher);
         }
         match student_with(&self.students, name, key) {
-            Some(place) => Some(Who::Student(Student::new(place as u16))),
+            Some(index) => Some(Who::Student(Student::new(index as u16))),
             None => None,
         }
     }
@@ -141,7 +141,7 @@ impl Roster {
         ensures back { IfSome result (λ s. name_of self.now (AStudent s) ≡ name.now) }
     {
         match self.students.get_index_of(name) {
-            Some(place) => Some(Student::new(place as u16)),
+            Some(index) => Some(Student::new(index as u16)),
             None => None,
         }
     }
@@ -157,29 +157,29 @@ fn are_both(name: &str, key: &str, known: &str, secret: &str) -> bool
     is_named & is_keyed
 }
 
-/// The place of the student with that name and key, from 0 in the file's order; `None` where there is no such one. Each
+/// The index of the student with that name and key, from 0 in the file's order; `None` where there is no such one. Each
 /// student's name and key are compared, so that a student's name takes the steps of an unknown one of its length.
 fn student_with(students: &IndexMap<String, String>, name: &str, key: &str) -> Option<usize>
     ensures value { result ≡
         position (has_name_and_key name.now key.now) (map entry_account students.now.entries) }
-    ensures within { IfSome result (λ place. place < length students.now.entries) }
+    ensures within { IfSome result (λ index. index < length students.now.entries) }
 {
     let mut found = None;
-    for place in 0..students.len() {
-        if is_at(students, place, name, key) && found.is_none() {
-            found = Some(place);
+    for index in 0..students.len() {
+        if is_at(students, index, name, key) && found.is_none() {
+            found = Some(index);
         }
     }
     found
 }
 
-/// Whether the student at a place has that name and key.
-fn is_at(students: &IndexMap<String, String>, place: usize, name: &str, key: &str) -> bool
-    requires { place < length students.now.entries }
+/// Whether the student at an index has that name and key.
+fn is_at(students: &IndexMap<String, String>, index: usize, name: &str, key: &str) -> bool
+    requires { index < length students.now.entries }
     ensures { result ≡ has_name_and_key name.now key.now
-        (slice_index_or (map entry_account students.now.entries) place no_account) }
+        (slice_index_or (map entry_account students.now.entries) index no_account) }
 {
-    match students.get_index(place) {
+    match students.get_index(index) {
         Some((known, secret)) => are_both(name, key, known.as_str(), secret.as_str()),
         None => unreachable!(),
     }

@@ -57,7 +57,7 @@ module _ (lab : LabValue) (st : hall.State) (k : ℕ) where
         t
 
     pub hall_judged : (x : Who) (c : Command) → hall.known_on st k ≡ Some x → request_in line ≡ Ok (requests.Do c)
-        → hall.plain_turn lab st k line ≡ hall.told st (ruling lab.ids lab.roster lab.events st.halted st.world x c)
+        → hall.plain_turn lab st k line ≡ hall.outcome_of st (ruling lab.ids lab.roster lab.events st.halted st.world x c)
     hall_judged x c known asked =
         plain_so (requests.Do c) (LeftToJudge x c) asked (ap (λ (y : Option Who). greeting lab.roster y (requests.Do c)) known)
 

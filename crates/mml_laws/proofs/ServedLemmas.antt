@@ -9,23 +9,23 @@ use Rattle.mml_window.specs.Windows.{WindowValue, window}
 use Rattle.mml_session.specs.declared.session.SessionEnd.{SessionEnd}
 use Rattle.mml_session.specs.declared.session.SessionEnd.TheVariants as end
 use Rattle.mml_session.specs.Turns.{Standing, places_in}
-use Rattle.mml_session.specs.Talks.{Talk, LineTurn, newcomer}
+use Rattle.mml_session.specs.Talks.{Talk, LineTurn, nobody_known}
 use Rattle.mml_session.specs.Ends.{Ended}
 use Rattle.mml_session.proofs.TalkLemmas.{talk_places, turn_places}
 use Rattle.mml_laws.specs.Served.{replies_in, IsSession, AreSessions, AreServed, named_in, named_by}
 
 module _ (lab : LabValue) where
-  talked : (old new : WindowValue) (t : Talk lab (newcomer old)) → t.end.window ≡ new → new.places ≡ old.places ++ flat_map places_in t.replies
-  talked old new t is = ap (λ (w : WindowValue). w.places) (sym is) ∙ talk_places lab (newcomer old) t
+  talked : (old new : WindowValue) (t : Talk lab (nobody_known old)) → t.end.window ≡ new → new.places ≡ old.places ++ flat_map places_in t.replies
+  talked old new t is = ap (λ (w : WindowValue). w.places) (sym is) ∙ talk_places lab (nobody_known old) t
 
-  talked_on : (old new : WindowValue) (t : Talk lab (newcomer old)) (after : Standing) (last : LineTurn lab t.end after) → after.window ≡ new
+  talked_on : (old new : WindowValue) (t : Talk lab (nobody_known old)) (after : Standing) (last : LineTurn lab t.end after) → after.window ≡ new
       → new.places ≡ old.places ++ flat_map places_in (t.replies ++ last.reply ∷ [])
   talked_on old new t after last is =
       let one : flat_map places_in (last.reply ∷ []) ≡ places_in last.reply = append-nil (places_in last.reply) in
       let all : flat_map places_in (t.replies ++ last.reply ∷ []) ≡ flat_map places_in t.replies ++ places_in last.reply =
       flat_map-append places_in t.replies (last.reply ∷ []) ∙ ap (λ (l : List ℕ). flat_map places_in t.replies ++ l) one in
       ap (λ (w : WindowValue). w.places) (sym is) ∙ turn_places lab t.end after last
-      ∙ ap (λ (l : List ℕ). l ++ places_in last.reply) (talk_places lab (newcomer old) t)
+      ∙ ap (λ (l : List ℕ). l ++ places_in last.reply) (talk_places lab (nobody_known old) t)
       ∙ append_assoc old.places (flat_map places_in t.replies) (places_in last.reply)
       ∙ ap (λ (l : List ℕ). old.places ++ l) (sym all)
 

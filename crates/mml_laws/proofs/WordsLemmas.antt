@@ -22,7 +22,7 @@ use Rattle.mml_codec.specs.Replies.{IsAbout}
 use Rattle.mml_codec.specs.ReplyValues.{reply_value, AreWritableCounts}
 use Rattle.mml_codec.proofs.RequestsLemmas.{asked_there, there_asked}
 use Rattle.mml_codec.proofs.ReplyValuesLemmas.{read-reply}
-use Rattle.mml_laws.specs.Words.{asked_fields, rule_field, register_field, read_fields, tells_registers, is_view}
+use Rattle.mml_laws.specs.Words.{asked_fields, rule_field, register_field, found_fields, tells_registers, is_view}
 use Rattle.std.proofs.lemmas.Bool.Decides.{nat_tests}
 
 some_same : {A : Type 0} (x y : A) → Some x ≡ Some y → x ≡ y
@@ -37,16 +37,16 @@ asks_each d r = subst (λ fs. (request d ≡ Some r) ↔ HasEach d fs) (spelt r)
 
 module _ (ids : List ℕ) (roster : RosterValue) where
   has_seen : (at i : ℕ) (p : Option ℕ) (m : Bool) → HasEach (reply_value ids roster (reply.See (record { at = at; node = i; regs = record { p = p; m = m } })))
-      (read_fields ids roster (reply.See (record { at = at; node = i; regs = record { p = p; m = m } })))
+      (found_fields ids roster (reply.See (record { at = at; node = i; regs = record { p = p; m = m } })))
   has_seen at i p m = grind (arith, nat_tests)
 
-  has_moved : (at place i : ℕ) (k : Kind) → HasEach (reply_value ids roster (reply.Move at place i k)) (read_fields ids roster (reply.Move at place i k))
+  has_moved : (at place i : ℕ) (k : Kind) → HasEach (reply_value ids roster (reply.Move at place i k)) (found_fields ids roster (reply.Move at place i k))
   has_moved at place i k = grind (arith, nat_tests)
 
-  has_denied : (d : Denial) → HasEach (reply_value ids roster (reply.Deny d)) (read_fields ids roster (reply.Deny d))
+  has_denied : (d : Denial) → HasEach (reply_value ids roster (reply.Deny d)) (found_fields ids roster (reply.Deny d))
   has_denied d = grind (arith, nat_tests)
 
-  has_refused : (r : Refused) → HasEach (reply_value ids roster (reply.Refuse r)) (read_fields ids roster (reply.Refuse r))
+  has_refused : (r : Refused) → HasEach (reply_value ids roster (reply.Refuse r)) (found_fields ids roster (reply.Refuse r))
   has_refused r = grind (arith, nat_tests)
 
   -- what a key of a look names
@@ -57,11 +57,11 @@ module _ (ids : List ℕ) (roster : RosterValue) where
   found_pointer : (key : List ℕ) (d v : Data) → get key d ≡ Some v → (p : Option ℕ) → v ≡ pointer_value ids p → Has d (key, register_field ids p)
   found_pointer key d v at p e = grind (arith, nat_tests)
 
-  has_each : (r : Reply) → HasEach (reply_value ids roster r) (read_fields ids roster r)
+  has_each : (r : Reply) → HasEach (reply_value ids roster r) (found_fields ids roster r)
   has_each r = grind (arith, nat_tests, has_seen, found_rule, found_pointer, has_moved, has_denied, has_refused)
 
   pub read_has : (r : Reply) (d : Data) → IsTable ids → IsRoster roster → IsAbout ids roster r → AreWritableCounts roster r
-      → read (written.text ids roster r) ≡ Some d → HasEach d (read_fields ids roster r)
+      → read (written.text ids roster r) ≡ Some d → HasEach d (found_fields ids roster r)
   read_has r d table is about counts h = grind (arith, nat_tests, some_same, read-reply, has_each)
 
 silent_denial : (roster : RosterValue) (d : Denial) → list_any (λ f. tells_registers f.1) (written.fields_of roster (reply.Deny d)) ≡ false

@@ -100,26 +100,26 @@ abbrev pub denied_fields : Denial → List (List ℕ × Field)
 denied_fields d = (codes "deny", word (denial_name d)) ∷ (codes "clause", number (clause_of d)) ∷ (codes "text", word (text_of d)) ∷ late_fields d
 
 -- what a reader finds in a reply, by which key: each number, word, truth value and register
-abbrev pub read_fields : List ℕ → RosterValue → Reply → List (List ℕ × Field)
-read_fields ids roster (reply.Hello who) = (codes "ok", word (codes "hello")) ∷ (codes "who", text (name_of roster who)) ∷ []
-read_fields ids roster reply.Bye = (codes "ok", word (codes "bye")) ∷ []
-read_fields ids roster (reply.See s) = (codes "ok", word (codes "see")) ∷ (codes "at", number s.at) ∷ register_fields ids s.node s.regs.p s.regs.m
-read_fields ids roster (reply.Look l) =
+abbrev pub found_fields : List ℕ → RosterValue → Reply → List (List ℕ × Field)
+found_fields ids roster (reply.Hello who) = (codes "ok", word (codes "hello")) ∷ (codes "who", text (name_of roster who)) ∷ []
+found_fields ids roster reply.Bye = (codes "ok", word (codes "bye")) ∷ []
+found_fields ids roster (reply.See s) = (codes "ok", word (codes "see")) ∷ (codes "at", number s.at) ∷ register_fields ids s.node s.regs.p s.regs.m
+found_fields ids roster (reply.Look l) =
     (codes "ok", word (codes "look")) ∷ (codes "at", number l.at) ∷ (codes "chosen", rule_field l.chosen) ∷ (codes "rule", rule_field l.enabled)
     ∷ register_fields ids l.node l.regs.p l.regs.m
-read_fields ids roster (reply.Move at place i k) =
+found_fields ids roster (reply.Move at place i k) =
     (codes "node", node_field ids i) ∷ (codes "rule", word (kind_word k)) ∷ granted_fields (codes "move") at place
-read_fields ids roster (reply.Close at place moved) = granted_fields (codes "close") at place
-read_fields ids roster (reply.Fault at place i dropped) =
+found_fields ids roster (reply.Close at place moved) = granted_fields (codes "close") at place
+found_fields ids roster (reply.Fault at place i dropped) =
     (codes "node", node_field ids i) ∷ (codes "dropped", number dropped) ∷ granted_fields (codes "fault") at place
-read_fields ids roster (reply.Link at place a b dropped) =
+found_fields ids roster (reply.Link at place a b dropped) =
     (codes "a", node_field ids a) ∷ (codes "b", node_field ids b) ∷ (codes "dropped", number dropped) ∷ granted_fields (codes "link") at place
-read_fields ids roster (reply.Cut at place a b dropped) =
+found_fields ids roster (reply.Cut at place a b dropped) =
     (codes "a", node_field ids a) ∷ (codes "b", node_field ids b) ∷ (codes "dropped", number dropped) ∷ granted_fields (codes "cut") at place
-read_fields ids roster (reply.Release at place i) = (codes "node", node_field ids i) ∷ granted_fields (codes "release") at place
-read_fields ids roster (reply.Report r) = (codes "ok", word (codes "report")) ∷ (codes "at", number r.at) ∷ (codes "stable", truth r.stable) ∷ []
-read_fields ids roster (reply.Deny d) = denied_fields d
-read_fields ids roster (reply.Refuse r) = (codes "refuse", word (refused_word r)) ∷ []
+found_fields ids roster (reply.Release at place i) = (codes "node", node_field ids i) ∷ granted_fields (codes "release") at place
+found_fields ids roster (reply.Report r) = (codes "ok", word (codes "report")) ∷ (codes "at", number r.at) ∷ (codes "stable", truth r.stable) ∷ []
+found_fields ids roster (reply.Deny d) = denied_fields d
+found_fields ids roster (reply.Refuse r) = (codes "refuse", word (refused_word r)) ∷ []
 
 -- ---- which replies tell registers
 

@@ -296,7 +296,7 @@ fn whole_number<'a>(text: &'a [u8]) -> Option<(u64, &'a [u8])>
     Some((number, &text[end..]))
 }
 
-/// The value of the digit at a place of the text, if a digit stands there.
+/// The value of the digit at an index of the text, if a digit stands there.
 #[inline(always)]
 fn digit(text: &[u8], at: usize) -> Option<u64>
     ensures { IfSome result (λ digit. (digit < 10) × (at < length text.now)

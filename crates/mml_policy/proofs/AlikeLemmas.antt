@@ -122,7 +122,7 @@ module _ (ids : List ℕ) (r : RosterValue) (limit : ℕ) (is_halted : Bool) (s 
   Keeps l =
       (ruling_on_leave limit is_halted w l ≡ ruling_on_leave limit is_halted v l) × Alike r s (after_ruling w (ruling_on_leave limit is_halted w l)) (after_ruling v (ruling_on_leave limit is_halted v l))
 
-  -- the event takes place in both worlds or in neither
+  -- the event happens in both worlds or in neither
   entered : (b h : Bool) (g k : Ruling) → g ≡ k → Alike r s (after_ruling w g) (after_ruling v k) →
       (cond b Full (cond h Journal g) ≡ cond b Full (cond h Journal k))
       × Alike r s (after_ruling w (cond b Full (cond h Journal g))) (after_ruling v (cond b Full (cond h Journal k)))

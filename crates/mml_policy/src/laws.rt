@@ -184,9 +184,9 @@ pub fn a_report_takes_the_teacher()
         (verdict ids r w x command.Report ≡ verdicts.Deny d) ↔ DeniesReport x d }
 {}
 
-/// An event takes place only where it is legal, the limit of events isn't reached and the journal
+/// An event happens only where it is legal, the limit of events isn't reached and the journal
 /// isn't halted.
-pub fn events_that_take_place_are_legal()
+pub fn events_that_happen_are_legal()
     ensures { (ids : List ℕ) (r : RosterValue) (limit : ℕ) (is_halted : Bool) (w : World) (x : Who)
         (c : Command) (e : Event) → length ids ≡ size w → event_of (ruling ids r limit is_halted w x c) ≡ Some e →
         (is_legal r w e ≡ true) × (w.place < limit) × (is_halted ≡ false) }

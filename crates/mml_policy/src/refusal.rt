@@ -1,6 +1,6 @@
 use mml_ids::Memory;
 
-/// Why an act that all clauses allow doesn't take place, or what is ruled isn't told.
+/// Why an act that all clauses allow doesn't happen, or what is ruled isn't told.
 #[derive(Clone, Copy, Debug, PartialEq, Eq)]
 pub enum Refusal {
     /// As many events as the lab allows were granted.

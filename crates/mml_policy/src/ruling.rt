@@ -28,12 +28,12 @@ pub enum Ruling {
     Full,
     /// All clauses hold and an event may follow, but the journal takes no line any longer.
     Journal,
-    /// The event takes place, and does this.
+    /// The event happens, and does this.
     Granted { event: Event, done: Done },
 }
 
 impl Ruling {
-    /// The event that takes place, if one does.
+    /// The event that happens, if one does.
     pub fn event(&self) -> Option<Event>
         ensures { result ≡ event_of self.now }
     {

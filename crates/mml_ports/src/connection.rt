@@ -9,7 +9,7 @@ use std::sync::{Arc, Wait};
 
 /// What a connection's reader, its writer and what cuts it off share: their host, those at its port, and its socket.
 #[derive(Drop)]
-pub struct Connection<'a, Rt> {
+pub struct SharedConnection<'a, Rt> {
     pub rt: &'a Rt,
     pub alloc: Global,
     pub state: &'a HostState,
@@ -18,16 +18,16 @@ pub struct Connection<'a, Rt> {
     pub socket: Arc<SharedSocket, Global>,
 }
 
-impl<'a, Rt> Connection<'a, Rt> {
+impl<'a, Rt> SharedConnection<'a, Rt> {
     /// Another value of this connection, over the same socket, for one more of its parts; the error is that memory
     /// is lacking.
-    pub fn share(&self) -> io::Result<Connection<'a, Rt>> {
+    pub fn share(&self) -> io::Result<SharedConnection<'a, Rt>> {
         let socket = Arc::try_clone(&self.socket)?;
-        Ok(Connection { socket, ..*self })
+        Ok(SharedConnection { socket, ..*self })
     }
 }
 
-impl<'a, Rt: Wait> Connection<'a, Rt> {
+impl<'a, Rt: Wait> SharedConnection<'a, Rt> {
     /// Keeps why the connection is ended, to be told to the other side, unless a reason is kept already.
     pub fn note_end_reason(&self, why: EndReason) {
         self.socket.note_end_reason(self.rt, why);

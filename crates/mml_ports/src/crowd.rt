@@ -10,13 +10,13 @@ use std::sync::atomic::{AtomicBool, Ordering};
 use std::sync::{Arc, Mutex, Wait};
 use std::time::{Clock, Duration, Instant};
 
-// One in so many places is for those who haven't greeted.
+// One in so many seats is for those who haven't greeted.
 const STRANGERS: usize = 3;
 
-// How many places a name may have where others wait for one.
-const PLACES_OF_A_NAME: usize = 4;
+// How many seats a name may have where others wait for one.
+const SEATS_OF_A_NAME: usize = 4;
 
-// After how many milliseconds of a newcomer's wait a name that has more places gives one up: a place that is being
+// After how many milliseconds of a newcomer's wait a name that has more seats gives one up: a seat that is being
 // given back is free sooner.
 const MOMENT: u64 = 250;
 
@@ -40,7 +40,7 @@ impl Guest {
     }
 
     // Whether the guest is a stranger that has had its time: it was answered or denied, or has been here for `GRACE`.
-    // Who waits for the turn of a denial may wait for it without a place.
+    // Who waits for the turn of a denial may wait for it without a seat.
     fn may_go(&self, now: Instant) -> bool {
         self.is_stranger()
             && (self.socket.is_answered.load(Ordering::SeqCst)
@@ -56,7 +56,7 @@ impl Guest {
         }
     }
 
-    // Ends the guest's connection, so that its place becomes free for a newcomer.
+    // Ends the guest's connection, so that its seat becomes free for a newcomer.
     fn send_away<Rt: Wait>(&mut self, rt: &Rt) {
         self.is_leaving = true;
         self.socket.end_with(rt, EndReason::Busy);
@@ -68,18 +68,18 @@ impl Guest {
 pub struct Crowd {
     guests: Mutex<Vec<Guest>>,
     // How many may be served at a time.
-    places: usize,
-    // Whether a newcomer waits for a place.
+    seats: usize,
+    // Whether a newcomer waits for a seat.
     pub(crate) is_wanted: AtomicBool,
     pub(crate) partings: Partings,
 }
 
 impl Crowd {
-    /// The crowd of a port with this many places, where nobody is served yet.
-    pub fn new(alloc: Global, places: usize) -> Crowd {
+    /// The crowd of a port with this many seats, where nobody is served yet.
+    pub fn new(alloc: Global, seats: usize) -> Crowd {
         Crowd {
             guests: Mutex::new(Vec::new(alloc)),
-            places,
+            seats,
             is_wanted: AtomicBool::new(false),
             partings: Partings::new(alloc),
         }
@@ -117,7 +117,7 @@ impl Crowd {
         }
     }
 
-    /// Notes that the connection of this number has left, so that its place is free again.
+    /// Notes that the connection of this number has left, so that its seat is free again.
     pub fn note_left<Rt: Wait>(&self, rt: &Rt, number: u64) {
         let mut guests = self.guests.lock(rt);
         if let Some(at) = index_of_guest(&guests, number) {
@@ -125,18 +125,18 @@ impl Crowd {
         }
     }
 
-    /// Notes whether a newcomer waits for a place.
+    /// Notes whether a newcomer waits for a seat.
     pub fn note_wanted(&self, is_wanted: bool) {
         self.is_wanted.store(is_wanted, Ordering::SeqCst);
     }
 
-    /// Whether a newcomer waits for a place.
+    /// Whether a newcomer waits for a seat.
     pub fn is_wanted(&self) -> bool {
         self.is_wanted.load(Ordering::SeqCst)
     }
 
-    /// Does what follows from the denial of a hello: where a newcomer waits for a place, and those who haven't greeted
-    /// have their share of the places, the first of them who has had its time is sent away at once.
+    /// Does what follows from the denial of a hello: where a newcomer waits for a seat, and those who haven't greeted
+    /// have their share of the seats, the first of them who has had its time is sent away at once.
     pub fn note_denial<Rt: Wait + Clock>(&self, rt: &Rt) {
         if self.is_wanted()
             && let Ok(now) = Instant::now(rt)
@@ -146,7 +146,7 @@ impl Crowd {
         }
     }
 
-    // Whether those who haven't greeted have their share: a third of the places, or one if that is more. Then the first
+    // Whether those who haven't greeted have their share: a third of the seats, or one if that is more. Then the first
     // of them who has had its time, if there is one, is sent away.
     fn let_stranger_go_if_full<Rt: Wait>(
         &self,
@@ -154,7 +154,7 @@ impl Crowd {
         guests: &mut Vec<Guest>,
         now: Instant,
     ) -> bool {
-        let share = (self.places / STRANGERS).max(1);
+        let share = (self.seats / STRANGERS).max(1);
         if count_strangers(guests) < share {
             return false;
         }
@@ -173,16 +173,16 @@ impl Crowd {
         is_leaving || !self.partings.is_empty(rt)
     }
 
-    /// Whether there is a place for a newcomer, who has waited for the time `waited`: one is free, and those who
+    /// Whether there is a seat for a newcomer, who has waited for the time `waited`: one is free, and those who
     /// haven't greeted don't have their share. Else a guest who has to leave is sent away: where they have it, the
     /// first of them who has had its time; or after a moment, unless one is leaving, the last of a name that has too
-    /// many places.
+    /// many seats.
     pub fn finds_room<Rt: Wait>(&self, rt: &Rt, now: Instant, waited: Duration) -> bool {
         let mut guests = self.guests.lock(rt);
         if self.let_stranger_go_if_full(rt, &mut guests, now) {
             return false;
         }
-        if guests.len() < self.places {
+        if guests.len() < self.seats {
             return true;
         }
         if waited >= Duration::from_millis(MOMENT)
@@ -240,17 +240,17 @@ fn is_one_leaving(guests: &Vec<Guest>) -> bool {
     false
 }
 
-// The index of the last guest of a name that has more places than it may; none where there is no such name.
+// The index of the last guest of a name that has more seats than it may; none where there is no such name.
 fn one_too_many(guests: &Vec<Guest>) -> Option<usize> {
     let mut found = None;
     for index in 0..guests.len() {
-        let mut places = 0usize;
+        let mut seats = 0usize;
         for other in 0..guests.len() {
             if guests[other].has_name_of(&guests[index]) {
-                places = places.saturating_add(1);
+                seats = seats.saturating_add(1);
             }
         }
-        if places > PLACES_OF_A_NAME {
+        if seats > SEATS_OF_A_NAME {
             found = Some(index);
         }
     }

@@ -4,7 +4,7 @@ use mml_hosting::BUSY;
 /// Why a connection is ended that might have gone on.
 #[derive(Clone, Copy, Debug, PartialEq, Eq)]
 pub enum EndReason {
-    /// There is no place for it.
+    /// There is no seat for it.
     Busy,
     /// A line, or a granted hello, wasn't there in time.
     Late,

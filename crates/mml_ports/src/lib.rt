@@ -12,7 +12,7 @@ mod socket_writer;
 mod state;
 mod two_ports;
 
-pub use connection::Connection;
+pub use connection::SharedConnection;
 pub use crowd::Crowd;
 pub use end_reason::EndReason;
 pub use parting::Partings;

@@ -1,4 +1,4 @@
-//! Those who left their place before the turn of their denial.
+//! Those who left their seat before the turn of their denial.
 use crate::end_reason::EndReason;
 use std::alloc::Global;
 use std::collections::VecDeque;
@@ -17,7 +17,7 @@ pub(crate) const PARTING: u64 = 20;
 // The most bytes that are taken of what the other side sent before it is let go.
 const PARTING_SIZE: usize = 4096;
 
-// One who has left its place before the turn of its denial.
+// One who has left its seat before the turn of its denial.
 #[derive(Drop)]
 struct Parting {
     stream: TcpStream,
@@ -27,7 +27,7 @@ struct Parting {
 }
 
 impl Parting {
-    // Where its time has come: tells one who wasn't told it yet the denial, and that there is no place; lets go of one
+    // Where its time has come: tells one who wasn't told it yet the denial, and that there is no seat; lets go of one
     // who was. Gives what is still to be let go of later; none once nothing is.
     fn tell_if_due(self, now: Instant) -> Option<Parting> {
         if now < self.next {
@@ -67,7 +67,7 @@ pub(crate) fn take_unwanted(stream: &TcpStream) {
     let _ = stream.read(&mut unwanted);
 }
 
-/// Those who have left their place at a port for a newcomer, and are still owed the denial of their hello.
+/// Those who have left their seat at a port for a newcomer, and are still owed the denial of their hello.
 #[derive(Drop)]
 pub struct Partings {
     all: Mutex<VecDeque<Parting>>,

@@ -1,5 +1,5 @@
 //! A host's ports, of whose connections no contract knows what they give and take.
-use crate::connection::Connection;
+use crate::connection::SharedConnection;
 use crate::crowd::Crowd;
 use crate::end_reason::EndReason;
 use crate::shared_socket::SharedSocket;
@@ -16,7 +16,7 @@ use std::sync::{Arc, Mutex, Wait};
 use std::time::{Clock, Duration, Instant};
 use std::{io, thread};
 
-// How many milliseconds a newcomer waits for a place.
+// How many milliseconds a newcomer waits for a seat.
 const PLACE: u64 = 500;
 
 // How many newcomers may wait at a time.
@@ -34,7 +34,7 @@ struct Newcomer<'a, Rt> {
     reader: Incoming<'a, Rt>,
     writer: ReplyWriter<'a, Rt>,
     cut_off: SocketCutOff<'a, Rt>,
-    connection: Connection<'a, Rt>,
+    connection: SharedConnection<'a, Rt>,
     since: Instant,
 }
 
@@ -47,7 +47,7 @@ impl<'a, Rt: Clock + Wait + Eprint> Newcomer<'a, Rt> {
     }
 }
 
-/// A port at which connections are accepted until the host is over. One for whom there is no place waits
+/// A port at which connections are accepted until the host is over. One for whom there is no seat waits
 /// for it a moment, while others are accepted.
 #[derive(Drop)]
 pub struct Port<'a, Rt> {
@@ -57,7 +57,7 @@ pub struct Port<'a, Rt> {
     crowd: &'a Crowd,
     is_desk: bool,
     listener: TcpListener,
-    // Those who wait for a place, in the order in which they came.
+    // Those who wait for a seat, in the order in which they came.
     waiting: VecDeque<Newcomer<'a, Rt>>,
     // How many have come.
     count: u64,
@@ -87,7 +87,7 @@ impl<'a, Rt: Clock + Wait + Eprint> Port<'a, Rt> {
         }
     }
 
-    // Whether somebody waits for a place, is leaving one, or is owed a denial or the time to take it: then no accept
+    // Whether somebody waits for a seat, is leaving one, or is owed a denial or the time to take it: then no accept
     // may wait.
     fn is_hurried(&self) -> bool {
         !self.waiting.is_empty() || self.crowd.is_parting(self.rt)
@@ -105,7 +105,7 @@ impl<'a, Rt: Clock + Wait + Eprint> Port<'a, Rt> {
         let Ok(socket) = Arc::new(self.alloc, SharedSocket::new(stream, self.count)) else {
             return Err(Error::from(ErrorKind::OutOfMemory));
         };
-        let connection = Connection {
+        let connection = SharedConnection {
             rt: self.rt,
             alloc: self.alloc,
             state: self.state,
@@ -126,7 +126,7 @@ impl<'a, Rt: Clock + Wait + Eprint> Port<'a, Rt> {
         })
     }
 
-    // Puts one who has come behind those who wait for a place. Where too many wait the first is turned away, and
+    // Puts one who has come behind those who wait for a seat. Where too many wait the first is turned away, and
     // without memory the newcomer.
     fn queue(&mut self, newcomer: Newcomer<'a, Rt>) {
         if self.waiting.len() >= WAITING
@@ -140,7 +140,7 @@ impl<'a, Rt: Clock + Wait + Eprint> Port<'a, Rt> {
         }
     }
 
-    // Gives one of those who wait, to be served, if there is a place. Else none, and the first is turned away once it
+    // Gives one of those who wait, to be served, if there is a seat. Else none, and the first is turned away once it
     // has waited for half a second.
     fn let_in(&mut self) -> Option<Brought<'a, Rt>> {
         let Some(first) = self.waiting.front() else {
@@ -214,7 +214,7 @@ impl<'a, Rt: Clock + Wait + Eprint> Port<'a, Rt> {
 
     // After an accept failed, waits for a tenth of a second at most until a session ends, so that the next may succeed;
     // not where a signal broke it off. `ended` is how many sessions had ended before the accept. Want of memory is
-    // noted; where the system refused the accept otherwise, the first who waits for a place is turned away.
+    // noted; where the system refused the accept otherwise, the first who waits for a seat is turned away.
     fn put_off(&mut self, kind: ErrorKind, ended: u64) {
         match kind {
             ErrorKind::OutOfMemory => self.state.note_memory(self.rt),
@@ -236,7 +236,7 @@ impl<'a, Rt: Clock + Wait + Eprint> Accept<
     ReplyWriter<'a, Rt>,
     SocketCutOff<'a, Rt>,
 > for Port<'a, Rt> {
-    // Gives one who waits, if there is a place, before or after it accepts one more; nobody where there is no place or
+    // Gives one who waits, if there is a seat, before or after it accepts one more; nobody where there is no seat or
     // none could be accepted, and over once the host is.
     fn accept_next(&mut self) -> Brought<'a, Rt> {
         let ended = self.state.ended_count(self.rt);

@@ -74,7 +74,7 @@ impl SharedSocket {
         }
     }
 
-    /// Whether the connection is ended for want of a place.
+    /// Whether the connection is ended for want of a seat.
     pub(crate) fn is_turned_away<Rt: Wait>(&self, rt: &Rt) -> bool {
         matches!(self.end_reason(rt), Some(EndReason::Busy))
     }

@@ -2,7 +2,7 @@
 ghost use Rattle.std.specs.Prelude.{◌≤◌, length};
 ghost use Rattle.std.specs.Io.{ReadsAtMost};
 
-use crate::connection::Connection;
+use crate::connection::SharedConnection;
 use crate::end_reason::EndReason;
 use mml_codec::MAX_REQUEST;
 use mml_ends::Retrying;
@@ -31,7 +31,7 @@ enum FirstLine {
 /// hello is granted it gives one line at a time, and whatever is said, it fails after ten seconds.
 #[derive(Drop)]
 pub struct SocketReader<'a, Rt> {
-    pub(crate) connection: Connection<'a, Rt>,
+    pub(crate) connection: SharedConnection<'a, Rt>,
     // When the hello has to be granted, and then when the line that is being read has to be there.
     deadline: Option<Instant>,
     // How long each line after the hello may take, where there is an end to it.
@@ -50,7 +50,7 @@ pub type Incoming<'a, Rt> = Retrying<SocketReader<'a, Rt>>;
 
 impl<'a, Rt: Clock + Wait> SocketReader<'a, Rt> {
     /// A reader of the connection's socket. The time for its hello begins now.
-    pub fn new(connection: Connection<'a, Rt>) -> io::Result<Incoming<'a, Rt>> {
+    pub fn new(connection: SharedConnection<'a, Rt>) -> io::Result<Incoming<'a, Rt>> {
         let now = Instant::now(connection.rt)?;
         let patience = if connection.is_desk {
             None

@@ -2,7 +2,7 @@
 ghost use Rattle.std.specs.Prelude.{◌≡◌};
 ghost use Rattle.std.specs.Io.{WritesAtMost};
 
-use crate::connection::Connection;
+use crate::connection::SharedConnection;
 use crate::end_reason::EndReason;
 use crate::parting::{PARTING, UNKNOWN, take_unwanted, tell};
 use crate::socket_reader::Incoming;
@@ -21,7 +21,7 @@ use std::{io, thread};
 /// How many seconds a write may wait until the other side takes a byte.
 pub const WRITE_LIMIT: u64 = 10;
 
-// A place may be left for a newcomer before the turn of its denial where that comes within so many milliseconds.
+// A seat may be left for a newcomer before the turn of its denial where that comes within so many milliseconds.
 const NEAR: u64 = 500;
 
 // How the reply begins to a hello that is granted, and how it ends.
@@ -36,7 +36,7 @@ const BID: &[u8] = b"{\"ok\":\"bye\"}\n";
 /// name and key.
 #[derive(Drop)]
 pub struct SocketWriter<'a, Rt> {
-    connection: Connection<'a, Rt>,
+    connection: SharedConnection<'a, Rt>,
     // Whether the teacher has greeted here, at the desk.
     is_teachers: bool,
     // Whether what was written ends with a whole line, so that a reply begins with the next byte.
@@ -51,7 +51,7 @@ impl<'a, Rt: Clock + Wait + Eprint> SocketWriter<'a, Rt> {
     // Takes note of a reply before it goes out, until a hello is granted. Gives the turn of a denial of a name and key,
     // once that has come, or is near and the connection is being ended; none for any other reply.
     fn note_reply(&mut self, reply: &[u8]) -> io::Result<Option<Instant>> {
-        let Connection {
+        let SharedConnection {
             rt,
             alloc,
             state,
@@ -112,12 +112,12 @@ impl<'a, Rt: Clock + Wait + Eprint> SocketWriter<'a, Rt> {
         }
     }
 
-    // Keeps the turn of a denial where the connection is being ended for want of a place: it is told later, and all
+    // Keeps the turn of a denial where the connection is being ended for want of a seat: it is told later, and all
     // bytes of `buf` count as written. Any other reply fails, and so does a denial where the end has another reason.
     fn leave_owed(&mut self, buf: &[u8], turn: Option<Instant>) -> io::Result<usize>
         ensures { WritesAtMost result buf.now }
     {
-        let Connection { rt, socket, .. } = &self.connection;
+        let SharedConnection { rt, socket, .. } = &self.connection;
         if turn.is_none() || !socket.is_turned_away(*rt) {
             return Err(Error::from(ErrorKind::BrokenPipe));
         }
@@ -189,7 +189,7 @@ pub struct ReplyWriter<'a, Rt> {
 
 impl<'a, Rt: Clock + Wait + Eprint> ReplyWriter<'a, Rt> {
     /// A writer to the connection's socket, to which nothing was written yet.
-    pub fn new(connection: Connection<'a, Rt>) -> ReplyWriter<'a, Rt> {
+    pub fn new(connection: SharedConnection<'a, Rt>) -> ReplyWriter<'a, Rt> {
         ReplyWriter {
             end: Retrying::new(SocketWriter {
                 connection,
@@ -220,7 +220,7 @@ impl<'a, Rt: Clock + Wait + Eprint> HangUp for ReplyWriter<'a, Rt> {
     // sent: only a moment where it was turned away or never served. Who was never served leaves the crowd here.
     fn hang_up(&mut self) {
         let writer = &self.end.inner;
-        let Connection {
+        let SharedConnection {
             rt,
             crowd,
             socket,
@@ -238,7 +238,7 @@ impl<'a, Rt: Clock + Wait + Eprint> HangUp for ReplyWriter<'a, Rt> {
                     say(&stream, why);
                 }
                 if is_served && !socket.is_turned_away(rt) {
-                    // Where a newcomer waits for the place, not for long.
+                    // Where a newcomer waits for the seat, not for long.
                     linger(stream, &crowd.is_wanted);
                 } else {
                     part_from(stream);
@@ -246,7 +246,7 @@ impl<'a, Rt: Clock + Wait + Eprint> HangUp for ReplyWriter<'a, Rt> {
             }
             (None, _) => {}
         }
-        // Who was served leaves its place when that may be used again, in `SocketSession::keep`.
+        // Who was served leaves its seat when that may be used again, in `SocketSession::keep`.
         if !is_served {
             crowd.note_left(rt, socket.number);
         }
@@ -276,21 +276,21 @@ fn part_from(stream: TcpStream) {
 /// What ends the connection from another thread.
 #[derive(Drop)]
 pub struct SocketCutOff<'a, Rt> {
-    connection: Connection<'a, Rt>,
+    connection: SharedConnection<'a, Rt>,
 }
 
 impl<'a, Rt: Wait> SocketCutOff<'a, Rt> {
     /// What ends this connection from another thread.
-    pub fn new(connection: Connection<'a, Rt>) -> SocketCutOff<'a, Rt> {
+    pub fn new(connection: SharedConnection<'a, Rt>) -> SocketCutOff<'a, Rt> {
         SocketCutOff { connection }
     }
 }
 
 impl<'a, Rt: Wait> CutOff for SocketCutOff<'a, Rt> {
     // Ends the connection: the reason, unless one is kept already, is that the class is over, or else that there is no
-    // place.
+    // seat.
     fn cut_off(&self) {
-        let Connection {
+        let SharedConnection {
             rt,
             state,
             socket,
@@ -305,7 +305,7 @@ impl<'a, Rt: Wait> CutOff for SocketCutOff<'a, Rt> {
     }
 }
 
-/// What is kept of a session over a socket once it has ended: only what a contract says of it. Its place is free
+/// What is kept of a session over a socket once it has ended: only what a contract says of it. Its seat is free
 /// again, and want of memory was told to the host.
 #[derive(Drop)]
 pub struct SocketSession<'a, Rt>(Snapshot<ServedSession<Incoming<'a, Rt>, ReplyWriter<'a, Rt>>>);
@@ -314,14 +314,14 @@ impl<'a, Rt: Clock + Wait + Eprint> Keep<Incoming<'a, Rt>, ReplyWriter<'a, Rt>>
     for SocketSession<'a, Rt> {
     ghost shows = { λ kept. kept.0.value };
 
-    // Frees the place of a session that has ended, and notes in the host's state if it wanted memory. What is kept
+    // Frees the seat of a session that has ended, and notes in the host's state if it wanted memory. What is kept
     // shows the session to contracts alone.
     fn keep(session: ServedSession<Incoming<'a, Rt>, ReplyWriter<'a, Rt>>) -> SocketSession<'a, Rt>
         ensures { result.0.value ≡ session.entry }
     {
         let was_short = matches!(session.ending.end, SessionEnd::Memory);
         let reader = &session.reader;
-        let Connection {
+        let SharedConnection {
             rt,
             state,
             crowd,

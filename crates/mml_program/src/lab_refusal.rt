@@ -107,7 +107,7 @@ impl AuditRefusal {
     }
 }
 
-// The name that a place of a lab file has in an error line.
+// The name that a key of a lab file has in an error line.
 fn key_name(key: Key) -> &'static str {
     match key {
         Key::Events => "events",

@@ -228,7 +228,7 @@ fn listen<R: Net<Listener = TcpListener, Stream = TcpStream>>(
 }
 
 /// Begins a program, and gives its words. Before all else each standard stream that is closed is held, so that no file
-/// takes its place; where that fails the error is a write fault. Over stacks that are too small nothing is begun, and
+/// gets its descriptor; where that fails the error is a write fault. Over stacks that are too small nothing is begun, and
 /// the error is out of memory.
 pub fn begin_program<R: Env + Files<File = File> + AllocGlobal>(
     rt: &R,

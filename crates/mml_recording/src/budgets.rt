@@ -18,7 +18,7 @@ const GREETED: &[u8] = b"{\"ok\":\"hello\",\"who\":\"";
 
 // How many bytes were put of one account.
 #[derive(Drop)]
-struct Account {
+struct Spending {
     name: String,
     spent: AtomicU64,
 }
@@ -26,7 +26,7 @@ struct Account {
 /// How many bytes were put of each account, and of those who aren't known.
 #[derive(Drop)]
 pub struct Budgets {
-    accounts: Vec<Account>,
+    accounts: Vec<Spending>,
     unknown: AtomicU64,
 }
 
@@ -68,8 +68,8 @@ impl Budgets {
 }
 
 // An account with this name, of which nothing was put yet.
-fn new_account(alloc: Global, name: &str) -> Result<Account, FileFault> {
-    Ok(Account {
+fn new_account(alloc: Global, name: &str) -> Result<Spending, FileFault> {
+    Ok(Spending {
         name: String::from_str(alloc, name)?,
         spent: AtomicU64::new(0),
     })

@@ -82,7 +82,7 @@ without_link-lawful n a b w la lb =
 network_is : (m n : Network) → m.neighbours ≡ n.neighbours → m.registers ≡ n.registers → n ≡ m
 network_is m n e f = λ k. record { neighbours = sym e k; registers = sym f k }
 
--- what is written in the place of a network with one more link
+-- a network whose neighbours and registers are those of one with one more link is a network
 pub linked_is_lawful : (n m : Network) (a b : ℕ) → IsNetwork n → a < length n.registers → b < length n.registers → (a ≡ b → ⊥)
     → m.neighbours ≡ with_neighbour (with_neighbour n.neighbours a b) b a → m.registers ≡ n.registers → IsNetwork m
 linked_is_lawful n m a b w la lb apart e f = subst (λ x. IsNetwork x) (network_is m (with_link n a b) e f) (with_link-lawful n a b w la lb apart)
@@ -91,7 +91,7 @@ linked_is_lawful n m a b w la lb apart e f = subst (λ x. IsNetwork x) (network_
 pub node_within : (n m : Network) (a : ℕ) → n ≡ m → a < length m.registers → a < length n.registers
 node_within n m a e l = subst (λ (x : Network). a < length x.registers) (sym e) l
 
--- what is written in the place of a network with one link less
+-- a network whose neighbours and registers are those of one with one link less is a network
 pub cut_is_lawful : (n m : Network) (a b : ℕ) → IsNetwork n → a < length n.registers → b < length n.registers
     → m.neighbours ≡ without_neighbour (without_neighbour n.neighbours a b) b a → m.registers ≡ unpointed (unpointed n.registers a b) b a → IsNetwork m
 cut_is_lawful n m a b w la lb e f = subst (λ x. IsNetwork x) (network_is m (without_link n a b) e f) (without_link-lawful n a b w la lb)

@@ -8,7 +8,7 @@ use Rattle.mml_window.specs.Windows.{WindowValue, window}
 use Rattle.mml_serving.specs.declared.connection.Connection.{Connection}
 use Rattle.mml_serving.specs.declared.connection.EndedSession.{EndedSession}
 use Rattle.mml_serving.specs.Arriving.{Takes}
-use Rattle.mml_serving.specs.Serving.{Each, IsServed, Numbered, ServesAll, ServesWindows, ends}
+use Rattle.mml_serving.specs.Serving.{Each, IsServed, Numbered, ServesAll, ServesWindows, ends_of}
 
 numbered_more : {R W : Type 0} (n : ℕ) (cs : List (Connection R W)) (c : Connection R W) → Numbered n cs → c.number ≡ n + length cs → Numbered n (cs ++ c ∷ [])
 numbered_more n [] c so_far at = grind arith
@@ -30,15 +30,15 @@ module _ {H R W : Type 0} (f : H → Connection R W) (hs hs' : List H) (h : H) (
   pub numbered_so : (n : ℕ) (c : Connection R W) → f h ≡ c → c.number ≡ n + length hs → Numbered n (map f hs) → Numbered n (map f hs')
   numbered_so n c it at so_far = grind (arith, map-append f hs (h ∷ []), length-map hs f, numbered_more n (map f hs) c)
 
-  pub came_so : (known a b : Option (List (R × W))) (c : Connection R W) → f h ≡ c → Takes known a (map ends (map f hs)) → Takes a b (ends c ∷ [])
-      → Takes known b (map ends (map f hs'))
+  pub came_so : (known a b : Option (List (R × W))) (c : Connection R W) → f h ≡ c → Takes known a (map ends_of (map f hs)) → Takes a b (ends_of c ∷ [])
+      → Takes known b (map ends_of (map f hs'))
   came_so known a b c it so_far next = grind (arith, map-append, append_assoc)
 
 module _ {R W : Type 0} (lab : LabValue) (remaining : R → Option (List ℕ)) (contents : W → Option (List ℕ)) (to_come : Option (List (R × W))) (count : ℕ) where
   -- all threads were joined
   pub all_came : {X E : Type 0} (sessions : X → List (EndedSession R W)) (windows : X → List WindowValue) (left : Option (List (R × W)))
       (cs : List (Connection R W)) (r : Result X E)
-      → Takes to_come left (map ends cs) → length cs ≡ count → Numbered 1 cs → IfOk r (λ p. Each (IsServed lab remaining contents) cs (sessions p) (windows p))
+      → Takes to_come left (map ends_of cs) → length cs ≡ count → Numbered 1 cs → IfOk r (λ p. Each (IsServed lab remaining contents) cs (sessions p) (windows p))
       → IfOk r (λ p. ServesAll lab remaining contents to_come count (sessions p) (windows p))
   all_came sessions windows left cs (Ok p) came all numbered served =
       record { connections = cs; left = left; came = came; all = all; numbered = numbered; served = served }

@@ -12,7 +12,7 @@ use Rattle.mml_serving.specs.declared.connection.EndedSession.{EndedSession}
 use Rattle.mml_serving.specs.declared.socket.Socket.{Socket}
 use Rattle.mml_serving.specs.Arriving.{Takes}
 
--- the lists are as long, and it holds of those that stand at one place
+-- the lists are as long, and it holds of those that stand at one index
 abbrev pub Each : {A B C : Type 0} → (A → B → C → Type 0) → List A → List B → List C → Type 0
 Each P [] [] [] = Unit {0}
 Each P (x ∷ xs) (y ∷ ys) (z ∷ zs) = P x y z × Each P xs ys zs
@@ -25,8 +25,8 @@ IsServed lab remaining contents c s w =
     × Ended s.end lab (window [] []) w (remaining c.reader) (remaining s.connection.reader) (contents c.writer) (contents s.connection.writer)
 
 -- the reading and the writing end of a connection, without its number
-abbrev pub ends : {R W : Type 0} → Connection R W → R × W
-ends c = (c.reader, c.writer)
+abbrev pub ends_of : {R W : Type 0} → Connection R W → R × W
+ends_of c = (c.reader, c.writer)
 
 -- their numbers are n, and one more from each to the next
 abbrev pub Numbered : {R W : Type 0} → ℕ → List (Connection R W) → Type 0
@@ -39,7 +39,7 @@ pub record ServesAll {R W : Type 0} (lab : LabValue) (remaining : R → Option (
     (sessions : List (EndedSession R W)) (windows : List WindowValue) : Type 0 where
   pub connections : List (Connection R W)
   pub left : Option (List (R × W))
-  pub came : Takes to_come left (map ends connections)
+  pub came : Takes to_come left (map ends_of connections)
   pub all : length connections ≡ count
   pub numbered : Numbered 1 connections
   pub served : Each (IsServed lab remaining contents) connections sessions windows

@@ -3,7 +3,7 @@ ghost use Rattle.std.specs.Prelude.{◌≡◌, ◌≢◌, ◌<◌, ◌≤◌, �
 ghost use Rattle.std.specs.Thread.{IsSync, IsSend};
 ghost use Rattle.mml_window.specs.Windows.{window};
 ghost use Rattle.mml_serving.specs.Arriving.{Takes};
-ghost use Rattle.mml_serving.specs.Serving.{Each, IsServed, ServesAll, ends};
+ghost use Rattle.mml_serving.specs.Serving.{Each, IsServed, ServesAll, ends_of};
 
 use crate::arrivals::{Arrivals, HangUp, LetGo};
 use crate::connection::{Connection, EndedSession};
@@ -115,7 +115,7 @@ fn next_seat<H: House, R: Read + Drop, W: Write + Drop, A: Arrivals<R, W>>(
     requires fresh { All (λ w. w ≡ window [] []) windows.old.items }
     requires some { 0 < length windows.old.items }
     ensures taken { IfOk result (λ seat. Takes (A.to_come arrivals.old) (A.to_come arrivals.new)
-        (ends seat.connection ∷ [])) }
+        (ends_of seat.connection ∷ [])) }
     ensures number { IfOk result (λ seat. seat.connection.number ≡ number) }
     ensures seated { IfOk result (λ seat. seat.window ≡ window [] []) }
     ensures fresh { OnOk result (All (λ w. w ≡ window [] []) windows.new.items) }

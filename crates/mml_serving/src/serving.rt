@@ -36,7 +36,7 @@ pub struct ServedHouse<S: Drop, R: Drop, W: Drop> {
 pub enum ServeFault {
     /// A growth was refused, or no thread could be made.
     Memory,
-    /// There was no reader's place for a window.
+    /// There was no reader's slot for a window.
     Place,
     /// A connection couldn't be accepted.
     Accept,

@@ -16,7 +16,7 @@ use Rattle.mml_session.specs.declared.session.Ending.{Ending}
 use Rattle.mml_session.specs.declared.session.Next.{Next}
 use Rattle.mml_session.specs.declared.session.Next.TheVariants as next
 use Rattle.mml_session.specs.Turns.{Standing}
-use Rattle.mml_session.specs.Talks.{Talk, LineTurn, newcomer, bytes_read, bytes_written, line_read, line_written}
+use Rattle.mml_session.specs.Talks.{Talk, LineTurn, nobody_known, bytes_read, bytes_written, line_read, line_written}
 use Rattle.mml_session.specs.Ends.{AllAnswered, LastAnswered, IsView}
 use Rattle.mml_session.specs.Holding.{HoldsBack, BreaksOff, LetsOut}
 use Rattle.mml_session.specs.declared.recorder.Entry.{Entry}
@@ -27,8 +27,8 @@ use Rattle.mml_session.proofs.HoldingLemmas.{none_back, back_more, back_out, bac
 use Rattle.mml_session.proofs.RecordLemmas.{records_nil, records_trans}
 
 -- the last line of a talk, before which this one was known
-pub record LastLine (lab : LabValue) (old : WindowValue) (st : Standing) (before : Option Who) (talk : Talk lab (newcomer old)) : Type 0 where
-  pub first : Talk lab (newcomer old)
+pub record LastLine (lab : LabValue) (old : WindowValue) (st : Standing) (before : Option Who) (talk : Talk lab (nobody_known old)) : Type 0 where
+  pub first : Talk lab (nobody_known old)
   pub last : LineTurn lab first.end st
   pub known : first.end.known ≡ before
   pub read : bytes_read talk ≡ bytes_read first ++ line_read last
@@ -38,7 +38,7 @@ pub record LastLine (lab : LabValue) (old : WindowValue) (st : Standing) (before
 -- the lines so far make a talk, which leads to where the session stands, and what isn't out of its replies is held
 pub record AnsweredSoFar (number : ℕ) (lab : LabValue) (old : WindowValue) (st : Standing) (before : Option Who) (input left : Option (List ℕ))
     (held : List ℕ) (wrote wrote' : Option (List ℕ)) (given given' : Option Kept) : Type 0 where
-  pub talk : Talk lab (newcomer old)
+  pub talk : Talk lab (nobody_known old)
   pub stands : talk.end ≡ st
   pub last : (bytes_written talk ≡ []) ⊎ LastLine lab old st before talk
   pub consumed : Consumes input left (bytes_read talk)
@@ -47,7 +47,7 @@ pub record AnsweredSoFar (number : ℕ) (lab : LabValue) (old : WindowValue) (st
 
 pub nothing_yet : (number : ℕ) (lab : LabValue) (old : WindowValue) (before : Option Who) (input wrote : Option (List ℕ)) (given : Option Kept)
     (unread held : List ℕ) → unread ≡ [] → held ≡ []
-    → AnsweredSoFar number lab old (newcomer old) before input (prepend_known unread input) held wrote wrote given given
+    → AnsweredSoFar number lab old (nobody_known old) before input (prepend_known unread input) held wrote wrote given given
 nothing_yet number lab old before input wrote given unread held none out = record {
   talk = empty;
   stands = refl;
@@ -81,7 +81,7 @@ module _ {number : ℕ} {lab : LabValue} {old : WindowValue} {st : Standing} {be
       let t = so.talk in
       let read = flat_longer ended t.lines one.0.line in
       let written = flat_longer (reply_line lab.ids lab.roster) t.replies one.0.reply in
-      let entries = longer_entries lab (newcomer old) t.end after t.lines t.replies one.0.line one.0.reply t.run one.0.turn in
+      let entries = longer_entries lab (nobody_known old) t.end after t.lines t.replies one.0.line one.0.reply t.run one.0.turn in
       record {
         talk = longer t one.0 one.1;
         stands = refl;

@@ -8,20 +8,20 @@ use Rattle.mml_session.specs.declared.session.SessionEnd.{SessionEnd}
 use Rattle.mml_session.specs.declared.session.SessionEnd.TheVariants as end
 use Rattle.mml_session.specs.Turns.{Standing}
 use Rattle.mml_session.specs.Ends.{Ended}
-use Rattle.mml_session.specs.Talks.{LineTurn, Talk, newcomer}
+use Rattle.mml_session.specs.Talks.{LineTurn, Talk, nobody_known}
 use Rattle.mml_session.proofs.TalkLemmas.{talk_seen, turn_seen}
 
 abbrev pub Sees : WindowValue → WindowValue → Type 0
 Sees old new = IsPrefix old.seen new.seen
 
 module _ {lab : LabValue} {old new : WindowValue} where
-  seen_to : (t : Talk lab (newcomer old)) → t.end.window ≡ new → Sees old new
-  seen_to t stands = subst (λ (w : WindowValue). Sees old w) stands (talk_seen lab (newcomer old) t)
+  seen_to : (t : Talk lab (nobody_known old)) → t.end.window ≡ new → Sees old new
+  seen_to t stands = subst (λ (w : WindowValue). Sees old w) stands (talk_seen lab (nobody_known old) t)
 
   -- with one line more
-  seen_on : (t : Talk lab (newcomer old)) {after : Standing} (s : LineTurn lab t.end after) → after.window ≡ new → Sees old new
+  seen_on : (t : Talk lab (nobody_known old)) {after : Standing} (s : LineTurn lab t.end after) → after.window ≡ new → Sees old new
   seen_on t {after} s stands = subst (λ (w : WindowValue). Sees old w) stands
-      (prefix_trans old.seen t.end.window.seen after.window.seen (talk_seen lab (newcomer old) t) (turn_seen lab t.end after s))
+      (prefix_trans old.seen t.end.window.seen after.window.seen (talk_seen lab (nobody_known old) t) (turn_seen lab t.end after s))
 
 -- after a session, however it ended
 pub ended_seen : (e : SessionEnd) (lab : LabValue) (old new : WindowValue) (input left wrote wrote' : Option (List ℕ))

@@ -72,7 +72,7 @@ denied_told lab old new who c d answers = record {
   ));
 }
 
--- an act that is refused is told as the ruling itself, or as the refusal in its place
+-- an act that is refused is told as the ruling itself, or as the refusal instead
 refused_says : (lab : LabValue) (l : List Event) (ps : List ℕ) (who : Who) (c : Command) (why : Refusal) (new : WindowValue)
     → Says lab l ps who c (Refused why) new
     → Plainly lab l ps (ruling_at lab (world_in lab l) who c) (replies.Refuse (refusal_for why)) new

@@ -16,7 +16,7 @@ use Rattle.mml_window.specs.Windows.{WindowValue}
 use Rattle.mml_session.specs.declared.session.SessionEnd.{SessionEnd}
 use Rattle.mml_session.specs.declared.session.SessionEnd.TheVariants as end
 use Rattle.mml_session.specs.Turns.{Standing}
-use Rattle.mml_session.specs.Talks.{Talk, LineTurn, newcomer, bytes_read, bytes_written, line_read, line_written}
+use Rattle.mml_session.specs.Talks.{Talk, LineTurn, nobody_known, bytes_read, bytes_written, line_read, line_written}
 
 -- the line asks of one who is known only to be shown something
 pub record IsView (st : Standing) (line : List ℕ) : Type 0 where
@@ -28,14 +28,14 @@ pub record IsView (st : Standing) (line : List ℕ) : Type 0 where
 
 -- all lines that were taken from the input were answered, the window is where they lead, and their replies are out
 pub record AllAnswered (lab : LabValue) (old new : WindowValue) (input left wrote wrote' : Option (List ℕ)) : Type 0 where
-  pub talk : Talk lab (newcomer old)
+  pub talk : Talk lab (nobody_known old)
   pub stands : talk.end.window ≡ new
   pub consumed : Consumes input left (bytes_read talk)
   pub appended : Appends wrote wrote' (bytes_written talk)
 
 -- the lines that were taken from the input were answered, of which the last is told apart, and so much is out of all their replies' lines
 pub record LastAnswered (sent : List ℕ → List ℕ) (lab : LabValue) (old new : WindowValue) (input left wrote wrote' : Option (List ℕ)) : Type 0 where
-  pub talk : Talk lab (newcomer old)
+  pub talk : Talk lab (nobody_known old)
   pub after : Standing
   pub last : LineTurn lab talk.end after
   pub stands : after.window ≡ new
@@ -44,7 +44,7 @@ pub record LastAnswered (sent : List ℕ → List ℕ) (lab : LabValue) (old new
 
 -- all lines that were taken from the input were answered, their replies are out, and one line more was taken, a view, which has no reply
 pub record LastUnanswered (lab : LabValue) (old new : WindowValue) (input left wrote wrote' : Option (List ℕ)) : Type 0 where
-  pub talk : Talk lab (newcomer old)
+  pub talk : Talk lab (nobody_known old)
   pub line : List ℕ
   pub short : IsWithinLimit MAX_REQUEST line
   pub view : IsView talk.end line

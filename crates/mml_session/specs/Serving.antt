@@ -29,7 +29,7 @@ SendsReply said.Bye r whole unsent unsent' wrote wrote' = (is_bye r ≡ true) ×
 SendsReply (said.Unwritten n) r whole unsent unsent' wrote wrote' =
     (n < length (unsent ++ whole)) × (unsent' ≡ []) × Appends wrote wrote' (take n (unsent ++ whole))
 
--- the line of a reply, or of out of memory in the place of one that isn't short, was sent and is recorded
+-- the line of a reply, or of out of memory instead of one that isn't short, was sent and is recorded
 abbrev pub Tells : Said → ℕ → LabValue → ℕ → List ℕ → Reply → List ℕ → List ℕ → Option (List ℕ) → Option (List ℕ) → Option Kept → Option Kept → Type 0
 Tells said number lab seen line r unsent unsent' wrote wrote' given given' =
     (told : Reply) × TellsFor r told × SendsReply said told (reply_line lab.ids lab.roster told) unsent unsent' wrote wrote'

@@ -10,8 +10,8 @@ use Rattle.mml_window.specs.Windows.{WindowValue}
 use Rattle.mml_session.specs.Turns.{Standing, standing, Turn, is_bye}
 
 -- at the beginning nobody is known
-abbrev pub newcomer : WindowValue → Standing
-newcomer w = standing None w
+abbrev pub nobody_known : WindowValue → Standing
+nobody_known w = standing None w
 
 -- lines, the reply to each, none of which is bye, and where they lead
 abbrev pub Talk : LabValue → Standing → Type 0

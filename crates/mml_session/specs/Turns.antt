@@ -36,7 +36,7 @@ pub record Standing : Type 0 where
 abbrev pub standing : Option Who → WindowValue → Standing
 standing known window = record { known = known; window = window }
 
--- the list after a ruling at it: with the event that took place, if one did
+-- the list after a ruling at it: with the event that happened, if one did
 abbrev pub entered : List Event → Option Event → List Event
 entered l None = l
 entered l (Some e) = l ++ e ∷ []
@@ -45,7 +45,7 @@ entered l (Some e) = l ++ e ∷ []
 abbrev pub places_in : Reply → List ℕ
 places_in r = as_list (place_in r)
 
--- which refusals may stand in the place of what was ruled: memory may be refused to what has a list; a grant is refused for the
+-- which refusals may stand instead of what was ruled: memory may be refused to what has a list; a grant is refused for the
 -- cause that the window keeps
 abbrev pub MayRefuse : Ruling → Refused → Option Refusal → Type 0
 MayRefuse (Looked l) refused.Memory kept = Unit {0}
@@ -54,11 +54,11 @@ MayRefuse (Granted e done) refused.Memory kept = kept ≡ Some cause.Memory
 MayRefuse (Granted e done) refused.Journal kept = kept ≡ Some cause.Journal
 MayRefuse _ _ _ = ⊥
 
--- the reply is that to the ruling at the list, and the window has then seen the list and the event that took place
+-- the reply is that to the ruling at the list, and the window has then seen the list and the event that happened
 abbrev pub Plainly : LabValue → List Event → List ℕ → Ruling → Reply → WindowValue → Type 0
 Plainly lab l ps ruled r new = (r ≡ reply_of (after_ruling (world_in lab l) ruled) ruled) × HasSeen (entered l (event_of ruled)) (ps ++ places_in r) new
 
--- the reply is a refusal in the place of the ruling at the list, and the window has then seen the list
+-- the reply is a refusal instead of the ruling at the list, and the window has then seen the list
 abbrev pub Refuses : List Event → List ℕ → Ruling → Reply → WindowValue → Type 0
 Refuses l ps ruled r new = (why : Refused) × (r ≡ reply.Refuse why) × MayRefuse ruled why new.refused × HasSeen l ps new
 

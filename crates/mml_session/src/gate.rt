@@ -3,7 +3,7 @@
 pub enum Point {
     /// A line was read and isn't judged yet.
     Line,
-    /// The reply of a line has gone out; or it was held, and the write that was to take it failed.
+    /// The reply of a line has gone out.
     Told,
 }
 

@@ -16,7 +16,7 @@ const HELD_BYTES: usize = 8192;
 #[derive(Drop)]
 pub(crate) struct Held {
     pub(crate) bytes: Vec<u8>,
-    // How many replies they are.
+    // How many replies they are, or were, for which the session hasn't stood at its gate yet.
     pub(crate) replies: u32,
 }
 

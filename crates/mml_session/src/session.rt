@@ -218,7 +218,7 @@ fn serve_next<Rt: Wait, S: Sink + Drop, H: House, R: Read, W: Write, G: Gate, K:
 }
 
 // By what came of a line: where its reply is out or held, counts it, and lets the session stand at its gate if none is
-// held any longer. Tells whether the session goes on or how it ended.
+// held any longer; where a write failed, none counts any longer. Tells whether the session goes on or how it ended.
 fn go_on<G: Gate>(said: Result<Said, Closed>, held: &mut Held, gate: &G, connection: u8) -> Next
     ensures next { result ≡ next_after said }
     ensures held { held.new.bytes.items ≡ held.old.bytes.items }
@@ -234,13 +234,16 @@ fn go_on<G: Gate>(said: Result<Said, Closed>, held: &mut Held, gate: &G, connect
             pass_told(held, gate, connection);
             Next::Ended(SessionEnd::Bye)
         }
-        Ok(Said::Unwritten(_)) => Next::Ended(SessionEnd::WriteFault),
+        Ok(Said::Unwritten(_)) => {
+            held.replies = 0;
+            Next::Ended(SessionEnd::WriteFault)
+        }
         Err(Closed) => Next::Ended(SessionEnd::Closed),
     }
 }
 
 // Where no reply is held any longer, lets the session stand at its gate once for each that was counted since it stood
-// there last: those went out, unless a write failed.
+// there last: those are out.
 fn pass_told<G: Gate>(held: &mut Held, gate: &G, connection: u8)
     ensures { held.new.bytes.items ≡ held.old.bytes.items }
 {
@@ -344,7 +347,7 @@ fn serve_line<Rt: Wait, S: Sink + Drop, H: House, W: Write, K: Recorder>(
 // A line that was answered.
 #[derive(Clone, Copy)]
 struct Judged<'a> {
-    // The number of the place that it came in.
+    // The number of the seat that it came in.
     number: u8,
     // How many events the window had seen afterwards.
     seen: u64,
@@ -354,7 +357,7 @@ struct Judged<'a> {
 }
 
 // Gives the recorder a line and its reply, unless that shows what was asked for, and lets the reply go out or holds it:
-// a short one is written behind what is held, any other, or `memory` in its place, into `out`. Tells what came of the
+// a short one is written behind what is held, any other, or `memory` instead, into `out`. Tells what came of the
 // reply.
 fn tell<H: House, W: Write, K: Recorder>(
     alloc: Global,
@@ -375,9 +378,9 @@ fn tell<H: House, W: Write, K: Recorder>(
         (W.contents writer.old) (W.contents writer.new)
         (K.kept recorder.old) (K.kept recorder.new) }
 {
-    let place = held.bytes.len();
+    let start = held.bytes.len();
     if append_reply(window.ids(), window.roster(), &reply, &mut held.bytes) {
-        let (_, line) = held.bytes.as_slice().split_at(place);
+        let (_, line) = held.bytes.as_slice().split_at(start);
         record(recorder, judged, &reply, line);
         return send_held(&reply, held, judged.is_next_unknown, writer);
     }

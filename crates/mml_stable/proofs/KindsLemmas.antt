@@ -7,7 +7,7 @@ use Rattle.mml_rules.specs.Rules.{enabled_kind}
 use Rattle.mml_stable.specs.inside.Kinds.{AreFound}
 use Rattle.std.proofs.lemmas.Bool.Decides.{nat_tests}
 
--- that of the next node is put in its place
+-- that of the next node is put instead
 pub one_found : (c : Configuration) (n : ℕ) (kinds : List (Option Kind)) (o : Option Kind) → n < length kinds → AreFound c n kinds → o ≡ enabled_kind c n
     → AreFound c (n + 1) (set kinds n o)
 one_found c n kinds o room found is i h = grind (arith, nat_tests, cases_eq, get_or-set_same, get_or-set_other)

@@ -153,7 +153,7 @@ pub type Left = Hosted<MemorySink, ServedSession<VecDeque<u8>, NumberedWriter>, 
 
 /// What the connection with this number was sent, if it was served.
 pub fn sent_to(left: &Left, number: u64) -> Option<&[u8]> {
-    for record in left.desk.iter().chain(left.others.iter()) {
+    for record in left.at_desk.iter().chain(left.others.iter()) {
         for session in record.sessions.iter() {
             if session.writer.number == number {
                 return Some(session.writer.bytes.as_slice());

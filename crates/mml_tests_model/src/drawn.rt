@@ -57,9 +57,9 @@ const OF_256: &str = concat!(
     "aaaejb",
 );
 
-/// The node at that place round a cycle of `nodes` nodes, at most 256, counted on past the last one.
-fn node_at(nodes: u64, place: u64) -> Rank {
-    Rank::at((place % nodes.max(1)).min(255))
+/// The node at that index round a cycle of `nodes` nodes, at most 256, counted on past the last one.
+fn node_at(nodes: u64, index: u64) -> Rank {
+    Rank::at((index % nodes.max(1)).min(255))
 }
 
 /// The rule that is enabled at a node, where that is Marriage with this partner; Update where none is, or the board has
@@ -102,7 +102,7 @@ fn fault(numbers: &mut Numbers, node: Rank, other: Rank) -> Event {
 }
 
 /// The event drawn as the one with this index, legal or not: mostly a move. Its nodes are near to each other round the
-/// cycle, at places that move on by one every eight events.
+/// cycle, at nodes that move on by one every eight events.
 fn drawn(board: &Board, numbers: &mut Numbers, index: u64) -> Event {
     let place = (index / 8).wrapping_add(numbers.below(8));
     let other = place

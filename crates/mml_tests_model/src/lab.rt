@@ -25,8 +25,8 @@ fn mark(lab: &Lab, node: Rank, other: Rank) -> &'static str
 /// Adds the names of a node's owners to a text, with nothing between them, in the order of the lab's students.
 fn push_owners(text: &mut String, lab: &Lab, node: Rank) -> Result<(), AllocError> {
     let roster = lab.roster();
-    for place in 0..roster.student_count() {
-        let student = &Who::Student(Student::new(place as u16));
+    for index in 0..roster.student_count() {
+        let student = &Who::Student(Student::new(index as u16));
         if roster.owns(*student, node) {
             text.push_str(roster.name_of(*student))?;
         }

@@ -21,7 +21,7 @@ fn ruling_name(ruling: &Ruling) -> &'static str {
     }
 }
 
-/// How many events may take place, whether the journal is halted, and a command.
+/// How many events may happen, whether the journal is halted, and a command.
 type Case = (u64, bool, Command);
 
 /// The name of what is ruled on a case of `who`; `another size` where board and lab aren't of one size.

@@ -27,7 +27,7 @@ fn has_only(set: NodeSet, ranks: &[u64]) -> bool {
         && gives_in_order(set, ranks)
 }
 
-/// The place of the first of seven sets that has other ranks than stand beside it, `None` where none has; and how many
+/// The index of the first of seven sets that has other ranks than stand beside it, `None` where none has; and how many
 /// ranks are above 63.
 fn told_of_sets() -> (Option<usize>, u64) {
     let none = NodeSet::empty();
@@ -87,7 +87,7 @@ fn greatest_of(set: NodeSet) -> Option<u64> {
     Some(set.greatest()?.index())
 }
 
-/// Whether a set has just the ranks whose places are true in a list of all ranks, by membership, length, least and
+/// Whether a set has just the ranks whose indices are true in a list of all ranks, by membership, length, least and
 /// greatest.
 fn is_list(set: NodeSet, list: &[bool]) -> bool {
     let (mut count, mut least, mut greatest) = (0u64, None, None);

@@ -7,7 +7,7 @@ use mml_plain::{Fields, LineScratch, read_fields};
 use std::alloc::{AllocError, Global};
 use std::test::Fail;
 
-/// The text that `write_request` writes for the request that was read, or the name of the error in its place.
+/// The text that `write_request` writes for the request that was read, or the name of the error instead.
 fn text_or_fault(alloc: Global, read: Result<Request, LineFault>) -> Result<String, Fail> {
     match read {
         Ok(request) => written(alloc, &request),
@@ -15,7 +15,7 @@ fn text_or_fault(alloc: Global, read: Result<Request, LineFault>) -> Result<Stri
     }
 }
 
-/// The text that `write_request` writes for a request in the place of another text.
+/// The text that `write_request` writes for a request instead of another text.
 fn written(alloc: Global, request: &Request) -> Result<String, Fail> {
     let mut out = b"before".to_vec(alloc)?;
     write_request(alloc, request, &mut out)?;

@@ -65,8 +65,8 @@ const LENGTHS: &[Length] = &[
 /// A text of `len` digits.
 fn digits(alloc: Global, len: usize) -> Result<String, AllocError> {
     let mut text = String::new(alloc);
-    for place in 0..len {
-        text.push_str(if place % 3 == 0 { "7" } else { "1" })?;
+    for index in 0..len {
+        text.push_str(if index % 3 == 0 { "7" } else { "1" })?;
     }
     Ok(text)
 }
@@ -129,7 +129,7 @@ fn is_told_in_parts(alloc: Global, cut: usize, step: usize) -> Result<bool, Fail
     Ok(steps_to_the_end(alloc, 2, &mut reader)?.as_str() == TOLD)
 }
 
-/// The first place where a cut of `TEXT`, of which the second part is read by at most `step` bytes, changes what is
+/// The first offset where a cut of `TEXT`, of which the second part is read by at most `step` bytes, changes what is
 /// told; `None` where none does.
 fn first_cut_that_changes(alloc: Global, step: usize) -> Result<Option<usize>, Fail> {
     for cut in 0..=TEXT.len() {

@@ -41,7 +41,7 @@ Decides lab failures old who command (Refused Memory) new = Grants lab old.event
 Decides lab failures old who command (Granted place number done) new =
     (e : Event) × Takes lab old.events who command e place number done × Grows failures old new e
 
--- what letting a legal event take place does to the book, where there is room and the journal isn't halted: without memory it is as it was,
+-- what letting a legal event happen does to the book, where there is room and the journal isn't halted: without memory it is as it was,
 -- it halts where the journal fails, and else it has the event
 abbrev pub Lets : {S : Type 0} → LabValue → (S → ℕ) → BookValue S → Event → Done → Answer → BookValue S → Type 0
 Lets lab failures old e done (Denied d) new = ⊥

@@ -4,10 +4,10 @@ use mml_policy::{Denial, Refusal};
 /// What comes of an act.
 #[derive(Clone, Copy, Debug)]
 pub enum Answer {
-    /// It took place as the event with this place, after which the configuration has this number.
+    /// It happened as the event with this place, after which the configuration has this number.
     Granted { place: u64, number: u64, done: Done },
     /// A clause doesn't hold.
     Denied(Denial),
-    /// All clauses hold, and it didn't take place.
+    /// All clauses hold, and it didn't happen.
     Refused(Refusal),
 }

@@ -17,11 +17,11 @@ pub struct Publishing<H: House> {
 }
 
 impl<H: House> Protocol<Published, View> for Publishing<H> {
-    ghost use Rattle.mml_window.specs.Rule.{IsPublishedTo, newcomer};
+    ghost use Rattle.mml_window.specs.Rule.{IsPublishedTo, nothing_seen};
 
     ghost holds = { IsPublishedTo H.lab };
 
-    ghost first = { newcomer };
+    ghost first = { nothing_seen };
 }
 
 /// The writer publishes, or a reader enters: a list that begins with all that it had seen.

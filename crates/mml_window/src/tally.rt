@@ -11,15 +11,15 @@ use crate::window::Window;
 type Cursors = [usize; 16];
 
 /// How many places the windows have in all.
-pub(crate) fn told<H: House>(windows: &[Window<H>]) -> u64
+pub(crate) fn count_places<H: House>(windows: &[Window<H>]) -> u64
     requires few { length windows.now ≤ MAX_SESSIONS }
     ensures { result ≡ length (told_of windows.now) }
 {
-    let mut told = 0;
+    let mut count = 0;
     'windows: for index in 0..windows.len() {
-        told += windows[index].place_count();
+        count += windows[index].place_count();
     }
-    told
+    count
 }
 
 /// Whether the windows' places are those above `first` and up to `most`, each once; `false` where `first` is above

@@ -15,12 +15,12 @@ bit_in words k = bit_at (slice_index words (k / 64)) (k % 64) == 1
 unfoldable pub set_of : ℕ → List ℕ → FinSet nat_cmp
 set_of n words = those_below n (bit_in words)
 
--- the number below 2 ^ n with a one at each place that passes
+-- the number below 2 ^ n with a one at each index that passes
 abbrev pub ones_at : ℕ → (ℕ → Bool) → ℕ
 ones_at zero test = 0
 ones_at (suc n) test = (if test n then 1 else 0) * 2 ^ n + ones_at n test
 
--- the word at a place, of those that keep a set
+-- the word at an index, of those that keep a set
 abbrev pub word_of : FinSet nat_cmp → ℕ → ℕ
 word_of s w = ones_at 64 (λ k. set.contains s (64 * w + k))
 

@@ -107,7 +107,7 @@ pub words_back : (n : ℕ) (words : List ℕ) → length words ≡ n → ((w : �
 unfolding words_of
 words_back n words e h = sym (fill_by_all (word_of (set_of (64 * n) words)) words n 0 e (λ w l. sym (word_back (64 * n) words w (omega arith) (h w l))))
 
--- another word at the place of r, with the same bits but for that of r
+-- another word at the index of the word of r, with the same bits but for that of r
 bits_beside : (words : List ℕ) (new r q : ℕ) → r / 64 < length words → ((i : ℕ) → i < 64 → i ≢ r % 64 → bit_at new i ≡ bit_at (get_or words (r / 64) 0) i)
     → q ≢ r → bit_in (set words (r / 64) new) q ≡ bit_in words q
 bits_beside words new r q l there ne = elim (cases_eq (q / 64) (r / 64)) [

@@ -44,7 +44,7 @@ pub fn a_hall_answers_by_who_is_known()
     ensures judged { (lab : LabValue) (st : hall.State) (k : ℕ) (line : List ℕ) (x : Who)
         (c : Command) → hall.known_on st k ≡ Some x → request_in line ≡ Ok (requests.Do c) →
         hall.plain_turn lab st k line
-        ≡ hall.told st (ruling lab.ids lab.roster lab.events st.halted st.world x c) }
+        ≡ hall.outcome_of st (ruling lab.ids lab.roster lab.events st.halted st.world x c) }
     ensures unknown { (lab : LabValue) (st : hall.State) (k : ℕ) (line : List ℕ)
         (out : hall.Outcome) (c : Command) → hall.known_on st k ≡ None →
         request_in line ≡ Ok (requests.Do c) → hall.Turn lab st k line out →

@@ -17,7 +17,7 @@ ghost use Rattle.mml_laws.specs.Ruled.{IsGrantable, IsShown};
 /// What comes of a command is what the verdict says of it. It is denied exactly where the verdict denies it,
 /// for the same cause, and something is shown exactly where the verdict says so. What the verdict grants
 /// is `full` exactly where the place has reached the limit, `journal` exactly where there is room and the
-/// journal is halted, and else takes place, with what it does in that world.
+/// journal is halted, and else happens, with what it does in that world.
 pub fn the_ruling_is_the_verdicts()
     ensures denied { (ids : List ℕ) (r : RosterValue) (limit : ℕ) (is_halted : Bool) (w : World)
         (x : Who) (c : Command) (d : Denial) →

@@ -13,7 +13,7 @@ ghost use Rattle.mml_codec.specs.Replies as written;
 ghost use Rattle.mml_codec.specs.Replies.{IsAbout};
 ghost use Rattle.mml_codec.specs.ReplyValues.{AreWritableCounts};
 ghost use Rattle.mml_codec.specs.Requests.{request};
-ghost use Rattle.mml_laws.specs.Words.{IsDenial, asked_fields, read_fields, tells_registers, is_view};
+ghost use Rattle.mml_laws.specs.Words.{IsDenial, asked_fields, found_fields, tells_registers, is_view};
 
 /// Each denial is told with the number of its clause, the name and the text that stand beside it in this list.
 pub fn denials_have_these_words()
@@ -42,11 +42,11 @@ pub fn requests_have_these_words()
     ensures { (d : Data) (r : Request) → (request d ≡ Some r) ↔ HasEach d (asked_fields r) }
 {}
 
-/// Who reads a reply's text as JSON finds under each key what `read_fields` says of that reply: all but lists.
+/// Who reads a reply's text as JSON finds under each key what `found_fields` says of that reply: all but lists.
 pub fn replies_are_read_by_these_words()
     ensures { (ids : List ℕ) (roster : RosterValue) (r : Reply) (d : Data) → IsTable ids →
         IsRoster roster → IsAbout ids roster r → AreWritableCounts roster r →
-        read (written.text ids roster r) ≡ Some d → HasEach d (read_fields ids roster r) }
+        read (written.text ids roster r) ≡ Some d → HasEach d (found_fields ids roster r) }
 {}
 
 /// Only a see, a look and a report have a key that tells registers, or what is computed of registers, which are the

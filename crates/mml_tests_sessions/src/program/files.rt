@@ -39,7 +39,7 @@ fn is_begun(rt: &HostRuntime, path: &str) -> bool {
     }
 }
 
-/// Whether a lab of three nodes is read from the file at `path`, and then a journal is begun in its place and read,
+/// Whether a lab of three nodes is read from the file at `path`, and then a journal is begun there instead and read,
 /// while the text of the built-in lab, which stood there, is found at `kept`.
 fn is_kept(rt: &HostRuntime, path: &str, kept: &str) -> bool {
     let old = lab_of(rt, path).is_ok_and(|lab| lab.node_count() == 3);
@@ -52,7 +52,7 @@ fn is_kept(rt: &HostRuntime, path: &str, kept: &str) -> bool {
     old && is_begun && new && kept
 }
 
-/// Writes the built-in lab's file at `path`, and tells whether a journal is begun there in its place while the lab's
+/// Writes the built-in lab's file at `path`, and tells whether a journal is begun there instead while the lab's
 /// file is kept at `kept`. Both are taken away again. A file that can't be written or taken away is an error.
 fn told_of_paths(rt: &HostRuntime, path: Path<'_>, kept: Path<'_>) -> Result<bool, Fail> {
     fs::write(rt, path, BUILT_IN.as_bytes())?;
@@ -63,7 +63,7 @@ fn told_of_paths(rt: &HostRuntime, path: Path<'_>, kept: Path<'_>) -> Result<boo
     Ok(is_kept)
 }
 
-/// Fails where a file isn't read whole, a journal isn't begun in its place, what stood there isn't kept, the command
+/// Fails where a file isn't read whole, a journal isn't begun there instead, what stood there isn't kept, the command
 /// line has no words, or the standard streams can't be held.
 #[test]
 fn files_are_read_and_journals_begun(rt: HostRuntime) -> Result<(), Fail> {

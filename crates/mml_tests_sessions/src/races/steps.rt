@@ -25,7 +25,7 @@ pub struct Steps<'a> {
     steps: Vec<AtomicU64>,
     /// How often one gave up waiting.
     given_up: AtomicU64,
-    /// How often a line came in the place of a reply, or a reply in that of a line.
+    /// How often a line came instead of a reply, or a reply instead of a line.
     misled: AtomicU64,
 }
 
@@ -99,8 +99,8 @@ impl<'a> Steps<'a> {
                 .all(|come| come.load(Ordering::SeqCst) == steps)
     }
 
-    /// Counts the next step of a connection, notes where it is a line in the place of a reply or a reply in that of a
-    /// line, and waits as long as the connection is held there.
+    /// Counts the next step of a connection, notes where it is a line instead of a reply, or a reply instead
+    /// of a line, and waits as long as the connection is held there.
     pub fn come(&self, connection: u8, point: Point) {
         let step = match self.come_of(connection) {
             Some(come) => come.fetch_add(1, Ordering::SeqCst),

@@ -12,7 +12,7 @@ use mml_stable::{Report, report};
 use std::alloc::Global;
 use std::test::Fail;
 
-/// The line that `write_reply` writes for a reply in the place of an older text.
+/// The line that `write_reply` writes for a reply instead of an older text.
 fn line_of(alloc: Global, lab: &Lab, reply: &Reply) -> Result<String, Fail>
     requires { IsAbout lab.now.ids lab.now.roster reply.now }
 {
@@ -55,7 +55,7 @@ fn report_line(alloc: Global, lab: &Lab) -> Result<String, Fail> {
     line_of(alloc, lab, &Reply::Report(told))
 }
 
-/// The capacity of a vector once a denial was written into it, in the place of what it held.
+/// The capacity of a vector once a denial was written into it, instead of what it held.
 fn room_after(alloc: Global, lab: &Lab, denial: Denial, out: &mut Vec<u8>) -> Result<usize, Fail> {
     write_reply(alloc, lab.ids(), lab.roster(), &Reply::Deny(denial), out)?;
     Ok(out.capacity())

@@ -114,7 +114,7 @@ fn is_the_same_cut(alloc: Global, cut: usize) -> Result<bool, Fail> {
     Ok(is_told && writes <= 2 && flushes <= 3)
 }
 
-/// The first place of `FIRST_LOOK` where a cut gives other replies, or more than two writes or three flushes; `None`
+/// The first offset in `FIRST_LOOK` where a cut gives other replies, or more than two writes or three flushes; `None`
 /// where there is none.
 fn first_cut_that_changes(alloc: Global) -> Result<Option<usize>, Fail> {
     for cut in 0..=FIRST_LOOK.len() {

@@ -35,7 +35,7 @@ fn tells_a_write(alloc: Global, step: usize, good: usize, refusal: Refusal) -> R
 
 const FAILS: Refusal = Refusal::Fails(ErrorKind::Other);
 
-// How many bytes a write takes, and what comes in its place once it fails.
+// How many bytes a write takes, and what comes instead once it fails.
 const WRITERS: [(usize, Refusal); 3] = [(1, FAILS), (1, Refusal::TakesNothing), (7, FAILS)];
 
 /// The first number of good writes for which `tells_a_write` is false over one of `WRITERS`, and how many bytes that

@@ -1,9 +1,9 @@
 -- What a window's reader has seen.
 use Rattle.std.specs.Prelude.{Option, None, Some}
 use Rattle.mml_window.specs.declared.seeing.View.{View}
-use Rattle.mml_window.specs.Rule.{newcomer}
+use Rattle.mml_window.specs.Rule.{nothing_seen}
 
 -- nothing, where the window has no reader
 abbrev pub view_by : Option View → View
-view_by None = newcomer
+view_by None = nothing_seen
 view_by (Some v) = v

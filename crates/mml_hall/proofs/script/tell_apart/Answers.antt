@@ -4,7 +4,7 @@ use Rattle.mml_hall.proofs.script.tell_apart.Goals as goal
 pub returns-clause-tells : goal.returns-clause-tells
 returns-clause-tells g c =
     let line = c.put_reply-is_whole.ensures.line in (
-      told_of c.args.told.reply.now c.put_reply-is_whole.result,
+      told_of c.args.rest.reply.now c.put_reply-is_whole.result,
       c.put_reply-is_whole.ensures.told,
       rw (c.deref.ensures.value, line) at c.put.ensures.ok,
       rw (c.deref.ensures.value, line) at c.put.ensures.err,

@@ -19,5 +19,5 @@ returns-in-Ok-write_last-clause-last g c =
 
 pub host_in_house-requires-clause-recorders : goal.host_in_house-requires-clause-recorders
 host_in_house-requires-clause-recorders g c κs within =
-    let cs = c.args.recorders.desk ∷ c.args.recorders.others.items in
+    let cs = c.args.recorders.at_desk ∷ c.args.recorders.others.items in
     are_given (kept_from g.C.Recorder.kept 1 cs) g.C.Recorder.kept 1 cs (λ m le. refl)

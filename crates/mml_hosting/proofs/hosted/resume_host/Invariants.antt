@@ -10,5 +10,5 @@ ghosts-host_in_house-H-House g a = record { name = a.house.name; lab = a.house.l
 abbrev pub ghosts-host_in_house-H-Begun : goal.ghosts-host_in_house-H-Begun
 ghosts-host_in_house-H-Begun g a = record {
   begun = a.house.begun;
-  given = kept_from g.C.Recorder.kept 1 (a.recorders.desk ∷ a.recorders.others.items);
+  given = kept_from g.C.Recorder.kept 1 (a.recorders.at_desk ∷ a.recorders.others.items);
 }

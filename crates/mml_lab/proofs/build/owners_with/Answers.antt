@@ -3,7 +3,7 @@ use Rattle.std.specs.Prelude.{option_map, IfOk}
 use Rattle.std.specs.Option.{option_map_or}
 use Rattle.mml_lab.specs.Shape.{NodeSpec}
 use Rattle.mml_lab.specs.inside.Raw.{node_view, entry_account}
-use Rattle.mml_lab.specs.Labs.{place_of, owners_in}
+use Rattle.mml_lab.specs.Labs.{student_index, owners_in}
 use Rattle.mml_ids.proofs.MapLemmas.{map-map}
 use Rattle.mml_lab.proofs.RawLemmas.{node_with-read}
 use Rattle.mml_lab.proofs.build.owners_with.Goals as goal
@@ -16,8 +16,8 @@ returns-in-Some-clause-ok c =
     let students = map entry_account c.args.students.now.entries in
     let found = ap (option_map node_view) c.in-Some.ensures ∙ node_with-read c.args.nodes.now c.args.id in
     let read =
-    ap (map (λ name. place_of students (string_bytes name))) c.deref.ensures.value
-    ∙ map-map (place_of students) string_bytes c.in-Some.node.now.owners.items in
+    ap (map (λ name. student_index students (string_bytes name))) c.deref.ensures.value
+    ∙ map-map (student_index students) string_bytes c.in-Some.node.now.owners.items in
     if_ok c.owners_in.result c.owners_in.ensures.ok (λ owners is. is ∙ read ∙ ap (λ (o : Option NodeSpec). option_map_or (owners_in students) o []) found)
 
 pub returns-in-None-clause-ok : goal.returns-in-None-clause-ok

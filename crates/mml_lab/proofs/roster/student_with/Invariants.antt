@@ -4,5 +4,5 @@ use Rattle.mml_lab.specs.Rosters.{has_name_and_key, no_account}
 use Rattle.mml_lab.proofs.SearchedLemmas.{IsSoFar}
 use Rattle.mml_lab.proofs.roster.student_with.Given as goal
 
-abbrev pub invariant-loop-place : goal.invariant-loop-place
-invariant-loop-place l = IsSoFar (has_name_and_key l.name l.key) (map entry_account l.students.entries) no_account l.place l.found
+abbrev pub invariant-loop-index : goal.invariant-loop-index
+invariant-loop-index l = IsSoFar (has_name_and_key l.name l.key) (map entry_account l.students.entries) no_account l.index l.found

@@ -11,10 +11,10 @@ returns-then-append_reply-clause-tells g c =
     let line = reply_line lab.ids lab.roster c.args.reply in
     let behind : c.append_reply.new.out.items ≡ unsent ++ line =
     rw (c.ids.ensures.ids, c.roster.ensures.roster) at c.if-append_reply.ensures.line in
-    let place : c.len-place.result ≡ length unsent = omega (arith, c.len-place.ensures) in
+    let start : c.len-start.result ≡ length unsent = omega (arith, c.len-start.ensures) in
     let told : c.split_at.result.1.now ≡ line =
-    c.split_at.ensures.back ∙ (ap (λ (t : List ℕ). drop c.len-place.result t) c.as_slice.ensures.value
-    ∙ (ap (λ n. drop n c.append_reply.new.out.items) place ∙ drop-appended unsent c.append_reply.new.out.items line behind)) in (
+    c.split_at.ensures.back ∙ (ap (λ (t : List ℕ). drop c.len-start.result t) c.as_slice.ensures.value
+    ∙ (ap (λ n. drop n c.append_reply.new.out.items) start ∙ drop-appended unsent c.append_reply.new.out.items line behind)) in (
       c.args.reply,
       inl refl,
       sent_behind c.send_held.result c.args.reply unsent line _ _ _ _ behind c.send_held.ensures.sends,

@@ -13,7 +13,7 @@ returns-in-Some-clause-fewer c = grind (arith, has-one, len-remove_one)
 pub returns-in-Some-clause-least : goal.returns-in-Some-clause-least
 returns-in-Some-clause-least c = λ q there.
     subst (λ n. n ≤ q) (sym c.at-rank.ensures)
-    (none_below_lowest 256 c.self.inside.words c.loop-word.word c.in-Some.place q c.in-Some.ensures.within c.in-Some.ensures.zeros c.loop-word.invariant.zeros
+    (none_below_lowest 256 c.self.inside.words c.loop-word.word c.in-Some.bit q c.in-Some.ensures.within c.in-Some.ensures.zeros c.loop-word.invariant.zeros
     (ap (λ s. sets.contains s q) c.self.view_is ∙ there))
 
 pub returns-clause-none : goal.returns-clause-none

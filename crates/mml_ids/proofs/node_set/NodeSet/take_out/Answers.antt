@@ -10,6 +10,6 @@ invariant_of-self c = grind (arith, common_steps, and_le_l, put_words)
 
 pub returns : goal.returns
 returns c =
-    rw (← c.self.view_is, c.word_place-place.ensures.place, c.index.ensures.value)
+    rw (← c.self.view_is, c.word_index-index.ensures.index, c.index.ensures.value)
     (set_of-clear 256 c.self.inside.words _ c.args.rank (omega (arith, c.self.invariant.count, c.index.ensures.within))
     (bit_at_clear_same w64 _ (c.args.rank % 64) (omega arith)) (λ i l ne. bit_at_clear_other w64 _ (c.args.rank % 64) (omega arith) i l ne))

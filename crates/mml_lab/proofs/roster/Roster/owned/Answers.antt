@@ -22,12 +22,12 @@ returns-in-Student c =
     let s : c.from.result ≡ c.in-Student.student = c.from.ensures ∙ c.index.ensures in
     let within : at < length a.owned.items = omega (arith, c.min.ensures, many, c.self.invariant.rows.count) in
     let row : c.index-in-Student.result.now ≡ row_at a.owned.items at = c.index-in-Student.ensures ∙ sym (get_or_default a.owned.items at sets.empty c.index-in-Student.result.now within) in
-    let place : ((c.in-Student.student ≤ students) × (at ≡ c.in-Student.student)) ⊎ ((students ≤ c.in-Student.student) × (at ≡ students)) =
+    let at_row : ((c.in-Student.student ≤ students) × (at ≡ c.in-Student.student)) ⊎ ((students ≤ c.in-Student.student) × (at ≡ students)) =
     elim (cases_lt c.in-Student.student students) [
       | inl below ↦ inl (omega (arith, below), omega (arith, below, c.min.ensures, many, s))
       | inr past ↦ inr (past, omega (arith, past, c.min.ensures, many, s))
     ] in
     λ i.
     ap (λ r. sets.contains r i) row
-    ∙ owned_by students c.in-Student.student at i (roster_view a).owners a.owned.items c.self.invariant.rows c.self.invariant.lawful.owned place
+    ∙ owned_by students c.in-Student.student at i (roster_view a).owners a.owned.items c.self.invariant.rows c.self.invariant.lawful.owned at_row
     ∙ (λ t. owns (c.self.view_is t) (sym c.in-Student.is t) i)

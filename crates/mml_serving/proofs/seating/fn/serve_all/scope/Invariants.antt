@@ -1,7 +1,7 @@
 use Rattle.std.proofs.Common.{◌≡◌, ◌≤◌, ◌+◌, [], map, length, All, vec_capacity}
 use Rattle.mml_window.specs.Windows.{window}
 use Rattle.mml_serving.specs.Arriving.{Takes}
-use Rattle.mml_serving.specs.Serving.{Numbered, ends}
+use Rattle.mml_serving.specs.Serving.{Numbered, ends_of}
 use Rattle.mml_serving.proofs.seating.fn.serve_all.scope.Given as goal
 
 abbrev pub invariant-loop-index : goal.invariant-loop-index
@@ -11,5 +11,5 @@ invariant-loop-index g l = record {
   count : length l.handles.items ≡ l.index;
   room : l.index-end ≤ vec_capacity l.handles;
   numbered : Numbered 1 (map (λ h. h.promise.0.value) l.handles.items);
-  came : Takes (g.A.Arrivals.to_come l.initial.arrivals) (g.A.Arrivals.to_come l.arrivals) (map ends (map (λ h. h.promise.0.value) l.handles.items));
+  came : Takes (g.A.Arrivals.to_come l.initial.arrivals) (g.A.Arrivals.to_come l.arrivals) (map ends_of (map (λ h. h.promise.0.value) l.handles.items));
 }
