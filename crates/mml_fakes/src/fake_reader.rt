@@ -16,7 +16,8 @@ pub struct FakeReader<'a> {
 }
 
 impl<'a> FakeReader<'a> {
-    /// A reader that gives one byte of `rest` in each of `good` reads, 0 bytes at its end, and then fails as `Other`.
+    /// A reader of which each of the first `good` reads gives one byte of `rest`, or 0 bytes where none is left, and
+    /// each later one fails as `Other`.
     pub fn failing_after(good: usize, rest: &'a [u8]) -> FakeReader<'a> {
         FakeReader {
             rest,

@@ -43,7 +43,8 @@ impl FakeWriter {
 }
 
 impl Write for FakeWriter {
-    // Takes at most `step` bytes and answers how many; where no good write is left, 0 or an error, as `refusal` says.
+    // Takes at most `step` bytes and answers how many. Where no good write is left, answers 0 or an error, as `refusal`
+    // says; where memory lacks, an error.
     fn write(&mut self, buf: &[u8]) -> io::Result<usize> {
         if self.good == 0 {
             return match self.refusal {
@@ -57,7 +58,7 @@ impl Write for FakeWriter {
         Ok(len)
     }
 
-    // Fails where no good flush is left: with the refusal's error, or as `Other` where that says that nothing is taken.
+    // Fails where no good flush is left: by the error of `refusal`, or as `Other` where `refusal` is `TakesNothing`.
     fn flush(&mut self) -> io::Result<()> {
         if self.good_flushes == 0 {
             return match self.refusal {

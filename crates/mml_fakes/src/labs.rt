@@ -4,20 +4,21 @@ use mml_lab::{Lab, read_lab};
 use std::alloc::{AllocError, Global};
 use std::test::Fail;
 
-/// The lab that a document spells, in a box, so that a way out of what holds it drops one thing, which keeps a test's
-/// proof short. An error where it spells none, or memory lacks.
+/// The lab that a document spells, in a box: a function that holds it has one thing to drop at each return, which keeps
+/// a test's proof short. An error where the document spells no lab, or memory lacks.
 pub fn boxed_lab(alloc: Global, document: &str) -> Result<Box<Lab>, Fail> {
     Ok(Box::new(alloc, read_lab(alloc, document.as_bytes())?)?)
 }
 
-/// The board of a lab at the beginning of a run, in a box, so that a way out of what holds it drops one thing. An error
-/// is want of memory.
+/// The board of a lab at the beginning of a run, in a box: a function that holds it has one thing to drop at each
+/// return, which keeps a test's proof short. An error is want of memory.
 pub fn boxed_board(alloc: Global, lab: &Lab) -> Result<Box<Board>, Fail> {
     Ok(Box::new(alloc, Board::new(alloc, lab)?)?)
 }
 
-/// A lab with 100 events and four connections, whose teacher is tess: its links, its students by name and
-/// key, and its nodes by identifier, owner and what else stands there.
+/// The file of a lab with at most 100 events and four connections, whose teacher is tess. It is made of the line of the
+/// links (empty where there are none), the students by name and key, and the nodes by identifier, owner and further
+/// lines (empty where there are none).
 #[macro_export]
 macro_rules! lab {
     ($links:literal, [$(($name:literal, $key:literal)),*], [$(($id:literal, $owner:literal, $more:literal)),*]) => {
@@ -38,8 +39,7 @@ pub const PATH_OF_THREE: &str = lab!(
     [(1, "ana", ""), (2, "ben", ""), (3, "cyd", "")]
 );
 
-/// Nodes 3, 5 and 9 in a row, 5 and 9 of ben, 3 of ana; 3 and 5 point at each other, and only 3
-/// believes it.
+/// Nodes 3, 5 and 9 in a row, 5 and 9 of ben, 3 of ana; 3 and 5 point at each other, and only 3 holds itself married.
 pub const PAIR: &str = lab!(
     "links = [[3, 5], [5, 9]]\n",
     [("ana", "a-key"), ("ben", "b-key")],

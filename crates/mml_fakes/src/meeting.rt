@@ -2,7 +2,7 @@
 use std::sync::atomic::{AtomicU64, Ordering};
 use std::thread;
 
-/// How often one looks before it gives up.
+/// How often `wait_for` looks at its count before it gives up.
 const TURNS: u64 = 10_000_000;
 
 /// Waits until the count, which other threads raise, is at least `wanted`; `false` where it isn't after `TURNS` looks.

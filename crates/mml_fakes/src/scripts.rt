@@ -36,10 +36,10 @@ pub const CLOSED_JOURNAL: &str = "1 0 grant ana 1 seduction\n2 0 close\n";
 /// The last line of a house whose journal is `CLOSED_JOURNAL`.
 pub const ONE_CLOSED: &str = "done: 2 events, configuration 1\n";
 
-/// A student's move of node 2.
+/// Ben's greeting, a move of node 2, which is his, and a bye.
 pub const BEN_MOVES: &str = lines!(hello("ben", "b-key"), seduction(2), bye);
 
-/// The teacher's close of a step.
+/// The teacher's greeting, a close of the step, and a bye.
 pub const TESS_CLOSES: &str = lines!(hello("tess", "chalk"), close, bye);
 
 /// What is answered to `TESS_CLOSES` where no node is chosen.

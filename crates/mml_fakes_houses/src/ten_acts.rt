@@ -42,7 +42,8 @@ pub fn asker(place: u64) -> Who {
     }
 }
 
-/// The number of the configuration before the event with this place, from 1; past the tenth the last one's, 4.
+/// The number of the configuration before the event with this place, from 1; past the tenth event it is 4, the last
+/// configuration's.
 pub fn number_before(place: u64) -> u64 {
     match place {
         0..=3 => 0,

@@ -34,8 +34,9 @@ pub trait Visit<S: Sink> {
     fn visit<H: House, R: Wait>(self, seats: &mut Pair<'_, S, H, R>) -> Self::Told;
 }
 
-/// Visits a house through the last two of these windows, puts them back, and gives what the visit tells. `None` where
-/// there were fewer windows, of which none is left then, or where memory lacked to put one back.
+/// Visits a house through the last two of these windows, with the last one at the first seat, and gives what the visit
+/// tells. Both windows are put back, the first seat's before the second's, so that they have changed places. `None`
+/// where there were fewer windows, of which none is left then, or where memory lacked to put one back.
 pub fn visit_windows<V: Visit<S> + Drop, S: Sink + Drop, H: House, R: Wait>(
     rt: &R,
     alloc: Global,

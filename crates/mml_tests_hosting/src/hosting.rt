@@ -14,6 +14,7 @@ use std::thread::Threads;
 /// Whether a connection comes to the desk, else to the port, what is said there, and what that is answered.
 type Talk = (bool, &'static str, &'static str);
 
+// A greeting, a move of node 1, a see of it, and a bye.
 const ANA_MOVES: &str = lines!(hello("ana", "a-key"), seduction(1), see(1), bye);
 
 /// Moves node 1.
@@ -35,23 +36,23 @@ const BEN: Talk = (
     lines!(welcome("ben"), seen(0, false, 6, "null"), guard),
 );
 
-/// A bye that ends nothing: nobody is known.
+/// A bye at the desk that ends nothing: who says it hasn't said hello.
 const NOBODY: Talk = (true, lines!(close, bye), lines!(not_greeted, left));
 
-/// The teacher falls in a line.
+/// The teacher's connection ends within a line.
 const FALLEN: Talk = (
     true,
     lines!(hello("tess", "chalk"), close, "{\"do\":\"cl"),
     lines!(welcome("tess"), closed),
 );
 
-/// The teacher's bye at a student's port ends nothing.
+/// The teacher's bye at the students' port ends nothing.
 const ELSEWHERE: Talk = (false, TESS_CLOSES, NOTHING_CLOSED);
 
 /// The teacher's bye at the desk ends the house.
 const TESS: Talk = (true, TESS_CLOSES, NOTHING_CLOSED);
 
-/// One who comes again.
+/// Ana comes again with the same lines, in configuration 1.
 const AGAIN: Talk = (
     false,
     ANA_MOVES,

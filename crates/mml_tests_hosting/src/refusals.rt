@@ -5,5 +5,5 @@ mod library;
 mod replies;
 mod untouched;
 
-/// More requests than any call here makes.
+/// More requests for memory than any call that is tried here makes.
 const MOST: usize = 100_000;

@@ -43,12 +43,13 @@ const TESS_IS_TOLD: &str = lines!(welcome("tess"), closed, empty, left);
 /// What is told before all else.
 const FIRST: &str = "listening\n";
 
+/// What the class that goes on from `OLD` tells, `FIRST` and then two lines by hand.
 const TOLD: &str = "listening
 resumed at place 1, configuration 0, 1 chosen
 done: 2 events, configuration 1
 ";
 
-/// More than what is left of one line.
+/// A journal whose last line is torn and longer than the text of an event may be.
 const LONG: &str = "1 0 grant ana 1 seduction
 2 0 close and more and more and more and more and more and more and more and more and more and more and more.";
 
@@ -57,7 +58,7 @@ const LONG: &str = "1 0 grant ana 1 seduction
 struct Shelf(Global);
 
 impl Store<MemorySink> for Shelf {
-    // A new sink that has taken these bytes; none where memory runs out.
+    // A new sink that has taken these bytes; `None` where memory runs out.
     fn shorten_to(self, whole: &[u8]) -> Option<MemorySink>
         ensures holds { IfSome result (λ sink. sink.bytes ≡ whole.now) }
         ensures countable { IfSome result (λ sink. sink.failures < 2 ^ 64 - 1) }
@@ -130,7 +131,7 @@ fn resume_in<R: Threads + Wait + Sync>(
     )
 }
 
-/// Why a class over this journal and limit of events didn't go on, none where it did; and whether nothing was told.
+/// Why a class over this journal and limit of events didn't go on, `None` where it did; and whether nothing was told.
 fn fault_of_class<R: Threads + Wait + Sync>(
     rt: &R,
     alloc: Global,

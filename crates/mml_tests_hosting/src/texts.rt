@@ -148,7 +148,7 @@ pub fn cycle_of_six(alloc: Global, events: u64) -> Result<Lab, Fail> {
     Ok(read_lab(alloc, text.as_bytes())?)
 }
 
-/// What is left of a house over such connections, with a journal in memory and no record.
+/// What is left of a house over connections in memory, with a journal in memory and no record.
 pub type Left = Hosted<MemorySink, ServedSession<VecDeque<u8>, NumberedWriter>, NoRecorder>;
 
 /// What the connection with this number was sent, if it was served.

@@ -72,7 +72,8 @@ fn board_text(alloc: Global, board: &Board, with_links: bool) -> Result<String, 
     Ok(text)
 }
 
-// An abandonment at 5, since 3 < 5 doesn't answer, and a marriage at 3.
+// What `board_text` gives, with links, at the beginning of a run over `HIGHER_POINTS`, by hand: Marriage is enabled at
+// node 3, and Abandonment at node 5, which points at a lower node that doesn't point back.
 const OPENING: &str =
     "0 0 2 0; None false Some(Marriage) true .-; Some(0) false Some(Abandonment) true -.";
 
@@ -121,7 +122,7 @@ fn push_near(text: &mut String, near: &[(Rank, Regs)]) -> Result<(), AllocError>
 }
 
 /// The journal's line of an abandonment by the second node as the first event; `what stood there` where that isn't
-/// legal on the board, or other events came first.
+/// legal on the board, other events came first, or lab and board aren't of one size.
 fn first_event_line(alloc: Global, lab: &Lab, board: &Board) -> Result<Vec<u8>, Fail> {
     let mut line = Vec::from_slice(alloc, b"what stood there")?;
     if let Some(event) = &grant(1, Rule::Abandonment) {
@@ -194,8 +195,8 @@ fn story_of_moves() -> [Part; 5] {
     ]
 }
 
-/// After `moves`: a move that is chosen, a fault that takes it back, a cut, a link, and a cut that may not happen: each
-/// event, with the board's text after it.
+/// After `story_of_moves`: a move that is chosen, a fault that takes it back, a cut, a link, and a cut that may not
+/// happen: each event, with the board's text after it.
 fn story_of_changes() -> [Part; 5] {
     let [a, b, c] = [Rank::at(0), Rank::at(1), Rank::at(2)];
     let fault = Event::Fault {
@@ -231,7 +232,7 @@ fn story_of_changes() -> [Part; 5] {
 }
 
 /// Whether a board is told as a story says after each of its events, which happen to it where they may; a part without
-/// an event just has the board told.
+/// an event just has the board told. All events happen, also after a difference, since another story may go on there.
 fn is_story_told(alloc: Global, board: &mut Board, story: &[Part]) -> Result<bool, AllocError> {
     let mut is_told = true;
     for (event, expected) in story {
@@ -246,26 +247,30 @@ fn is_story_told(alloc: Global, board: &mut Board, story: &[Part]) -> Result<boo
     Ok(is_told)
 }
 
-/// Whether a board is told as `moves` says after each event of that, and whether then as `changes` says.
+/// Whether a board is told as `story_of_moves` says after each event of that, and whether then as `story_of_changes`
+/// says.
 fn are_stories_told(alloc: Global, board: &mut Board) -> Result<(bool, bool), Fail> {
     let moved = is_story_told(alloc, board, &story_of_moves())?;
     let changed = is_story_told(alloc, board, &story_of_changes())?;
     Ok((moved, changed))
 }
 
-/// Whether a lab's board is told as `moves` says after each event of that, and whether then as `changes` says.
+/// Whether a lab's board is told as `story_of_moves` says after each event of that, and whether then as
+/// `story_of_changes` says.
 fn are_stories_of_lab_told(alloc: Global, lab: &Lab) -> Result<(bool, bool), Fail> {
     let mut board = boxed_board(alloc, lab)?;
     are_stories_told(alloc, &mut board)
 }
 
-/// Whether the board of the path of three is told as `moves` says, and whether then as `changes` says.
+/// Whether the board of the path of three is told as `story_of_moves` says, and whether then as `story_of_changes`
+/// says.
 fn are_stories_of_path_told(alloc: Global) -> Result<(bool, bool), Fail> {
     let lab = boxed_lab(alloc, PATH_OF_THREE)?;
     are_stories_of_lab_told(alloc, &lab)
 }
 
-/// Fails where a board isn't as `moves` and `changes` say after an event, or is changed by one that may not happen.
+/// Fails where a board isn't as `story_of_moves` and `story_of_changes`, by hand, say after an event, or is changed by
+/// an event that may not happen.
 #[test]
 fn events_in_a_row_of_three(rt: HostRuntime) -> Result<(), Fail> {
     assert_eq!(rt; are_stories_of_path_told(rt.alloc())?, (true, true));

@@ -13,8 +13,8 @@ use std::test::Fail;
 // How many events are drawn.
 const DRAWS: u64 = 5000;
 
-// How many of the drawn events are illegal before each legal one, over the cycle of 64 nodes (`OF_256`: of 256): a
-// letter for each legal one, from `a` for none. The plain model says so (`tests/random/tables.py`).
+// How many of the drawn events are illegal before each legal one, over the cycle of 64 nodes: a letter for each legal
+// one, from `a` for none to `z` for 25 or more. The plain model says so (`tests/random/tables.py`).
 const OF_64: &str = concat!(
     "aabgdaaabdcaaaabcbacbbbccdcdaabacbebbbaafcofdecababaddabcbbdadbacegdjafkaaecaada",
     "baddaaaacabcaaecadbdaababcabccbaabebababehaababacabaaagbabaaafaaccabeccebaaabecb",
@@ -36,6 +36,8 @@ const OF_64: &str = concat!(
     "dddacbabaaehca",
 );
 
+// How many of the drawn events are illegal before each legal one, over the cycle of 256 nodes: a letter for each legal
+// one, from `a` for none to `z` for 25 or more. The plain model says so (`tests/random/tables.py`).
 const OF_256: &str = concat!(
     "aaaacaaabbjadafbhaabeaabifebgefhcbabjbdcaacbabefdaabbiclcodcaabhcacbabcdcbbgbace",
     "bbaedgbdabcbboiaadaadfaabebaagaaclfgdjacabeeaiaaaaaaaacaaadbbaafabddbaaabeccgcdf",
@@ -76,8 +78,8 @@ fn enabled_rule(board: &Board, node: Rank, partner: Rank) -> Rule {
     }
 }
 
-/// A move of a node by the rule that `rule_at` gives, mostly by the student who owns it, at times by the other one; it
-/// need not be legal.
+/// A move of a node by the rule that `enabled_rule` gives, mostly by the student who owns the node, at times by the
+/// other one; the move need not be legal.
 fn grant(board: &Board, numbers: &mut Numbers, node: Rank, partner: Rank) -> Event {
     let is_ana = (node.index() < board.size() / 2) != (numbers.below(8) == 0);
     Event::Grant {

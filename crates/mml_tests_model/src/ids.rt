@@ -18,7 +18,7 @@ fn comes_back(table: &IdTable, id: u64) -> bool {
     }
 }
 
-// An identifier, and its rank.
+// An identifier, and its rank in the table of 9, 1, 7 and 4; `None` where it doesn't stand there.
 const RANKS: [(u64, Option<u64>); 6] = [
     (1, Some(0)),
     (4, Some(1)),

@@ -11,7 +11,7 @@ use mml_rules::{Regs, Rule};
 use std::alloc::Global;
 use std::test::Fail;
 
-/// A student's move at any node, which the student need not own.
+/// The move of a node by a rule, by the student with the index `who`, who need not own the node.
 fn grant(who: u16, node: Rank, rule: Rule) -> Event {
     Event::Grant {
         who: Student::new(who),
@@ -28,7 +28,7 @@ fn journal_error_of(lab: &Lab, line: &[u8]) -> Option<JournalFault> {
     }
 }
 
-/// Lines of no event.
+/// Lines that spell no event, the first of them empty.
 const SHAPES: &str = "
 1 0
 01 0 close
@@ -60,7 +60,7 @@ const UNKNOWNS: &str = "1 0 release 0
 1 0 fault 1 9 true
 1 0 cut 1 4";
 
-/// Whether each of the lines is no event of this lab, with that error.
+/// Whether each of the lines is no event of this lab, for the error `fault`.
 fn have_fault(lab: &Lab, lines: &str, fault: JournalFault) -> bool {
     for line in lines.split('\n') {
         if journal_error_of(lab, line.as_bytes()) != Some(fault) {
@@ -70,7 +70,8 @@ fn have_fault(lab: &Lab, lines: &str, fault: JournalFault) -> bool {
     true
 }
 
-/// Lines of the other events, which need not be legal.
+/// Lines of the kinds of events that `TEN_LINES` lacks, and of a move by a student who doesn't own the node; the events
+/// need not be legal.
 const OTHERS: [&[u8]; 6] = [
     b"18446744073709551615 18446744073709551615 release 3",
     b"0 0 fault 2 - true",
@@ -138,8 +139,8 @@ fn are_rows_read(alloc: Global, lab: &Lab) -> Result<(bool, bool, bool), Fail> {
     Ok((shapes, unknowns, are_read_and_written(alloc, lab)?))
 }
 
-/// Over the path of three: what `are_rows_read` tells, and whether the ten lines, each with each byte replaced, are
-/// read as `replaced::REPLACED` marks.
+/// Over the path of three: what `are_rows_read` tells, and whether the lines of `TEN_LINES`, each with each of its
+/// bytes replaced, are read as `replaced::REPLACED` marks.
 fn are_lines_read(alloc: Global) -> Result<((bool, bool, bool), bool), Fail> {
     let lab = boxed_lab(alloc, PATH_OF_THREE)?;
     Ok((
@@ -149,7 +150,7 @@ fn are_lines_read(alloc: Global) -> Result<((bool, bool, bool), bool), Fail> {
 }
 
 /// Fails where a line of no event is read as one or has another error, or an event's line isn't read or written as it
-/// stands.
+/// stands. What is wanted is by hand, but for replaced bytes, where it is by the plain model.
 #[test]
 fn lines_are_read_and_written(rt: HostRuntime) -> Result<(), Fail> {
     assert_eq!(rt; are_lines_read(rt.alloc())?, ((true, true, true), true));

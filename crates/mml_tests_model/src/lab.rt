@@ -93,6 +93,7 @@ node = [
 ]
 "#;
 
+// What `shown` gives for the lab of `DOCUMENT`, by hand.
 const SHOWN: &str =
     "100 4 4 3 3 \n1 false ben .---\n4 false bencyd -...\n7 false ben -...\n65535 true ana >...";
 

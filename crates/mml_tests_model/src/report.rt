@@ -73,6 +73,7 @@ node = [
 ]
 "#;
 
+// What `report_text` gives at the beginning of a run over `DOCUMENT`, by hand.
 const TOLD: &str = "0 false; 0=1 2=3; 4 5; 3 Update 5 Marriage; 4-5 5 Marriage";
 
 /// The report of a board, as text.
@@ -88,7 +89,8 @@ fn lab_report_text(alloc: Global, document: &str) -> Result<String, Fail> {
     board_report_text(alloc, &board)
 }
 
-/// Fails where the report of `DOCUMENT` has other pairs, free or privileged nodes or open links than `TOLD`, by hand.
+/// Fails where the report at the beginning over `DOCUMENT` has another number, is stable, or has other pairs, free
+/// nodes, privileged nodes or open links than `TOLD` says.
 #[test]
 fn report_of_two_pairs_and_an_open_link(rt: HostRuntime) -> Result<(), Fail> {
     assert_eq!(rt; lab_report_text(rt.alloc(), DOCUMENT)?.as_str(), TOLD);

@@ -151,7 +151,9 @@ fn first_unlike_lists() -> Option<(u64, u64, u64)> {
     None
 }
 
-/// Fails where a set has other ranks, another least or greatest one or another length than a plain list.
+/// Fails where a set has other ranks, another length, or another least or greatest rank than a list: for each of seven
+/// sets one by hand, in whose order it also gives its ranks; for drawn sets plain lists, by `is_drawn`. Fails too where
+/// not 192 ranks are above 63.
 #[test]
 fn sets_of_ranks(rt: HostRuntime) {
     assert_eq!(rt; (told_of_sets(), first_unlike_lists()), ((None, 192), None));

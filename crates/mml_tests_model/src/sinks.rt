@@ -43,7 +43,8 @@ fn takes_lines(alloc: Global, lab: &Lab, fail_at: Option<u64>, lines: usize) -> 
     Ok(count == lines && is_halted && journal.into_sink().bytes() == text.as_bytes())
 }
 
-/// The first number of lines, from 0 to 10, with which a sink whose next put fails isn't left; 11 where there is none.
+/// The first number of lines, from 0 to 10, such that a sink that takes so many lines and fails at the next isn't left
+/// with exactly these, or its journal isn't halted as it should be; 11 where there is none.
 fn lines_that_hold(alloc: Global, lab: &Lab) -> Result<usize, Fail> {
     for lines in 0..=10usize {
         if !takes_lines(alloc, lab, Some(lines as u64 + 1), lines)? {
@@ -91,7 +92,8 @@ fn lines_and_bytes_taken(alloc: Global) -> Result<((usize, bool, bool), bool), F
     Ok((lines, takes_each_number_of_bytes(alloc, &lab)?))
 }
 
-/// Fails where a failed put leaves more or fewer lines or bytes in the sink, or the journal isn't halted by it.
+/// Fails where a failed put leaves more or fewer lines or bytes in the sink than were put before it, the journal isn't
+/// halted by it, or a journal is halted though no put failed.
 #[test]
 fn sinks_fail_at_each_put_and_at_each_byte(rt: HostRuntime) -> Result<(), Fail> {
     assert_eq!(rt;

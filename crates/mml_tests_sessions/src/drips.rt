@@ -19,8 +19,8 @@ fn is_right_answer(answer: &Answer, place: u64, last: u64) -> bool {
     }
 }
 
-/// Whether each of the ten acts is granted before event `last`, at whose line the sink fails, and denied or refused
-/// from it on, and the number of the configuration after each is the one after those that were granted.
+/// Asks for the ten acts in their order, where the sink fails at the line of event `last`: whether the answer to each
+/// is right, and the window's number after it is that of the configuration to which the granted acts lead.
 fn plays<H: House, R: Wait>(seat: &mut Seat<'_, Drip, H, R>, last: u64) -> bool {
     for place in 1..=ACTS {
         let answer = seat.ask(asker(place), &act(place));

@@ -144,10 +144,13 @@ fn is_run<R: Threads + Wait + Sync>(rt: &R, alloc: Global, race: &Race) -> Resul
     Ok(is_some_outcome(&house, &out, outcomes) && gate.were_kept(*steps))
 }
 
+// `scripts::ANA_MOVES`, and a bye.
 const ANA_MOVES: &str = lines!(hello("ana", "a-key"), seduction(1), bye);
 
+// What is answered to `ANA_MOVES` where the move is the first event.
 const ANA_GRANTED: &str = lines!(welcome("ana"), granted(1, 1), left);
 
+// What is answered to a move of ana's between a greeting and a bye where a move of the node is chosen already.
 const ANA_DENIED: &str = lines!(welcome("ana"), chosen, left);
 
 const ONE_MOVED: &str = "done: 1 events, configuration 0\n";
@@ -298,7 +301,8 @@ fn are_two_left<R: Threads + Wait + Sync>(rt: &R, alloc: Global) -> Result<bool,
     }
 }
 
-/// Whether it is the error of an accept where one connection comes of two that are wanted, and no last line is written.
+/// Whether a server to which one connection comes, where two are wanted, ends with the error of an accept, and writes
+/// no last line.
 fn is_lack_told<R: Threads + Wait + Sync>(rt: &R, alloc: Global) -> Result<bool, Fail> {
     let mut out = Vec::new(alloc);
     let sink = MemorySink::new(alloc, None);

@@ -18,7 +18,7 @@ use std::sync::atomic::{AtomicU64, Ordering};
 use std::test::Fail;
 use std::thread::Threads;
 
-/// Lets another connection than the first begin when that has had so many replies.
+/// Holds each connection but the first until the first has had `wanted` replies.
 #[derive(Drop)]
 struct After {
     replies: AtomicU64,

@@ -67,7 +67,7 @@ fn serve<'a, R: Wait>(
     }
 }
 
-/// The end of a house with a move and its close, or else with no event.
+/// The end of a house that has a move and its close where `is_closed`, and else has no event.
 fn ending_after(is_closed: bool) -> Ending {
     Ending::Log {
         events: if is_closed { 2 } else { 0 },
@@ -177,7 +177,8 @@ fn failed_writes_are_told(rt: HostRuntime) -> Result<(), Fail> {
     Ok(())
 }
 
-/// What is answered to the whole lines among the first `good` bytes of `ANA_MOVES`.
+/// What is answered to the whole lines among the first `good` bytes of `ANA_MOVES`, whose first line, the greeting, has
+/// 42 bytes with its newline.
 fn replies_after(good: usize) -> &'static str {
     if good == ANA_MOVES.len() {
         ANA_GRANTED
@@ -219,7 +220,7 @@ fn failed_reads_are_told(rt: HostRuntime) -> Result<(), Fail> {
     Ok(())
 }
 
-/// How many writes the replies to `ANA_MOVES` take where the reader gives at most `step` bytes in a read; none where
+/// How many writes the replies to `ANA_MOVES` take where the reader gives at most `step` bytes in a read; `None` where
 /// they are other replies, or the house doesn't end well.
 fn writes_at<R: Wait>(rt: &R, alloc: Global, step: usize) -> Result<Option<usize>, Fail> {
     let reader = all_at(step);

@@ -73,6 +73,8 @@ impl Visit<MemorySink> for MoveAndClose {
     /// Whether both are granted, and then seen through both windows.
     type Told = bool;
 
+    // Plays the move and the close, then views through the first seat, and views and asks for the move again through
+    // the second.
     fn visit<H: House, R: Wait>(self, seats: &mut Pair<'_, MemorySink, H, R>) -> bool {
         plays(seats) && sees_the_close(&mut seats.one) && meets_the_close(&mut seats.two)
     }
@@ -90,7 +92,7 @@ fn are_at<H: House>(windows: &mut [Window<H>], number: u64) -> bool {
     count == 4
 }
 
-/// What is told of a house whose windows are all visited, or only view.
+/// What is told of a house in which a move and a close were played through two of its windows.
 #[derive(Clone, Copy, Debug, PartialEq, Eq)]
 struct Told {
     /// Whether the visit went well.
@@ -98,6 +100,7 @@ struct Told {
     /// Whether all windows show number 0 before the visit and number 1 after it.
     are_shown: bool,
     ending: Ending,
+    /// Whether the house ended with a log, and its sink has just `CLOSED_JOURNAL`.
     has_journal: bool,
 }
 
@@ -170,8 +173,8 @@ fn is_closed<H: House>(alloc: Global, window: &mut Window<H>) -> bool {
         && matches!(report, Err(SightFault::Closed))
 }
 
-/// Whether a window that asked and viewed nothing is closed once its house has ended without it, where there was a
-/// window; and how the house ended.
+/// Whether a window that asked and viewed nothing is closed once its house has ended without it (`None` where there was
+/// no window), and how the house ended.
 fn is_closed_after<H: House, R: Wait>(
     rt: &R,
     alloc: Global,

@@ -22,8 +22,8 @@ fn written(alloc: Global, request: &Request) -> Result<String, Fail> {
     Ok(String::from_utf8(out)?)
 }
 
-// A line, and what it is read as: numbers as great as they may be, each kind of register, and lines that
-// are no requests.
+// A line, and what it is read as, by hand: numbers as great as they may be, each kind of value of the registers p and
+// m, and lines that are no requests.
 const LINES: &[(&[u8], &str)] = &[
     (br#"{"do":"bye"}"#, r#"{"do":"bye"}"#),
     (
@@ -105,6 +105,7 @@ type Repeated = (&'static str, &'static str, usize);
 /// A name, a key, and how many bytes the text of the greeting with them has.
 type Hello = (Repeated, Repeated, usize);
 
+// Names and keys that are plain, that are escaped in a line, or that make a long line; the lengths are by hand.
 const HELLOS: &[Hello] = &[
     (("ana", "ana", 1), ("a-key", "a-key", 1), 41),
     (("\"\n", r#"\"\n"#, 1), ("\\", r"\\", 1), 39),

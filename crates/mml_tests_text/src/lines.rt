@@ -110,7 +110,7 @@ fn first_length_told_otherwise(alloc: Global) -> Result<Option<usize>, Fail> {
     Ok(None)
 }
 
-// Fails where a line at its limit isn't given, or a longer one isn't told as too long.
+// Fails where a line at its limit isn't given, a longer one isn't told as too long, or one without its end is given.
 #[test]
 fn a_line_is_as_long_as_the_limit(rt: HostRuntime) -> Result<(), Fail> {
     assert_eq!(rt; first_length_told_otherwise(rt.alloc())?, None);
@@ -242,7 +242,8 @@ fn line_comes_by_bytes(alloc: Global, text: &[u8]) -> Result<(bool, usize), Fail
 /// whole, and how many reads there were.
 type Counts = ((u32, Step, usize), (bool, usize));
 
-/// What `counted` tells of one empty line more than there may be reads, and `comes_by_bytes` of one long line.
+/// What `lines_of_many_newlines` tells of one empty line more than there may be reads, and `comes_by_bytes` of one long
+/// line.
 fn counts(alloc: Global) -> Result<Counts, Fail> {
     Ok((lines_of_many_newlines(alloc)?, comes_by_bytes(alloc)?))
 }

@@ -10,8 +10,8 @@ use std::alloc::Global;
 use std::sync::Wait;
 use std::test::Fail;
 
-/// Whether an answer grants an act, with this place: false where it is out of memory and a request for memory was
-/// refused; none where it is anything else.
+/// Whether an answer grants an act, with this place: `false` where it tells want of memory, and a request for memory
+/// was refused (not `was_none`); `None` where it is anything else.
 fn granted_or_refused(answer: &Answer, place: u64, was_none: bool) -> Option<bool> {
     match answer {
         Answer::Granted { place: granted, .. } => (*granted == place).then_some(true),
@@ -21,7 +21,7 @@ fn granted_or_refused(answer: &Answer, place: u64, was_none: bool) -> Option<boo
 }
 
 /// Asks for the act with this place, whose nth request for memory is refused, if there is one: whether it was granted,
-/// or else refused for that; none where it was answered otherwise, or refused with a new number of the configuration.
+/// or else refused for that; `None` where it was answered otherwise, or refused with a new number of the configuration.
 fn asked<H: House, R: Wait>(
     seat: &mut Seat<'_, NullSink, H, R>,
     place: u64,
@@ -36,7 +36,8 @@ fn asked<H: House, R: Wait>(
     is_kept.then_some(is_granted)
 }
 
-/// How often the act with this place was refused until it was granted; none where something else came of it.
+/// Asks for the act with this place until it is granted, with one request for memory after another refused: how often
+/// the act was refused; `None` where something else came of it.
 fn refusals_of<H: House, R: Wait>(
     seat: &mut Seat<'_, NullSink, H, R>,
     place: u64,
@@ -50,16 +51,17 @@ fn refusals_of<H: House, R: Wait>(
     None
 }
 
-/// All acts, each with its requests refused in turn.
+/// The ten acts, each asked for until it is granted, with one request for memory after another refused.
 #[derive(Clone, Copy)]
 struct Acts {
     is_there: bool,
 }
 
 impl Visit<NullSink> for Acts {
-    /// How often all acts were refused, each until it was granted; none where something else came of one.
+    /// How often all acts were refused, each until it was granted; `None` where something else came of one.
     type Told = Option<usize>;
 
+    // Asks for all acts through the first seat, and adds up how often each was refused.
     fn visit<H: House, R: Wait>(self, seats: &mut Pair<'_, NullSink, H, R>) -> Option<usize> {
         let mut refused = 0usize;
         for place in 1..=ACTS {
@@ -70,7 +72,7 @@ impl Visit<NullSink> for Acts {
     }
 }
 
-/// How often the ten acts were refused over the path of three, each until it was granted; none where something else
+/// How often the ten acts were refused over the path of three, each until it was granted; `None` where something else
 /// came of one, or the house didn't end with all of them.
 fn told_of_acts<R: Wait>(rt: &R, alloc: Global, is_there: bool) -> Result<Option<usize>, Fail> {
     let (refused, end) = visit_path(rt, alloc, NullSink::new(), Acts { is_there })?;
@@ -90,10 +92,11 @@ struct Instead {
 }
 
 impl Visit<NullSink> for Instead {
-    /// Whether the first was granted, or else refused; none where it was answered otherwise, or the second wasn't
+    /// Whether the first was granted, or else refused; `None` where it was answered otherwise, or the second wasn't
     /// granted with the next place.
     type Told = Option<bool>;
 
+    // Asks for both acts through the first seat: the second gets place 2 where the first was granted, else place 1.
     fn visit<H: House, R: Wait>(self, seats: &mut Pair<'_, NullSink, H, R>) -> Option<bool> {
         let seat = &mut seats.one;
         let was_granted = asked(seat, 1, self.nth, self.is_there)?;
@@ -104,7 +107,7 @@ impl Visit<NullSink> for Instead {
 }
 
 /// Whether the first act, whose nth request for memory is refused, if there is one, was granted, in a house that ends
-/// with just the granted ones of that act and the second; none where something else came of them.
+/// with just the granted ones of that act and the second; `None` where something else came of them.
 fn told_of_another<R: Wait>(
     rt: &R,
     alloc: Global,
@@ -123,7 +126,7 @@ fn told_of_another<R: Wait>(
     Ok((ending_of(&end) == wanted).then_some(was_granted))
 }
 
-/// How often the first act was refused before it was granted, each time in a house of its own; none where something
+/// How often the first act was refused before it was granted, each time in a house of its own; `None` where something
 /// else came of it or of the second act.
 fn told_of_others<R: Wait>(rt: &R, alloc: Global, is_there: bool) -> Result<Option<usize>, Fail> {
     for nth in 1..MOST {

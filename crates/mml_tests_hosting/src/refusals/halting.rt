@@ -12,8 +12,8 @@ use mml_lab::read_lab;
 use std::alloc::Global;
 use std::test::Fail;
 
-/// The reply line to a request of connection 1, for which the nth request for memory is refused, and whether none was
-/// refused; none where the lab has no such connection, or the line can't be written.
+/// The reply line to a request of connection 1, for which the nth request for memory is refused (0 for none), and
+/// whether none was refused; `None` where the lab has no such connection, or the line can't be written.
 fn answer_with_refusal(
     alloc: Global,
     hall: &mut Hall<MemorySink>,
@@ -49,7 +49,7 @@ enum Grant {
     Halted,
 }
 
-/// What became of the first grant, by its reply; none where that is another one, or the hall's events, its journal or
+/// What became of the first grant, by its reply; `None` where that is another one, or the hall's events, its journal or
 /// whether it halted aren't as they should be then.
 fn grant_of(hall: &Hall<MemorySink>, reply: &[u8]) -> Option<Grant> {
     let (found, events) = if reply == GRANTED.as_bytes() {
@@ -77,7 +77,7 @@ fn stays_halted(alloc: Global, hall: &mut Hall<MemorySink>, is_there: bool) -> b
 }
 
 /// Greets ana and has her move node 1, for which the nth request for memory is refused, if there is one: what became of
-/// the grant, and whether none was refused; none where the reply or the hall is otherwise, or a halt doesn't last.
+/// the grant, and whether none was refused; `None` where the reply or the hall is otherwise, or a halt doesn't last.
 fn grant_in(
     alloc: Global,
     hall: &mut Hall<MemorySink>,
@@ -92,7 +92,7 @@ fn grant_in(
 }
 
 /// What became, in a hall of its own, of a grant for which the nth request for memory is refused, if there is one, and
-/// whether none was refused; none where the reply or the hall isn't as it should be.
+/// whether none was refused; `None` where the reply or the hall isn't as it should be.
 fn grant_in_new_hall(
     alloc: Global,
     nth: usize,
@@ -103,7 +103,7 @@ fn grant_in_new_hall(
     Ok(grant_in(alloc, &mut hall, nth, is_there))
 }
 
-/// How often a grant was refused, and how often it halted the hall, until it was made; none where something else came
+/// How often a grant was refused, and how often it halted the hall, until it was made; `None` where something else came
 /// of it.
 fn told_of_grants(alloc: Global, is_there: bool) -> Result<Option<(usize, usize)>, Fail> {
     let (mut refused, mut halted) = (0usize, 0usize);
@@ -118,8 +118,9 @@ fn told_of_grants(alloc: Global, is_there: bool) -> Result<Option<(usize, usize)
     Ok(None)
 }
 
-/// Fails where a refused request of the sink doesn't halt a hall, just once, any other refused one changes the hall,
-/// or, where the library is there, no other is refused.
+/// With the library there, fails where, of a grant's requests for memory, not exactly one, the sink's, halts the hall
+/// when it is refused, another one changes the hall, or there is no other; without it, where the grant isn't made at
+/// once.
 #[test]
 fn refusals_of_a_sink_halt(rt: HostRuntime) -> Result<(), Fail> {
     let is_there = is_there(rt.alloc());

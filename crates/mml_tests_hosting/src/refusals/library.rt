@@ -42,7 +42,8 @@ pub fn is_there(alloc: Global) -> bool {
     was_none_made(alloc)
 }
 
-/// Whether no request was refused since `refuse` was called, the library being there or not. From here on none is.
+/// Whether no request for memory was refused since `refuse` was called; `true` too where the library isn't there. From
+/// here on none is refused.
 pub fn was_none_refused(alloc: Global, is_there: bool) -> bool {
     let was_none = !is_there || is_granted(alloc, MET);
     refuse(alloc, 0);

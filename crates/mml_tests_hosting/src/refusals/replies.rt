@@ -109,7 +109,7 @@ fn is_written(
     told.is_ok() && out.strip_suffix(b"\n") == Some(wanted.as_bytes())
 }
 
-/// Whether the reply of each row is written without memory.
+/// Whether the reply to the request of each row is the row's, and is written without more memory than `out` has.
 fn are_written(
     alloc: Global,
     hall: &mut Hall<NullSink>,
@@ -124,7 +124,8 @@ fn are_written(
     true
 }
 
-/// Whether the replies to a move of each node but the last are written without memory.
+/// Whether the replies to a move of each node but the last grant it, and are written without more memory than `out`
+/// has.
 fn are_moves_written(
     alloc: Global,
     hall: &mut Hall<NullSink>,

@@ -53,6 +53,7 @@ impl Visit<MemorySink> for Asked {
     /// wanted, and a view answered, all without memory.
     type Told = bool;
 
+    // Asks through the first seat for the first and the second act, for each of them once more, and for views.
     fn visit<H: House, R: Wait>(self, seats: &mut Pair<'_, MemorySink, H, R>) -> bool {
         let (seat, is_there) = (&mut seats.one, self.is_there);
         let first = seat.ask(asker(1), &act(1));
@@ -68,7 +69,7 @@ impl Visit<MemorySink> for Asked {
 
 /// Whether what is asked after a first act that is granted takes no memory, in a house over the path of three with
 /// this line as its limit of events and a sink that fails at this put, if at any, and the second act gets the wanted
-/// refusal; none where there were fewer than two windows. `is_there`: whether the library that counts is.
+/// refusal; `None` where there were fewer than two windows. `is_there`: whether the library that counts is.
 fn takes_none_after_first<R: Wait>(
     rt: &R,
     alloc: Global,

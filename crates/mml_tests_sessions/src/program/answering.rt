@@ -103,8 +103,8 @@ const ROWS: &[Row] = &[
     (BYE, 1000, 100, 100, None, LEFT, 1000),
 ];
 
-/// The fault by which a script over the built-in lab ends, none where it ends well; what is replied goes to the
-/// writer. It is an error where that lab isn't read.
+/// The fault by which a script over the built-in lab ends, `None` where it ends well; what is replied goes to the
+/// writer. An error (`Fail`) where that lab isn't read.
 fn fault_of(alloc: Global, script: &str, writer: &mut FakeWriter) -> Result<Option<Fault>, Fail> {
     let lab = read_lab(alloc, BUILT_IN.as_bytes())?;
     let mut reader = script.as_bytes();

@@ -14,11 +14,11 @@ use std::thread::Threads;
 /// The number under which the first put is held, beside those of three sessions.
 const PUT: u8 = 4;
 
-/// How often the put looks round once the second session is about to ask.
+/// How often the first put lets other threads run once the second session is about to ask and the third was answered.
 const TURNS: u64 = 100_000;
 
-/// The second and the third session wait with their second line for the put, and that for the second one's
-/// line and for the third one's reply.
+/// The second and the third session wait at their second line until the first put has begun, and the put waits there
+/// until the second session has come to its second line and the third to its second reply.
 const HOLDS: &[Hold] = &[
     (2, 2, PUT, 1),
     (3, 2, PUT, 1),
@@ -26,7 +26,7 @@ const HOLDS: &[Hold] = &[
     (PUT, 0, 3, 4),
 ];
 
-/// Takes all that it is given, the first time once all are there.
+/// Takes all that it is given; the first put is held as `HOLDS` says, and then for `TURNS` turns of other threads.
 #[derive(Drop)]
 struct Slow<'a> {
     bytes: Vec<u8>,
@@ -42,7 +42,7 @@ impl<'a> Sink for Slow<'a> {
     ghost failures = { λ s. s.failures };
 
     // Takes all bytes; the first put does so once the second session has its second line and the third one its second
-    // reply, and after a while more. Where memory runs out, it fails.
+    // reply, and after a while more. Where memory runs out, it fails and counts that.
     fn put(&mut self, bytes: &[u8]) -> Result<usize, SinkFault> {
         if self.bytes.is_empty() {
             self.steps.come(PUT, Point::Line);

@@ -13,7 +13,7 @@ pub type Hold = (u8, u64, u8, u64);
 pub enum Holds<'a> {
     /// At each step until all have come to it.
     Together,
-    /// Each of these.
+    /// Where one of these holds says, as long as it says.
     Each(&'a [Hold]),
 }
 
@@ -44,7 +44,7 @@ impl<'a> Steps<'a> {
         })
     }
 
-    /// The count of the steps that a connection, from 1 on, has come to; none where there are fewer connections.
+    /// The count of the steps that a connection, from 1 on, has come to; `None` where there are fewer connections.
     fn come_of(&self, connection: u8) -> Option<&AtomicU64> {
         self.steps.get(usize::from(connection.saturating_sub(1)))
     }
@@ -68,7 +68,7 @@ impl<'a> Steps<'a> {
         }
     }
 
-    /// Waits at a step of a connection as the holds say that are for it.
+    /// Waits at a step of a connection as each hold says that names this connection and step, one after another.
     fn hold_each(&self, holds: &[Hold], connection: u8, step: u64) {
         for (held, at, other, wanted) in holds.iter() {
             if *held == connection && *at == step {
@@ -99,8 +99,9 @@ impl<'a> Steps<'a> {
                 .all(|come| come.load(Ordering::SeqCst) == steps)
     }
 
-    /// Counts the next step of a connection, notes where it is a line instead of a reply, or a reply instead
-    /// of a line, and waits as long as the connection is held there.
+    /// Counts the next step of a connection, notes where it is a line instead of a reply, or a reply instead of a
+    /// line, and waits as long as the connection is held there. Where there is no such connection, no step is counted,
+    /// and its step is `u64::MAX`.
     pub fn come(&self, connection: u8, point: Point) {
         let step = match self.come_of(connection) {
             Some(come) => come.fetch_add(1, Ordering::SeqCst),

@@ -10,13 +10,15 @@ use std::test::Fail;
 
 const HELLO: &str = r#"{"do":"hello","name":"tess","key":"chalk"}"#;
 
+// The reply to `HELLO`.
 const WELCOME: &str = "{\"ok\":\"hello\",\"who\":\"tess\"}\n";
 
+// The reply to the teacher's look at node 9 at the beginning of a run over `PAIR`, by hand.
 const LOOK: &str =
     "{\"at\":0,\"chosen\":null,\"m\":false,\"near\":[{\"m\":false,\"node\":5,\"p\":3}],\"node\":9,\"ok\":\"look\",\"p\":null,\"rule\":null}\n";
 
-/// The line of the reply to a request on the first connection, its newline with it; nothing where the hall's lab has no
-/// connection.
+/// The line of the reply to a request on the first connection, its newline with it; an empty list where the hall's lab
+/// has no connection.
 fn answer(alloc: Global, hall: &mut Hall<NullSink>, line: &str) -> Result<Vec<u8>, Fail> {
     let mut out = Vec::with_capacity(alloc, REPLY_ROOM)?;
     if hall.lab().sessions() < 1 {

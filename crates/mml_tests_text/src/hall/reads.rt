@@ -58,7 +58,8 @@ fn first_untold_read(alloc: Global) -> Result<Option<usize>, Fail> {
     Ok(None)
 }
 
-// How many of 600 byes are answered, and what comes of them in reads of a whole buffer.
+// How many of 600 byes, of 15 bytes each, are answered, and what comes of them in reads of a whole buffer, of 4,096
+// bytes.
 const BUFFERS: [(usize, End); 5] = [
     (0, (0, FAILED, 9000)),
     (273, (1, FAILED, 4904)),

@@ -27,8 +27,8 @@ struct Asker<'a> {
 }
 
 impl<'a> Read for Asker<'a> {
-    // Gives what fits of the next line, 0 bytes at the end; `is_late` is set where not each line before has its reply
-    // written, or bytes of replies aren't flushed.
+    // Gives what fits of the next line, and drops the rest of it; 0 bytes at the end. Sets `is_late` where not each
+    // line before has its reply written, or bytes of replies aren't flushed.
     fn read(&mut self, buf: &mut [u8]) -> io::Result<usize> {
         if self.line.unflushed.get() > 0 || self.line.replies.get() != self.reads {
             self.is_late = true;
@@ -90,7 +90,7 @@ fn asked(alloc: Global, script: &str, replies: &str) -> Result<(bool, usize), Fa
     ))
 }
 
-/// How often a writer that was made patient was written to, and how often it was flushed.
+/// How often a writer that `FakeWriter::patient` made was written to, and how often it was flushed.
 fn calls(writer: &FakeWriter) -> (usize, usize) {
     (
         usize::MAX.saturating_sub(writer.good),

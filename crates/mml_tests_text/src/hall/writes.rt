@@ -65,7 +65,8 @@ fn tells_a_flush(alloc: Global, good: usize) -> Result<bool, Fail> {
     Ok(fault == Some(ScriptFault::Write { written: 0 }) && is_front && is_unread)
 }
 
-/// The first number of good flushes, below four, for which `tells_a_flush` is false; `None` where there is none.
+/// The first number of good flushes below four, which is fewer than the script takes, for which `tells_a_flush` is
+/// false; `None` where there is none.
 fn first_untold_flush(alloc: Global) -> Result<Option<usize>, Fail> {
     for good in 0..4 {
         if !tells_a_flush(alloc, good)? {

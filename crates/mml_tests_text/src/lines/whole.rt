@@ -93,7 +93,8 @@ const PUTS: &[(usize, usize, usize)] = &[
     (200, 7, 2001),
 ];
 
-/// The first row of `PUTS` for which `puts` is false, over writers that refuse as `refusal` says; `None` where none is.
+/// The first row of `PUTS` for which `puts` is false over a writer that refuses as `refusal` says; `None` where there
+/// is none.
 fn first_other_put(alloc: Global, refusal: Refusal) -> Result<Option<usize>, Fail> {
     for (row, (times, step, good)) in PUTS.iter().enumerate() {
         let text = "0123456789".repeat(alloc, *times)?;
