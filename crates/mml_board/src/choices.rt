@@ -87,6 +87,7 @@ impl Choices {
         requires { node < length self.old }
         ensures { self.new ≡ slice_set self.old node rule }
     {
+        // By reference: a value with a rank inside isn't copied by the toolchain where it is used again.
         let rule = &rule;
         self.rules[node.index() as usize] = *rule;
         self.nodes = with_or_without(self.nodes, node, rule.is_some());

@@ -11,7 +11,7 @@ use mml_rules::{Network, Regs, Scene};
 use std::alloc::Global;
 use std::marker::Model;
 
-/// A network. Contracts see it alone; the rows only make looks at it quick.
+/// A network with rows of bits beside it. Contracts see the network alone; the rows only make looks at it quick.
 #[derive(Debug, Drop)]
 pub struct IndexedNetwork {
     network: Network,
@@ -49,21 +49,23 @@ impl Scene for IndexedNetwork {
 
     /// Whether some neighbour points at the node: its row of suitors isn't empty.
     fn has_suitor(&self, node: Rank) -> bool {
+        // By what this call ensures, the network is lawful.
         let _size = self.network.size();
         !is_empty(self.suitors[node.index() as usize])
     }
 
-    /// The neighbour that a seduction of the node would choose, the greatest of its candidates; `None` where there are
-    /// none.
+    /// The neighbour that a seduction of the node would choose, the greatest of its candidates; `None` where it has no
+    /// candidate.
     #[tactic(auto, using(crate::proofs::RowsLemmas::greatest_told))]
     fn greatest_candidate(&self, node: Rank) -> Option<Rank> {
+        // By what this call ensures, the network is lawful.
         let _size = self.size();
         self.candidates(node).greatest()
     }
 }
 
 impl IndexedNetwork {
-    /// A copy of the network, with its rows.
+    /// A copy of the network, with the rows that its registers give.
     pub fn new(alloc: Global, network: &Network) -> Result<IndexedNetwork, Memory>
         ensures { IfOk result (λ indexed. indexed ≡ network.now) }
     {
@@ -73,6 +75,7 @@ impl IndexedNetwork {
         let mut believing = NodeSet::empty();
         for index in 0..network.size() {
             let node = Rank::at(index);
+            // By reference: a value with a rank inside isn't copied by the toolchain where it is used again.
             let registers = &network.registers(node);
             put_suitor(&mut suitors, registers.p, node, true);
             free = with_or_without(free, node, registers.p.is_none());
@@ -106,6 +109,7 @@ impl IndexedNetwork {
         ensures { (j : ℕ) → set.contains result j ≡
             is_candidate (configuration_of self.now) node j }
     {
+        // By what this call ensures, the network is lawful.
         let _size = self.network.size();
         let free_neighbours = self.network.neighbours(node).both(self.free);
         let unmarried = free_neighbours.without(self.believing);
@@ -119,7 +123,9 @@ impl IndexedNetwork {
             set.contains (neighbours_at self.old.neighbours node) j ≡ true }
         ensures { self.new ≡ with_registers self.old node registers }
     {
+        // By what this call ensures, the network is lawful.
         let _size = self.network.size();
+        // By reference: a value with a rank inside isn't copied by the toolchain where it is used again.
         let registers = &registers;
         let from = self.network.registers(node).p;
         move_suitor(&mut self.suitors, node, from, registers.p);
@@ -138,7 +144,7 @@ impl IndexedNetwork {
         self.network.link(a, b);
     }
 
-    /// Takes the link between two nodes away, and the pointers over it.
+    /// Takes the link between two nodes away, and the pointers over it: these first, by calls that keep the rows right.
     pub fn cut(&mut self, a: Rank, b: Rank)
         requires a { a < length self.old.registers }
         requires b { b < length self.old.registers }

@@ -5,11 +5,11 @@ use Rattle.std.specs.FinSet as set
 use Rattle.std.specs.FinSet.{FinSet}
 use Rattle.std.specs.Coded.{Coded, coded_ℕ}
 
--- the numbers below n that pass
+-- the numbers below n that the test is true of
 unfoldable pub those_below : ℕ → (ℕ → Bool) → FinSet nat_cmp
 those_below zero test = set.empty
 those_below (suc n) test = if test n then set.insert (those_below n test) n else those_below n test
 
--- how a set of ranks is stored
+-- the code by which a proof tells sets of ranks apart
 abbrev pub node_set_code : Coded (FinSet nat_cmp)
 node_set_code = set.code coded_ℕ

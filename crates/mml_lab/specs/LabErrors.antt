@@ -11,9 +11,10 @@ use Rattle.mml_lab.specs.Rosters.{name_twice}
 use Rattle.mml_lab.specs.Labs.{both_fault, ids_fault, forms_fault, no_owner_fault, owner_twice_fault, ends_fault, loops_fault, again_fault, pointers_fault}
 use Rattle.mml_lab.specs.Labs.{is_within}
 
--- which an error is, of a file that has all keys, each of its kind, in the order in which they are told: both keys for owners,
--- identifiers, names and keys, names that stand twice, owners that are no students, owners that are one twice, ends that are no nodes,
--- loops, links that stand twice, pointers, and the numbers of events, sessions and students
+-- the place of an error, from 0, in the order in which errors are told of a file that has all keys, each of its kind:
+-- both keys for owners, identifiers, names and keys, names that stand twice, owners that are no students, two owners
+-- that are one, ends that are no nodes, loops, links that stand twice, pointers, and the numbers of events, of sessions
+-- and of students; 13 for any other error
 abbrev pub order_of : LabFault → ℕ
 order_of (fault.BothOwners i) = 0
 order_of (fault.Id f) = 1
@@ -30,7 +31,7 @@ order_of (fault.Limit key.Sessions) = 11
 order_of (fault.Limit key.Student) = 12
 order_of _ = 13
 
--- for each kind of error, in that order, the first one that the file has, if it has one
+-- for each kind of error, in the order of `order_of`, the first one that the file has, if it has one
 abbrev pub errors_of : RawSpec → List (Option LabFault)
 errors_of raw =
     both_fault raw.nodes

@@ -81,43 +81,43 @@ points_at_unlinked links node = option_map_or (λ p. not (is_linked links node.i
 abbrev pub is_within : ℕ → ℤ → Bool
 is_within greatest n = nat_lt 0 (number_of n) && nat_le (number_of n) greatest
 
--- a node has both keys, `owner` and `owners`
+-- the error of the first node with both keys, `owner` and `owners`, if there is one
 unfoldable pub both_fault : List NodeSpec → Option LabFault
 both_fault nodes = option_map fault.BothOwners (position (λ node. node.both) nodes)
 
--- the nodes' identifiers are no table
+-- the first error that keeps the nodes' identifiers from being a table, if there is one
 unfoldable pub ids_fault : List NodeSpec → Option LabFault
 ids_fault nodes = option_map fault.Id (id_fault (file_ids nodes))
 
--- a name or a key isn't of its form, the teacher's at index 0
+-- the error of the first account whose name or key isn't of its form, if there is one; the teacher's is at index 0
 unfoldable pub forms_fault : List Account → Option LabFault
 forms_fault accounts = option_map fault.Name (position (λ a. not (is_account a)) accounts)
 
--- some owner is no student
+-- the error of the first node with an owner who is no student, if there is one
 unfoldable pub no_owner_fault : List Account → List NodeSpec → Option LabFault
 no_owner_fault students nodes = option_map fault.NoOwner (position (lacks_owner students) nodes)
 
--- both owners of a node are one
+-- the error of the first node whose two owners are one student, if there is one
 unfoldable pub owner_twice_fault : List NodeSpec → Option LabFault
 owner_twice_fault nodes = option_map fault.OwnerTwice (position (λ node. are_one_twice node.owners) nodes)
 
--- an end of a link is no node
+-- the error of the first link with an end that is no node, if there is one
 unfoldable pub ends_fault : List NodeSpec → List (ℤ × ℤ) → Option LabFault
 ends_fault nodes links = option_map fault.LinkEnd (position (lacks_end nodes) links)
 
--- both ends of a link are one node
+-- the error of the first link whose ends are one node, if there is one
 unfoldable pub loops_fault : List (ℤ × ℤ) → Option LabFault
 loops_fault links = option_map fault.Loop (position is_loop links)
 
--- a link joins what an earlier one joins
+-- the error of the first link that joins what an earlier one joins, if there is one
 unfoldable pub again_fault : List (ℤ × ℤ) → Option LabFault
 again_fault links = option_map fault.LinkTwice (first_below (is_link_again links) (length links))
 
--- a node points at one that isn't its neighbour
+-- the error of the first node that points at one that isn't its neighbour, if there is one
 unfoldable pub pointers_fault : List (ℤ × ℤ) → List NodeSpec → Option LabFault
 pointers_fault links nodes = option_map fault.BadPointer (position (points_at_unlinked links) nodes)
 
--- the error, if there is one, as the end of a step
+-- a step that ends in the error, if there is one
 abbrev pub unless : Option LabFault → Result (Unit {0}) LabFault
 unless fault = unless_fault fault tt
 
@@ -163,16 +163,16 @@ checked raw = do
   unless (pointers_fault raw.links raw.nodes)
   limited raw.events raw.sessions (length raw.students)
 
--- the error that ended the steps
+-- the error that ended the steps, if one did
 abbrev pub error_of : {A E : Type 0} → Result A E → Option E
 error_of (Ok x) = None
 error_of (Err e) = Some e
 
--- the first error of a file
+-- the first error of a file, if it has one
 abbrev pub lab_fault : RawSpec → Option LabFault
 lab_fault raw = error_of (checked raw)
 
--- the node of the file with that identifier
+-- the first node of the file with that identifier, if there is one
 abbrev pub node_with : List NodeSpec → ℕ → Option NodeSpec
 node_with nodes id = find (λ node. number_of node.id == id) nodes
 
@@ -196,7 +196,7 @@ owners_in students node = map (student_index students) node.owners
 abbrev pub registers_with : List ℕ → List NodeSpec → ℕ → Regs
 registers_with ids nodes id = option_map_or (registers_in ids) (node_with nodes id) no_regs
 
--- the owners of the node with that identifier
+-- the owners of the node with that identifier; none where there is no such node
 abbrev pub owners_with : List Account → List NodeSpec → ℕ → List ℕ
 owners_with students nodes id = option_map_or (owners_in students) (node_with nodes id) []
 

@@ -72,7 +72,7 @@ abbrev pub principal : RosterValue → List ℕ → List ℕ → Option Who
 principal r name key =
     if has_name_and_key name key r.teacher then Some who.Teacher else option_map who.Student (position (has_name_and_key name key) r.students)
 
--- the index of the student with that name
+-- the index of the student with that name, if there is one
 abbrev pub student_named : RosterValue → List ℕ → Option ℕ
 student_named r name = position (has_name name) r.students
 
@@ -90,7 +90,7 @@ abbrev pub IsPrincipal : RosterValue → Who → Type 0
 IsPrincipal r who.Teacher = Unit {0}
 IsPrincipal r (who.Student s) = s < length r.students
 
--- names and keys have their forms, no two have one name, and nodes are owned by students
+-- at most 256 students; names and keys have their forms, no two have one name, and nodes are owned by students
 pub record IsRoster (r : RosterValue) : Type 0 where
   pub few : length r.students ≤ MAX_STUDENTS
   pub formed : (w : Who) → IsPrincipal r w → IsTrue (is_account (account_of r w))

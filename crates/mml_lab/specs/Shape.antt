@@ -17,15 +17,15 @@ abbrev pub is_lab_memory : LabFault → Bool
 is_lab_memory fault.Memory = true
 is_lab_memory _ = false
 
--- the value under a key that has to be there
+-- the value under a key, or the error that the key is missing
 abbrev pub value_under : Key → List ℕ → Members → Result Data LabFault
 value_under at name members = ok_or (get_member name members) (fault.Missing at)
 
--- the value, if it is of the kind
+-- the value, if it is of the kind, or the error that it isn't
 abbrev pub of_kind : {A : Type 0} → Key → (Data → Option A) → Data → Result A LabFault
 of_kind at kind value = ok_or (kind value) (fault.WrongKind at)
 
--- the value under a key that has to be there, if it is of the kind
+-- the value under a key, or the error that the key is missing or that the value isn't of the kind
 abbrev pub needed : {A : Type 0} → Key → List ℕ → (Data → Option A) → Members → Result A LabFault
 needed at name kind members = value_under at name members >>= λ value. of_kind at kind value
 
@@ -48,12 +48,12 @@ abbrev pub each : {A : Type 0} → (Data → Result A LabFault) → Items → Re
 each f no_items = Ok []
 each f (item first rest) = f first >>= λ x. each f rest >>= λ xs. Ok (x ∷ xs)
 
--- one who takes part
+-- the name and the key of one who takes part
 pub record Account : Type 0 where
   pub name : List ℕ
   pub key : List ℕ
 
--- a name and a key
+-- the strings under `name` and `key` of a table; an error of the first names name_at, one of the second key_at
 unfoldable pub account_in : Key → Key → Members → Result Account LabFault
 account_in name_at key_at members = do
   name ← needed name_at (codes "name") as_str members

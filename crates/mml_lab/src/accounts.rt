@@ -33,14 +33,14 @@ fn are_name_bytes(bytes: &[u8]) -> bool
     bytes.iter().all(|byte| is_name_byte(*byte))
 }
 
-/// Whether the bytes have the form of a key: 1 to 64 that can be seen, and no space.
+/// Whether the bytes have the form of a key: 1 to 64, each a character of ASCII that can be seen; a space is none.
 fn is_key(key: &[u8]) -> bool
     ensures { result ≡ is_key key.now }
 {
     !key.is_empty() && key.len() as u64 <= MAX_KEY && are_graphic(key)
 }
 
-/// Whether each byte is a character of ASCII that can be seen.
+/// Whether each byte is a character of ASCII that can be seen, from 33 to 126.
 fn are_graphic(bytes: &[u8]) -> bool
     ensures { result ≡ list_all is_ascii_graphic bytes.now }
 {
@@ -55,7 +55,7 @@ fn is_account(account: &Account) -> bool
 }
 
 /// The index of the first account whose name or key isn't of its form, of the teacher (0) and the students (from 1);
-/// `None` where there is no such one.
+/// `None` where there is no such account.
 pub(crate) fn first_malformed(teacher: &Account, students: &[Account]) -> Option<usize>
     ensures { result ≡ position (λ a. not (is_account a))
         (account_view teacher.now ∷ map account_view students.now) }
@@ -69,7 +69,7 @@ pub(crate) fn first_malformed(teacher: &Account, students: &[Account]) -> Option
     }
 }
 
-/// The index, from 0, of the first student whose name or key isn't of its form; `None` where there is no such one.
+/// The index, from 0, of the first student whose name or key isn't of its form; `None` where there is none.
 fn first_malformed_student(students: &[Account]) -> Option<usize>
     ensures value { result ≡ position (λ a. not (is_account (account_view a))) students.now }
     ensures within { IfSome result (λ index. index < length students.now) }

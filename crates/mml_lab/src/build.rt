@@ -74,7 +74,7 @@ pub(crate) fn registers(
     Ok(found)
 }
 
-/// The registers of the node with an identifier; null and false where the file has none with it.
+/// The registers of the node with an identifier; null and false where the file has no such node.
 fn registers_with(ids: &IdTable, nodes: &[RawNode], id: u64) -> Regs
     ensures { result ≡ registers_with ids.now (map node_view nodes.now) id }
 {
@@ -123,7 +123,7 @@ pub(crate) fn owners(
     Ok(found)
 }
 
-/// The owners of the node with an identifier; none where the file has none with it.
+/// The owners of the node with an identifier; an empty list where the file has no such node.
 fn owners_with(
     alloc: Global,
     students: &IndexMap<String, String>,
@@ -141,7 +141,8 @@ fn owners_with(
     }
 }
 
-/// The students with the names in `names`, in order.
+/// The students with the names in `names`, in order. A name that no student has, which a checked file rules out, gives
+/// the first student.
 fn owners_in(
     alloc: Global,
     students: &IndexMap<String, String>,

@@ -23,14 +23,16 @@ use indexmap::IndexMap;
 use mml_ids::{IdFault, IdTable, NodeSet};
 use std::alloc::{AllocError, Global};
 
-/// The number itself, and 0 for a negative one, which no identifier and no limit is.
+/// The number itself, and 0 for a negative one: 0 is outside the range of an identifier, of the number of events and of
+/// that of sessions.
 pub(crate) fn number_of(number: i64) -> u64
     ensures { result ≡ number_of number }
 {
     u64::try_from(number).unwrap_or(0)
 }
 
-/// What is known of a file without an error: its nodes' identifiers, who takes part, and for each node its neighbours.
+/// What is known of a file without an error: its nodes and their identifiers, who takes part, for each node by rank its
+/// neighbours, and the limits of a run.
 #[derive(Drop)]
 pub struct Checked {
     pub ids: IdTable,
@@ -144,7 +146,8 @@ fn enrol(
     students_map(alloc, teacher, students)
 }
 
-/// Refuses an owner who is no student, and a node whose two owners are the same student.
+/// The error of the first node with an owner who is no student, else of the first whose two owners are one student;
+/// `Ok(())` where there is neither.
 #[tactic(auto, unfolding(crate::specs::Labs::owned))]
 fn check_owners(students: &IndexMap<String, String>, nodes: &[RawNode]) -> Result<(), LabFault>
     ensures { Gives is_lab_memory (λ u. u) result
@@ -154,7 +157,7 @@ fn check_owners(students: &IndexMap<String, String>, nodes: &[RawNode]) -> Resul
     unless(owner_twice_fault(nodes))
 }
 
-/// How many students a file has.
+/// How many students a file has. The contract counts the accounts that the entries of the map stand for.
 fn count(students: &IndexMap<String, String>) -> usize
     ensures { result ≡ length (map entry_account students.now.entries) }
 {
@@ -189,7 +192,7 @@ fn first_with_both(nodes: &[RawNode]) -> Option<usize>
     nodes.iter().position(|node| node.both)
 }
 
-/// The table of the nodes' identifiers, or the error that keeps them from being one.
+/// The table of the nodes' identifiers, or the first error of the identifiers.
 fn id_table(alloc: Global, nodes: &[RawNode]) -> Result<IdTable, LabFault>
     ensures tests { Gives is_lab_memory (λ _. tt {0}) result
         (unless (ids_fault (map node_view nodes.now))) }

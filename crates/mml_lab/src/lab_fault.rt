@@ -44,13 +44,13 @@ pub enum LabFault {
     WrongKind(Key),
     /// A node has both keys, `owner` and `owners`.
     BothOwners(usize),
-    /// The nodes' identifiers are none of one network; never out of memory.
+    /// The nodes' identifiers can't be those of one network, for the reason inside, which is never `IdFault::Memory`.
     Id(IdFault),
     /// A name or a key isn't of its form.
     Name(usize),
     /// A name stood before: the index is that of the later one.
     NameTwice(usize),
-    /// Some owner of a node is no student.
+    /// A name among a node's owners is no student's.
     NoOwner(usize),
     /// Both owners of a node are one student.
     OwnerTwice(usize),

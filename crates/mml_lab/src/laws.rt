@@ -35,7 +35,7 @@ pub fn names_and_students_are_inverse()
         student_named r name ≡ Some s → name_of r (Who.Student s) ≡ name }
 {}
 
-/// The tests of names and keys are true exactly of those of the form.
+/// The tests of names and of keys are true exactly of the names and keys that have their forms.
 pub fn forms_mean_facts()
     ensures name { (name : List ℕ) → (is_name name ≡ true) ↔ IsName name }
     ensures key { (key : List ℕ) → (is_key key ≡ true) ↔ IsKey key }

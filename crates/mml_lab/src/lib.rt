@@ -24,7 +24,7 @@ pub use who::{Student, Who};
 /// How many events a run may have at most.
 pub const MAX_EVENTS: u64 = 100_000;
 
-/// How many connections there may be at most.
+/// How many connections there may be at once, at most.
 pub const MAX_SESSIONS: u64 = 16;
 
 /// How many students a lab may have at most.

@@ -33,6 +33,7 @@ pub(crate) fn neighbours(
         (linked (map node_view nodes.now) links.now) }
     ensures rows { IfOk result (λ rows. rows.items ≡ map (neighbours_of ids.now links.now) ids.now) }
 {
+    // By what this call ensures, the identifiers are a table.
     let _count = ids.len();
     unless(ends_fault(nodes, links))?;
     unless(loops_fault(links))?;
@@ -65,7 +66,8 @@ fn lacks_end(nodes: &[RawNode], link: (i64, i64)) -> bool
     !(is_node(nodes, a) && is_node(nodes, b))
 }
 
-/// Whether an identifier is that of one of the file's nodes.
+/// Whether an identifier is that of one of the file's nodes. The contract speaks of the nodes as definitions have them,
+/// that of `has_id` of the nodes as they were read.
 fn is_node(nodes: &[RawNode], id: i64) -> bool
     ensures { result ≡ is_node (map node_view nodes.now) id }
 {
@@ -113,6 +115,7 @@ fn rows(alloc: Global, ids: &IdTable, links: &[(i64, i64)]) -> Result<Vec<NodeSe
 {
     let mut rows = vec![in alloc; NodeSet::empty(); ids.len() as usize]?;
     for index in 0..links.len() {
+        // By reference: a value with a rank inside isn't copied by the toolchain where it is used again.
         let a = &rank_at(ids, links[index].0);
         let b = &rank_at(ids, links[index].1);
         if are_near(&rows, *a, *b) {
@@ -135,7 +138,7 @@ fn are_near(rows: &[NodeSet], a: Option<Rank>, b: Option<Rank>) -> bool
     }
 }
 
-/// The rank of the node with an identifier, if there is one.
+/// The rank of the node with an identifier; `None` where there is no such node.
 #[tactic(auto, unfolding(crate::specs::inside::Checks::rank_at))]
 pub(crate) fn rank_at(ids: &IdTable, id: i64) -> Option<Rank>
     ensures rank { result ≡ rank_at ids.now id }

@@ -55,7 +55,7 @@ fn find<'a>(table: &'a Table, name: &str) -> Option<&'a Value>
     table.get(name)
 }
 
-/// What stands under a key of a table, or the error that the key isn't there.
+/// What stands under the key `name` of a table; else the error that the key, told as `key`, isn't there.
 fn value_at<'a>(table: &'a Table, name: &str, key: Key) -> Result<&'a Value, LabFault>
     ensures { Gives is_lab_memory (λ v. view v.now) result (value_under key name.now (table_view table.now)) }
 {
@@ -65,7 +65,7 @@ fn value_at<'a>(table: &'a Table, name: &str, key: Key) -> Result<&'a Value, Lab
     }
 }
 
-/// The integer that a value is, or the error that it is of another kind.
+/// The integer that a value is; else the error that what stands under `key` is of another kind.
 fn integer(value: &Value, key: Key) -> Result<i64, LabFault>
     ensures { Gives is_lab_memory (λ z. z) result (of_kind key as_integer (view value.now)) }
 {
@@ -75,7 +75,7 @@ fn integer(value: &Value, key: Key) -> Result<i64, LabFault>
     }
 }
 
-/// The truth value that a value is, or the error that it is of another kind.
+/// The truth value that a value is; else the error that what stands under `key` is of another kind.
 fn boolean(value: &Value, key: Key) -> Result<bool, LabFault>
     ensures { Gives is_lab_memory (λ b. b) result (of_kind key as_bool (view value.now)) }
 {
@@ -85,7 +85,7 @@ fn boolean(value: &Value, key: Key) -> Result<bool, LabFault>
     }
 }
 
-/// The string that a value is, or the error that it is of another kind.
+/// The string that a value is; else the error that what stands under `key` is of another kind.
 fn text(alloc: Global, value: &Value, key: Key) -> Result<String, LabFault>
     ensures { Gives is_lab_memory string_bytes result (of_kind key as_str (view value.now)) }
 {
@@ -95,7 +95,7 @@ fn text(alloc: Global, value: &Value, key: Key) -> Result<String, LabFault>
     }
 }
 
-/// The table that a value is, or the error that it is of another kind.
+/// The table that a value is; else the error that what stands under `key` is of another kind.
 fn table_of(value: &Value, key: Key) -> Result<&Table, LabFault>
     ensures { Gives is_lab_memory (λ t. table_view t.now) result (of_kind key as_table (view value.now)) }
 {
@@ -105,7 +105,7 @@ fn table_of(value: &Value, key: Key) -> Result<&Table, LabFault>
     }
 }
 
-/// The array that a value is, or the error that it is of another kind.
+/// The array that a value is; else the error that what stands under `key` is of another kind.
 fn array_of(value: &Value, key: Key) -> Result<&Array, LabFault>
     ensures { Gives is_lab_memory (λ t. array_view t.now) result (of_kind key as_array (view value.now)) }
 {
@@ -115,7 +115,7 @@ fn array_of(value: &Value, key: Key) -> Result<&Array, LabFault>
     }
 }
 
-/// The integer under a key that has to be there; else the error that the key is missing, or of another kind.
+/// The integer under the key `name`; else the error that the key, told as `key`, is missing or of another kind.
 fn integer_at(table: &Table, name: &str, key: Key) -> Result<i64, LabFault>
     ensures { Gives is_lab_memory (λ z. z) result
         (needed key name.now as_integer (table_view table.now)) }
@@ -123,7 +123,7 @@ fn integer_at(table: &Table, name: &str, key: Key) -> Result<i64, LabFault>
     integer(value_at(table, name, key)?, key)
 }
 
-/// The string under a key that has to be there; else the error that the key is missing, or of another kind.
+/// The string under the key `name`; else the error that the key, told as `key`, is missing or of another kind.
 fn text_at(alloc: Global, table: &Table, name: &str, key: Key) -> Result<String, LabFault>
     ensures { Gives is_lab_memory string_bytes result
         (needed key name.now as_str (table_view table.now)) }
@@ -131,7 +131,7 @@ fn text_at(alloc: Global, table: &Table, name: &str, key: Key) -> Result<String,
     text(alloc, value_at(table, name, key)?, key)
 }
 
-/// The table under a key that has to be there; else the error that the key is missing, or of another kind.
+/// The table under the key `name`; else the error that the key, told as `key`, is missing or of another kind.
 fn table_at<'a>(table: &'a Table, name: &str, key: Key) -> Result<&'a Table, LabFault>
     ensures { Gives is_lab_memory (λ t. table_view t.now) result
         (needed key name.now as_table (table_view table.now)) }
@@ -139,7 +139,7 @@ fn table_at<'a>(table: &'a Table, name: &str, key: Key) -> Result<&'a Table, Lab
     table_of(value_at(table, name, key)?, key)
 }
 
-/// The array under a key that has to be there; else the error that the key is missing, or of another kind.
+/// The array under the key `name`; else the error that the key, told as `key`, is missing or of another kind.
 fn array_at<'a>(table: &'a Table, name: &str, key: Key) -> Result<&'a Array, LabFault>
     ensures { Gives is_lab_memory (λ t. array_view t.now) result
         (needed key name.now as_array (table_view table.now)) }
@@ -184,7 +184,8 @@ fn students(alloc: Global, list: &Array) -> Result<Vec<Account>, LabFault>
     Ok(found)
 }
 
-/// The integer under a key, `None` where the key is left out; or the error that it is of another kind.
+/// The integer under the key `name`, `None` where the key is left out; else the error that the key, told as `key`,
+/// is of another kind.
 fn optional_integer(table: &Table, name: &str, key: Key) -> Result<Option<i64>, LabFault>
     ensures { Gives is_lab_memory (λ z. z) result
         (optional_of key as_integer (get_member name.now (table_view table.now))) }
@@ -195,7 +196,8 @@ fn optional_integer(table: &Table, name: &str, key: Key) -> Result<Option<i64>, 
     }
 }
 
-/// The truth value under a key, `None` where the key is left out; or the error that it is of another kind.
+/// The truth value under the key `name`, `None` where the key is left out; else the error that the key, told as `key`,
+/// is of another kind.
 fn optional_boolean(table: &Table, name: &str, key: Key) -> Result<Option<bool>, LabFault>
     ensures { Gives is_lab_memory (λ z. z) result
         (optional_of key as_bool (get_member name.now (table_view table.now))) }
@@ -206,7 +208,8 @@ fn optional_boolean(table: &Table, name: &str, key: Key) -> Result<Option<bool>,
     }
 }
 
-/// The string under a key, `None` where the key is left out; or the error that it is of another kind.
+/// The string under the key `name`, `None` where the key is left out; else the error that the key, told as `key`,
+/// is of another kind.
 fn optional_text(
     alloc: Global,
     table: &Table,
@@ -222,7 +225,7 @@ fn optional_text(
     }
 }
 
-/// The strings of an array, in order; or the error that an element is of another kind.
+/// The strings of an array, in order; else the error that an element of what stands under `key` is of another kind.
 fn texts(alloc: Global, list: &Array, key: Key) -> Result<Vec<String>, LabFault>
     ensures { Gives is_lab_memory (λ v. map string_bytes v.items) result
         (each (of_kind key as_str) (array_view list.now)) }
@@ -257,7 +260,7 @@ fn optional_names(alloc: Global, table: &Table) -> Result<Option<Vec<String>>, L
     }
 }
 
-/// The names under `owners`, or else the one under `owner`; an error where neither key is there.
+/// The names under `owners`, or else the one under `owner`; where neither is there, the error that `owner` is missing.
 fn owner_names(
     alloc: Global,
     owner: Option<String>,

@@ -31,7 +31,7 @@ pub struct Roster {
     students: IndexMap<String, String>,
     // by rank
     owners: Vec<Vec<Student>>,
-    // by student, and an empty row past them: the ranks of the nodes that it owns
+    // by student: the ranks of the nodes that the student owns; past the last student an empty row
     owned: Vec<NodeSet>,
 }
 
@@ -98,8 +98,8 @@ impl Roster {
         }
     }
 
-    /// The nodes that `who` owns, none for the teacher or a student past the last. Each student takes the same steps,
-    /// whatever is owned.
+    /// The nodes that `who` owns, none for the teacher or a student past the last. For every student the steps are the
+    /// same, whatever the student owns.
     pub fn owned(&self, who: Who) -> NodeSet
         ensures { (i : ℕ) → set.contains result i ≡ owns self.now who i }
     {
@@ -134,7 +134,7 @@ impl Roster {
         }
     }
 
-    /// The student with the name `name`; `None` where there is no such one.
+    /// The student with the name `name`; `None` where no student has it.
     pub fn student_named(&self, name: &str) -> Option<Student>
         ensures value { result ≡ student_named self.now name.now }
         ensures member { IfSome result (λ s. s < length self.now.students) }
@@ -157,8 +157,9 @@ fn are_both(name: &str, key: &str, known: &str, secret: &str) -> bool
     is_named & is_keyed
 }
 
-/// The index of the student with that name and key, from 0 in the file's order; `None` where there is no such one. Each
-/// student's name and key are compared, so that a student's name takes the steps of an unknown one of its length.
+/// The index of the student with that name and key, from 0 in the file's order; `None` where there is no such student.
+/// Each student's name and key are compared, so that a student's name takes the same steps as an unknown name of its
+/// length.
 fn student_with(students: &IndexMap<String, String>, name: &str, key: &str) -> Option<usize>
     ensures value { result ≡
         position (has_name_and_key name.now key.now) (map entry_account students.now.entries) }
@@ -231,7 +232,7 @@ fn fill(
     Ok(())
 }
 
-/// Puts a name that the map doesn't have yet at its end, with its key.
+/// Puts a name that the map doesn't have yet, with its key, at the end of the map.
 fn append(found: &mut IndexMap<String, String>, name: String, key: String) -> Result<(), LabFault>
     requires { get string_eq found.old name ≡ None }
     ensures entries { OnOk result (found.new.entries ≡ found.old.entries ++ (name, key) ∷ []) }

@@ -110,7 +110,7 @@ fn has_same_owners(a: &Roster, b: &Roster, node: Rank) -> bool
     true
 }
 
-// The student with an index in the file's order.
+// The student with an index in the file's order, from 0, as one who takes part.
 fn student_at(index: u64) -> Who
     requires { index < 256 }
     ensures { result ≡ Who.Student index }

@@ -7,17 +7,17 @@ use Rattle.mml_rules.specs.declared.regs.Regs.{Regs}
 use Rattle.mml_rules.specs.Configuration.{holds}
 use Rattle.mml_rules.specs.Network.{neighbours_at, registers_at, with_neighbour, without_neighbour}
 
--- node among those that point at p, if p is a node
+-- the rows with the node among those that point at p; the same rows where p is null
 abbrev pub with_suitor : List (FinSet nat_cmp) → Option ℕ → ℕ → List (FinSet nat_cmp)
 with_suitor suitors None node = suitors
 with_suitor suitors (Some i) node = with_neighbour suitors i node
 
--- node not among those that point at p, if p is a node
+-- the rows with the node not among those that point at p; the same rows where p is null
 abbrev pub without_suitor : List (FinSet nat_cmp) → Option ℕ → ℕ → List (FinSet nat_cmp)
 without_suitor suitors None node = suitors
 without_suitor suitors (Some i) node = without_neighbour suitors i node
 
--- the rows of the ranks below n: for each node those that point at it, those that point at nobody, and those whose m is true
+-- the rows of the ranks below n: for each node those that point at it, those that point at none, and those with m true
 pub record AreRows (registers : List Regs) (n : ℕ) (suitors : List (FinSet nat_cmp)) (free believing : FinSet nat_cmp) : Type 0 where
   pub count : length suitors ≡ length registers
   pub pointing : (i j : ℕ) → i < length registers → set.contains (neighbours_at suitors i) j ≡ (nat_lt j n && holds (registers_at registers j).p i)

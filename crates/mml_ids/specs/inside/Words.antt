@@ -15,7 +15,7 @@ bit_in words k = bit_at (slice_index words (k / 64)) (k % 64) == 1
 unfoldable pub set_of : ℕ → List ℕ → FinSet nat_cmp
 set_of n words = those_below n (bit_in words)
 
--- the number below 2 ^ n with a one at each index that passes
+-- the number below 2 ^ n whose bits are ones at exactly the indices that the test is true of
 abbrev pub ones_at : ℕ → (ℕ → Bool) → ℕ
 ones_at zero test = 0
 ones_at (suc n) test = (if test n then 1 else 0) * 2 ^ n + ones_at n test

@@ -10,7 +10,7 @@ use Rattle.mml_lab.specs.Shape.{Account, NodeSpec}
 use Rattle.mml_lab.specs.Rosters.{with_owners}
 use Rattle.mml_lab.specs.Labs.{LabValue, number_of, registers_with, owners_with}
 
--- the rank of the node that an integer of the file names
+-- the rank of the node that an integer of the file names, if it names one
 unfoldable pub rank_at : List ℕ → ℤ → Option ℕ
 rank_at ids z = rank_in ids (number_of z)
 
