@@ -108,7 +108,7 @@ fn check_parts(
     check_owners(&students, nodes)?;
     let neighbours = neighbours(alloc, &ids, nodes, links)?;
     unless(pointers_fault(links, nodes))?;
-    let (events, sessions) = limits(bounds, count(&students))?;
+    let (events, sessions) = limits(bounds, student_count(&students))?;
     Ok(Found {
         ids,
         students,
@@ -158,7 +158,7 @@ fn check_owners(students: &IndexMap<String, String>, nodes: &[RawNode]) -> Resul
 }
 
 /// How many students a file has. The contract counts the accounts that the entries of the map stand for.
-fn count(students: &IndexMap<String, String>) -> usize
+fn student_count(students: &IndexMap<String, String>) -> usize
     ensures { result ≡ length (map entry_account students.now.entries) }
 {
     students.len()

@@ -149,13 +149,13 @@ pub fn link_count(network: &Network) -> u64
 {
     let mut count = 0;
     for index in 0..network.size() {
-        count += links_below(network, Rank::at(index));
+        count += neighbours_below(network, Rank::at(index));
     }
     count
 }
 
 /// How many of the nodes with ranks below that of `node` are linked to it.
-fn links_below(network: &Network, node: Rank) -> u64
+fn neighbours_below(network: &Network, node: Rank) -> u64
     ensures count { result ≡ count_below node ((configuration_of network.now).linked node) }
     ensures few { result ≤ node }
 {

@@ -84,7 +84,7 @@ pub fn rule_on(
             if is_halted {
                 return Ok(Ruling::Journal);
             }
-            let done = board.done(&event);
+            let done = board.done_by(&event);
             Ok(Ruling::Granted { event, done })
         }
     }

@@ -1,7 +1,7 @@
 use Rattle.std.proofs.Common.{◌∙◌, sym}
 use Rattle.std.proofs.lemmas.List.{length-map}
 use Rattle.mml_lab.specs.inside.Raw.{entry_account}
-use Rattle.mml_lab.proofs.checks.count.Goals as goal
+use Rattle.mml_lab.proofs.checks.student_count.Goals as goal
 
 pub returns : goal.returns
 returns c = c.len.ensures.len ∙ sym (length-map c.args.students.now.entries entry_account)
