@@ -89,7 +89,7 @@ impl Roster {
             name: known,
             key: secret,
         } = &self.teacher;
-        if are_both(name, key, known.as_str(), secret.as_str()) {
+        if are_name_and_key(name, key, known.as_str(), secret.as_str()) {
             return Some(Who::Teacher);
         }
         match student_with(&self.students, name, key) {
@@ -148,7 +148,7 @@ impl Roster {
 }
 
 /// Whether name and key are the known name and its key. Both are compared, also where the name is another.
-fn are_both(name: &str, key: &str, known: &str, secret: &str) -> bool
+fn are_name_and_key(name: &str, key: &str, known: &str, secret: &str) -> bool
     ensures { result ≡
         has_name_and_key name.now key.now (record { name = known.now; key = secret.now }) }
 {
@@ -181,7 +181,7 @@ fn is_at(students: &IndexMap<String, String>, index: usize, name: &str, key: &st
         (slice_index_or (map entry_account students.now.entries) index no_account) }
 {
     match students.get_index(index) {
-        Some((known, secret)) => are_both(name, key, known.as_str(), secret.as_str()),
+        Some((known, secret)) => are_name_and_key(name, key, known.as_str(), secret.as_str()),
         None => unreachable!(),
     }
 }
