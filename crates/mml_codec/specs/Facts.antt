@@ -34,7 +34,7 @@ pub data Fact : Type 0 where
 abbrev pub Fields : Type 0
 Fields = List (List ℕ × Fact)
 
--- the nodes of a set in rising order
+-- the nodes of a set that are among the first n, in rising order
 abbrev pub members : ℕ → FinSet nat_cmp → List ℕ
 members n s = filter (set.contains s) (range_with_len 0 n)
 
@@ -63,25 +63,25 @@ abbrev pub separated : List (List ℕ) → List ℕ
 separated [] = []
 separated (x ∷ xs) = x ++ flat_map (λ t. 44 ∷ t) xs
 
--- a node that is linked to the one that is looked at
+-- the object that tells of a node that is linked to the one that is looked at, as text
 unfoldable pub near_text : List ℕ → ℕ × Regs → List ℕ
 near_text ids n =
     concat (codes "{\"m\":" ∷ truth_text n.1.m ∷ codes ",\"node\":" ∷ node_text ids n.0 ∷ codes ",\"p\":" ∷ pointer_text ids n.1.p ∷ codes "}" ∷ [])
 
--- two nodes that point at each other
+-- the array that tells of two nodes that point at each other, as text
 unfoldable pub pair_text : List ℕ → ℕ × ℕ → List ℕ
 pair_text ids p = concat (codes "[" ∷ node_text ids p.0 ∷ codes "," ∷ node_text ids p.1 ∷ codes "]" ∷ [])
 
--- a privileged node with its rule
+-- the array that tells of a privileged node with its rule, as text
 unfoldable pub privileged_text : List ℕ → ℕ × Kind → List ℕ
 privileged_text ids n = concat (codes "[" ∷ node_text ids n.0 ∷ codes "," ∷ kind_text n.1 ∷ codes "]" ∷ [])
 
--- an open link with its witness and the rule there
+-- the array that tells of an open link with its witness and the rule there, as text
 unfoldable pub open_link_text : List ℕ → OpenLink → List ℕ
 open_link_text ids l =
     concat (codes "[" ∷ node_text ids l.a ∷ codes "," ∷ node_text ids l.b ∷ codes "," ∷ node_text ids l.node ∷ codes "," ∷ kind_text l.kind ∷ codes "]" ∷ [])
 
--- a list, before what follows
+-- the texts as a list in brackets, with commas between them, before what follows
 abbrev pub list_then : List (List ℕ) → List ℕ → List ℕ
 list_then texts rest = codes "[" ++ (separated texts ++ (codes "]" ++ rest))
 
@@ -102,7 +102,7 @@ fact_then ids (pairs ps) rest = list_then (map (pair_text ids) ps) rest
 fact_then ids (privileged ns) rest = list_then (map (privileged_text ids) ns) rest
 fact_then ids (open_links ls) rest = list_then (map (open_link_text ids) ls) rest
 
--- fields and the end of their object: these bytes stand before the first, a comma before each other
+-- fields and the closing brace: the bytes `first` stand before the first field, a comma before each other one
 abbrev pub fields_after : List ℕ → List ℕ → Fields → List ℕ
 fields_after ids first [] = codes "}"
 fields_after ids first (f ∷ fs) = first ++ (codes "\"" ++ (f.0 ++ (codes "\":" ++ fact_then ids f.1 (fields_after ids (codes ",") fs))))
@@ -139,15 +139,15 @@ near_keys ids n = (codes "m", boolean n.1.m) ∷ (codes "node", node_value ids n
 abbrev pub near_value : List ℕ → ℕ × Regs → Data
 near_value ids n = object_with (near_keys ids n)
 
--- two nodes that point at each other
+-- the array that tells of two nodes that point at each other
 abbrev pub pair_value : List ℕ → ℕ × ℕ → Data
 pair_value ids p = array (items_with (node_value ids p.0 ∷ node_value ids p.1 ∷ []))
 
--- a privileged node with its rule
+-- the array that tells of a privileged node with its rule
 abbrev pub privileged_value : List ℕ → ℕ × Kind → Data
 privileged_value ids n = array (items_with (node_value ids n.0 ∷ kind_value n.1 ∷ []))
 
--- an open link with its witness and the rule there
+-- the array that tells of an open link with its witness and the rule there
 abbrev pub open_link_value : List ℕ → OpenLink → Data
 open_link_value ids l = array (items_with (node_value ids l.a ∷ node_value ids l.b ∷ node_value ids l.node ∷ kind_value l.kind ∷ []))
 
@@ -172,11 +172,11 @@ fact_value ids (open_links ls) = array_of (open_link_value ids) ls
 abbrev pub keys_of : List ℕ → Fields → List (List ℕ × Data)
 keys_of ids fs = map (λ f. (f.0, fact_value ids f.1)) fs
 
--- a number beside identifiers and clauses fits 64 bits
+-- a count fits 64 bits; of any other fact nothing is wanted
 abbrev pub FitsCount : Fact → Type 0
 FitsCount (count n) = n < 2 ^ 64
 FitsCount _ = Unit {0}
 
--- each number beside identifiers and clauses fits 64 bits
+-- each count among the fields fits 64 bits
 abbrev pub HaveFittingCounts : Fields → Type 0
 HaveFittingCounts fs = AllByRecursion (λ f. FitsCount f.1) fs

@@ -32,7 +32,7 @@ abbrev pub admitted : Option Who → Greeting
 admitted None = denied denial.Unknown None
 admitted (Some who) = Answered (replies.Hello who) (Some who)
 
--- what comes of a request on a connection that is known as someone, or as no one yet
+-- what comes of a request on a connection that is known as someone, or as no one
 abbrev pub greeting : RosterValue → Option Who → Request → Greeting
 greeting roster None (requests.Hello name key) = admitted (principal roster name key)
 greeting roster (Some who) (requests.Hello name key) = denied denial.Greeted (Some who)

@@ -12,7 +12,7 @@ abbrev pub members_with : List (List ℕ × Data) → Members
 members_with [] = no_members
 members_with (m ∷ ms) = member m.0 m.1 (members_with ms)
 
--- each of a list, as a value
+-- the array of a list's items, each made a value
 abbrev pub array_of : {A : Type 0} → (A → Data) → List A → Data
 array_of f xs = array (items_with (map f xs))
 

@@ -127,7 +127,7 @@ text ids roster r = object_text ids (fields_of roster r)
 abbrev pub reply_line : List ℕ → RosterValue → Reply → List ℕ
 reply_line ids roster r = text ids roster r ++ 10 ∷ []
 
--- it has no list but a set of nodes, so its line needs no more than a fixed room
+-- the reply has no list but a set of nodes, so its line needs no more than a fixed room: not a look and not a report
 abbrev pub is_short : Reply → Bool
 is_short (replies.Look l) = false
 is_short (replies.Report r) = false

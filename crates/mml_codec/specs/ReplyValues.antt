@@ -13,7 +13,7 @@ use Rattle.mml_codec.specs.Replies.{fields_of}
 abbrev pub reply_value : List ℕ → RosterValue → Reply → Data
 reply_value ids roster r = object_with (keys_of ids (fields_of roster r))
 
--- the numbers of a reply beside identifiers and clauses fit 64 bits
+-- the counts that a reply tells fit 64 bits: all its numbers but identifiers and a clause's
 abbrev pub AreWritableCounts : RosterValue → Reply → Type 0
 AreWritableCounts roster r = HaveFittingCounts (fields_of roster r)
 
@@ -37,7 +37,7 @@ abbrev mutual
   members_rise no_members = true
   members_rise (member k d ms) = comes_first k ms && (has_rising_keys d && members_rise ms)
 
-  -- the key is less than the next
+  -- the key is less than the first of the members, if there is one
   pub comes_first : List ℕ → Members → Bool
   comes_first k no_members = true
   comes_first k (member l d ms) = is_lt (slice_cmp nat_cmp k l)

@@ -22,7 +22,7 @@ rule_word (asked.Marriage id) = rule_name kind.Marriage
 rule_word asked.Seduction = rule_name kind.Seduction
 rule_word asked.Abandonment = rule_name kind.Abandonment
 
--- the partner that a marriage names
+-- the key `with` and the partner that a marriage names; of other rules nothing
 abbrev pub partner_fields : Asked → List (List ℕ × Field)
 partner_fields asked.Update = []
 partner_fields (asked.Marriage id) = (codes "with", number id) ∷ []
@@ -34,7 +34,7 @@ abbrev pub register : Option ℕ → Field
 register None = null
 register (Some n) = number n
 
--- the word that asks
+-- the key `do` and the word that asks
 abbrev pub asks : List ℕ → List ℕ × Field
 asks w = (codes "do", word w)
 

@@ -19,7 +19,7 @@ pub enum Greeting {
 /// What comes of a request on a connection, beside the reply to it.
 #[derive(Clone, Copy, Debug)]
 pub enum Greeted {
-    /// It is answered, and this is who the connection is known as from then on.
+    /// The request is answered, and this is who the connection is known as from then on.
     Known(Option<Who>),
     /// A command of the one that the connection is known as, which is left to judge.
     LeftToJudge { who: Who, command: Command },
@@ -32,6 +32,7 @@ pub fn greet(roster: &Roster, known: Option<Who>, request: Request) -> Greeting
     ensures greeting { result ≡ greeting roster.now known request }
     ensures about { TakesPart roster.now result }
 {
+    // Room for the reply, which is read only where one was put there.
     let mut reply = Reply::Bye;
     match greet_into(roster, known, &request, &mut reply) {
         Greeted::Known(known) => Greeting::Answered { reply, known },

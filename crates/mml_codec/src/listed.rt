@@ -11,15 +11,15 @@ use mml_ids::{IdTable, Memory, Rank, make_room, taken, with_text};
 use mml_rules::{Kind, Regs};
 use mml_stable::OpenLink;
 
-// Enough for each one of a list, with the comma before it.
+// Enough bytes for each item of a list, with the comma before it.
 const ITEM_ROOM: usize = 64;
 
 /// One item of a list in a reply.
 pub(crate) trait Listed {
-    // It names nodes that have identifiers.
+    // The item names nodes that have identifiers.
     ghost names: { List ℕ → Self → Type 0 };
 
-    // Its text, in a lab with these identifiers.
+    // The item's text, in a lab with these identifiers.
     ghost text: { List ℕ → Self → List ℕ };
 
     // The line with the text of this item behind it.
@@ -31,7 +31,7 @@ pub(crate) trait Listed {
 }
 
 /// Puts the texts of a list behind what the vector holds, with commas between them and without brackets. Where
-/// memory runs out, some of the first stand there, or none.
+/// memory runs out, the first texts, up to the one that lacks room, stand there, each whole.
 pub(crate) fn put_list<T: Listed>(
     ids: &IdTable,
     items: &[T],
@@ -59,7 +59,7 @@ pub(crate) fn put_list<T: Listed>(
 }
 
 // The line with room for one item more, or as `Err` the line as it was, where there is no memory for that.
-// It comes by value, so that its length can stay in a processor's register.
+// The line comes by value, so that its length can stay in a processor's register.
 #[inline(always)]
 fn with_room(line: Vec<u8>) -> Result<Vec<u8>, Vec<u8>>
     ensures same { MatchResult result (λ l. l.items ≡ line.items) (λ l. l.items ≡ line.items) }

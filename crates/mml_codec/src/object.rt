@@ -14,7 +14,7 @@ pub(crate) enum Field<'a> {
     Number(u64),
     /// A word that the protocol fixes.
     Word(&'static str),
-    /// A text that it doesn't.
+    /// A text that the protocol doesn't fix.
     Text(&'a str),
     Truth(bool),
     Null,

@@ -6,16 +6,18 @@ use mml_policy::{Denial, Look, Refusal, See};
 use mml_rules::Kind;
 use mml_stable::Report;
 
-/// The capacity, in bytes, with which a reply line is written without taking memory.
+/// The capacity, in bytes, with which the line of each reply but a look and a report is written without taking memory.
 pub const REPLY_ROOM: usize = 2048;
 
 /// The reply line to a line that is no request, with its newline.
 pub const MALFORMED_LINE: &str = "{\"refuse\":\"malformed\"}\n";
 
-/// The reply line to a grant where no event may follow any longer, with its newline.
+/// The reply line, with its newline, to a request for an event that all clauses allow, where the lab has had all its
+/// events.
 pub const FULL_LINE: &str = "{\"refuse\":\"full\"}\n";
 
-/// The reply line to a grant where the journal takes no line any longer, with its newline.
+/// The reply line, with its newline, to a request for an event that all clauses allow, where the journal is halted or
+/// didn't take the whole line of the event.
 pub const JOURNAL_LINE: &str = "{\"refuse\":\"journal\"}\n";
 
 /// The reply line where a growth was refused, with its newline.
@@ -28,7 +30,7 @@ pub enum Refused {
     Malformed,
     /// There were as many events as there may be.
     Full,
-    /// The journal took no line, or not the whole of it.
+    /// The journal is halted, or didn't take the whole line of the event.
     Journal,
     /// A growth was refused.
     Memory,
@@ -111,7 +113,8 @@ pub enum Reply {
     Refuse(Refused),
 }
 
-/// Puts a reply where it stays, instead of another: it is large to hand on.
+/// Puts a reply where another one stood. Replies are large: each is put where it stays, and isn't
+/// handed on.
 #[inline(always)]
 pub fn put_in(out: &mut Reply, reply: Reply)
     ensures { out.new ≡ reply }

@@ -22,20 +22,20 @@ use mml_policy::{Denial, Look, See};
 use mml_rules::Kind;
 use std::alloc::Global;
 
-// Enough for the text of each reply but a look and a report.
+// Enough bytes for the text of each reply but a look and a report.
 const TEXT_ROOM: usize = 2000;
 
-// Enough for what a look says before the nodes that are linked, or after them.
+// Enough bytes for what a look says before the nodes that are linked, or after them.
 const LOOK_ROOM: usize = 128;
 
-// When an event happened: the number after it, and its place.
+// When an event happened: the number of the configuration after it, and its place.
 #[derive(Clone, Copy)]
 struct Moment {
     at: u64,
     place: u64,
 }
 
-// The moment of an event, from the fields of the reply to it.
+// The moment of an event, from the fields of the reply to it. Its contract tells, too, that both numbers fit 64 bits.
 fn moment_of(at: &u64, place: &u64) -> Moment
     ensures moment { result ≡ record { at = at.now; place = place.now } }
     ensures at { at.now < 2 ^ 64 }
@@ -48,7 +48,7 @@ fn moment_of(at: &u64, place: &u64) -> Moment
 }
 
 /// Puts the line of a reply, with its newline, instead of what the vector holds, which grows by its own
-/// allocator. Where memory runs out, it is left empty: `REPLY_ROOM` is enough but for a look or a report.
+/// allocator. Where memory runs out, the vector is left empty: `REPLY_ROOM` is enough but for a look or a report.
 pub fn write_reply(
     _alloc: Global,
     ids: &IdTable,
@@ -112,7 +112,7 @@ pub fn append_reply(ids: &IdTable, roster: &Roster, reply: &Reply, out: &mut Vec
     true
 }
 
-// Whether a reply's line fits into `REPLY_ROOM` bytes in each lab: a look and a report list nodes.
+// Whether a reply's line fits into `REPLY_ROOM` bytes in each lab: not a look's and a report's, which list nodes.
 fn is_short(reply: &Reply) -> bool
     ensures { result ≡ is_short reply.now }
 {
@@ -150,7 +150,7 @@ fn put_line(ids: &IdTable, roster: &Roster, reply: &Reply, out: &mut Vec<u8>) ->
     put_end(out)
 }
 
-// Puts a newline behind what the vector holds.
+// Puts a newline behind what the vector holds, at once where there is room.
 fn put_end(out: &mut Vec<u8>) -> Result<(), Memory>
     ensures { Puts (10 ∷ []) 1 out.old out.new result }
 {
@@ -226,7 +226,7 @@ fn put_hello(ids: &IdTable, roster: &Roster, who: Who, out: &mut Vec<u8>) -> Res
     Ok(())
 }
 
-// The text with the reply to a granted hello behind it. By `Piece`s, that and a bye's took 294 instructions more.
+// The text with the reply to a granted hello behind it. By `Piece`s, this and a bye's took 294 instructions more.
 #[inline(always)]
 #[tactic(auto, unfolding(crate::specs::Facts::object_text))]
 fn with_hello(text: Vec<u8>, ids: &IdTable, roster: &Roster, who: Who) -> Vec<u8>
@@ -246,6 +246,7 @@ fn put_see(ids: &IdTable, see: &See, out: &mut Vec<u8>) -> Result<(), Memory>
     ensures puts { Puts (object_text ids.now (see_fields see.now)) TEXT_ROOM out.old out.new result }
     ensures count { see.now.at < 2 ^ 64 }
 {
+    // By its type the number fits 64 bits, as the contract tells.
     let _at = see.at;
     make_room(out, TEXT_ROOM)?;
     *out = with_see(taken(out), ids, see);
@@ -269,7 +270,8 @@ fn with_see(text: Vec<u8>, ids: &IdTable, see: &See) -> Vec<u8>
     with_pointer_at_end(text, ids, see.regs.p)
 }
 
-// Puts the reply to a granted look behind what the vector holds.
+// Puts the reply to a granted look behind what the vector holds. Its contract has the text of one object, which
+// `put_look_parts` has in parts.
 fn put_look(ids: &IdTable, look: &Look, out: &mut Vec<u8>) -> Result<(), Memory>
     requires { IsLookedAt ids.now look.now }
     ensures text { OnOk result
@@ -280,7 +282,8 @@ fn put_look(ids: &IdTable, look: &Look, out: &mut Vec<u8>) -> Result<(), Memory>
     put_look_parts(ids, look, out)
 }
 
-// Puts the reply to a granted look by its parts: what stands before the linked nodes, they, and what stands after.
+// Puts the reply to a granted look behind what the vector holds, in parts: what stands before the linked nodes, the
+// nodes, and what stands after.
 #[tactic(auto, unfolding(crate::specs::inside::Puts::look_parts))]
 fn put_look_parts(ids: &IdTable, look: &Look, out: &mut Vec<u8>) -> Result<(), Memory>
     requires { IsLookedAt ids.now look.now }
@@ -300,6 +303,7 @@ fn put_look_head(look: &Look, out: &mut Vec<u8>) -> Result<(), Memory>
     ensures capacity { vec_capacity out.old ≤ vec_capacity out.new }
     ensures count { look.now.at < 2 ^ 64 }
 {
+    // By its type the number fits 64 bits, as the contract tells.
     let _at = look.at;
     make_room(out, LOOK_ROOM)?;
     *out = with_look_head(taken(out), look);
@@ -593,7 +597,8 @@ fn with_release(text: Vec<u8>, ids: &IdTable, moment: Moment, node: Rank) -> Vec
     with_text(text, "}")
 }
 
-// Puts a denial behind what the vector holds.
+// Puts a denial behind what the vector holds. Its contract has the text of one object, which `put_denial_parts` has in
+// parts.
 fn put_denial(ids: &IdTable, denial: Denial, out: &mut Vec<u8>) -> Result<(), Memory>
     ensures puts { Puts (object_text ids.now (deny_fields denial)) TEXT_ROOM out.old out.new result }
     ensures count { HaveFittingCounts (deny_fields denial) }
@@ -622,7 +627,8 @@ fn put_denial_parts(denial: Denial, out: &mut Vec<u8>) -> Result<(), Memory>
     )
 }
 
-// Puts the opening brace of a denial, and the current number where the denial tells it: only `stale` does.
+// Puts the opening brace of a denial behind what the vector holds, and the current number where the denial tells it,
+// with its comma: only `stale` does.
 fn put_number_first(denial: Denial, out: &mut Vec<u8>) -> Result<(), Memory>
     ensures puts { Puts (number_front (current_number denial)) 40 out.old out.new result }
     ensures count { HaveFittingCounts (deny_fields denial) }

@@ -10,7 +10,7 @@ use crate::reply_writing::with_count;
 use mml_ids::{IdTable, Memory, make_room, taken, with_text};
 use mml_stable::Report;
 
-// Enough for what a report says before its lists.
+// Enough bytes for what a report says before its lists.
 const REPORT_ROOM: usize = 64;
 
 /// Puts the text of a report, without a newline, behind what the vector holds. Where memory runs out, at

@@ -64,7 +64,8 @@ fn request(alloc: Global, fields: &Fields<'_>) -> Result<Request, LineFault>
     request.ok_or(LineFault::Malformed)
 }
 
-// The hello that the fields ask, with a copy of its name and key; `Malformed` where one of those isn't there.
+// The hello that the fields ask, with a copy of its name and key: `Malformed` where one of the two isn't there,
+// `Memory` where there is none for the copies.
 #[tactic(auto, unfolding(crate::specs::Requests::hello_of))]
 fn hello_of(alloc: Global, fields: &Fields<'_>) -> Result<Request, LineFault>
     ensures { Reads hello_of fields.now result }

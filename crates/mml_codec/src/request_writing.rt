@@ -16,7 +16,7 @@ use mml_policy::{Asked, Command};
 use std::alloc::{AllocError, Global};
 
 /// Puts the text of a request, without its newline, instead of what the vector holds. Where memory runs
-/// out, it is left empty.
+/// out, the vector is left empty.
 pub fn write_request(alloc: Global, request: &Request, out: &mut Vec<u8>) -> Result<(), Memory>
     ensures text { OnOk result (out.new.items ≡ canonical request.now) }
     ensures again { OnOk result (request_in out.new.items ≡ Ok request.now) }

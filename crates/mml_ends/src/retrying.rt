@@ -15,7 +15,7 @@ pub struct Retrying<T: Drop> {
 }
 
 impl<T: Drop> Retrying<T> {
-    /// Over a reader or a writer of which no read or write has lacked memory yet.
+    /// A `Retrying` over a reader or a writer, of which no read or write has lacked memory yet.
     pub fn new(inner: T) -> Retrying<T>
         ensures inner { result.inner ≡ inner }
         ensures lacked_memory { result.lacked_memory ≡ false }
@@ -30,8 +30,8 @@ impl<T: Drop> Retrying<T> {
 impl<R: Read + Drop> Read for Retrying<R> {
     ghost remaining = { λ s. R.remaining s.inner };
 
-    // Reads again as long as a signal interrupts the read, after 2^64 - 1 times with the error `TimedOut`, and
-    // remembers want of memory.
+    // Reads, and reads again as long as a signal interrupts the read; 2^64 - 1 interruptions are the error `TimedOut`.
+    // Where memory ran out, that is remembered.
     fn read(&mut self, buf: &mut [u8]) -> io::Result<usize>
         ensures bound { ReadsAtMost result buf.new }
         ensures bytes { ReadConsumes (R.remaining self.old.inner) (R.remaining self.new.inner)
@@ -54,8 +54,8 @@ impl<R: Read + Drop> Read for Retrying<R> {
 impl<W: Write + Drop> Write for Retrying<W> {
     ghost contents = { λ s. W.contents s.inner };
 
-    // Writes again as long as a signal interrupts the write, after 2^64 - 1 times with the error `TimedOut`, and
-    // remembers want of memory.
+    // Writes, and writes again as long as a signal interrupts the write; 2^64 - 1 interruptions are the error
+    // `TimedOut`. Where memory ran out, that is remembered.
     fn write(&mut self, buf: &[u8]) -> io::Result<usize>
         ensures bound { WritesAtMost result buf.now }
         ensures bytes { WriteAppends (W.contents self.old.inner) (W.contents self.new.inner)
@@ -82,7 +82,7 @@ impl<W: Write + Drop> Write for Retrying<W> {
     }
 }
 
-// Whether a read or a write failed by an error of that kind.
+// Whether a read or a write failed by an error of the kind `kind`.
 fn failed_by(done: &io::Result<usize>, kind: ErrorKind) -> bool
     ensures { IsTrue result ↔ IsErrAnd done.now (λ e. error_kind e ≡ kind) }
 {

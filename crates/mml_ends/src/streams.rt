@@ -4,9 +4,9 @@ use std::io;
 use std::os::fd::{AsRawFd, IntoRawFd, RawFd};
 use std::rt::Files;
 
-/// Opens the null device for each standard stream that is closed: input to write to, output and error
-/// to read from. So each use of it fails, and no file that is opened later gets its descriptor. It is called
-/// before any other file is opened. The error is that the null device couldn't be opened.
+/// Opens the null device for each standard stream that is closed: for input it can only be written, for
+/// output and error only be read. So each use of such a stream fails, and no file that is opened later gets its descriptor.
+/// It is called before any other file is opened. The error is that the null device couldn't be opened.
 pub fn hold_streams<R: Files<File = File>>(rt: &R) -> io::Result<()> {
     for stream in 0..3 {
         hold_stream(rt, stream)?;

@@ -18,6 +18,7 @@ pub enum FileFault {
 }
 
 impl From<IoError> for FileFault {
+    // The error of a call as a fault: `Memory` where memory ran out, and else `Refused`.
     fn from(error: IoError) -> FileFault
         ensures memory { error_kind error ≡ ErrorKind.OutOfMemory → result ≡ Memory }
         ensures refused { error_kind error ≢ ErrorKind.OutOfMemory → result ≡ Refused }
@@ -31,6 +32,7 @@ impl From<IoError> for FileFault {
 }
 
 impl From<AllocError> for FileFault {
+    // A growth was refused.
     fn from(_error: AllocError) -> FileFault
         ensures { result ≡ Memory }
     {
@@ -39,6 +41,7 @@ impl From<AllocError> for FileFault {
 }
 
 impl<T: Drop> From<AllocFailed<T>> for FileFault {
+    // A growth was refused. What comes back with the error is dropped.
     fn from(_error: AllocFailed<T>) -> FileFault
         ensures { result ≡ Memory }
     {
@@ -47,7 +50,8 @@ impl<T: Drop> From<AllocFailed<T>> for FileFault {
 }
 
 impl From<TryLockError> for FileFault {
-    // A lock that another program has is a refusal.
+    // A lock that couldn't be had as a fault: `Refused` where another program has it, and else what the call's error
+    // is.
     fn from(error: TryLockError) -> FileFault {
         match error {
             TryLockError::Error(error) => FileFault::from(error),

@@ -11,7 +11,7 @@ const STACK: i32 = 3;
 // How many bytes of stack a program needs: twice what the deepest request takes.
 const NEEDED: u64 = 256 << 10;
 
-/// How many bytes a file may have at most: the largest number where the system doesn't say.
+/// How many bytes a file may have at most: `u64::MAX` where the system sets no limit, or doesn't say.
 pub fn file_size_limit() -> u64 {
     limit_of(FILE_SIZE)
 }
@@ -21,7 +21,8 @@ pub fn has_small_stacks() -> bool {
     limit_of(STACK) < NEEDED
 }
 
-// The system's limit of what the number stands for; the largest number where it doesn't say.
+// The limit in bytes that the system sets on what the number `what` stands for; `u64::MAX` where it sets none, or
+// doesn't say.
 fn limit_of(what: i32) -> u64 {
     let mut limit = rlimit {
         rlim_cur: u64::MAX,

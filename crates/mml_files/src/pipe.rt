@@ -7,7 +7,7 @@ use std::fs::File;
 use std::os::fd::AsRawFd;
 use std::rt::Files;
 
-// How often it is looked whether somebody reads the pipe.
+// How often it is looked, at most, whether somebody reads the pipe.
 const LOOKS: u32 = 50;
 
 // How many milliseconds pass from one look to the next.
@@ -23,12 +23,14 @@ pub fn open_pipe<R: Files<File = File>>(rt: &R, path: &str) -> Result<File, File
         if is_read(&file) {
             return Ok(file);
         }
+        // Waits so long: nothing is polled.
         let _ = poll(&mut [], PAUSE);
     }
     Err(FileFault::Refused)
 }
 
-// Whether somebody has the pipe open to read it; `file` writes to it.
+// Whether somebody has the pipe open to read it. `file` writes to the pipe, so the system tells an error there where
+// nobody has.
 fn is_read(file: &File) -> bool {
     let mut ends = [pollfd {
         fd: file.as_raw_fd(),

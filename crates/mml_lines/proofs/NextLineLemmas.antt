@@ -13,7 +13,7 @@ use Rattle.mml_lines.specs.inside.LinesView.{IsReadNoFurther}
 pub line_within : (limit start len : ℕ) (held : List ℕ) → HasLine len limit (drop start held) → start + len + 1 ≤ length held
 line_within limit start len held line = omega (arith, line.1, length-drop start held)
 
--- of a line that is at the front, by places in what is held
+-- of a line that is at the front, by offsets in what is held
 pub line_says : (ending : Option Step) (limit start len : ℕ) (held : List ℕ) → HasLine len limit (drop start held) → IsReadNoFurther limit (drop start held)
     → IfNone ending (IsWithinLimit limit (slice_range held start (start + len)) × (length (drop (start + len + 1) held) < READ_SIZE))
 line_says (Some step) limit start len held line front = tt

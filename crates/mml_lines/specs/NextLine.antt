@@ -22,9 +22,10 @@ bytes_taken TooLong line = []
 bytes_taken End line = []
 bytes_taken ReadFault line = []
 
--- what the answer says of the line, or of what comes next: nothing is read once that is known, so no more is held after
--- it than one read brought in; both an end and a read error need a read, by what was held, and only where all reads were
--- made an error comes without one
+-- what the answer says. Line: it is within the limit. TooLong: more bytes than the limit have no newline. End,
+-- ReadFault: it was not known what comes next, and a read found the end, or failed, or was needed after the last that
+-- may be made. Nothing is read once it is known what comes next: fewer than READ_SIZE bytes are unread behind a line,
+-- and at most READ_SIZE behind the limit where the bytes are too long
 abbrev pub Says : Step → LinesState → LinesState → Option (List ℕ) → Type 0
 Says Line old new left = IsWithinLimit new.limit new.line × (length new.unread < READ_SIZE)
 Says TooLong old new left = IsTooLong new.limit new.unread × (length new.unread ≤ new.limit + READ_SIZE)

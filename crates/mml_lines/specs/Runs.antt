@@ -13,15 +13,15 @@ Runs Step st (line ∷ lines) [] end = ⊥
 abbrev pub Chain : {A L : Type 0} → (L → A → A → Type 0) → A → List L → A → Type 0
 Chain Step st lines end = Runs (λ st line r next. Step line st next) st lines lines end
 
--- so it is at each step of a run: of where it begins, of its line and its reply, and of where it leads
+-- P holds at each step of a run: of the state where the step begins, its line, its reply, and the state where it leads
 abbrev pub AtEach : {A L R : Type 0} (Step P : A → L → R → A → Type 0) (st : A) (lines : List L) (rs : List R) (end : A) → Runs Step st lines rs end → Type 0
 AtEach Step P st [] [] end run = Unit {0}
 AtEach Step P st [] (r ∷ rs) end run = Unit {0}
 AtEach Step P st (line ∷ lines) [] end run = Unit {0}
 AtEach Step P st (line ∷ lines) (r ∷ rs) end run = P st line r run.0 × AtEach Step P run.0 lines rs end run.2
 
--- an exchange in a lab, or what else its steps are taken in: lines that may come, the reply to each, which may be given, and
--- where they lead
+-- an exchange in a lab, or what else its steps are taken in: lines that may come, to each a reply that may be given,
+-- and the state where they lead
 pub record Exchange {X A L R : Type 0} (Step : X → A → L → R → A → Type 0) (MayCome : X → L → Type 0) (MayReply : R → Type 0) (lab : X) (st : A) : Type 0 where
   pub lines : List L
   pub replies : List R

@@ -4,16 +4,17 @@ use Rattle.std.specs.List.{concat}
 use Rattle.std.specs.Io.KnownBytes.{Appends}
 use Rattle.mml_lines.specs.declared.write_fault.WriteFault.{WriteFault}
 
--- where the first `out` bytes of lines with the listed lengths are out: how many of those bytes are of the first line that isn't wholly out
+-- where the first `out` bytes of lines with the listed lengths are out: how many of those bytes are of the first line
+-- that isn't wholly out
 abbrev pub part_in : List ℕ → ℕ → ℕ
 part_in [] out = out
 part_in (n ∷ ns) out = if nat_lt out n then out else part_in ns (out - n)
 
--- the first of the lines went out, and the others are held
+-- some of the lines, from the first on, went out, and the others are held
 abbrev pub Sends : Option (List ℕ) → Option (List ℕ) → List (List ℕ) → List (List ℕ) → Type 0
 Sends wrote wrote' lines held = (sent : List (List ℕ)) × (lines ≡ sent ++ held) × Appends wrote wrote' (concat sent)
 
--- a number of bytes of the lines went out, of which the error counts those of the first line that isn't wholly out
+-- some bytes of the lines, from the first on, went out; the error counts those of the first line that isn't wholly out
 abbrev pub BreaksOff : WriteFault → Option (List ℕ) → Option (List ℕ) → List (List ℕ) → Type 0
 BreaksOff fault wrote wrote' lines = (out : ℕ) × (out ≤ length (concat lines)) × (fault.written ≡ part_in (map length lines) out)
     × Appends wrote wrote' (take out (concat lines))

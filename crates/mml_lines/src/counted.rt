@@ -14,7 +14,7 @@ pub(crate) struct Counted<'a, R> {
 }
 
 impl<R> Drop for Counted<'_, R> {
-    // Lets the reader go, as it is.
+    // Gives the reader back to its owner, as the last read left it.
     fn drop(self)
         ensures { self.exit.0.now ≡ self.entry.reader.now }
     {
@@ -35,15 +35,15 @@ impl<'a, R: Read> Counted<'a, R> {
         Counted { reader, reads }
     }
 
-    /// How often the reader was read, with the reads before `of`.
+    /// How often the reader was read, with the reads that were made before `of`.
     pub(crate) fn reads(&self) -> u32
         ensures { result ≡ self.now.reads }
     {
         self.reads
     }
 
-    /// Reads once, into `chunk`, and puts the bytes behind those in `held`, which are the front of a line. The error,
-    /// with `held` as it was: `End` at the reader's end, `ReadFault` where the read failed.
+    /// Reads once, into `chunk`, counts the read, and puts the bytes behind those in `held`, which are the front of a
+    /// line. The error, with `held` as it was: `End` at the reader's end, `ReadFault` where the read failed.
     pub(crate) fn read_onto(&mut self, held: &mut Vec<u8>, chunk: &mut Vec<u8>) -> Result<(), Step>
         requires needed { IsUnbroken held.old.items }
         requires few { self.old.reads < MAX_READS }

@@ -1,16 +1,16 @@
 ghost use Rattle.std.specs.Prelude.{◌≡◌, ◌+◌, ◌≤◌, ◌++◌, Bool, List, ℕ, length, vec_capacity, if◌then◌else◌};
 
-/// The most room that the rest of a line needs where it is short.
+/// The most bytes of the rest of a line that is short.
 pub const REST_ROOM: usize = 2048;
 
-/// The rest of a line, which is told where the line goes out from, so that it isn't copied there.
+/// The rest of a line, which puts itself into the buffer from which the line goes out, so that it isn't copied there.
 pub trait LineRest {
-    // What may be told at all.
+    // What has to hold of a rest that is to be put into a buffer.
     ghost may_tell: { Self → Type 0 };
 
     // The bytes of the rest.
     ghost text: { Self → List ℕ };
-    // What needs no more room than there is.
+    // Whether the rest counts as short: then it has at most `REST_ROOM` bytes.
     ghost is_short: { Self → Bool };
 
     /// Puts the rest of the line behind what the vector holds, if it is short, and tells whether it is. One

@@ -12,10 +12,10 @@ use std::alloc::Global;
 use std::io::Write;
 use std::marker::Model;
 
-/// The most bytes that are held.
+/// The most bytes that an `Outgoing` holds.
 pub const OUTGOING_BYTES: usize = 8192;
 
-/// The most lines that are held.
+/// The most lines that an `Outgoing` holds.
 pub const OUTGOING_LINES: usize = 512;
 
 /// Lines that aren't written yet, so that one write takes many. It takes memory only when it is made.
@@ -23,7 +23,7 @@ pub const OUTGOING_LINES: usize = 512;
 #[derive(Drop)]
 pub struct Outgoing {
     bytes: Vec<u8>,
-    // Of each line.
+    // How many bytes each line has.
     lengths: Vec<usize>,
 }
 
@@ -50,8 +50,9 @@ impl Outgoing {
         })
     }
 
-    /// Puts a line, `front` and then `rest`, after those that are held. Where there is no room, the held ones are
-    /// written first, and a line that is longer than all the room is too. Nothing is flushed. It fails as a write does.
+    /// Puts a line, `front` and then `rest`, after the lines that are held. Where there is no room for it, the held
+    /// lines are written first, and then the line too, if it has more than `OUTGOING_BYTES` bytes. Nothing is flushed.
+    /// The error: a write failed or took nothing.
     #[tactic(auto, using(crate::proofs::SendingLemmas::breaks_before))]
     pub fn put<W: Write>(
         &mut self,
@@ -75,7 +76,7 @@ impl Outgoing {
         put_both(front, rest, writer)
     }
 
-    /// Writes all that is held, and flushes the writer. The error: a write or the flush failed.
+    /// Writes all that is held, and flushes the writer. The error: a write failed or took nothing, or the flush failed.
     pub fn flush<W: Write>(&mut self, writer: &mut W) -> Result<(), WriteFault>
         ensures empty { OnOk result (self.new ≡ []) }
         ensures ok { OnOk result (Sends (W.contents writer.old) (W.contents writer.new) self.old []) }
@@ -89,7 +90,8 @@ impl Outgoing {
         }
     }
 
-    // Writes all that is held, which is then let go, unless a write failed. Nothing is flushed.
+    // Writes all that is held, and then holds nothing. The error: a write failed or took nothing; then all stays held,
+    // though some of it may be out. Nothing is flushed.
     fn write_out<W: Write>(&mut self, writer: &mut W) -> Result<(), WriteFault>
         ensures empty { OnOk result (self.new ≡ []) }
         ensures ok { OnOk result (Sends (W.contents writer.old) (W.contents writer.new) self.old []) }
@@ -143,7 +145,7 @@ impl Outgoing {
         if room - front.len() < rest.len() {
             return false;
         }
-        // The front is short.
+        // Byte by byte, since the front is short.
         self.bytes = with_bytes(taken(&mut self.bytes), front);
         self.bytes.extend_from_slice(rest).unwrap();
         self.lengths.push_reserved(front.len() + rest.len());

@@ -10,9 +10,9 @@ use std::io::{ErrorKind, Read};
 pub enum WholeFault {
     /// A read failed.
     Read,
-    /// It gives more bytes than the limit.
+    /// The reader gives more bytes than the limit.
     TooLong,
-    /// A growth was refused, or the error of a read says so.
+    /// Memory ran out: a growth was refused, or a read failed by `OutOfMemory`.
     Memory,
 }
 

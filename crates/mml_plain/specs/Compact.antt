@@ -48,7 +48,7 @@ pub record BeginsValue (text : List ℕ) (v : MemberValue) (rest : List ℕ) : T
   pub shows : Shows v datum
   pub spelled : text ≡ token_text first ++ (print_from (ends first) others ++ rest)
 
--- the text begins with a member
+-- the text begins with spaces, if any, and a member that has this key and this value, before the rest
 pub record BeginsMember (text : List ℕ) (k : List ℕ) (v : MemberValue) (rest : List ℕ) : Type 0 where
   pub at_key : List ℕ
   pub spaced : Spaced text at_key
@@ -59,20 +59,21 @@ pub record BeginsMember (text : List ℕ) (k : List ℕ) (v : MemberValue) (rest
   pub spaced_value : Spaced after_key at_value
   pub value : BeginsValue at_value v rest
 
--- what follows a colon begins with a value
+-- what follows a colon begins with spaces, if any, and a value, before the rest
 pub record BeginsAfter (text : List ℕ) (v : MemberValue) (rest : List ℕ) : Type 0 where
   pub at_value : List ℕ
   pub spaced_value : Spaced text at_value
   pub value : BeginsValue at_value v rest
 
--- the text begins with a member, which the fields have now
+-- the text begins with a member, before the rest, and the new fields are the old with that member
 pub record PutsMember (text : List ℕ) (rest : List ℕ) (old : Fields) (new : Fields) : Type 0 where
   pub key : List ℕ
   pub value : MemberValue
   pub member : BeginsMember text key value rest
   pub put : new ≡ with key value old
 
--- what follows a quotation mark is a key without escapes and its value, which the fields have now
+-- what follows a quotation mark begins with a key without escapes and its value, before the rest, and the new fields
+-- are the old with that member
 pub record PutsKnown (text : List ℕ) (rest : List ℕ) (old : Fields) (new : Fields) : Type 0 where
   pub key : List ℕ
   pub is_bare_key : is_bare key ≡ true

@@ -37,7 +37,7 @@ register_in (Number n) = Some (Some n)
 register_in (Text s) = None
 register_in Other = None
 
--- what the key q names after a member of the key k
+-- what the key q names once a member of the key k has come: the new if q is k, and else the old
 abbrev pub after : {A : Type 0} → List ℕ → A → List ℕ → A → A
 after k new q old = if bytes_eq k q then new else old
 

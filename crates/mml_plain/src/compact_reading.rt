@@ -1,5 +1,5 @@
 //! Objects whose strings have no escape, read from front to back, of a known key four bytes at once.
-//! Spaces stand only behind braces, commas and colons, where a hand types them.
+//! Spaces stand only behind the opening brace, commas and colons, where a hand types them.
 ghost use Rattle.std.specs.Prelude.{◌≡◌, ◌<◌, ◌^◌, ◌++◌, ◌∷◌, ◌+◌, ℕ, List, [], Some, IfSome, None, true, length, decimal, slice_index, IsUtf8};
 ghost use Rattle.std.specs.Int.{w32, to_be_bytes};
 ghost use Rattle.json.specs.Lex.{tokens};
@@ -55,7 +55,8 @@ fn member<'a>(text: &'a [u8], fields: &mut Fields<'a>) -> Option<&'a [u8]>
     ensures { IfSome result (λ rest. PutsMember text.now rest.now fields.old fields.new) }
 {
     let in_key = in_quotes(text)?;
-    // A member has 8 bytes more, but for a short one that ends the line; then no bound is tested in vain.
+    // Only a short member at the end of the line has fewer than 8 bytes here. With 8, the first bounds below need no
+    // test.
     if in_key.len() < 8 {
         let rest = any_member(in_key, fields)?;
         return Some(rest);
@@ -68,9 +69,9 @@ fn member<'a>(text: &'a [u8], fields: &mut Fields<'a>) -> Option<&'a [u8]>
     Some(rest)
 }
 
-/// Puts a member into the fields, which behind its first quotation mark is the four bytes of `front` and then `text`,
-/// and gives what follows it. `None`, with the fields as they were, where its key isn't known or its value not of that
-/// key's kind.
+/// Puts a member into the fields, and gives what follows it. The member begins with a quotation mark and the four bytes
+/// of `front`, behind which `text` comes. `None`, with the fields as they were, where its key isn't one of the seven
+/// that most requests have, or its value isn't one of that key's kind that is read here.
 #[inline(always)]
 fn known_value<'a>(front: u32, text: &'a [u8], fields: &mut Fields<'a>) -> Option<&'a [u8]>
     ensures member { IfSome result (λ rest. PutsKnown (to_be_bytes w32 front ++ text.now) rest.now fields.old fields.new) }
@@ -152,7 +153,8 @@ fn quote_and_colon<'a>(text: &'a [u8]) -> Option<&'a [u8]>
     Some(rest)
 }
 
-/// The string behind a colon, and what follows its quotation mark, if one stands there that is read here.
+/// The string behind a colon, and what follows its closing quotation mark. `None` where no string stands there, or one
+/// that isn't read here.
 #[inline(always)]
 fn text_value<'a>(text: &'a [u8]) -> Option<(&'a str, &'a [u8])>
     ensures { IfSome result (λ r. BeginsAfter text.now (Text r.0) r.1.now) }
@@ -162,7 +164,7 @@ fn text_value<'a>(text: &'a [u8]) -> Option<(&'a str, &'a [u8])>
     Some((word, rest))
 }
 
-/// The number behind a colon, and what follows it, if one stands there that is read here.
+/// The number behind a colon, and what follows it. `None` where no number stands there, or one that isn't read here.
 #[inline(always)]
 fn number_value<'a>(text: &'a [u8]) -> Option<(u64, &'a [u8])>
     ensures { IfSome result (λ r. BeginsAfter text.now (Number r.0) r.1.now) }
@@ -209,7 +211,8 @@ fn past_spaces<'a>(text: &'a [u8]) -> &'a [u8]
     rest
 }
 
-/// The value at the front and what follows it, if one stands there that is read here.
+/// The value at the front and what follows it: a string without escapes, a number, a truth value, null, or an array or
+/// object with nothing in it. `None` where none of them stands there that is read here.
 #[inline(always)]
 fn member_value<'a>(text: &'a [u8]) -> Option<(MemberValue<'a>, &'a [u8])>
     ensures { IfSome result (λ r. BeginsValue text.now r.0 r.1.now) }
@@ -260,7 +263,7 @@ fn bare_word<'a>(text: &'a [u8]) -> Option<(&'a str, &'a [u8])>
     let mut end = 0usize;
     'word: while end < text.len() {
         let byte = text[end];
-        // Small letters first.
+        // Small letters are tested first, since they are the most frequent.
         if !((b'\\' < byte && byte < 128) || (31 < byte && byte < b'\\' && byte != b'"')) {
             break;
         }
@@ -269,6 +272,7 @@ fn bare_word<'a>(text: &'a [u8]) -> Option<(&'a str, &'a [u8])>
     if end == text.len() || text[end] != b'"' {
         return None;
     }
+    // Safe, since each of these bytes is below 128.
     let word = unsafe { std::str::from_utf8_unchecked(&text[..end]) };
     Some((word, &text[end + 1..]))
 }

@@ -43,7 +43,7 @@ impl LineScratch {
 }
 
 impl Debug for LineScratch {
-    // Writes the name of the type alone: what stands in it is of no line in particular.
+    // Writes the name of the type alone: what stands in the memory is of no line in particular.
     fn fmt<W: Write>(&self, f: &mut Formatter<W>) -> fmt::Result {
         f.write_str("LineScratch")
     }

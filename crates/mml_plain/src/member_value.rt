@@ -20,8 +20,8 @@ pub(crate) enum MemberValue<'a> {
 }
 
 impl<'a> MemberValue<'a> {
-    /// The value of a number: `found` is the number, where it is one of 64 bits without a sign, a point or an
-    /// exponent, as a request may ask for.
+    /// The value of a number: `found` is the number where it is one of 64 bits without a sign, a point or an exponent,
+    /// as a request may ask for; else it is `None`, and the value is `Other`.
     #[inline(always)]
     pub(crate) fn of_number(found: Option<u64>) -> MemberValue<'a>
         ensures { (n : Num) → as_u64 n ≡ found → Shows result (number n) }
@@ -105,8 +105,8 @@ fn unsigned(numeral: &Numeral<'_>) -> Option<Option<u64>>
     }
 }
 
-// What is read of a numeral behind a minus: `Some(None)`, since no request asks for such a number, or `None` where
-// it is too great to be read.
+// What is read of a numeral behind a minus: `Some(None)`, since no request asks for such a number, -0 too, or `None`
+// where the numeral is too great to be read. A whole number below 0 of 64 bits isn't read as a float in vain.
 #[inline(never)]
 fn below_zero(numeral: &Numeral<'_>) -> Option<Option<u64>>
     ensures { result ≡ option_map as_u64 (number_from true numeral.now) }

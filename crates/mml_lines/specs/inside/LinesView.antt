@@ -18,12 +18,13 @@ lines_view a = record {
   ending = a.ending;
 }
 
--- before its last read it was not known what comes next: these bytes are the front of a line
+-- the unread bytes without their last READ_SIZE, which the last read may have brought in, are within the limit and have
+-- no newline: before that read it was not known what comes next
 abbrev pub IsReadNoFurther : ℕ → List ℕ → Type 0
 IsReadNoFurther limit unread = IsWithinLimit limit (take (length unread - READ_SIZE) unread)
 
--- the places are within what is held, what comes next is known, there is room for one more read and for its bytes before they are held, and there is no
--- line after the end
+-- the offsets are within what is held; what is known of the unread bytes is true; there is room for the bytes of one
+-- more read, also before they are held; the reads are no more than there may be; and there is no line after the end
 pub record IsLinesInside (a : Inside) : Type 0 where
   pub line : a.line_start ≤ a.line_end
   pub line_held : a.line_end ≤ vec_len a.held
