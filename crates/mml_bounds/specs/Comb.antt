@@ -6,11 +6,11 @@ use Rattle.mml_rules.specs.Configuration.{holds}
 use Rattle.mml_rules.specs.Network.{Network}
 use Rattle.mml_board.specs.World.{World, opening_of}
 
--- the first half points at the last, first at last; the others each at the next, and the last at none
+-- where i points at the beginning: at n - 1 - i in the first half, where 2i + 1 < n; else at i + 1; the last at none
 abbrev pub first_pointer : ℕ → ℕ → Option ℕ
 first_pointer n i = if nat_lt (2 * i + 1) n then Some (n - (i + 1)) else if nat_lt (i + 1) n then Some (i + 1) else None
 
--- one of the two points at the other
+-- i and j are linked in the comb of n nodes: at the beginning one of the two points at the other
 abbrev pub is_comb : ℕ → ℕ → ℕ → Bool
 is_comb n i j = holds (first_pointer n i) j || holds (first_pointer n j) i
 

@@ -10,7 +10,8 @@ use Rattle.mml_convergence.specs.Potential.{sum_below}
 abbrev pub is_courting : Configuration → ℕ → Bool
 is_courting c i = option_map_or (λ j. nat_lt i j && (not (c.m j) && not (is_married c j))) (c.p i) false
 
--- by the pointer of a node that isn't married: 0 where it courts, 2 where it points at another, 1 where it is null
+-- what the pointer of i counts, where i isn't married: 0 where i courts, 2 where i points at a node without courting
+-- it, 1 where i points at none
 abbrev pub pointer_part : Configuration → ℕ → ℕ
 pointer_part c i = if is_courting c i then 0 else if is_some (c.p i) then 2 else 1
 
@@ -20,7 +21,8 @@ node_part c i =
     if is_married c i then (if c.m i then 0 else 1)
     else (if c.m i then 1 else 0) + pointer_part c i
 
--- the most courtships among n nodes that aren't married: of two that marry, each other node courts at most one, and one of the two the other
+-- the most courtships among n nodes that aren't married, n²/4 rounded down: two of n + 2 nodes that marry end at most
+-- n + 1, one by each other node and one between the two
 abbrev pub most_courtships : ℕ → ℕ
 most_courtships zero = 0
 most_courtships (suc zero) = 0

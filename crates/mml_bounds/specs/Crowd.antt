@@ -9,7 +9,7 @@ use Rattle.mml_board.specs.World.{World, opening_of}
 abbrev pub is_near : ℕ → ℕ → ℕ → Bool
 is_near n i j = not (i == j) && (nat_lt i n && (nat_lt j n && nat_le n (i + j + 1)))
 
--- the first half points at the last, first at last; the others each at the next, and the last at 1
+-- where i points at the beginning: at n - 1 - i in the first half, where 2i + 1 < n; else at i + 1; the last at 1
 abbrev pub first_pointer : ℕ → ℕ → ℕ
 first_pointer n i = if nat_lt (2 * i + 1) n then n - (i + 1) else if nat_lt (i + 1) n then i + 1 else 1
 

@@ -23,9 +23,8 @@ ghost use Rattle.mml_bounds.specs.Halves.{halves_world};
 ghost use Rattle.mml_bounds.specs.Crowd.{crowd_world};
 ghost use Rattle.mml_bounds.specs.Comb.{comb_world};
 
-/// From any world, the closes of a legal list of grants, releases and closes apply at most 3 moves for each of n nodes
-/// in all, and 2 for each link or, where these are more than n²/4, rounded down, 2 for each of so many, however the
-/// moves are chosen.
+/// From any world with n nodes and L links, the closes of a legal list of grants, releases and closes apply at most
+/// 3n + 2 min(L, n²/4) moves in all, n²/4 rounded down, however the moves are chosen.
 pub fn moves_are_few()
     ensures { (r : RosterValue) (w : World) (es : List Event) → IsWorld w →
         is_legal_list r w es ≡ true → list_all is_of_step es ≡ true →

@@ -14,7 +14,7 @@ use Rattle.mml_board.specs.Runs.{is_legal_list, world_of}
 abbrev pub EachHasOwner : RosterValue → ℕ → Type 0
 EachHasOwner r n = (i : ℕ) → i < n → 0 < length (owners_of r i)
 
--- nothing more can be granted, and no step closed
+-- no grant of a move and no close is legal
 pub record IsOver (r : RosterValue) (w : World) : Type 0 where
   pub no_grant : (s i : ℕ) (rule : Rule) → is_legal r w (event.Grant s i rule) ≡ false
   pub no_close : is_legal r w event.Close ≡ false

@@ -56,8 +56,8 @@ pub record Befell (lab : LabValue) (t : Transcript lab) (bs : List BefallenLine)
   pub lines_are : lines_in bs ≡ t.lines
   pub replies_are : t.replies ≡ replies_with lab (opening lab) bs
 
--- two runs of one script in labs that begin alike for student s: the same mishaps befall the same lines, the worlds stay alike and are halted the
--- same at each line of another's, and some connections are hers throughout
+-- two runs of one script in labs that begin alike for student s: the same mishaps befall the same lines, the worlds
+-- stay alike and are halted the same at each line of another's, and some connections are hers throughout
 pub record RunAlikeWith (lab other : LabValue) (s : ℕ) (some : ℕ → Bool) (t : Transcript lab) (u : Transcript other) (bs : List BefallenLine) : Type 0 where
   pub labs : BeginAlike lab other s
   pub first : Befell lab t bs

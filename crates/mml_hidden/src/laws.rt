@@ -84,7 +84,7 @@ pub fn turns_that_keep_worlds_alike_grant_alike()
 
 /// Two runs of one script, by plain turns, from states that are alike for a student, whose worlds stay alike for her
 /// at each line of another's: what is written on connections while they are hers, or nobody's yet, is the same,
-/// and so is all on a connection that is so throughout; and the states at the end are alike.
+/// and all on a connection that is hers, or nobody's yet, throughout; and the states at the end are alike.
 pub fn hidden_values_change_no_script()
     ensures written { (lab other : LabValue) (s : ℕ) (st su : State) (lines : List RequestLine) →
         AreTwins lab other → StatesAlike lab s st su → StayAlike lab other s st su lines →
@@ -119,7 +119,8 @@ pub fn hidden_values_change_no_script_with_mishaps()
         StatesAlike lab s (end_with lab st bs) (end_with other su bs) }
 {}
 
-/// Each run of a hall is that of turns by some list of mishaps, one for each line, of which `nothing` is one too.
+/// Each run of a hall is that of the turns of its lines by some list of mishaps, one for each line, where `nothing`
+/// counts as a mishap.
 pub fn something_befell_each_line()
     ensures { (lab : LabValue) (st : State) (lines : List RequestLine) (rs : List Reply)
         (end : State) → Run lab st lines rs end → Befalls lab st lines rs end }

@@ -21,8 +21,9 @@ use Rattle.mml_board.specs.Lists.{world_in}
 use Rattle.mml_journal.specs.JournalText.{text_in}
 use Rattle.mml_window.specs.Rulings.{ruling_at}
 
--- event p of the list is the one that x is granted for the command after the events before it, line p of the list's journal is its
--- line, and the reply tells what it did, with its place and the number of the configuration after it
+-- event p of the list is the one that x is granted for the command after the events before it, line p of the list's
+-- journal is the event's line, and the reply tells what the event did, its place, and the number of the configuration
+-- after it
 pub record IsToldAt (lab : LabValue) (l : List Event) (p : ℕ) (x : Who) (command : Command) (r : Reply) : Type 0 where
   pub before : List Event
   pub event : Event
@@ -34,7 +35,8 @@ pub record IsToldAt (lab : LabValue) (l : List Event) (p : ℕ) (x : Who) (comma
   pub line : slice_get (lines_of (text_in lab l)) (length before) ≡ Some (event_line lab.ids lab.roster p (world_in lab before).number event)
   pub reply : r ≡ reply_of_done (world_in lab (before ++ event ∷ [])).number p done
 
--- where the reply to one who is known, or to nobody, names a place of the list, the event there is the one that the line asked for
+-- where the reply to a line names a place of the list, somebody was known when the line came, and the event at that
+-- place is the one that the line asked for
 abbrev pub NamesItsEvent : LabValue → List Event → Option Who → List ℕ → Reply → Type 0
 NamesItsEvent lab l known line r =
     (p : ℕ) → place_in r ≡ Some p

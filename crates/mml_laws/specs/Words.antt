@@ -123,7 +123,7 @@ found_fields ids roster (reply.Refuse r) = (codes "refuse", word (refused_word r
 
 -- ---- which replies tell registers
 
--- what a key of a reply tells is a register, or computed of registers
+-- what a key of a reply tells is a register, is computed of registers, or is the rule of the chosen move in a look
 abbrev pub tells_registers : Fact → Bool
 tells_registers (fact.truth b) = true
 tells_registers (fact.pointer p) = true

@@ -20,7 +20,8 @@ abbrev pub student : Who → Denial → Result ℕ Denial
 student who.Teacher d = Err d
 student (who.Student s) d = Ok s
 
--- the rule that is asked for, with the node that a marriage names as its partner; the denial where there is no such node
+-- the rule that is asked for, the partner of a marriage as a node; the denial where no node has the partner's
+-- identifier
 abbrev pub rule_of : List ℕ → Asked → Denial → Result Rule Denial
 rule_of ids asked.Update d = Ok rules.Update
 rule_of ids (asked.Marriage id) d = do
@@ -29,7 +30,7 @@ rule_of ids (asked.Marriage id) d = do
 rule_of ids asked.Seduction d = Ok rules.Seduction
 rule_of ids asked.Abandonment d = Ok rules.Abandonment
 
--- the node that p names, or null; the denial where it names none
+-- null where p is null, else the node with the identifier p; the denial where no node has it
 abbrev pub pointer : List ℕ → Option ℕ → Denial → Result (Option ℕ) Denial
 pointer ids None d = Ok None
 pointer ids (Some id) d = do

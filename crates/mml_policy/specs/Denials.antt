@@ -3,8 +3,8 @@ use Rattle.std.specs.Prelude.{ℕ, List, codes}
 use Rattle.mml_policy.specs.declared.denial.Denial.{Denial}
 use Rattle.mml_policy.specs.declared.denial.Denial.TheVariants as denial
 
--- the number of the clause in the order in which the clauses of its request are tried, the word that a program reads, and the sentence
--- that a person reads
+-- the number of the clause, by the order in which the clauses of a request are tried, the word that a program reads,
+-- and the sentence that a person reads
 pub record DenialWords : Type 0 where
   pub clause : ℕ
   pub name : List ℕ

@@ -13,7 +13,8 @@ use Rattle.mml_policy.specs.declared.verdict.Verdict.TheVariants as verdicts
 use Rattle.mml_policy.specs.Verdicts.{verdict}
 use Rattle.mml_policy.specs.Meaning.{IsNamed, IsRegister}
 
--- the command of x is granted exactly the events that may come of it, to the teacher, and denied exactly for these causes
+-- the command of x is granted exactly the events of which May holds, if x is the teacher, and denied exactly by the
+-- denials of which Denies holds
 pub record IsDecided (ids : List ℕ) (r : RosterValue) (w : World) (x : Who) (c : Command) (May : Event → Type 0) (Denies : Denial → Type 0) : Type 0 where
   pub granted : (e : Event) → (verdict ids r w x c ≡ verdicts.Grant e) ↔ ((x ≡ who.Teacher) × May e)
   pub denied : (d : Denial) → (verdict ids r w x c ≡ verdicts.Deny d) ↔ Denies d
@@ -35,7 +36,7 @@ DeniesClose w x denial.NotTeacher = x ≢ who.Teacher
 DeniesClose w x denial.Empty = (x ≡ who.Teacher) × ((i : ℕ) → chosen_at w.chosen i ≡ None)
 DeniesClose w x _ = ⊥
 
--- why a fault is denied: a student asks; no node has the identifier; or p names neither null nor a neighbour of the node
+-- why a fault is denied: a student asks; no node has the identifier; or p is neither null nor a neighbour's identifier
 abbrev pub DeniesFault : List ℕ → World → Who → ℕ → Option ℕ → Denial → Type 0
 DeniesFault ids w x id p denial.NotTeacher = x ≢ who.Teacher
 DeniesFault ids w x id p denial.NoNode = (x ≡ who.Teacher) × (rank_in ids id ≡ None)

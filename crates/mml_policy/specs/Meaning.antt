@@ -18,14 +18,14 @@ use Rattle.mml_policy.specs.declared.denial.Denial.TheVariants as denial
 use Rattle.mml_policy.specs.declared.look.Look.{Look}
 use Rattle.mml_policy.specs.Visible.{IsVisible, is_visible}
 
--- the rule that is asked for; a partner is a node
+-- q is the rule that is asked for; the partner of a marriage is the node with the identifier that was named
 abbrev pub IsAsked : List ℕ → Asked → Rule → Type 0
 IsAsked ids asked.Update q = q ≡ rules.Update
 IsAsked ids (asked.Marriage id) q = (j : ℕ) × (rank_in ids id ≡ Some j) × (q ≡ rules.Marriage j)
 IsAsked ids asked.Seduction q = q ≡ rules.Seduction
 IsAsked ids asked.Abandonment q = q ≡ rules.Abandonment
 
--- student s owns i, the node with this identifier
+-- x is student s, who owns i, the node with this identifier
 pub record IsOwner (ids : List ℕ) (r : RosterValue) (x : Who) (id s i : ℕ) : Type 0 where
   pub student : x ≡ who.Student s
   pub node : rank_in ids id ≡ Some i
@@ -62,7 +62,8 @@ pub record IsTaken (ids : List ℕ) (r : RosterValue) (w : World) (x : Who) (id 
   pub current : at ≡ w.number
   pub chosen : IsChosen w i
 
--- student s owns i and names the current number, and no move is chosen for i, but none that is asked for may be applied there
+-- student s owns i and names the current number, and no move is chosen for i, but the rule that is asked for may not be
+-- applied there
 pub record IsUnguarded (ids : List ℕ) (r : RosterValue) (w : World) (x : Who) (id : ℕ) (asked : Asked) (at : ℕ) : Type 0 where
   pub s : ℕ
   pub i : ℕ
@@ -94,7 +95,7 @@ pub record ShowsWhatIsVisible (r : RosterValue) (w : World) (x : Who) (l : Look)
   pub near : All (λ n. is_visible r (configuration w) x n.0 ≡ true) l.near
   pub near_registers : All (λ n. n.1 ≡ registers_at w.network.registers n.0) l.near
 
--- p is null, or names the node that q is
+-- q is null where p is null, else the node with the identifier p
 abbrev pub IsNamed : List ℕ → Option ℕ → Option ℕ → Type 0
 IsNamed ids None q = q ≡ None
 IsNamed ids (Some id) q = (j : ℕ) × (rank_in ids id ≡ Some j) × (q ≡ Some j)

@@ -15,7 +15,8 @@ use Rattle.mml_policy.specs.declared.verdict.Leave.TheVariants.{See, Look, Repor
 use Rattle.mml_policy.specs.Verdicts.{clauses}
 use Rattle.mml_policy.specs.Shown.{see_of, look_of}
 
--- what comes of a leave: as many events as the limit says are granted, and then no more; and none where the journal is halted
+-- what comes of a leave: what is shown; or the event with what it does, but no event where the limit is reached, nor
+-- else where the journal is halted
 abbrev pub ruling_on_leave : ℕ → Bool → World → Leave → Ruling
 ruling_on_leave limit is_halted w (See i) = Seen (see_of w i)
 ruling_on_leave limit is_halted w (Look i) = Looked (look_of w i)
@@ -27,7 +28,8 @@ abbrev pub ruled : ℕ → Bool → World → Result Leave Denial → Ruling
 ruled limit is_halted w (Ok l) = ruling_on_leave limit is_halted w l
 ruled limit is_halted w (Err d) = Denied d
 
--- the denial of the first clause that doesn't hold, or what is shown, or the event that happens with what it does
+-- the denial of the first clause that doesn't hold, or what is shown, or the event that takes place with what it
+-- does, or why none does: the limit is reached, or else the journal is halted
 abbrev pub ruling : List ℕ → RosterValue → ℕ → Bool → World → Who → Command → Ruling
 ruling ids r limit is_halted w x c = ruled limit is_halted w (clauses ids r w x c)
 

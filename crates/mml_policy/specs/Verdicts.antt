@@ -78,6 +78,7 @@ settled (Ok Report) = verdicts.Show
 settled (Ok (Grant e)) = verdicts.Grant e
 settled (Err d) = verdicts.Deny d
 
--- the denial of the first clause that doesn't hold, or that what it asks is shown, or the event that it is granted
+-- the denial of the first clause that doesn't hold, or that what the command asks for is shown, or the event that the
+-- command asks for
 abbrev pub verdict : List ℕ → RosterValue → World → Who → Command → Verdict
 verdict ids r w x c = settled (clauses ids r w x c)

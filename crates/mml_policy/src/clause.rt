@@ -41,8 +41,8 @@ pub(crate) fn asked_for(ids: &IdTable, who: Who, id: u64) -> AskedNode
     }
 }
 
-/// The rule that is asked for, with the node that a marriage names as its partner; the denial where there is no
-/// such node.
+/// The rule that is asked for, where the partner of a marriage is the node with the identifier that was named. The
+/// error is `denial`, where no node has that identifier.
 pub(crate) fn rule_of(ids: &IdTable, asked: Asked, denial: Denial) -> Result<Rule, Denial>
     ensures step { result ≡ rule_of ids.now asked denial }
     ensures there { IfOk result (IsWithin (length ids.now)) }
@@ -55,7 +55,8 @@ pub(crate) fn rule_of(ids: &IdTable, asked: Asked, denial: Denial) -> Result<Rul
     }
 }
 
-/// The node with the identifier `p`, or `None` where `p` is null; the denial where no node has that identifier.
+/// The node with the identifier `p`, or `None` where `p` is null. The error is `denial`, where no node has that
+/// identifier.
 pub(crate) fn pointer(ids: &IdTable, p: Option<u64>, denial: Denial) -> Result<Option<Rank>, Denial>
     ensures step { result ≡ pointer ids.now p denial }
     ensures there { IfOk result (λ q. IfSome q (λ j. j < length ids.now)) }

@@ -6,7 +6,7 @@ ghost use Rattle.mml_policy.specs.Acts.{is_act};
 pub enum Command {
     /// To be shown the registers of a node.
     See { node: u64 },
-    /// To be shown a node of one's own and the nodes linked to it.
+    /// To be shown a node as its owners see it, and the nodes linked to it.
     Look { node: u64 },
     /// To have a move chosen for a node, in the configuration with this number.
     Move { node: u64, rule: Asked, at: u64 },

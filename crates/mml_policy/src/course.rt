@@ -5,7 +5,7 @@ use mml_lab::Roster;
 /// The course that a command is judged in: a lab and where its run stands.
 #[derive(Clone, Copy)]
 pub struct Course<'a> {
-    /// The board that the run stands at.
+    /// The world of the run as it stands now.
     pub board: &'a Board,
     /// The identifiers of the lab's nodes.
     pub ids: &'a IdTable,

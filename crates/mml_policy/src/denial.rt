@@ -39,7 +39,8 @@ pub enum Denial {
 }
 
 impl Denial {
-    /// The number of the clause that doesn't hold, by the order in which the clauses of the denied request are tried.
+    /// The number of the clause that doesn't hold, by the order in which the clauses of the denied request are tried:
+    /// from 1, or 0 for `NotGreeted`, which is tried before them.
     pub fn clause(self) -> u8
         ensures { result ≡ clause_of self }
     {
@@ -63,7 +64,7 @@ impl Denial {
         }
     }
 
-    /// The word that a program reads.
+    /// The word for the denial in a reply, for programs to read.
     pub fn name(self) -> &'static str
         ensures { result.now ≡ denial_name self }
     {
@@ -87,7 +88,7 @@ impl Denial {
         }
     }
 
-    /// The sentence that a person reads.
+    /// The sentence for the denial in a reply, for people to read.
     pub fn text(self) -> &'static str
         ensures { result.now ≡ text_of self }
     {

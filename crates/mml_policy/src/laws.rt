@@ -65,8 +65,9 @@ pub fn a_see_takes_a_visible_node()
         (verdict ids r w x (command.See id) ≡ verdicts.Show) ↔ MaySee ids r w x id }
 {}
 
-/// A see is answered exactly where some node has the identifier that it names, and that node is visible to the one who
-/// asks, with the node's registers in the world `w`; else it is denied as hidden.
+/// A see is answered with its node's registers and the number of the configuration, as the world `w` has them, exactly
+/// where some node has the identifier that the see names, and that node is visible to the one who asks; else the see is
+/// denied as hidden.
 pub fn a_see_shows_the_registers()
     ensures seen { (ids : List ℕ) (r : RosterValue) (limit : ℕ) (is_halted : Bool) (w : World)
         (x : Who) (id : ℕ) (s : See) → IsLawful (configuration w) →
@@ -127,7 +128,8 @@ pub fn a_release_takes_a_chosen_node()
         IsDecided ids r w x (command.Release id) (MayRelease ids w id) (DeniesRelease ids w x id) }
 {}
 
-/// What asks for an event is never shown anything, and what asks to be shown something is granted no event.
+/// The verdict on a command that asks for an event is never that something is shown, and on a command that asks to be
+/// shown something never that an event is granted.
 pub fn no_act_is_shown_and_no_view_is_granted()
     ensures acts { (ids : List ℕ) (r : RosterValue) (w : World) (x : Who) (c : Command) →
         is_act c ≡ true → verdict ids r w x c ≢ verdicts.Show }
@@ -141,8 +143,8 @@ pub fn granted_events_are_legal()
         length ids ≡ size w → verdict ids r w x c ≡ verdicts.Grant e → is_legal r w e ≡ true }
 {}
 
-/// A legal event is granted where its asker asks for it at the current number, and only a legal event:
-/// so who checks a list of events asks the same verdict.
+/// An event is legal exactly where its asker, who asks for it at the current number, is granted it: so who checks a
+/// list of events may ask for verdicts.
 pub fn legal_events_are_granted()
     ensures { (ids : List ℕ) (r : RosterValue) (w : World) (e : Event) →
         IsTable ids → IsWorldOf ids w → (is_legal r w e ≡ true) ↔
@@ -176,7 +178,7 @@ pub fn hidden_values_change_no_ruling()
         (after_ruling v (ruling ids r limit is_halted v (who.Student s) c)) }
 {}
 
-/// A report is told exactly to the teacher.
+/// A report is told exactly where the teacher asks, and denied as `NotTeacher` exactly where a student does.
 pub fn a_report_takes_the_teacher()
     ensures shown { (ids : List ℕ) (r : RosterValue) (w : World) (x : Who) →
         (verdict ids r w x command.Report ≡ verdicts.Show) ↔ (x ≡ who.Teacher) }

@@ -9,15 +9,15 @@ use std::alloc::Global;
 /// What is shown of a node to its owners and the teacher.
 #[derive(Debug, Drop)]
 pub struct Look {
-    /// The number of the configuration that it is of.
+    /// The number of the configuration that is shown.
     pub at: u64,
     pub node: Rank,
     pub regs: Regs,
-    /// The rule of its chosen move.
+    /// The rule of the node's chosen move; `None` where no move is chosen.
     pub chosen: Option<Kind>,
-    /// The rule that is enabled there.
+    /// The rule that is enabled at the node; `None` where none is.
     pub enabled: Option<Kind>,
-    /// The nodes linked to it in rising order, with their registers.
+    /// The nodes linked to the node, in rising order, with their registers.
     pub near: Items<(Rank, Regs)>,
 }
 
@@ -41,6 +41,7 @@ fn near(alloc: Global, board: &Board, node: Rank) -> Result<Vec<(Rank, Regs)>, M
     requires { node < length board.now.network.registers }
     ensures { IfOk result (λ nodes. nodes.items ≡ near board.now node) }
 {
+    // By what this getter ensures, there are at most `MAX_NODES` nodes, and the configuration is lawful.
     let _size = board.size();
     let mut left = board.neighbours(node);
     let mut near = Vec::with_capacity(alloc, left.len() as usize)?;

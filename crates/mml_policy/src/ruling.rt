@@ -49,10 +49,11 @@ impl Ruling {
     }
 }
 
-/// Judges a command, and shows what it asks; the value of a report is left to who answers. No event
-/// is granted where the limit of events is reached, nor where the journal is halted. Only a look
-/// takes memory.
-// Within its caller a hidden node took other steps than one that isn't there.
+/// What comes of a command: the denial of the first clause that doesn't hold; where all hold, what the command asks
+/// to be shown (`Reported` for a report, which the caller makes), or the event that it asks for, with what that does.
+/// No event takes place where the limit of events is reached, which is `Full`, nor else where the journal is halted,
+/// which is `Journal`. The error says that memory was refused, which only a look takes.
+// Inlined into its caller, it took other steps for a hidden node than for one that isn't there.
 #[inline(never)]
 pub fn rule_on(
     alloc: Global,

@@ -29,12 +29,12 @@ pub record IsOpenLink (c : Configuration) (l : OpenLink) : Type 0 where
   pub free_b : ¬ IsMarried c l.b
   pub witness : (l.node, l.kind) ≡ certificate c l.a l.b
 
--- each one comes before all that stand after it
+-- Before holds between each item of the list and every later one
 abbrev pub Rises : {X : Type 0} → (X → X → Type 0) → List X → Type 0
 Rises Before [] = Unit {0}
 Rises Before (x ∷ xs) = All (Before x) xs × Rises Before xs
 
--- lower at the first end or, where these are the same, at the second
+-- the first end of k is lower than that of l; or both links have the same first end, and the second end of k is lower
 abbrev pub IsLinkBefore : OpenLink → OpenLink → Type 0
 IsLinkBefore k l = (k.a < l.a) ⊎ ((k.a ≡ l.a) × (k.b < l.b))
 

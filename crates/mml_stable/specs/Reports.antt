@@ -19,7 +19,7 @@ abbrev pub listed_if : {A : Type 0} → Bool → A → List A
 listed_if true x = x ∷ []
 listed_if false x = []
 
--- i and its partner, where that is the greater of the two
+-- i and the node at which i points, where that node points back at i and is the greater of the two
 abbrev pub pair_at : Configuration → ℕ → Option ℕ → List (ℕ × ℕ)
 pair_at c i None = []
 pair_at c i (Some j) = listed_if (nat_lt i j && holds (c.p j) i) (i, j)

@@ -22,14 +22,16 @@ pub fn certify(board: &Board, a: Rank, b: Rank) -> (Rank, Kind)
     ensures holds { (rule : Rule) × (kind_of rule ≡ result.1)
         × (guard (configuration board.now) result.0 rule ≡ true) }
 {
+    // By what this getter ensures, there are at most `MAX_NODES` nodes, and the configuration is lawful.
     let _size = board.size();
     let mut kinds = [None; PLACES];
     find_kinds(board, &mut kinds);
     witness(board, &kinds, a, b)
 }
 
-/// The witness of a link between two free nodes: a privileged node with its rule. `kinds` has by rank the rule that
-/// is enabled at each node.
+/// The witness of a link between two free nodes, `a` and a greater `b`: the privileged node, with its rule, that the
+/// walk from `a` finds; where that finds none, the one that the walk from `b` finds; and else `a` itself, where a
+/// seduction is then enabled. `kinds` has by rank the rule that is enabled at each node.
 #[tactic(auto, unfolding(crate::specs::Walk::certificate))]
 pub(crate) fn witness(board: &Board, kinds: &[Option<Kind>], a: Rank, b: Rank) -> (Rank, Kind)
     requires kinds { AreKinds (configuration board.now) kinds.now }

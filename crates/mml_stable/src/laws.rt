@@ -12,8 +12,8 @@ ghost use Rattle.mml_stable.specs.Reports.{NamesNodes, pairs, free_nodes, privil
 ghost use Rattle.mml_stable.specs.Listed.{IsPairInOrder, IsFreeNode, IsPrivilegedBy, IsOpenLink, Rises, IsLinkBefore, IsMaximalMatching};
 ghost use Rattle.mml_stable.specs.Walk.{top, certificate, LeadsTo};
 
-/// Where no node is privileged, the pairs are a maximal matching, and m is true exactly at the married
-/// nodes.
+/// A report says `stable` exactly where no node is privileged; there the pairs are a maximal matching, and m is true
+/// exactly at the married nodes.
 pub fn stable_is_maximal()
     ensures told { (c : Configuration) → (is_stable c ≡ true) ↔ IsStable c }
     ensures matching { (c : Configuration) → IsMatching c }
@@ -51,8 +51,8 @@ pub fn lists_are_exact()
         Contains (open_links c) l ↔ IsOpenLink c l }
 {}
 
-/// Each list of a report rises: free nodes by their ranks, pairs and privileged nodes by the first node, open
-/// links by the first and then by the second. So nothing stands in one twice.
+/// Each list of a report rises: free and privileged nodes by their ranks, pairs by their first nodes, open links by
+/// their first ends and then by their second. So nothing stands twice in a list.
 pub fn lists_rise()
     ensures pairs { (c : Configuration) → Rises (λ p q. p.0 < q.0) (pairs c) }
     ensures free { (c : Configuration) → Rises (λ i j. i < j) (free_nodes c) }

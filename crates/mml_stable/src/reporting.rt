@@ -22,14 +22,17 @@ pub fn report(alloc: Global, board: &Board) -> Result<Report, Memory>
     ensures report { IfOk result (λ report. report ≡ report_of board.now) }
     ensures nodes { IfOk result (NamesNodes (length board.now.network.registers)) }
 {
+    // By what this getter ensures, the world is lawful.
     let _number = board.number();
     report_lists(alloc, board)
 }
 
-/// The report, made of its lists. That they name nodes of the board alone is proved in `report`.
+/// The report on the board's configuration, made of its lists. That the lists name nodes of the board alone is proved
+/// in `report`.
 fn report_lists(alloc: Global, board: &Board) -> Result<Report, Memory>
     ensures { IfOk result (λ report. report ≡ report_of board.now) }
 {
+    // By what this getter ensures, there are at most `MAX_NODES` nodes, and the configuration is lawful.
     let _size = board.size();
     let mut kinds = [None; PLACES];
     find_kinds(board, &mut kinds);
@@ -62,7 +65,7 @@ fn pairs(alloc: Global, board: &Board) -> Result<Vec<(Rank, Rank)>, Memory>
     Ok(all)
 }
 
-/// The nodes that are in no pair, as a list and, for the open links, as a set.
+/// The nodes that are in no pair, in rising order as a list and, for the open links, as a set.
 #[tactic(auto, unfolding(mml_ids::specs::Sets::those_below))]
 fn free_nodes(alloc: Global, board: &Board) -> Result<(Vec<Rank>, NodeSet), Memory>
     ensures list { IfOk result (λ free. free.0.items ≡ free_nodes (configuration board.now)) }
@@ -103,13 +106,14 @@ fn privileged_nodes(
     Ok((all, stable))
 }
 
-/// The greater ends of the open links (between free nodes) whose lower end is `a`; `rest` are the free nodes from `a`
-/// on.
+/// The greater ends of the open links (between free nodes) whose lower end is `a`, none where `a` isn't free; `rest`
+/// are the free nodes from `a` on.
 fn open_ends(board: &Board, rest: NodeSet, a: Rank) -> NodeSet
     requires a { a < length board.now.network.registers }
     requires rest { IsFreeFrom (configuration board.now) a rest }
     ensures { (b : ℕ) → set.contains result b ≡ is_open (configuration board.now) a b }
 {
+    // By what this getter ensures, there are at most `MAX_NODES` nodes, and the configuration is lawful.
     let _size = board.size();
     if rest.has(a) {
         board.neighbours(a).both(rest)
@@ -142,6 +146,7 @@ fn put_open_links(
     ensures { OnOk result
         (all.new.items ≡ all.old.items ++ open_links_at (configuration board.now) a) }
 {
+    // By what this getter ensures, there are at most `MAX_NODES` nodes, and the configuration is lawful.
     let _size = board.size();
     let mut left = ends;
     while let Some(b) = left.take_least() {
@@ -163,6 +168,7 @@ fn open_links(
         ≡ those_below (length board.now.network.registers) (is_free (configuration board.now)) }
     ensures { IfOk result (λ all. all.items ≡ open_links (configuration board.now)) }
 {
+    // By what this getter ensures, there are at most `MAX_NODES` nodes, and the configuration is lawful.
     let _size = board.size();
     let mut all = Vec::new(alloc);
     let mut rest = free;

@@ -15,7 +15,7 @@ abbrev pub is_student : ℕ → Option ℕ → Bool
 is_student s None = false
 is_student s (Some t) = t == s
 
--- the lines that came while a student was known
+-- the lines that came while student s was known
 abbrev pub asks_by : ℕ → List Ask → List Ask
 asks_by s asks = filter (λ a. is_student s a.who) asks
 

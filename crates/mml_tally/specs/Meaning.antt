@@ -17,7 +17,8 @@ leaves i (event.Fault j registers) = false
 leaves i (event.Link a b) = false
 leaves i (event.Cut a b) = false
 
--- the first of these events has place q, the close that comes next has place p, and what comes between leaves what is chosen at i
+-- the first of the events has place q, some close has place p, and each event before that close leaves what is chosen
+-- at i
 pub record IsNextClose (i q p : ℕ) (es : List Event) : Type 0 where
   pub between : List Event
   pub later : List Event

@@ -17,11 +17,11 @@ use Rattle.mml_tally.specs.Texts.{numbers_text, owner_text, students_text, nodes
 abbrev pub denied_line : List ℕ → Denials → List ℕ
 denied_line name d = codes "denied " ++ (name ++ (numbers_text (d.first ∷ d.second ∷ d.third ∷ d.fourth ∷ d.malformed ∷ []) ++ codes "\n"))
 
--- a line for each student, in the lab's order
+-- a line for each student below n, in the lab's order
 abbrev pub denied_text : LabValue → List Ask → ℕ → List ℕ
 denied_text lab asks n = each_below n (λ s. denied_line (name_of lab.roster (who.Student s)) (denials_of asks s))
 
--- each owner, and the moves that it asked for at the node with this identifier
+-- each owner, with how many moves of each rule the owner asked for at the node with this identifier
 abbrev pub askers_text : RosterValue → List Ask → ℕ → List ℕ → List ℕ
 askers_text r asks id [] = []
 askers_text r asks id (s ∷ ss) = owner_text (name_of r (who.Student s)) (moves_asked_by asks id s) ++ askers_text r asks id ss
@@ -31,11 +31,12 @@ abbrev pub asked_line : LabValue → List Ask → ℕ → List ℕ
 asked_line lab asks i =
     codes "asked" ++ (numbers_text (slice_index lab.ids i ∷ []) ++ (askers_text lab.roster asks (slice_index lab.ids i) (owners_in_order lab.roster i) ++ codes "\n"))
 
--- a line for each node that several own, by identifiers
+-- a line for each node below n that several own, in rising order
 abbrev pub asked_text : LabValue → List Ask → ℕ → List ℕ
 asked_text lab asks n = each_below n (λ i. if is_shared lab.roster i then asked_line lab asks i else [])
 
--- the word for a record that leaves nothing out of what was said, or for one that was cut short
+-- the word for a record that leaves nothing out of what was said, or for one that was cut short, with a space and a
+-- newline
 abbrev pub whole_text : Bool → List ℕ
 whole_text true = codes " whole\n"
 whole_text false = codes " cut\n"

@@ -44,7 +44,7 @@ is_fate_after k _ = false
 abbrev pub is_applied_after : ℕ → Move → Bool
 is_applied_after k m = is_fate_after k m.fate
 
--- what events tell of their run, of which the last fault, link or cut has that place
+-- what events tell of their run, where the last fault, link or cut has the place `since`, 0 where there is none
 abbrev pub run_since : ℕ → List Event → Run
 run_since since es = record {
   closes = count_by is_close es;

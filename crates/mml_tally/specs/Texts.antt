@@ -31,7 +31,8 @@ place_text (Some p) = numbers_text (p ∷ [])
 abbrev pub rules_text : ByRule → List ℕ
 rules_text n = numbers_text (n.update ∷ n.marriage ∷ n.seduction ∷ n.abandonment ∷ [])
 
--- granted and applied by rule, closes with one, first and last place, applied at nodes that others own too
+-- granted moves and applied moves by rule, closes that applied one, places of the first and the last grant, applied
+-- moves at nodes that others own too
 abbrev pub marks_text : Marks → List ℕ
 marks_text m =
     rules_text m.granted ++ (rules_text m.applied ++ (numbers_text (m.closes ∷ []) ++ (place_text m.first ++ (place_text m.last ++ numbers_text (m.shared ∷ [])))))
@@ -44,12 +45,12 @@ student_line name m = codes "student " ++ (name ++ (marks_text m ++ codes "\n"))
 abbrev pub owner_text : List ℕ → ByRule → List ℕ
 owner_text name n = codes " " ++ (name ++ rules_text n)
 
--- owners, each with how many of the moves there were granted to it
+-- owners, each with how many of the moves at a node were granted to that owner, by rule
 abbrev pub owners_text : RosterValue → List Move → List ℕ → List ℕ
 owners_text r there [] = []
 owners_text r there (s ∷ ss) = owner_text (name_of r (who.Student s)) (by_rule (moves_by s there)) ++ owners_text r there ss
 
--- a node, and each of its owners
+-- the line of a node: its identifier, and each owner with the moves that were granted to that owner there
 abbrev pub node_line : LabValue → List Move → ℕ → List ℕ
 node_line lab all i =
     codes "node" ++ (numbers_text (slice_index lab.ids i ∷ []) ++ (owners_text lab.roster (moves_at i all) (owners_in_order lab.roster i) ++ codes "\n"))
@@ -58,22 +59,23 @@ node_line lab all i =
 abbrev pub bounds_line : Bounds → List ℕ
 bounds_line b = codes "bounds" ++ (numbers_text (b.moves ∷ b.rounds ∷ b.events ∷ []) ++ codes "\n")
 
--- the word for a configuration without privileged nodes, or for one with some
+-- the word for a configuration without privileged nodes, or for one with some, with a space before it
 abbrev pub stable_text : Bool → List ℕ
 stable_text true = codes " stable"
 stable_text false = codes " unstable"
 
--- events and configuration, whether it is stable, and the run
+-- the line of a run: how many events there are, the number of the configuration, whether that is stable, and the
+-- run's counts
 abbrev pub run_line : World → Run → List ℕ
 run_line w r =
     codes "run" ++ (numbers_text (w.place ∷ w.number ∷ []) ++ (stable_text (privileged_count (configuration w) == 0)
     ++ (numbers_text (r.closes ∷ r.faults ∷ r.links ∷ r.cuts ∷ r.moves ∷ r.moves_since ∷ r.closes_since ∷ []) ++ codes "\n")))
 
--- a line for each student, in the lab's order
+-- a line for each student below n, in the lab's order
 abbrev pub students_text : LabValue → List Event → ℕ → List ℕ
 students_text lab es n = each_below n (λ s. student_line (name_of lab.roster (who.Student s)) (marks_of lab.roster es s))
 
--- a line for each node that several own, by identifiers
+-- a line for each node below n that several own, in rising order
 abbrev pub nodes_text : LabValue → List Event → ℕ → List ℕ
 nodes_text lab es n = each_below n (λ i. if is_shared lab.roster i then node_line lab (moves es) i else [])
 
@@ -81,6 +83,7 @@ nodes_text lab es n = each_below n (λ i. if is_shared lab.roster i then node_li
 abbrev pub ends_text : World → List Event → List ℕ
 ends_text w es = bounds_line (bounds_of w) ++ run_line w (run_of es)
 
--- the students, the nodes of several owners, and the end of the run, which has led to that world
+-- the lines of the students, of the nodes that several own, of the most that may follow, and of the run, which has led
+-- to the world
 abbrev pub tally_text : LabValue → World → List Event → List ℕ
 tally_text lab w es = students_text lab es (length lab.roster.students) ++ (nodes_text lab es (length lab.ids) ++ ends_text w es)

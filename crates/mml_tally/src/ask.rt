@@ -24,9 +24,9 @@ pub struct Ask {
 pub enum Line {
     /// No request.
     Malformed,
-    /// It asks for a move of this rule at the node with this identifier, if there is one.
+    /// A request for a move of this rule at the node with this identifier, which needn't be that of any node.
     Move { node: u64, kind: Kind },
-    /// It asks for something else.
+    /// Any other request.
     Other,
 }
 
@@ -40,7 +40,7 @@ pub struct Denials {
     pub malformed: u64,
 }
 
-/// Puts an ask behind the others.
+/// Puts a copy of an ask behind those in `asks`.
 pub fn push_ask(asks: &mut Vec<Ask>, ask: &Ask) -> Result<(), Memory>
     ensures { OnOk result (asks.new.items ≡ asks.old.items ++ (ask.now ∷ [])) }
 {
@@ -59,7 +59,7 @@ fn asks_by(alloc: Global, asks: &[Ask], student: Student) -> Result<Vec<Ask>, Me
     Ok(own.collect(alloc)?)
 }
 
-/// Whether `who`, the student who was known when a line came, is this student.
+/// Whether `who`, the student who was known when a line came, is this student; `false` where no student was known.
 fn is_student(student: Student, who: Option<Student>) -> bool
     ensures { result ≡ is_student student who }
 {
@@ -112,7 +112,7 @@ fn count_clause(own: &[Ask], clause: u8) -> u64
         .count() as u64
 }
 
-/// Whether `denied`, the number of the clause that denied a line, is that of this clause.
+/// Whether `denied`, the number of the clause that denied a line, is that of this clause; `false` where none denied it.
 fn is_clause(clause: u8, denied: Option<u8>) -> bool
     ensures { result ≡ is_clause clause denied }
 {

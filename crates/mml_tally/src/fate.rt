@@ -17,7 +17,7 @@ pub enum Fate {
     Chosen,
 }
 
-/// What becomes of the move that is chosen at a node by the event at a place; `None` where it stays chosen.
+/// What the event at a place makes of the move that is chosen at a node; `None` where the move stays chosen.
 pub fn ended_by(node: Rank, place: u64, event: &Event) -> Option<Fate>
     ensures { result ≡ ended_by node place event.now }
 {
@@ -35,8 +35,8 @@ pub fn ended_by(node: Rank, place: u64, event: &Event) -> Option<Fate>
     }
 }
 
-/// What becomes of the move that is chosen at a node: `later` are the events after its grant, and the first of them has
-/// this place. `Chosen` where none of them ends it.
+/// What becomes of the move that is chosen at a node: `later` are the events after the move's grant, of which the first
+/// has the place `place`. `Chosen` where no event ends the move.
 pub fn fate_of(node: Rank, place: u64, later: &[Event]) -> Fate
     requires { place + length later.now < 2 ^ 64 }
     ensures { result ≡ fate_of node place later.now }

@@ -20,7 +20,7 @@ pub struct Move {
     pub fate: Fate,
 }
 
-/// The moves that a list of events grants, in order.
+/// The moves that a list of events grants, in order, each with what became of it.
 pub fn moves_of(alloc: Global, events: &[Event]) -> Result<Vec<Move>, Memory>
     ensures { IfOk result (λ all. all.items ≡ moves events.now) }
 {

@@ -23,8 +23,8 @@ pub fn moves_are_applied_by_the_next_close()
         (fate_of i q es ≡ Fate.Applied p) ↔ IsNextClose i q p es }
 {}
 
-/// The applied moves of all students are those that the closes of a legal list apply to the lab, and the run
-/// is told as many.
+/// The applied moves of all students together are as many as the closes of a legal list of a lab's events apply, and so
+/// are the moves that are told of the run.
 pub fn students_apply_all_moves()
     ensures students { (lab : LabValue) (es : List Event) → IsLab lab →
         is_legal_list lab.roster (opening_of lab.network) es ≡ true →

@@ -155,7 +155,7 @@ fn close_of(last: u64, fate: Fate) -> u64
     }
 }
 
-/// The place of the grant of the first of these moves; none where there are no moves.
+/// The place of the grant of the first move; `None` where there are no moves.
 fn first_place(all: &[Move]) -> Option<u64>
     ensures { result ≡ first_place all.now }
 {
@@ -163,7 +163,7 @@ fn first_place(all: &[Move]) -> Option<u64>
     Some(first.place)
 }
 
-/// The place of the grant of the last of these moves; none where there are no moves.
+/// The place of the grant of the last move; `None` where there are no moves.
 fn last_place(all: &[Move]) -> Option<u64>
     ensures { result ≡ last_place all.now }
 {

@@ -17,7 +17,7 @@ pub struct Findings {
     pub sessions: u64,
     /// How many lines were answered.
     pub lines: u64,
-    /// Whether nothing is left out.
+    /// Whether no entry says that something was left out.
     pub whole: bool,
 }
 

@@ -220,7 +220,7 @@ fn put_run(out: &mut Vec<u8>, board: &Board, run: &Run) -> Result<(), Memory>
     put(out, &[Piece::Text("\n")])
 }
 
-/// The word for a configuration without privileged nodes, or for one with some.
+/// The word for a configuration without privileged nodes, or for one with some, with a space before it.
 fn stable_text(board: &Board) -> &'static str
     ensures { result.now ≡ stable_text (privileged_count (configuration board.now) == 0) }
 {

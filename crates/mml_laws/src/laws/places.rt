@@ -47,10 +47,10 @@ pub fn replies_of_a_session_name_their_events()
         IsPrefix after.window.seen l → NamesItsEventIn lab l st t.line t.reply }
 {}
 
-/// Where each window of a house served one session after another, and the places that the windows were granted are
-/// those behind the events with which the house began, up to a last one, each once, as at the end of each house
-/// that has a log, the events at these places have exactly one reply each that names them, over all sessions of
-/// all windows. Where a write failed, that reply may not have gone out.
+/// Where each window of a house served one session after another, and the windows were granted the places behind the
+/// events with which the house began, up to some last place, each place once, each of these places is named by exactly
+/// one reply, over all sessions of all windows. At the end of each house that has a log the places were granted so.
+/// Where a write failed, the reply may not have gone out.
 pub fn each_event_of_a_house_has_one_reply()
     ensures { (lab : LabValue) (begun : List Event) (most : ℕ)
         (sessions : List (List (List Reply))) (windows : List WindowValue) →

@@ -11,11 +11,11 @@ ghost use Rattle.mml_board.specs.Runs.{is_legal_list, world_of};
 ghost use Rattle.mml_convergence.specs.Rest.{EachHasOwner, is_grant_or_close};
 ghost use Rattle.mml_bounds.specs.Most.{events_to_rest};
 
-/// A legal list of grants and closes alone has at most 6 events for each of n nodes, and 4 for each link or, where
-/// the links are more than n²/4, rounded down, 4 for each of so many; less one for each move that is chosen where
-/// the list begins. So where each node has an owner and as many events may still follow, a run of grants and
-/// closes rests before the limit is reached: until no node is privileged, there is room for one event more. For
-/// 256 nodes it is 67072 events at the most, and a lab may have 100000.
+/// On n nodes with L links a legal list of grants and closes alone has at most 6n + 4 min(L, n²/4) events, n²/4
+/// rounded down, less one for each move that is chosen where the list begins. So where each node has an owner and as
+/// many events may still follow, a run of grants and closes rests before the limit is reached: until no node is
+/// privileged, there is room for one event more. On at most 256 nodes that is at most 67072 events, and a lab may
+/// have 100000.
 pub fn rest_comes_within_a_limit()
     ensures few { (r : RosterValue) (w : World) (es : List Event) → IsWorld w →
         is_legal_list r w es ≡ true → list_all is_grant_or_close es ≡ true →
